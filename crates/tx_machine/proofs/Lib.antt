@@ -1,0 +1,3 @@
+pub mod Stretch
+pub mod Going
+pub mod Running

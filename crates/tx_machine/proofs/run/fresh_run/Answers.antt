@@ -1,0 +1,5 @@
+use Rattle.tx_machine.proofs.Running.{run-bound}
+use Rattle.tx_machine.proofs.run.fresh_run.Goals as goal
+
+pub returns-clause-bound : goal.returns-clause-bound
+returns-clause-bound g c = run-bound g.M.Machine.formatter c.args.files.now c.args.limits.now.budget g.met.M.Machine.lawful c.args.limits.now.pages c.args.steps.now c.in_ok-start.ensures.state c.new.ensures c.run_pages.ensures.bound

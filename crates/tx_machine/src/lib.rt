@@ -1,0 +1,23 @@
+//! The seam between TeX and everything that knows of files and edits: a machine takes turns, asks for files and lines,
+//! ships pages and stops. Below it stands TeX, above it the increments, and neither knows the other.
+//!
+//! Read `types` (what passes over the seam), `machine` (the trait), `steps` (the count of turns), `opens` (how asks are
+//! answered), then `turn` and `run`: the fresh run, to which everything above is held.
+#![tactic(auto)]
+
+pub mod lists;
+pub mod machine;
+pub mod opens;
+pub mod run;
+
+pub mod spot;
+pub mod steps;
+pub mod turn;
+pub mod types;
+
+pub use lists::{Opens, Pages, Pieces};
+pub use machine::Machine;
+pub use run::fresh_run;
+
+pub use steps::{CountsTurns, Steps};
+pub use types::{Ask, Close, Date, End, Event, Limits, OpenFile, Ran, Reply, Stop};

@@ -1,0 +1,19 @@
+use tx_bytes::Bytes;
+
+use crate::lists::Opens;
+use crate::types::Close;
+
+/// What a run goes on with: the machine's state, the open files, and what is left of the page's budget.
+#[derive(Drop)]
+pub struct Spot<S> {
+    pub state: S,
+    pub opens: Opens,
+    pub left: u64,
+}
+
+/// What ended the turns of a page, and the piece of the transcript that they gave.
+#[derive(Debug, Drop)]
+pub struct Closed {
+    pub close: Close,
+    pub piece: Bytes,
+}

@@ -1,0 +1,70 @@
+ghost use Rattle.std.specs.Prelude.{◌≡◌, ◌≤◌, ◌++◌, [], Some, IfOk, OnOk};
+ghost use Rattle.tx_machine.specs.Machine.{Ready};
+ghost use Rattle.tx_machine.specs.Counts.{Made, Closes};
+ghost use Rattle.tx_machine.specs.Steps.{raised};
+ghost use Rattle.tx_machine.specs.Turn.{one_turn, stretch, place_of};
+
+use std::alloc::{AllocError, Global};
+use tx_bytes::Bytes;
+use tx_files::FileSet;
+
+use crate::machine::Machine;
+use crate::opens::reply;
+use crate::spot::{Closed, Spot};
+use crate::steps::Steps;
+use crate::types::{Close, Event};
+
+/// Takes one turn, if the budget allows it, and answers what the machine asks in it.
+#[tactic(auto, unfolding(crate::specs::Turn::one_turn))]
+pub fn take_turn<M: Machine>(
+    alloc: Global,
+    machine: &M,
+    files: &FileSet,
+    spot: &mut Spot<M::State>,
+    steps: &mut Steps,
+) -> Result<Option<Close>, AllocError>
+    requires { M.formatter.mode (M.meaning spot.old.state) ≡ Ready }
+    ensures made { IfOk result (λ close. Made (one_turn M.formatter files.now (place_of M.meaning spot.old)) close (place_of M.meaning spot.new) (M.pending spot.old.state) (M.pending spot.new.state)) }
+    ensures steps { steps.new ≡ raised steps.old (one_turn M.formatter files.now (place_of M.meaning spot.old)).turns }
+{
+    let cost = machine.cost(&spot.state);
+    if spot.left < cost {
+        return Ok(Some(Close::Spent));
+    }
+    let event = machine.turn(alloc, &mut spot.state, steps)?;
+    spot.left -= cost;
+    match event {
+        Event::Went => Ok(None),
+        Event::Asks(ask) => {
+            let answer = reply(alloc, files, &mut spot.opens, ask)?;
+            machine.answer(alloc, &mut spot.state, &answer)?;
+            Ok(None)
+        }
+        Event::Shipped(body) => Ok(Some(Close::Page(body))),
+        Event::Stopped(stop) => Ok(Some(Close::Halt(stop))),
+    }
+}
+
+/// Takes turns up to the next page or the run's end.
+pub fn format_page<M: Machine>(
+    alloc: Global,
+    machine: &M,
+    files: &FileSet,
+    spot: &mut Spot<M::State>,
+    steps: &mut Steps,
+) -> Result<Closed, AllocError>
+    requires ready { M.formatter.mode (M.meaning spot.old.state) ≡ Ready }
+    requires taken { M.pending spot.old.state ≡ [] }
+    ensures closes { IfOk result (λ closed. Closes (stretch M.formatter files.now (place_of M.meaning spot.old)) closed (place_of M.meaning spot.new)) }
+    ensures taken { OnOk result (M.pending spot.new.state ≡ []) }
+    ensures steps { OnOk result (steps.new ≡ raised steps.old (stretch M.formatter files.now (place_of M.meaning spot.old)).turns) }
+    ensures bound { steps.new ≤ raised steps.old (stretch M.formatter files.now (place_of M.meaning spot.old)).turns }
+{
+    loop {
+        let close = take_turn(alloc, machine, files, spot, steps)?;
+        if let Some(close) = close {
+            let piece = machine.take_said(alloc, &mut spot.state);
+            return Ok(Closed { close, piece });
+        }
+    }
+}

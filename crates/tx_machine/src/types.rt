@@ -1,0 +1,116 @@
+use tx_bytes::Bytes;
+use tx_dvi::PageBody;
+
+use crate::lists::{Pages, Pieces};
+
+/// The moment of a run, as \year, \month, \day and \time tell it: the minutes are those since midnight.
+#[derive(Clone, Copy, Debug, PartialEq, Eq)]
+pub struct Date {
+    pub year: u32,
+    pub month: u32,
+    pub day: u32,
+    pub minutes: u32,
+}
+
+/// How far a run may go.
+#[derive(Clone, Copy, Debug, PartialEq, Eq)]
+pub struct Limits {
+    /// What the turns of one page may cost together.
+    pub budget: u64,
+    /// How many pages are shipped at most.
+    pub pages: u32,
+    /// How many states are kept for later edits.
+    pub keep: u32,
+}
+
+/// What a machine asks of the files.
+#[derive(Debug, Drop)]
+pub enum Ask {
+    /// To open the file of this name; a text that is no name is the name of no file.
+    Open(Bytes),
+    /// The next line of the file that was opened last.
+    Line,
+    /// To close the file that was opened last.
+    Close,
+    /// All bytes of the file of this name, which isn't opened for it.
+    Whole(Bytes),
+}
+
+/// What is replied to an ask.
+#[derive(Debug, Drop)]
+pub enum Reply {
+    /// The file is open.
+    Found,
+    /// There is no such file.
+    Absent,
+    /// The line, with its LF if it has one.
+    Line(Bytes),
+    /// The file has no further line.
+    Ended,
+    /// The file's bytes.
+    Whole(Bytes),
+    /// The file is closed.
+    Closed,
+}
+
+/// Why a machine stops: by the end of its text, or by an error with its number.
+#[derive(Clone, Copy, Debug, PartialEq, Eq)]
+pub enum Stop {
+    End,
+    Error(u8),
+}
+
+/// What came of a turn.
+#[derive(Debug, Drop)]
+pub enum Event {
+    /// Nothing that the outside has to know.
+    Went,
+    /// The machine asks, and goes on once it has the reply.
+    Asks(Ask),
+    /// A page is done.
+    Shipped(PageBody),
+    /// The machine goes no further.
+    Stopped(Stop),
+}
+
+/// What ends the turns of a page: the page, the machine's stop, or a turn that the budget doesn't allow.
+#[derive(Debug, Drop)]
+pub enum Close {
+    Page(PageBody),
+    Halt(Stop),
+    Spent,
+}
+
+/// A file that is open, and how many of its bytes were read.
+#[derive(Debug, Drop)]
+pub struct OpenFile {
+    pub name: Bytes,
+    pub offset: u64,
+}
+
+/// How a run ended.
+#[derive(Debug, Drop)]
+pub enum End {
+    /// By the end of its text.
+    End,
+    /// By an error, in the line of the innermost open file; without an open file there is no name, and the line is 0.
+    Error {
+        code: u8,
+        name: Option<Bytes>,
+        line: u64,
+    },
+    /// A page would have cost more than the budget.
+    Budget,
+    /// As many pages were shipped as the limit allows.
+    PageLimit,
+}
+
+/// All that a run gives: its pages, the piece of the transcript that belongs to each of them, the piece after the last
+/// page, and how it ended.
+#[derive(Debug, Drop)]
+pub struct Ran {
+    pub pages: Pages,
+    pub pieces: Pieces,
+    pub last: Bytes,
+    pub end: End,
+}
