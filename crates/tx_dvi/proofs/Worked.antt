@@ -1,0 +1,35 @@
+-- The definition of the DVI file at a page that was worked out by hand.
+use Rattle.std.proofs.Common.{◌≡◌, ℕ, List, [], ◌∷◌, ◌++◌, refl, length, lit<}
+use Rattle.std.specs.Prelude.{pos, negsuc, replicate, codes}
+use Rattle.std.specs.Fmt.{signed_decimal}
+use Rattle.std.proofs.lemmas.Fmt.{decimal-digits_of}
+use Rattle.tx_dvi.specs.Page.{Page}
+use Rattle.tx_dvi.specs.Dvi.{dvi, four_bytes}
+
+-- a rule of 2pt by 1pt, shipped on 17 May 2024 at 9:30
+abbrev page : Page
+page = record {
+  body = 159 ∷ 2 ∷ 0 ∷ 0 ∷ 132 ∷ 0 ∷ 2 ∷ 0 ∷ 0 ∷ 0 ∷ 1 ∷ 0 ∷ 0 ∷ [];
+  counts = replicate 10 (pos 0);
+  height = pos 131072;
+  width = pos 65536;
+  nesting = 0;
+  mag = 1000;
+  date = record { year = pos 2024; month = pos 5; day = pos 17; time = pos 570 }
+}
+
+-- minus one is four bytes of ones
+four_bytes-minus_one : four_bytes (negsuc 0) ≡ 255 ∷ 255 ∷ 255 ∷ 255 ∷ []
+four_bytes-minus_one = refl
+
+year : signed_decimal (pos 2024) ≡ codes "2024"
+year = decimal-digits_of 2024 (lit< tt) (lit< tt)
+
+-- its file: preamble, bop, body, eop, postamble
+dvi-page : dvi (page ∷ []) ≡
+    (247 ∷ 2 ∷ 1 ∷ 131 ∷ 146 ∷ 192 ∷ 28 ∷ 59 ∷ 0 ∷ 0 ∷ 0 ∷ 0 ∷ 3 ∷ 232 ∷ 27 ∷ codes " TeX output 2024.05.17:0930")
+    ++ (139 ∷ replicate 40 0 ++ 255 ∷ 255 ∷ 255 ∷ 255 ∷ [])
+    ++ (159 ∷ 2 ∷ 0 ∷ 0 ∷ 132 ∷ 0 ∷ 2 ∷ 0 ∷ 0 ∷ 0 ∷ 1 ∷ 0 ∷ 0 ∷ 140 ∷ [])
+    ++ (248 ∷ 0 ∷ 0 ∷ 0 ∷ 42 ∷ 1 ∷ 131 ∷ 146 ∷ 192 ∷ 28 ∷ 59 ∷ 0 ∷ 0 ∷ 0 ∷ 0 ∷ 3 ∷ 232 ∷ 0 ∷ 2 ∷ 0 ∷ 0 ∷ 0 ∷ 1 ∷ 0 ∷ 0 ∷ 0 ∷ 0 ∷ 0 ∷ 1 ∷ [])
+    ++ (249 ∷ 0 ∷ 0 ∷ 0 ∷ 101 ∷ 2 ∷ 223 ∷ 223 ∷ 223 ∷ 223 ∷ [])
+dvi-page = rw year refl
