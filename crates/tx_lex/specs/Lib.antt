@@ -1,0 +1,4 @@
+pub mod Line
+pub mod Notation
+pub mod Characters
+pub mod Reading
