@@ -2,3 +2,4 @@ pub mod Line
 pub mod Notation
 pub mod Characters
 pub mod Reading
+pub mod Steps

@@ -52,11 +52,17 @@ abbrev pub unread : List Seen → List ℕ
 unread [] = []
 unread (seen ∷ more) = seen.code ∷ seen.rest
 
--- a name of letters is as long as it can be
+-- the letters at the front, as many as there are
+abbrev pub letters : List Cat → List Seen → List ℕ
+letters codes seen = map (λ s. s.code) (take_while (λ s. is_letter (category codes s.code)) seen)
+
+-- the line behind them
+abbrev pub behind_letters : List Cat → List Seen → List ℕ
+behind_letters codes seen = unread (skip_while (λ s. is_letter (category codes s.code)) seen)
+
+-- a name of letters, which is as long as it can be; blanks are skipped after it
 abbrev pub word_reading : List Cat → List Seen → Reading
-word_reading codes seen =
-    let is_letter_here : Seen → Bool = λ s. is_letter (category codes s.code) in
-    Read (Name (map (λ s. s.code) (take_while is_letter_here seen))) (unread (skip_while is_letter_here seen)) S
+word_reading codes seen = Read (Name (letters codes seen)) (behind_letters codes seen) S
 
 -- blanks are skipped after the name of a space, and count after that of another single character
 abbrev pub state_after : Cat → ReadState
