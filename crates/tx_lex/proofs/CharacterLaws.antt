@@ -46,7 +46,7 @@ characters_by-enough (suc m) (suc n) codes (c ∷ rest) p q =
     characters_from-same (characters_by m codes) (characters_by n codes) c rest (reduction codes c rest)
     (characters_by-enough m n codes rest (omega arith) (omega arith))
     (λ seen h. let l : length seen.rest + 2 ≤ length rest = length-reduction codes c rest seen h in
-        characters_by-enough m n codes (seen.code ∷ seen.rest) (omega arith) (omega arith))
+    characters_by-enough m n codes (seen.code ∷ seen.rest) (omega arith) (omega arith))
 
 pub characters-nil : (codes : List Cat) → characters codes [] ≡ []
 unfolding characters

@@ -120,9 +120,9 @@ spelling-on {codes} {line} {begin} {name} {place} {found} s r letter =
 reading-word : {codes : List Cat} {line : List ℕ} {begin : ℕ} {name : List ℕ} {place : ℕ} (seen : List Seen) (rest : List ℕ) → Spelling codes line begin name place → characters codes (drop place line) ≡ seen → letters codes seen ≡ [] → behind_letters codes seen ≡ rest → Read (Name name) rest S ≡ word_reading codes (characters codes (drop begin line))
 reading-word {codes} {line} {begin} {name} {place} seen rest s is none stays =
     let spelled : letters codes (characters codes (drop begin line)) ≡ name =
-        s.spelled ∙ ap (λ xs. name ++ letters codes xs) is ∙ ap (λ xs. name ++ xs) none ∙ append-nil name in
+    s.spelled ∙ ap (λ xs. name ++ letters codes xs) is ∙ ap (λ xs. name ++ xs) none ∙ append-nil name in
     let behind : behind_letters codes (characters codes (drop begin line)) ≡ rest =
-        s.behind ∙ ap (behind_letters codes) is ∙ stays in
+    s.behind ∙ ap (behind_letters codes) is ∙ stays in
     cc
 
 pub spelling-over : {codes : List Cat} {line : List ℕ} {begin : ℕ} {name : List ℕ} {place : ℕ} {found : Character} → Spelling codes line begin name place → IsReadFrom codes (drop place line) line found → is_letter (category codes found.code) ≡ false → Read (Name name) (found.code ∷ drop found.next line) S ≡ word_reading codes (characters codes (drop begin line))

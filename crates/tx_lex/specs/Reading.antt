@@ -1,5 +1,5 @@
 -- What TeX reads at the front of a line (TeX: The Program, sections 343 to 356; The TeXbook, chapters 7 and 8).
-use Rattle.std.specs.Prelude.{ℕ, Bool, true, false, Option, List, [], ◌∷◌, ◌++◌, drop, map, take_while, if◌then◌else◌}
+use Rattle.std.specs.Prelude.{ℕ, ◌≤◌, Bool, true, false, Option, List, [], ◌∷◌, ◌++◌, drop, length, map, take_while, if◌then◌else◌}
 use Rattle.std.specs.Option.{option_to_list}
 use Rattle.tx_char.specs.declared.category.Cat.{Cat}
 use Rattle.tx_char.specs.declared.category.Cat.TheVariants.{Escape, EndOfLine, Ignored, Space, Letter, Comment, Invalid}
@@ -106,3 +106,9 @@ abbrev pub meant : List ℕ → Lexed → Reading
 meant bytes (Lexed_token token used front state) = Read token (option_to_list front ++ drop used bytes) state
 meant bytes LineDone = Nothing
 meant bytes E1 = Refused
+
+-- a token's answer leaves a place of the bytes that it was given
+abbrev pub IsWithin : List ℕ → Lexed → Type 0
+IsWithin bytes (Lexed_token token used front state) = used ≤ length bytes
+IsWithin bytes LineDone = Unit {0}
+IsWithin bytes E1 = Unit {0}

@@ -48,7 +48,12 @@ fn first_character(codes: &Codes, front: Option<u8>, line: &[u8]) -> Option<Char
 }
 
 /// The first character of such a line that is not dropped in this state; None exactly where all are.
-pub(crate) fn first_kept(codes: &Codes, front: Option<u8>, line: &[u8], state: ReadState) -> Option<Character>
+pub(crate) fn first_kept(
+    codes: &Codes,
+    front: Option<u8>,
+    line: &[u8],
+    state: ReadState,
+) -> Option<Character>
     ensures { MatchOption result (kept codes.now state (option_to_list front ++ line.now) ≡ []) (IsKeptFrom codes.now state (option_to_list front ++ line.now) line.now) }
 {
     let mut character = first_character(codes, front, line)?;

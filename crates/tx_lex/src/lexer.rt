@@ -3,7 +3,7 @@ ghost use Rattle.std.specs.Prelude.{◌≡◌, ◌≤◌, ◌++◌, length, None
 ghost use Rattle.std.specs.Option.{option_to_list};
 ghost use Rattle.tx_char.specs.declared.tokens.Token.TheVariants.{Character};
 ghost use Rattle.tx_lex.specs.declared.types.Lexed.TheVariants.{Token as Lexed_token};
-ghost use Rattle.tx_lex.specs.Reading.{end_reading, meant, reading};
+ghost use Rattle.tx_lex.specs.Reading.{IsWithin, end_reading, meant, reading};
 
 use crate::characters::first_kept;
 use crate::names::read_name;
@@ -15,7 +15,8 @@ use tx_char::{Cat, Codes, ControlName, Token};
 /// dropped characters was left, `E1` exactly where a character of category Invalid is read. Its only error is want of
 /// memory.
 pub fn lex(alloc: Global, rest: &[u8], state: ReadState, codes: &Codes) -> Result<Lexed, AllocError>
-    ensures { IfOk result (λ lexed. meant rest.now lexed ≡ reading codes.now state rest.now) }
+    ensures reading { IfOk result (λ lexed. meant rest.now lexed ≡ reading codes.now state rest.now) }
+    ensures within { IfOk result (λ lexed. IsWithin rest.now lexed) }
 {
     lex_on(alloc, None, rest, state, codes)
 }
@@ -28,7 +29,8 @@ pub fn lex_on(
     state: ReadState,
     codes: &Codes,
 ) -> Result<Lexed, AllocError>
-    ensures { IfOk result (λ lexed. meant rest.now lexed ≡ reading codes.now state (option_to_list front ++ rest.now)) }
+    ensures reading { IfOk result (λ lexed. meant rest.now lexed ≡ reading codes.now state (option_to_list front ++ rest.now)) }
+    ensures within { IfOk result (λ lexed. IsWithin rest.now lexed) }
 {
     let Some(found) = first_kept(codes, front, rest, state) else {
         return Ok(Lexed::LineDone);
@@ -46,7 +48,8 @@ pub fn lex_on(
 
 /// What an end of line gives, which drops what stands behind it. Its only error is want of memory.
 fn line_end(alloc: Global, line: &[u8], state: ReadState) -> Result<Lexed, AllocError>
-    ensures { IfOk result (λ lexed. meant line.now lexed ≡ end_reading state) }
+    ensures reading { IfOk result (λ lexed. meant line.now lexed ≡ end_reading state) }
+    ensures within { IfOk result (λ lexed. IsWithin line.now lexed) }
 {
     match state {
         ReadState::N => Ok(Lexed::Token {

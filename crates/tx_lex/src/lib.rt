@@ -9,6 +9,8 @@ mod lexer;
 mod line;
 mod names;
 mod notation;
+#[cfg(test)]
+mod tests;
 mod types;
 
 pub use lexer::{lex, lex_on};

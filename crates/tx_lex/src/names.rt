@@ -3,7 +3,7 @@ ghost use Rattle.std.specs.Prelude.{◌≡◌, drop, IfOk};
 ghost use Rattle.tx_char.specs.declared.tokens.Token.TheVariants.{Name};
 ghost use Rattle.tx_lex.specs.declared.types.Lexed.TheVariants.{Token as Lexed_token};
 ghost use Rattle.tx_lex.specs.Characters.{characters};
-ghost use Rattle.tx_lex.specs.Reading.{is_letter, meant, name_reading, state_after, word_reading};
+ghost use Rattle.tx_lex.specs.Reading.{IsWithin, is_letter, meant, name_reading, state_after, word_reading};
 
 use crate::characters::character_at;
 use crate::types::{Lexed, ReadState};
@@ -20,7 +20,8 @@ pub(crate) fn read_name(
     place: usize,
     state: ReadState,
 ) -> Result<Lexed, AllocError>
-    ensures { IfOk result (λ lexed. meant line.now lexed ≡ name_reading codes.now state (characters codes.now (drop place line.now))) }
+    ensures reading { IfOk result (λ lexed. meant line.now lexed ≡ name_reading codes.now state (characters codes.now (drop place line.now))) }
+    ensures within { IfOk result (λ lexed. IsWithin line.now lexed) }
 {
     let Some(first) = character_at(codes, line, place) else {
         let name = ControlName::new(alloc, Bytes::new(alloc))?;
@@ -36,7 +37,8 @@ pub(crate) fn read_name(
 
 /// Reads the name of letters that begins at this place: as many as there are. Its only error is want of memory.
 fn read_word(alloc: Global, codes: &Codes, line: &[u8], begin: usize) -> Result<Lexed, AllocError>
-    ensures { IfOk result (λ lexed. meant line.now lexed ≡ word_reading codes.now (characters codes.now (drop begin line.now))) }
+    ensures reading { IfOk result (λ lexed. meant line.now lexed ≡ word_reading codes.now (characters codes.now (drop begin line.now))) }
+    ensures within { IfOk result (λ lexed. IsWithin line.now lexed) }
 {
     let mut name = Bytes::new(alloc);
     let mut place = begin;
@@ -79,5 +81,9 @@ fn is_letter_category(category: Cat) -> bool
 fn state_behind(category: Cat) -> ReadState
     ensures { result ≡ state_after category }
 {
-    if matches!(category, Cat::Space) { ReadState::S } else { ReadState::M }
+    if matches!(category, Cat::Space) {
+        ReadState::S
+    } else {
+        ReadState::M
+    }
 }

@@ -16,12 +16,18 @@ pub(crate) fn denoted(codes: &Codes, code: u8, behind: &[u8]) -> Option<Characte
         return None;
     }
     match behind {
-        [twin, first, second, ..] if *twin == code && is_hex(*first) && is_hex(*second) => Some(Character {
-            code: 16 * hex(*first) + hex(*second),
-            next: 3,
-        }),
+        [twin, first, second, ..] if *twin == code && is_hex(*first) && is_hex(*second) => Some(
+            Character {
+                code: 16 * hex(*first) + hex(*second),
+                next: 3,
+            },
+        ),
         [twin, first, ..] if *twin == code && *first < 128 => Some(Character {
-            code: if *first < 64 { *first + 64 } else { *first - 64 },
+            code: if *first < 64 {
+                *first + 64
+            } else {
+                *first - 64
+            },
             next: 2,
         }),
         _ => None,
@@ -48,5 +54,9 @@ fn hex(digit: u8) -> u8
     ensures value { result ≡ hex_value digit }
     ensures small { result < 16 }
 {
-    if digit <= b'9' { digit - b'0' } else { digit - b'a' + 10 }
+    if digit <= b'9' {
+        digit - b'0'
+    } else {
+        digit - b'a' + 10
+    }
 }

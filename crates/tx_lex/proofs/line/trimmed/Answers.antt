@@ -7,5 +7,6 @@ loop-end-preserved c = trimming-on c.loop-end.invariant c.loop-end-test.true c.i
 
 pub returns : goal.returns
 returns c = elim c.loop-end-test.branch [
-    | then-loop-end-test+else-text-end-eq32 w ↦ trimming-over c.loop-end.invariant w.loop-end-test.true w.if-text-end-eq32.false
-    | else-loop-end-test w ↦ trimming-nothing c.loop-end.invariant w.loop-end-test.false ]
+  | then-loop-end-test+else-text-end-eq32 w ↦ trimming-over c.loop-end.invariant w.loop-end-test.true w.if-text-end-eq32.false
+  | else-loop-end-test w ↦ trimming-nothing c.loop-end.invariant w.loop-end-test.false
+]

@@ -8,5 +8,5 @@ loop-found-preserved c =
     rw c.in_ok-push.ensures.ok
     (spelling-on c.loop-found.invariant c.in-Some.ensures.read (ap is_letter (sym c.get.ensures.value) ∙ sym c.if-not-is_letter_category.ensures))
 
-pub returns : goal.returns
-returns c = rw (c.named-2.ensures, c.in_ok-name-2.ensures) (spelling-end c.loop-found.invariant c.in_default.ensures.read)
+pub returns-clause-reading : goal.returns-clause-reading
+returns-clause-reading c = rw (c.named-2.ensures, c.in_ok-name-2.ensures) (spelling-end c.loop-found.invariant c.in_default.ensures.read)
