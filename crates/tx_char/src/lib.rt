@@ -1,0 +1,13 @@
+//! What TeX's eyes see of a character: its category, the table that gives each of the 256 character codes its
+//! category, and the tokens that reading makes of characters.
+//!
+//! Read `category`, then `table`, then `tokens`.
+#![tactic(auto)]
+
+mod category;
+mod table;
+mod tokens;
+
+pub use category::Cat;
+pub use table::Codes;
+pub use tokens::{ControlName, Token};

@@ -1,0 +1,4 @@
+pub mod CharacterLaws
+mod LineLaws
+mod Loops
+mod Readings

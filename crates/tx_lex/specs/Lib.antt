@@ -1,0 +1,5 @@
+pub mod Line
+pub mod Notation
+pub mod Characters
+pub mod Reading
+pub mod Steps

@@ -1,0 +1,18 @@
+//! TeX's eyes: the line that TeX sees of the bytes of a file, and one line to tokens (TeX: The Program, part 24; The
+//! TeXbook, chapters 7 and 8).
+//!
+//! Read `line`, `types`, `notation`, `characters`, `names`, then `lexer`.
+#![tactic(auto)]
+
+mod characters;
+mod lexer;
+mod line;
+mod names;
+mod notation;
+#[cfg(test)]
+mod tests;
+mod types;
+
+pub use lexer::{lex, lex_on};
+pub use line::line_text;
+pub use types::{Lexed, ReadState};
