@@ -1,7 +1,7 @@
 -- The pages of a run that are done so far, joined to those that are left, are the whole run, part by part.
 use Rattle.std.proofs.Common.{◌≡◌, ◌≢◌, ℕ, zero, suc, ◌+◌, ◌-◌, ◌*◌, ◌^◌, ◌<◌, ◌≤◌, min, List, [], ◌∷◌, ◌++◌, length, Option, Some, None, refl, sym, ap, ◌∙◌, subst, arith, append_assoc, append-nil, add-mul, one-mul, unwrap_or}
 use Rattle.tx_bytes.specs.Files.{Files}
-use Rattle.tx_dvi.specs.declared.PageBody.{PageBody}
+use Rattle.tx_dvi.specs.declared.page.PageBody.{PageBody}
 use Rattle.tx_machine.specs.declared.types.Close.{Close}
 use Rattle.tx_machine.specs.declared.types.Close.TheVariants.{Page, Halt, Spent}
 use Rattle.tx_machine.specs.declared.types.End.{End as RunEnd}

@@ -9,7 +9,7 @@ use Rattle.tx_files.specs.declared.line.NextLine.TheVariants.{Line as LineTo, En
 use Rattle.tx_machine.specs.declared.types.Ask.{Ask}
 use Rattle.tx_machine.specs.declared.types.Ask.TheVariants.{Open, Line, Close as CloseIt, Whole}
 use Rattle.tx_machine.specs.declared.types.Stop.{Stop}
-use Rattle.tx_dvi.specs.declared.PageBody.{PageBody}
+use Rattle.tx_dvi.specs.declared.page.PageBody.{PageBody}
 use Rattle.tx_machine.specs.declared.types.Close.{Close}
 use Rattle.tx_machine.specs.declared.types.Close.TheVariants.{Spent, Page, Halt}
 use Rattle.tx_machine.specs.declared.types.Event.{Event}

@@ -82,7 +82,7 @@ pub struct Pages {
 
 impl Model for Pages {
     ghost use Rattle.std.specs.Prelude.{List};
-    ghost use Rattle.tx_dvi.specs.declared.PageBody.{PageBody};
+    ghost use Rattle.tx_dvi.specs.declared.page.PageBody.{PageBody};
 
     ghost Value = { List PageBody };
 

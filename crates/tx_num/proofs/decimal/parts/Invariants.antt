@@ -1,0 +1,7 @@
+use Rattle.std.proofs.Common.{◌≡◌, ◌<◌, ◌^◌, take}
+use Rattle.std.specs.Str.Parse.{digits_value}
+use Rattle.tx_num.proofs.decimal.parts.Given as goal
+
+abbrev pub invariant-loop-digit : goal.invariant-loop-digit
+invariant-loop-digit l =
+    (l.number ≡ digits_value 10 (take l.digit-index l.digits)) × (l.scale ≡ 10 ^ l.digit-index) × (l.number < l.scale)

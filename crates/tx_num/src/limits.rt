@@ -1,0 +1,38 @@
+//! How large TeX's numbers may be.
+ghost use Rattle.std.specs.Prelude.{◌≡◌, ◌≤◌, ◌↔◌, IsTrue, unsigned_abs};
+ghost use Rattle.tx_num.specs.Limits.{limit};
+
+use thiserror::Error;
+
+/// A number left the range of its use.
+#[derive(Clone, Copy, Debug, PartialEq, Eq, Error)]
+#[error("arithmetic overflow")]
+pub struct Overflow;
+
+/// What a number is used as, which says how large it may be, either way.
+#[derive(Clone, Copy, Debug, PartialEq, Eq)]
+pub enum Range {
+    /// An integer, at most 2^31 - 1.
+    Integer,
+    /// A dimension in scaled points, at most 2^30 - 1.
+    Dimen,
+}
+
+impl Range {
+    /// The greatest magnitude.
+    pub const fn limit(self) -> u64
+        ensures { result ≡ limit self }
+    {
+        match self {
+            Range::Integer => 2_147_483_647,
+            Range::Dimen => 1_073_741_823,
+        }
+    }
+
+    /// Whether a number lies within the range.
+    pub const fn holds(self, number: i64) -> bool
+        ensures { IsTrue result ↔ (unsigned_abs number ≤ limit self) }
+    {
+        number.unsigned_abs() <= self.limit()
+    }
+}
