@@ -15,23 +15,23 @@ use Rattle.tx_machine.specs.declared.types.Close.TheVariants.{Spent, Page, Halt}
 use Rattle.tx_machine.specs.declared.types.Event.{Event}
 use Rattle.tx_machine.specs.declared.types.Event.TheVariants.{Went, Asks, Shipped, Stopped}
 use Rattle.tx_machine.specs.declared.types.OpenFile.{OpenFile}
-use Rattle.tx_machine.specs.Machine.{Formatter, IsLawful, Mode, Ready, mode_after, fits}
+use Rattle.tx_machine.specs.Machine.{Formatter, IsLawful, Mode, Ready, mode_after, kind_of, fits}
 use Rattle.tx_machine.specs.Opens.{reply_to, opening, reading, reading_on, whole, innermost, bytes_of}
 use Rattle.tx_machine.specs.Turn.{Place, Progress, one_turn, after_event, joined, stretch, stretch_by}
 
 -- a reply is of the kind that the ask wants
-fits-reply_to : (files : Files) (opens : List OpenFile) (ask : Ask) → fits ask (reply_to files opens ask).reply ≡ true
-fits-reply_to files opens (Open name) = elim (content files name) as (λ c. fits (Open name) (opening opens name c).reply ≡ true) [ None ↦ refl | Some bytes ↦ refl ]
+pub fits-reply_to : (files : Files) (opens : List OpenFile) (ask : Ask) → fits (kind_of ask) (reply_to files opens ask).reply ≡ true
+fits-reply_to files opens (Open name) = elim (content files name) as (λ c. fits (kind_of (Open name)) (opening opens name c).reply ≡ true) [ None ↦ refl | Some bytes ↦ refl ]
 fits-reply_to files opens Line = by_file (innermost opens)
   where
-    by_line : (file : OpenFile) (line : NextLine) → fits Line (reading_on opens file (bytes_of files file.name) line).reply ≡ true
+    by_line : (file : OpenFile) (line : NextLine) → fits (kind_of Line) (reading_on opens file (bytes_of files file.name) line).reply ≡ true
     by_line file AtEnd = refl
     by_line file (LineTo end has_lf) = refl
-    by_file : (file : Option OpenFile) → fits Line (reading files opens file).reply ≡ true
+    by_file : (file : Option OpenFile) → fits (kind_of Line) (reading files opens file).reply ≡ true
     by_file None = refl
     by_file (Some file) = by_line file (next_line_at (bytes_of files file.name) file.offset)
 fits-reply_to files opens CloseIt = refl
-fits-reply_to files opens (Whole name) = elim (content files name) as (λ c. fits (Whole name) (whole opens c).reply ≡ true) [ None ↦ refl | Some bytes ↦ refl ]
+fits-reply_to files opens (Whole name) = elim (content files name) as (λ c. fits (kind_of (Whole name)) (whole opens c).reply ≡ true) [ None ↦ refl | Some bytes ↦ refl ]
 
 module _ {S : Type 0} (m : Formatter S) (files : Files) where
   -- a turn that the budget refuses, and one that it allows
@@ -145,7 +145,7 @@ module _ {S : Type 0} (m : Formatter S) (files : Files) where
   ready-after_event : IsLawful m → (opens : List OpenFile) (left : ℕ) (next : S) (said : List ℕ) (event : Event) → m.mode next ≡ mode_after event
       → ((stop : Stop) → (after_event m files opens left next said event).close ≢ Some (Halt stop)) → m.mode (after_event m files opens left next said event).place.state ≡ Ready
   ready-after_event lawful opens left next said Went mode goes = mode
-  ready-after_event lawful opens left next said (Asks ask) mode goes = lawful.takes next ask (reply_to files opens ask).reply mode (fits-reply_to files opens ask)
+  ready-after_event lawful opens left next said (Asks ask) mode goes = lawful.takes next (kind_of ask) (reply_to files opens ask).reply mode (fits-reply_to files opens ask)
   ready-after_event lawful opens left next said (Shipped body) mode goes = mode
   ready-after_event lawful opens left next said (Stopped stop) mode goes = absurd (goes stop refl)
 

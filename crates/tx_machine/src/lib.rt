@@ -20,4 +20,4 @@ pub use machine::Machine;
 pub use run::fresh_run;
 
 pub use steps::{CountsTurns, Steps};
-pub use types::{Ask, Close, Date, End, Event, Limits, OpenFile, Ran, Reply, Stop};
+pub use types::{Ask, AskKind, Close, Date, End, Event, Limits, OpenFile, Ran, Reply, Stop};

@@ -1,5 +1,5 @@
 ghost use Rattle.std.specs.Prelude.{◌≡◌, ℕ, List, [], ◌++◌, true, IfOk, OnOk};
-ghost use Rattle.tx_machine.specs.declared.types.Ask.{Ask};
+ghost use Rattle.tx_machine.specs.declared.types.AskKind.{AskKind};
 ghost use Rattle.tx_machine.specs.Machine.{Formatter, IsLawful, Ready, Awaits, fits};
 ghost use Rattle.tx_machine.specs.Ranges.{IsDate};
 ghost use Rattle.tx_machine.specs.Steps.{raised};
@@ -60,7 +60,7 @@ pub trait Machine {
         s: &mut Self::State,
         reply: &Reply,
     ) -> Result<(), AllocError>
-        requires { (ask : Ask) × (formatter.mode (meaning s.old) ≡ Awaits ask) × (fits ask reply.now ≡ true) }
+        requires { (kind : AskKind) × (formatter.mode (meaning s.old) ≡ Awaits kind) × (fits kind reply.now ≡ true) }
         ensures state { OnOk result (meaning s.new ≡ formatter.take (meaning s.old) reply.now) }
         ensures pending { OnOk result (pending s.new ≡ pending s.old) };
 

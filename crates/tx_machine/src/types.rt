@@ -36,6 +36,15 @@ pub enum Ask {
     Whole(Bytes),
 }
 
+/// Which of its kinds an ask is.
+#[derive(Clone, Copy, Debug, PartialEq, Eq)]
+pub enum AskKind {
+    Open,
+    Line,
+    Close,
+    Whole,
+}
+
 /// What is replied to an ask.
 #[derive(Debug, Drop)]
 pub enum Reply {
