@@ -5,3 +5,8 @@ pub mod Numbers
 pub mod Dimensions
 pub mod Rules
 pub mod Commands
+pub mod Boxes
+pub mod Bodies
+pub mod State
+pub mod Effects
+pub mod Turns

@@ -4,6 +4,9 @@
 #![tactic(auto)]
 
 mod error;
+mod nodes;
+mod pack;
+mod parts;
 mod types;
 
 pub use error::TexError;
