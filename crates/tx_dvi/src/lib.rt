@@ -3,6 +3,7 @@
 //! Read `page`, then `assemble`.
 #![tactic(auto)]
 
+pub mod assemble;
 pub mod page;
 
 pub use page::{DateParameters, PageBody};
