@@ -1,5 +1,5 @@
 -- What TeX reads at the front of a line (TeX: The Program, sections 343 to 356; The TeXbook, chapters 7 and 8).
-use Rattle.std.specs.Prelude.{ℕ, ◌≤◌, Bool, true, false, Option, List, [], ◌∷◌, ◌++◌, drop, length, map, take_while, if◌then◌else◌}
+use Rattle.std.specs.Prelude.{ℕ, ◌≤◌, Bool, true, false, List, [], ◌∷◌, ◌++◌, drop, length, map, take_while, if◌then◌else◌}
 use Rattle.std.specs.Option.{option_to_list}
 use Rattle.tx_char.specs.declared.category.Cat.{Cat}
 use Rattle.tx_char.specs.declared.category.Cat.TheVariants.{Escape, EndOfLine, Ignored, Space, Letter, Comment, Invalid}
