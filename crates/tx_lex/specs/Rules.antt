@@ -10,7 +10,7 @@ use Rattle.tx_lex.specs.declared.types.ReadState.TheVariants.{N, M, S}
 use Rattle.tx_lex.specs.Notation.{Seen, reduction}
 use Rattle.tx_lex.specs.Reading.{Reading, Read, Nothing, Refused, par, space}
 
--- a character of these categories is a token itself
+-- a character is a token itself in all categories but 0, 5, 9, 10, 14 and 15
 abbrev pub IsPlain : Cat → Type 0
 IsPlain Escape = ⊥
 IsPlain EndOfLine = ⊥
