@@ -1,5 +1,5 @@
 -- The commands of a page (TeX: The Program, part 32; the DVI standard).
-use Rattle.std.specs.Prelude.{ℕ, Bool, ◌+◌, ◌-◌, ◌^◌, ◌==◌, ◌&&◌, nat_lt, nat_le, ℤ, pos, ◌+ℤ◌, ◌-ℤ◌, unsigned_abs, List, [], ◌∷◌, ◌++◌, drop, length, Option, Some, None, replicate, if◌then◌else◌}
+use Rattle.std.specs.Prelude.{ℕ, Bool, ◌+◌, ◌-◌, ◌^◌, ◌==◌, ◌&&◌, nat_lt, nat_le, ℤ, pos, ◌≤◌, ◌≤ℤ◌, ◌+ℤ◌, ◌-ℤ◌, unsigned_abs, List, [], ◌∷◌, ◌++◌, drop, length, Option, Some, None, replicate, if◌then◌else◌}
 use Rattle.std.specs.Option.{unwrap_or}
 use Rattle.std.specs.Int.{is_positive}
 use Rattle.tx_dvi.specs.declared.page.DateParameters.{DateParameters}
@@ -9,7 +9,8 @@ use Rattle.tx_machine.specs.declared.types.Date.{Date}
 use Rattle.tx_main.specs.declared.nodes.Node.{Node}
 use Rattle.tx_main.specs.declared.nodes.Node.TheVariants.{Rule, Kern, Space}
 use Rattle.tx_main.specs.declared.nodes.HBox.{HBox}
-use Rattle.tx_main.specs.Boxes.{width_of}
+use Rattle.tx_main.specs.declared.nodes.Cursor.{Cursor}
+use Rattle.tx_main.specs.Boxes.{node_height, node_depth}
 
 -- the fewest bytes that hold a movement with its sign
 abbrev pub movement_size : ℤ → ℕ
@@ -20,7 +21,7 @@ movement_size by =
     else 4
 
 -- a movement, none at all by 0, by a command of the family of which the shortest has this number: the last bytes of its four
-abbrev pub movement : ℕ → ℤ → List ℕ
+unfoldable pub movement : ℕ → ℤ → List ℕ
 movement shortest by =
     if unsigned_abs by == 0 then []
     else (shortest + (movement_size by - 1)) ∷ drop (4 - movement_size by) (four_bytes by)
@@ -33,14 +34,8 @@ abbrev pub down : ℤ → List ℕ
 down by = movement 157 by
 
 -- set_rule, with its height and width
-abbrev pub set_rule : ℤ → ℤ → List ℕ
+unfoldable pub set_rule : ℤ → ℤ → List ℕ
 set_rule height width = 132 ∷ four_bytes height ++ four_bytes width
-
--- how far right the next item stands, and how far right and down the reader of the DVI file has come
-pub record Cursor : Type 0 where
-  pub at : ℤ
-  pub right : ℤ
-  pub down : ℤ
 
 -- the cursor behind an item that the file doesn't mention
 abbrev pub passed : Cursor → ℤ → Cursor
@@ -60,14 +55,16 @@ rule_commands cursor corner height width =
     right (cursor.at -ℤ cursor.right) ++ down (corner -ℤ cursor.down) ++ set_rule height width
 
 -- the commands of an item of a box, and the cursor behind it
-abbrev pub node_commands : HBox → Cursor → Node → List ℕ × Cursor
-node_commands box cursor (Rule rule) =
-    let height = unwrap_or rule.height box.height in
-    let depth = unwrap_or rule.depth box.depth in
-    if is_visible rule.width (height +ℤ depth)
-    then (rule_commands cursor (box.height +ℤ depth) (height +ℤ depth) rule.width, behind_rule cursor rule.width (box.height +ℤ depth))
-    else ([], passed cursor rule.width)
-node_commands box cursor node = ([], passed cursor (width_of node))
+abbrev pub rule_item : HBox → Cursor → ℤ → ℤ → ℤ → List ℕ × Cursor
+rule_item box cursor width height depth =
+    if is_visible width (height +ℤ depth)
+    then (rule_commands cursor (box.height +ℤ depth) (height +ℤ depth) width, behind_rule cursor width (box.height +ℤ depth))
+    else ([], passed cursor width)
+
+unfoldable pub node_commands : HBox → Cursor → Node → List ℕ × Cursor
+node_commands box cursor (Rule rule) = rule_item box cursor rule.width (unwrap_or rule.height box.height) (unwrap_or rule.depth box.depth)
+node_commands box cursor (Kern size) = ([], passed cursor size)
+node_commands box cursor Space = ([], passed cursor (pos 0))
 
 -- the commands of the items of a box
 abbrev pub list_commands : HBox → Cursor → List Node → List ℕ
@@ -84,18 +81,47 @@ body_of box = list_commands box (record { at = pos 0; right = pos 0; down = pos 
 abbrev pub date_parameters : Date → DateParameters
 date_parameters date = record { year = pos date.year; month = pos date.month; day = pos date.day; time = pos date.minutes }
 
--- the page of a box, at the usual magnification and with all counts 0; None where it is too large: taller than 2^30-1 sp,
--- or of more than 200,000 bytes
-abbrev pub page_of : Date → HBox → Option Page
-page_of date box =
-    if nat_le (unsigned_abs (box.height +ℤ box.depth)) 1073741823 && nat_le (length (body_of box)) 200000
-    then Some (record {
-      body = body_of box;
-      counts = replicate 10 (pos 0);
-      height = box.height +ℤ box.depth;
-      width = box.width;
-      nesting = 0;
-      mag = 1000;
-      date = date_parameters date
-    })
-    else None
+-- the page of a box with this body, at the usual magnification and with all counts 0
+abbrev pub page_with : DateParameters → HBox → List ℕ → Page
+page_with date box body = record {
+  body = body;
+  counts = replicate 10 (pos 0);
+  height = box.height +ℤ box.depth;
+  width = box.width;
+  nesting = 0;
+  mag = 1000;
+  date = date
+}
+
+-- None where the body has more than 200,000 bytes
+abbrev pub page_of_body : DateParameters → HBox → List ℕ → Option Page
+page_of_body date box body = if nat_le (length body) 200000 then Some (page_with date box body) else None
+
+-- a page isn't taller than 2^30-1 sp
+abbrev pub is_page_height : ℤ → Bool
+is_page_height total = nat_le (unsigned_abs total) 1073741823
+
+-- the page of a box, None where it is too large
+unfoldable pub page_of : DateParameters → HBox → Option Page
+page_of date box = if is_page_height (box.height +ℤ box.depth) then page_of_body date box (body_of box) else None
+
+-- sizes and places that a page can have: nothing lies past 2^30-1 sp
+abbrev pub IsOnPage : ℤ → Type 0
+IsOnPage z = unsigned_abs z ≤ 1073741823
+
+-- a cursor that hasn't left the page
+pub record IsCursor (cursor : Cursor) : Type 0 where
+  pub at : IsOnPage cursor.at
+  pub right : IsOnPage cursor.right
+  pub down : IsOnPage cursor.down
+
+-- the sizes of a box that a page can have
+pub record IsPageBox (height depth : ℤ) : Type 0 where
+  pub up : pos 0 ≤ℤ height
+  pub low : pos 0 ≤ℤ depth
+  pub total : (height +ℤ depth) ≤ℤ pos 1073741823
+
+-- an item that asks for no more than the box is high and deep
+pub record FitsIn (height depth : ℤ) (node : Node) : Type 0 where
+  pub up : node_height node ≤ℤ height
+  pub low : node_depth node ≤ℤ depth

@@ -42,8 +42,8 @@ spacing true s = adding s Space_node
 spacing false s = leaves s
 
 -- \nullfont, the only font, has no characters, so each one is reported
-abbrev pub missing : ℕ → List ℕ
-missing code = codes "missing character " ++ decimal code ++ codes " in nullfont" ++ 10 ∷ []
+unfoldable pub missing : ℕ → List ℕ
+missing code = codes "missing character " ++ (decimal code ++ (codes " in nullfont" ++ 10 ∷ []))
 
 -- a group, if fewer than 255 are open
 abbrev pub opening : TexState → Group → TexState → Effect

@@ -3,22 +3,19 @@ use Rattle.std.specs.Prelude.{ℕ, Bool, false, List, [], Option, Some, None}
 use Rattle.tx_char.specs.declared.category.Cat.{Cat}
 use Rattle.tx_char.specs.declared.tokens.Token.{Token}
 use Rattle.tx_char.specs.Category.{initial_codes}
-use Rattle.tx_lex.specs.declared.types.ReadState.{ReadState}
 use Rattle.tx_lex.specs.declared.types.ReadState.TheVariants.{N}
+use Rattle.tx_dvi.specs.declared.page.DateParameters.{DateParameters}
 use Rattle.tx_machine.specs.declared.types.Date.{Date}
 use Rattle.tx_machine.specs.declared.types.AskKind.{AskKind}
 use Rattle.tx_machine.specs.Machine.{Mode, Ready, Awaits, Halted as Mode_halted}
+use Rattle.tx_main.specs.Bodies.{date_parameters}
+use Rattle.tx_main.specs.Lines.{Line}
 use Rattle.tx_main.specs.declared.nodes.Node.{Node}
 use Rattle.tx_main.specs.declared.parts.Due.{Due}
 use Rattle.tx_main.specs.declared.parts.Due.TheVariants.{OpenMain}
 use Rattle.tx_main.specs.declared.parts.Group.{Group}
 use Rattle.tx_main.specs.declared.parts.Phase.{Phase}
 use Rattle.tx_main.specs.declared.parts.Phase.TheVariants.{Running, Waiting, Halted}
-
--- the unread rest of the current line, and where in the line reading stands
-pub record Line : Type 0 where
-  pub rest : List ℕ
-  pub state : ReadState
 
 -- all that the next turns can depend on
 pub record TexState : Type 0 where
@@ -36,7 +33,7 @@ pub record TexState : Type 0 where
   pub groups : List Group
   pub codes : List Cat
   -- \year, \month, \day and \time
-  pub date : Date
+  pub date : DateParameters
 
 -- a state as the outside sees it: ready for a turn, waiting for a reply, or done for; of the last nothing else matters
 pub data Meaning : Type 0 where
@@ -65,5 +62,5 @@ first_state date main = record {
   list = [];
   groups = [];
   codes = initial_codes;
-  date = date
+  date = date_parameters date
 }

@@ -3,10 +3,30 @@
 //! Read `error` and `types`; the mouth's part: `tokens`, `integer`, `dimension`, `rule`, `command`; then the stomach's.
 #![tactic(auto)]
 
+mod back;
+mod command;
+mod dimension;
+mod effects;
 mod error;
+mod fraction;
+mod groups;
+mod integer;
+mod keyword;
+mod line;
+mod machine;
 mod nodes;
 mod pack;
 mod parts;
+mod rule;
+mod scans;
+mod ship;
+mod stage;
+mod state;
+mod token_list;
+mod tokens;
+mod turn;
 mod types;
 
 pub use error::TexError;
+pub use machine::Tex;
+pub use state::State;

@@ -108,3 +108,11 @@ pub struct HBox {
     pub depth: i32,
     pub list: Nodes,
 }
+
+/// How far right the next item of a list stands, and how far right and down the reader of the DVI file has come, in sp.
+#[derive(Clone, Copy, Debug)]
+pub struct Cursor {
+    pub at: i32,
+    pub right: i32,
+    pub down: i32,
+}

@@ -1,5 +1,6 @@
 //! The parts of TeX's state that are plain choices: what is due, which groups are open, what the state waits for.
-use crate::nodes::{HBox, Nodes};
+use crate::nodes::Nodes;
+use crate::pack::PackedBox;
 use tx_char::Codes;
 use tx_files::Name;
 use tx_machine::AskKind;
@@ -18,7 +19,7 @@ pub enum Due {
     /// The main file is closed, and no \end came.
     MainClosed,
     /// To ship this box.
-    Ship(HBox),
+    Ship(PackedBox),
 }
 
 /// A group that is open, with what comes back when it is closed.
