@@ -1,9 +1,9 @@
 -- The tokens between the character code of a \catcode and the category.
-use Rattle.std.proofs.Common.{◌≡◌, ℕ, ℤ, Bool, false, Option, Some, List, ◌∷◌, ◌++◌, option_to_list, refl, ap, sym, ◌∙◌}
+use Rattle.std.proofs.Common.{◌≡◌, ℕ, ℤ, false, Option, Some, List, ◌∷◌, ◌++◌, option_to_list, refl, ap, sym, ◌∙◌}
 use Rattle.tx_char.specs.declared.tokens.Token.{Token}
 use Rattle.tx_main.specs.declared.scans.IntScan.{IntScan}
 use Rattle.tx_main.specs.Tokens.{is_undefined, is_space, is_other}
-use Rattle.tx_main.specs.Scans.{Scan, next}
+use Rattle.tx_main.specs.Scans.{next}
 use Rattle.tx_main.specs.Numbers.{integer}
 use Rattle.tx_main.specs.Commands.{below}
 use Rattle.tx_main.specs.Rests.{int_rest, ranged, code_over, equals_over, category_over}

@@ -9,9 +9,9 @@ use Rattle.tx_num.specs.Decimals.{fraction_of}
 use Rattle.tx_num.specs.Units.{size_of}
 use Rattle.tx_char.specs.declared.tokens.Token.{Token}
 use Rattle.tx_main.specs.Tokens.{is_undefined, digit_value}
-use Rattle.tx_main.specs.Scans.{Scan, next, without_space, space_after}
+use Rattle.tx_main.specs.Scans.{next, without_space, space_after}
 use Rattle.tx_main.specs.Dimensions.{fraction, unit_name, sized}
-use Rattle.tx_main.specs.Rests.{factor_rest, unit_rest}
+use Rattle.tx_main.specs.Rests.{factor_rest}
 
 pub digits-push : (digits : List ℕ) (d : ℕ) → AllDigits 10 digits → d < 10 → AllDigits 10 (digits ++ (48 + d) ∷ [])
 digits-push digits d all small =

@@ -1,5 +1,5 @@
 -- What is read leaves no more tokens than there were.
-use Rattle.std.proofs.Common.{◌≡◌, ℕ, suc, ◌+◌, ◌*◌, ◌≤◌, Bool, true, false, cond, not, Option, Some, None, List, [], ◌∷◌, ◌++◌, length, refl, arith}
+use Rattle.std.proofs.Common.{◌≡◌, ℕ, ◌+◌, ◌*◌, ◌≤◌, Bool, true, false, cond, not, Option, Some, None, List, [], ◌∷◌, ◌++◌, length, refl, arith}
 use Rattle.std.specs.Prelude.{nat_le}
 use Rattle.tx_num.specs.declared.units.PhysicalUnit.{PhysicalUnit}
 use Rattle.tx_num.specs.declared.units.PhysicalUnit.TheVariants.{Point, ScaledPoint}
@@ -99,7 +99,7 @@ leaves-factor-from None t rest =
     (leaves-more (length rest) (length (t ∷ rest)) (fraction 0 [] rest) (omega arith) (leaves-fraction 0 rest []))
     (leaves-if _ (is_other 96 t) _ _
     (leaves-next (length rest) (length (t ∷ rest)) (character_code rest) (λ code behind. Done (record { whole = code; digits = [] }) behind)
-        (leaves-code rest) (λ code behind h. omega arith))
+    (leaves-code rest) (λ code behind h. omega arith))
     tt)
 
 leaves-factor : (tokens : List Token) → Leaves (length tokens) (factor tokens)

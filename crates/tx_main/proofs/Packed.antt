@@ -1,5 +1,5 @@
 -- What a box that was packed says of its items, and how the commands of a list unroll.
-use Rattle.std.proofs.Common.{◌≡◌, ℕ, zero, suc, ◌+◌, ◌<◌, ◌≤◌, ℤ, pos, ◌+ℤ◌, ◌≤ℤ◌, Bool, true, false, cond, List, [], ◌∷◌, ◌++◌, length, drop, get_or, Option, Some, None, refl, sym, ap, ◌∙◌, subst, arith, nat_le, unsigned_abs, append_assoc, fold, add-one}
+use Rattle.std.proofs.Common.{◌≡◌, ℕ, zero, suc, ◌+◌, ◌<◌, ◌≤◌, ℤ, pos, ◌+ℤ◌, ◌≤ℤ◌, Bool, true, false, cond, List, [], ◌∷◌, ◌++◌, length, drop, get_or, Option, Some, None, refl, sym, ap, ◌∙◌, arith, nat_le, unsigned_abs, append_assoc, fold, add-one}
 use Rattle.std.proofs.lemmas.Bool.{leb-true}
 use Rattle.std.proofs.lemmas.Int.{ints}
 use Rattle.std.proofs.Math.Seq.{drop-cons}
@@ -45,14 +45,14 @@ packed-is box e = by (sum_within (pos 0) box.list) refl e
         record {
           width = is ∙ ap (λ b. Some b.width) all;
           height = sym (ap (λ b. b.height) all);
-          depth = sym (ap (λ b. b.depth) all)
+          depth = sym (ap (λ b. b.depth) all);
         }
 
 pub fits-packed : (box : HBox) → IsPacked box → (i : ℕ) (d : Node) → i < length box.list → FitsIn box.height box.depth (get_or box.list i d)
 fits-packed box p i d h = record {
-    up = rw p.height (most-bounds node_height box.list (pos 0) i d h);
-    low = rw p.depth (most-bounds node_depth box.list (pos 0) i d h)
-  }
+  up = rw p.height (most-bounds node_height box.list (pos 0) i d h);
+  low = rw p.depth (most-bounds node_depth box.list (pos 0) i d h);
+}
 
 -- a sum that stays within the range does so at its next item, and goes on behind it
 pub record GoesOn (at : ℤ) (node : Node) (rest : List Node) (width : ℤ) : Type 0 where
@@ -100,8 +100,8 @@ list-steps box cursor next xs i d before body after h widths so_far put moved =
     record {
       widths = (λ j. sum_within (at j) (drop (one_more j) xs)) ∙ goes.on;
       commands = so_far ∙ ap (λ c. body ++ c) (commands-on box cursor xs i d h)
-        ∙ sym (append_assoc body (node_commands box cursor node).0 (list_commands box (node_commands box cursor node).1 (drop (suc i) xs)))
-        ∙ (λ j. sym put j ++ list_commands box (sym moved j) (drop (sym one_more j) xs))
+          ∙ sym (append_assoc body (node_commands box cursor node).0 (list_commands box (node_commands box cursor node).1 (drop (suc i) xs)))
+          ∙ (λ j. sym put j ++ list_commands box (sym moved j) (drop (sym one_more j) xs));
     }
 
 -- a box that was packed, and isn't too tall, can be on a page

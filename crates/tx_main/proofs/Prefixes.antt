@@ -1,5 +1,5 @@
 -- What a scan was fed so far is only a part of what it reads.
-use Rattle.std.proofs.Common.{◌≡◌, ℕ, Bool, List, [], ◌∷◌, ◌++◌, length, refl, ap, ◌∙◌}
+use Rattle.std.proofs.Common.{◌≡◌, Bool, List, [], ◌∷◌, ◌++◌, length, refl, ap, ◌∙◌}
 use Rattle.std.proofs.Math.Seq.{drop-cons}
 use Rattle.tx_char.specs.declared.tokens.Token.{Token}
 use Rattle.tx_main.specs.declared.types.Command.{Command}
@@ -18,7 +18,7 @@ use Rattle.tx_main.specs.declared.types.Rule.{Rule}
 use Rattle.tx_main.specs.declared.scans.Stage.{Stage}
 use Rattle.tx_main.specs.declared.scans.Stage.TheVariants as stage
 use Rattle.tx_main.specs.Begun.{Begun}
-use Rattle.tx_main.specs.Scans.{Scan, More, Done, next}
+use Rattle.tx_main.specs.Scans.{More, Done, next}
 use Rattle.tx_main.specs.Commands.{command}
 use Rattle.tx_main.specs.Keywords.{letters_of}
 use Rattle.tx_main.specs.Rules.{keyword, with_side, rule_sides, side_or_end}

@@ -1,12 +1,12 @@
 -- The letters of a side's name, one by one.
-use Rattle.std.proofs.Common.{◌≡◌, ℕ, ◌<◌, Bool, true, false, Option, Some, List, ◌∷◌, [], ◌++◌, length, refl, ap, ◌∙◌}
+use Rattle.std.proofs.Common.{◌≡◌, ◌<◌, Bool, true, false, Some, List, ◌∷◌, [], ◌++◌, length, refl, ap, ◌∙◌}
 use Rattle.std.proofs.Math.Seq.{drop-cons}
 use Rattle.tx_char.specs.declared.tokens.Token.{Token}
 use Rattle.tx_main.specs.declared.error.TexError.TheVariants.{Undefined}
 use Rattle.tx_main.specs.declared.types.Side.{Side}
 use Rattle.tx_main.specs.declared.types.Side.TheVariants.{Width, Height, Depth}
 use Rattle.tx_main.specs.Tokens.{is_undefined, is_space, is_key}
-use Rattle.tx_main.specs.Scans.{Scan, Wrong}
+use Rattle.tx_main.specs.Scans.{Wrong}
 use Rattle.tx_main.specs.Keywords.{letters_of, begun_by}
 use Rattle.tx_main.specs.Rules.{keyword, side_named}
 use Rattle.tx_main.specs.Rests.{keyword_rest}

@@ -1,8 +1,8 @@
 -- The token that ends a factor may as well be read with the unit, since spaces before a unit don't count.
-use Rattle.std.proofs.Common.{◌≡◌, ℕ, Bool, true, false, Option, None, List, [], ◌∷◌, refl, ap, ◌∙◌}
+use Rattle.std.proofs.Common.{◌≡◌, ℕ, Bool, true, false, None, List, [], ◌∷◌, refl, ap, ◌∙◌}
 use Rattle.tx_char.specs.declared.tokens.Token.{Token}
 use Rattle.tx_main.specs.Tokens.{is_undefined, is_space, is_point, digit_value}
-use Rattle.tx_main.specs.Scans.{Scan, next, without_space, space_after}
+use Rattle.tx_main.specs.Scans.{next, without_space, space_after}
 use Rattle.tx_main.specs.Dimensions.{fraction, whole_units, unit_name}
 use Rattle.tx_main.specs.Rests.{factor_rest, unit_rest, whole_factor}
 

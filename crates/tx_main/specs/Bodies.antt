@@ -90,7 +90,7 @@ page_with date box body = record {
   width = box.width;
   nesting = 0;
   mag = 1000;
-  date = date
+  date = date;
 }
 
 -- None where the body has more than 200,000 bytes

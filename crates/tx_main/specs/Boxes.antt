@@ -1,8 +1,7 @@
 -- Packing a horizontal list to its natural size (TeX: The Program, sections 649 to 656).
-use Rattle.std.specs.Prelude.{ℕ, ◌≤◌, ◌-◌, ℤ, pos, ◌+ℤ◌, unsigned_abs, nat_le, fold, List, [], ◌∷◌, Option, Some, None, if◌then◌else◌}
+use Rattle.std.specs.Prelude.{ℤ, pos, ◌+ℤ◌, unsigned_abs, nat_le, fold, List, [], ◌∷◌, Option, Some, None, if◌then◌else◌}
 use Rattle.std.specs.Option.{unwrap_or, option_map}
 use Rattle.std.specs.Int.{int_max}
-use Rattle.tx_main.specs.declared.types.Rule.{Rule as TheRule}
 use Rattle.tx_main.specs.declared.nodes.Node.{Node}
 use Rattle.tx_main.specs.declared.nodes.Node.TheVariants.{Rule, Kern, Space}
 use Rattle.tx_main.specs.declared.nodes.HBox.{HBox}

@@ -1,12 +1,12 @@
 -- TeX keeps the laws of every machine.
-use Rattle.std.specs.Prelude.{◌≡◌, ℕ, suc, ◌+◌, ◌-◌, ◌^◌, ◌≤◌, min, true, false, Bool, List, [], ◌∷◌, ◌++◌, length, Option, Some, None, refl}
-use Rattle.std.proofs.Common.{sym, ◌∙◌, ap, arith}
+use Rattle.std.specs.Prelude.{◌≡◌, ◌≤◌, List, [], ◌∷◌, ◌++◌, Option, Some, None, refl}
+use Rattle.std.proofs.Common.{arith}
 use Rattle.tx_char.specs.declared.tokens.Token.{Token}
 use Rattle.tx_dvi.specs.Page.{Page}
 use Rattle.tx_lex.specs.Reading.{Reading, Read, Nothing as Nothing_read, Refused, reading}
 use Rattle.tx_machine.specs.declared.types.AskKind.{AskKind}
 use Rattle.tx_machine.specs.declared.types.Reply.{Reply}
-use Rattle.tx_machine.specs.Machine.{Formatter, Stepped, IsLawful, Mode, Ready, Awaits, mode_after, fits}
+use Rattle.tx_machine.specs.Machine.{Stepped, IsLawful, Ready, Awaits, mode_after}
 use Rattle.tx_main.specs.declared.parts.Due.{Due}
 use Rattle.tx_main.specs.declared.parts.Due.TheVariants.{Nothing, OpenMain, MainAbsent, FileEnded, MainClosed, Ship}
 use Rattle.tx_main.specs.declared.types.Command.{Command}
@@ -15,7 +15,7 @@ use Rattle.tx_main.specs.Commands.{command}
 use Rattle.tx_main.specs.Effects.{Effect, Leaves, Fails, Ends, effect}
 use Rattle.tx_main.specs.Scans.{Scan, More, Done, Wrong}
 use Rattle.tx_main.specs.State.{TexState, Meaning, Runs, Waits, Stops, mode_of}
-use Rattle.tx_main.specs.Turns.{tex, cost, due_cost, step, works, reads, line_read, taking, scanned, effected, ships, takes}
+use Rattle.tx_main.specs.Turns.{tex, cost, due_cost, step, works, reads, line_read, scanned, effected, ships, takes}
 
 -- the mode after a turn is that of its event
 abbrev Leads : Stepped Meaning → Type 0
@@ -78,8 +78,8 @@ reply-leads Stops kind reply waits = absurd (cc)
 pub tex-lawful : IsLawful tex
 unfolding tex
 tex-lawful = record {
-    begins = λ date name. refl;
-    costs = turn-costs;
-    turns = λ m ready. step-leads m;
-    takes = λ m kind reply waits fit. reply-leads m kind reply waits
-  }
+  begins = λ date name. refl;
+  costs = turn-costs;
+  turns = λ m ready. step-leads m;
+  takes = λ m kind reply waits fit. reply-leads m kind reply waits;
+}

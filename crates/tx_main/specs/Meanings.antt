@@ -1,7 +1,6 @@
 -- What the code's state means.
 use Rattle.std.specs.Prelude.{◌≡◌, ℕ, List, ◌++◌}
 use Rattle.tx_char.specs.declared.category.Cat.{Cat}
-use Rattle.tx_char.specs.declared.tokens.Token.{Token}
 use Rattle.tx_lex.specs.Reading.{Read, Nothing as Nothing_read, Refused, reading}
 use Rattle.tx_machine.specs.declared.types.Event.{Event}
 use Rattle.tx_machine.specs.Machine.{Stepped}
@@ -28,7 +27,7 @@ state_of s = record {
   list = s.list;
   groups = s.groups;
   codes = s.codes;
-  date = s.date
+  date = s.date;
 }
 
 abbrev pub meaning_of : State → Meaning

@@ -8,7 +8,7 @@ use Rattle.tx_main.specs.declared.scans.Fed.TheVariants as fed
 use Rattle.tx_main.specs.declared.scans.IntScan.{IntScan}
 use Rattle.tx_main.specs.declared.scans.IntPart.{IntPart}
 use Rattle.tx_main.specs.declared.scans.IntPart.TheVariants as int
-use Rattle.tx_main.specs.Scans.{Scan, More, Done, Wrong, next, space_after}
+use Rattle.tx_main.specs.Scans.{Scan, Done, Wrong, next, space_after}
 use Rattle.tx_main.specs.declared.scans.DimenScan.{DimenScan}
 use Rattle.tx_main.specs.declared.scans.DimenPart.{DimenPart}
 use Rattle.tx_main.specs.declared.scans.DimenPart.TheVariants as dimen

@@ -1,5 +1,5 @@
 -- What TeX's state means: plain data (TeX: The Program, parts 15, 19 and 22).
-use Rattle.std.specs.Prelude.{ℕ, Bool, false, List, [], Option, Some, None}
+use Rattle.std.specs.Prelude.{ℕ, Bool, false, List, []}
 use Rattle.tx_char.specs.declared.category.Cat.{Cat}
 use Rattle.tx_char.specs.declared.tokens.Token.{Token}
 use Rattle.tx_char.specs.Category.{initial_codes}
@@ -62,5 +62,5 @@ first_state date main = record {
   list = [];
   groups = [];
   codes = initial_codes;
-  date = date_parameters date
+  date = date_parameters date;
 }

@@ -1,5 +1,5 @@
 -- How a command is taken off the input.
-use Rattle.std.specs.Prelude.{◌≡◌, Bool, List, [], ◌∷◌, ◌++◌}
+use Rattle.std.specs.Prelude.{◌≡◌, [], ◌∷◌, ◌++◌}
 use Rattle.tx_char.specs.declared.tokens.Token.{Token}
 use Rattle.tx_main.specs.declared.scans.Taken.{Taken}
 use Rattle.tx_main.specs.declared.scans.Taken.TheVariants as taken

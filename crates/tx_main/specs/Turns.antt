@@ -1,5 +1,5 @@
 -- One turn of TeX: due work, the ask for a line, or one token (TeX: The Program, sections 1030, 343 and 360).
-use Rattle.std.specs.Prelude.{◌≡◌, ℕ, ◌+◌, ◌-◌, ◌^◌, min, Bool, List, [], ◌∷◌, ◌++◌, length, Option, Some, None}
+use Rattle.std.specs.Prelude.{ℕ, ◌+◌, ◌-◌, ◌^◌, min, List, [], ◌∷◌, ◌++◌, length, Option, Some, None}
 use Rattle.tx_char.specs.declared.tokens.Token.{Token}
 use Rattle.tx_dvi.specs.Page.{Page}
 use Rattle.tx_lex.specs.declared.types.ReadState.TheVariants.{N}
@@ -10,13 +10,12 @@ use Rattle.tx_machine.specs.declared.types.AskKind.TheVariants.{Open as Opening,
 use Rattle.tx_machine.specs.declared.types.Ask.{Ask}
 use Rattle.tx_machine.specs.declared.types.Ask.TheVariants.{Open, Line, Close}
 use Rattle.tx_machine.specs.declared.types.Reply.{Reply}
-use Rattle.tx_machine.specs.declared.types.Reply.TheVariants.{Found, Absent, Line as ReplyLine, Ended, Closed}
+use Rattle.tx_machine.specs.declared.types.Reply.TheVariants.{Absent, Line as ReplyLine, Ended, Closed}
 use Rattle.tx_machine.specs.declared.types.Event.TheVariants.{Went, Asks, Shipped, Stopped}
 use Rattle.tx_machine.specs.declared.types.Stop.TheVariants.{End, Error}
 use Rattle.tx_machine.specs.Machine.{Formatter, Stepped, kind_of}
 use Rattle.tx_main.specs.declared.error.TexError.{TexError}
 use Rattle.tx_main.specs.declared.error.TexError.TheVariants.{InvalidCharacter, SizeOutOfRange, FileAbsent, NoEnd}
-use Rattle.tx_main.specs.declared.nodes.HBox.{HBox}
 use Rattle.tx_main.specs.declared.parts.Due.{Due}
 use Rattle.tx_main.specs.declared.parts.Due.TheVariants.{Nothing, OpenMain, MainAbsent, FileEnded, MainClosed, Ship}
 use Rattle.tx_main.specs.declared.types.Command.{Command}

@@ -57,7 +57,11 @@ impl CommandScan {
         ensures { IfOk result (IsTaken self.old token self.new) }
     {
         let horizontal = self.horizontal;
-        let CommandScan { horizontal: _, mut taken, stage } = mem::replace(self, CommandScan::new(alloc, horizontal));
+        let CommandScan {
+            horizontal: _,
+            mut taken,
+            stage,
+        } = mem::replace(self, CommandScan::new(alloc, horizontal));
         taken.push(token.clone()?)?;
         match stage.feed(alloc, horizontal, token)? {
             Fed::More(stage) => {

@@ -9,7 +9,10 @@ use crate::error::TexError;
 use crate::fraction::Digits;
 use crate::integer::{character_named, longer};
 use crate::scans::{DimenFed, DimenPart, DimenScan, Factor, Fed};
-use crate::tokens::{not_space, token_digit, token_is_key, token_is_other, token_is_point, token_is_space, token_is_undefined};
+use crate::tokens::{
+    not_space, token_digit, token_is_key, token_is_other, token_is_point, token_is_space,
+    token_is_undefined,
+};
 use std::alloc::{AllocError, Global};
 use tx_char::Token;
 use tx_num::PhysicalUnit;
@@ -96,7 +99,14 @@ fn feed_space(alloc: Global, negative: bool, code: u8, token: Token) -> DimenFed
         return Fed::Wrong(TexError::Undefined);
     }
     let digits = Digits::new(alloc);
-    feed_unit(negative, Factor { whole: u32::from(code), digits }, token)
+    feed_unit(
+        negative,
+        Factor {
+            whole: u32::from(code),
+            digits,
+        },
+        token,
+    )
 }
 
 /// One more digit of whole units, or what ends them.
@@ -113,7 +123,10 @@ fn feed_whole(alloc: Global, negative: bool, number: u32, token: Token) -> Dimen
         };
     }
     let digits = Digits::new(alloc);
-    let factor = Factor { whole: number, digits };
+    let factor = Factor {
+        whole: number,
+        digits,
+    };
     if token_is_point(&token) {
         more(negative, DimenPart::Fraction(factor))
     } else {
@@ -147,16 +160,28 @@ fn feed_unit(negative: bool, factor: Factor, token: Token) -> DimenFed
         return more(negative, DimenPart::Unit(factor));
     }
     if token_is_key(&token, b'p') {
-        return more(negative, DimenPart::SecondLetter(factor, PhysicalUnit::Point, b't'));
+        return more(
+            negative,
+            DimenPart::SecondLetter(factor, PhysicalUnit::Point, b't'),
+        );
     }
     if token_is_key(&token, b's') {
-        return more(negative, DimenPart::SecondLetter(factor, PhysicalUnit::ScaledPoint, b'p'));
+        return more(
+            negative,
+            DimenPart::SecondLetter(factor, PhysicalUnit::ScaledPoint, b'p'),
+        );
     }
     Fed::Wrong(TexError::MissingUnit)
 }
 
 /// The second letter of a unit.
-fn feed_second_letter(negative: bool, factor: Factor, unit: PhysicalUnit, letter: u8, token: Token) -> DimenFed
+fn feed_second_letter(
+    negative: bool,
+    factor: Factor,
+    unit: PhysicalUnit,
+    letter: u8,
+    token: Token,
+) -> DimenFed
     ensures { IsFed dimen_rest option_to_list (record { negative = negative; part = DimenPart.SecondLetter factor unit letter }) token result }
 {
     if token_is_undefined(&token) {
@@ -175,7 +200,11 @@ fn with_sign(negative: bool, size: i64) -> i32
     requires high { size ≤ℤ pos 1073741823 }
     ensures { (n : ℕ) → size ≡ pos n → result ≡ signed negative n }
 {
-    if negative { -(size as i32) } else { size as i32 }
+    if negative {
+        -(size as i32)
+    } else {
+        size as i32
+    }
 }
 
 /// An optional space behind the unit; the dimension is whole.

@@ -74,7 +74,8 @@ fn open_shipped(alloc: Global, s: &mut State) -> Result<Event, AllocError>
     }
     let list = mem::replace(&mut s.list, Nodes::new(alloc));
     let horizontal = s.scan.is_horizontal();
-    s.groups.push(Group::Shipped(s.codes.clone()?, list, horizontal))?;
+    s.groups
+        .push(Group::Shipped(s.codes.clone()?, list, horizontal))?;
     s.scan = CommandScan::new(alloc, true);
     Ok(Event::Went)
 }
@@ -91,7 +92,9 @@ fn close(alloc: Global, s: &mut State) -> Event
             s.codes = codes;
             Event::Went
         }
-        Some(Group::Shipped(codes, list, horizontal)) => close_shipped(alloc, s, codes, list, horizontal),
+        Some(Group::Shipped(codes, list, horizontal)) => close_shipped(
+            alloc, s, codes, list, horizontal,
+        ),
     }
 }
 

@@ -121,7 +121,10 @@ fn feed_space(negative: bool, code: u8, token: Token) -> IntFed
     if token_is_undefined(&token) {
         return Fed::Wrong(TexError::Undefined);
     }
-    Fed::Done(number_with_sign(negative, u32::from(code)), not_space(token))
+    Fed::Done(
+        number_with_sign(negative, u32::from(code)),
+        not_space(token),
+    )
 }
 
 /// One more digit, or what ends the number.

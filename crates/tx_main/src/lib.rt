@@ -1,6 +1,7 @@
 //! TeX as a machine: a state, and turns that each do one piece of due work, ask for a line, or take one token.
 //!
-//! Read `error` and `types`; the mouth's part: `tokens`, `integer`, `dimension`, `rule`, `command`; then the stomach's.
+//! Read `error` and `types`; how commands are taken off tokens: `tokens`, `scans`, `integer`, `dimension`, `rule`,
+//! `command`; what they build: `nodes`, `pack`, `ship`; then `parts`, `line`, `state`, `effects`, `turn` and `machine`.
 #![tactic(auto)]
 
 mod back;
@@ -18,6 +19,8 @@ mod nodes;
 mod pack;
 mod parts;
 mod rule;
+#[cfg(test)]
+mod scan_tests;
 mod scans;
 mod ship;
 mod stage;

@@ -98,7 +98,10 @@ fn rule_with_side(rule: Rule, side: Side, size: i32) -> Rule
     ensures { result ≡ with_side rule side size }
 {
     match side {
-        Side::Width => Rule { width: size, ..rule },
+        Side::Width => Rule {
+            width: size,
+            ..rule
+        },
         Side::Height => Rule {
             height: Some(size),
             ..rule
@@ -156,7 +159,13 @@ fn feed_side(alloc: Global, rule: Rule, scan: SideScan, token: Token) -> Result<
 }
 
 /// The size of a side; behind it the next side may be named.
-fn feed_size(alloc: Global, rule: Rule, side: Side, scan: DimenScan, token: Token) -> Result<RuleFed, AllocError>
+fn feed_size(
+    alloc: Global,
+    rule: Rule,
+    side: Side,
+    scan: DimenScan,
+    token: Token,
+) -> Result<RuleFed, AllocError>
     ensures { IfOk result (IsFed rule_rest (λ tokens. tokens) (record { rule = rule; part = RulePart.Size side scan }) token) }
 {
     match scan.feed(alloc, token)? {
@@ -169,7 +178,12 @@ fn feed_size(alloc: Global, rule: Rule, side: Side, scan: DimenScan, token: Toke
             part: RulePart::Side(SideScan::Spaces),
         })),
         Fed::Done(size, Some(token)) => {
-            feed_side(alloc, rule_with_side(rule, side, size), SideScan::Spaces, token)
+            feed_side(
+                alloc,
+                rule_with_side(rule, side, size),
+                SideScan::Spaces,
+                token,
+            )
         }
         Fed::Wrong(error) => Ok(Fed::Wrong(error)),
     }

@@ -17,6 +17,7 @@ use tx_machine::Date;
 
 /// The shortest commands that move right and down.
 const RIGHT1: u8 = 143;
+
 const DOWN1: u8 = 157;
 
 const SET_RULE: u8 = 132;

@@ -8,7 +8,8 @@ use crate::error::TexError;
 use crate::scans::{DimenScan, Fed, IntScan, RuleScan, Stage, StageFed};
 use crate::token_list::Tokens;
 use crate::tokens::{
-    primitive, token_begins_group, token_is_hbox, token_is_other, token_is_relax, token_is_space, token_is_undefined,
+    primitive, token_begins_group, token_is_hbox, token_is_other, token_is_relax, token_is_space,
+    token_is_undefined,
 };
 use crate::types::{Command, Primitive};
 use std::alloc::{AllocError, Global};
@@ -16,7 +17,12 @@ use tx_char::{Cat, Token};
 
 impl Stage {
     /// Takes one token, in a horizontal or a vertical list. Its only error is want of memory.
-    pub(crate) fn feed(self, alloc: Global, horizontal: bool, token: Token) -> Result<StageFed, AllocError>
+    pub(crate) fn feed(
+        self,
+        alloc: Global,
+        horizontal: bool,
+        token: Token,
+    ) -> Result<StageFed, AllocError>
         ensures { IfOk result (IsCommand horizontal (λ more. command_rest horizontal self (token ∷ more))) }
     {
         match self {
@@ -93,7 +99,12 @@ fn number_below(bound: u16, number: i64) -> Option<u8>
 }
 
 /// The character code of a \catcode.
-fn feed_code(alloc: Global, horizontal: bool, scan: IntScan, token: Token) -> Result<StageFed, AllocError>
+fn feed_code(
+    alloc: Global,
+    horizontal: bool,
+    scan: IntScan,
+    token: Token,
+) -> Result<StageFed, AllocError>
     ensures { IfOk result (IsCommand horizontal (λ more. command_rest horizontal (Stage.CharacterCode scan) (token ∷ more))) }
 {
     match scan.feed(token) {
@@ -104,7 +115,12 @@ fn feed_code(alloc: Global, horizontal: bool, scan: IntScan, token: Token) -> Re
 }
 
 /// The number that is the character code is whole.
-fn end_code(alloc: Global, horizontal: bool, code: i64, back: Option<Token>) -> Result<StageFed, AllocError>
+fn end_code(
+    alloc: Global,
+    horizontal: bool,
+    code: i64,
+    back: Option<Token>,
+) -> Result<StageFed, AllocError>
     ensures { IfOk result (IsCommand horizontal (λ more. code_over code (option_to_list back ++ more))) }
 {
     let Some(code) = number_below(256, code) else {
@@ -117,7 +133,12 @@ fn end_code(alloc: Global, horizontal: bool, code: i64, back: Option<Token>) -> 
 }
 
 /// An optional `=`, or the first token of the category.
-fn feed_equals(alloc: Global, horizontal: bool, code: u8, token: Token) -> Result<StageFed, AllocError>
+fn feed_equals(
+    alloc: Global,
+    horizontal: bool,
+    code: u8,
+    token: Token,
+) -> Result<StageFed, AllocError>
     ensures { IfOk result (IsCommand horizontal (λ more. equals_over code (token ∷ more))) }
 {
     if token_is_undefined(&token) {
@@ -133,7 +154,13 @@ fn feed_equals(alloc: Global, horizontal: bool, code: u8, token: Token) -> Resul
 }
 
 /// The category of a \catcode.
-fn feed_category(alloc: Global, horizontal: bool, code: u8, scan: IntScan, token: Token) -> Result<StageFed, AllocError>
+fn feed_category(
+    alloc: Global,
+    horizontal: bool,
+    code: u8,
+    scan: IntScan,
+    token: Token,
+) -> Result<StageFed, AllocError>
     ensures { IfOk result (IsCommand horizontal (λ more. command_rest horizontal (Stage.Category code scan) (token ∷ more))) }
 {
     match scan.feed(token) {
@@ -154,24 +181,40 @@ fn end_category(
     ensures { IfOk result (IsCommand horizontal (λ more. category_over code category (option_to_list back ++ more))) }
 {
     match number_below(16, category) {
-        Some(category) => Ok(Fed::Done(Command::Catcode(code, category), Tokens::from_option(alloc, back)?)),
+        Some(category) => Ok(Fed::Done(
+            Command::Catcode(code, category),
+            Tokens::from_option(alloc, back)?,
+        )),
         None => Ok(Fed::Wrong(TexError::NumberOutOfRange)),
     }
 }
 
 /// The size of a \kern.
-fn feed_kern(alloc: Global, horizontal: bool, scan: DimenScan, token: Token) -> Result<StageFed, AllocError>
+fn feed_kern(
+    alloc: Global,
+    horizontal: bool,
+    scan: DimenScan,
+    token: Token,
+) -> Result<StageFed, AllocError>
     ensures { IfOk result (IsCommand horizontal (λ more. command_rest horizontal (Stage.Kern scan) (token ∷ more))) }
 {
     match scan.feed(alloc, token)? {
         Fed::More(scan) => Ok(Fed::More(Stage::Kern(scan))),
-        Fed::Done(size, back) => Ok(Fed::Done(Command::Kern(size), Tokens::from_option(alloc, back)?)),
+        Fed::Done(size, back) => Ok(Fed::Done(
+            Command::Kern(size),
+            Tokens::from_option(alloc, back)?,
+        )),
         Fed::Wrong(error) => Ok(Fed::Wrong(error)),
     }
 }
 
 /// The sides of a \vrule.
-fn feed_rule(alloc: Global, horizontal: bool, scan: RuleScan, token: Token) -> Result<StageFed, AllocError>
+fn feed_rule(
+    alloc: Global,
+    horizontal: bool,
+    scan: RuleScan,
+    token: Token,
+) -> Result<StageFed, AllocError>
     ensures { IfOk result (IsCommand horizontal (λ more. command_rest horizontal (Stage.Vrule scan) (token ∷ more))) }
 {
     match scan.feed(alloc, token)? {

@@ -82,7 +82,9 @@ pub fn cost(s: &State) -> u64
     ensures { result ≡ turns.cost (meaning_of s.now) }
 {
     match (s.phase, &s.due) {
-        (Phase::Running, Due::Ship(shipped)) => (shipped.as_box().list.len() as u64).saturating_add(1),
+        (Phase::Running, Due::Ship(shipped)) => (shipped.as_box().list.len() as u64).saturating_add(
+            1,
+        ),
         _ => 1,
     }
 }

@@ -1,4 +1,4 @@
-use Rattle.std.proofs.Common.{◌≡◌, List, ℕ, ◌++◌, ◌∷◌, [], ap, ◌∙◌, append_assoc, codes, decimal}
+use Rattle.std.proofs.Common.{List, ℕ, ◌++◌, ◌∷◌, [], ap, ◌∙◌, append_assoc, codes, decimal}
 use Rattle.tx_main.specs.Effects.{missing}
 use Rattle.tx_main.proofs.effects.report_missing.Goals as goal
 

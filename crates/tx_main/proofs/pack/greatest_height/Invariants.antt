@@ -1,4 +1,4 @@
-use Rattle.std.proofs.Common.{◌≡◌, pos, take}
+use Rattle.std.proofs.Common.{◌≡◌, take}
 use Rattle.tx_main.specs.Boxes.{height_of}
 use Rattle.tx_main.proofs.pack.greatest_height.Given as goal
 

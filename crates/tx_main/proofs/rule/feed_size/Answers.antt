@@ -17,5 +17,5 @@ returns-in-Done-default-Some c =
     let token = c.in-Done-default-Some.token in
     same-again rule_rest (λ tokens. tokens) (record { rule = c.args.rule; part = Size c.args.side c.args.scan }) (record { rule = new; part = Side Spaces }) c.args.token token c.feed_side.result
     (size-over c.args.rule new c.args.side c.args.scan c.args.token c.in_ok-scan.field-0 c.in-Done-default-Some.size (Some token)
-        c.in_ok-scan.ensures (cc) (search rules))
+    c.in_ok-scan.ensures (cc) (search rules))
     c.feed_side.ensures

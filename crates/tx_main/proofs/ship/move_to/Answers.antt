@@ -1,4 +1,4 @@
-use Rattle.std.proofs.Common.{◌≡◌, ◌++◌, ◌-ℤ◌, ap, ◌∙◌, arith, append_assoc, to_z, of_z, w32}
+use Rattle.std.proofs.Common.{◌≡◌, ◌++◌, ◌-ℤ◌, ◌∙◌, arith, append_assoc, to_z, of_z, w32}
 use Rattle.std.proofs.lemmas.Int.{ints}
 use Rattle.tx_main.specs.Bodies.{right, down}
 use Rattle.tx_main.proofs.ship.move_to.Goals as goal

@@ -1,4 +1,4 @@
-use Rattle.std.proofs.Common.{refl, arith, rules}
+use Rattle.std.proofs.Common.{refl, arith}
 use Rattle.std.proofs.lemmas.Int.{ints}
 use Rattle.tx_main.proofs.ship.put_rule_of.Goals as goal
 
@@ -17,5 +17,5 @@ returns-in_ok-put_rule-in-Some-clause-on_page c =
     record {
       at = omega (arith, ints, c.further-at.ensures, c.requires.next_on_page, c.requires.on_page.at);
       right = omega (arith, ints, c.further-at.ensures, c.requires.next_on_page, c.requires.on_page.at);
-      down = omega (arith, ints, h, c.further-corner.ensures, c.requires.page.up, c.requires.page.low, c.requires.page.total)
+      down = omega (arith, ints, h, c.further-corner.ensures, c.requires.page.up, c.requires.page.low, c.requires.page.total);
     }

@@ -8,7 +8,7 @@ use Rattle.tx_main.proofs.command.CommandScan.feed.Goals as goal
 pub returns-in-More : goal.returns-in-More
 returns-in-More c =
     let part : command c.taken.inside.horizontal (c.taken.inside.taken ++ c.args.token ∷ []) ≡ More =
-        taken-more c.taken.inside.horizontal c.taken.inside.taken c.taken.inside.stage c.in-More.stage c.args.token c.in_ok-stage.field-0 c.taken.invariant (search rules) (cc) in
+    taken-more c.taken.inside.horizontal c.taken.inside.taken c.taken.inside.stage c.in-More.stage c.args.token c.in_ok-stage.field-0 c.taken.invariant (search rules) (cc) in
     taken-all c.args.self.now c.self.inside.horizontal c.taken.inside.horizontal c.taken.inside.taken c.push.new.self c.args.token
     (ap (λ (b : Begun). b.horizontal) c.self.view_is)
     (ap (λ (b : Begun). b.horizontal) (c.taken.view_is ∙ c.replace.ensures.value))
