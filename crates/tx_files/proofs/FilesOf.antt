@@ -1,12 +1,12 @@
 -- The map that the entries stand for answers as a search of the entries does, and an insertion among them is one in it.
-use Rattle.std.proofs.Common.{◌≡◌, ◌≢◌, ℕ, Bool, true, false, cond, List, [], ◌∷◌, map, Option, Some, None, refl, sym, ap, ◌∙◌, nat_eq, true≢false}
+use Rattle.std.proofs.Common.{◌≡◌, ℕ, Bool, true, false, cond, List, [], ◌∷◌, map, Option, Some, refl, sym, ap, ◌∙◌, nat_eq, true≢false}
 use Rattle.std.specs.Global.{Vec}
-use Rattle.std.specs.Ordering.{nat_cmp, eq_by_cmp, is_eq}
+use Rattle.std.specs.Ordering.{nat_cmp}
 use Rattle.std.specs.Cmp.Lexicographic.{slice_cmp}
 use Rattle.std.specs.Cmp.Lexicographic.{pointwise, same_text, nat_list_cmp_total}
 use Rattle.std.specs.Str.{bytes_eq}
 use Rattle.std.specs.Map.{lookup}
-use Rattle.std.specs.FinMap.{find, get, insert, get-from_entries, get-insert, same_map, slice_cmp-IsAntisymmetric, nat_cmp-IsAntisymmetric}
+use Rattle.std.specs.FinMap.{find, insert, get-from_entries, get-insert, same_map, slice_cmp-IsAntisymmetric, nat_cmp-IsAntisymmetric}
 use Rattle.std.proofs.lemmas.Map.Text.{is_eq-slice_cmp}
 use Rattle.indexmap.specs.IndexMap.{insert_entry}
 use Rattle.tx_bytes.specs.Files.{content}
@@ -40,6 +40,7 @@ lookup-insert_entry (e ∷ es) k v q = by (same_key k e.0) refl (lookup-insert_e
   where
     find_in : List (Vec ℕ × List ℕ) → Option (List ℕ)
     find_in = lookup (λ x. bytes_eq q x.items)
+
     by : (b : Bool) → same_key k e.0 ≡ b → find_in (insert_entry same_key es k v) ≡ cond (bytes_eq q k.items) (Some v) (find_in es)
         → find_in (cond b ((e.0, v) ∷ es) (e ∷ insert_entry same_key es k v)) ≡ cond (bytes_eq q k.items) (Some v) (cond (bytes_eq q e.0.items) (Some e.1) (find_in es))
     by true h rest = twice (bytes_eq q e.0.items) (Some v) (Some e.1) (find_in es) ∙ ap (λ x. cond (bytes_eq q x) (Some v) (cond (bytes_eq q e.0.items) (Some e.1) (find_in es))) (sym (same_text k.items e.0.items (sym h)))

@@ -1,8 +1,6 @@
 -- The map that a list of entries stands for.
 use Rattle.std.specs.Prelude.{ℕ, List, map}
 use Rattle.std.specs.Global.{Vec}
-use Rattle.std.specs.Ordering.{nat_cmp}
-use Rattle.std.specs.Cmp.Lexicographic.{slice_cmp}
 use Rattle.std.specs.FinMap.{from_entries}
 use Rattle.tx_bytes.specs.Files.{Files}
 

@@ -1,5 +1,5 @@
 -- The lines of a file: LF ends a line, and what follows the last LF is a line if there is any of it.
-use Rattle.std.specs.Prelude.{ℕ, ◌<◌, ◌≤◌, ◌+◌, ◌-◌, ◌==◌, Bool, true, false, List, [], ◌∷◌, length, drop, Option, Some, None, position, nat_le, if◌then◌else◌, count_by, slice_get}
+use Rattle.std.specs.Prelude.{ℕ, ◌<◌, ◌≤◌, ◌+◌, ◌-◌, ◌==◌, Bool, true, false, List, length, drop, Option, Some, None, position, nat_le, if◌then◌else◌, count_by, slice_get}
 use Rattle.tx_files.specs.declared.line.NextLine.{NextLine}
 use Rattle.tx_files.specs.declared.line.NextLine.TheVariants.{Line, End}
 

@@ -3,12 +3,11 @@ ghost use Rattle.std.specs.Option.{option_copied};
 ghost use Rattle.std.specs.FinMap.{empty, insert};
 ghost use Rattle.tx_bytes.specs.Files.{content};
 
+use crate::name::Name;
 use indexmap::IndexMap;
 use std::alloc::{AllocError, Global};
 use std::marker::Model;
 use tx_bytes::Bytes;
-
-use crate::name::Name;
 
 /// A set of files in memory, by their names. Contracts see the finite map from names to contents.
 #[derive(Drop)]

@@ -10,3 +10,6 @@ pub mod name;
 pub use file_set::FileSet;
 pub use line::{NextLine, line_count, next_line};
 pub use name::Name;
+
+#[cfg(test)]
+mod tests;

@@ -1,14 +1,13 @@
 -- The turns of a page that were taken so far, joined to those that are left, are the whole stretch, part by part.
-use Rattle.std.proofs.Common.{◌≡◌, ◌≢◌, ℕ, ◌+◌, ◌-◌, ◌^◌, ◌<◌, ◌≤◌, min, List, [], ◌++◌, Option, Some, None, refl, sym, ap, ◌∙◌, subst, arith, append_assoc}
+use Rattle.std.proofs.Common.{◌≡◌, ◌≢◌, ℕ, ◌+◌, ◌<◌, ◌≤◌, List, [], ◌++◌, Option, Some, None, refl, sym, ap, ◌∙◌, subst, arith, append_assoc}
 use Rattle.tx_bytes.specs.Files.{Files}
 use Rattle.tx_machine.specs.declared.types.Close.{Close}
 use Rattle.tx_machine.specs.declared.types.Close.TheVariants.{Halt}
 use Rattle.tx_machine.specs.declared.types.Stop.{Stop}
-use Rattle.tx_machine.specs.declared.spot.Closed.{Closed}
 use Rattle.tx_machine.specs.Machine.{Formatter, IsLawful, Ready}
 use Rattle.tx_machine.specs.Counts.{Made, Closes}
 use Rattle.tx_machine.specs.Steps.{raised}
-use Rattle.tx_machine.specs.Turn.{Place, Progress, one_turn, joined, stretch}
+use Rattle.tx_machine.specs.Turn.{Place, one_turn, joined, stretch}
 use Rattle.tx_machine.proofs.Stretch.{stretch-over, stretch-on, left-one_turn, ready-one_turn}
 
 -- raised twice is raised by the sum
@@ -35,14 +34,14 @@ pub record Going {S : Type 0} (m : Formatter S) (files : Files) (begun here : Pl
 
 pub going-begins : {S : Type 0} (m : Formatter S) (files : Files) (begun : Place S) (told : List ℕ) (now : ℕ) → m.mode begun.state ≡ Ready → told ≡ [] → Going m files begun begun told now now
 going-begins m files begun told now ready empty = record {
-    ready = ready;
-    turns = 0;
-    counted = sym (raised-zero now);
-    close = refl;
-    said = ap (λ t. t ++ (stretch m files begun).said) (sym empty);
-    total = omega arith;
-    place = refl
-  }
+  ready = ready;
+  turns = 0;
+  counted = sym (raised-zero now);
+  close = refl;
+  said = ap (λ t. t ++ (stretch m files begun).said) (sym empty);
+  total = omega arith;
+  place = refl;
+}
 
 module _ {S : Type 0} {m : Formatter S} {files : Files} {begun here : Place S} {told : List ℕ} {before now : ℕ} (lawful : IsLawful m) (so_far : Going m files begun here told before now) where
   -- after a turn that ended nothing
@@ -57,11 +56,11 @@ module _ {S : Type 0} {m : Formatter S} {files : Files} {begun here : Place S} {
         counted = count ∙ ap (λ n. raised n (one_turn m files here).turns) so_far.counted ∙ raised-raised before _ _;
         close = so_far.close ∙ ap (λ t. t.close) unrolled ∙ ap (λ p. (stretch m files p).close) same;
         said = so_far.said ∙ ap (λ t. told ++ t.said) unrolled
-          ∙ sym (append_assoc told (one_turn m files here).said (stretch m files (one_turn m files here).place).said)
-          ∙ (λ i. sym made.said_is i ++ (stretch m files (same i)).said);
+            ∙ sym (append_assoc told (one_turn m files here).said (stretch m files (one_turn m files here).place).said)
+            ∙ (λ i. sym made.said_is i ++ (stretch m files (same i)).said);
         total = so_far.total ∙ ap (λ t. so_far.turns + t.turns) unrolled
-          ∙ (let e : (stretch m files (one_turn m files here).place).turns ≡ (stretch m files next).turns = ap (λ p. (stretch m files p).turns) same in omega arith);
-        place = so_far.place ∙ ap (λ t. t.place) unrolled ∙ ap (λ p. (stretch m files p).place) same
+            ∙ (let e : (stretch m files (one_turn m files here).place).turns ≡ (stretch m files next).turns = ap (λ p. (stretch m files p).turns) same in omega arith);
+        place = so_far.place ∙ ap (λ t. t.place) unrolled ∙ ap (λ p. (stretch m files p).place) same;
       }
 
   -- and the budget has less left
@@ -75,14 +74,14 @@ module _ {S : Type 0} {m : Formatter S} {files : Files} {begun here : Place S} {
       record {
         close_is = so_far.close ∙ ap (λ t. t.close) all ∙ sym made.close_is ∙ over;
         piece_is = taken ∙ made.said_is ∙ sym (so_far.said ∙ ap (λ t. told ++ t.said) all);
-        place_is = made.place_is ∙ sym (so_far.place ∙ ap (λ t. t.place) all)
+        place_is = made.place_is ∙ sym (so_far.place ∙ ap (λ t. t.place) all);
       }
 
   pub going-counted : {close : Option Close} {c : Close} {next : Place S} {told' : List ℕ} {now' : ℕ} → close ≡ Some c → Made (one_turn m files here) close next told told' → now' ≡ raised now (one_turn m files here).turns → now' ≡ raised before (stretch m files begun).turns
   going-counted over made count =
       let all : stretch m files here ≡ one_turn m files here = stretch-over m files here (sym made.close_is ∙ over) in
       count ∙ ap (λ n. raised n (one_turn m files here).turns) so_far.counted ∙ raised-raised before _ _
-        ∙ ap (raised before) (sym (so_far.total ∙ ap (λ t. so_far.turns + t.turns) all))
+      ∙ ap (raised before) (sym (so_far.total ∙ ap (λ t. so_far.turns + t.turns) all))
 
   -- whatever the turn answers, it counted no more turns than the stretch has
   first-turns : (c : Option Close) → (one_turn m files here).close ≡ c → (one_turn m files here).turns ≤ (stretch m files here).turns

@@ -1,13 +1,12 @@
 -- The pages of a run that are done so far, joined to those that are left, are the whole run, part by part.
-use Rattle.std.proofs.Common.{◌≡◌, ◌≢◌, ℕ, zero, suc, ◌+◌, ◌-◌, ◌*◌, ◌^◌, ◌<◌, ◌≤◌, min, List, [], ◌∷◌, ◌++◌, length, Option, Some, None, refl, sym, ap, ◌∙◌, subst, arith, append_assoc, append-nil, add-mul, one-mul, unwrap_or}
+use Rattle.std.proofs.Common.{◌≡◌, ℕ, zero, suc, ◌+◌, ◌*◌, ◌≤◌, List, [], ◌∷◌, ◌++◌, length, Some, refl, sym, ap, ◌∙◌, arith, append_assoc, append-nil, add-mul, one-mul, unwrap_or}
 use Rattle.tx_bytes.specs.Files.{Files}
 use Rattle.tx_dvi.specs.declared.page.PageBody.{PageBody}
 use Rattle.tx_machine.specs.declared.types.Close.{Close}
 use Rattle.tx_machine.specs.declared.types.Close.TheVariants.{Page, Halt, Spent}
 use Rattle.tx_machine.specs.declared.types.End.{End as RunEnd}
-use Rattle.tx_machine.specs.declared.types.End.TheVariants.{Budget, PageLimit}
+use Rattle.tx_machine.specs.declared.types.End.TheVariants.{PageLimit}
 use Rattle.tx_machine.specs.declared.types.OpenFile.{OpenFile}
-use Rattle.tx_machine.specs.declared.types.Ran.{Ran}
 use Rattle.tx_machine.specs.declared.types.Stop.{Stop}
 use Rattle.tx_machine.specs.declared.spot.Closed.{Closed}
 use Rattle.tx_machine.specs.Machine.{Formatter, IsLawful, Ready}
@@ -22,7 +21,7 @@ module _ {S : Type 0} (m : Formatter S) (files : Files) (budget : ℕ) where
   -- the run goes on behind its first stretch
   pub run-suc : (pages : ℕ) (state : S) (opens : List OpenFile) → run_from m files budget (suc pages) state opens
       ≡ closed_run files (stretch m files (page_start state opens budget)) (unwrap_or (stretch m files (page_start state opens budget)).close Spent)
-          (run_from m files budget pages (stretch m files (page_start state opens budget)).place.state (stretch m files (page_start state opens budget)).place.opens)
+      (run_from m files budget pages (stretch m files (page_start state opens budget)).place.state (stretch m files (page_start state opens budget)).place.opens)
   unfolding run_from
   run-suc pages state opens = refl
 
@@ -78,7 +77,7 @@ running-begins m files budget left state opens pages pieces now ready no_pages n
       pieces_are = ap (λ xs. xs ++ run.ran.pieces) (sym no_pieces);
       last_is = refl;
       end_is = refl;
-      total = omega arith
+      total = omega arith;
     }
 
 module _ {S : Type 0} {m : Formatter S} {files : Files} {budget : ℕ} {whole : Counted} {left : ℕ} {state : S} {opens : List OpenFile} {pages : List PageBody} {pieces : List (List ℕ)} {before now : ℕ}
@@ -109,7 +108,7 @@ module _ {S : Type 0} {m : Formatter S} {files : Files} {budget : ℕ} {whole : 
         pieces_are = so_far.pieces_are ∙ ap (λ r. pieces ++ r.ran.pieces) on ∙ (λ i. pieces ++ sym closes.piece_is i ∷ (run (same i)).ran.pieces) ∙ sym (append_assoc pieces (closed.piece ∷ []) _);
         last_is = so_far.last_is ∙ ap (λ r. r.ran.last) on ∙ ap (λ p. (run p).ran.last) same;
         end_is = so_far.end_is ∙ ap (λ r. r.ran.end) on ∙ ap (λ p. (run p).ran.end) same;
-        total = so_far.total ∙ ap (λ r. so_far.turns + r.turns) on ∙ (let e : later.turns ≡ (run next).turns = ap (λ p. (run p).turns) same in omega arith)
+        total = so_far.total ∙ ap (λ r. so_far.turns + r.turns) on ∙ (let e : later.turns ≡ (run next).turns = ap (λ p. (run p).turns) same in omega arith);
       }
 
   -- the run ended
@@ -121,7 +120,7 @@ module _ {S : Type 0} {m : Formatter S} {files : Files} {budget : ℕ} {whole : 
         pages = (so_far.pages_are ∙ ap (λ r. pages ++ r.ran.pages) on ∙ append-nil pages) i;
         pieces = (so_far.pieces_are ∙ ap (λ r. pieces ++ r.ran.pieces) on ∙ append-nil pieces) i;
         last = (so_far.last_is ∙ ap (λ r. r.ran.last) on ∙ sym closes.piece_is) i;
-        end = (so_far.end_is ∙ ap (λ r. r.ran.end) on) i
+        end = (so_far.end_is ∙ ap (λ r. r.ran.end) on) i;
       })
 
   -- with the end of an error as the place after the stretch has it
@@ -162,11 +161,11 @@ module _ {S : Type 0} {m : Formatter S} {files : Files} {budget : ℕ} {whole : 
 
   pub running-limit : {last : List ℕ} → last ≡ [] → record { pages = pages; pieces = pieces; last = last; end = PageLimit } ≡ whole.ran
   running-limit empty = sym (λ i. record {
-      pages = (so_far.pages_are ∙ ap (λ r. pages ++ r.ran.pages) at_limit ∙ append-nil pages) i;
-      pieces = (so_far.pieces_are ∙ ap (λ r. pieces ++ r.ran.pieces) at_limit ∙ append-nil pieces) i;
-      last = (so_far.last_is ∙ ap (λ r. r.ran.last) at_limit ∙ sym empty) i;
-      end = (so_far.end_is ∙ ap (λ r. r.ran.end) at_limit) i
-    })
+    pages = (so_far.pages_are ∙ ap (λ r. pages ++ r.ran.pages) at_limit ∙ append-nil pages) i;
+    pieces = (so_far.pieces_are ∙ ap (λ r. pieces ++ r.ran.pieces) at_limit ∙ append-nil pieces) i;
+    last = (so_far.last_is ∙ ap (λ r. r.ran.last) at_limit ∙ sym empty) i;
+    end = (so_far.end_is ∙ ap (λ r. r.ran.end) at_limit) i;
+  })
 
   pub limit-counted : now ≡ raised before whole.turns
   limit-counted = let none_left : (run_from m files budget left state opens).turns ≡ 0 = ap (λ r. r.turns) at_limit in

@@ -1,6 +1,6 @@
 -- The unrolling laws of a stretch: it is its first turn, where that ends it, and else its first turn and then the stretch
 -- from the place after it. And what every stretch keeps: it costs no more than was left, and leaves the machine ready.
-use Rattle.std.proofs.Common.{◌≡◌, ◌≢◌, ℕ, zero, suc, ◌+◌, ◌-◌, ◌<◌, ◌≤◌, Bool, true, false, nat_lt, List, [], ◌++◌, Option, Some, None, refl, sym, ap, ◌∙◌, subst, arith, cond}
+use Rattle.std.proofs.Common.{◌≡◌, ◌≢◌, ℕ, zero, suc, ◌+◌, ◌-◌, ◌<◌, ◌≤◌, Bool, true, false, nat_lt, List, [], Option, Some, None, refl, sym, ap, ◌∙◌, arith, cond}
 use Rattle.std.proofs.lemmas.Bool.{ltb-true, ltb-false}
 use Rattle.tx_bytes.specs.Files.{Files, content}
 use Rattle.tx_files.specs.Lines.{next_line_at}
@@ -15,7 +15,7 @@ use Rattle.tx_machine.specs.declared.types.Close.TheVariants.{Spent, Page, Halt}
 use Rattle.tx_machine.specs.declared.types.Event.{Event}
 use Rattle.tx_machine.specs.declared.types.Event.TheVariants.{Went, Asks, Shipped, Stopped}
 use Rattle.tx_machine.specs.declared.types.OpenFile.{OpenFile}
-use Rattle.tx_machine.specs.Machine.{Formatter, IsLawful, Mode, Ready, mode_after, kind_of, fits}
+use Rattle.tx_machine.specs.Machine.{Formatter, IsLawful, Ready, mode_after, kind_of, fits}
 use Rattle.tx_machine.specs.Opens.{reply_to, opening, reading, reading_on, whole, innermost, bytes_of}
 use Rattle.tx_machine.specs.Turn.{Place, Progress, one_turn, after_event, joined, stretch, stretch_by}
 
@@ -27,6 +27,7 @@ fits-reply_to files opens Line = by_file (innermost opens)
     by_line : (file : OpenFile) (line : NextLine) → fits (kind_of Line) (reading_on opens file (bytes_of files file.name) line).reply ≡ true
     by_line file AtEnd = refl
     by_line file (LineTo end has_lf) = refl
+
     by_file : (file : Option OpenFile) → fits (kind_of Line) (reading files opens file).reply ≡ true
     by_file None = refl
     by_file (Some file) = by_line file (next_line_at (bytes_of files file.name) file.offset)
@@ -68,23 +69,23 @@ module _ {S : Type 0} (m : Formatter S) (files : Files) where
   -- a turn that ends nothing leaves less of the budget
   pub left-one_turn : IsLawful m → (p : Place S) → (one_turn m files p).close ≡ None → (one_turn m files p).place.left < p.left
   left-one_turn lawful p none = elim (is_turn p) [
-      | Refused h e ↦ absurd (let spent : Some Spent ≡ None = sym (ap (λ t. t.close) e) ∙ none in cc)
-      | Allowed h e ↦
-          let left : (one_turn m files p).place.left ≡ p.left - m.cost p.state = ap (λ t. t.place.left) e ∙ left-after_event p.opens _ _ _ (m.step p.state).event in
-          omega (arith, left, lawful.costs p.state)
-    ]
+    | Refused h e ↦ absurd (let spent : Some Spent ≡ None = sym (ap (λ t. t.close) e) ∙ none in cc)
+    | Allowed h e ↦
+        let left : (one_turn m files p).place.left ≡ p.left - m.cost p.state = ap (λ t. t.place.left) e ∙ left-after_event p.opens _ _ _ (m.step p.state).event in
+        omega (arith, left, lawful.costs p.state)
+  ]
 
   -- no turn takes more turns than what it leaves less
   turns-one_turn : IsLawful m → (p : Place S) → (one_turn m files p).turns + (one_turn m files p).place.left ≤ p.left
   turns-one_turn lawful p = elim (is_turn p) [
-      | Refused h e ↦
-          let left : (one_turn m files p).place.left ≡ p.left = ap (λ t. t.place.left) e in
-          let turns : (one_turn m files p).turns ≡ 0 = ap (λ t. t.turns) e in omega arith
-      | Allowed h e ↦
-          let left : (one_turn m files p).place.left ≡ p.left - m.cost p.state = ap (λ t. t.place.left) e ∙ left-after_event p.opens _ _ _ (m.step p.state).event in
-          let turns : (one_turn m files p).turns ≡ 1 = ap (λ t. t.turns) e ∙ turns-after_event p.opens _ _ _ (m.step p.state).event in
-          omega (arith, lawful.costs p.state)
-    ]
+    | Refused h e ↦
+        let left : (one_turn m files p).place.left ≡ p.left = ap (λ t. t.place.left) e in
+        let turns : (one_turn m files p).turns ≡ 0 = ap (λ t. t.turns) e in omega arith
+    | Allowed h e ↦
+        let left : (one_turn m files p).place.left ≡ p.left - m.cost p.state = ap (λ t. t.place.left) e ∙ left-after_event p.opens _ _ _ (m.step p.state).event in
+        let turns : (one_turn m files p).turns ≡ 1 = ap (λ t. t.turns) e ∙ turns-after_event p.opens _ _ _ (m.step p.state).event in
+        omega (arith, lawful.costs p.state)
+  ]
 
   -- what a stretch is by the close of its first turn
   abbrev by_close : ℕ → Place S → Option Close → Progress S
@@ -151,10 +152,10 @@ module _ {S : Type 0} (m : Formatter S) (files : Files) where
 
   pub ready-one_turn : IsLawful m → (p : Place S) → m.mode p.state ≡ Ready → ((stop : Stop) → (one_turn m files p).close ≢ Some (Halt stop)) → m.mode (one_turn m files p).place.state ≡ Ready
   ready-one_turn lawful p ready goes = elim (is_turn p) [
-      | Refused h e ↦ ap (λ t. m.mode t.place.state) e ∙ ready
-      | Allowed h e ↦ ap (λ t. m.mode t.place.state) e
-          ∙ ready-after_event lawful p.opens _ _ _ (m.step p.state).event (lawful.turns p.state ready) (λ stop same. goes stop (ap (λ t. t.close) e ∙ same))
-    ]
+    | Refused h e ↦ ap (λ t. m.mode t.place.state) e ∙ ready
+    | Allowed h e ↦ ap (λ t. m.mode t.place.state) e
+        ∙ ready-after_event lawful p.opens _ _ _ (m.step p.state).event (lawful.turns p.state ready) (λ stop same. goes stop (ap (λ t. t.close) e ∙ same))
+  ]
 
   -- after a stretch that ends with a page too
   ready_by : IsLawful m → (fuel : ℕ) (p : Place S) (c : Option Close) → (one_turn m files p).close ≡ c → m.mode p.state ≡ Ready
@@ -166,8 +167,8 @@ module _ {S : Type 0} (m : Formatter S) (files : Files) where
   ready_by lawful (suc fuel) p None e ready goes =
       ap (λ t. m.mode t.place.state) (on_by fuel p e)
       ∙ ready_by lawful fuel (one_turn m files p).place _ refl
-          (ready-one_turn lawful p ready (λ stop same. let none : None ≡ Some (Halt stop) = sym e ∙ same in cc))
-          (λ stop same. goes stop (ap (λ t. t.close) (on_by fuel p e) ∙ same))
+      (ready-one_turn lawful p ready (λ stop same. let none : None ≡ Some (Halt stop) = sym e ∙ same in cc))
+      (λ stop same. goes stop (ap (λ t. t.close) (on_by fuel p e) ∙ same))
 
   pub ready-stretch : IsLawful m → (p : Place S) → m.mode p.state ≡ Ready → {body : PageBody} → (stretch m files p).close ≡ Some (Page body) → m.mode (stretch m files p).place.state ≡ Ready
   unfolding stretch

@@ -1,7 +1,7 @@
 -- How asks are answered: by the files and by the list of open ones, the innermost last.
-use Rattle.std.specs.Prelude.{ℕ, ◌+◌, ◌-◌, List, [], ◌∷◌, ◌++◌, length, take, slice_get, slice_set, slice_range, Option, Some, None, unwrap_or}
+use Rattle.std.specs.Prelude.{ℕ, ◌-◌, List, [], ◌∷◌, ◌++◌, length, take, slice_get, slice_set, slice_range, Option, Some, None, unwrap_or}
 use Rattle.tx_bytes.specs.Files.{Files, content}
-use Rattle.tx_files.specs.Lines.{next_line_at, line_count}
+use Rattle.tx_files.specs.Lines.{next_line_at}
 use Rattle.tx_files.specs.declared.line.NextLine.{NextLine}
 use Rattle.tx_files.specs.declared.line.NextLine.TheVariants.{Line as LineTo, End as AtEnd}
 use Rattle.tx_machine.specs.declared.types.OpenFile.{OpenFile}

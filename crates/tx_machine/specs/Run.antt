@@ -38,9 +38,9 @@ ended last turns end = record { ran = record { pages = []; pieces = []; last = l
 -- what a stretch's end makes of the run that goes on behind it: a page goes before its pages, all else ends the run
 abbrev pub closed_run : {S : Type 0} → Files → Progress S → Close → Counted → Counted
 closed_run files t (Page body) rest = record {
-    ran = record { pages = body ∷ rest.ran.pages; pieces = t.said ∷ rest.ran.pieces; last = rest.ran.last; end = rest.ran.end };
-    turns = t.turns + rest.turns
-  }
+  ran = record { pages = body ∷ rest.ran.pages; pieces = t.said ∷ rest.ran.pieces; last = rest.ran.last; end = rest.ran.end };
+  turns = t.turns + rest.turns;
+}
 closed_run files t (Halt stop) rest = ended t.said t.turns (end_of files t.place.opens stop)
 closed_run files t Spent rest = ended t.said t.turns Budget
 

@@ -7,7 +7,7 @@ use Rattle.tx_machine.specs.declared.types.Close.TheVariants.{Page, Halt, Spent}
 use Rattle.tx_machine.specs.declared.types.Event.{Event}
 use Rattle.tx_machine.specs.declared.types.Event.TheVariants.{Went, Asks, Shipped, Stopped}
 use Rattle.tx_machine.specs.declared.spot.Spot.{Spot}
-use Rattle.tx_machine.specs.Machine.{Formatter, Stepped}
+use Rattle.tx_machine.specs.Machine.{Formatter}
 use Rattle.tx_machine.specs.Opens.{Answered, reply_to}
 
 -- where a run stands: the machine's state, the open files, and what is left of the page's budget
@@ -44,7 +44,7 @@ one_turn m files place =
     if nat_lt place.left (m.cost place.state)
     then record { close = Some Spent; said = []; turns = 0; place = place }
     else after_event m files place.opens (place.left - m.cost place.state)
-        (m.step place.state).next (m.step place.state).said (m.step place.state).event
+    (m.step place.state).next (m.step place.state).said (m.step place.state).event
 
 -- some turns and then others
 abbrev pub joined : {S : Type 0} → Progress S → Progress S → Progress S

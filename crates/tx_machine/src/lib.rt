@@ -9,7 +9,6 @@ pub mod lists;
 pub mod machine;
 pub mod opens;
 pub mod run;
-
 pub mod spot;
 pub mod steps;
 pub mod turn;
@@ -18,6 +17,5 @@ pub mod types;
 pub use lists::{Opens, Pages, Pieces};
 pub use machine::Machine;
 pub use run::fresh_run;
-
 pub use steps::{CountsTurns, Steps};
 pub use types::{Ask, AskKind, Close, Date, End, Event, Limits, OpenFile, Ran, Reply, Stop};

@@ -2,12 +2,11 @@ ghost use Rattle.std.specs.Prelude.{◌≡◌, ◌-◌, ◌∷◌, ◌++◌, [],
 ghost use Rattle.std.specs.Option.{option_copied};
 ghost use Rattle.tx_machine.specs.Opens.{innermost, moved_to};
 
+use crate::types::OpenFile;
 use std::alloc::{AllocError, Global};
 use std::marker::Model;
 use tx_bytes::Bytes;
 use tx_dvi::PageBody;
-
-use crate::types::OpenFile;
 
 /// The files that are open, the innermost last.
 #[derive(Debug, Drop)]

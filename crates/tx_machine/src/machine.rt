@@ -4,12 +4,11 @@ ghost use Rattle.tx_machine.specs.Machine.{Formatter, IsLawful, Ready, Awaits, f
 ghost use Rattle.tx_machine.specs.Ranges.{IsDate};
 ghost use Rattle.tx_machine.specs.Steps.{raised};
 
+use crate::steps::Steps;
+use crate::types::{Date, Event, Reply};
 use std::alloc::{AllocError, Global};
 use tx_bytes::Bytes;
 use tx_files::Name;
-
-use crate::steps::Steps;
-use crate::types::{Date, Event, Reply};
 
 /// A machine that takes turns. What it does is the pure `formatter` on the meanings of its states; the bytes that the
 /// transcript gains wait in the state, beside its meaning, until they are taken.
@@ -54,12 +53,7 @@ pub trait Machine {
         ensures steps { steps.new ≡ raised steps.old 1 };
 
     /// Takes the reply to what the state asked.
-    fn answer(
-        &self,
-        alloc: Global,
-        s: &mut Self::State,
-        reply: &Reply,
-    ) -> Result<(), AllocError>
+    fn answer(&self, alloc: Global, s: &mut Self::State, reply: &Reply) -> Result<(), AllocError>
         requires { (kind : AskKind) × (formatter.mode (meaning s.old) ≡ Awaits kind) × (fits kind reply.now ≡ true) }
         ensures state { OnOk result (meaning s.new ≡ formatter.take (meaning s.old) reply.now) }
         ensures pending { OnOk result (pending s.new ≡ pending s.old) };

@@ -1,12 +1,11 @@
 ghost use Rattle.std.specs.Prelude.{◌≡◌, [], IfOk, OnErr};
 ghost use Rattle.tx_machine.specs.Opens.{bytes_of, reply_to, reading, innermost};
 
+use crate::lists::Opens;
+use crate::types::{Ask, OpenFile, Reply};
 use std::alloc::{AllocError, Global};
 use tx_bytes::Bytes;
 use tx_files::{FileSet, NextLine, next_line};
-
-use crate::lists::Opens;
-use crate::types::{Ask, OpenFile, Reply};
 
 /// The bytes of a file, none where it is absent.
 pub fn bytes_of<'a>(files: &'a FileSet, name: &Bytes) -> &'a [u8]

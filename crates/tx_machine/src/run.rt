@@ -6,10 +6,6 @@ ghost use Rattle.tx_machine.specs.Ranges.{IsDate, AreLimits};
 ghost use Rattle.tx_machine.specs.Run.{run, run_from, end_of};
 ghost use Rattle.tx_machine.specs.Steps.{raised};
 
-use std::alloc::{AllocError, Global};
-use tx_bytes::Bytes;
-use tx_files::{FileSet, Name, line_count};
-
 use crate::lists::{Opens, Pages, Pieces};
 use crate::machine::Machine;
 use crate::opens::bytes_of;
@@ -17,6 +13,9 @@ use crate::spot::{Closed, Spot};
 use crate::steps::Steps;
 use crate::turn::format_page;
 use crate::types::{Close, Date, End, Limits, OpenFile, Ran, Stop};
+use std::alloc::{AllocError, Global};
+use tx_bytes::Bytes;
+use tx_files::{FileSet, Name, line_count};
 
 /// How many lines the bytes of an open file before its offset make up.
 fn line_of(files: &FileSet, file: &OpenFile) -> u64

@@ -1,7 +1,6 @@
-use tx_bytes::Bytes;
-
 use crate::lists::Opens;
 use crate::types::Close;
+use tx_bytes::Bytes;
 
 /// What a run goes on with: the machine's state, the open files, and what is left of the page's budget.
 #[derive(Drop)]

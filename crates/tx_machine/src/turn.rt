@@ -4,15 +4,14 @@ ghost use Rattle.tx_machine.specs.Counts.{Made, Closes};
 ghost use Rattle.tx_machine.specs.Steps.{raised};
 ghost use Rattle.tx_machine.specs.Turn.{one_turn, stretch, place_of};
 
-use std::alloc::{AllocError, Global};
-use tx_bytes::Bytes;
-use tx_files::FileSet;
-
 use crate::machine::Machine;
 use crate::opens::reply;
 use crate::spot::{Closed, Spot};
 use crate::steps::Steps;
 use crate::types::{Close, Event};
+use std::alloc::{AllocError, Global};
+use tx_bytes::Bytes;
+use tx_files::FileSet;
 
 /// Takes one turn, if the budget allows it, and answers what the machine asks in it.
 #[tactic(auto, unfolding(crate::specs::Turn::one_turn))]

@@ -1,7 +1,6 @@
+use crate::lists::{Pages, Pieces};
 use tx_bytes::Bytes;
 use tx_dvi::PageBody;
-
-use crate::lists::{Pages, Pieces};
 
 /// The moment of a run, as \year, \month, \day and \time tell it: the minutes are those since midnight.
 #[derive(Clone, Copy, Debug, PartialEq, Eq)]

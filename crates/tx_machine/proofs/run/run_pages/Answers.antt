@@ -1,4 +1,4 @@
-use Rattle.std.proofs.Common.{◌≡◌, ◌≤◌, ℕ, ◌+◌, ◌-◌, suc, refl, sym, ap, ◌∙◌, arith}
+use Rattle.std.proofs.Common.{◌≡◌, ◌≤◌, ℕ, ◌+◌, ◌-◌, suc, refl, ◌∙◌, arith}
 use Rattle.tx_machine.specs.declared.types.Close.TheVariants.{Halt, Spent}
 use Rattle.tx_machine.proofs.Running.{running-page, running-halted, running-ended, running-bound, running-limit, ended-counted, limit-counted}
 use Rattle.tx_machine.proofs.run.run_pages.Goals as goal
@@ -44,10 +44,10 @@ returns-in-Spent-clause-bound g c = running-bound g.met.M.Machine.lawful _ (one_
 
 pub loop-page-preserved : goal.loop-page-preserved
 loop-page-preserved g c = record {
-    so_far = rw (c.in_ok-push-in-Page.ensures.ok, c.in_ok-push-in-Page-2.ensures.ok)
-        (running-page g.met.M.Machine.lawful _ (one_fewer _ _ c.loop-page-test.true) c.loop-page.invariant.so_far c.in_ok-close.ensures.closes c.in-Page.is c.in_ok-close.ensures.steps);
-    taken = c.in_ok-close.ensures.taken
-  }
+  so_far = rw (c.in_ok-push-in-Page.ensures.ok, c.in_ok-push-in-Page-2.ensures.ok)
+      (running-page g.met.M.Machine.lawful _ (one_fewer _ _ c.loop-page-test.true) c.loop-page.invariant.so_far c.in_ok-close.ensures.closes c.in-Page.is c.in_ok-close.ensures.steps);
+  taken = c.in_ok-close.ensures.taken;
+}
 
 pub returns-clause-ran : goal.returns-clause-ran
 returns-clause-ran g c = running-limit (none_left _ _ c.loop-page-test.false) c.loop-page.invariant.so_far c.new.ensures

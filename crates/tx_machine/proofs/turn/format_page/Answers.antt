@@ -1,6 +1,5 @@
-use Rattle.std.proofs.Common.{◌≡◌, ◌≤◌, ℕ, sym, ap, ◌∙◌, subst, arith, Some, rules}
+use Rattle.std.proofs.Common.{sym, ap, subst}
 use Rattle.tx_machine.specs.Counts.{Closes}
-use Rattle.tx_machine.specs.Steps.{raised}
 use Rattle.tx_machine.specs.Turn.{Place, stretch, place_of}
 use Rattle.tx_machine.proofs.Going.{going-on, going-less, going-over, going-counted, going-bound}
 use Rattle.tx_machine.proofs.turn.format_page.Goals as goal
@@ -12,7 +11,7 @@ pub returns-in-Some-clause-closes : goal.returns-in-Some-clause-closes
 returns-in-Some-clause-closes g c =
     let kept : Place g.M.Machine.Meaning → Type 0 = λ p. Closes (stretch g.M.Machine.formatter c.args.files.now (place_of g.M.Machine.meaning c.args.spot.now)) (record { close = c.in-Some.close; piece = c.take_said-piece.result }) p in
     subst kept (ap (λ s. record { state = s; opens = c.take_turn.new.spot.opens; left = c.take_turn.new.spot.left }) (sym c.take_said-piece.ensures.state))
-        (going-over g.met.M.Machine.lawful c.loop-close.invariant _ c.in-Some.is c.in_ok-close.ensures.made c.take_said-piece.ensures.said)
+    (going-over g.met.M.Machine.lawful c.loop-close.invariant _ c.in-Some.is c.in_ok-close.ensures.made c.take_said-piece.ensures.said)
 
 pub returns-in-Some-clause-steps : goal.returns-in-Some-clause-steps
 returns-in-Some-clause-steps g c = going-counted g.met.M.Machine.lawful c.loop-close.invariant c.in-Some.is c.in_ok-close.ensures.made c.take_turn.ensures.steps

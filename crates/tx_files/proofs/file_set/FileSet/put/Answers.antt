@@ -1,4 +1,4 @@
-use Rattle.std.proofs.Common.{sym, ◌∙◌, ap}
+use Rattle.std.proofs.Common.{◌∙◌, ap}
 use Rattle.std.specs.FinMap.{insert}
 use Rattle.tx_files.specs.Entries.{files_of}
 use Rattle.tx_files.proofs.FilesOf.{files_of-insert_entry}
