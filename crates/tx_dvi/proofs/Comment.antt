@@ -1,5 +1,5 @@
 -- The comment of the preamble fits its length byte.
-use Rattle.std.proofs.Common.{◌≡◌, ◌≤◌, ◌<◌, ◌+◌, ◌^◌, ◌++◌, ◌∷◌, [], length, ℕ, List, ℤ, pos, negsuc, arith, length-append, FitsSigned, w32, SFits}
+use Rattle.std.proofs.Common.{◌≤◌, ◌^◌, length, ℤ, pos, negsuc, arith, length-append, FitsSigned, w32}
 use Rattle.std.specs.Prelude.{unsigned_abs}
 use Rattle.std.specs.Fmt.{signed_decimal}
 use Rattle.std.proofs.lemmas.Fmt.{length_signed_le}

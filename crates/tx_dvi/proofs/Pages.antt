@@ -1,12 +1,11 @@
 -- The pages one after another: what is there, and what is still to come.
-use Rattle.std.proofs.Common.{zero, zero-add, add-zero, below_more, ◌-◌, ◌%◌, length-append, ◌≡◌, ◌≤◌, ◌<◌, ℕ, suc, ◌+◌, ◌*◌, ◌++◌, ◌∷◌, [], List, ℤ, pos, negsuc, Option, Some, length, take, drop, get_or, sym, ap, ◌∙◌, refl, subst, arith, append_assoc, append-nil, drop-cons, add-one}
-use Rattle.std.proofs.Math.Seq.{drop-length, drop-append-add}
+use Rattle.std.proofs.Common.{zero, zero-add, add-zero, ◌-◌, ◌%◌, length-append, ◌≡◌, ◌≤◌, ◌<◌, ℕ, suc, ◌+◌, ◌*◌, ◌++◌, ◌∷◌, [], List, ℤ, pos, Some, length, take, drop, get_or, sym, ap, ◌∙◌, refl, arith, append_assoc}
+use Rattle.std.proofs.Math.Seq.{drop-append-add}
 use Rattle.std.specs.Prelude.{sum_by, slice_get, replicate}
-use Rattle.std.proofs.lemmas.List.{get_or_default}
 use Rattle.std.specs.List.{flat_map, enumerate_from, All}
-use Rattle.std.proofs.lemmas.List.Sums.{sum_by_more, sum_by-cons}
+use Rattle.std.proofs.lemmas.List.Sums.{sum_by-cons}
 use Rattle.tx_dvi.specs.Page.{Page}
-use Rattle.tx_dvi.specs.Dvi.{page_bytes, page_size, place_of, pointer_of, pages_bytes, dvi, file_from, filled, preamble, post_bytes, post_post_bytes, start_of, eop, filler, four_bytes, StandsAt, PointsBack}
+use Rattle.tx_dvi.specs.Dvi.{page_bytes, page_size, place_of, pointer_of, pages_bytes, dvi, file_from, filled, preamble, post_bytes, post_post_bytes, filler, four_bytes, StandsAt, PointsBack}
 
 -- pages i and further
 abbrev pub pages_after : ℕ → List Page → ℕ → List ℕ
@@ -20,48 +19,10 @@ pub record Written (begun file : List ℕ) (pages : List Page) (i : ℕ) (pointe
   pub bound : length file ≤ 270 + 200046 * i
   pub ten : (k : ℕ) (d : Page) → k < i → length (get_or pages k d).counts ≡ 10
 
--- page i, and those behind it
-pages_after-cons : (start : ℕ) (pages : List Page) (i : ℕ) (page : Page) → i < length pages → get_or pages i page ≡ page
-    → pages_after start pages i ≡ page_bytes page (pointer_of start pages i) ++ pages_after start pages (i + 1)
-pages_after-cons start pages i page within at =
-    ap (λ left. flat_map (λ (numbered : ℕ × Page). page_bytes numbered.1 (pointer_of start pages numbered.0)) (enumerate_from i left)) (drop-cons pages i page within)
-    ∙ ap (λ x. flat_map (λ (numbered : ℕ × Page). page_bytes numbered.1 (pointer_of start pages numbered.0)) (enumerate_from i (x ∷ drop (suc i) pages))) at
-    ∙ rw add-one refl
-
--- where the page behind page i begins
-place_of-suc : (start : ℕ) (pages : List Page) (i : ℕ) (page : Page) → i < length pages → get_or pages i page ≡ page
-    → place_of start pages (i + 1) ≡ place_of start pages i + page_size page
-place_of-suc start pages i page within at = omega (arith, sum_by_more page_size pages i page within, ap page_size at)
-
-pub writing-one : {begun file file' : List ℕ} {pages : List Page} {i : ℕ} {pointer : ℤ} {page : Page}
-    → Written begun file pages i pointer → i < length pages → get_or pages i page ≡ page
-    → file' ≡ file ++ page_bytes page pointer → length file' ≡ length file + page_size page → page_size page ≤ 200046
-    → length page.counts ≡ 10 → Written begun file' pages (i + 1) (pos (length file))
-writing-one {begun} {file} {file'} {pages} {i} {pointer} {page} w within at is longer small ten = record {
-  bytes = ap (λ front. front ++ pages_after (length begun) pages (i + 1)) (is ∙ ap (λ p. file ++ page_bytes page p) w.pointer_is)
-    ∙ append_assoc file (page_bytes page (pointer_of (length begun) pages i)) (pages_after (length begun) pages (i + 1))
-    ∙ ap (λ left. file ++ left) (sym (pages_after-cons (length begun) pages i page within at))
-    ∙ w.bytes;
-  pointer_is = rw add-one (ap pos w.size);
-  size = longer ∙ ap (λ n. n + page_size page) w.size ∙ sym (place_of-suc (length begun) pages i page within at);
-  bound = omega (arith, w.bound);
-  ten = λ k d h. below_more (λ j. length (get_or pages j d).counts ≡ 10) i (λ j below. w.ten j d below) (ap (λ (p : Page). length p.counts) (get_or_default pages i d page within ∙ at) ∙ ten) k h
-}
-
--- after the last page nothing is to come
-pub written-all : {begun file : List ℕ} {pages : List Page} {pointer : ℤ} → Written begun file pages (length pages) pointer
-    → file ≡ begun ++ pages_bytes (length begun) pages
-written-all {begun} {file} {pages} {pointer} w =
-    sym (append-nil file) ∙ ap (λ left. file ++ flat_map (λ (numbered : ℕ × Page). page_bytes numbered.1 (pointer_of (length begun) pages numbered.0)) (enumerate_from (length pages) left)) (sym (drop-length pages)) ∙ w.bytes
-
 -- the file of at least one page is that of its first page and all of them
 dvi-first : (pages : List Page) (first : Page) → slice_get pages 0 ≡ Some first → dvi pages ≡ file_from (length (preamble first)) first pages
 dvi-first [] first e = cc
 dvi-first (p ∷ ps) first e = let same : p ≡ first = cc in ap (λ (q : Page). file_from (length (preamble q)) q (p ∷ ps)) same
-
-start-first : (pages : List Page) (first : Page) → slice_get pages 0 ≡ Some first → start_of pages ≡ length (preamble first)
-start-first [] first e = cc
-start-first (p ∷ ps) first e = let same : p ≡ first = cc in ap (λ (q : Page). length (preamble q)) same
 
 -- the parts of the file, put together
 pub assembled : (pages : List Page) (first : Page) {front body ended placed file : List ℕ} {last place : ℤ}
@@ -107,17 +68,17 @@ stands points (p ∷ ps) i zero page behind ten at =
     let rest : List ℕ = numbered_bytes points (i + 1) ps in
     record {
       behind = rest ++ behind;
-      are = append_assoc (page_bytes p (points i)) rest behind ∙ (λ t. page_bytes (same t) (points (sym (add-zero i) t)) ++ (rest ++ behind))
+      are = append_assoc (page_bytes p (points i)) rest behind ∙ (λ t. page_bytes (same t) (points (sym (add-zero i) t)) ++ (rest ++ behind));
     }
 stands points (p ∷ ps) i (suc k) page behind ten at =
     let rest : List ℕ = numbered_bytes points (i + 1) ps in
     let there : StandsAt (rest ++ behind) (sum_by page_size (take k ps)) (page_bytes page (points ((i + 1) + k))) =
-      stands points ps (i + 1) k page behind (λ j d h. ten (suc j) d (omega arith)) at in
+    stands points ps (i + 1) k page behind (λ j d h. ten (suc j) d (omega arith)) at in
     let next : (i + 1) + k ≡ i + suc k = omega arith in
     alike (sym (append_assoc (page_bytes p (points i)) rest behind))
-      (ap (λ n. n + sum_by page_size (take k ps)) (size-page_bytes p (points i) (ten 0 p (omega arith))) ∙ sym (sum_by-cons page_size p (take k ps)))
-      (ap (λ n. page_bytes page (points n)) next)
-      (behind_front (page_bytes p (points i)) there)
+    (ap (λ n. n + sum_by page_size (take k ps)) (size-page_bytes p (points i) (ten 0 p (omega arith))) ∙ sym (sum_by-cons page_size p (take k ps)))
+    (ap (λ n. page_bytes page (points n)) next)
+    (behind_front (page_bytes p (points i)) there)
 
 regroup : (a b c d e : List ℕ) → (((a ++ b) ++ c) ++ d) ++ e ≡ a ++ (b ++ (c ++ (d ++ e)))
 regroup a b c d e = simp append_assoc
@@ -135,4 +96,4 @@ points_back (first ∷ others) ten k page at =
     let placed : List ℕ = post_post_bytes (pos (place_of (length front) pages (length pages))) in
     let fill : List ℕ = replicate (4 + (4 - length (((front ++ body) ++ ended) ++ placed) % 4) % 4) filler in
     alike (sym (regroup front body ended placed fill)) refl (ap (λ n. page_bytes page (points n)) (zero-add k))
-      (behind_front front (stands points pages 0 k page (ended ++ (placed ++ fill)) ten at))
+    (behind_front front (stands points pages 0 k page (ended ++ (placed ++ fill)) ten at))

@@ -1,5 +1,5 @@
 -- The definition of the DVI file at a page that was worked out by hand.
-use Rattle.std.proofs.Common.{◌≡◌, ℕ, List, [], ◌∷◌, ◌++◌, refl, length, lit<}
+use Rattle.std.proofs.Common.{◌≡◌, [], ◌∷◌, ◌++◌, refl, lit<}
 use Rattle.std.specs.Prelude.{pos, negsuc, replicate, codes}
 use Rattle.std.specs.Fmt.{signed_decimal}
 use Rattle.std.proofs.lemmas.Fmt.{decimal-digits_of}
@@ -15,7 +15,7 @@ page = record {
   width = pos 65536;
   nesting = 0;
   mag = 1000;
-  date = record { year = pos 2024; month = pos 5; day = pos 17; time = pos 570 }
+  date = record { year = pos 2024; month = pos 5; day = pos 17; time = pos 570 };
 }
 
 -- minus one is four bytes of ones

@@ -1,5 +1,5 @@
 -- The DVI file of a list of pages (TeX: The Program, parts 31 and 32). All places are counted in bytes from its start.
-use Rattle.std.specs.Prelude.{◌≡◌, ℕ, zero, suc, ◌+◌, ◌-◌, ◌/◌, ◌%◌, ℤ, pos, negsuc, int_div, int_rem, unsigned_abs, List, [], ◌∷◌, ◌++◌, length, take, drop, map, fold, max, sum_by, replicate, codes, Option, Some, slice_get}
+use Rattle.std.specs.Prelude.{◌≡◌, ℕ, zero, suc, ◌+◌, ◌-◌, ◌/◌, ◌%◌, ℤ, pos, negsuc, int_div, int_rem, unsigned_abs, List, [], ◌∷◌, ◌++◌, length, take, drop, fold, max, sum_by, replicate, codes, Some, slice_get}
 use Rattle.std.specs.List.{flat_map, enumerate_from}
 use Rattle.std.specs.Int.{w32, cast_unsigned, int_max}
 use Rattle.std.specs.Fmt.{signed_decimal}
@@ -10,18 +10,23 @@ use Rattle.tx_dvi.specs.Page.{Page}
 -- the commands that frame the pages
 abbrev pub bop : ℕ
 bop = 139
+
 abbrev pub eop : ℕ
 eop = 140
+
 abbrev pub pre : ℕ
 pre = 247
+
 abbrev pub post : ℕ
 post = 248
+
 abbrev pub post_post : ℕ
 post_post = 249
 
 -- the number of this format, and what stands behind the last command
 abbrev pub format_number : ℕ
 format_number = 2
+
 abbrev pub filler : ℕ
 filler = 223
 
@@ -80,8 +85,10 @@ pages_bytes start pages =
 -- the greatest height and the greatest width, at least 0, and the greatest nesting
 abbrev pub greatest_height : List Page → ℤ
 greatest_height pages = fold (λ most (page : Page). int_max most page.height) (pos 0) pages
+
 abbrev pub greatest_width : List Page → ℤ
 greatest_width pages = fold (λ most (page : Page). int_max most page.width) (pos 0) pages
+
 abbrev pub greatest_nesting : List Page → ℕ
 greatest_nesting pages = fold (λ most (page : Page). max most page.nesting) 0 pages
 

@@ -2,7 +2,7 @@ use Rattle.std.proofs.Common.{◌≡◌, rules, arith, w32, FitsSigned}
 use Rattle.std.proofs.lemmas.Grind.{common_steps}
 use Rattle.tx_dvi.specs.Dvi as spec
 use Rattle.tx_dvi.proofs.Comment.{length-comment}
-use Rattle.tx_dvi.proofs.assemble.comment.Goals as goal
+use Rattle.tx_dvi.proofs.file.comment.Goals as goal
 
 pub returns-clause-bound : goal.returns-clause-bound
 returns-clause-bound c =

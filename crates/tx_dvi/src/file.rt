@@ -2,18 +2,23 @@ ghost use Rattle.std.specs.Prelude.{◌≡◌, ◌≤◌, ◌+◌, ◌*◌, ◌+
 ghost use Rattle.std.specs.List.{All};
 ghost use Rattle.tx_dvi.specs.Dvi as spec;
 
+use crate::page::{DateParameters, PageBody};
 use byteorder::{BigEndian, ByteOrder};
 use std::alloc::{AllocError, Global};
 use tx_bytes::Bytes;
 
-use crate::page::{DateParameters, PageBody};
-
 const BOP: u8 = 139;
+
 const EOP: u8 = 140;
+
 const PRE: u8 = 247;
+
 const POST: u8 = 248;
+
 const POST_POST: u8 = 249;
+
 const FORMAT_NUMBER: u8 = 2;
+
 const FILLER: u8 = 223;
 
 #[tactic(auto, unfolding(crate::specs::Dvi::four_bytes))]
@@ -156,7 +161,12 @@ fn append_sizes(file: &mut Bytes, pages: &[PageBody]) -> Result<(), AllocError>
     file.append(&two_bytes(pages.len() as u16))
 }
 
-fn append_post(file: &mut Bytes, last: i32, first: &PageBody, pages: &[PageBody]) -> Result<(), AllocError>
+fn append_post(
+    file: &mut Bytes,
+    last: i32,
+    first: &PageBody,
+    pages: &[PageBody],
+) -> Result<(), AllocError>
     requires { length pages.now ≤ 10000 }
     ensures { OnOk result (file.new ≡ file.old ++ spec.post_bytes last first.now.mag pages.now) }
 {

@@ -1,8 +1,8 @@
-use Rattle.std.proofs.Common.{◌≡◌, ◌≤◌, ◌<◌, ◌^◌, Some, ℤ, pos, length, sym, ap, ◌∙◌, rules, arith, w32, FitsSigned, to_z, to_z-of_z}
+use Rattle.std.proofs.Common.{◌≡◌, ◌<◌, ◌^◌, Some, pos, sym, ap, ◌∙◌, rules, arith, w32, FitsSigned, to_z, to_z-of_z}
 use Rattle.std.specs.Prelude.{slice_get}
 use Rattle.std.proofs.lemmas.Int.{ints}
 use Rattle.tx_dvi.proofs.Pages.{assembled, points_back}
-use Rattle.tx_dvi.proofs.assemble.assemble.Goals as goal
+use Rattle.tx_dvi.proofs.file.assemble.Goals as goal
 
 returns_file : goal.returns-clause-file
 returns_file c =
