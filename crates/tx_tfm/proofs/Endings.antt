@@ -1,9 +1,9 @@
 -- Steps of a composition, one at a time.
-use Rattle.std.proofs.Common.{◌≡◌, ℕ, zero, suc, ◌-◌, ◌<◌, Bool, true, false, Option, Some, None, List, [], ◌∷◌, ◌++◌, reverse, length, refl, sym, ap, ◌∙◌, arith}
+use Rattle.std.proofs.Common.{◌≡◌, ℕ, zero, suc, ◌-◌, ◌<◌, true, false, Option, Some, None, List, [], ◌∷◌, ◌++◌, reverse, length, refl, sym, ap, ◌∙◌, arith}
 use Rattle.std.proofs.lemmas.List.{reverse-append}
 use Rattle.tx_tfm.specs.declared.file.Tfm.{Tfm}
 use Rattle.tx_tfm.specs.declared.file.Word.{Word}
-use Rattle.tx_tfm.specs.Rewriting.{ligature_of, rewritten, stay_or_pass, by_command, is_empty, first_pair, after_command, ends_within}
+use Rattle.tx_tfm.specs.Rewriting.{ligature_of, rewritten, is_empty, first_pair, after_command, ends_within}
 
 -- nothing is left to do
 ends_within-nil : (t : Tfm) (n : ℕ) → ends_within t n [] ≡ true

@@ -1,10 +1,9 @@
 -- The first false test of a list, and of two lists in a row.
-use Rattle.std.proofs.Common.{◌≡◌, ℕ, suc, ◌+◌, ◌<◌, ◌≤◌, ◌^◌, Bool, true, false, ◌&&◌, Option, Some, None, List, [], ◌∷◌, ◌++◌, length, refl, sym, ap, ◌∙◌, arith}
+use Rattle.std.proofs.Common.{◌≡◌, ℕ, ◌+◌, Bool, true, false, ◌&&◌, Some, None, List, [], ◌∷◌, ◌++◌, length, refl, ap, arith}
 use Rattle.tx_tfm.specs.declared.file.Tfm.{Tfm}
 use Rattle.tx_tfm.specs.declared.rules.Size.{Size}
-use Rattle.tx_tfm.specs.declared.metrics.Metrics.{Metrics}
 use Rattle.tx_tfm.specs.Format.{lengths_of}
-use Rattle.tx_tfm.specs.Rules.{first_false, header_rules, table_rules, codes_are_bytes, all_remainders_fit, all_successors_end}
+use Rattle.tx_tfm.specs.Rules.{first_false, header_rules, table_rules, all_remainders_fit, all_successors_end}
 use Rattle.tx_tfm.specs.Sound.{IsSizeOf, IsSound}
 
 pub first_false-append_some : (n : ℕ) (xs ys : List Bool) (r : ℕ) → first_false n xs ≡ Some r → first_false n (xs ++ ys) ≡ Some r

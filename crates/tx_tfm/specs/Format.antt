@@ -1,5 +1,5 @@
 -- A font metric file, read off its bytes (TeX: The Program, part 30). A word is four bytes; places count words.
-use Rattle.std.specs.Prelude.{ℕ, ◌+◌, ◌*◌, ◌-◌, ◌/◌, ◌%◌, ◌^◌, Bool, ◌&&◌, nat_le, nat_lt, if◌then◌else◌, List, drop, slice_index}
+use Rattle.std.specs.Prelude.{ℕ, ◌+◌, ◌*◌, ◌-◌, ◌/◌, ◌%◌, Bool, ◌&&◌, nat_le, nat_lt, if◌then◌else◌, List, drop, slice_index}
 use Rattle.byteorder.specs.Endian.{big_number}
 use Rattle.tx_tfm.specs.declared.lengths.Lengths.{Lengths}
 use Rattle.tx_tfm.specs.declared.file.Tfm.{Tfm}

@@ -1,13 +1,11 @@
 -- What a font answers, at the size at which it is used (TeX: The Program, section 549).
-use Rattle.std.specs.Prelude.{◌≡◌, ℕ, ◌+◌, ◌*◌, ◌-◌, ◌/◌, ◌^◌, ◌==◌, Bool, nat_lt, if◌then◌else◌, Option, Some, None, List, ℤ, pos, negsuc, ◌-ℤ◌, unsigned_abs, ⊤}
-use Rattle.tx_tfm.specs.declared.file.Tfm.{Tfm}
+use Rattle.std.specs.Prelude.{ℕ, ◌+◌, ◌*◌, ◌-◌, ◌/◌, ◌^◌, ◌==◌, nat_lt, if◌then◌else◌, Option, Some, None, List, ℤ, pos, ◌-ℤ◌, unsigned_abs}
 use Rattle.tx_tfm.specs.declared.file.Word.{Word}
 use Rattle.tx_tfm.specs.declared.rules.Size.{Size}
 use Rattle.tx_tfm.specs.declared.metrics.Metrics.{Metrics}
-use Rattle.tx_tfm.specs.Format.{tfm_of, word_at, widths_at, heights_at, depths_at, italics_at, kerns_at, recipes_at, parameters_at, info_of, is_there, width_index, height_index, depth_index, italic_index, tag}
+use Rattle.tx_tfm.specs.Format.{tfm_of, word_at, widths_at, heights_at, depths_at, italics_at, kerns_at, recipes_at, parameters_at, info_of, width_index, height_index, depth_index, italic_index, tag}
 use Rattle.tx_tfm.specs.Scaling.{scaled}
-use Rattle.tx_tfm.specs.LigKern.{command_of}
-use Rattle.tx_tfm.specs.Rules.{size_in_sp, first_broken}
+use Rattle.tx_tfm.specs.Rules.{size_in_sp}
 
 -- the font of these bytes at that size
 abbrev pub metrics_of : List ℕ → Size → Metrics

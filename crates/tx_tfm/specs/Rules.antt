@@ -1,13 +1,15 @@
 -- The fifteen rules of a font metric file (TeX: The Program, sections 562 to 575), as tests that compute.
-use Rattle.std.specs.Prelude.{ℕ, zero, suc, ◌+◌, ◌*◌, ◌-◌, ◌/◌, ◌^◌, ◌==◌, Bool, true, false, ◌&&◌, ◌||◌, nat_le, nat_lt, if◌then◌else◌, Option, Some, None, List, [], ◌∷◌, ◌++◌, length, ℤ, pos, negsuc, ◌*ℤ◌, int_div}
+use Rattle.std.specs.Prelude.{ℕ, zero, suc, ◌+◌, ◌*◌, ◌-◌, ◌^◌, ◌==◌, Bool, true, false, ◌&&◌, ◌||◌, nat_le, nat_lt, if◌then◌else◌, Option, Some, None, List, [], ◌∷◌, ◌++◌, length, ℤ, pos, negsuc, ◌*ℤ◌, int_div}
+use Rattle.std.specs.List.{list_all}
 use Rattle.tx_tfm.specs.declared.lengths.Lengths.{Lengths}
 use Rattle.tx_tfm.specs.declared.file.Tfm.{Tfm}
 use Rattle.tx_tfm.specs.declared.file.Word.{Word}
 use Rattle.tx_tfm.specs.declared.rules.Size.{Size}
 use Rattle.tx_tfm.specs.declared.rules.Size.TheVariants.{Design, At, Scaled}
-use Rattle.tx_tfm.specs.Format.{tfm_of, lengths_of, word_at, characters_at, character_count, widths_at, heights_at, depths_at, italics_at, commands_at, kerns_at, recipes_at, parameters_at, design_size_of, info_of, is_listed, is_there, width_index, height_index, depth_index, italic_index, tag}
+use Rattle.tx_tfm.specs.Format.{tfm_of, word_at, character_count, widths_at, heights_at, depths_at, italics_at, commands_at, kerns_at, recipes_at, parameters_at, design_size_of, info_of, is_listed, is_there, width_index, height_index, depth_index, italic_index, tag}
 use Rattle.tx_tfm.specs.LigKern.{command_at, target, boundary_code}
 use Rattle.tx_tfm.specs.Rewriting.{ends_within}
+use Rattle.tx_tfm.specs.Table.{piece_of}
 
 -- whether a test holds of each number below n
 unfoldable pub every : ℕ → (ℕ → Bool) → Bool
@@ -15,13 +17,11 @@ every zero test = true
 every (suc n) test = every n test && test n
 
 -- each of the twelve lengths is below 2^15
-abbrev pub are_below : ℕ → List ℕ → Bool
-are_below n [] = true
-are_below n (x ∷ xs) = nat_lt x n && are_below n xs
-
 unfoldable pub lengths_are_small : Lengths → Bool
 lengths_are_small l =
-    are_below (2 ^ 15) (l.file ∷ l.header ∷ l.first ∷ l.last ∷ l.widths ∷ l.heights ∷ l.depths ∷ l.italics ∷ l.commands ∷ l.kerns ∷ l.recipes ∷ l.parameters ∷ [])
+    list_all (λ n. nat_lt n 32768) (
+    l.file ∷ l.header ∷ l.first ∷ l.last ∷ l.widths ∷ l.heights ∷ l.depths ∷ l.italics ∷ l.commands ∷ l.kerns
+    ∷ l.recipes ∷ l.parameters ∷ [])
 
 -- the codes are those of bytes, from the first to the last
 unfoldable pub codes_are_bytes : Lengths → Bool
@@ -138,10 +138,6 @@ recipe_fits t k =
 
 unfoldable pub all_recipes_fit : Tfm → Bool
 all_recipes_fit t = every t.lengths.recipes (recipe_fits t)
-
--- the k-th of the characters and, the 256th, the boundary
-abbrev pub piece_of : ℕ → Option ℕ
-piece_of k = if nat_lt k 256 then Some k else None
 
 -- whether a character is there; a boundary always is
 abbrev pub is_piece : Tfm → Option ℕ → Bool

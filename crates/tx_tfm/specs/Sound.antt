@@ -1,5 +1,5 @@
 -- What holds of each font that was read: no rule is broken.
-use Rattle.std.specs.Prelude.{◌≡◌, ℕ, ◌<◌, ◌≤◌, ◌^◌, Bool, true, Option, Some, None, ⊤, pos}
+use Rattle.std.specs.Prelude.{◌≡◌, ℕ, ◌<◌, ◌≤◌, ◌^◌, true, Option, Some, ⊤, pos}
 use Rattle.tx_tfm.specs.declared.file.Tfm.{Tfm}
 use Rattle.tx_tfm.specs.declared.rules.Size.{Size}
 use Rattle.tx_tfm.specs.declared.metrics.Metrics.{Metrics}

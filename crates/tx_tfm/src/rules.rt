@@ -3,10 +3,12 @@ ghost use Rattle.std.specs.Prelude.{◌≡◌, ◌≤◌, ◌<◌, ◌^◌, ◌+
 ghost use Rattle.tx_tfm.specs.Format.{word_at};
 ghost use Rattle.tx_tfm.specs.LigKern.{boundary_code};
 ghost use Rattle.tx_tfm.specs.Sound.{IsSizeOf};
-ghost use Rattle.tx_tfm.specs.Rules.{every, lengths_are_small, codes_are_bytes, parts_make_the_file, has_sizes, size_in_sp, is_size, first_false, header_rules, table_rules, sizes_are_in_range, indices_fit, all_indices_fit, remainder_fits, successors_end, all_remainders_fit, all_successors_end, are_fractions, all_are_fractions, first_sizes_are_zero, names, can_come, inserts_well, is_piece_or_none, is_fraction, is_zero, command_fits, all_commands_fit, recipe_fits, all_recipes_fit, piece_of, is_piece, pair_ends, all_pairs_end_after, all_pairs_end};
+ghost use Rattle.tx_tfm.specs.Table.{IsTableOf};
+ghost use Rattle.tx_tfm.specs.Rules.{every, lengths_are_small, codes_are_bytes, parts_make_the_file, has_sizes, size_in_sp, is_size, first_false, header_rules, table_rules, sizes_are_in_range, indices_fit, all_indices_fit, remainder_fits, successors_end, all_remainders_fit, all_successors_end, are_fractions, all_are_fractions, first_sizes_are_zero, names, can_come, inserts_well, is_piece_or_none, is_fraction, is_zero, command_fits, all_commands_fit, recipe_fits, all_recipes_fit, is_piece, pair_ends, all_pairs_end_after, all_pairs_end};
 
 use super::file::{Tfm, Word};
 use super::lengths::Lengths;
+use super::rewriting::{Ligatures, piece};
 use std::alloc::{AllocError, Global};
 use tx_num::{Range, xn_over_d};
 
@@ -27,19 +29,21 @@ impl Lengths {
     pub fn are_small(&self) -> bool
         ensures { result ≡ lengths_are_small self.now }
     {
-        const LIMIT: u16 = 0x8000;
-        self.file < LIMIT
-            && (self.header < LIMIT
-                && (self.first < LIMIT
-                    && (self.last < LIMIT
-                        && (self.widths < LIMIT
-                            && (self.heights < LIMIT
-                                && (self.depths < LIMIT
-                                    && (self.italics < LIMIT
-                                        && (self.commands < LIMIT
-                                            && (self.kerns < LIMIT
-                                                && (self.recipes < LIMIT
-                                                    && (self.parameters < LIMIT && true)))))))))))
+        let all = [
+            self.file,
+            self.header,
+            self.first,
+            self.last,
+            self.widths,
+            self.heights,
+            self.depths,
+            self.italics,
+            self.commands,
+            self.kerns,
+            self.recipes,
+            self.parameters,
+        ];
+        all.iter().all(|length| *length < 0x8000)
     }
 
     /// The codes of the characters are bytes.
@@ -409,22 +413,35 @@ impl Tfm {
 
     /// Composing a pair ends soon.
     #[tactic(auto, unfolding(crate::specs::Rules::pair_ends))]
-    fn pair_ends(&self, alloc: Global, left: usize, right: usize) -> Result<bool, AllocError>
+    fn pair_ends(
+        &self,
+        alloc: Global,
+        table: &Ligatures,
+        left: usize,
+        right: usize,
+    ) -> Result<bool, AllocError>
+        requires { IsTableOf self.now table.now.commands.items }
         ensures { IfOk result (λ ends. ends ≡ pair_ends self.now left right) }
     {
         let (left, right) = (piece(left), piece(right));
         if self.is_piece(left) && self.is_piece(right) {
-            return self.ends_within(alloc, 1000, left, right);
+            return self.ends_within(alloc, table, 1000, left, right);
         }
         Ok(true)
     }
 
     #[tactic(auto, unfolding(crate::specs::Rules::all_pairs_end_after), using(crate::proofs::Every::every_steps))]
-    fn all_pairs_end_after(&self, alloc: Global, left: usize) -> Result<bool, AllocError>
+    fn all_pairs_end_after(
+        &self,
+        alloc: Global,
+        table: &Ligatures,
+        left: usize,
+    ) -> Result<bool, AllocError>
+        requires { IsTableOf self.now table.now.commands.items }
         ensures { IfOk result (λ ends. ends ≡ all_pairs_end_after self.now left) }
     {
         for k in 0..257 {
-            let ends = self.pair_ends(alloc, left, k)?;
+            let ends = self.pair_ends(alloc, table, left, k)?;
             if !ends {
                 return Ok(false);
             }
@@ -436,21 +453,15 @@ impl Tfm {
     fn all_pairs_end(&self, alloc: Global) -> Result<bool, AllocError>
         ensures { IfOk result (λ ends. ends ≡ all_pairs_end self.now) }
     {
+        let table = self.ligatures(alloc)?;
         for k in 0..257 {
-            let ends = self.all_pairs_end_after(alloc, k)?;
+            let ends = self.all_pairs_end_after(alloc, &table, k)?;
             if !ends {
                 return Ok(false);
             }
         }
         Ok(true)
     }
-}
-
-/// A character by its code, or past the codes the boundary.
-fn piece(code: usize) -> Option<u8>
-    ensures { result ≡ piece_of code }
-{
-    if code < 256 { Some(code as u8) } else { None }
 }
 
 fn in_range(size: i64) -> Option<u32>

@@ -1,5 +1,4 @@
 use Rattle.std.proofs.Common.{sym, ◌∙◌, arith}
-use Rattle.tx_tfm.specs.Format.{character_count}
 use Rattle.tx_tfm.specs.Rules.{all_pairs_end}
 use Rattle.tx_tfm.proofs.Every.{every-fails}
 use Rattle.tx_tfm.proofs.file.Tfm.all_pairs_end.Goals as goal

@@ -1,4 +1,4 @@
-use Rattle.std.proofs.Common.{◌≡◌, ◌+◌, true}
+use Rattle.std.proofs.Common.{◌≡◌, true}
 use Rattle.tx_tfm.specs.Rules.{every, all_pairs_end_after}
 use Rattle.tx_tfm.proofs.file.Tfm.all_pairs_end.Given as goal
 

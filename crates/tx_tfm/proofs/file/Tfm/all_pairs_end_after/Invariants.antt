@@ -1,4 +1,4 @@
-use Rattle.std.proofs.Common.{◌≡◌, ◌+◌, true}
+use Rattle.std.proofs.Common.{◌≡◌, true}
 use Rattle.tx_tfm.specs.Rules.{every, pair_ends}
 use Rattle.tx_tfm.proofs.file.Tfm.all_pairs_end_after.Given as goal
 

@@ -1,4 +1,4 @@
-use Rattle.std.proofs.Common.{◌≡◌, ◌+◌, true}
+use Rattle.std.proofs.Common.{◌≡◌, true}
 use Rattle.tx_tfm.specs.Rules.{every, recipe_fits}
 use Rattle.tx_tfm.proofs.file.Tfm.all_recipes_fit.Given as goal
 

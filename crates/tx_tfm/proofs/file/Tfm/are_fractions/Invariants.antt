@@ -1,4 +1,4 @@
-use Rattle.std.proofs.Common.{◌≡◌, ◌+◌, true}
+use Rattle.std.proofs.Common.{◌≡◌, true}
 use Rattle.tx_tfm.specs.Rules.{are_fractions}
 use Rattle.tx_tfm.proofs.file.Tfm.are_fractions.Given as goal
 

@@ -1,6 +1,4 @@
-use Rattle.std.proofs.Common.{◌≡◌, sym, ap, subst, ◌∙◌, ◌-◌, arith}
-use Rattle.tx_tfm.specs.declared.file.Word.{Word}
-use Rattle.tx_tfm.specs.Format.{info_of, tag}
+use Rattle.std.proofs.Common.{◌≡◌, sym, ap, ◌∙◌, arith}
 use Rattle.tx_tfm.specs.Rules.{successors_end}
 use Rattle.tx_tfm.proofs.Programs.{successors-over, successors-on, successors-none}
 use Rattle.tx_tfm.proofs.file.Tfm.successors_end.Goals as goal
