@@ -1,0 +1,4 @@
+pub mod Programs
+pub mod Endings
+pub mod Every
+pub mod FirstFalse

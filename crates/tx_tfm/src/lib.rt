@@ -1,0 +1,23 @@
+//! Font metric files (TFM): what a file says of its font, at the size at which it is used, and the first of fifteen rules
+//! that a bad file breaks. It stands on bytes and numbers alone, and knows no names of fonts.
+//!
+//! Modules in reading order: `lengths`, `file`, `scaling`, `commands`, `rewriting`, `rules`, `metrics`,
+//! `errors`, `font`.
+#![tactic(auto)]
+
+mod commands;
+mod errors;
+mod file;
+mod font;
+mod lengths;
+mod metrics;
+mod rewriting;
+mod rules;
+mod scaling;
+#[cfg(test)]
+mod tests;
+
+pub use errors::FontError;
+pub use file::Word;
+pub use font::Font;
+pub use rules::Size;

@@ -1,0 +1,122 @@
+//! What a font answers, at the size at which it is used.
+ghost use Rattle.std.specs.Prelude.{◌≡◌, ◌<◌, ◌≤◌, ◌^◌};
+ghost use Rattle.tx_tfm.specs.Metrics.{scaled_at, width_of, height_of, depth_of, italic_of, successor_of, recipe_of, slant_of, parameter_of, parameter_count_of, kern_of};
+
+use super::file::{Tfm, Word};
+use super::scaling::scale;
+
+/// A file with the size at which it is used, in sp.
+#[derive(Debug, Drop)]
+pub struct Metrics {
+    pub file: Tfm,
+    pub size: u32,
+}
+
+impl Metrics {
+    fn scaled_at(&self, place: usize) -> i64
+        requires place_in { place < 2 ^ 32 }
+        requires size_in { self.now.size < 2 ^ 27 }
+        ensures { result ≡ scaled_at self.now place }
+    {
+        scale(self.size, self.file.word(place))
+    }
+
+    pub fn width(&self, code: u8) -> i64
+        requires { self.now.size < 2 ^ 27 }
+        ensures { result ≡ width_of self.now code }
+    {
+        let info = self.file.info(usize::from(code));
+        self.scaled_at(self.file.lengths.widths_at() + info.width_index())
+    }
+
+    pub fn height(&self, code: u8) -> i64
+        requires { self.now.size < 2 ^ 27 }
+        ensures { result ≡ height_of self.now code }
+    {
+        let info = self.file.info(usize::from(code));
+        self.scaled_at(self.file.lengths.heights_at() + info.height_index())
+    }
+
+    pub fn depth(&self, code: u8) -> i64
+        requires { self.now.size < 2 ^ 27 }
+        ensures { result ≡ depth_of self.now code }
+    {
+        let info = self.file.info(usize::from(code));
+        self.scaled_at(self.file.lengths.depths_at() + info.depth_index())
+    }
+
+    pub fn italic(&self, code: u8) -> i64
+        requires { self.now.size < 2 ^ 27 }
+        ensures { result ≡ italic_of self.now code }
+    {
+        let info = self.file.info(usize::from(code));
+        self.scaled_at(self.file.lengths.italics_at() + info.italic_index())
+    }
+
+    pub fn successor(&self, code: u8) -> Option<u8>
+        ensures { result ≡ successor_of self.now code }
+    {
+        let info = self.file.info(usize::from(code));
+        if info.tag() == 2 { Some(info.d) } else { None }
+    }
+
+    pub fn recipe(&self, code: u8) -> Option<Word>
+        ensures { result ≡ recipe_of self.now code }
+    {
+        let info = self.file.info(usize::from(code));
+        if info.tag() == 3 {
+            Some(
+                self.file
+                    .word(self.file.lengths.recipes_at() + usize::from(info.d)),
+            )
+        } else {
+            None
+        }
+    }
+
+    pub fn parameter(&self, number: u16) -> i64
+        requires size_in { self.now.size < 2 ^ 27 }
+        requires some { 1 ≤ number }
+        ensures { result ≡ parameter_of self.now number }
+    {
+        let first = self.file.lengths.parameters_at();
+        if number > self.file.lengths.parameters {
+            0
+        } else if number == 1 {
+            slant(self.file.word(first))
+        } else {
+            self.scaled_at(first + (usize::from(number) - 1))
+        }
+    }
+
+    pub fn parameter_count(&self) -> u16
+        ensures { result ≡ parameter_count_of self.now }
+    {
+        if self.file.lengths.parameters < 7 {
+            7
+        } else {
+            self.file.lengths.parameters
+        }
+    }
+
+    pub fn kern(&self, command: Word) -> i64
+        requires size_in { self.now.size < 2 ^ 27 }
+        requires is_kern { 128 ≤ command.c }
+        ensures { result ≡ kern_of self.now command }
+    {
+        let index = 256 * (usize::from(command.c) - 128) + usize::from(command.d);
+        self.scaled_at(self.file.lengths.kerns_at() + index)
+    }
+}
+
+/// A word as a number with sign over 16, rounded down.
+fn slant(word: Word) -> i64
+    ensures { result ≡ slant_of word }
+{
+    let number = i64::from(word.number() / 16);
+    if word.a < 128 {
+        number
+    } else {
+        number - (1 << 28)
+    }
+}
