@@ -1,0 +1,6 @@
+pub mod Sign
+pub mod Spelling
+pub mod Lexicon
+pub mod Rules
+pub mod Levels
+pub mod Points

@@ -1,0 +1,20 @@
+//! Liang's hyphenation: patterns of letters with levels say where a word may be divided, and a list of exceptions
+//! comes before them. `Hyphens` holds both; the texts that it is given are those of \patterns and \hyphenation.
+//!
+//! To be read in this order: what a text spells, spellings by their letters, the list of places, the whole.
+#![tactic(auto)]
+
+pub mod spelling;
+
+pub mod reading;
+
+pub mod lexicon;
+
+pub mod places;
+
+pub mod error;
+
+pub mod hyphens;
+
+#[cfg(test)]
+mod tests;
