@@ -1,5 +1,6 @@
 pub mod Sign
 pub mod Spelling
+pub mod Trie
 pub mod Lexicon
 pub mod Rules
 pub mod Levels

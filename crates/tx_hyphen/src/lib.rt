@@ -8,6 +8,8 @@ pub mod spelling;
 
 pub mod reading;
 
+mod trie;
+
 pub mod lexicon;
 
 pub mod places;
