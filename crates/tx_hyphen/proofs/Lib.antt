@@ -6,3 +6,5 @@ pub mod Grown
 pub mod Walks
 pub mod Placed
 pub mod Paths
+pub mod Index
+pub mod Along

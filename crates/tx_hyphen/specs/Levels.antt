@@ -17,7 +17,7 @@ greatest_below (suc n) f = max (greatest_below n f) (f n)
 -- the level that a pattern gives to a place of the text at whose beginning it is sought; 0 where it doesn't stand there
 abbrev pub level_of : List ℕ → ℕ → Spelling → ℕ
 level_of text place pattern =
-  if starts_with nat_eq text pattern.letters then slice_index pattern.levels place else 0
+    if starts_with nat_eq text pattern.letters then slice_index pattern.levels place else 0
 
 -- the greatest level over all patterns that stand at the beginning of a text
 abbrev pub level_here : List Spelling → List ℕ → ℕ → ℕ
@@ -26,7 +26,7 @@ level_here patterns text place = greatest_on patterns (level_of text place)
 -- the same for the patterns that stand at an offset of the text, to a place counted from the text's beginning
 abbrev pub level_at : List Spelling → List ℕ → ℕ → ℕ → ℕ
 level_at patterns text place offset =
-  if nat_le offset place then level_here patterns (drop offset text) (place - offset) else 0
+    if nat_le offset place then level_here patterns (drop offset text) (place - offset) else 0
 
 -- the greatest level over all pairs of a pattern and an offset at which it stands in the text
 abbrev pub level_in : List Spelling → List ℕ → ℕ → ℕ

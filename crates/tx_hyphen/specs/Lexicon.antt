@@ -1,11 +1,13 @@
 -- Spellings, no two of which have the same letters.
-use Rattle.std.specs.Prelude.{ℕ, List, [], ◌∷◌, ◌++◌, Option, None, Some, option_and_then, position, slice_get, slice_set, nat_eq}
+use Rattle.std.specs.Prelude.{ℕ, suc, if◌then◌else◌, List, [], ◌∷◌, ◌++◌, Option, None, Some, option_map, option_and_then, slice_get, slice_set, nat_eq}
 use Rattle.std.specs.Cmp.Lexicographic.{pointwise}
 use Rattle.tx_hyphen.specs.declared.spelling.Spelling.{Spelling}
 
 -- which of the spellings has these letters
 abbrev pub place_of : List Spelling → List ℕ → Option ℕ
-place_of spellings letters = position (λ s. pointwise nat_eq s.letters letters) spellings
+place_of [] letters = None
+place_of (s ∷ spellings) letters =
+    if pointwise nat_eq s.letters letters then Some 0 else option_map suc (place_of spellings letters)
 
 -- the spelling with these letters
 abbrev pub with_letters : List Spelling → List ℕ → Option Spelling

@@ -27,6 +27,6 @@ held (negsuc n) = 1
 -- 63 letters (TeX: The Program, 891 to 932); a place is counted by the letters before it
 abbrev pub points : Rules → List ℕ → ℤ → ℤ → List ℕ
 points rules word left right =
-  let letters = take 63 word in
-  filter (λ place. level rules letters place % 2 == 1)
+    let letters = take 63 word in
+    filter (λ place. level rules letters place % 2 == 1)
     (range_with_len (held left) (length letters + 1 - held right - held left))

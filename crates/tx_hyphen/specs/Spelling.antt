@@ -14,11 +14,13 @@ led_by level letter spelling = record { letters = letter ∷ spelling.letters; l
 abbrev pub rest_spells : Kind → List ℕ → Option ℕ → List ℕ → Option Spelling
 rest_spells kind lower level [] = Some (record { letters = []; levels = unwrap_or level 0 ∷ [] })
 rest_spells kind lower level (character ∷ text) =
-  elim (sign kind lower (is_some level) character) [
-    | None ↦ None
-    | Some said ↦ elim said [
-      | Level given ↦ rest_spells kind lower (Some given) text
-      | Letter letter ↦ option_map (led_by (unwrap_or level 0) letter) (rest_spells kind lower None text) ] ]
+    elim (sign kind lower (is_some level) character) [
+      | None ↦ None
+      | Some said ↦ elim said [
+        | Level given ↦ rest_spells kind lower (Some given) text
+        | Letter letter ↦ option_map (led_by (unwrap_or level 0) letter) (rest_spells kind lower None text)
+      ]
+    ]
 
 -- letters past the 63rd are passed over, with the levels of their places
 abbrev pub shortened : Spelling → Spelling

@@ -1,5 +1,5 @@
 -- A tree of letters in a list of nodes: node 0 is the root, and every other one hangs on a node before it by a letter.
-use Rattle.std.specs.Prelude.{◌≡◌, ℕ, zero, suc, ◌+◌, ◌-◌, ◌≤◌, ◌<◌, ◌==◌, Bool, ◌&&◌, if◌then◌else◌, List, [], ◌∷◌, ◌++◌, length, slice_index_or, slice_set, Option, None, Some, option_and_then}
+use Rattle.std.specs.Prelude.{◌≡◌, ℕ, zero, suc, ◌+◌, ◌-◌, ◌<◌, ◌==◌, Bool, ◌&&◌, if◌then◌else◌, List, [], ◌∷◌, ◌++◌, length, slice_index_or, slice_set, Option, None, Some, option_and_then}
 use Rattle.tx_hyphen.specs.declared.trie.Node.{Node}
 
 -- node k, and past the end a node that nothing hangs on
@@ -42,8 +42,8 @@ pub record IsLinked (nodes : List Node) : Type 0 where
 -- one more node, hung on another by a letter
 abbrev pub grown : List Node → ℕ → ℕ → List Node
 grown nodes parent letter =
-  let above = node nodes parent in
-  slice_set
+    let above = node nodes parent in
+    slice_set
     (nodes ++ record { letter = letter; parent = parent; sibling = above.child; child = None; place = None } ∷ [])
     parent
     (record { letter = above.letter; parent = above.parent; sibling = above.sibling; child = Some (length nodes); place = above.place })
@@ -51,5 +51,5 @@ grown nodes parent letter =
 -- a place kept at a node
 abbrev pub placed : List Node → ℕ → ℕ → List Node
 placed nodes at place =
-  let n = node nodes at in
-  slice_set nodes at (record { letter = n.letter; parent = n.parent; sibling = n.sibling; child = n.child; place = Some place })
+    let n = node nodes at in
+    slice_set nodes at (record { letter = n.letter; parent = n.parent; sibling = n.sibling; child = n.child; place = Some place })

@@ -39,8 +39,8 @@ impl Hyphens {
         ensures { IfOk result (λ h. h ≡ record { patterns = []; exceptions = [] }) }
     {
         Ok(Hyphens {
-            patterns: Rc::new(alloc, Lexicon::new(alloc))?,
-            exceptions: Rc::new(alloc, Lexicon::new(alloc))?,
+            patterns: Rc::new(alloc, Lexicon::new(alloc)?)?,
+            exceptions: Rc::new(alloc, Lexicon::new(alloc)?)?,
         })
     }
 
@@ -58,7 +58,7 @@ impl Hyphens {
         if spelling.letters.is_empty() {
             return Ok(());
         }
-        if self.patterns.find(spelling.letters.as_slice()).is_some() {
+        if self.patterns.contains(spelling.letters.as_slice()) {
             return Err(PatternError::Duplicate);
         }
         put_in(&mut self.patterns, spelling)?;
@@ -103,7 +103,13 @@ impl Hyphens {
     /// The places at which a word may be divided, each counted by the letters before it. The word's letters are given
     /// by the codes as which they are kept; `left` and `right` are \lefthyphenmin and \righthyphenmin. Its only error
     /// is want of memory.
-    pub fn points(&self, alloc: Global, word: &[u8], left: i64, right: i64) -> Result<Places, AllocError>
+    pub fn points(
+        &self,
+        alloc: Global,
+        word: &[u8],
+        left: i64,
+        right: i64,
+    ) -> Result<Places, AllocError>
         ensures { IfOk result (λ places. places ≡ points self.now word.now left right) }
     {
         let letters = first_letters(word);
@@ -127,7 +133,13 @@ fn put_in(lexicon: &mut Rc<Lexicon>, spelling: Spelling) -> Result<(), AllocErro
 }
 
 /// The places of a word from the first on, and below the end, that have an odd level by the patterns.
-fn pattern_places(alloc: Global, patterns: &Lexicon, letters: &[u8], first: usize, end: usize) -> Result<Places, AllocError>
+fn pattern_places(
+    alloc: Global,
+    patterns: &Lexicon,
+    letters: &[u8],
+    first: usize,
+    end: usize,
+) -> Result<Places, AllocError>
     requires short { length letters.now ≤ 63 }
     requires within { end ≤ length letters.now }
     ensures { IfOk result (λ places. places ≡ filter (λ place. level_in patterns.now (edged letters.now) (place + 1) % 2 == 1) (range_with_len first (end - first))) }

@@ -1,19 +1,23 @@
-//! Spellings by their letters.
+//! Spellings by their letters, and the levels that they give to the places of a text.
 
-ghost use Rattle.std.specs.Prelude.{◌≡◌, ◌↔◌, ◌≤◌, [], length, slice_index, EachIndex, IsTrue, IfOk, OnOk, OnErr};
+ghost use Rattle.std.specs.Prelude.{◌≡◌, ◌↔◌, ◌<◌, ◌≤◌, [], ◌∷◌, ◌++◌, None, length, slice_index, EachIndex, IsTrue, is_some, IfSome, IfOk, OnOk, OnErr};
 ghost use Rattle.std.specs.Option.{option_copied};
+ghost use Rattle.tx_hyphen.specs.Along.{level_along, level_kept};
 ghost use Rattle.tx_hyphen.specs.Levels.{IsRaised, level_here, level_in};
 ghost use Rattle.tx_hyphen.specs.Lexicon.{place_of, put, with_letters};
+ghost use Rattle.tx_hyphen.specs.Trie.{node};
 
 use crate::spelling::Spelling;
+use crate::trie::Trie;
 use std::alloc::{AllocError, Global};
 use std::marker::Model;
 use tx_bytes::Bytes;
 
-/// A list of spellings, no two of which have the same letters.
+/// A list of spellings, no two of which have the same letters, and a tree that keeps the place of each in the list.
 #[derive(Debug, Drop)]
 pub struct Lexicon {
     spellings: Vec<Spelling>,
+    trie: Trie,
 }
 
 impl Model for Lexicon {
@@ -22,26 +26,38 @@ impl Model for Lexicon {
 
     ghost Value = { List Spelling };
 
+    ghost use Rattle.tx_hyphen.specs.Along.{IsIndexed};
+
     ghost view = { λ l. l.spellings.items };
+
+    ghost invariant = { λ l. IsIndexed l.trie l.spellings.items };
 }
 
 impl Lexicon {
-    /// The empty lexicon, which takes no memory.
-    pub fn new(alloc: Global) -> Lexicon
-        ensures { result ≡ [] }
+    /// The empty lexicon. Its only error is want of memory.
+    pub fn new(alloc: Global) -> Result<Lexicon, AllocError>
+        ensures { IfOk result (λ l. l ≡ []) }
     {
-        Lexicon {
+        Ok(Lexicon {
             spellings: Vec::new(alloc),
-        }
+            trie: Trie::new(alloc)?,
+        })
     }
 
     /// Which of the spellings has these letters.
     fn place(&self, letters: &[u8]) -> Option<usize>
-        ensures { result ≡ place_of self.now letters.now }
+        ensures place { result ≡ place_of self.now letters.now }
+        ensures inside { IfSome result (λ place. place < length self.now) }
     {
-        self.spellings
-            .iter()
-            .position(|spelling| spelling.letters.as_slice() == letters)
+        let _spellings = &self.spellings;
+        self.trie.find(letters)
+    }
+
+    /// Whether a spelling has these letters.
+    pub fn contains(&self, letters: &[u8]) -> bool
+        ensures { result ≡ is_some (place_of self.now letters.now) }
+    {
+        self.place(letters).is_some()
     }
 
     /// The spelling with these letters.
@@ -61,21 +77,23 @@ impl Lexicon {
         ensures err { OnErr result (self.new ≡ self.old) }
     {
         match self.place(spelling.letters.as_slice()) {
-            None => self.spellings.push(spelling)?,
+            None => self.append(spelling)?,
             Some(place) => self.spellings[place] = spelling,
         }
         Ok(())
     }
 
-    /// Raises each level to the greatest that the patterns which stand at the beginning of the text give to its place.
-    fn raise_here(&self, text: &[u8], levels: &mut [u8])
-        ensures { IsRaised levels.old levels.new (level_here self.now text.now) }
+    /// Puts a spelling with new letters behind all others. After want of memory nothing has changed.
+    fn append(&mut self, spelling: Spelling) -> Result<(), AllocError>
+        requires { place_of self.old spelling.letters ≡ None }
+        ensures ok { OnOk result (self.new ≡ self.old ++ spelling ∷ []) }
+        ensures err { OnErr result (self.new ≡ self.old) }
     {
-        for pattern in &self.spellings {
-            if text.starts_with(pattern.letters.as_slice()) {
-                raise(levels, pattern.levels.as_slice());
-            }
-        }
+        self.spellings.reserve(1)?;
+        let place = self.spellings.len();
+        self.trie.keep(spelling.letters.as_slice(), place)?;
+        self.spellings.push(spelling)?;
+        Ok(())
     }
 
     /// Whether both hold the same spellings in the same order.
@@ -85,7 +103,7 @@ impl Lexicon {
         all_same(self.spellings.as_slice(), other.spellings.as_slice())
     }
 
-    /// The level of each place of a text, up to its last character.
+    /// The level of each place of a text, up to its last character. Its only error is want of memory.
     pub fn levels(&self, alloc: Global, text: &[u8]) -> Result<Bytes, AllocError>
         ensures { IfOk result (λ levels. (length levels ≡ length text.now) × EachIndex levels (λ k. slice_index levels k ≡ level_in self.now text.now k)) }
     {
@@ -103,6 +121,13 @@ impl Lexicon {
             self.raise_here(&text[offset..], &mut levels[offset..]);
         }
     }
+
+    /// Raises each level to the greatest that the patterns which stand at the beginning of the text give to its place.
+    fn raise_here(&self, text: &[u8], levels: &mut [u8])
+        ensures { IsRaised levels.old levels.new (level_here self.now text.now) }
+    {
+        raise_along(&self.trie, self.spellings.as_slice(), text, levels);
+    }
 }
 
 /// A clone holds the same spellings. Its only error is want of memory.
@@ -112,6 +137,7 @@ impl Clone for Lexicon {
     fn clone(&self) -> Result<Self, AllocError> {
         Ok(Lexicon {
             spellings: self.spellings.clone()?,
+            trie: self.trie.clone()?,
         })
     }
 }
@@ -129,6 +155,33 @@ fn all_same(some: &[Spelling], others: &[Spelling]) -> bool
         }
     }
     true
+}
+
+/// Raises each level to the greatest that the spellings met along a text give to its place.
+fn raise_along(trie: &Trie, spellings: &[Spelling], text: &[u8], levels: &mut [u8])
+    ensures { IsRaised levels.old levels.new (level_along trie.now spellings.now 0 text.now) }
+{
+    let mut at = trie.root();
+    for letter in text {
+        raise_at(trie, spellings, at, levels);
+        match trie.child(at, *letter) {
+            None => return,
+            Some(next) => at = next,
+        }
+    }
+    raise_at(trie, spellings, at, levels);
+}
+
+/// Raises each level to the one that the spelling at a node gives to its place.
+fn raise_at(trie: &Trie, spellings: &[Spelling], at: usize, levels: &mut [u8])
+    requires { at < length trie.now }
+    ensures { IsRaised levels.old levels.new (level_kept spellings.now (node trie.now at).place) }
+{
+    if let Some(place) = trie.place(at) {
+        if let Some(spelling) = spellings.get(place) {
+            raise(levels, spelling.levels.as_slice());
+        }
+    }
 }
 
 /// Raises each level to the one given for its place, if one is.

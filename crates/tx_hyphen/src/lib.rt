@@ -4,19 +4,12 @@
 //! To be read in this order: what a text spells, spellings by their letters, the list of places, the whole.
 #![tactic(auto)]
 
-pub mod spelling;
-
-pub mod reading;
-
-mod trie;
-
-pub mod lexicon;
-
-pub mod places;
-
 pub mod error;
-
 pub mod hyphens;
-
+mod lexicon;
+pub mod places;
+mod reading;
+mod spelling;
 #[cfg(test)]
 mod tests;
+mod trie;

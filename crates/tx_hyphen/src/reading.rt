@@ -8,7 +8,12 @@ use std::alloc::{AllocError, Global};
 use tx_bytes::Bytes;
 
 /// All that a text spells, however long; None where a character may not stand in it.
-fn read_whole(alloc: Global, kind: Kind, text: &[u8], lower: &[u8]) -> Result<Option<Spelling>, AllocError>
+fn read_whole(
+    alloc: Global,
+    kind: Kind,
+    text: &[u8],
+    lower: &[u8],
+) -> Result<Option<Spelling>, AllocError>
     requires { length lower.now ≡ 256 }
     ensures { IfOk result (λ read. read ≡ rest_spells kind lower.now None text.now) }
 {
@@ -31,7 +36,12 @@ fn read_whole(alloc: Global, kind: Kind, text: &[u8], lower: &[u8]) -> Result<Op
 }
 
 /// What a text spells; None where a character may not stand in it.
-pub fn read(alloc: Global, kind: Kind, text: &[u8], lower: &[u8]) -> Result<Option<Spelling>, AllocError>
+pub fn read(
+    alloc: Global,
+    kind: Kind,
+    text: &[u8],
+    lower: &[u8],
+) -> Result<Option<Spelling>, AllocError>
     requires { length lower.now ≡ 256 }
     ensures { IfOk result (λ read. read ≡ spelled kind lower.now text.now) }
 {

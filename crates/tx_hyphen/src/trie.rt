@@ -40,8 +40,19 @@ impl Model for Trie {
     ghost invariant = { λ t. IsLinked t.nodes.items };
 }
 
+/// A clone is the same tree. Its only error is want of memory.
+impl Clone for Trie {
+    ghost is_clone = { λ source copy. copy ≡ source };
+
+    fn clone(&self) -> Result<Self, AllocError> {
+        Ok(Trie {
+            nodes: self.nodes.clone()?,
+        })
+    }
+}
+
 /// The node at which every walk begins.
-pub const ROOT: usize = 0;
+const ROOT: usize = 0;
 
 impl Trie {
     /// A tree without letters. Its only error is want of memory.
@@ -67,6 +78,17 @@ impl Trie {
         ensures inside { IfSome result (λ k. k < length self.now) }
     {
         child_in(self.nodes.as_slice(), parent, letter)
+    }
+
+    /// The place that is kept where letters lead.
+    pub fn find(&self, letters: &[u8]) -> Option<usize>
+        ensures { result ≡ kept self.now letters.now }
+    {
+        let mut at = self.root();
+        for letter in letters {
+            at = self.child(at, *letter)?;
+        }
+        self.place(at)
     }
 
     /// Keeps a place where letters lead. After want of memory what is kept is as before.

@@ -1,4 +1,4 @@
-use Rattle.std.proofs.Common.{arith, sym, length}
+use Rattle.std.proofs.Common.{arith, sym}
 use Rattle.std.proofs.lemmas.List.{length-take-le, take_all}
 use Rattle.tx_hyphen.proofs.hyphens.first_letters.Goals as goal
 
