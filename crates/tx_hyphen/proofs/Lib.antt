@@ -8,3 +8,4 @@ pub mod Placed
 pub mod Paths
 pub mod Index
 pub mod Along
+pub mod Examples

@@ -1,4 +1,4 @@
--- How a tree of letters keeps spellings, and what is met on a walk in it.
+-- How a tree of letters keeps spellings, and what is met on a walk in it: for the look-up alone, no public clause says it.
 use Rattle.std.specs.Prelude.{◌≡◌, ℕ, max, List, [], ◌∷◌, Option, None, Some, slice_get, slice_index}
 use Rattle.std.specs.Option.{option_map_or}
 use Rattle.tx_hyphen.specs.declared.spelling.Spelling.{Spelling}

@@ -1,4 +1,5 @@
--- A tree of letters in a list of nodes: node 0 is the root, and every other one hangs on a node before it by a letter.
+-- A tree of letters in a list of nodes, for the look-up alone: no public clause speaks of it. Node 0 is the root, and
+-- every other one hangs on a node before it by a letter.
 use Rattle.std.specs.Prelude.{◌≡◌, ℕ, zero, suc, ◌+◌, ◌-◌, ◌<◌, ◌==◌, Bool, ◌&&◌, if◌then◌else◌, List, [], ◌∷◌, ◌++◌, length, slice_index_or, slice_set, Option, None, Some, option_and_then}
 use Rattle.tx_hyphen.specs.declared.trie.Node.{Node}
 

@@ -44,8 +44,11 @@ impl Hyphens {
         })
     }
 
-    /// Adds the pattern that a text of \patterns spells, where `lower` holds the 256 \lccodes. Unless memory is short
-    /// the answer is the definition's; after any error nothing has changed.
+    /// Adds the pattern that a text of \patterns spells, where `lower` holds the 256 \lccodes. A digit is the level of
+    /// its place, `.` is the edge of a word, and any other character is a letter, kept as its \lccode.
+    ///
+    /// `NotALetter` comes where a letter's \lccode is 0, and `Duplicate` where a pattern with these letters is there.
+    /// After any error, want of memory too, nothing has changed.
     pub fn add(&mut self, alloc: Global, pattern: &[u8], lower: &[u8]) -> Result<(), PatternError>
         requires { length lower.now ≡ 256 }
         ensures ok { OnOk result (with_pattern self.old (spelled Kind.Pattern lower.now pattern.now) ≡ Ok self.new) }
@@ -65,8 +68,11 @@ impl Hyphens {
         Ok(())
     }
 
-    /// Adds the exception that a word of \hyphenation spells, where `lower` holds the 256 \lccodes. Unless memory is
-    /// short the answer is the definition's; after any error nothing has changed.
+    /// Adds the exception that a word of \hyphenation spells, where `lower` holds the 256 \lccodes. `-` permits a
+    /// division, and any other character is a letter, kept as its \lccode. It takes the place of an earlier exception
+    /// for the word.
+    ///
+    /// `NotALetter` comes where a letter's \lccode is 0. After any error, want of memory too, nothing has changed.
     pub fn except(&mut self, alloc: Global, word: &[u8], lower: &[u8]) -> Result<(), ExceptionError>
         requires { length lower.now ≡ 256 }
         ensures ok { OnOk result (with_exception self.old (spelled Kind.Exception lower.now word.now) ≡ Ok self.new) }

@@ -49,6 +49,7 @@ impl Lexicon {
         ensures place { result ≡ place_of self.now letters.now }
         ensures inside { IfSome result (λ place. place < length self.now) }
     {
+        // A look at the fields brings up what holds of them: that the tree keeps the places of this list.
         let _spellings = &self.spellings;
         self.trie.find(letters)
     }
@@ -89,6 +90,7 @@ impl Lexicon {
         ensures ok { OnOk result (self.new ≡ self.old ++ spelling ∷ []) }
         ensures err { OnErr result (self.new ≡ self.old) }
     {
+        // Room first, so that nothing fails once the tree keeps the place.
         self.spellings.reserve(1)?;
         let place = self.spellings.len();
         self.trie.keep(spelling.letters.as_slice(), place)?;

@@ -106,6 +106,7 @@ impl Trie {
     pub fn root(&self) -> usize
         ensures { (result ≡ 0) × (result < length self.now) }
     {
+        // A look at the fields brings up what holds of them: that there is a root.
         let _nodes = &self.nodes;
         ROOT
     }
