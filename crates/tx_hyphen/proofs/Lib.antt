@@ -1,0 +1,11 @@
+pub mod Spelled
+pub mod Raised
+pub mod Odd
+pub mod Rows
+pub mod Grown
+pub mod Walks
+pub mod Placed
+pub mod Paths
+pub mod Index
+pub mod Along
+pub mod Examples

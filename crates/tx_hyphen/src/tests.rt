@@ -1,0 +1,105 @@
+//! Words whose places Knuth's program shows by \showhyphens, with the same patterns and exceptions.
+
+use crate::error::{ExceptionError, PatternError};
+use crate::hyphens::Hyphens;
+use std::process::Abort;
+use std::test::Fail;
+
+/// The \lccodes of plain TeX.
+fn plain() -> [u8; 256] {
+    let mut lower = [0; 256];
+    for letter in b'a'..=b'z' {
+        lower[letter as usize] = letter;
+        lower[(letter - 32) as usize] = letter;
+    }
+    lower
+}
+
+/// These patterns, the first nine of which are those of The TeXbook for one word.
+fn patterns(rt: &HostRuntime) -> Result<Hyphens, Fail> {
+    let mut hyphens = Hyphens::new(rt.alloc())?;
+    for pattern in [
+        "hy3ph", "he2n", "hena4", "hen5at", "1na", "n2at", "1tio", "2io", "o2n", ".a1b", "c1d.",
+        "1E2f", "x3yz", "x2y",
+    ] {
+        hyphens.add(rt.alloc(), pattern.as_bytes(), &plain())?;
+    }
+    Ok(hyphens)
+}
+
+#[test]
+fn patterns_divide_words(rt: HostRuntime) -> Result<(), Fail> {
+    let hyphens = patterns(&rt)?;
+    let none: &[usize] = &[];
+    for (word, left, right, places) in [
+        ("hyphenation", 2, 3, [2, 6].as_slice()),
+        ("hyphenation", 1, 1, [2, 6].as_slice()),
+        ("hyphenation", 3, 5, [6].as_slice()),
+        ("hyphenation", 3, 6, none),
+        ("nation", 0, -7, [2].as_slice()),
+        ("abab", 1, 1, [1].as_slice()),
+        ("cdcd", 1, 1, [3].as_slice()),
+        ("gefe", 1, 1, [1].as_slice()),
+        ("axyz", 1, 1, [2].as_slice()),
+        ("axyx", 1, 1, none),
+        ("", 1, 1, none),
+    ] {
+        let found = hyphens.points(rt.alloc(), word.as_bytes(), left, right)?;
+        assert_eq!(rt; found.as_slice(), places, "{word}");
+    }
+    Ok(())
+}
+
+#[test]
+fn a_word_ends_after_63_letters(rt: HostRuntime) -> Result<(), Fail> {
+    let hyphens = patterns(&rt)?;
+    let mut word = [b'x'; 67];
+    word[61..].copy_from_slice(b"nation");
+    let found = hyphens.points(rt.alloc(), &word, 1, 1)?;
+    assert_eq!(rt; found.as_slice(), [61].as_slice());
+    assert_eq!(rt; found.len(), 1);
+    assert!(rt; !found.is_empty());
+    Ok(())
+}
+
+#[test]
+fn exceptions_come_first_and_the_last_one_for_a_word_counts(rt: HostRuntime) -> Result<(), Fail> {
+    let mut hyphens = patterns(&rt)?;
+    let none: &[usize] = &[];
+    for (exception, word, left, right, places) in [
+        ("na-ti-on", "nation", 1, 1, [2, 4].as_slice()),
+        ("-ab-ab-", "nation", 2, 3, [2].as_slice()),
+        ("n-n", "abab", 1, 1, [2].as_slice()),
+        ("NATIO-N", "nation", 1, 1, [5].as_slice()),
+        ("nation", "nation", 1, 1, none),
+    ] {
+        hyphens.except(rt.alloc(), exception.as_bytes(), &plain())?;
+        let found = hyphens.points(rt.alloc(), word.as_bytes(), left, right)?;
+        assert_eq!(rt; found.as_slice(), places, "{exception} {word}");
+    }
+    Ok(())
+}
+
+#[test]
+fn what_is_no_pattern_or_exception_is_refused(rt: HostRuntime) -> Result<(), Fail> {
+    let mut hyphens = patterns(&rt)?;
+    let before = hyphens.share()?;
+    for pattern in ["he4n", "h.-", "a12b", "a b"] {
+        let refused = hyphens.add(rt.alloc(), pattern.as_bytes(), &plain());
+        assert!(rt;
+            matches!(refused, Err(e) if e.number() == Some(33)),
+            "{pattern}"
+        );
+    }
+    for word in ["na.tion", "na-ti1on"] {
+        let refused = hyphens.except(rt.alloc(), word.as_bytes(), &plain());
+        assert!(rt;
+            matches!(refused, Err(e) if e.number() == Some(33)),
+            "{word}"
+        );
+    }
+    assert!(rt; hyphens.same(&before));
+    hyphens.add(rt.alloc(), b"z1z", &plain())?;
+    assert!(rt; !hyphens.same(&before));
+    Ok(())
+}
