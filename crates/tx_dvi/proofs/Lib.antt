@@ -1,1 +1,3 @@
+mod Comment
+pub mod Pages
 mod Worked

@@ -1,10 +1,10 @@
 -- The definition of the DVI file at a page that was worked out by hand.
-use Rattle.std.proofs.Common.{◌≡◌, ℕ, List, [], ◌∷◌, ◌++◌, refl, length, lit<}
+use Rattle.std.proofs.Common.{◌≡◌, [], ◌∷◌, ◌++◌, refl, lit<}
 use Rattle.std.specs.Prelude.{pos, negsuc, replicate, codes}
 use Rattle.std.specs.Fmt.{signed_decimal}
 use Rattle.std.proofs.lemmas.Fmt.{decimal-digits_of}
 use Rattle.tx_dvi.specs.Page.{Page}
-use Rattle.tx_dvi.specs.Dvi.{dvi, four_bytes}
+use Rattle.tx_dvi.specs.Dvi.{dvi, four_bytes, two_bytes}
 
 -- a rule of 2pt by 1pt, shipped on 17 May 2024 at 9:30
 abbrev page : Page
@@ -15,11 +15,12 @@ page = record {
   width = pos 65536;
   nesting = 0;
   mag = 1000;
-  date = record { year = pos 2024; month = pos 5; day = pos 17; time = pos 570 }
+  date = record { year = pos 2024; month = pos 5; day = pos 17; time = pos 570 };
 }
 
 -- minus one is four bytes of ones
 four_bytes-minus_one : four_bytes (negsuc 0) ≡ 255 ∷ 255 ∷ 255 ∷ 255 ∷ []
+unfolding four_bytes
 four_bytes-minus_one = refl
 
 year : signed_decimal (pos 2024) ≡ codes "2024"
@@ -32,4 +33,5 @@ dvi-page : dvi (page ∷ []) ≡
     ++ (159 ∷ 2 ∷ 0 ∷ 0 ∷ 132 ∷ 0 ∷ 2 ∷ 0 ∷ 0 ∷ 0 ∷ 1 ∷ 0 ∷ 0 ∷ 140 ∷ [])
     ++ (248 ∷ 0 ∷ 0 ∷ 0 ∷ 42 ∷ 1 ∷ 131 ∷ 146 ∷ 192 ∷ 28 ∷ 59 ∷ 0 ∷ 0 ∷ 0 ∷ 0 ∷ 3 ∷ 232 ∷ 0 ∷ 2 ∷ 0 ∷ 0 ∷ 0 ∷ 1 ∷ 0 ∷ 0 ∷ 0 ∷ 0 ∷ 0 ∷ 1 ∷ [])
     ++ (249 ∷ 0 ∷ 0 ∷ 0 ∷ 101 ∷ 2 ∷ 223 ∷ 223 ∷ 223 ∷ 223 ∷ [])
+unfolding four_bytes two_bytes
 dvi-page = rw year refl

@@ -1,5 +1,5 @@
 -- The DVI file of a list of pages (TeX: The Program, parts 31 and 32). All places are counted in bytes from its start.
-use Rattle.std.specs.Prelude.{ℕ, zero, suc, ◌+◌, ◌-◌, ◌*◌, ◌/◌, ◌%◌, ℤ, pos, negsuc, List, [], ◌∷◌, ◌++◌, length, take, map, fold, sum_by, replicate, max, codes, unsigned_abs}
+use Rattle.std.specs.Prelude.{◌≡◌, ℕ, zero, suc, ◌+◌, ◌-◌, ◌/◌, ◌%◌, ℤ, pos, negsuc, int_div, int_rem, unsigned_abs, List, [], ◌∷◌, ◌++◌, length, take, drop, fold, max, sum_by, replicate, codes, Some, slice_get}
 use Rattle.std.specs.List.{flat_map, enumerate_from}
 use Rattle.std.specs.Int.{w32, cast_unsigned, int_max}
 use Rattle.std.specs.Fmt.{signed_decimal}
@@ -10,52 +10,55 @@ use Rattle.tx_dvi.specs.Page.{Page}
 -- the commands that frame the pages
 abbrev pub bop : ℕ
 bop = 139
+
 abbrev pub eop : ℕ
 eop = 140
+
 abbrev pub pre : ℕ
 pre = 247
+
 abbrev pub post : ℕ
 post = 248
+
 abbrev pub post_post : ℕ
 post_post = 249
 
--- what stands behind the last command, and the number of this format
-abbrev pub fill : ℕ
-fill = 223
+-- the number of this format, and what stands behind the last command
 abbrev pub format_number : ℕ
 format_number = 2
 
+abbrev pub filler : ℕ
+filler = 223
+
 -- a number of four bytes, the highest first, in two's complement
-abbrev pub four_bytes : ℤ → List ℕ
+unfoldable pub four_bytes : ℤ → List ℕ
 four_bytes z = big_bytes 4 (cast_unsigned w32 z)
 
 -- a number of two bytes, the highest first
-abbrev pub two_bytes : ℕ → List ℕ
+unfoldable pub two_bytes : ℕ → List ℕ
 two_bytes n = big_bytes 2 n
 
 -- the last two digits of a number, without its sign
 abbrev pub two_digits : ℤ → List ℕ
-two_digits z = (48 + unsigned_abs z / 10 % 10) ∷ (48 + unsigned_abs z % 10) ∷ []
+two_digits z = (48 + unsigned_abs z % 100 / 10) ∷ (48 + unsigned_abs z % 10) ∷ []
 
--- the whole hours of \time, and the minutes that are left, both without sign
-abbrev pub hours : ℤ → ℤ
-hours time = pos (unsigned_abs time / 60)
-abbrev pub minutes : ℤ → ℤ
-minutes time = pos (unsigned_abs time % 60)
+-- `.MM.DD:HHMM`, the hours and minutes by a division that drops the fraction
+abbrev pub day_and_time : DateParameters → List ℕ
+day_and_time date =
+    46 ∷ two_digits date.month ++ 46 ∷ two_digits date.day
+    ++ 58 ∷ two_digits (int_div date.time (pos 60)) ++ two_digits (int_rem date.time (pos 60))
 
 -- ` TeX output YYYY.MM.DD:HHMM`, the year in full
 abbrev pub comment : DateParameters → List ℕ
-comment date =
-    codes " TeX output " ++ signed_decimal date.year ++ codes "." ++ two_digits date.month ++ codes "." ++ two_digits date.day
-    ++ codes ":" ++ two_digits (hours date.time) ++ two_digits (minutes date.time)
+comment date = codes " TeX output " ++ signed_decimal date.year ++ day_and_time date
 
--- sp in units of 25400000/473628672 of 10^-7 m, magnified by \mag/1000
-abbrev pub units : Page → List ℕ
-units first = four_bytes (pos 25400000) ++ four_bytes (pos 473628672) ++ four_bytes (pos first.mag)
+-- sp are units of 25400000/473628672 of 10^-7 m, magnified by \mag/1000
+abbrev pub units : ℕ → List ℕ
+units mag = flat_map four_bytes (pos 25400000 ∷ pos 473628672 ∷ pos mag ∷ [])
 
 -- the start of the file, with \mag and the date of the first page
 abbrev pub preamble : Page → List ℕ
-preamble first = pre ∷ format_number ∷ units first ++ length (comment first.date) ∷ comment first.date
+preamble first = pre ∷ format_number ∷ units first.mag ++ length (comment first.date) ∷ comment first.date
 
 -- one page, with a pointer to the page before it
 abbrev pub page_bytes : Page → ℤ → List ℕ
@@ -65,44 +68,70 @@ page_bytes page pointer = bop ∷ flat_map four_bytes page.counts ++ four_bytes 
 abbrev pub page_size : Page → ℕ
 page_size page = length page.body + 46
 
--- where page k begins, counted from 0: behind the preamble and the pages before it
-abbrev pub place_of : Page → List Page → ℕ → ℕ
-place_of first pages k = length (preamble first) + sum_by page_size (take k pages)
+-- where page k begins, counted from 0: behind the pages before it, the first of which begins at `start`
+abbrev pub place_of : ℕ → List Page → ℕ → ℕ
+place_of start pages k = start + sum_by page_size (take k pages)
 
 -- where the page before page k begins; -1 where there is none
-abbrev pub pointer_of : Page → List Page → ℕ → ℤ
-pointer_of first pages zero = negsuc 0
-pointer_of first pages (suc k) = pos (place_of first pages k)
+abbrev pub pointer_of : ℕ → List Page → ℕ → ℤ
+pointer_of start pages zero = negsuc 0
+pointer_of start pages (suc k) = pos (place_of start pages k)
 
 -- all pages, each with a pointer to the one before it
-abbrev pub pages_bytes : Page → List Page → List ℕ
-pages_bytes first pages = flat_map (λ (numbered : ℕ × Page). page_bytes numbered.1 (pointer_of first pages numbered.0)) (enumerate_from 0 pages)
+abbrev pub pages_bytes : ℕ → List Page → List ℕ
+pages_bytes start pages =
+    flat_map (λ (numbered : ℕ × Page). page_bytes numbered.1 (pointer_of start pages numbered.0)) (enumerate_from 0 pages)
 
--- the greatest of these numbers, and at least 0
-abbrev pub greatest : List ℤ → ℤ
-greatest sizes = fold int_max (pos 0) sizes
+-- the greatest height and the greatest width, at least 0, and the greatest nesting
+abbrev pub greatest_height : List Page → ℤ
+greatest_height pages = fold (λ most (page : Page). int_max most page.height) (pos 0) pages
 
--- where the last page begins, the units, the greatest sizes and nesting, and the number of pages
-abbrev pub post_bytes : Page → List Page → List ℕ
-post_bytes first pages =
-    post ∷ four_bytes (pointer_of first pages (length pages)) ++ units first
-    ++ four_bytes (greatest (map (λ page. page.height) pages)) ++ four_bytes (greatest (map (λ page. page.width) pages))
-    ++ two_bytes (fold max 0 (map (λ page. page.nesting) pages)) ++ two_bytes (length pages)
+abbrev pub greatest_width : List Page → ℤ
+greatest_width pages = fold (λ most (page : Page). int_max most page.width) (pos 0) pages
+
+abbrev pub greatest_nesting : List Page → ℕ
+greatest_nesting pages = fold (λ most (page : Page). max most page.nesting) 0 pages
+
+-- the greatest sizes and nesting, and the number of pages
+abbrev pub sizes_bytes : List Page → List ℕ
+sizes_bytes pages =
+    four_bytes (greatest_height pages) ++ four_bytes (greatest_width pages) ++ two_bytes (greatest_nesting pages) ++ two_bytes (length pages)
+
+-- where the last page begins, the units and the sizes
+abbrev pub post_bytes : ℤ → ℕ → List Page → List ℕ
+post_bytes last mag pages = post ∷ four_bytes last ++ units mag ++ sizes_bytes pages
 
 -- where post stands
-abbrev pub post_post_bytes : ℕ → List ℕ
-post_post_bytes place = post_post ∷ four_bytes (pos place) ++ format_number ∷ []
+abbrev pub post_post_bytes : ℤ → List ℕ
+post_post_bytes place = post_post ∷ four_bytes place ++ format_number ∷ []
 
--- bytes, filled up with four to seven fill bytes so that their number is a multiple of four
+-- bytes, filled up with four to seven more so that their number is a multiple of four
 abbrev pub filled : List ℕ → List ℕ
-filled bytes = bytes ++ replicate (4 + (4 - length bytes % 4) % 4) fill
+filled bytes = bytes ++ replicate (4 + (4 - length bytes % 4) % 4) filler
 
--- the file of at least one page
-abbrev pub file_of : Page → List Page → List ℕ
-file_of first pages =
-    filled (preamble first ++ pages_bytes first pages ++ post_bytes first pages ++ post_post_bytes (place_of first pages (length pages)))
+-- the file of these pages, where the first of them begins at `start`
+abbrev pub file_from : ℕ → Page → List Page → List ℕ
+file_from start first pages =
+    filled (preamble first ++ pages_bytes start pages
+    ++ post_bytes (pointer_of start pages (length pages)) first.mag pages ++ post_post_bytes (pos (place_of start pages (length pages))))
 
 -- the DVI file; where there is no page there is no file, and so no byte
 abbrev pub dvi : List Page → List ℕ
 dvi [] = []
-dvi (first ∷ others) = file_of first (first ∷ others)
+dvi (first ∷ others) = file_from (length (preamble first)) first (first ∷ others)
+
+-- bytes stand at a place of a file
+pub record StandsAt (file : List ℕ) (place : ℕ) (bytes : List ℕ) : Type 0 where
+  pub behind : List ℕ
+  pub are : drop place file ≡ bytes ++ behind
+
+-- where the first page of a file begins
+abbrev pub start_of : List Page → ℕ
+start_of [] = 0
+start_of (first ∷ others) = length (preamble first)
+
+-- Each page stands at its place, with a pointer to the place of the page before it.
+abbrev pub PointsBack : List ℕ → List Page → Type 0
+PointsBack file pages =
+    let start = start_of pages in
+    (k : ℕ) (page : Page) → slice_get pages k ≡ Some page → StandsAt file (place_of start pages k) (page_bytes page (pointer_of start pages k))

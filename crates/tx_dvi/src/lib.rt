@@ -1,8 +1,14 @@
-//! DVI files (TeX: The Program, part 31): what a page brings to one, and the file of a list of pages.
+//! DVI files (TeX: The Program, parts 31 and 32): what a page brings to one, and the file of a list of pages. The
+//! commands within a page are its maker's own: here they are bytes.
 //!
-//! Read `page`, then `assemble`.
+//! Read `page`, then `file`.
 #![tactic(auto)]
 
+pub mod file;
 pub mod page;
 
+pub use file::assemble;
 pub use page::{DateParameters, PageBody};
+
+#[cfg(test)]
+mod tests;

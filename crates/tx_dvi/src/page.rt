@@ -40,13 +40,13 @@ impl Model for PageBody {
     ghost Value = { Page };
 
     ghost view = { λ p. record {
-        body = p.body;
-        counts = p.counts;
-        height = p.height;
-        width = p.width;
-        nesting = p.nesting;
-        mag = p.mag;
-        date = p.date
+      body = p.body;
+      counts = p.counts;
+      height = p.height;
+      width = p.width;
+      nesting = p.nesting;
+      mag = p.mag;
+      date = p.date;
     } };
 
     ghost invariant = { λ p. InRange (length p.body) (length p.counts) p.nesting p.mag };

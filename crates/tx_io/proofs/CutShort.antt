@@ -1,7 +1,7 @@
 -- How outputs that are cut short join with those before and after.
-use Rattle.std.proofs.Common.{◌≡◌, ℕ, List, [], ◌∷◌, ◌++◌, take, Option, Some, None, refl, sym, ap, subst, ◌∙◌, append_assoc, append-nil}
-use Rattle.tx_io.specs.Output.{Output, Piece, Say, Save, with_piece, told}
-use Rattle.tx_io.specs.Sink.{IsInPart, IsPutInPart, IsSavedInPart, AsBefore, PutGives}
+use Rattle.std.proofs.Common.{◌≡◌, List, [], ◌∷◌, ◌++◌, Option, Some, None, refl, sym, ap, subst, ◌∙◌, append_assoc, append-nil}
+use Rattle.tx_io.specs.Output.{Output, Piece, Say, Save, told}
+use Rattle.tx_io.specs.Sink.{IsPutInPart, AsBefore, PutGives}
 use Rattle.tx_io.specs.Cut.{IsNextInPart, IsCutShort}
 use Rattle.tx_io.specs.declared.sink.Put.{Put}
 use Rattle.tx_io.specs.declared.sink.Put.TheVariants.{Done, Failed, OutOfMemory}

@@ -1,5 +1,5 @@
 -- Output in two parts is output in one.
-use Rattle.std.proofs.Common.{◌≡◌, List, [], ◌∷◌, ◌++◌, Option, Some, None, refl}
+use Rattle.std.proofs.Common.{◌≡◌, List, [], ◌∷◌, ◌++◌, Option, None, refl}
 use Rattle.std.specs.Option.{option_map}
 use Rattle.tx_io.specs.Output.{Output, Piece, with_piece, told}
 
