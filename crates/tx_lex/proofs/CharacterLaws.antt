@@ -1,5 +1,5 @@
 -- The laws of `characters`: its steps are never too few, so the first character decides the rest.
-use Rattle.std.proofs.Common.{◌≡◌, ℕ, zero, suc, ◌+◌, ◌≤◌, Bool, true, false, cond, ◌&&◌, Option, Some, None, List, [], ◌∷◌, length, refl, ap, sym, ◌∙◌, arith, rules}
+use Rattle.std.proofs.Common.{◌≡◌, ℕ, zero, suc, ◌+◌, ◌≤◌, Bool, true, false, cond, ◌&&◌, Option, Some, None, List, [], ◌∷◌, length, refl, ap, sym, ◌∙◌, arith}
 use Rattle.tx_char.specs.declared.category.Cat.{Cat}
 use Rattle.tx_lex.specs.Notation.{Seen, denoted, reduction, is_hex_digit}
 use Rattle.tx_lex.specs.Characters.{characters, characters_by, characters_from}

@@ -2,3 +2,4 @@ pub mod CharacterLaws
 mod LineLaws
 mod Loops
 mod Readings
+mod RuleLaws

@@ -1,5 +1,5 @@
 -- What the loops keep.
-use Rattle.std.proofs.Common.{◌≡◌, ℕ, ◌+◌, ◌-◌, ◌≤◌, ◌<◌, Bool, true, false, cond, None, List, [], ◌∷◌, ◌++◌, append_assoc, append-nil, map, take, drop, length, refl, ap, sym, ◌∙◌, arith}
+use Rattle.std.proofs.Common.{◌≡◌, ℕ, ◌+◌, ◌-◌, ◌≤◌, Bool, true, false, cond, None, List, [], ◌∷◌, ◌++◌, append_assoc, append-nil, map, take, drop, length, ap, sym, ◌∙◌, arith}
 use Rattle.std.proofs.lemmas.List.{drop-drop, drop_all, length-drop, take_rest}
 use Rattle.std.proofs.lemmas.List.Sums.{take_while-cons}
 use Rattle.tx_char.specs.declared.category.Cat.{Cat}
@@ -10,8 +10,8 @@ use Rattle.tx_lex.specs.Characters.{characters}
 use Rattle.tx_lex.specs.Notation.{Seen, reduction}
 use Rattle.std.specs.Prelude.{take_while}
 use Rattle.tx_char.specs.declared.tokens.Token.TheVariants.{Name}
-use Rattle.tx_lex.specs.declared.types.ReadState.TheVariants.{M, S}
-use Rattle.tx_lex.specs.Reading.{Reading, Read, behind_letters, is_dropped, is_letter, kept, letters, name_reading, skip_while, unread, word_reading}
+use Rattle.tx_lex.specs.declared.types.ReadState.TheVariants.{S}
+use Rattle.tx_lex.specs.Reading.{Read, behind_letters, is_dropped, is_letter, kept, letters, name_reading, skip_while, unread, word_reading}
 use Rattle.tx_lex.specs.Steps.{IsDenoted, IsReadFrom, IsKeptFrom, seen_at}
 use Rattle.tx_lex.proofs.CharacterLaws.{characters-nil, characters-plain, characters-reduced}
 
@@ -63,10 +63,10 @@ pub record Skipping (codes : List Cat) (state : ReadState) (line bytes : List �
 pub skipping-begin : {codes : List Cat} (state : ReadState) {line bytes : List ℕ} {now : Character} → IsReadFrom codes line bytes now → Skipping codes state line bytes now
 skipping-begin {codes} state r = record { same = ap (skip_while (drops codes state)) r.first; within = r.within }
 
-skip_while-dropped : {X : Type 0} (p : X → Bool) (x : X) (xs : List X) → p x ≡ true → skip_while p (x ∷ xs) ≡ skip_while p xs
+pub skip_while-dropped : {X : Type 0} (p : X → Bool) (x : X) (xs : List X) → p x ≡ true → skip_while p (x ∷ xs) ≡ skip_while p xs
 skip_while-dropped p x xs h = ap (λ t. cond t (skip_while p xs) (x ∷ xs)) h
 
-skip_while-kept : {X : Type 0} (p : X → Bool) (x : X) (xs : List X) → p x ≡ false → skip_while p (x ∷ xs) ≡ x ∷ xs
+pub skip_while-kept : {X : Type 0} (p : X → Bool) (x : X) (xs : List X) → p x ≡ false → skip_while p (x ∷ xs) ≡ x ∷ xs
 skip_while-kept p x xs h = ap (λ t. cond t (skip_while p xs) (x ∷ xs)) h
 
 pub skipping-on : {codes : List Cat} {state : ReadState} {line bytes : List ℕ} {now found : Character} → Skipping codes state line bytes now → is_dropped state (category codes now.code) ≡ true → IsReadFrom codes (drop now.next bytes) bytes found → Skipping codes state line bytes found
@@ -96,12 +96,12 @@ pub record Spelling (codes : List Cat) (line : List ℕ) (begin : ℕ) (name : L
   pub spelled : letters codes (characters codes (drop begin line)) ≡ name ++ letters codes (characters codes (drop place line))
   pub behind : behind_letters codes (characters codes (drop begin line)) ≡ behind_letters codes (characters codes (drop place line))
 
-letters-more : (codes : List Cat) (seen : Seen) (more : List Seen) → is_letter (category codes seen.code) ≡ true → letters codes (seen ∷ more) ≡ seen.code ∷ letters codes more
+pub letters-more : (codes : List Cat) (seen : Seen) (more : List Seen) → is_letter (category codes seen.code) ≡ true → letters codes (seen ∷ more) ≡ seen.code ∷ letters codes more
 letters-more codes seen more h =
     let tested : Seen → Bool = λ s. is_letter (category codes s.code) in
     ap (map (λ s. s.code)) (take_while-cons tested seen more ∙ ap (λ t. cond t (seen ∷ take_while tested more) []) h)
 
-letters-over : (codes : List Cat) (seen : Seen) (more : List Seen) → is_letter (category codes seen.code) ≡ false → letters codes (seen ∷ more) ≡ []
+pub letters-over : (codes : List Cat) (seen : Seen) (more : List Seen) → is_letter (category codes seen.code) ≡ false → letters codes (seen ∷ more) ≡ []
 letters-over codes seen more h =
     let tested : Seen → Bool = λ s. is_letter (category codes s.code) in
     ap (map (λ s. s.code)) (take_while-cons tested seen more ∙ ap (λ t. cond t (seen ∷ take_while tested more) []) h)
@@ -117,23 +117,14 @@ spelling-on {codes} {line} {begin} {name} {place} {found} s r letter =
           ∙ ap unread (skip_while-dropped (λ seen. is_letter (category codes seen.code)) (seen_at line found) more letter);
     }
 
-reading-word : {codes : List Cat} {line : List ℕ} {begin : ℕ} {name : List ℕ} {place : ℕ} (seen : List Seen) (rest : List ℕ) → Spelling codes line begin name place → characters codes (drop place line) ≡ seen → letters codes seen ≡ [] → behind_letters codes seen ≡ rest → Read (Name name) rest S ≡ word_reading codes (characters codes (drop begin line))
-reading-word {codes} {line} {begin} {name} {place} seen rest s is none stays =
-    let spelled : letters codes (characters codes (drop begin line)) ≡ name =
-    s.spelled ∙ ap (λ xs. name ++ letters codes xs) is ∙ ap (λ xs. name ++ xs) none ∙ append-nil name in
-    let behind : behind_letters codes (characters codes (drop begin line)) ≡ rest =
-    s.behind ∙ ap (behind_letters codes) is ∙ stays in
-    cc
-
-pub spelling-over : {codes : List Cat} {line : List ℕ} {begin : ℕ} {name : List ℕ} {place : ℕ} {found : Character} → Spelling codes line begin name place → IsReadFrom codes (drop place line) line found → is_letter (category codes found.code) ≡ false → Read (Name name) (found.code ∷ drop found.next line) S ≡ word_reading codes (characters codes (drop begin line))
-spelling-over {codes} {line} {begin} {name} {place} {found} s r other =
-    let more : List Seen = characters codes (drop found.next line) in
-    reading-word (seen_at line found ∷ more) _ s r.first (letters-over codes (seen_at line found) more other)
-    (ap unread (skip_while-kept (λ seen. is_letter (category codes seen.code)) (seen_at line found) more other))
-
+-- at the line's end the name is whole
 pub spelling-end : {codes : List Cat} {line : List ℕ} {begin : ℕ} {name : List ℕ} {place : ℕ} → Spelling codes line begin name place → length line ≤ place → Read (Name name) (drop (length line) line) S ≡ word_reading codes (characters codes (drop begin line))
 spelling-end {codes} {line} {begin} {name} {place} s past =
-    reading-word [] _ s (ap (characters codes) (drop_all place line past) ∙ characters-nil codes) refl (sym (drop_all (length line) line (omega arith)))
+    let is : characters codes (drop place line) ≡ [] = ap (characters codes) (drop_all place line past) ∙ characters-nil codes in
+    let spelled : letters codes (characters codes (drop begin line)) ≡ name = s.spelled ∙ ap (λ seen. name ++ letters codes seen) is ∙ append-nil name in
+    let behind : behind_letters codes (characters codes (drop begin line)) ≡ [] = s.behind ∙ ap (behind_letters codes) is in
+    let none : drop (length line) line ≡ [] = drop_all (length line) line (omega arith) in
+    cc
 
 -- at the line's end the name is empty
 pub reading-no_name : (codes : List Cat) (state : ReadState) (line : List ℕ) (place : ℕ) → length line ≤ place → Read (Name []) (drop (length line) line) state ≡ name_reading codes state (characters codes (drop place line))

@@ -3,3 +3,4 @@ pub mod Notation
 pub mod Characters
 pub mod Reading
 pub mod Steps
+pub mod Rules

@@ -1,5 +1,5 @@
 -- The line that TeX sees (The TeXbook, chapter 8; TeX: The Program, sections 31 and 362).
-use Rattle.std.specs.Prelude.{ℕ, Bool, Option, List, [], ◌∷◌, ◌++◌, ◌==◌, ◌-◌, length, take, nat_eq, if◌then◌else◌}
+use Rattle.std.specs.Prelude.{ℕ, Option, List, [], ◌∷◌, ◌++◌, ◌==◌, ◌-◌, length, take, nat_eq, if◌then◌else◌}
 use Rattle.std.specs.List.{ends_with, list_all}
 use Rattle.std.specs.Option.{option_to_list}
 

@@ -9,14 +9,16 @@ pub record Seen : Type 0 where
   pub code : ℕ
   pub rest : List ℕ
 
+-- whether a category is Superscript, 7
 abbrev pub is_superscript : Cat → Bool
 is_superscript Superscript = true
 is_superscript _ = false
 
--- the hexadecimal digits 0 to 9 and a to f; A to F are none
+-- whether a code is that of a hexadecimal digit: 0 to 9 or a to f; A to F are none
 abbrev pub is_hex_digit : ℕ → Bool
 is_hex_digit c = (nat_le 48 c && nat_le c 57) || (nat_le 97 c && nat_le c 102)
 
+-- the value of such a digit
 abbrev pub hex_value : ℕ → ℕ
 hex_value c = if nat_le c 57 then c - 48 else c - 87
 

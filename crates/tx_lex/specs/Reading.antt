@@ -1,5 +1,5 @@
 -- What TeX reads at the front of a line (TeX: The Program, sections 343 to 356; The TeXbook, chapters 7 and 8).
-use Rattle.std.specs.Prelude.{ℕ, ◌≤◌, Bool, true, false, Option, List, [], ◌∷◌, ◌++◌, drop, length, map, take_while, if◌then◌else◌}
+use Rattle.std.specs.Prelude.{ℕ, ◌≤◌, Bool, true, false, List, [], ◌∷◌, ◌++◌, drop, length, map, take_while, if◌then◌else◌}
 use Rattle.std.specs.Option.{option_to_list}
 use Rattle.tx_char.specs.declared.category.Cat.{Cat}
 use Rattle.tx_char.specs.declared.category.Cat.TheVariants.{Escape, EndOfLine, Ignored, Space, Letter, Comment, Invalid}
@@ -26,6 +26,7 @@ is_dropped M Space = false
 is_dropped state Space = true
 is_dropped state _ = false
 
+-- whether a category is Letter, 11
 abbrev pub is_letter : Cat → Bool
 is_letter Letter = true
 is_letter _ = false
@@ -34,7 +35,7 @@ is_letter _ = false
 abbrev pub space : Token
 space = Character 32 Space
 
--- the name `par`
+-- the name \par
 abbrev pub par : Token
 par = Name (112 ∷ 97 ∷ 114 ∷ [])
 
@@ -83,7 +84,7 @@ end_reading N = Read par [] N
 end_reading M = Read space [] M
 end_reading S = Nothing
 
--- what a character gives by its category, where it is not dropped
+-- what a character gives by its category, where it is not dropped; the last case is for all categories not named before
 abbrev pub category_reading : List Cat → ReadState → Seen → List Seen → Cat → Reading
 category_reading codes state seen more Escape = name_reading codes state more
 category_reading codes state seen more EndOfLine = end_reading state

@@ -3,6 +3,7 @@ ghost use Rattle.std.specs.Prelude.{◌≡◌, ◌≤◌, ◌++◌, length, None
 ghost use Rattle.std.specs.Option.{option_to_list};
 ghost use Rattle.tx_char.specs.declared.tokens.Token.TheVariants.{Character};
 ghost use Rattle.tx_lex.specs.declared.types.Lexed.TheVariants.{Token as Lexed_token};
+ghost use Rattle.tx_lex.specs.Rules.{IsReading};
 ghost use Rattle.tx_lex.specs.Reading.{IsWithin, end_reading, meant, reading};
 
 use crate::characters::first_kept;
@@ -16,6 +17,7 @@ use tx_char::{Cat, Codes, ControlName, Token};
 /// memory.
 pub fn lex(alloc: Global, rest: &[u8], state: ReadState, codes: &Codes) -> Result<Lexed, AllocError>
     ensures reading { IfOk result (λ lexed. meant rest.now lexed ≡ reading codes.now state rest.now) }
+    ensures rules { IfOk result (λ lexed. IsReading codes.now state rest.now (meant rest.now lexed)) }
     ensures within { IfOk result (λ lexed. IsWithin rest.now lexed) }
 {
     lex_on(alloc, None, rest, state, codes)

@@ -1,7 +1,7 @@
 //! TeX's eyes: the line that TeX sees of the bytes of a file, and one line to tokens (TeX: The Program, part 24; The
 //! TeXbook, chapters 7 and 8).
 //!
-//! Read `line`, `types`, `notation`, `characters`, `names`, then `lexer`.
+//! Read `line`, `types`, `notation`, `characters`, `names`, `lexer`, then `rules`.
 #![tactic(auto)]
 
 mod characters;
@@ -9,10 +9,12 @@ mod lexer;
 mod line;
 mod names;
 mod notation;
+mod rules;
 #[cfg(test)]
 mod tests;
 mod types;
 
 pub use lexer::{lex, lex_on};
 pub use line::line_text;
+pub use rules::the_rules_leave_no_choice;
 pub use types::{Lexed, ReadState};

@@ -81,9 +81,8 @@ fn is_letter_category(category: Cat) -> bool
 fn state_behind(category: Cat) -> ReadState
     ensures { result ≡ state_after category }
 {
-    if matches!(category, Cat::Space) {
-        ReadState::S
-    } else {
-        ReadState::M
+    match category {
+        Cat::Space => ReadState::S,
+        _ => ReadState::M,
     }
 }

@@ -1,5 +1,5 @@
 -- The commands, as tokens at the front of a list (TeX: The Program, part 46 on; The TeXbook, chapters 24 to 26).
-use Rattle.std.specs.Prelude.{ℕ, ◌<◌, Bool, true, false, nat_lt, ℤ, pos, negsuc, List, [], ◌∷◌, Option, Some, None, if◌then◌else◌}
+use Rattle.std.specs.Prelude.{ℕ, Bool, true, false, nat_lt, ℤ, pos, negsuc, List, [], ◌∷◌, Option, Some, None, if◌then◌else◌}
 use Rattle.tx_char.specs.declared.category.Cat.{Cat}
 use Rattle.tx_char.specs.declared.category.Cat.TheVariants.{BeginGroup as Cat_begin, EndGroup as Cat_end, AlignmentTab, Space as Cat_space, Letter, Other, Active}
 use Rattle.tx_char.specs.declared.tokens.Token.{Token}

@@ -1,5 +1,5 @@
 -- Dimensions (The TeXbook, chapter 10 and 24; TeX: The Program, sections 448 to 458).
-use Rattle.std.specs.Prelude.{ℕ, zero, suc, ◌+◌, ◌*◌, Bool, true, false, nat_le, ℤ, List, [], ◌∷◌, ◌++◌, Option, Some, None, if◌then◌else◌}
+use Rattle.std.specs.Prelude.{ℕ, ◌+◌, Bool, false, nat_le, ℤ, List, [], ◌∷◌, ◌++◌, Option, Some, None, if◌then◌else◌}
 use Rattle.tx_num.specs.Fractions.{signed}
 use Rattle.tx_num.specs.Decimals.{fraction_of}
 use Rattle.tx_num.specs.Units.{size_of}

@@ -5,3 +5,15 @@ pub mod Numbers
 pub mod Dimensions
 pub mod Rules
 pub mod Commands
+pub mod Keywords
+pub mod Rests
+pub mod Begun
+pub mod Taken
+pub mod Boxes
+pub mod Bodies
+pub mod Lines
+pub mod State
+pub mod Effects
+pub mod Turns
+pub mod Meanings
+pub mod Lawful

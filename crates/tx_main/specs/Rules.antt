@@ -5,7 +5,7 @@ use Rattle.tx_main.specs.declared.types.Rule.{Rule}
 use Rattle.tx_main.specs.declared.types.Side.{Side}
 use Rattle.tx_main.specs.declared.types.Side.TheVariants.{Width, Height, Depth}
 use Rattle.tx_main.specs.Tokens.{is_space, is_key}
-use Rattle.tx_main.specs.Scans.{Scan, More, Done, Wrong, next, expanded}
+use Rattle.tx_main.specs.Scans.{Scan, More, Done, next, expanded}
 use Rattle.tx_main.specs.Dimensions.{dimension}
 
 -- the letters of a keyword; where they aren't there, all tokens from its first letter on are behind

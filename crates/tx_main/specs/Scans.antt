@@ -1,5 +1,5 @@
 -- Reading one thing off the tokens at the front of a list (TeX: The Program, part 26).
-use Rattle.std.specs.Prelude.{Bool, List, [], ◌∷◌, if◌then◌else◌}
+use Rattle.std.specs.Prelude.{List, [], ◌∷◌, if◌then◌else◌}
 use Rattle.tx_char.specs.declared.tokens.Token.{Token}
 use Rattle.tx_main.specs.declared.error.TexError.{TexError}
 use Rattle.tx_main.specs.declared.error.TexError.TheVariants.{Undefined}

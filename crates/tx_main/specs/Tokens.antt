@@ -1,8 +1,7 @@
 -- What tokens are to the commands that read them.
-use Rattle.std.specs.Prelude.{ℕ, ◌+◌, ◌-◌, ◌==◌, ◌&&◌, ◌||◌, Bool, true, false, not, nat_le, List, [], ◌∷◌, Option, Some, None, is_none, codes, if◌then◌else◌}
+use Rattle.std.specs.Prelude.{ℕ, ◌+◌, ◌-◌, ◌==◌, ◌&&◌, ◌||◌, Bool, true, false, nat_le, List, Option, Some, None, is_none, codes, if◌then◌else◌}
 use Rattle.std.specs.Str.{bytes_eq}
-use Rattle.tx_char.specs.declared.category.Cat.{Cat}
-use Rattle.tx_char.specs.declared.category.Cat.TheVariants.{BeginGroup, EndGroup, Space, Letter, Other, Active}
+use Rattle.tx_char.specs.declared.category.Cat.TheVariants.{BeginGroup, Space, Other, Active}
 use Rattle.tx_char.specs.declared.tokens.Token.{Token}
 use Rattle.tx_char.specs.declared.tokens.Token.TheVariants.{Character, Name}
 use Rattle.tx_main.specs.declared.types.Primitive.{Primitive}

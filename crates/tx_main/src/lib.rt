@@ -1,9 +1,35 @@
 //! TeX as a machine: a state, and turns that each do one piece of due work, ask for a line, or take one token.
 //!
-//! Read `error` and `types`; the mouth's part: `tokens`, `integer`, `dimension`, `rule`, `command`; then the stomach's.
+//! Read `error` and `types`; how commands are taken off tokens: `tokens`, `scans`, `integer`, `dimension`, `rule`,
+//! `command`; what they build: `nodes`, `pack`, `ship`; then `parts`, `line`, `state`, `effects`, `turn` and `machine`.
 #![tactic(auto)]
 
+mod back;
+mod command;
+mod dimension;
+mod effects;
 mod error;
+mod fraction;
+mod groups;
+mod integer;
+mod keyword;
+mod line;
+mod machine;
+mod nodes;
+mod pack;
+mod parts;
+mod rule;
+#[cfg(test)]
+mod scan_tests;
+mod scans;
+mod ship;
+mod stage;
+mod state;
+mod token_list;
+mod tokens;
+mod turn;
 mod types;
 
 pub use error::TexError;
+pub use machine::Tex;
+pub use state::State;

@@ -16,9 +16,9 @@ pub enum Primitive {
 /// A rule: its sides in sp. A side that isn't given runs as far as the box that the rule stands in.
 #[derive(Clone, Copy, Debug, PartialEq, Eq)]
 pub struct Rule {
-    pub width: i64,
-    pub height: Option<i64>,
-    pub depth: Option<i64>,
+    pub width: i32,
+    pub height: Option<i32>,
+    pub depth: Option<i32>,
 }
 
 /// A side of a rule.
@@ -44,7 +44,7 @@ pub enum Command {
     /// `\catcode`: a character code and the number of its new category.
     Catcode(u8, u8),
     /// `\kern`, in sp.
-    Kern(i64),
+    Kern(i32),
     /// `\vrule`.
     Vrule(Rule),
     /// `\shipout\hbox` and its begin-group token.

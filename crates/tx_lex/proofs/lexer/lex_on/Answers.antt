@@ -1,4 +1,4 @@
-use Rattle.std.proofs.Common.{ap, sym, ◌∙◌}
+use Rattle.std.proofs.Common.{ap, ◌∙◌}
 use Rattle.tx_char.specs.declared.category.Cat.TheVariants.{Escape, EndOfLine, Space, Comment, Invalid}
 use Rattle.tx_lex.specs.Reading.{meant}
 use Rattle.tx_lex.proofs.Readings.{meaning-along, reading-first, reading-nothing, reading-plain}

@@ -1,0 +1,85 @@
+-- TeX keeps the laws of every machine.
+use Rattle.std.specs.Prelude.{◌≡◌, ◌≤◌, List, [], ◌∷◌, ◌++◌, Option, Some, None, refl}
+use Rattle.std.proofs.Common.{arith}
+use Rattle.tx_char.specs.declared.tokens.Token.{Token}
+use Rattle.tx_dvi.specs.Page.{Page}
+use Rattle.tx_lex.specs.Reading.{Reading, Read, Nothing as Nothing_read, Refused, reading}
+use Rattle.tx_machine.specs.declared.types.AskKind.{AskKind}
+use Rattle.tx_machine.specs.declared.types.Reply.{Reply}
+use Rattle.tx_machine.specs.Machine.{Stepped, IsLawful, Ready, Awaits, mode_after}
+use Rattle.tx_main.specs.declared.parts.Due.{Due}
+use Rattle.tx_main.specs.declared.parts.Due.TheVariants.{Nothing, OpenMain, MainAbsent, FileEnded, MainClosed, Ship}
+use Rattle.tx_main.specs.declared.types.Command.{Command}
+use Rattle.tx_main.specs.Bodies.{page_of}
+use Rattle.tx_main.specs.Commands.{command}
+use Rattle.tx_main.specs.Effects.{Effect, Leaves, Fails, Ends, effect}
+use Rattle.tx_main.specs.Scans.{Scan, More, Done, Wrong}
+use Rattle.tx_main.specs.State.{TexState, Meaning, Runs, Waits, Stops, mode_of}
+use Rattle.tx_main.specs.Turns.{tex, cost, due_cost, step, works, reads, line_read, scanned, effected, ships, takes}
+
+-- the mode after a turn is that of its event
+abbrev Leads : Stepped Meaning → Type 0
+Leads t = mode_of t.next ≡ mode_after t.event
+
+effect-leads : (e : Effect) → Leads (effected e)
+effect-leads (Leaves s said) = refl
+effect-leads (Fails error) = refl
+effect-leads Ends = refl
+
+scan-leads : (s : TexState) (tokens : List Token) (scan : Scan Command) → Leads (scanned s tokens scan)
+scan-leads s tokens More = refl
+scan-leads s tokens (Wrong error) = refl
+scan-leads s tokens (Done c behind) = effect-leads (effect (record s { taken = []; back = behind ++ s.back }) c)
+
+line-leads : (s : TexState) (r : Reading) → Leads (line_read s r)
+line-leads s (Read t rest state) = scan-leads (record s { line = record { rest = rest; state = state } }) _ (command s.horizontal (s.taken ++ t ∷ []))
+line-leads s Nothing_read = refl
+line-leads s Refused = refl
+
+reads-leads : (s : TexState) (back : List Token) → Leads (reads s back)
+reads-leads s [] = line-leads s (reading s.codes s.line.state s.line.rest)
+reads-leads s (t ∷ back) = scan-leads (record s { back = back }) _ (command s.horizontal (s.taken ++ t ∷ []))
+
+ships-leads : (s : TexState) (page : Option Page) → Leads (ships s page)
+ships-leads s None = refl
+ships-leads s (Some page) = refl
+
+works-leads : (s : TexState) (due : Due) → Leads (works s due)
+works-leads s Nothing = reads-leads s s.back
+works-leads s (OpenMain name) = refl
+works-leads s MainAbsent = refl
+works-leads s FileEnded = refl
+works-leads s MainClosed = refl
+works-leads s (Ship box) = ships-leads (record s { due = Nothing }) (page_of s.date box)
+
+step-leads : (m : Meaning) → Leads (step m)
+step-leads (Runs s) = works-leads s s.due
+step-leads (Waits kind s) = refl
+step-leads Stops = refl
+
+due-costs : (due : Due) → 1 ≤ due_cost due
+due-costs Nothing = omega arith
+due-costs (OpenMain name) = omega arith
+due-costs MainAbsent = omega arith
+due-costs FileEnded = omega arith
+due-costs MainClosed = omega arith
+due-costs (Ship box) = omega arith
+
+turn-costs : (m : Meaning) → 1 ≤ cost m
+turn-costs (Runs s) = due-costs s.due
+turn-costs (Waits kind s) = omega arith
+turn-costs Stops = omega arith
+
+reply-leads : (m : Meaning) (kind : AskKind) (reply : Reply) → mode_of m ≡ Awaits kind → mode_of (takes m reply) ≡ Ready
+reply-leads (Runs s) kind reply waits = refl
+reply-leads (Waits other s) kind reply waits = refl
+reply-leads Stops kind reply waits = absurd (cc)
+
+pub tex-lawful : IsLawful tex
+unfolding tex
+tex-lawful = record {
+  begins = λ date name. refl;
+  costs = turn-costs;
+  turns = λ m ready. step-leads m;
+  takes = λ m kind reply waits fit. reply-leads m kind reply waits;
+}

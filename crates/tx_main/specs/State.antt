@@ -1,0 +1,66 @@
+-- What TeX's state means: plain data (TeX: The Program, parts 15, 19 and 22).
+use Rattle.std.specs.Prelude.{ℕ, Bool, false, List, []}
+use Rattle.tx_char.specs.declared.category.Cat.{Cat}
+use Rattle.tx_char.specs.declared.tokens.Token.{Token}
+use Rattle.tx_char.specs.Category.{initial_codes}
+use Rattle.tx_lex.specs.declared.types.ReadState.TheVariants.{N}
+use Rattle.tx_dvi.specs.declared.page.DateParameters.{DateParameters}
+use Rattle.tx_machine.specs.declared.types.Date.{Date}
+use Rattle.tx_machine.specs.declared.types.AskKind.{AskKind}
+use Rattle.tx_machine.specs.Machine.{Mode, Ready, Awaits, Halted as Mode_halted}
+use Rattle.tx_main.specs.Bodies.{date_parameters}
+use Rattle.tx_main.specs.Lines.{Line}
+use Rattle.tx_main.specs.declared.nodes.Node.{Node}
+use Rattle.tx_main.specs.declared.parts.Due.{Due}
+use Rattle.tx_main.specs.declared.parts.Due.TheVariants.{OpenMain}
+use Rattle.tx_main.specs.declared.parts.Group.{Group}
+use Rattle.tx_main.specs.declared.parts.Phase.{Phase}
+use Rattle.tx_main.specs.declared.parts.Phase.TheVariants.{Running, Waiting, Halted}
+
+-- all that the next turns can depend on
+pub record TexState : Type 0 where
+  -- the piece of work that comes first
+  pub due : Due
+  -- the line, and the tokens that were given back and are read before it
+  pub line : Line
+  pub back : List Token
+  -- the tokens that the open command has taken
+  pub taken : List Token
+  -- whether the list that is being built is horizontal, and the list
+  pub horizontal : Bool
+  pub list : List Node
+  -- the open groups, the innermost last, and the category codes
+  pub groups : List Group
+  pub codes : List Cat
+  -- \year, \month, \day and \time
+  pub date : DateParameters
+
+-- a state as the outside sees it: ready for a turn, waiting for a reply, or done for; of the last nothing else matters
+pub data Meaning : Type 0 where
+  Runs : TexState → Meaning
+  Waits : AskKind → TexState → Meaning
+  Stops : Meaning
+
+abbrev pub meaning_in : Phase → TexState → Meaning
+meaning_in Running s = Runs s
+meaning_in (Waiting kind) s = Waits kind s
+meaning_in Halted s = Stops
+
+abbrev pub mode_of : Meaning → Mode
+mode_of (Runs s) = Ready
+mode_of (Waits kind s) = Awaits kind
+mode_of Stops = Mode_halted
+
+-- the first state of a run: the main file is to be asked for, and there is no line yet
+abbrev pub first_state : Date → List ℕ → TexState
+first_state date main = record {
+  due = OpenMain main;
+  line = record { rest = []; state = N };
+  back = [];
+  taken = [];
+  horizontal = false;
+  list = [];
+  groups = [];
+  codes = initial_codes;
+  date = date_parameters date;
+}

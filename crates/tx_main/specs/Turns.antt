@@ -1,0 +1,112 @@
+-- One turn of TeX: due work, the ask for a line, or one token (TeX: The Program, sections 1030, 343 and 360).
+use Rattle.std.specs.Prelude.{ℕ, ◌+◌, ◌-◌, ◌^◌, min, List, [], ◌∷◌, ◌++◌, length, Option, Some, None}
+use Rattle.tx_char.specs.declared.tokens.Token.{Token}
+use Rattle.tx_dvi.specs.Page.{Page}
+use Rattle.tx_lex.specs.declared.types.ReadState.TheVariants.{N}
+use Rattle.tx_lex.specs.Line.{seen_line}
+use Rattle.tx_lex.specs.Reading.{Reading, Read, Nothing as Nothing_read, Refused, reading}
+use Rattle.tx_machine.specs.declared.types.AskKind.{AskKind}
+use Rattle.tx_machine.specs.declared.types.AskKind.TheVariants.{Open as Opening, Line as ReadingOn, Close as Closing}
+use Rattle.tx_machine.specs.declared.types.Ask.{Ask}
+use Rattle.tx_machine.specs.declared.types.Ask.TheVariants.{Open, Line, Close}
+use Rattle.tx_machine.specs.declared.types.Reply.{Reply}
+use Rattle.tx_machine.specs.declared.types.Reply.TheVariants.{Absent, Line as ReplyLine, Ended, Closed}
+use Rattle.tx_machine.specs.declared.types.Event.TheVariants.{Went, Asks, Shipped, Stopped}
+use Rattle.tx_machine.specs.declared.types.Stop.TheVariants.{End, Error}
+use Rattle.tx_machine.specs.Machine.{Formatter, Stepped, kind_of}
+use Rattle.tx_main.specs.declared.error.TexError.{TexError}
+use Rattle.tx_main.specs.declared.error.TexError.TheVariants.{InvalidCharacter, SizeOutOfRange, FileAbsent, NoEnd}
+use Rattle.tx_main.specs.declared.parts.Due.{Due}
+use Rattle.tx_main.specs.declared.parts.Due.TheVariants.{Nothing, OpenMain, MainAbsent, FileEnded, MainClosed, Ship}
+use Rattle.tx_main.specs.declared.types.Command.{Command}
+use Rattle.tx_main.specs.Bodies.{page_of}
+use Rattle.tx_main.specs.Commands.{command}
+use Rattle.tx_main.specs.Effects.{Effect, Leaves, Fails, Ends, effect}
+use Rattle.tx_main.specs.Errors.{number_of}
+use Rattle.tx_main.specs.Scans.{Scan, More, Done, Wrong}
+use Rattle.tx_main.specs.State.{TexState, Meaning, Runs, Waits, Stops, mode_of, first_state}
+
+-- the turn goes on, with these bytes for the transcript
+abbrev pub goes : TexState → List ℕ → Stepped Meaning
+goes s said = record { event = Went; next = Runs s; said = said }
+
+-- the turn ends with an ask
+abbrev pub asks : TexState → Ask → Stepped Meaning
+asks s ask = record { event = Asks ask; next = Waits (kind_of ask) s; said = [] }
+
+-- the turn ends the run by an error
+abbrev pub fails : TexError → Stepped Meaning
+fails error = record { event = Stopped (Error (number_of error)); next = Stops; said = [] }
+
+-- what comes of a command's effect
+abbrev pub effected : Effect → Stepped Meaning
+effected (Leaves s said) = goes s said
+effected (Fails error) = fails error
+effected Ends = record { event = Stopped End; next = Stops; said = [] }
+
+-- what comes of these tokens: the command goes on, or is wrong, or takes effect, and what it didn't need is read again
+abbrev pub scanned : TexState → List Token → Scan Command → Stepped Meaning
+scanned s tokens More = goes (record s { taken = tokens }) []
+scanned s tokens (Wrong error) = fails error
+scanned s tokens (Done c behind) = effected (effect (record s { taken = []; back = behind ++ s.back }) c)
+
+-- a token joins those that the open command has taken
+abbrev pub taking : TexState → Token → Stepped Meaning
+taking s t = scanned s (s.taken ++ t ∷ []) (command s.horizontal (s.taken ++ t ∷ []))
+
+-- what the line gives; a line with nothing left but dropped characters is used up
+abbrev pub line_read : TexState → Reading → Stepped Meaning
+line_read s (Read t rest state) = taking (record s { line = record { rest = rest; state = state } }) t
+line_read s Nothing_read = asks s Line
+line_read s Refused = fails InvalidCharacter
+
+-- tokens that were given back come before the line
+abbrev pub reads : TexState → List Token → Stepped Meaning
+reads s [] = line_read s (reading s.codes s.line.state s.line.rest)
+reads s (t ∷ back) = taking (record s { back = back }) t
+
+-- shipping a box
+abbrev pub ships : TexState → Option Page → Stepped Meaning
+ships s None = fails SizeOutOfRange
+ships s (Some page) = record { event = Shipped page; next = Runs s; said = [] }
+
+-- due work comes first
+abbrev pub works : TexState → Due → Stepped Meaning
+works s Nothing = reads s s.back
+works s (OpenMain name) = asks (record s { due = Nothing }) (Open name)
+works s MainAbsent = fails FileAbsent
+works s FileEnded = asks (record s { due = Nothing }) Close
+works s MainClosed = fails NoEnd
+works s (Ship box) = ships (record s { due = Nothing }) (page_of s.date box)
+
+-- one turn
+abbrev pub step : Meaning → Stepped Meaning
+step (Runs s) = works s s.due
+step (Waits kind s) = fails NoEnd
+step Stops = fails NoEnd
+
+-- shipping costs the nodes of the box and the box; all else costs 1
+abbrev pub due_cost : Due → ℕ
+due_cost (Ship box) = min (length box.list + 1) (2 ^ 64 - 1)
+due_cost _ = 1
+
+abbrev pub cost : Meaning → ℕ
+cost (Runs s) = due_cost s.due
+cost _ = 1
+
+-- what a reply brings: a line, or due work
+abbrev pub replied : TexState → AskKind → Reply → TexState
+replied s Opening Absent = record s { due = MainAbsent }
+replied s ReadingOn (ReplyLine bytes) = record s { line = record { rest = seen_line bytes (Some 13); state = N } }
+replied s ReadingOn Ended = record s { due = FileEnded }
+replied s Closing Closed = record s { due = MainClosed }
+replied s kind reply = s
+
+abbrev pub takes : Meaning → Reply → Meaning
+takes (Waits kind s) reply = Runs (replied s kind reply)
+takes (Runs s) reply = Runs s
+takes Stops reply = Stops
+
+-- TeX as a machine
+unfoldable pub tex : Formatter Meaning
+tex = record { start = λ date main. Runs (first_state date main); cost = cost; step = step; take = takes; mode = mode_of }

@@ -1,0 +1,60 @@
+//! Tokens that were given back, and are read before the line (TeX: The Program, section 325).
+ghost use Rattle.std.specs.Prelude.{◌≡◌, ◌∷◌, ◌++◌, [], IfOk, OnOk, MatchOption};
+
+use crate::token_list::Tokens;
+use std::alloc::{AllocError, Global};
+use std::marker::Model;
+use tx_char::Token;
+
+/// Tokens that are read before the line. Contracts see them in the order in which they are read; the next one stands last
+/// in memory, so that it is taken at no cost.
+#[derive(Debug, Drop)]
+pub struct GivenBack {
+    stack: Vec<Token>,
+}
+
+impl Model for GivenBack {
+    ghost use Rattle.std.specs.Prelude.{List, reverse};
+    ghost use Rattle.tx_char.specs.declared.tokens.Token.{Token};
+
+    ghost Value = { List Token };
+
+    ghost view = { λ b. reverse b.stack.items };
+}
+
+impl GivenBack {
+    /// No tokens; takes no memory.
+    pub fn new(alloc: Global) -> GivenBack
+        ensures { result ≡ [] }
+    {
+        GivenBack {
+            stack: Vec::new(alloc),
+        }
+    }
+
+    /// Takes the next token, if there is one.
+    pub fn next(&mut self) -> Option<Token>
+        ensures { MatchOption result ((self.old ≡ []) × (self.new ≡ [])) (λ token. self.old ≡ token ∷ self.new) }
+    {
+        self.stack.pop()
+    }
+
+    /// Puts one token before the others. Its only error is want of memory.
+    fn give_one(&mut self, token: Token) -> Result<(), AllocError>
+        ensures { OnOk result (self.new ≡ token ∷ self.old) }
+    {
+        self.stack.push(token)?;
+        Ok(())
+    }
+
+    /// Puts these tokens before the others. Its only error is want of memory.
+    pub fn give(&mut self, tokens: Tokens) -> Result<(), AllocError>
+        ensures { OnOk result (self.new ≡ tokens ++ self.old) }
+    {
+        let mut tokens = tokens;
+        while let Some(token) = tokens.pop() {
+            self.give_one(token)?;
+        }
+        Ok(())
+    }
+}

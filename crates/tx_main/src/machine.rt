@@ -1,0 +1,77 @@
+//! TeX behind the seam.
+ghost use Rattle.std.specs.Prelude.{◌≡◌, List, ℕ};
+ghost use Rattle.tx_main.specs.State.{Meaning};
+ghost use Rattle.tx_main.specs.Meanings.{meaning_of};
+ghost use Rattle.tx_main.specs.Turns.{tex};
+ghost use Rattle.tx_main.specs.Lawful.{tex-lawful};
+
+use crate::back::GivenBack;
+use crate::command::CommandScan;
+use crate::groups::Groups;
+use crate::line::Line;
+use crate::nodes::Nodes;
+use crate::parts::{Due, Phase};
+use crate::ship::date_parameters;
+use crate::state::State;
+use crate::turn;
+use std::alloc::{AllocError, Global};
+use std::mem;
+use tx_bytes::Bytes;
+use tx_char::Codes;
+use tx_files::Name;
+use tx_machine::{Date, Event, Machine, Reply, Steps};
+
+/// TeX, begun as INITEX.
+#[derive(Clone, Copy, Debug)]
+pub struct Tex;
+
+impl Machine for Tex {
+    type State = State;
+
+    ghost Meaning = { Meaning };
+
+    ghost meaning = { meaning_of };
+
+    ghost pending = { λ s. s.said };
+
+    ghost formatter = { tex };
+
+    ghost lawful = { tex-lawful };
+
+    #[tactic(auto, unfolding(crate::specs::Turns::tex))]
+    fn start(&self, alloc: Global, date: &Date, main: &Name) -> Result<State, AllocError> {
+        Ok(State {
+            phase: Phase::Running,
+            due: Due::OpenMain(main.clone()?),
+            line: Line::none(alloc),
+            back: GivenBack::new(alloc),
+            scan: CommandScan::new(alloc, false),
+            list: Nodes::new(alloc),
+            groups: Groups::new(alloc),
+            codes: Codes::initex(alloc)?,
+            date: date_parameters(date),
+            said: Bytes::new(alloc),
+        })
+    }
+
+    #[tactic(auto, unfolding(crate::specs::Turns::tex))]
+    fn cost(&self, s: &State) -> u64 {
+        turn::cost(s)
+    }
+
+    #[tactic(auto, unfolding(crate::specs::Turns::tex))]
+    fn turn(&self, alloc: Global, s: &mut State, steps: &mut Steps) -> Result<Event, AllocError> {
+        steps.tick();
+        turn::turn(alloc, s)
+    }
+
+    #[tactic(auto, unfolding(crate::specs::Turns::tex))]
+    fn answer(&self, alloc: Global, s: &mut State, reply: &Reply) -> Result<(), AllocError> {
+        turn::answer(alloc, s, reply)
+    }
+
+    #[tactic(auto, unfolding(crate::specs::Turns::tex))]
+    fn take_said(&self, alloc: Global, s: &mut State) -> Bytes {
+        mem::replace(&mut s.said, Bytes::new(alloc))
+    }
+}

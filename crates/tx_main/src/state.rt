@@ -1,0 +1,25 @@
+//! TeX's state, in code.
+use crate::back::GivenBack;
+use crate::command::CommandScan;
+use crate::groups::Groups;
+use crate::line::Line;
+use crate::nodes::Nodes;
+use crate::parts::{Due, Phase};
+use tx_bytes::Bytes;
+use tx_char::Codes;
+use tx_dvi::DateParameters;
+
+/// All that the next turns depend on, and the bytes of the transcript that were not yet taken.
+#[derive(Drop)]
+pub struct State {
+    pub(crate) phase: Phase,
+    pub(crate) due: Due,
+    pub(crate) line: Line,
+    pub(crate) back: GivenBack,
+    pub(crate) scan: CommandScan,
+    pub(crate) list: Nodes,
+    pub(crate) groups: Groups,
+    pub(crate) codes: Codes,
+    pub(crate) date: DateParameters,
+    pub(crate) said: Bytes,
+}

@@ -1,0 +1,144 @@
+//! One turn: due work, the ask for a line, or one token (TeX: The Program, sections 1030, 343 and 360).
+ghost use Rattle.std.specs.Prelude.{◌≡◌, [], IfOk, OnOk};
+ghost use Rattle.tx_machine.specs.Machine.{kind_of, Ready};
+ghost use Rattle.tx_main.specs.Bodies.{page_of};
+ghost use Rattle.tx_main.specs.State.{Runs, mode_of};
+ghost use Rattle.tx_main.specs.Turns as turns;
+ghost use Rattle.tx_main.specs.Meanings.{IsStepped, meaning_of, state_of};
+
+use crate::effects::{carry_out, fail};
+use crate::error::TexError;
+use crate::line::{Line, LineToken};
+use crate::pack::PackedBox;
+use crate::parts::{Due, Phase};
+use crate::scans::Taken;
+use crate::ship::ship;
+use crate::state::State;
+use std::alloc::{AllocError, Global};
+use std::mem;
+use tx_char::Token;
+use tx_machine::{Ask, AskKind, Event, Reply};
+
+/// The turn ends with an ask.
+fn ask(s: &mut State, kind: AskKind, ask: Ask) -> Event
+    requires { kind ≡ kind_of ask }
+    ensures { IsStepped (turns.asks (state_of s.old) ask) result (meaning_of s.new) s.old.said s.new.said }
+{
+    s.phase = Phase::Waiting(kind);
+    Event::Asks(ask)
+}
+
+/// A token joins the open command.
+fn take(alloc: Global, s: &mut State, token: Token) -> Result<Event, AllocError>
+    requires { s.old.phase ≡ Phase.Running }
+    ensures { IfOk result (λ event. IsStepped (turns.taking (state_of s.old) token) event (meaning_of s.new) s.old.said s.new.said) }
+{
+    match s.scan.feed(alloc, token)? {
+        Taken::More => Ok(Event::Went),
+        Taken::Wrong(error) => Ok(fail(s, error)),
+        Taken::Whole(command, behind) => {
+            s.back.give(behind)?;
+            carry_out(alloc, s, command)
+        }
+    }
+}
+
+/// Reads a token off the line, or asks for the next line.
+fn read_line(alloc: Global, s: &mut State) -> Result<Event, AllocError>
+    requires { s.old.phase ≡ Phase.Running }
+    ensures { IfOk result (λ event. IsStepped (turns.reads (state_of s.old) []) event (meaning_of s.new) s.old.said s.new.said) }
+{
+    match s.line.next(alloc, &s.codes)? {
+        LineToken::Token(token) => take(alloc, s, token),
+        LineToken::UsedUp => Ok(ask(s, AskKind::Line, Ask::Line)),
+        LineToken::Invalid => Ok(fail(s, TexError::InvalidCharacter)),
+    }
+}
+
+/// Reads a token: one that was given back, or else one of the line.
+fn read(alloc: Global, s: &mut State) -> Result<Event, AllocError>
+    requires { s.old.phase ≡ Phase.Running }
+    ensures { IfOk result (λ event. IsStepped (turns.reads (state_of s.old) s.old.back) event (meaning_of s.new) s.old.said s.new.said) }
+{
+    match s.back.next() {
+        Some(token) => take(alloc, s, token),
+        None => read_line(alloc, s),
+    }
+}
+
+/// Ships a box.
+fn ship_box(alloc: Global, s: &mut State, shipped: &PackedBox) -> Result<Event, AllocError>
+    requires { s.old.phase ≡ Phase.Running }
+    ensures { IfOk result (λ event. IsStepped (turns.ships (state_of s.old) (page_of s.old.date shipped.now)) event (meaning_of s.new) s.old.said s.new.said) }
+{
+    match ship(alloc, s.date, shipped.as_box())? {
+        Some(page) => Ok(Event::Shipped(page)),
+        None => Ok(fail(s, TexError::SizeOutOfRange)),
+    }
+}
+
+/// What the next turn costs: shipping a box, the box and its nodes; all else 1.
+pub fn cost(s: &State) -> u64
+    ensures { result ≡ turns.cost (meaning_of s.now) }
+{
+    match (s.phase, &s.due) {
+        (Phase::Running, Due::Ship(shipped)) => (shipped.as_box().list.len() as u64).saturating_add(
+            1,
+        ),
+        _ => 1,
+    }
+}
+
+/// Does the work that is due, or reads.
+fn work(alloc: Global, s: &mut State) -> Result<Event, AllocError>
+    requires { s.old.phase ≡ Phase.Running }
+    ensures { IfOk result (λ event. IsStepped (turns.works (state_of s.old) s.old.due) event (meaning_of s.new) s.old.said s.new.said) }
+{
+    match mem::replace(&mut s.due, Due::Nothing) {
+        Due::Nothing => read(alloc, s),
+        Due::OpenMain(name) => Ok(ask(s, AskKind::Open, Ask::Open(name.into_bytes()))),
+        Due::MainAbsent => Ok(fail(s, TexError::FileAbsent)),
+        Due::FileEnded => Ok(ask(s, AskKind::Close, Ask::Close)),
+        Due::MainClosed => Ok(fail(s, TexError::NoEnd)),
+        Due::Ship(shipped) => ship_box(alloc, s, &shipped),
+    }
+}
+
+/// Takes one turn. Its only error is want of memory.
+pub fn turn(alloc: Global, s: &mut State) -> Result<Event, AllocError>
+    requires { mode_of (meaning_of s.old) ≡ Ready }
+    ensures { IfOk result (λ event. IsStepped (turns.step (meaning_of s.old)) event (meaning_of s.new) s.old.said s.new.said) }
+{
+    match s.phase {
+        Phase::Running => work(alloc, s),
+        _ => unreachable!(),
+    }
+}
+
+/// What a reply brings, to a state that waits for one of this kind. Its only error is want of memory.
+fn hear(alloc: Global, s: &mut State, kind: AskKind, reply: &Reply) -> Result<(), AllocError>
+    requires { s.old.phase ≡ Phase.Running }
+    ensures meaning { OnOk result (meaning_of s.new ≡ Runs (turns.replied (state_of s.old) kind reply.now)) }
+    ensures said { OnOk result (s.new.said ≡ s.old.said) }
+{
+    match (kind, reply) {
+        (AskKind::Open, Reply::Absent) => s.due = Due::MainAbsent,
+        (AskKind::Line, Reply::Line(bytes)) => s.line = Line::of_file(alloc, bytes.as_slice())?,
+        (AskKind::Line, Reply::Ended) => s.due = Due::FileEnded,
+        (AskKind::Close, Reply::Closed) => s.due = Due::MainClosed,
+        _ => {}
+    }
+    Ok(())
+}
+
+/// Takes a reply. Its only error is want of memory.
+pub fn answer(alloc: Global, s: &mut State, reply: &Reply) -> Result<(), AllocError>
+    ensures meaning { OnOk result (meaning_of s.new ≡ turns.takes (meaning_of s.old) reply.now) }
+    ensures said { OnOk result (s.new.said ≡ s.old.said) }
+{
+    let Phase::Waiting(kind) = s.phase else {
+        return Ok(());
+    };
+    s.phase = Phase::Running;
+    hear(alloc, s, kind, reply)
+}
