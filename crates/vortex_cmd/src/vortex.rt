@@ -1,5 +1,6 @@
 ghost use Rattle.std.specs.Prelude.{◌≡◌, ◌≢◌, ◌+◌, ◌*◌, ◌<◌, ◌≤◌, ◌⊎◌, None};
 ghost use Rattle.tx_io.specs.Faults.{Rose};
+ghost use Rattle.tx_main.specs.Turns.{tex};
 ghost use Rattle.vortex_cmd.specs.Outcome.{outcome, ForHeld, Leaves};
 ghost use Rattle.vortex_cmd.specs.Words.{words_meant, texts};
 
@@ -7,7 +8,8 @@ use crate::run::run_words;
 use crate::trouble::Trouble;
 use std::alloc::Global;
 use tx_io::{Sink, Source};
-use tx_machine::{Machine, Steps};
+use tx_machine::Steps;
+use tx_main::Tex;
 
 /// All that the program does: reads the words behind its name, fetches the main file, makes the fresh run, says its line,
 /// and saves its pages and its transcript. Answers the status.
@@ -19,16 +21,15 @@ use tx_machine::{Machine, Steps};
 /// | 3 | the source failed; nothing was run or said |
 /// | 4 | the sink failed |
 /// | 6 | there was no memory left |
-pub fn vortex<M: Machine, S: Source, K: Sink>(
+pub fn vortex<S: Source, K: Sink>(
     alloc: Global,
-    machine: &M,
     words: &[String],
     source: &mut S,
     sink: &mut K,
     steps: &mut Steps,
 ) -> u8
     // The pages, the transcript and the line are those of the fresh run; whatever the status, nothing else is put out.
-    ensures leaves { ForHeld (S.holds source.old) (λ held. Leaves (outcome M.formatter (texts words.now) held) result (K.output sink.old) (K.output sink.new) steps.old steps.new) }
+    ensures leaves { ForHeld (S.holds source.old) (λ held. Leaves (outcome tex (texts words.now) held) result (K.output sink.old) (K.output sink.new) steps.old steps.new) }
 
     ensures status { (result ≤ 4) ⊎ (result ≡ 6) }
     ensures refused { result ≡ 2 → words_meant (texts words.now) ≡ None }
@@ -44,7 +45,7 @@ pub fn vortex<M: Machine, S: Source, K: Sink>(
     ensures holds { S.holds source.new ≡ S.holds source.old }
     ensures bound { steps.new ≤ steps.old + (1000 + 1) * 1000000 }
 {
-    match run_words(alloc, machine, words, source, sink, steps) {
+    match run_words(alloc, &Tex, words, source, sink, steps) {
         Ok(status) => status,
         Err(Trouble::Source) => 3,
         Err(Trouble::Sink) => 4,
