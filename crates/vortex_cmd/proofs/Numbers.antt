@@ -1,0 +1,26 @@
+-- Texts of one to four digits.
+use Rattle.std.proofs.Common.{◌≡◌, ◌≢◌, ℕ, ◌+◌, ◌-◌, ◌*◌, ◌^◌, ◌<◌, ◌≤◌, Bool, true, false, cond, List, [], ◌∷◌, length, Option, Some, None, Result, Ok, Err, refl, sym, ap, ◌∙◌, subst, arith, rules}
+use Rattle.std.specs.Prelude.{nat_le, ◌&&◌, if◌then◌else◌}
+use Rattle.std.specs.Char.{is_ascii_digit}
+use Rattle.std.specs.List.{list_all}
+use Rattle.std.specs.Result.{result_ok, OkIff}
+use Rattle.std.specs.Str.Parse.{digits_value, ParsesUnsigned}
+use Rattle.std.proofs.lemmas.Grind.{common_steps}
+use Rattle.std.proofs.lemmas.Str.Parse.{IsNumeralModel, IsDigitsTest, numerals_by_value, parse_gives, digits_value_short}
+use Rattle.vortex_cmd.specs.Words.{is_number, number}
+
+own : IsNumeralModel (λ ds. list_all is_ascii_digit ds ≡ true) (digits_value 10)
+own = numerals_by_value _ (search rules)
+
+-- what `is_number` says
+digits : (text : List ℕ) → is_number text ≡ true → list_all is_ascii_digit text ≡ true
+digits text is = grind (arith, common_steps)
+
+bounds : (text : List ℕ) → is_number text ≡ true → (0 < length text) × (length text ≤ 4)
+bounds text is = grind (arith, common_steps)
+
+-- such a text is parsed
+pub parsed : {E : Type 0} (text : List ℕ) (r : Result ℕ E) → ParsesUnsigned 32 10 text r → is_number text ≡ true → r ≡ Ok (digits_value 10 text)
+parsed text r parses is =
+    let value : digits_value 10 text < 10 ^ 4 = digits_value_short own text 4 (digits text is) (bounds text is).1 in
+    parse_gives own 32 text r parses (digits text is) (bounds text is).0 (omega arith)

@@ -1,0 +1,15 @@
+use Rattle.std.proofs.Common.{subst}
+use Rattle.tx_bytes.specs.Files.{Files}
+use Rattle.vortex_cmd.specs.Outcome.{run_outcome}
+use Rattle.vortex_cmd.specs.Trouble.{Does}
+use Rattle.vortex_cmd.proofs.Held.{for_any, for_held, does_nothing}
+use Rattle.vortex_cmd.proofs.run.run_given.Goals as goal
+
+pub returns-in_err-files-clause-does : goal.returns-in_err-files-clause-does
+returns-in_err-files-clause-does g c = for_any _ (λ held. does_nothing c.from_residual.result c.from_residual.ensures.0 _ _ _)
+
+pub returns-clause-does : goal.returns-clause-does
+returns-clause-does g c =
+    for_held c.in_ok-files.ensures.files
+    (λ held are. subst (λ (files : Files). Does c.run_files.result (run_outcome g.M.Machine.formatter c.args.given.now files) (g.K.Sink.output c.args.sink.now) (g.K.Sink.output c.run_files.new.sink) c.args.steps.now c.run_files.new.steps)
+    are c.run_files.ensures.does)

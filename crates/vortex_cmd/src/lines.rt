@@ -1,0 +1,60 @@
+ghost use Rattle.std.specs.Prelude.{◌≡◌, ◌++◌, OnOk, IfOk};
+ghost use Rattle.std.specs.Fmt.{decimal};
+ghost use Rattle.vortex_cmd.specs.Lines.{place_text, end_text, run_line};
+
+use std::alloc::{AllocError, Global};
+use tx_bytes::Bytes;
+use tx_machine::End;
+
+fn append_number(alloc: Global, text: &mut Bytes, number: u64) -> Result<(), AllocError>
+    ensures { OnOk result (text.new ≡ text.old ++ decimal number) }
+{
+    text.append(number.to_string(alloc)?.as_bytes())
+}
+
+/// ` at NAME line L`, and nothing where no file is open.
+fn append_place(
+    alloc: Global,
+    text: &mut Bytes,
+    name: &Option<Bytes>,
+    line: u64,
+) -> Result<(), AllocError>
+    ensures { OnOk result (text.new ≡ text.old ++ place_text name.now line) }
+{
+    let Some(name) = name else {
+        return Ok(());
+    };
+    text.append(b" at ")?;
+    text.append(name.as_slice())?;
+    text.append(b" line ")?;
+    append_number(alloc, text, line)
+}
+
+/// `end`, `error E at NAME line L`, `error E`, `budget` or `page limit`.
+fn append_end(alloc: Global, text: &mut Bytes, end: &End) -> Result<(), AllocError>
+    ensures { OnOk result (text.new ≡ text.old ++ end_text end.now) }
+{
+    match end {
+        End::End => text.append(b"end"),
+        End::Error { code, name, line } => {
+            text.append(b"error ")?;
+            append_number(alloc, text, u64::from(*code))?;
+            append_place(alloc, text, name, *line)
+        }
+        End::Budget => text.append(b"budget"),
+        End::PageLimit => text.append(b"page limit"),
+    }
+}
+
+/// The line of a run, `run: P pages, END` and LF.
+#[tactic(auto, unfolding(crate::specs::Lines::run_line))]
+pub fn run_line(alloc: Global, pages: u64, end: &End) -> Result<Bytes, AllocError>
+    ensures { IfOk result (λ line. line ≡ run_line pages end.now) }
+{
+    let mut line = Bytes::from_slice(alloc, b"run: ")?;
+    append_number(alloc, &mut line, pages)?;
+    line.append(b" pages, ")?;
+    append_end(alloc, &mut line, end)?;
+    line.append(b"\n")?;
+    Ok(line)
+}
