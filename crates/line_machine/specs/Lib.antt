@@ -1,0 +1,4 @@
+pub mod Errors
+pub mod State
+pub mod Turns
+pub mod Lawful

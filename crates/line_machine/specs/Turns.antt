@@ -1,0 +1,109 @@
+-- The machine of which each line is a page.
+use Rattle.std.specs.Prelude.{◌≡◌, ℕ, ◌-◌, ◌==◌, Bool, false, pos, List, [], ◌∷◌, ◌++◌, length, take, slice_get, replicate, nat_le, Option, Some, None, if◌then◌else◌}
+use Rattle.tx_dvi.specs.declared.page.DateParameters.{DateParameters}
+use Rattle.tx_dvi.specs.Page.{Page}
+use Rattle.tx_files.specs.Lines.{is_line_feed}
+use Rattle.tx_machine.specs.declared.types.Date.{Date}
+use Rattle.tx_machine.specs.declared.types.Ask.{Ask}
+use Rattle.tx_machine.specs.declared.types.Ask.TheVariants.{Open, Line as AskLine}
+use Rattle.tx_machine.specs.declared.types.Reply.{Reply}
+use Rattle.tx_machine.specs.declared.types.Reply.TheVariants.{Found, Absent, Line, Ended, Whole, Closed}
+use Rattle.tx_machine.specs.declared.types.Event.{Event}
+use Rattle.tx_machine.specs.declared.types.Event.TheVariants.{Asks, Shipped, Stopped}
+use Rattle.tx_machine.specs.declared.types.Stop.{Stop}
+use Rattle.tx_machine.specs.declared.types.Stop.TheVariants.{End, Error}
+use Rattle.tx_machine.specs.Machine.{Formatter, Stepped, kind_of}
+use Rattle.line_machine.specs.declared.error.LineError.{LineError}
+use Rattle.line_machine.specs.declared.error.LineError.TheVariants.{TooLong, FileAbsent, NoEnd}
+use Rattle.line_machine.specs.declared.state.Phase.{Phase}
+use Rattle.line_machine.specs.declared.state.Phase.TheVariants.{Begins, Reads, Fails, Waits, Halted}
+use Rattle.line_machine.specs.Errors.{number_of}
+use Rattle.line_machine.specs.State.{Meaning, mode_of}
+
+-- a line but for its LF
+abbrev pub text_by : List ℕ → Option ℕ → List ℕ
+text_by line None = line
+text_by line (Some last) = if is_line_feed last then take (length line - 1) line else line
+
+abbrev pub text_of : List ℕ → List ℕ
+text_of line = text_by line (slice_get line (length line - 1))
+
+-- the date of a run as the parameters of its pages
+abbrev pub date_parameters : Date → DateParameters
+date_parameters date = record { year = pos date.year; month = pos date.month; day = pos date.day; time = pos date.minutes }
+
+-- a page with this body and no size
+abbrev pub page_of : DateParameters → List ℕ → Page
+page_of date body = record {
+  body = body;
+  counts = replicate 10 (pos 0);
+  height = pos 0;
+  width = pos 0;
+  nesting = 0;
+  mag = 1000;
+  date = date;
+}
+
+-- the turn ends with an ask
+abbrev pub asks : Meaning → Ask → Stepped Meaning
+asks s ask = record { event = Asks ask; next = record s { phase = Waits (kind_of ask) }; said = [] }
+
+-- the turn ends the run
+abbrev pub stops : Meaning → Stop → Stepped Meaning
+stops s stop = record { event = Stopped stop; next = record s { phase = Halted }; said = [] }
+
+abbrev pub fails : Meaning → LineError → Stepped Meaning
+fails s error = stops s (Error (number_of error))
+
+-- a line that has bytes is a page, and its first byte is said
+abbrev pub ships : Meaning → List ℕ → ℕ → Stepped Meaning
+ships s text first =
+    if nat_le (length text) 200000
+    then record { event = Shipped (page_of s.date text); next = record s { phase = Reads [] }; said = first ∷ [] }
+    else fails s TooLong
+
+-- a lone full stop
+abbrev pub is_full_stop : ℕ → List ℕ → Bool
+is_full_stop first [] = first == 46
+is_full_stop first (second ∷ rest) = false
+
+-- what comes of a line: nothing, the end, or a page
+abbrev pub reads : Meaning → List ℕ → Stepped Meaning
+reads s [] = asks s AskLine
+reads s (first ∷ rest) = if is_full_stop first rest then stops s End else ships s (first ∷ rest) first
+
+abbrev pub steps : Meaning → Phase → Stepped Meaning
+steps s (Begins name) = asks s (Open name)
+steps s (Reads text) = reads s text
+steps s (Fails error) = fails s error
+steps s (Waits kind) = fails s NoEnd
+steps s Halted = fails s NoEnd
+
+-- one turn
+abbrev pub step : Meaning → Stepped Meaning
+step s = steps s s.phase
+
+-- what a reply brings; the last two are never asked for
+abbrev pub heard : Reply → Phase
+heard Found = Reads []
+heard Absent = Fails FileAbsent
+heard (Line bytes) = Reads (text_of bytes)
+heard Ended = Fails NoEnd
+heard (Whole bytes) = Fails NoEnd
+heard Closed = Fails NoEnd
+
+-- the machine; each turn costs 1
+unfoldable pub line_machine : Formatter Meaning
+line_machine = record {
+  start = λ date main. record { date = date_parameters date; phase = Begins main };
+  cost = λ s. 1;
+  step = step;
+  take = λ s reply. record s { phase = heard reply };
+  mode = λ s. mode_of s.phase;
+}
+
+-- an event, the state after it and the transcript that waits are those of this turn
+pub record IsStepped (t : Stepped Meaning) (event : Event) (state : Meaning) (before after : List ℕ) : Type 0 where
+  pub event_is : event ≡ t.event
+  pub state_is : state ≡ t.next
+  pub said_is : after ≡ before ++ t.said

@@ -1,0 +1,15 @@
+//! The smallest machine behind the seam: each line of its main file is a page. It shows that the seam isn't TeX's own.
+//!
+//! Read `error`, `state`, `turn` and `machine`; what it does is in specs/Turns.antt.
+#![tactic(auto)]
+
+mod error;
+mod machine;
+mod state;
+#[cfg(test)]
+mod tests;
+mod turn;
+
+pub use error::LineError;
+pub use machine::LineMachine;
+pub use state::State;

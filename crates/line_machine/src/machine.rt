@@ -1,0 +1,63 @@
+//! The machine behind the seam.
+ghost use Rattle.std.specs.Prelude.{◌≡◌, List, ℕ};
+ghost use Rattle.line_machine.specs.State.{Meaning, meaning_of};
+ghost use Rattle.line_machine.specs.Turns.{line_machine};
+ghost use Rattle.line_machine.specs.Lawful.{line-machine-lawful};
+
+use crate::state::{Phase, State};
+use crate::turn::{self, date_parameters, hear};
+use std::alloc::{AllocError, Global};
+use std::mem;
+use tx_bytes::Bytes;
+use tx_files::Name;
+use tx_machine::{Date, Event, Machine, Reply, Steps};
+
+/// The machine of which each line is a page. It asks for the main file to be opened and for its lines; a line that has
+/// bytes before its LF is a page with these as its body, and its first byte is said; a line `.` ends the run.
+#[derive(Clone, Copy, Debug)]
+pub struct LineMachine;
+
+impl Machine for LineMachine {
+    type State = State;
+
+    ghost Meaning = { Meaning };
+
+    ghost meaning = { meaning_of };
+
+    ghost pending = { λ s. s.said };
+
+    ghost formatter = { line_machine };
+
+    ghost lawful = { line-machine-lawful };
+
+    #[tactic(auto, unfolding(crate::specs::Turns::line_machine))]
+    fn start(&self, alloc: Global, date: &Date, main: &Name) -> Result<State, AllocError> {
+        Ok(State {
+            date: date_parameters(date),
+            phase: Phase::Begins(main.clone()?),
+            said: Bytes::new(alloc),
+        })
+    }
+
+    #[tactic(auto, unfolding(crate::specs::Turns::line_machine))]
+    fn cost(&self, _s: &State) -> u64 {
+        1
+    }
+
+    #[tactic(auto, unfolding(crate::specs::Turns::line_machine))]
+    fn turn(&self, alloc: Global, s: &mut State, steps: &mut Steps) -> Result<Event, AllocError> {
+        steps.tick();
+        turn::turn(alloc, s)
+    }
+
+    #[tactic(auto, unfolding(crate::specs::Turns::line_machine))]
+    fn answer(&self, alloc: Global, s: &mut State, reply: &Reply) -> Result<(), AllocError> {
+        s.phase = hear(alloc, reply)?;
+        Ok(())
+    }
+
+    #[tactic(auto, unfolding(crate::specs::Turns::line_machine))]
+    fn take_said(&self, alloc: Global, s: &mut State) -> Bytes {
+        mem::replace(&mut s.said, Bytes::new(alloc))
+    }
+}

@@ -1,0 +1,117 @@
+//! One turn: an ask, a page or the end.
+ghost use Rattle.std.specs.Prelude.{◌≡◌, ◌++◌, ◌∷◌, [], IfOk, OnOk};
+ghost use Rattle.tx_machine.specs.Machine.{kind_of, Ready};
+ghost use Rattle.tx_machine.specs.Ranges.{IsDate};
+ghost use Rattle.line_machine.specs.State.{meaning_of, mode_of};
+ghost use Rattle.line_machine.specs.Turns as turns;
+ghost use Rattle.line_machine.specs.Turns.{IsStepped};
+
+use crate::error::LineError;
+use crate::state::{Phase, State};
+use std::alloc::{AllocError, Global};
+use std::mem;
+use tx_bytes::Bytes;
+use tx_dvi::{DateParameters, PageBody};
+use tx_machine::{Ask, AskKind, Date, Event, Reply, Stop};
+
+/// The most bytes that the body of a page may have.
+const MAX_BODY: usize = 200000;
+
+/// The date as the parameters of a page.
+pub fn date_parameters(date: &Date) -> DateParameters
+    requires { IsDate date.now }
+    ensures { result ≡ turns.date_parameters date.now }
+{
+    DateParameters {
+        year: date.year as i32,
+        month: date.month as i32,
+        day: date.day as i32,
+        time: date.minutes as i32,
+    }
+}
+
+/// A line but for its LF.
+fn text_of(line: &[u8]) -> &[u8]
+    ensures { result.now ≡ turns.text_of line.now }
+{
+    match line.last() {
+        Some(b'\n') => &line[..line.len() - 1],
+        _ => line,
+    }
+}
+
+/// The turn ends with an ask.
+fn ask(s: &mut State, kind: AskKind, ask: Ask) -> Event
+    requires { kind ≡ kind_of ask }
+    ensures { IsStepped (turns.asks (meaning_of s.old) ask) result (meaning_of s.new) s.old.said s.new.said }
+{
+    s.phase = Phase::Waits(kind);
+    Event::Asks(ask)
+}
+
+/// The turn ends the run.
+fn stop(s: &mut State, stop: Stop) -> Event
+    ensures { IsStepped (turns.stops (meaning_of s.old) stop) result (meaning_of s.new) s.old.said s.new.said }
+{
+    s.phase = Phase::Halted;
+    Event::Stopped(stop)
+}
+
+/// Ships a line that begins with this byte, unless it is too long.
+fn ship(alloc: Global, s: &mut State, text: Bytes, first: u8) -> Result<Event, AllocError>
+    ensures { IfOk result (λ event. IsStepped (turns.ships (meaning_of s.old) text first) event (meaning_of s.new) s.old.said s.new.said) }
+{
+    if text.len() > MAX_BODY {
+        return Ok(stop(s, Stop::Error(LineError::TooLong.number())));
+    }
+    s.said.push(first)?;
+    s.phase = Phase::Reads(Bytes::new(alloc));
+    Ok(Event::Shipped(PageBody {
+        body: text,
+        counts: [0; 10],
+        height: 0,
+        width: 0,
+        nesting: 0,
+        mag: 1000,
+        date: s.date,
+    }))
+}
+
+/// What comes of a line.
+fn read(alloc: Global, s: &mut State, text: Bytes) -> Result<Event, AllocError>
+    ensures { IfOk result (λ event. IsStepped (turns.reads (meaning_of s.old) text) event (meaning_of s.new) s.old.said s.new.said) }
+{
+    match text.as_slice() {
+        [] => Ok(ask(s, AskKind::Line, Ask::Line)),
+        [b'.'] => Ok(stop(s, Stop::End)),
+        [first, ..] => {
+            let first = *first;
+            ship(alloc, s, text, first)
+        }
+    }
+}
+
+/// Takes one turn. Its only error is want of memory.
+pub fn turn(alloc: Global, s: &mut State) -> Result<Event, AllocError>
+    requires { mode_of s.old.phase ≡ Ready }
+    ensures { IfOk result (λ event. IsStepped (turns.step (meaning_of s.old)) event (meaning_of s.new) s.old.said s.new.said) }
+{
+    match mem::replace(&mut s.phase, Phase::Halted) {
+        Phase::Begins(name) => Ok(ask(s, AskKind::Open, Ask::Open(name.into_bytes()))),
+        Phase::Reads(text) => read(alloc, s, text),
+        Phase::Fails(error) => Ok(stop(s, Stop::Error(error.number()))),
+        Phase::Waits(_) | Phase::Halted => unreachable!(),
+    }
+}
+
+/// What a reply brings. Its only error is want of memory.
+pub fn hear(alloc: Global, reply: &Reply) -> Result<Phase, AllocError>
+    ensures { IfOk result (λ phase. phase ≡ turns.heard reply.now) }
+{
+    match reply {
+        Reply::Found => Ok(Phase::Reads(Bytes::new(alloc))),
+        Reply::Absent => Ok(Phase::Fails(LineError::FileAbsent)),
+        Reply::Line(line) => Ok(Phase::Reads(Bytes::from_slice(alloc, text_of(line.as_slice()))?)),
+        _ => Ok(Phase::Fails(LineError::NoEnd)),
+    }
+}
