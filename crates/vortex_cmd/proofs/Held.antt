@@ -1,5 +1,5 @@
 -- Files that a source holds, told or not, and what a call does with them.
-use Rattle.std.proofs.Common.{◌≡◌, ℕ, ◌+◌, ◌-◌, ◌*◌, ◌^◌, ◌<◌, ◌≤◌, min, Bool, true, false, cond, List, [], ◌∷◌, ◌++◌, length, Option, Some, None, Result, Ok, Err, refl, sym, ap, ◌∙◌, subst, arith, append-nil}
+use Rattle.std.proofs.Common.{◌≡◌, ℕ, ◌+◌, ◌*◌, ◌≤◌, true, false, cond, List, [], ◌∷◌, Option, Some, None, Result, Ok, Err, refl, sym, ap, ◌∙◌, subst, arith, append-nil}
 use Rattle.std.specs.Prelude.{IfSome, IsErr}
 use Rattle.std.specs.Cmp.{eq_by_cmp_equiv}
 use Rattle.std.specs.Cmp.Lexicographic.{nat_list_cmp_total}
@@ -9,12 +9,11 @@ use Rattle.tx_io.specs.Output.{Output, Say, told}
 use Rattle.tx_io.specs.Cut.{IsCutShort}
 use Rattle.tx_io.proofs.CutShort.{cut-nothing}
 use Rattle.tx_machine.specs.Machine.{Formatter}
-use Rattle.tx_machine.specs.Steps.{raised}
 use Rattle.vortex_cmd.specs.declared.trouble.Trouble.{Trouble}
 use Rattle.vortex_cmd.specs.declared.words.Given.{Given}
 use Rattle.vortex_cmd.specs.Lines.{refusal_line}
 use Rattle.vortex_cmd.specs.Words.{words_meant}
-use Rattle.vortex_cmd.specs.Outcome.{Outcome, outcome, given_outcome, alone, default_limits, ForHeld, IsDone, Leaves}
+use Rattle.vortex_cmd.specs.Outcome.{Outcome, outcome, given_outcome, alone, ForHeld, Leaves}
 use Rattle.vortex_cmd.specs.Trouble.{Ends, Does}
 use Rattle.vortex_cmd.proofs.PageCounts.{pages-outcome}
 

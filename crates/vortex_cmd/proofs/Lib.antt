@@ -3,3 +3,4 @@ pub mod WordLists
 pub mod Puts
 pub mod PageCounts
 pub mod Held
+mod Worked

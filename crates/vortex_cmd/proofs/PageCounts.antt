@@ -1,5 +1,5 @@
 -- A run has no more pages than its limit.
-use Rattle.std.proofs.Common.{◌≡◌, ℕ, zero, suc, ◌+◌, ◌≤◌, List, [], ◌∷◌, length, Option, Some, None, sym, ap, subst, arith, unwrap_or}
+use Rattle.std.proofs.Common.{◌≡◌, ℕ, zero, suc, ◌≤◌, List, [], length, Option, Some, None, sym, ap, subst, arith, unwrap_or}
 use Rattle.tx_bytes.specs.Files.{Files, content}
 use Rattle.tx_machine.specs.declared.types.Close.{Close}
 use Rattle.tx_machine.specs.declared.types.Close.TheVariants.{Page, Halt, Spent}

@@ -1,8 +1,7 @@
 -- Lists of six words, and of more or fewer.
-use Rattle.std.proofs.Common.{◌≡◌, ◌≢◌, ℕ, ◌<◌, ◌≤◌, Bool, true, List, [], ◌∷◌, length, get_or, map, Option, None, String, refl, sym, ap, ◌∙◌, arith}
-use Rattle.std.specs.Prelude.{string_bytes}
+use Rattle.std.proofs.Common.{◌≡◌, ◌≢◌, List, [], ◌∷◌, length, get_or, None, String, refl, sym, arith}
 use Rattle.std.specs.Global.{Global}
-use Rattle.vortex_cmd.specs.Words.{ask_for_a_run, given_by, words_meant, texts}
+use Rattle.vortex_cmd.specs.Words.{words_meant, texts}
 
 pub not_six : (words : List (String Global)) → length words ≢ 6 → words_meant (texts words) ≡ None
 not_six [] h = refl

@@ -1,10 +1,5 @@
-use Rattle.std.proofs.Common.{◌≡◌, rules, List, [], ◌∷◌, ◌++◌, ℕ, length, sym, ap, ◌∙◌, subst}
-use Rattle.tx_io.specs.Output.{Output, Piece, Say, Save, told}
-use Rattle.tx_io.specs.Cut.{IsCutShort}
-use Rattle.tx_io.proofs.CutShort.{cut-behind, cut-longer}
+use Rattle.std.proofs.Common.{◌≡◌, rules, length}
 use Rattle.vortex_cmd.specs.Lines.{run_line}
-use Rattle.vortex_cmd.specs.Outcome.{dvi_pieces, log_pieces, run_pieces}
-use Rattle.vortex_cmd.specs.Trouble.{PutsOut}
 use Rattle.vortex_cmd.proofs.Puts.{puts-cut, puts-said, puts-saved, puts-all}
 use Rattle.vortex_cmd.proofs.outputs.put_run.Goals as goal
 

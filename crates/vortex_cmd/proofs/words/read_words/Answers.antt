@@ -1,4 +1,4 @@
-use Rattle.std.proofs.Common.{◌≡◌, rules, Bool, true, false, None, List, [], ◌∷◌, IfOk, sym, ap, ◌∙◌, subst, arith, ℕ, Option, length, ◌<◌, ◌≤◌}
+use Rattle.std.proofs.Common.{◌≡◌, rules, true, None, [], ◌∷◌, IfOk, sym, ap, ◌∙◌, subst, arith, Option}
 use Rattle.std.specs.Prelude.{if◌then◌else◌, string_bytes}
 use Rattle.vortex_cmd.specs.declared.words.Given.{Given}
 use Rattle.vortex_cmd.specs.Words.{ask_for_a_run, given_by, words_meant, texts}
