@@ -1,15 +1,21 @@
 //! Files as a run sees them: their names, a set of them in memory, and their lines.
 //!
-//! Read `name`, then `file_set`, then `line`.
+//! Read `name`, then `file_set`, `line` and `edit`, then `reads` and `seen`: what a run saw of them.
 #![tactic(auto)]
 
+pub mod edit;
 pub mod file_set;
 pub mod line;
 pub mod name;
+pub mod reads;
+pub mod seen;
 
+pub use edit::{Edit, Refusal};
 pub use file_set::FileSet;
 pub use line::{NextLine, line_count, next_line};
 pub use name::Name;
+pub use reads::{Extent, FileReads, Note, Sight};
+pub use seen::{Seen, untouched};
 
 #[cfg(test)]
 mod tests;
