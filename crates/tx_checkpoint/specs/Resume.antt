@@ -1,0 +1,31 @@
+-- How far the rows of a run stand when one of its files is edited.
+use Rattle.std.specs.Prelude.{ℕ, Bool, ◌&&◌, List, [], ◌∷◌}
+use Rattle.std.specs.List.{prefix_len, list_all}
+use Rattle.tx_files.specs.Reads.{untouched}
+use Rattle.tx_files.specs.declared.edit.Edit.{Edit}
+use Rattle.tx_machine.specs.declared.types.OpenFile.{OpenFile}
+use Rattle.tx_checkpoint.specs.declared.row.Row.{Row}
+use Rattle.tx_checkpoint.specs.Rows.{History}
+
+-- whether an edit leaves what the turns of a row read as it is
+abbrev pub stays : {S : Type 0} → Edit → Row S → Bool
+stays e row = untouched row.seen e
+
+-- the row at which formatting resumes after an edit: the last one that the edit leaves with all rows before it, and 0, the
+-- start, where it doesn't leave the first; each row is kept
+abbrev pub resume : {S : Type 0} → List (Row S) → Edit → ℕ
+resume rows e = prefix_len (stays e) rows
+
+-- whether an edit leaves the reads of all rows and of the stretch after them, so that everything stands
+abbrev pub stands : {S : Type 0} → History S → Edit → Bool
+stands h e = list_all (stays e) h.rows && untouched h.last.seen e
+
+-- a state and the open files, where the next page begins
+pub record Begun (S : Type 0) : Type 0 where
+  pub state : S
+  pub opens : List OpenFile
+
+-- where the next page begins behind some rows: after the last of them, and where none is, where they began
+abbrev pub after_rows : {S : Type 0} → Begun S → List (Row S) → Begun S
+after_rows begun [] = begun
+after_rows begun (row ∷ rows) = after_rows (record { state = row.state; opens = row.opens }) rows

@@ -1,0 +1,29 @@
+ghost use Rattle.std.specs.Prelude.{◌≡◌};
+ghost use Rattle.tx_checkpoint.specs.Resume.{resume, stands};
+
+use crate::row::{Row, Rows};
+use tx_files::{Edit, untouched};
+
+impl<S> Rows<S> {
+    /// The row at which formatting resumes after an edit: the last one that the edit leaves with all rows before it, 0
+    /// where it doesn't leave the first. It takes no memory.
+    pub fn resume_at(&self, e: &Edit) -> usize
+        ensures { result ≡ resume self.now.rows.items e.now }
+    {
+        let mut kept = 0;
+        for row in &self.rows {
+            if !untouched(&row.seen, e) {
+                return kept;
+            }
+            kept += 1;
+        }
+        kept
+    }
+
+    /// Whether an edit leaves all that the run read as it is, so that everything stands. It takes no memory.
+    pub fn stands(&self, e: &Edit) -> bool
+        ensures { result ≡ stands (record { rows = self.now.rows.items; last = self.now.last }) e.now }
+    {
+        self.resume_at(e) == self.rows.len() && untouched(&self.last.seen, e)
+    }
+}
