@@ -1,3 +1,4 @@
 pub mod Untouched
 pub mod Lines
 pub mod Edited
+pub mod Stretches
