@@ -2,3 +2,4 @@ pub mod Untouched
 pub mod Lines
 pub mod Edited
 pub mod Stretches
+pub mod Standing
