@@ -1,12 +1,12 @@
--- The map that the entries stand for answers as a search of the entries does, and an insertion among them is one in it.
+-- The map that the entries stand for answers as a search of the entries does, and a change of an entry is one in it.
 use Rattle.std.proofs.Common.{◌≡◌, ℕ, Bool, true, false, cond, List, [], ◌∷◌, map, Option, Some, None, refl, sym, ap, ◌∙◌, nat_eq, true≢false}
 use Rattle.std.specs.Global.{Vec}
 use Rattle.std.specs.Ordering.{nat_cmp}
 use Rattle.std.specs.Cmp.Lexicographic.{slice_cmp}
-use Rattle.std.specs.Cmp.Lexicographic.{pointwise, same_text, nat_list_cmp_total}
+use Rattle.std.specs.Cmp.Lexicographic.{pointwise, same_text, bytes_decides, nat_list_cmp_total, nat_list_eq_equiv}
 use Rattle.std.specs.Str.{bytes_eq}
-use Rattle.std.specs.Map.{lookup, set_value}
-use Rattle.std.specs.FinMap.{find, insert, get, get-from_entries, get-insert, same_map, slice_cmp-IsAntisymmetric, nat_cmp-IsAntisymmetric}
+use Rattle.std.specs.Map.{lookup, IsKeyTest, AreApart, KeepsOthers}
+use Rattle.std.specs.FinMap.{find, get, insert, remove, get-from_entries, get-insert, get-remove, same_map, slice_cmp-IsAntisymmetric, nat_cmp-IsAntisymmetric}
 use Rattle.std.proofs.lemmas.Map.Text.{is_eq-slice_cmp}
 use Rattle.indexmap.specs.IndexMap.{insert_entry}
 use Rattle.tx_files.specs.Entries.{by_names}
@@ -46,35 +46,33 @@ module _ {X : Type 0} where
       by true h rest = twice (bytes_eq q e.0.items) (Some v) (Some e.1) (find_in es) ∙ ap (λ x. cond (bytes_eq q x) (Some v) (cond (bytes_eq q e.0.items) (Some e.1) (find_in es))) (sym (same_text k.items e.0.items (sym h)))
       by false h rest = ap (λ r. cond (bytes_eq q e.0.items) (Some e.1) r) rest ∙ one_of_two q k.items e.0.items _ _ (Some v) (Some e.1) (find_in es) refl refl h
 
-  same_names : (es : List (Vec ℕ × X)) (fs : List (Vec ℕ × X)) (k : List ℕ) (v : X)
-      → ((q : List ℕ) → lookup (λ x. bytes_eq q x.items) fs ≡ cond (bytes_eq q k) (Some v) (lookup (λ x. bytes_eq q x.items) es)) → by_names fs ≡ insert (by_names es) k v
-  same_names es fs k v found = same_map nat_list_cmp_total (slice_cmp-IsAntisymmetric nat_cmp-IsAntisymmetric) _ _ (λ q.
-      get-by_names fs q
-      ∙ found q
-      ∙ sym (λ i. cond (is_eq-slice_cmp q k i) (Some v) (get-by_names es q i))
-      ∙ sym (get-insert nat_list_cmp_total (by_names es) k v q))
-
   pub by_names-insert_entry : (es : List (Vec ℕ × X)) (k : Vec ℕ) (v : X) → by_names (insert_entry same_key es k v) ≡ insert (by_names es) k.items v
-  by_names-insert_entry es k v = same_names es (insert_entry same_key es k v) k.items v (lookup-insert_entry es k v)
+  by_names-insert_entry es k v = same_map nat_list_cmp_total (slice_cmp-IsAntisymmetric nat_cmp-IsAntisymmetric) _ _ (λ q.
+      get-by_names (insert_entry same_key es k v) q
+      ∙ lookup-insert_entry es k v q
+      ∙ sym (λ i. cond (is_eq-slice_cmp q k.items i) (Some v) (get-by_names es q i))
+      ∙ sym (get-insert nat_list_cmp_total (by_names es) k.items v q))
 
-  -- to write the value of a name that is there is to insert it
-  pub lookup-set_value : (es : List (Vec ℕ × X)) (k : List ℕ) (v : X) (q : List ℕ) (held : X) → lookup (λ x. pointwise nat_eq k x.items) es ≡ Some held
-      → lookup (λ x. bytes_eq q x.items) (set_value (λ x. pointwise nat_eq k x.items) es v) ≡ cond (bytes_eq q k) (Some v) (lookup (λ x. bytes_eq q x.items) es)
-  lookup-set_value [] k v q held found = let none : None ≡ Some held = found in cc
-  lookup-set_value (e ∷ es) k v q held found = by (pointwise nat_eq k e.0.items) refl found (lookup-set_value es k v q held)
+  others : (name q : List ℕ) (old new : List (Vec ℕ × X)) → bytes_eq name q ≡ false → KeepsOthers same_key (λ k. bytes_eq name k.items) old new
+      → lookup (λ k. bytes_eq q k.items) new ≡ lookup (λ k. bytes_eq q k.items) old
+  unfolding KeepsOthers
+  others name q old new apart keeps = keeps (λ k. bytes_eq q k.items) (λ x y. nat_list_eq_equiv.congr q x.items y.items) (λ k same. nat_list_eq_equiv.symm q k.items ∙ sym (nat_list_eq_equiv.congr name k.items q same) ∙ apart)
+
+  -- after a change of the entry with one key, the map is as before, but at this name
+  pub get-updates : (name : List ℕ) (old new : List (Vec ℕ × X)) (now : Option X) → lookup (λ k. bytes_eq name k.items) new ≡ now → KeepsOthers same_key (λ k. bytes_eq name k.items) old new
+      → (q : List ℕ) → get (by_names new) q ≡ cond (bytes_eq q name) now (get (by_names old) q)
+  get-updates name old new now here keeps q = get-by_names new q ∙ by (bytes_eq q name) refl
     where
-      find_in : List (Vec ℕ × X) → Option X
-      find_in = lookup (λ x. bytes_eq q x.items)
+      by : (same : Bool) → bytes_eq q name ≡ same → lookup (λ k. bytes_eq q k.items) new ≡ cond same now (get (by_names old) q)
+      by true e = ap (λ x. lookup (λ k. bytes_eq x k.items) new) ((bytes_decides q name).0 e) ∙ here
+      by false e = others name q old new (nat_list_eq_equiv.symm name q ∙ e) keeps ∙ sym (get-by_names old q)
 
-      written : List (Vec ℕ × X)
-      written = set_value (λ x. pointwise nat_eq k x.items) es v
+  pub by_names-removed : (name : List ℕ) (old new : List (Vec ℕ × X)) → lookup (λ k. bytes_eq name k.items) new ≡ None → KeepsOthers same_key (λ k. bytes_eq name k.items) old new → by_names new ≡ remove (by_names old) name
+  by_names-removed name old new here keeps = same_map nat_list_cmp_total (slice_cmp-IsAntisymmetric nat_cmp-IsAntisymmetric) _ _ (λ q.
+      get-updates name old new None here keeps q
+      ∙ sym (get-remove nat_list_cmp_total (by_names old) name q ∙ ap (λ b. cond b None (get (by_names old) q)) (is_eq-slice_cmp q name)))
 
-      by : (b : Bool) → pointwise nat_eq k e.0.items ≡ b → cond b (Some e.1) (lookup (λ x. pointwise nat_eq k x.items) es) ≡ Some held
-          → (lookup (λ x. pointwise nat_eq k x.items) es ≡ Some held → find_in written ≡ cond (bytes_eq q k) (Some v) (find_in es))
-          → find_in (cond b ((e.0, v) ∷ es) (e ∷ written)) ≡ cond (bytes_eq q k) (Some v) (cond (bytes_eq q e.0.items) (Some e.1) (find_in es))
-      by true h found rest = twice (bytes_eq q e.0.items) (Some v) (Some e.1) (find_in es) ∙ ap (λ x. cond (bytes_eq q x) (Some v) (cond (bytes_eq q e.0.items) (Some e.1) (find_in es))) (sym (same_text k e.0.items (sym h)))
-      by false h found rest = ap (λ r. cond (bytes_eq q e.0.items) (Some e.1) r) (rest found) ∙ one_of_two q k e.0.items _ _ (Some v) (Some e.1) (find_in es) refl refl h
-
-  pub by_names-set_value : (es : List (Vec ℕ × X)) (k : List ℕ) (v held : X) → lookup (λ x. pointwise nat_eq k x.items) es ≡ Some held
-      → by_names (set_value (λ x. pointwise nat_eq k x.items) es v) ≡ insert (by_names es) k v
-  by_names-set_value es k v held found = same_names es (set_value (λ x. pointwise nat_eq k x.items) es v) k v (λ q. lookup-set_value es k v q held found)
+  pub by_names-changed : (name : List ℕ) (value : X) (old new : List (Vec ℕ × X)) → lookup (λ k. bytes_eq name k.items) new ≡ Some value → KeepsOthers same_key (λ k. bytes_eq name k.items) old new → by_names new ≡ insert (by_names old) name value
+  by_names-changed name value old new here keeps = same_map nat_list_cmp_total (slice_cmp-IsAntisymmetric nat_cmp-IsAntisymmetric) _ _ (λ q.
+      get-updates name old new (Some value) here keeps q
+      ∙ sym (get-insert nat_list_cmp_total (by_names old) name value q ∙ ap (λ b. cond b (Some value) (get (by_names old) q)) (is_eq-slice_cmp q name)))

@@ -1,6 +1,6 @@
-//! Files as a run sees them: their names, a set of them in memory, and their lines.
+//! Files as a run sees them: their names, a set of them in memory, how they are edited, and their lines.
 //!
-//! Read `name`, then `file_set`, `line` and `edit`, then `reads` and `seen`: what a run saw of them.
+//! Read `name`, then `edit`, `file_set` and `line`, and then `reads` and `seen`: what a run saw of the files.
 #![tactic(auto)]
 
 pub mod edit;

@@ -1,14 +1,14 @@
-use Rattle.std.proofs.Common.{◌≡◌, sym, ◌∙◌, ap}
+use Rattle.std.proofs.Common.{◌≡◌, sym, ◌∙◌, ap, rules}
 use Rattle.std.specs.FinMap.{insert, get}
 use Rattle.tx_files.specs.Entries.{by_names}
 use Rattle.tx_files.specs.Reads.{seen_more}
-use Rattle.tx_files.proofs.FilesOf.{get-by_names, by_names-insert_entry, by_names-set_value}
+use Rattle.tx_files.proofs.FilesOf.{get-by_names, by_names-insert_entry, by_names-changed}
 use Rattle.tx_files.proofs.seen.Seen.note.Goals as goal
 
 pub returns-in-Some-clause-ok : goal.returns-in-Some-clause-ok
 returns-in-Some-clause-ok c =
-    ap by_names (c.get_mut.follows.holds c.seen_again.result).0
-    ∙ by_names-set_value c.self.inside.files.entries c.args.name.now c.seen_again.result c.in-Some.reads.now (sym c.in-Some.ensures.value)
+    let updates = (c.get_mut.follows.holds c.seen_again.result).3 (search rules) in
+    by_names-changed c.args.name.now c.seen_again.result c.self.inside.files.entries (c.get_mut.follows.lender c.seen_again.result).entries updates.1 updates.3
     ∙ (λ i. insert (c.self.view_is i) c.args.name.now ((c.seen_again.ensures ∙ ap (λ o. seen_more o c.args.sight)
     (c.in-Some.ensures.value ∙ sym (get-by_names c.self.inside.files.entries c.args.name.now) ∙ ap (λ reads. get reads c.args.name.now) c.self.view_is)) i))
 
