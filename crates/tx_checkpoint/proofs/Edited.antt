@@ -1,5 +1,5 @@
 -- What an edit leaves of the sights of a turn, it leaves of the replies in it.
-use Rattle.std.proofs.Common.{◌≡◌, ◌≢◌, ℕ, zero, suc, ◌+◌, ◌-◌, ◌<◌, ◌≤◌, Bool, true, false, cond, ◌⊎◌, inl, inr, ⊎_elim, List, [], ◌∷◌, ◌++◌, length, take, drop, slice_range, slice_get, Option, Some, None, refl, sym, ap, subst, ◌∙◌, arith, nat_le, true≢false, append_assoc, unwrap_or, length-take}
+use Rattle.std.proofs.Common.{◌≡◌, ◌≢◌, ℕ, ◌+◌, ◌≤◌, Bool, true, false, cond, ◌⊎◌, inl, inr, ⊎_elim, List, [], ◌∷◌, ◌++◌, length, take, drop, Option, Some, None, refl, sym, ap, ◌∙◌, arith, true≢false, append_assoc, unwrap_or, length-take}
 use Rattle.std.specs.Ordering.{nat_cmp, eq_by_cmp}
 use Rattle.std.specs.Cmp.Lexicographic.{slice_cmp, same_text, nat_list_cmp_total, bytes_decides}
 use Rattle.std.specs.Str.{bytes_eq}
@@ -12,7 +12,6 @@ use Rattle.tx_files.specs.declared.edit.Edit.{Edit}
 use Rattle.tx_files.specs.declared.line.NextLine.{NextLine}
 use Rattle.tx_files.specs.declared.line.NextLine.TheVariants.{Line as LineTo, End as AtEnd}
 use Rattle.tx_files.specs.declared.reads.Note.{Note}
-use Rattle.tx_files.specs.declared.reads.Sight.{Sight}
 use Rattle.tx_files.specs.declared.reads.Sight.TheVariants.{Opened, Whole as WholeSeen}
 use Rattle.tx_files.specs.Edits.{spliced, edited, fits_in}
 use Rattle.tx_files.specs.Lines.{next_line_at}
@@ -22,9 +21,9 @@ use Rattle.tx_machine.specs.declared.types.Ask.TheVariants.{Open, Line, Close, W
 use Rattle.tx_machine.specs.declared.types.OpenFile.{OpenFile}
 use Rattle.tx_machine.specs.declared.types.Reply.TheVariants.{Line as Told}
 use Rattle.tx_machine.specs.Notes.{notes_of, line_notes, line_sight, found_sight}
-use Rattle.tx_machine.specs.Opens.{Answered, bytes_of, innermost, moved_to, opening, reading_on, reading, whole, reply_to}
+use Rattle.tx_machine.specs.Opens.{bytes_of, innermost, moved_to, opening, reading_on, reading, whole, reply_to}
 use Rattle.tx_checkpoint.proofs.Lines.{SameLine, line_in_front}
-use Rattle.tx_checkpoint.proofs.Untouched.{IsLeft, AreLeft}
+use Rattle.tx_checkpoint.proofs.Untouched.{AreLeft}
 
 -- the files before and after an edit that fits
 pub record Edited (before after : Files) (e : Edit) : Type 0 where

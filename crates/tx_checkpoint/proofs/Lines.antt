@@ -1,9 +1,8 @@
 -- A line with its LF that ends within the front of a file is the same line whatever follows the front.
-use Rattle.std.proofs.Common.{◌≡◌, ℕ, zero, suc, ◌+◌, ◌-◌, ◌<◌, ◌≤◌, Bool, true, false, cond, not, List, [], ◌∷◌, ◌++◌, length, take, drop, slice_range, position, Option, Some, None, refl, sym, ap, ◌∙◌, arith, nat_le, nat_lt, length-append, length-drop, true≢false, append_assoc}
+use Rattle.std.proofs.Common.{◌≡◌, ℕ, suc, ◌+◌, ◌-◌, ◌<◌, ◌≤◌, Bool, true, false, cond, not, List, [], ◌∷◌, ◌++◌, length, take, drop, slice_range, position, Option, Some, None, refl, sym, ap, ◌∙◌, arith, nat_le, nat_lt, length-append, length-drop, true≢false}
 use Rattle.std.specs.List.{prefix_len, position_or_len}
-use Rattle.std.proofs.lemmas.Bool.{lt-ltb, leb-true, le-leb}
-use Rattle.std.proofs.lemmas.List.{drop-append-le, take-append-le, take-append-drop}
-use Rattle.tx_files.specs.declared.line.NextLine.{NextLine}
+use Rattle.std.proofs.lemmas.Bool.{lt-ltb, leb-true}
+use Rattle.std.proofs.lemmas.List.{drop-append-le, take-append-le}
 use Rattle.tx_files.specs.declared.line.NextLine.TheVariants.{Line, End}
 use Rattle.tx_files.specs.Lines.{is_line_feed, line_ending, next_line_at}
 

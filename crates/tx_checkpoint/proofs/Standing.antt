@@ -1,28 +1,25 @@
 -- Rows whose reads an edit leaves stand on the edited files, a run goes on from any of its rows, and where all reads are
 -- left all of it stands, its end included.
-use Rattle.std.proofs.Common.{◌≡◌, ℕ, zero, suc, ◌+◌, ◌-◌, ◌<◌, ◌≤◌, Bool, true, false, cond, ◌&&◌, List, [], ◌∷◌, ◌++◌, length, take, slice_get, slice_index_or, Option, Some, None, refl, sym, ap, subst, ◌∙◌, arith, true≢false, unwrap_or, map, add_assoc}
-use Rattle.std.specs.List.{All, prefix_len, list_all}
+use Rattle.std.proofs.Common.{◌≡◌, ℕ, zero, suc, ◌+◌, ◌-◌, ◌<◌, ◌≤◌, Bool, true, false, cond, ◌&&◌, List, [], ◌∷◌, length, take, slice_index_or, Option, Some, None, refl, sym, ap, subst, ◌∙◌, arith, true≢false, unwrap_or}
+use Rattle.std.specs.List.{prefix_len, list_all}
 use Rattle.std.proofs.lemmas.List.{length-take, length-take-le}
 use Rattle.std.proofs.lemmas.List.Sums.{prefix_len-le-length}
 use Rattle.std.proofs.lemmas.Option.{slice_get_within, get_or_from_slice_get}
 use Rattle.tx_bytes.specs.Files.{Files}
-use Rattle.tx_dvi.specs.declared.page.PageBody.{PageBody}
 use Rattle.tx_files.specs.declared.edit.Edit.{Edit}
 use Rattle.tx_files.specs.Lines.{line_count}
-use Rattle.tx_files.specs.Reads.{untouched}
 use Rattle.tx_machine.specs.declared.types.Close.{Close}
 use Rattle.tx_machine.specs.declared.types.Close.TheVariants.{Page, Halt, Spent}
-use Rattle.tx_machine.specs.declared.types.End.{End as RunEnd}
 use Rattle.tx_machine.specs.declared.types.End.TheVariants.{Error, Budget}
 use Rattle.tx_machine.specs.declared.types.OpenFile.{OpenFile}
 use Rattle.tx_machine.specs.declared.types.Stop.{Stop}
 use Rattle.tx_machine.specs.declared.types.Stop.TheVariants.{End as StopEnd, Error as StopError}
 use Rattle.tx_machine.specs.Machine.{Formatter}
-use Rattle.tx_machine.specs.Opens.{bytes_of, innermost}
-use Rattle.tx_machine.specs.Run.{Counted, run_from, closed_run, end_of, error_at, ended, page_start}
+use Rattle.tx_machine.specs.Opens.{innermost}
+use Rattle.tx_machine.specs.Run.{run_from, closed_run, end_of, error_at, ended, page_start}
 use Rattle.tx_machine.specs.Turn.{Place, Progress, stretch}
 use Rattle.tx_checkpoint.specs.declared.row.Row.{Row}
-use Rattle.tx_checkpoint.specs.Rows.{History, row_of, last_of, at_limit, behind, only, closed_rows, rows_from, run_of, turns_of}
+use Rattle.tx_checkpoint.specs.Rows.{History, row_of, last_of, behind, only, closed_rows, rows_from, run_of, turns_of}
 use Rattle.tx_checkpoint.specs.Resume.{stays, resume, stands, Begun, after_rows}
 use Rattle.tx_checkpoint.specs.Laws.{AreUntouched, IsLastUntouched}
 use Rattle.tx_checkpoint.proofs.Untouched.{AreLeft, untouched-left}

@@ -1,5 +1,5 @@
 -- A stretch whose sights an edit leaves is the same stretch on the edited files, and reads no open file past the edit's place.
-use Rattle.std.proofs.Common.{◌≡◌, ◌≢◌, ℕ, zero, suc, ◌+◌, ◌-◌, ◌<◌, ◌≤◌, Bool, true, false, cond, List, [], ◌∷◌, ◌++◌, length, take, slice_get, slice_index_or, slice_set, Option, Some, None, refl, sym, ap, subst, ◌∙◌, arith, nat_le, nat_lt, true≢false}
+use Rattle.std.proofs.Common.{◌≡◌, ℕ, zero, suc, ◌-◌, ◌≤◌, Bool, true, false, cond, List, [], ◌∷◌, length, Option, Some, None, refl, sym, ap, ◌∙◌, arith, nat_lt, true≢false}
 use Rattle.std.specs.List.{All}
 use Rattle.std.proofs.lemmas.Bool.{leb-true}
 use Rattle.std.proofs.lemmas.List.Elements.{All-append, All-set, All-take}
@@ -7,7 +7,6 @@ use Rattle.tx_bytes.specs.Files.{Files, content}
 use Rattle.tx_files.specs.declared.edit.Edit.{Edit}
 use Rattle.tx_files.specs.declared.line.NextLine.{NextLine}
 use Rattle.tx_files.specs.declared.line.NextLine.TheVariants.{Line as LineTo, End as AtEnd}
-use Rattle.tx_files.specs.declared.reads.Note.{Note}
 use Rattle.tx_files.specs.Lines.{next_line_at}
 use Rattle.tx_files.specs.Reads.{extent_of, lies_before}
 use Rattle.tx_machine.specs.declared.types.Ask.{Ask}
@@ -19,9 +18,9 @@ use Rattle.tx_machine.specs.declared.types.Event.TheVariants.{Went, Asks, Shippe
 use Rattle.tx_machine.specs.declared.types.OpenFile.{OpenFile}
 use Rattle.tx_machine.specs.Machine.{Formatter}
 use Rattle.tx_machine.specs.Notes.{notes_of, line_notes, line_sight}
-use Rattle.tx_machine.specs.Opens.{Answered, bytes_of, innermost, moved_to, opening, reading_on, reading, whole, reply_to}
+use Rattle.tx_machine.specs.Opens.{bytes_of, innermost, opening, reading_on, reading, whole, reply_to}
 use Rattle.tx_machine.specs.Turn.{Place, Progress, replied, after_event, one_turn, joined, stretch, stretch_by}
-use Rattle.tx_checkpoint.proofs.Untouched.{IsLeft, AreLeft, AreLeft-front, AreLeft-back}
+use Rattle.tx_checkpoint.proofs.Untouched.{AreLeft, AreLeft-front, AreLeft-back}
 use Rattle.tx_checkpoint.proofs.Edited.{Edited, SameAsk, same-ask}
 
 -- an open file is the edited one only if it was read up to the edit's place at most

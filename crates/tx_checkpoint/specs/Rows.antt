@@ -1,5 +1,5 @@
 -- A run as rows: what each stretch of turns that shipped a page gave, and the stretch after the last of them.
-use Rattle.std.specs.Prelude.{ℕ, suc, zero, ◌+◌, List, [], ◌∷◌, ◌++◌, Option, Some, None, map, unwrap_or}
+use Rattle.std.specs.Prelude.{ℕ, suc, zero, ◌+◌, List, [], ◌∷◌, ◌++◌, map, unwrap_or}
 use Rattle.std.specs.FinMap.{empty}
 use Rattle.tx_bytes.specs.Files.{Files}
 use Rattle.tx_dvi.specs.declared.page.PageBody.{PageBody}
@@ -11,7 +11,6 @@ use Rattle.tx_machine.specs.declared.types.End.{End as RunEnd}
 use Rattle.tx_machine.specs.declared.types.End.TheVariants.{Budget, PageLimit}
 use Rattle.tx_machine.specs.declared.types.Limits.{Limits}
 use Rattle.tx_machine.specs.declared.types.OpenFile.{OpenFile}
-use Rattle.tx_machine.specs.declared.types.Ran.{Ran}
 use Rattle.tx_machine.specs.Machine.{Formatter}
 use Rattle.tx_machine.specs.Turn.{Progress, stretch}
 use Rattle.tx_machine.specs.Run.{Counted, end_of, page_start}

@@ -1,8 +1,16 @@
 ghost use Rattle.std.specs.Prelude.{◌≡◌};
-ghost use Rattle.tx_checkpoint.specs.Resume.{resume, stands};
+ghost use Rattle.std.specs.List.{list_all};
+ghost use Rattle.tx_checkpoint.specs.Resume.{resume, stays, stands};
 
 use crate::row::{Row, Rows};
 use tx_files::{Edit, untouched};
+
+/// Whether an edit leaves what the turns of all these rows read as it is.
+fn all_stay<S>(rows: &[Row<S>], e: &Edit) -> bool
+    ensures { result ≡ list_all (stays e.now) rows.now }
+{
+    rows.iter().all(|row| untouched(&row.seen, e))
+}
 
 impl<S> Rows<S> {
     /// The row at which formatting resumes after an edit: the last one that the edit leaves with all rows before it, 0
@@ -24,6 +32,6 @@ impl<S> Rows<S> {
     pub fn stands(&self, e: &Edit) -> bool
         ensures { result ≡ stands (record { rows = self.now.rows.items; last = self.now.last }) e.now }
     {
-        self.resume_at(e) == self.rows.len() && untouched(&self.last.seen, e)
+        all_stay(self.rows.as_slice(), e) && untouched(&self.last.seen, e)
     }
 }

@@ -1,5 +1,5 @@
 -- What a stretch of a run reads of each file, and which edits can't change that.
-use Rattle.std.specs.Prelude.{ℕ, Bool, true, false, ◌||◌, List, [], ◌∷◌, nat_le, max, Option, Some, None, fold}
+use Rattle.std.specs.Prelude.{ℕ, Bool, true, false, ◌||◌, List, nat_le, max, Option, Some, None, fold}
 use Rattle.std.specs.Ordering.{nat_cmp}
 use Rattle.std.specs.Cmp.Lexicographic.{slice_cmp}
 use Rattle.std.specs.FinMap.{FinMap, get, insert, empty}

@@ -1,5 +1,5 @@
 -- What the reply to an ask shows of the files.
-use Rattle.std.specs.Prelude.{ℕ, Bool, true, false, List, [], ◌∷◌, Option, Some, None}
+use Rattle.std.specs.Prelude.{ℕ, true, false, List, [], ◌∷◌, Option, Some, None}
 use Rattle.tx_bytes.specs.Files.{Files, content}
 use Rattle.tx_files.specs.Lines.{next_line_at}
 use Rattle.tx_files.specs.declared.line.NextLine.{NextLine}

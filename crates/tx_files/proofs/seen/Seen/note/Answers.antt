@@ -1,4 +1,4 @@
-use Rattle.std.proofs.Common.{◌≡◌, sym, ◌∙◌, ap, rules}
+use Rattle.std.proofs.Common.{sym, ◌∙◌, ap, rules}
 use Rattle.std.specs.FinMap.{insert, get}
 use Rattle.tx_files.specs.Entries.{by_names}
 use Rattle.tx_files.specs.Reads.{seen_more}
