@@ -2,7 +2,7 @@
 -- left all of it stands, its end included.
 use Rattle.std.proofs.Common.{◌≡◌, ℕ, zero, suc, ◌+◌, ◌-◌, ◌<◌, ◌≤◌, Bool, true, false, cond, ◌&&◌, List, [], ◌∷◌, length, take, slice_index_or, Option, Some, None, refl, sym, ap, subst, ◌∙◌, arith, true≢false, unwrap_or}
 use Rattle.std.specs.List.{prefix_len, list_all}
-use Rattle.std.proofs.lemmas.List.{length-take, length-take-le}
+use Rattle.std.proofs.lemmas.List.{length-take, length-take-le, length-map}
 use Rattle.std.proofs.lemmas.List.Sums.{prefix_len-le-length}
 use Rattle.std.proofs.lemmas.Option.{slice_get_within, get_or_from_slice_get}
 use Rattle.tx_bytes.specs.Files.{Files}
@@ -19,8 +19,8 @@ use Rattle.tx_machine.specs.Opens.{innermost}
 use Rattle.tx_machine.specs.Run.{run_from, closed_run, end_of, error_at, ended, page_start}
 use Rattle.tx_machine.specs.Turn.{Place, Progress, stretch}
 use Rattle.tx_checkpoint.specs.declared.row.Row.{Row}
-use Rattle.tx_checkpoint.specs.Rows.{History, row_of, last_of, behind, only, closed_rows, rows_from, run_of, turns_of}
-use Rattle.tx_checkpoint.specs.Resume.{stays, resume, stands, Begun, after_rows}
+use Rattle.tx_checkpoint.specs.Rows.{History, PageRow, page_row, rows_in, last_of, behind, only, closed_rows, rows_from, run_of, turns_of}
+use Rattle.tx_checkpoint.specs.Resume.{stays, resume, stands, Begun, after_pages}
 use Rattle.tx_checkpoint.specs.Laws.{AreUntouched, IsLastUntouched}
 use Rattle.tx_checkpoint.proofs.Untouched.{AreLeft, untouched-left}
 use Rattle.tx_checkpoint.proofs.Edited.{Edited, same-read}
@@ -64,8 +64,8 @@ module _ {S : Type 0} (m : Formatter S) (files : Files) (budget : ℕ) where
   -- the run has its rows' pages, pieces, turns and end
   closed_tells : (t : Progress S) (close : Close) (later : History S) → closed_run files t close (run_of later) ≡ run_of (closed_rows files t close later)
   closed_tells t (Page body) later =
-      let sum : t.turns + (turns_of later.rows + later.last.turns) ≡ t.turns + turns_of later.rows + later.last.turns = omega arith in
-      λ i. record { ran = (run_of (behind (row_of t body ∷ []) later)).ran; turns = sum i }
+      let sum : t.turns + (turns_of later.pages + later.last.turns) ≡ t.turns + turns_of later.pages + later.last.turns = omega arith in
+      λ i. record { ran = (run_of (behind (page_row t body ∷ []) later)).ran; turns = sum i }
   closed_tells t (Halt stop) later = let sum : t.turns ≡ 0 + t.turns = omega arith in λ i. record { ran = (ended t.said t.turns (end_of files t.place.opens stop)).ran; turns = sum i }
   closed_tells t Spent later = let sum : t.turns ≡ 0 + t.turns = omega arith in λ i. record { ran = (ended t.said t.turns Budget).ran; turns = sum i }
 
@@ -85,22 +85,22 @@ module _ {S : Type 0} (m : Formatter S) (files : Files) (budget : ℕ) where
   from_stretch pages t close = closed_rows files t close (behind_stretch pages t)
 
   -- a run is its first rows and then the run from the place after them
-  abbrev split_at : ℕ → ℕ → Begun S → List (Row S) → History S
-  split_at pages k begun kept = behind kept (rows_from m files budget (pages - k) (after_rows begun kept).state (after_rows begun kept).opens)
+  abbrev split_at : ℕ → ℕ → Begun S → List (PageRow S) → History S
+  split_at pages k begun kept = behind kept (rows_from m files budget (pages - k) (after_pages begun kept).state (after_pages begun kept).opens)
 
-  split_stretch : (pages k : ℕ) (state : S) (opens : List OpenFile) (t : Progress S) (close : Close) → suc k ≤ length (from_stretch pages t close).rows
-      → (k ≤ length (behind_stretch pages t).rows → behind_stretch pages t ≡ split_at pages k (record { state = t.place.state; opens = t.place.opens }) (take k (behind_stretch pages t).rows))
-      → from_stretch pages t close ≡ split_at (suc pages) (suc k) (record { state = state; opens = opens }) (take (suc k) (from_stretch pages t close).rows)
+  split_stretch : (pages k : ℕ) (state : S) (opens : List OpenFile) (t : Progress S) (close : Close) → suc k ≤ length (from_stretch pages t close).pages
+      → (k ≤ length (behind_stretch pages t).pages → behind_stretch pages t ≡ split_at pages k (record { state = t.place.state; opens = t.place.opens }) (take k (behind_stretch pages t).pages))
+      → from_stretch pages t close ≡ split_at (suc pages) (suc k) (record { state = state; opens = opens }) (take (suc k) (from_stretch pages t close).pages)
   split_stretch pages k state opens t (Page body) within there =
       let fewer : pages - k ≡ suc pages - suc k = omega arith in
-      let begun : Begun S = after_rows (record { state = t.place.state; opens = t.place.opens }) (take k (behind_stretch pages t).rows) in
-      ap (behind (row_of t body ∷ [])) (there (omega arith))
-      ∙ ap (λ n. behind (row_of t body ∷ take k (behind_stretch pages t).rows) (rows_from m files budget n begun.state begun.opens)) fewer
+      let begun : Begun S = after_pages (record { state = t.place.state; opens = t.place.opens }) (take k (behind_stretch pages t).pages) in
+      ap (behind (page_row t body ∷ [])) (there (omega arith))
+      ∙ ap (λ n. behind (page_row t body ∷ take k (behind_stretch pages t).pages) (rows_from m files budget n begun.state begun.opens)) fewer
   split_stretch pages k state opens t (Halt stop) within there = absurd (omega arith)
   split_stretch pages k state opens t Spent within there = absurd (omega arith)
 
-  pub splits : (pages k : ℕ) (state : S) (opens : List OpenFile) → k ≤ length (rows_from m files budget pages state opens).rows
-      → rows_from m files budget pages state opens ≡ split_at pages k (record { state = state; opens = opens }) (take k (rows_from m files budget pages state opens).rows)
+  pub splits : (pages k : ℕ) (state : S) (opens : List OpenFile) → k ≤ length (rows_from m files budget pages state opens).pages
+      → rows_from m files budget pages state opens ≡ split_at pages k (record { state = state; opens = opens }) (take k (rows_from m files budget pages state opens).pages)
   unfolding rows_from
   splits pages zero state opens within = let none : pages ≡ pages - 0 = omega arith in ap (λ n. rows_from m files budget n state opens) none
   splits zero (suc k) state opens within = absurd (omega arith)
@@ -110,23 +110,23 @@ module _ {S : Type 0} (m : Formatter S) (files : Files) (budget : ℕ) where
 
 module _ {S : Type 0} (m : Formatter S) (budget : ℕ) {e : Edit} {before after : Files} (edit : Edited before after e) where
   -- the first rows
-  row_left : (pages k : ℕ) (t : Progress S) (close : Close) → suc k ≤ length (from_stretch m before budget pages t close).rows
-      → list_all (stays e) (take (suc k) (from_stretch m before budget pages t close).rows) ≡ true → AreLeft e t.log
-  row_left pages k t (Page body) within stay = untouched-left t.log e (both (stays e (row_of t body)) _ stay).0
+  row_left : (pages k : ℕ) (t : Progress S) (close : Close) → suc k ≤ length (rows_in (from_stretch m before budget pages t close).pages)
+      → list_all (stays e) (take (suc k) (rows_in (from_stretch m before budget pages t close).pages)) ≡ true → AreLeft e t.log
+  row_left pages k t (Page body) within stay = untouched-left t.log e (both (stays e (page_row t body).row) _ stay).0
   row_left pages k t (Halt stop) within stay = absurd (omega arith)
   row_left pages k t Spent within stay = absurd (omega arith)
 
-  first_rows : (pages k : ℕ) (t : Progress S) (close : Close) → suc k ≤ length (from_stretch m before budget pages t close).rows
-      → list_all (stays e) (take (suc k) (from_stretch m before budget pages t close).rows) ≡ true
-      → (k ≤ length (behind_stretch m before budget pages t).rows → list_all (stays e) (take k (behind_stretch m before budget pages t).rows) ≡ true
-      → take k (behind_stretch m after budget pages t).rows ≡ take k (behind_stretch m before budget pages t).rows)
-      → take (suc k) (from_stretch m after budget pages t close).rows ≡ take (suc k) (from_stretch m before budget pages t close).rows
-  first_rows pages k t (Page body) within stay there = ap (λ rows. row_of t body ∷ rows) (there (omega arith) (both (stays e (row_of t body)) _ stay).1)
+  first_rows : (pages k : ℕ) (t : Progress S) (close : Close) → suc k ≤ length (rows_in (from_stretch m before budget pages t close).pages)
+      → list_all (stays e) (take (suc k) (rows_in (from_stretch m before budget pages t close).pages)) ≡ true
+      → (k ≤ length (rows_in (behind_stretch m before budget pages t).pages) → list_all (stays e) (take k (rows_in (behind_stretch m before budget pages t).pages)) ≡ true
+      → take k (behind_stretch m after budget pages t).pages ≡ take k (behind_stretch m before budget pages t).pages)
+      → take (suc k) (from_stretch m after budget pages t close).pages ≡ take (suc k) (from_stretch m before budget pages t close).pages
+  first_rows pages k t (Page body) within stay there = ap (λ later. page_row t body ∷ later) (there (omega arith) (both (stays e (page_row t body).row) _ stay).1)
   first_rows pages k t (Halt stop) within stay there = absurd (omega arith)
   first_rows pages k t Spent within stay there = absurd (omega arith)
 
-  pub prefix-stands : (pages k : ℕ) (state : S) (opens : List OpenFile) → AreUntouched (rows_from m before budget pages state opens).rows k e
-      → take k (rows_from m after budget pages state opens).rows ≡ take k (rows_from m before budget pages state opens).rows
+  pub prefix-stands : (pages k : ℕ) (state : S) (opens : List OpenFile) → AreUntouched (rows_in (rows_from m before budget pages state opens).pages) k e
+      → take k (rows_from m after budget pages state opens).pages ≡ take k (rows_from m before budget pages state opens).pages
   unfolding rows_from
   prefix-stands pages zero state opens are = refl
   prefix-stands zero (suc k) state opens are = absurd (let none : suc k ≤ 0 = are.within in omega arith)
@@ -135,16 +135,17 @@ module _ {S : Type 0} (m : Formatter S) (budget : ℕ) {e : Edit} {before after 
       let t : Progress S = stretch m before start in
       let close : Close = unwrap_or t.close Spent in
       let left : AreLeft e t.log = row_left pages k t close are.within are.stay in
-      ap (λ (u : Progress S). take (suc k) (from_stretch m after budget pages u (unwrap_or u.close Spent)).rows) (same-stretch m e edit start left)
-      ∙ first_rows pages k t close are.within are.stay (λ within stay. prefix-stands pages k t.place.state t.place.opens (record { within = within; stay = stay }))
+      ap (λ (u : Progress S). take (suc k) (from_stretch m after budget pages u (unwrap_or u.close Spent)).pages) (same-stretch m e edit start left)
+      ∙ first_rows pages k t close are.within are.stay (λ inside left_too. prefix-stands pages k t.place.state t.place.opens (record { within = inside; stay = left_too }))
 
-  pub resumes : (pages k : ℕ) (state : S) (opens : List OpenFile) → AreUntouched (rows_from m before budget pages state opens).rows k e
-      → rows_from m after budget pages state opens ≡ split_at m after budget pages k (record { state = state; opens = opens }) (take k (rows_from m before budget pages state opens).rows)
+  pub resumes : (pages k : ℕ) (state : S) (opens : List OpenFile) → AreUntouched (rows_in (rows_from m before budget pages state opens).pages) k e
+      → rows_from m after budget pages state opens ≡ split_at m after budget pages k (record { state = state; opens = opens }) (take k (rows_from m before budget pages state opens).pages)
   resumes pages k state opens are =
-      let same : take k (rows_from m after budget pages state opens).rows ≡ take k (rows_from m before budget pages state opens).rows = prefix-stands pages k state opens are in
-      let within : k ≤ length (rows_from m after budget pages state opens).rows =
-      (let taken : length (take k (rows_from m after budget pages state opens).rows) ≡ k = ap length same ∙ length-take-le k (rows_from m before budget pages state opens).rows are.within in
-      omega (arith, length-take k (rows_from m after budget pages state opens).rows)) in
+      let same : take k (rows_from m after budget pages state opens).pages ≡ take k (rows_from m before budget pages state opens).pages = prefix-stands pages k state opens are in
+      let inside : k ≤ length (rows_from m before budget pages state opens).pages = subst (λ n. k ≤ n) (length-map (rows_from m before budget pages state opens).pages (λ page. page.row)) are.within in
+      let within : k ≤ length (rows_from m after budget pages state opens).pages =
+      (let taken : length (take k (rows_from m after budget pages state opens).pages) ≡ k = ap length same ∙ length-take-le k (rows_from m before budget pages state opens).pages inside in
+      omega (arith, length-take k (rows_from m after budget pages state opens).pages)) in
       splits m after budget pages k state opens within ∙ ap (split_at m after budget pages k (record { state = state; opens = opens })) same
 
   -- an error's line
@@ -161,7 +162,7 @@ module _ {S : Type 0} (m : Formatter S) (budget : ℕ) {e : Edit} {before after 
 
   -- all rows and the stretch after them
   stretch_left : (pages : ℕ) (t : Progress S) (close : Close) → stands (from_stretch m before budget pages t close) e ≡ true → AreLeft e t.log
-  stretch_left pages t (Page body) stand = untouched-left t.log e (both (stays e (row_of t body)) _ (both (list_all (stays e) (from_stretch m before budget pages t (Page body)).rows) _ stand).0).0
+  stretch_left pages t (Page body) stand = untouched-left t.log e (both (stays e (page_row t body).row) _ (both (list_all (stays e) (rows_in (from_stretch m before budget pages t (Page body)).pages)) _ stand).0).0
   stretch_left pages t (Halt stop) stand = untouched-left t.log e stand
   stretch_left pages t Spent stand = untouched-left t.log e stand
 
@@ -169,9 +170,9 @@ module _ {S : Type 0} (m : Formatter S) (budget : ℕ) {e : Edit} {before after 
       → (stands (behind_stretch m before budget pages t) e ≡ true → behind_stretch m after budget pages t ≡ behind_stretch m before budget pages t)
       → from_stretch m after budget pages t close ≡ from_stretch m before budget pages t close
   stretch_stands pages t (Page body) within stand there =
-      let parts = both (list_all (stays e) (from_stretch m before budget pages t (Page body)).rows) _ stand in
-      let rest = both (stays e (row_of t body)) _ parts.0 in
-      ap (behind (row_of t body ∷ [])) (there (one_and _ _ rest.1 parts.1))
+      let parts = both (list_all (stays e) (rows_in (from_stretch m before budget pages t (Page body)).pages)) _ stand in
+      let rest = both (stays e (page_row t body).row) _ parts.0 in
+      ap (behind (page_row t body ∷ [])) (there (one_and _ _ rest.1 parts.1))
   stretch_stands pages t (Halt stop) within stand there = ap (λ end. only (last_of t end)) (end_same t.place.opens stop within)
   stretch_stands pages t Spent within stand there = refl
 

@@ -17,14 +17,25 @@ use Rattle.tx_machine.specs.Run.{Counted, end_of, page_start}
 use Rattle.tx_checkpoint.specs.declared.row.Row.{Row}
 use Rattle.tx_checkpoint.specs.declared.row.Last.{Last}
 
--- a run by its rows, and by the stretch after them
+-- a page with its piece of the transcript, and with what is kept beside them: the turns since the page before it, what
+-- they read, and the open files and the state after it
+pub record PageRow (S : Type 0) : Type 0 where
+  pub body : PageBody
+  pub piece : List ℕ
+  pub row : Row S
+
+-- a run by its pages, and by the stretch after them
 pub record History (S : Type 0) : Type 0 where
-  pub rows : List (Row S)
+  pub pages : List (PageRow S)
   pub last : Last
 
--- the row of a page, by the turns that led to it
-abbrev pub row_of : {S : Type 0} → Progress S → PageBody → Row S
-row_of t body = record { body = body; piece = t.said; turns = t.turns; seen = reads_of t.log; opens = t.place.opens; state = t.place.state }
+-- the page that some turns led to
+abbrev pub page_row : {S : Type 0} → Progress S → PageBody → PageRow S
+page_row t body = record { body = body; piece = t.said; row = record { turns = t.turns; seen = reads_of t.log; opens = t.place.opens; state = t.place.state } }
+
+-- the rows of some pages
+abbrev pub rows_in : {S : Type 0} → List (PageRow S) → List (Row S)
+rows_in pages = map (λ page. page.row) pages
 
 -- the stretch that ends a run
 abbrev pub last_of : {S : Type 0} → Progress S → RunEnd → Last
@@ -34,17 +45,17 @@ last_of t end = record { piece = t.said; turns = t.turns; seen = reads_of t.log;
 abbrev pub at_limit : List OpenFile → Last
 at_limit opens = record { piece = []; turns = 0; seen = empty; opens = opens; end = PageLimit }
 
--- some rows and then others
-abbrev pub behind : {S : Type 0} → List (Row S) → History S → History S
-behind rows later = record { rows = rows ++ later.rows; last = later.last }
+-- some pages and then others
+abbrev pub behind : {S : Type 0} → List (PageRow S) → History S → History S
+behind pages later = record { pages = pages ++ later.pages; last = later.last }
 
 -- a run that ends without a page more
 abbrev pub only : {S : Type 0} → Last → History S
-only last = record { rows = []; last = last }
+only last = record { pages = []; last = last }
 
--- what a stretch's close makes of the rows behind it: a page is a row before them, all else ends the run
+-- what a stretch's close makes of the pages behind it: a page comes before them, all else ends the run
 abbrev pub closed_rows : {S : Type 0} → Files → Progress S → Close → History S → History S
-closed_rows files t (Page body) later = behind (row_of t body ∷ []) later
+closed_rows files t (Page body) later = behind (page_row t body ∷ []) later
 closed_rows files t (Halt stop) later = only (last_of t (end_of files t.place.opens stop))
 closed_rows files t Spent later = only (last_of t Budget)
 
@@ -59,14 +70,14 @@ rows_from m files budget (suc pages) state opens =
 abbrev pub fresh_rows : {S : Type 0} → Formatter S → Files → List ℕ → Date → Limits → History S
 fresh_rows m files main date limits = rows_from m files limits.budget limits.pages (m.start date main) []
 
--- all turns of some rows
-abbrev pub turns_of : {S : Type 0} → List (Row S) → ℕ
+-- all turns of some pages
+abbrev pub turns_of : {S : Type 0} → List (PageRow S) → ℕ
 turns_of [] = 0
-turns_of (row ∷ rows) = row.turns + turns_of rows
+turns_of (page ∷ pages) = page.row.turns + turns_of pages
 
--- the run that has these rows
+-- the run that has these pages
 abbrev pub run_of : {S : Type 0} → History S → Counted
 run_of h = record {
-  ran = record { pages = map (λ row. row.body) h.rows; pieces = map (λ row. row.piece) h.rows; last = h.last.piece; end = h.last.end };
-  turns = turns_of h.rows + h.last.turns;
+  ran = record { pages = map (λ page. page.body) h.pages; pieces = map (λ page. page.piece) h.pages; last = h.last.piece; end = h.last.end };
+  turns = turns_of h.pages + h.last.turns;
 }

@@ -7,5 +7,7 @@
 pub mod laws;
 pub mod row;
 pub mod rows;
+#[cfg(test)]
+mod tests;
 
 pub use row::{Last, Row, Rows};

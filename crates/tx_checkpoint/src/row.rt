@@ -4,12 +4,10 @@ use tx_dvi::PageBody;
 use tx_files::Seen;
 use tx_machine::{End, Opens};
 
-/// A shipped page: its body, its piece of the transcript, the turns since the row before it, what these read of the
-/// files, and the open files and the state after it.
+/// What is kept of a shipped page beside its body and its piece of the transcript: the turns since the row before it,
+/// what these read of the files, and the open files and the state after it.
 #[derive(Drop)]
 pub struct Row<S> {
-    pub body: PageBody,
-    pub piece: Bytes,
     pub turns: u64,
     pub seen: Seen,
     pub opens: Opens,
@@ -27,9 +25,12 @@ pub struct Last {
     pub end: End,
 }
 
-/// A run as its rows in order and the stretch after them.
+/// A run by its pages: the body, the piece of the transcript and the row of each, in three lists of one length, so that
+/// the bodies can be lent as they stand; and the stretch after them.
 #[derive(Drop)]
 pub struct Rows<S> {
+    pub pages: Vec<PageBody>,
+    pub pieces: Vec<Bytes>,
     pub rows: Vec<Row<S>>,
     pub last: Last,
 }

@@ -1,12 +1,12 @@
 ghost use Rattle.std.specs.Prelude.{◌≡◌};
 ghost use Rattle.std.specs.List.{list_all};
-ghost use Rattle.tx_checkpoint.specs.Resume.{resume, stays, stands};
+ghost use Rattle.tx_checkpoint.specs.Resume.{resume, stays, all_stay};
 
 use crate::row::{Row, Rows};
 use tx_files::{Edit, untouched};
 
 /// Whether an edit leaves what the turns of all these rows read as it is.
-fn all_stay<S>(rows: &[Row<S>], e: &Edit) -> bool
+fn rows_stay<S>(rows: &[Row<S>], e: &Edit) -> bool
     ensures { result ≡ list_all (stays e.now) rows.now }
 {
     rows.iter().all(|row| untouched(&row.seen, e))
@@ -30,8 +30,8 @@ impl<S> Rows<S> {
 
     /// Whether an edit leaves all that the run read as it is, so that everything stands. It takes no memory.
     pub fn stands(&self, e: &Edit) -> bool
-        ensures { result ≡ stands (record { rows = self.now.rows.items; last = self.now.last }) e.now }
+        ensures { result ≡ all_stay self.now.rows.items self.now.last e.now }
     {
-        all_stay(self.rows.as_slice(), e) && untouched(&self.last.seen, e)
+        rows_stay(self.rows.as_slice(), e) && untouched(&self.last.seen, e)
     }
 }
