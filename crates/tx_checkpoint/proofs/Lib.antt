@@ -3,3 +3,4 @@ pub mod Lines
 pub mod Edited
 pub mod Stretches
 pub mod Standing
+pub mod Keeping
