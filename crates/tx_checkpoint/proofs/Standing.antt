@@ -2,7 +2,7 @@
 -- left all of it stands, its end included.
 use Rattle.std.proofs.Common.{◌≡◌, ℕ, zero, suc, ◌+◌, ◌-◌, ◌<◌, ◌≤◌, Bool, true, false, cond, ◌&&◌, List, [], ◌∷◌, length, take, slice_index_or, Option, Some, None, refl, sym, ap, subst, ◌∙◌, arith, true≢false, unwrap_or}
 use Rattle.std.specs.List.{prefix_len, list_all}
-use Rattle.std.proofs.lemmas.List.{length-take, length-take-le, length-map}
+use Rattle.std.proofs.lemmas.List.{length-take, length-take-le, length-map, take-map}
 use Rattle.std.proofs.lemmas.List.Sums.{prefix_len-le-length}
 use Rattle.std.proofs.lemmas.Option.{slice_get_within, get_or_from_slice_get}
 use Rattle.tx_bytes.specs.Files.{Files}
@@ -20,11 +20,15 @@ use Rattle.tx_machine.specs.Run.{run_from, closed_run, end_of, error_at, ended, 
 use Rattle.tx_machine.specs.Turn.{Place, Progress, stretch}
 use Rattle.tx_checkpoint.specs.declared.row.Row.{Row}
 use Rattle.tx_checkpoint.specs.Rows.{History, PageRow, page_row, rows_in, last_of, behind, only, closed_rows, rows_from, run_of, turns_of}
-use Rattle.tx_checkpoint.specs.Resume.{stays, resume, stands, Begun, after_pages}
+use Rattle.tx_checkpoint.specs.Resume.{stays, resume, stands, Begun, after_rows}
 use Rattle.tx_checkpoint.specs.Laws.{AreUntouched, IsLastUntouched}
 use Rattle.tx_checkpoint.proofs.Untouched.{AreLeft, untouched-left}
 use Rattle.tx_checkpoint.proofs.Edited.{Edited, same-read}
 use Rattle.tx_checkpoint.proofs.Stretches.{IsWithin, AreWithin, within-stretch, same-stretch}
+
+-- where the next page begins behind some pages
+abbrev pub after_pages : {S : Type 0} → Begun S → List (PageRow S) → Begun S
+after_pages begun pages = after_rows begun (rows_in pages)
 
 both : (a b : Bool) → (a && b) ≡ true → (a ≡ true) × (b ≡ true)
 both true b h = (refl, h)
@@ -147,6 +151,17 @@ module _ {S : Type 0} (m : Formatter S) (budget : ℕ) {e : Edit} {before after 
       (let taken : length (take k (rows_from m after budget pages state opens).pages) ≡ k = ap length same ∙ length-take-le k (rows_from m before budget pages state opens).pages inside in
       omega (arith, length-take k (rows_from m after budget pages state opens).pages)) in
       splits m after budget pages k state opens within ∙ ap (split_at m after budget pages k (record { state = state; opens = opens })) same
+
+  -- with the rows taken before, in place of the rows of the pages that are taken
+  pub resumes-behind : (pages k : ℕ) (state : S) (opens : List OpenFile) → AreUntouched (rows_in (rows_from m before budget pages state opens).pages) k e
+      → rows_from m after budget pages state opens ≡ behind (take k (rows_from m before budget pages state opens).pages)
+      (rows_from m after budget (pages - k) (after_rows (record { state = state; opens = opens }) (take k (rows_in (rows_from m before budget pages state opens).pages))).state
+      (after_rows (record { state = state; opens = opens }) (take k (rows_in (rows_from m before budget pages state opens).pages))).opens)
+  resumes-behind pages k state opens are =
+      let old : List (PageRow S) = (rows_from m before budget pages state opens).pages in
+      resumes pages k state opens are
+      ∙ ap (λ (rows : List (Row S)). behind (take k old) (rows_from m after budget (pages - k) (after_rows (record { state = state; opens = opens }) rows).state (after_rows (record { state = state; opens = opens }) rows).opens))
+      (sym (take-map (λ (page : PageRow S). page.row) k old))
 
   -- an error's line
   error_same : (code : ℕ) (opens : List OpenFile) (file : Option OpenFile) → innermost opens ≡ file → AreWithin e opens → error_at after code file ≡ error_at before code file
