@@ -1,6 +1,5 @@
 -- The pages that were formatted so far, and the run from the place after them, are the whole run.
-use Rattle.std.proofs.Common.{◌≡◌, ℕ, zero, suc, ◌+◌, ◌<◌, ◌≤◌, List, [], ◌∷◌, ◌++◌, map, Option, Some, None, refl, sym, ap, subst, ◌∙◌, arith, append_assoc, append-nil, unwrap_or}
-use Rattle.std.specs.List.{All}
+use Rattle.std.proofs.Common.{◌≡◌, ℕ, zero, suc, ◌+◌, ◌≤◌, List, [], ◌∷◌, ◌++◌, map, Some, refl, sym, ap, subst, ◌∙◌, arith, append_assoc, append-nil, unwrap_or}
 use Rattle.std.proofs.lemmas.List.{map-append}
 use Rattle.std.proofs.lemmas.List.Elements.{All-push}
 use Rattle.tx_bytes.specs.Files.{Files}
@@ -18,8 +17,7 @@ use Rattle.tx_checkpoint.specs.declared.row.Last.{Last}
 use Rattle.tx_checkpoint.specs.declared.row.Row.{Row}
 use Rattle.tx_checkpoint.specs.declared.row.Formatted.{Formatted}
 use Rattle.tx_checkpoint.specs.declared.row.Formatted.TheVariants.{Page as PageOf, Over}
-use Rattle.tx_checkpoint.specs.declared.row.Rows.{Rows}
-use Rattle.tx_checkpoint.specs.Meant.{AreRows, IsFormatted, FormattedIsIdle, IsIdle, AreIdle, row_meant, rows_meant}
+use Rattle.tx_checkpoint.specs.Meant.{IsFormatted, FormattedIsIdle, IsIdle, AreIdle, row_meant}
 use Rattle.tx_checkpoint.specs.Rows.{History, PageRow, page_row, rows_in, at_limit, behind, only, closed_rows, rows_from, turns_of, all_turns}
 
 -- where a page was closed the machine is ready for the next one

@@ -4,3 +4,5 @@ pub mod Edited
 pub mod Stretches
 pub mod Standing
 pub mod Keeping
+pub mod LastRow
+pub mod Replaced

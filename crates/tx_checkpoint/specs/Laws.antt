@@ -1,5 +1,5 @@
 -- Why formatting may resume: what an edit leaves untouched it doesn't change.
-use Rattle.std.specs.Prelude.{◌≡◌, ℕ, ◌≤◌, ◌-◌, true, List, [], length, take}
+use Rattle.std.specs.Prelude.{◌≡◌, ℕ, ◌≤◌, true, List, length, take}
 use Rattle.std.specs.List.{list_all}
 use Rattle.tx_bytes.specs.Files.{Files}
 use Rattle.tx_files.specs.Edits.{fits_in, edited}

@@ -1,13 +1,10 @@
-use Rattle.std.proofs.Common.{◌≡◌, ℕ, ◌+◌, ◌-◌, ◌≤◌, suc, sym, ap, subst, ◌∙◌, arith, List, [], ◌∷◌, ◌++◌, map, length}
+use Rattle.std.proofs.Common.{◌≡◌, ℕ, ◌+◌, ◌-◌, ◌≤◌, suc, sym, ap, subst, ◌∙◌, arith, [], ◌∷◌, map, length}
 use Rattle.std.proofs.lemmas.List.{map-append}
 use Rattle.tx_machine.specs.declared.types.End.TheVariants.{PageLimit}
 use Rattle.tx_machine.specs.Run.{page_start}
-use Rattle.tx_machine.specs.Turn.{Place, Progress, stretch, place_of}
-use Rattle.tx_checkpoint.specs.declared.row.Row.{Row}
-use Rattle.tx_checkpoint.specs.declared.row.Last.{Last}
+use Rattle.tx_machine.specs.Turn.{Progress, stretch}
 use Rattle.tx_checkpoint.specs.Meant.{AreIdle, row_meant}
-use Rattle.tx_checkpoint.specs.Rows.{rows_from}
-use Rattle.tx_checkpoint.proofs.Keeping.{Told, keeping-begins, keeping-page, keeping-told, keeping-counted, keeping-bound, limit-told, limit-counted, page-formatted, page-idle, end-formatted, idle-push}
+use Rattle.tx_checkpoint.proofs.Keeping.{keeping-begins, keeping-page, keeping-told, keeping-counted, keeping-bound, limit-told, limit-counted, page-formatted, page-idle, end-formatted, idle-push}
 use Rattle.tx_checkpoint.proofs.format.format_rows.Goals as goal
 
 -- while pages may still come, one fewer may come behind the next one
