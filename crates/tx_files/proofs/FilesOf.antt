@@ -5,7 +5,7 @@ use Rattle.std.specs.Ordering.{nat_cmp}
 use Rattle.std.specs.Cmp.Lexicographic.{slice_cmp}
 use Rattle.std.specs.Cmp.Lexicographic.{pointwise, same_text, bytes_decides, nat_list_cmp_total, nat_list_eq_equiv}
 use Rattle.std.specs.Str.{bytes_eq}
-use Rattle.std.specs.Map.{lookup, IsKeyTest, AreApart, KeepsOthers}
+use Rattle.std.specs.Map.{lookup, KeepsOthers}
 use Rattle.std.specs.FinMap.{find, insert, remove, get-from_entries, get-insert, get-remove, same_map, slice_cmp-IsAntisymmetric, nat_cmp-IsAntisymmetric}
 use Rattle.std.proofs.lemmas.Map.Text.{is_eq-slice_cmp}
 use Rattle.indexmap.specs.IndexMap.{insert_entry}

@@ -1,5 +1,5 @@
 -- Edits of files, as an editor makes them: bytes of one file are taken out at a place and others are put there.
-use Rattle.std.specs.Prelude.{◌≡◌, ℕ, ◌+◌, Bool, true, false, List, [], ◌++◌, length, take, drop, nat_le, Option, Some, None, Result, Ok, Err, unwrap_or, if◌then◌else◌, fold, IsTrue}
+use Rattle.std.specs.Prelude.{◌≡◌, ℕ, ◌+◌, Bool, true, false, List, [], ◌++◌, length, take, drop, nat_le, Option, Some, None, Result, Ok, Err, unwrap_or, if◌then◌else◌, fold}
 use Rattle.std.specs.FinMap.{insert, remove}
 use Rattle.tx_bytes.specs.Files.{Files, content}
 use Rattle.tx_files.specs.declared.edit.Edit.{Edit}

@@ -1,4 +1,4 @@
-use Rattle.std.proofs.Common.{◌∙◌, ap, sym}
+use Rattle.std.proofs.Common.{◌∙◌, ap}
 use Rattle.std.specs.FinMap.{insert}
 use Rattle.tx_bytes.specs.Files.{content}
 use Rattle.tx_files.proofs.Restored.{is_some-insert, restored-insert}

@@ -1,4 +1,4 @@
-use Rattle.std.proofs.Common.{◌≡◌, ◌∙◌, None, Some, Option, ap, sym, rules}
+use Rattle.std.proofs.Common.{◌∙◌, ap, sym, rules}
 use Rattle.std.specs.FinMap.{insert}
 use Rattle.std.specs.Option.{option_copied_mut}
 use Rattle.tx_bytes.specs.Files.{content}
