@@ -1,5 +1,5 @@
 -- What a session holds, and what it shows: the fresh run on its files, with no checkpoint and no reuse.
-use Rattle.std.specs.Prelude.{◌≡◌, ℕ, ◌-◌, List, [], ◌∷◌, ◌++◌, slice_get, if◌then◌else◌}
+use Rattle.std.specs.Prelude.{ℕ, ◌-◌, List, [], ◌∷◌, ◌++◌, slice_get}
 use Rattle.std.specs.Option.{option_map_or}
 use Rattle.tx_bytes.specs.Files.{Files}
 use Rattle.tx_files.specs.Edits.{edited, after_edit, replay}
@@ -9,7 +9,6 @@ use Rattle.tx_machine.specs.declared.types.Date.{Date}
 use Rattle.tx_machine.specs.declared.types.Limits.{Limits}
 use Rattle.tx_machine.specs.declared.types.Ran.{Ran}
 use Rattle.tx_machine.specs.Machine.{Formatter}
-use Rattle.tx_machine.specs.Ranges.{IsDate, AreLimits}
 use Rattle.tx_machine.specs.Run.{Counted, run}
 
 -- the files as they are now, and what stays the same: the main file's name, the date and the limits

@@ -1,10 +1,10 @@
-ghost use Rattle.std.specs.Prelude.{◌≡◌, ◌≤◌, ◌+◌, ◌*◌, length, IfOk, OnOk, OnErr};
+ghost use Rattle.std.specs.Prelude.{◌≡◌, ℕ, ◌<◌, ◌≤◌, ◌+◌, ◌*◌, length, take, IfOk, OnOk, OnErr};
 ghost use Rattle.tx_dvi.specs.Dvi.{dvi};
 ghost use Rattle.tx_files.specs.Edits.{IsAnswerTo};
 ghost use Rattle.tx_machine.specs.Ranges.{IsDate, AreLimits};
 ghost use Rattle.tx_machine.specs.Steps.{raised};
-ghost use Rattle.tx_session.specs.Held.{fresh, transcript, body_of, edited_session};
-ghost use Rattle.tx_session.specs.Report.{report, work, IsOutside};
+ghost use Rattle.tx_session.specs.Held.{fresh, transcript, body_of, edited_session, after, replayed};
+ghost use Rattle.tx_session.specs.Report.{all_anew, report, work, turns_of_edit, turns_of_edits, IsOutside};
 
 use crate::made::{Made, make_anew};
 use crate::report::Report;
@@ -14,6 +14,18 @@ use tx_bytes::Bytes;
 use tx_dvi::assemble;
 use tx_files::{Edit, FileSet, Name, Refusal};
 use tx_machine::{Date, End, Limits, Machine, Steps};
+
+/// The report of an edit after which every page was formatted.
+fn all_anew(pages: usize) -> Report
+    ensures { result ≡ all_anew pages }
+{
+    Report {
+        pages,
+        resumed: 0,
+        formatted: pages,
+        reused: 0,
+    }
+}
 
 /// A document and what the run on it gave. Contracts see its files, its main file's name, its date and its limits: all
 /// that it shows is that of the fresh run on these.
@@ -61,6 +73,7 @@ impl<M: Machine> Session<M> {
         ensures counted { IfOk result (λ session. steps.new ≡ raised steps.old (fresh M.formatter session).turns) }
 
         // Whatever the files say, and also where memory was wanting.
+        ensures most { steps.new ≤ raised steps.old (fresh M.formatter (record { files = files; main = main; date = date; limits = limits })).turns }
         ensures bound { steps.new ≤ steps.old + (length (fresh M.formatter (record { files = files; main = main; date = date; limits = limits })).ran.pages + 1) * limits.budget }
     {
         let made = make_anew(alloc, &machine, &files, &main, &date, &limits, steps)?;
@@ -101,19 +114,39 @@ impl<M: Machine> Session<M> {
         ) {
             Ok(made) => {
                 self.made = made;
-                let pages = self.made.ran.pages.as_slice().len();
-                Ok(Report {
-                    pages,
-                    resumed: 0,
-                    formatted: pages,
-                    reused: 0,
-                })
+                Ok(all_anew(self.pages()))
             }
             Err(_) => {
                 self.files.restore(&e.name, before);
                 Err(Refusal::OutOfMemory)
             }
         }
+    }
+
+    /// Makes an edit, or leaves it out where it doesn't fit.
+    fn edit_if_it_fits(&mut self, e: &Edit, steps: &mut Steps) -> Result<(), AllocError>
+        ensures held { OnOk result (self.new ≡ after self.old e.now) }
+        ensures counted { OnOk result (steps.new ≡ raised steps.old (turns_of_edit M.formatter self.old e.now)) }
+        ensures err { OnErr result (self.new ≡ self.old) }
+    {
+        match self.edit(e, steps) {
+            Ok(_) => Ok(()),
+            Err(Refusal::Outside { .. }) => Ok(()),
+            Err(Refusal::OutOfMemory) => Err(AllocError),
+        }
+    }
+
+    /// Makes edits, one after the other; those that don't fit are left out. Its only error is want of memory, which
+    /// leaves the session as the edits before had made it.
+    pub fn replay(&mut self, edits: &[Edit], steps: &mut Steps) -> Result<(), AllocError>
+        ensures all { OnOk result (self.new ≡ replayed self.old edits.now) }
+        ensures first { OnErr result ((made : ℕ) × (made < length edits.now) × (self.new ≡ replayed self.old (take made edits.now))) }
+        ensures counted { OnOk result (steps.new ≡ raised steps.old (turns_of_edits M.formatter self.old edits.now)) }
+    {
+        for e in edits {
+            self.edit_if_it_fits(e, steps)?;
+        }
+        Ok(())
     }
 
     /// How many pages there are.
