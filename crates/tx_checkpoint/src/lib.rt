@@ -14,6 +14,6 @@ pub mod rows;
 #[cfg(test)]
 mod tests;
 
-pub use behind::format_behind;
+pub use behind::{format_behind, fresh_rows};
 pub use format::{format_row, format_rows};
 pub use row::{Formatted, Last, Row, Rows};
