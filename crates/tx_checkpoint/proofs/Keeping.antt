@@ -39,7 +39,7 @@ turns-push : {S : Type 0} (pages : List (PageRow S)) (page : PageRow S) → turn
 turns-push [] page = omega arith
 turns-push (first ∷ pages) page = let rest : turns_of (pages ++ page ∷ []) ≡ turns_of pages + page.row.turns = turns-push pages page in omega arith
 
-turns-behind : {S : Type 0} (pages : List (PageRow S)) (later : History S) → all_turns (behind pages later) ≡ turns_of pages + all_turns later
+pub turns-behind : {S : Type 0} (pages : List (PageRow S)) (later : History S) → all_turns (behind pages later) ≡ turns_of pages + all_turns later
 turns-behind [] later = omega arith
 turns-behind (first ∷ pages) later = let rest : all_turns (behind pages later) ≡ turns_of pages + all_turns later = turns-behind pages later in omega arith
 

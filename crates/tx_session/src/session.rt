@@ -107,7 +107,7 @@ impl<M: Machine> Session<M> {
     {
         let before = self.files.change(e)?;
         if self.made.rows.stands(e) {
-            let pages = self.made.rows.pages.len();
+            let pages = self.made.rows.pages.as_slice().len();
             return Ok(resumed_after(pages, pages));
         }
         let kept = self.made.rows.resume_at(e);
@@ -122,7 +122,10 @@ impl<M: Machine> Session<M> {
             &self.limits,
             steps,
         ) {
-            Ok(()) => Ok(resumed_after(kept, self.made.rows.pages.len())),
+            Ok(()) => {
+                let pages = self.made.rows.pages.as_slice().len();
+                Ok(resumed_after(kept, pages))
+            }
             Err(_) => {
                 self.files.restore(&e.name, before);
                 Err(Refusal::OutOfMemory)
@@ -160,7 +163,7 @@ impl<M: Machine> Session<M> {
     pub fn pages(&self) -> usize
         ensures { result ≡ length (fresh M.formatter self.now).ran.pages }
     {
-        self.made.rows.pages.len()
+        self.made.rows.pages.as_slice().len()
     }
 
     /// The commands of the n-th page, counted from 1, lent.
