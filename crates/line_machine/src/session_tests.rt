@@ -1,5 +1,5 @@
 //! A document of this machine that is edited, worked out by hand: a run takes a turn to open its file, one for each line,
-//! one for each page and one to stop.
+//! one for each page and one to stop; an edit takes those of the pages behind its place alone.
 use crate::machine::LineMachine;
 use std::alloc::{AllocError, Global};
 use std::test::Fail;
@@ -99,14 +99,16 @@ fn append_edit(
     append_all(text, session, steps)
 }
 
-fn two_edits(alloc: Global, mut steps: Steps) -> Result<String, AllocError> {
+/// One edit after the first page, one outside, and one behind all that was read.
+fn three_edits(alloc: Global, mut steps: Steps) -> Result<String, AllocError> {
     let mut text = String::new(alloc);
     let mut session = opened(alloc, b"a\nb\n.\n", &mut steps)?;
     append_all(&mut text, &session, &steps)?;
-    let replaces = edit(alloc, 2, 1, b"cd\ne")?;
-    append_edit(&mut text, &mut session, &replaces, &mut steps)?;
-    let outside = edit(alloc, 8, 2, b"x")?;
-    append_edit(&mut text, &mut session, &outside, &mut steps)?;
+    let edits: [(u64, u64, &[u8]); 3] = [(2, 1, b"cd\ne"), (8, 2, b"x"), (9, 0, b"zz")];
+    for (place, removed, put) in edits {
+        let e = edit(alloc, place, removed, put)?;
+        append_edit(&mut text, &mut session, &e, &mut steps)?;
+    }
     Ok(text)
 }
 
@@ -123,10 +125,10 @@ fn one_that_fits(alloc: Global, mut steps: Steps) -> Result<String, AllocError> 
 
 #[test]
 fn a_session_is_the_fresh_run_on_the_edited_files(rt: HostRuntime) -> Result<(), Fail> {
-    let edited = two_edits(rt.alloc(), rt.steps())?;
+    let edited = three_edits(rt.alloc(), rt.steps())?;
     assert_eq!(rt;
         edited.as_str(),
-        "a b ab End 176 Steps { count: 7 }; 3 = 0 + 3 + 0: a cd e ace End 224 Steps { count: 16 }; outside 9: a cd e ace End 224 Steps { count: 16 }; "
+        "a b ab End 176 Steps { count: 7 }; 3 = 1 + 2 + 0: a cd e ace End 224 Steps { count: 13 }; outside 9: a cd e ace End 224 Steps { count: 13 }; 3 = 3 + 0 + 0: a cd e ace End 224 Steps { count: 13 }; "
     );
     let replayed = one_that_fits(rt.alloc(), rt.steps())?;
     assert_eq!(rt; replayed.as_str(), "ab a End 132 Steps { count: 10 }; ");

@@ -1,6 +1,5 @@
 -- What a session keeps shows the fresh run on its files, and after an edit the one on the edited files.
-use Rattle.std.proofs.Common.{◌≡◌, ℕ, suc, ◌+◌, ◌-◌, ◌*◌, ◌^◌, ◌<◌, ◌≤◌, Bool, true, false, cond, List, [], ◌++◌, length, get_or, map, take, drop, refl, sym, ap, subst, ◌∙◌, arith}
-use Rattle.std.specs.List.{prefix_len}
+use Rattle.std.proofs.Common.{◌≡◌, ℕ, ◌+◌, ◌-◌, ◌*◌, ◌^◌, ◌<◌, ◌≤◌, true, false, cond, List, [], ◌++◌, length, get_or, take, drop, sym, ap, subst, ◌∙◌, arith}
 use Rattle.std.proofs.lemmas.List.{length-map, length-take-le, length-append}
 use Rattle.std.proofs.lemmas.List.Sums.{prefix_len-le-length}
 use Rattle.std.proofs.Math.Seq.{drop-append_seam}
@@ -8,18 +7,16 @@ use Rattle.tx_bytes.specs.Files.{Files}
 use Rattle.tx_files.specs.declared.edit.Edit.{Edit}
 use Rattle.tx_files.specs.Edits.{fits_in, edited}
 use Rattle.tx_machine.specs.Machine.{Formatter, IsLawful}
-use Rattle.tx_machine.specs.Ranges.{AreLimits}
 use Rattle.tx_machine.specs.Steps.{raised}
 use Rattle.tx_dvi.specs.Page.{Page}
 use Rattle.std.specs.Option.{option_map_or}
 use Rattle.std.proofs.lemmas.Option.{slice_get-get_or}
-use Rattle.tx_machine.specs.Run.{Counted, run_from}
 use Rattle.tx_machine.proofs.PageCounts.{pages-run_from}
 use Rattle.tx_machine.proofs.Running.{turns-run}
 use Rattle.tx_checkpoint.specs.Laws.{AreUntouched}
 use Rattle.tx_checkpoint.specs.Meant.{AreRows, AreIdle, rows_meant}
 use Rattle.tx_checkpoint.specs.Resume.{stays, resume, all_stay, stands, run_behind}
-use Rattle.tx_checkpoint.specs.Rows.{History, PageRow, rows_in, fresh_rows, behind, run_of, all_turns, turns_of}
+use Rattle.tx_checkpoint.specs.Rows.{History, rows_in, behind, run_of, all_turns, turns_of}
 use Rattle.tx_checkpoint.proofs.Keeping.{turns-behind}
 use Rattle.tx_checkpoint.proofs.Replaced.{resume-rows, stands-rows}
 use Rattle.tx_checkpoint.proofs.Standing.{rows-tell, resumes-last, fresh-stands, fresh-resumes}

@@ -1,5 +1,5 @@
 -- When what a session keeps is that of the fresh run on its files.
-use Rattle.std.specs.Prelude.{◌≡◌, ℕ, List}
+use Rattle.std.specs.Prelude.{ℕ, List}
 use Rattle.tx_machine.specs.Machine.{Formatter}
 use Rattle.tx_machine.specs.Ranges.{IsDate, AreLimits}
 use Rattle.tx_checkpoint.specs.Meant.{AreRows, AreIdle}

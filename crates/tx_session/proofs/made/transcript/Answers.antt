@@ -1,4 +1,4 @@
-use Rattle.std.proofs.Common.{◌++◌, [], ap, sym, ◌∙◌, append-nil}
+use Rattle.std.proofs.Common.{◌++◌, [], ap, ◌∙◌, append-nil}
 use Rattle.tx_session.specs.Held.{joined_with}
 use Rattle.tx_session.proofs.made.transcript.Goals as goal
 

@@ -1,4 +1,4 @@
-use Rattle.std.proofs.Common.{List, ◌≡◌, ◌≤◌, ◌<◌, ◌+◌, ◌*◌, ◌^◌, ℕ, length, sym, ap, subst, ◌∙◌, arith}
+use Rattle.std.proofs.Common.{List, ◌≤◌, ◌<◌, ◌+◌, ◌*◌, ◌^◌, length, sym, ap, subst, ◌∙◌, arith}
 use Rattle.tx_dvi.specs.Page.{Page}
 use Rattle.tx_machine.specs.Steps.{raised}
 use Rattle.tx_machine.proofs.Going.{raised-zero}
@@ -8,7 +8,6 @@ use Rattle.tx_checkpoint.specs.Rows.{all_turns}
 use Rattle.tx_session.specs.Held.{Held, fresh, edited_session}
 use Rattle.tx_session.specs.Made.{Goes}
 use Rattle.tx_session.specs.Report.{resumed_after, report, work}
-use Rattle.tx_session.specs.Shows.{Shows}
 use Rattle.tx_session.proofs.Showing.{raised-within, kept-rows, kept-pieces, kept-fewer, kept-small, kept-pages, shows-still, report-still, work-still, shows-on, report-on, work-on, work-bound}
 use Rattle.tx_session.proofs.session.Session.edit.Goals as goal
 

@@ -1,6 +1,6 @@
-use Rattle.std.proofs.Common.{◌≡◌, ◌≤◌, ◌+◌, ◌*◌, ℕ, length, ap, subst, ◌∙◌, arith}
+use Rattle.std.proofs.Common.{◌≤◌, ap, subst, ◌∙◌}
 use Rattle.tx_machine.specs.Steps.{raised}
-use Rattle.tx_session.specs.Held.{Held, fresh}
+use Rattle.tx_session.specs.Held.{Held}
 use Rattle.tx_session.proofs.Showing.{fresh-turns, fresh-bound, raised-within}
 use Rattle.tx_session.proofs.session.Session.open.Goals as goal
 
