@@ -1,4 +1,4 @@
-use Rattle.std.proofs.Common.{◌≡◌, ap}
+use Rattle.std.proofs.Common.{ap}
 use Rattle.line_machine.specs.State.{Meaning}
 use Rattle.line_machine.proofs.SameDate.{same-date}
 use Rattle.line_machine.proofs.machine.LineMachineMachine.same.Goals as goal
