@@ -1,13 +1,13 @@
 use crate::vortex::vortex;
-use std::alloc::Global;
+use std::alloc::{AllocError, Global};
 use std::test::Fail;
 use tx_io::{MemorySink, MemorySource};
 use tx_machine::CountsTurns;
 
-const WORDS: [&str; 6] = ["run", "--date", "2024-5-17-570", "--out", "a", "main.tex"];
+const RUN: &str = "run|--date|2024-5-17-570|--out|a|main.tex";
 
-const ONE_PAGE: &[u8] =
-    b"\\catcode`\\{=1 \\catcode`\\}=2 \\shipout\\hbox{\\vrule width 1pt height 2pt depth 0pt}\\end\n";
+const ONE_PAGE: &str =
+    "\\catcode`\\{=1 \\catcode`\\}=2 \\shipout\\hbox{\\vrule width 1pt height 2pt depth 0pt}\\end\n";
 
 // The page has one rule, 1pt wide and 2pt high.
 const ONE_PAGE_DVI: &[u8] =
@@ -20,10 +20,28 @@ const ONE_PAGE_DVI: &[u8] =
 
 const NOTHING: Option<&[u8]> = None;
 
-fn words(alloc: Global, texts: &[&str]) -> Result<Vec<String>, Fail> {
+/// A call and what comes of it: its words, parted by bars, and the file `main.tex`, if there is one; which fetches and
+/// saves fail; its status, what it says, the file `a.dvi`, and whether there is
+/// an empty `a.log`.
+#[derive(Drop)]
+struct Case<'a> {
+    words: &'a str,
+    main: Option<&'a str>,
+    fetches: &'a [u64],
+    saves: &'a [u64],
+    status: u8,
+    said: &'a str,
+    pages: Option<&'a [u8]>,
+    is_logged: bool,
+}
+
+fn words(alloc: Global, text: &str) -> Result<Vec<String>, AllocError> {
     let mut words = Vec::new(alloc);
-    for text in texts {
-        words.push(String::from_str(alloc, text)?)?;
+    if text.is_empty() {
+        return Ok(words);
+    }
+    for word in text.split('|') {
+        words.push(String::from_str(alloc, word)?)?;
     }
     Ok(words)
 }
@@ -36,22 +54,26 @@ fn is_saved(sink: &MemorySink, name: &[u8], wanted: Option<&[u8]>) -> bool {
     }
 }
 
-/// Calls `vortex` with these words, on a source that holds the file `main.tex` if there is one, and where the calls of
-/// these numbers fail.
-fn called(
-    rt: &HostRuntime,
-    texts: &[&str],
-    main: Option<&[u8]>,
-    fetches: &[u64],
-    saves: &[u64],
-) -> Result<(u8, MemorySink), Fail> {
-    let alloc = rt.alloc();
-    let mut source = MemorySource::new(alloc, fetches.to_vec(alloc)?);
-    if let Some(bytes) = main {
-        source.put(alloc, b"main.tex", bytes)?;
+fn is_logged(sink: &MemorySink) -> bool {
+    match sink.saved(b"a.log") {
+        Some(file) => file.is_empty(),
+        None => false,
     }
-    let mut sink = MemorySink::new(alloc, Vec::new(alloc), saves.to_vec(alloc)?);
-    let words = words(alloc, texts)?;
+}
+
+fn source(alloc: Global, case: &Case<'_>) -> Result<MemorySource, AllocError> {
+    let mut source = MemorySource::new(alloc, case.fetches.to_vec(alloc)?);
+    if let Some(text) = case.main {
+        source.put(alloc, b"main.tex", text.as_bytes())?;
+    }
+    Ok(source)
+}
+
+fn holds(rt: &HostRuntime, case: &Case<'_>) -> Result<bool, AllocError> {
+    let alloc = rt.alloc();
+    let words = words(alloc, case.words)?;
+    let mut source = source(alloc, case)?;
+    let mut sink = MemorySink::new(alloc, Vec::new(alloc), case.saves.to_vec(alloc)?);
     let status = vortex(
         alloc,
         words.as_slice(),
@@ -59,72 +81,88 @@ fn called(
         &mut sink,
         &mut rt.steps(),
     );
-    Ok((status, sink))
+    Ok(
+        status == case.status
+            && sink.said() == case.said.as_bytes()
+            && is_saved(&sink, b"a.dvi", case.pages)
+            && is_logged(&sink) == case.is_logged,
+    )
 }
 
-#[test]
-fn a_run_puts_out_its_line_its_pages_and_its_transcript(rt: HostRuntime) -> Result<(), Fail> {
-    let cases: [(Option<&[u8]>, u8, &str, Option<&[u8]>); 4] = [
-        (Some(ONE_PAGE), 0, "run: 1 pages, end\n", Some(ONE_PAGE_DVI)),
-        (Some(b"\\end\n"), 0, "run: 0 pages, end\n", NOTHING),
-        (Some(b""), 1, "run: 0 pages, error 36\n", NOTHING),
-        (NOTHING, 1, "run: 0 pages, error 20\n", NOTHING),
-    ];
-    for (main, status, line, dvi) in cases {
-        let (answer, sink) = called(&rt, &WORDS, main, &[], &[])?;
-        assert_eq!(rt; answer, status, "{line}");
-        assert_eq!(rt; sink.said(), line.as_bytes(), "{line}");
-        assert!(rt; is_saved(&sink, b"a.dvi", dvi), "{line}");
-        assert!(rt; is_saved(&sink, b"a.log", Some(b"")), "{line}");
+/// A call with no trouble, on one file.
+fn run<'a>(main: Option<&'a str>, status: u8, said: &'a str, pages: Option<&'a [u8]>) -> Case<'a> {
+    Case {
+        words: RUN,
+        main,
+        fetches: &[],
+        saves: &[],
+        status,
+        said,
+        pages,
+        is_logged: true,
     }
-    Ok(())
+}
+
+/// Words that are refused; the fetch would fail.
+fn refused(words: &str) -> Case<'_> {
+    Case {
+        words,
+        main: Some(ONE_PAGE),
+        fetches: &[1],
+        saves: &[],
+        status: 2,
+        said: "words refused\n",
+        pages: NOTHING,
+        is_logged: false,
+    }
+}
+
+/// A run of one page, of which a call fails.
+fn failing<'a>(
+    fetches: &'a [u64],
+    saves: &'a [u64],
+    status: u8,
+    said: &'a str,
+    pages: Option<&'a [u8]>,
+) -> Case<'a> {
+    Case {
+        words: RUN,
+        main: Some(ONE_PAGE),
+        fetches,
+        saves,
+        status,
+        said,
+        pages,
+        is_logged: false,
+    }
 }
 
 #[test]
-fn words_of_another_form_are_refused(rt: HostRuntime) -> Result<(), Fail> {
-    let run = |date, out, main| ["run", "--date", date, "--out", out, main];
+fn a_call_puts_out_its_line_its_pages_and_its_transcript(rt: HostRuntime) -> Result<(), Fail> {
     let cases = [
-        run("2024-13-17-570", "a", "main.tex"),
-        run("2024-0-17-570", "a", "main.tex"),
-        run("2024-5-32-570", "a", "main.tex"),
-        run("2024-5-17-1440", "a", "main.tex"),
-        run("02024-5-17-570", "a", "main.tex"),
-        run("+24-5-17-570", "a", "main.tex"),
-        run("2024-5-17", "a", "main.tex"),
-        run("2024-5-17-570-", "a", "main.tex"),
-        run("2024-5-17-570", "", "main.tex"),
-        run("2024-5-17-570", "a", "main tex"),
-        ["run", "--out", "a", "--date", "2024-5-17-570", "main.tex"],
-        ["gen", "--date", "2024-5-17-570", "--out", "a", "main.tex"],
+        run(Some(ONE_PAGE), 0, "run: 1 pages, end\n", Some(ONE_PAGE_DVI)),
+        run(Some("\\end\n"), 0, "run: 0 pages, end\n", NOTHING),
+        run(Some(""), 1, "run: 0 pages, error 36\n", NOTHING),
+        run(None, 1, "run: 0 pages, error 20\n", NOTHING),
+        refused("run|--date|2024-13-17-570|--out|a|main.tex"),
+        refused("run|--date|2024-0-17-570|--out|a|main.tex"),
+        refused("run|--date|2024-5-32-570|--out|a|main.tex"),
+        refused("run|--date|2024-5-17-1440|--out|a|main.tex"),
+        refused("run|--date|02024-5-17-570|--out|a|main.tex"),
+        refused("run|--date|+24-5-17-570|--out|a|main.tex"),
+        refused("run|--date|2024-5-17|--out|a|main.tex"),
+        refused("run|--date|2024-5-17-570-|--out|a|main.tex"),
+        refused("run|--date|2024-5-17-570|--out||main.tex"),
+        refused("run|--date|2024-5-17-570|--out|a|main tex"),
+        refused("run|--out|a|--date|2024-5-17-570|main.tex"),
+        refused("gen|--date|2024-5-17-570|--out|a|main.tex"),
+        refused(""),
+        failing(&[1], &[], 3, "", NOTHING),
+        failing(&[], &[1], 4, "run: 1 pages, end\n", NOTHING),
+        failing(&[], &[2], 4, "run: 1 pages, end\n", Some(ONE_PAGE_DVI)),
     ];
-    for texts in cases {
-        let (answer, sink) = called(&rt, &texts, Some(ONE_PAGE), &[1], &[])?;
-        assert_eq!(rt; answer, 2, "{texts:?}");
-        assert_eq!(rt; sink.said(), b"words refused\n".as_slice(), "{texts:?}");
-        assert!(rt; is_saved(&sink, b"a.log", NOTHING), "{texts:?}");
+    for case in &cases {
+        assert!(rt; holds(&rt, case)?, "{}: {}", case.words, case.said);
     }
-    let (answer, sink) = called(&rt, &[], Some(ONE_PAGE), &[1], &[])?;
-    assert_eq!(rt; answer, 2);
-    assert_eq!(rt; sink.said(), b"words refused\n".as_slice());
-    Ok(())
-}
-
-#[test]
-fn a_failing_call_ends_the_run(rt: HostRuntime) -> Result<(), Fail> {
-    let line = b"run: 1 pages, end\n".as_slice();
-    let (answer, sink) = called(&rt, &WORDS, Some(ONE_PAGE), &[1], &[])?;
-    assert_eq!(rt; answer, 3);
-    assert_eq!(rt; sink.said(), b"".as_slice());
-    assert!(rt; is_saved(&sink, b"a.log", NOTHING));
-    let (answer, sink) = called(&rt, &WORDS, Some(ONE_PAGE), &[], &[1])?;
-    assert_eq!(rt; answer, 4);
-    assert_eq!(rt; sink.said(), line);
-    assert!(rt; is_saved(&sink, b"a.dvi", NOTHING));
-    assert!(rt; is_saved(&sink, b"a.log", NOTHING));
-    let (answer, sink) = called(&rt, &WORDS, Some(ONE_PAGE), &[], &[2])?;
-    assert_eq!(rt; answer, 4);
-    assert_eq!(rt; sink.said(), line);
-    assert!(rt; is_saved(&sink, b"a.dvi", Some(ONE_PAGE_DVI)));
-    assert!(rt; is_saved(&sink, b"a.log", NOTHING));
     Ok(())
 }
