@@ -5,6 +5,8 @@
 
 mod error;
 mod machine;
+#[cfg(test)]
+mod session_tests;
 mod state;
 #[cfg(test)]
 mod tests;

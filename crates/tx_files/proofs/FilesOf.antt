@@ -1,12 +1,12 @@
 -- The map that the entries stand for answers as a search of the entries does, and an insertion among them is one in it.
-use Rattle.std.proofs.Common.{◌≡◌, ℕ, Bool, true, false, cond, List, [], ◌∷◌, map, Option, Some, refl, sym, ap, ◌∙◌, nat_eq, true≢false}
+use Rattle.std.proofs.Common.{◌≡◌, ℕ, Bool, true, false, cond, List, [], ◌∷◌, map, Option, Some, None, refl, sym, ap, ◌∙◌, nat_eq, true≢false}
 use Rattle.std.specs.Global.{Vec}
 use Rattle.std.specs.Ordering.{nat_cmp}
 use Rattle.std.specs.Cmp.Lexicographic.{slice_cmp}
-use Rattle.std.specs.Cmp.Lexicographic.{pointwise, same_text, nat_list_cmp_total}
+use Rattle.std.specs.Cmp.Lexicographic.{pointwise, same_text, bytes_decides, nat_list_cmp_total, nat_list_eq_equiv}
 use Rattle.std.specs.Str.{bytes_eq}
-use Rattle.std.specs.Map.{lookup}
-use Rattle.std.specs.FinMap.{find, insert, get-from_entries, get-insert, same_map, slice_cmp-IsAntisymmetric, nat_cmp-IsAntisymmetric}
+use Rattle.std.specs.Map.{lookup, KeepsOthers}
+use Rattle.std.specs.FinMap.{find, insert, remove, get-from_entries, get-insert, get-remove, same_map, slice_cmp-IsAntisymmetric, nat_cmp-IsAntisymmetric}
 use Rattle.std.proofs.lemmas.Map.Text.{is_eq-slice_cmp}
 use Rattle.indexmap.specs.IndexMap.{insert_entry}
 use Rattle.tx_bytes.specs.Files.{content}
@@ -52,3 +52,27 @@ files_of-insert_entry es k v = same_map nat_list_cmp_total (slice_cmp-IsAntisymm
     ∙ lookup-insert_entry es k v q
     ∙ sym (λ i. cond (is_eq-slice_cmp q k.items i) (Some v) (content-files_of es q i))
     ∙ sym (get-insert nat_list_cmp_total (files_of es) k.items v q))
+
+others : (name q : List ℕ) (old new : List (Vec ℕ × List ℕ)) → bytes_eq name q ≡ false → KeepsOthers same_key (λ k. bytes_eq name k.items) old new
+    → lookup (λ k. bytes_eq q k.items) new ≡ lookup (λ k. bytes_eq q k.items) old
+unfolding KeepsOthers
+others name q old new apart keeps = keeps (λ k. bytes_eq q k.items) (λ x y. nat_list_eq_equiv.congr q x.items y.items) (λ k same. nat_list_eq_equiv.symm q k.items ∙ sym (nat_list_eq_equiv.congr name k.items q same) ∙ apart)
+
+-- after a change of the entry with one key, the files are as before, but for the file of this name
+pub content-updates : (name : List ℕ) (old new : List (Vec ℕ × List ℕ)) (now : Option (List ℕ)) → lookup (λ k. bytes_eq name k.items) new ≡ now → KeepsOthers same_key (λ k. bytes_eq name k.items) old new
+    → (q : List ℕ) → content (files_of new) q ≡ cond (bytes_eq q name) now (content (files_of old) q)
+content-updates name old new now here keeps q = content-files_of new q ∙ by (bytes_eq q name) refl
+  where
+    by : (same : Bool) → bytes_eq q name ≡ same → lookup (λ k. bytes_eq q k.items) new ≡ cond same now (content (files_of old) q)
+    by true e = ap (λ x. lookup (λ k. bytes_eq x k.items) new) ((bytes_decides q name).0 e) ∙ here
+    by false e = others name q old new (nat_list_eq_equiv.symm name q ∙ e) keeps ∙ sym (content-files_of old q)
+
+pub files_of-removed : (name : List ℕ) (old new : List (Vec ℕ × List ℕ)) → lookup (λ k. bytes_eq name k.items) new ≡ None → KeepsOthers same_key (λ k. bytes_eq name k.items) old new → files_of new ≡ remove (files_of old) name
+files_of-removed name old new here keeps = same_map nat_list_cmp_total (slice_cmp-IsAntisymmetric nat_cmp-IsAntisymmetric) _ _ (λ q.
+    content-updates name old new None here keeps q
+    ∙ sym (get-remove nat_list_cmp_total (files_of old) name q ∙ ap (λ b. cond b None (content (files_of old) q)) (is_eq-slice_cmp q name)))
+
+pub files_of-changed : (name bytes : List ℕ) (old new : List (Vec ℕ × List ℕ)) → lookup (λ k. bytes_eq name k.items) new ≡ Some bytes → KeepsOthers same_key (λ k. bytes_eq name k.items) old new → files_of new ≡ insert (files_of old) name bytes
+files_of-changed name bytes old new here keeps = same_map nat_list_cmp_total (slice_cmp-IsAntisymmetric nat_cmp-IsAntisymmetric) _ _ (λ q.
+    content-updates name old new (Some bytes) here keeps q
+    ∙ sym (get-insert nat_list_cmp_total (files_of old) name bytes q ∙ ap (λ b. cond b (Some bytes) (content (files_of old) q)) (is_eq-slice_cmp q name)))

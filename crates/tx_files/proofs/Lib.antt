@@ -1,1 +1,2 @@
 mod FilesOf
+pub mod Restored

@@ -1,6 +1,62 @@
-use crate::{FileSet, Name, NextLine, line_count, next_line};
+use crate::{Edit, FileSet, Name, NextLine, Refusal, line_count, next_line};
+use std::alloc::{AllocError, Global};
 use std::test::Fail;
 use tx_bytes::Bytes;
+
+/// Makes an edit of `a.tex`, and answers its length where the edit is outside.
+fn outside(
+    alloc: Global,
+    files: &mut FileSet,
+    place: u64,
+    removed: u64,
+    put: &[u8],
+) -> Result<Option<u64>, Fail> {
+    let e = edit(alloc, place, removed, put)?;
+    match files.apply(&e) {
+        Ok(()) => Ok(None),
+        Err(Refusal::Outside { len }) => Ok(Some(len)),
+        Err(Refusal::OutOfMemory) => Err(AllocError.into()),
+    }
+}
+
+fn edit(alloc: Global, place: u64, removed: u64, put: &[u8]) -> Result<Edit, AllocError> {
+    let Some(name) = Name::new(Bytes::from_slice(alloc, b"a.tex")?) else {
+        return Err(AllocError);
+    };
+    Ok(Edit {
+        name,
+        place,
+        removed,
+        put: Bytes::from_slice(alloc, put)?,
+    })
+}
+
+#[test]
+fn an_edit_lies_within_its_file(rt: HostRuntime) -> Result<(), Fail> {
+    let mut files = FileSet::new(rt.alloc());
+    assert_eq!(rt; outside(rt.alloc(), &mut files, 1, 0, b"x")?, Some(0));
+    assert_eq!(rt; outside(rt.alloc(), &mut files, 0, 0, b"one two")?, None);
+    assert_eq!(rt; outside(rt.alloc(), &mut files, 4, 3, b"three")?, None);
+    assert_eq!(rt; outside(rt.alloc(), &mut files, 9, 0, b"!")?, None);
+    assert_eq!(rt; outside(rt.alloc(), &mut files, 8, 3, b"x")?, Some(10));
+    assert_eq!(rt; files.bytes_of(b"a.tex"), b"one three!".as_slice());
+    Ok(())
+}
+
+#[test]
+fn a_change_is_taken_back(rt: HostRuntime) -> Result<(), Fail> {
+    let mut files = FileSet::new(rt.alloc());
+    let e = edit(rt.alloc(), 0, 0, b"one")?;
+    let absent = files.change(&e)?;
+    files.restore(&e.name, absent);
+    assert!(rt; files.get(b"a.tex").is_none());
+    files.apply(&e)?;
+    let before = files.change(&e)?;
+    assert_eq!(rt; files.bytes_of(b"a.tex"), b"oneone".as_slice());
+    files.restore(&e.name, before);
+    assert_eq!(rt; files.bytes_of(b"a.tex"), b"one".as_slice());
+    Ok(())
+}
 
 #[test]
 fn files_are_kept_by_their_names(rt: HostRuntime) -> Result<(), Fail> {

@@ -1,3 +1,4 @@
 pub mod Stretch
 pub mod Going
 pub mod Running
+mod PageCounts

@@ -114,9 +114,11 @@ pub fn fresh_run<M: Machine>(
     requires dated { IsDate date.now }
     requires limited { AreLimits limits.now }
     ensures ran { IfOk result (λ ran. ran ≡ (run M.formatter files.now main.now date.now limits.now).ran) }
+    ensures few { IfOk result (λ ran. length ran.pages ≤ limits.now.pages) }
     ensures counted { OnOk result (steps.new ≡ raised steps.old (run M.formatter files.now main.now date.now limits.now).turns) }
 
     // Whatever the files say, and also where memory was wanting.
+    ensures most { steps.new ≤ raised steps.old (run M.formatter files.now main.now date.now limits.now).turns }
     ensures bound { steps.new ≤ steps.old + (length (run M.formatter files.now main.now date.now limits.now).ran.pages + 1) * limits.now.budget }
 {
     let spot = Spot {

@@ -1,0 +1,36 @@
+ghost use Rattle.std.specs.Prelude.{◌≡◌};
+ghost use Rattle.tx_files.specs.declared.edit.Refusal.TheVariants.{OutOfMemory};
+
+use crate::name::Name;
+use std::alloc::AllocError;
+use thiserror::Error;
+use tx_bytes::Bytes;
+
+/// A change of one file: from `place` on, counted in bytes from the file's start, `removed` bytes are taken out, and
+/// `put` stands in their stead. The file may be absent; then it is made.
+#[derive(Debug, Drop)]
+pub struct Edit {
+    pub name: Name,
+    pub place: u64,
+    pub removed: u64,
+    pub put: Bytes,
+}
+
+/// Why an edit wasn't made. Nothing has changed then.
+#[derive(Clone, Copy, Debug, PartialEq, Eq, Error)]
+pub enum Refusal {
+    /// The edit goes past the end of its file, which has `len` bytes; an absent file has none.
+    #[error("outside, file has {len} bytes")]
+    Outside { len: u64 },
+    /// There was no memory left.
+    #[error("out of memory")]
+    OutOfMemory,
+}
+
+impl From<AllocError> for Refusal {
+    ghost from_gives = { λ _ e. e ≡ OutOfMemory };
+
+    fn from(_: AllocError) -> Refusal {
+        Refusal::OutOfMemory
+    }
+}

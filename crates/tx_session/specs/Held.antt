@@ -1,0 +1,50 @@
+-- What a session holds, and what it shows: the fresh run on its files, with no checkpoint and no reuse.
+use Rattle.std.specs.Prelude.{ℕ, ◌-◌, List, [], ◌∷◌, ◌++◌, slice_get}
+use Rattle.std.specs.Option.{option_map_or}
+use Rattle.tx_bytes.specs.Files.{Files}
+use Rattle.tx_files.specs.Edits.{edited, after_edit, replay}
+use Rattle.tx_files.specs.declared.edit.Edit.{Edit}
+use Rattle.tx_dvi.specs.Page.{Page}
+use Rattle.tx_machine.specs.declared.types.Date.{Date}
+use Rattle.tx_machine.specs.declared.types.Limits.{Limits}
+use Rattle.tx_machine.specs.declared.types.Ran.{Ran}
+use Rattle.tx_machine.specs.Machine.{Formatter}
+use Rattle.tx_machine.specs.Run.{Counted, run}
+
+-- the files as they are now, and what stays the same: the main file's name, the date and the limits
+pub record Held : Type 0 where
+  pub files : Files
+  pub main : List ℕ
+  pub date : Date
+  pub limits : Limits
+
+-- the fresh run on the files as they are now
+abbrev pub fresh : {S : Type 0} → Formatter S → Held → Counted
+fresh m held = run m held.files held.main held.date held.limits
+
+-- the pieces of a transcript, joined, and what follows the last of them
+abbrev pub joined_with : List (List ℕ) → List ℕ → List ℕ
+joined_with [] last = last
+joined_with (piece ∷ pieces) last = piece ++ joined_with pieces last
+
+-- the whole transcript of a run
+abbrev pub transcript : Ran → List ℕ
+transcript ran = joined_with ran.pieces ran.last
+
+-- the commands of the n-th page, counted from 1
+abbrev pub body_of : List Page → ℕ → List ℕ
+body_of pages n = option_map_or (λ page. page.body) (slice_get pages (n - 1)) []
+
+-- a session with other files
+abbrev pub with_files : Held → Files → Held
+with_files held files = record held { files = files }
+
+-- after an edit that fits, after one that is refused where it doesn't, and after some of these
+abbrev pub edited_session : Held → Edit → Held
+edited_session held e = with_files held (edited held.files e)
+
+abbrev pub after : Held → Edit → Held
+after held e = with_files held (after_edit held.files e)
+
+abbrev pub replayed : Held → List Edit → Held
+replayed held edits = with_files held (replay held.files edits)

@@ -1,0 +1,4 @@
+pub mod Held
+pub mod HeldCode
+pub mod Report
+pub mod Shows

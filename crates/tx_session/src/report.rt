@@ -1,0 +1,13 @@
+/// What came of an edit that was accepted, in pages: those that were resumed after, those that were formatted and those
+/// that were reused make up all.
+#[derive(Clone, Copy, Debug, PartialEq, Eq)]
+pub struct Report {
+    /// All pages of the document as it is now.
+    pub pages: usize,
+    /// The first pages, after which formatting resumed.
+    pub resumed: usize,
+    /// Pages that were formatted for this edit.
+    pub formatted: usize,
+    /// The last pages, which were taken over as they were.
+    pub reused: usize,
+}

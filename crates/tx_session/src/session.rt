@@ -1,0 +1,188 @@
+ghost use Rattle.std.specs.Prelude.{◌≡◌, ℕ, ◌<◌, ◌≤◌, ◌+◌, ◌*◌, length, take, IfOk, OnOk, OnErr};
+ghost use Rattle.tx_dvi.specs.Dvi.{dvi};
+ghost use Rattle.tx_files.specs.Edits.{IsAnswerTo};
+ghost use Rattle.tx_machine.specs.Ranges.{IsDate, AreLimits};
+ghost use Rattle.tx_machine.specs.Steps.{raised};
+ghost use Rattle.tx_session.specs.Held.{fresh, transcript, body_of, edited_session, after, replayed};
+ghost use Rattle.tx_session.specs.Report.{all_anew, report, work, turns_of_edit, turns_of_edits, IsOutside};
+
+use crate::made::{Made, make_anew};
+use crate::report::Report;
+use std::alloc::{AllocError, Global};
+use std::marker::Model;
+use tx_bytes::Bytes;
+use tx_dvi::assemble;
+use tx_files::{Edit, FileSet, Name, Refusal};
+use tx_machine::{Date, End, Limits, Machine, Steps};
+
+/// The report of an edit after which every page was formatted.
+fn all_anew(pages: usize) -> Report
+    ensures { result ≡ all_anew pages }
+{
+    Report {
+        pages,
+        resumed: 0,
+        formatted: pages,
+        reused: 0,
+    }
+}
+
+/// A document and what the run on it gave. Contracts see its files, its main file's name, its date and its limits: all
+/// that it shows is that of the fresh run on these.
+#[derive(Drop)]
+pub struct Session<M: Machine> {
+    alloc: Global,
+    machine: M,
+    files: FileSet,
+    main: Name,
+    date: Date,
+    limits: Limits,
+    made: Made,
+}
+
+impl<M: Machine> Model for Session<M> {
+    ghost use Rattle.tx_session.specs.Held.{Held};
+    ghost use Rattle.tx_session.specs.HeldCode.{held_code};
+    ghost use Rattle.tx_session.specs.Shows.{Shows};
+
+    ghost Value = { Held };
+
+    ghost coded = { held_code };
+
+    ghost view = { λ s. record { files = s.files; main = s.main; date = s.date; limits = s.limits } };
+
+    ghost invariant = { λ s. Shows M.formatter (record { files = s.files; main = s.main; date = s.date; limits = s.limits }) s.made };
+}
+
+impl<M: Machine> Session<M> {
+    /// Opens a document: makes the run of its main file. Its only error is want of memory.
+    pub fn open(
+        alloc: Global,
+        machine: M,
+        files: FileSet,
+        main: Name,
+        date: Date,
+        limits: Limits,
+        steps: &mut Steps,
+    ) -> Result<Session<M>, AllocError>
+    where
+        M: Drop,
+        requires dated { IsDate date }
+        requires limited { AreLimits limits }
+        ensures held { IfOk result (λ session. session ≡ record { files = files; main = main; date = date; limits = limits }) }
+        ensures counted { IfOk result (λ session. steps.new ≡ raised steps.old (fresh M.formatter session).turns) }
+
+        // Whatever the files say, and also where memory was wanting.
+        ensures most { steps.new ≤ raised steps.old (fresh M.formatter (record { files = files; main = main; date = date; limits = limits })).turns }
+        ensures bound { steps.new ≤ steps.old + (length (fresh M.formatter (record { files = files; main = main; date = date; limits = limits })).ran.pages + 1) * limits.budget }
+    {
+        let made = make_anew(alloc, &machine, &files, &main, &date, &limits, steps)?;
+        Ok(Session {
+            alloc,
+            machine,
+            files,
+            main,
+            date,
+            limits,
+            made,
+        })
+    }
+
+    /// Makes an edit: its answer is what came of it, or why it was refused. The new run is made beside the old one,
+    /// which it replaces in the end, and that takes no memory; so after a refusal everything is as before.
+    pub fn edit(&mut self, e: &Edit, steps: &mut Steps) -> Result<Report, Refusal>
+        ensures answer { IsAnswerTo self.old.files e.now result }
+        ensures held { OnOk result (self.new ≡ edited_session self.old e.now) }
+        ensures report { IfOk result (λ answer. answer ≡ report M.formatter self.old e.now) }
+        ensures counted { OnOk result (steps.new ≡ raised steps.old (work M.formatter self.old e.now)) }
+        ensures refused { OnErr result (self.new ≡ self.old) }
+        ensures outside { IsOutside result → steps.new ≡ steps.old }
+
+        // Whatever the files say, and also where memory was wanting.
+        ensures most { steps.new ≤ raised steps.old (work M.formatter self.old e.now) }
+        ensures bound { steps.new ≤ steps.old + (length (fresh M.formatter (edited_session self.old e.now)).ran.pages + 1) * self.old.limits.budget }
+    {
+        let before = self.files.change(e)?;
+        match make_anew(
+            self.alloc,
+            &self.machine,
+            &self.files,
+            &self.main,
+            &self.date,
+            &self.limits,
+            steps,
+        ) {
+            Ok(made) => {
+                self.made = made;
+                Ok(all_anew(self.pages()))
+            }
+            Err(_) => {
+                self.files.restore(&e.name, before);
+                Err(Refusal::OutOfMemory)
+            }
+        }
+    }
+
+    /// Makes an edit, or leaves it out where it doesn't fit.
+    fn edit_if_it_fits(&mut self, e: &Edit, steps: &mut Steps) -> Result<(), AllocError>
+        ensures held { OnOk result (self.new ≡ after self.old e.now) }
+        ensures counted { OnOk result (steps.new ≡ raised steps.old (turns_of_edit M.formatter self.old e.now)) }
+        ensures err { OnErr result (self.new ≡ self.old) }
+    {
+        match self.edit(e, steps) {
+            Ok(_) => Ok(()),
+            Err(Refusal::Outside { .. }) => Ok(()),
+            Err(Refusal::OutOfMemory) => Err(AllocError),
+        }
+    }
+
+    /// Makes edits, one after the other; those that don't fit are left out. Its only error is want of memory, which
+    /// leaves the session as the edits before had made it.
+    pub fn replay(&mut self, edits: &[Edit], steps: &mut Steps) -> Result<(), AllocError>
+        ensures all { OnOk result (self.new ≡ replayed self.old edits.now) }
+        ensures first { OnErr result ((made : ℕ) × (made < length edits.now) × (self.new ≡ replayed self.old (take made edits.now))) }
+        ensures counted { OnOk result (steps.new ≡ raised steps.old (turns_of_edits M.formatter self.old edits.now)) }
+    {
+        for e in edits {
+            self.edit_if_it_fits(e, steps)?;
+        }
+        Ok(())
+    }
+
+    /// How many pages there are.
+    pub fn pages(&self) -> usize
+        ensures { result ≡ length (fresh M.formatter self.now).ran.pages }
+    {
+        self.made.ran.pages.as_slice().len()
+    }
+
+    /// The commands of the n-th page, counted from 1, lent.
+    pub fn body(&self, n: usize) -> &[u8]
+        requires { (1 ≤ n) × (n ≤ length (fresh M.formatter self.now).ran.pages) }
+        ensures { result.now ≡ body_of (fresh M.formatter self.now).ran.pages n }
+    {
+        self.made.ran.pages.as_slice()[n - 1].body()
+    }
+
+    /// How the run ended.
+    pub fn end(&self) -> &End
+        ensures { result.now ≡ (fresh M.formatter self.now).ran.end }
+    {
+        &self.made.ran.end
+    }
+
+    /// The whole transcript, lent.
+    pub fn said(&self) -> &[u8]
+        ensures { result.now ≡ transcript (fresh M.formatter self.now).ran }
+    {
+        self.made.said.as_slice()
+    }
+
+    /// The DVI file of the pages; where there is no page there is no file, and so no byte. Its only error is want of
+    /// memory.
+    pub fn dvi(&self) -> Result<Bytes, AllocError>
+        ensures { IfOk result (λ file. file ≡ dvi (fresh M.formatter self.now).ran.pages) }
+    {
+        assemble(self.alloc, self.made.ran.pages.as_slice())
+    }
+}
