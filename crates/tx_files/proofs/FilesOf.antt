@@ -1,4 +1,4 @@
--- The map that the entries stand for answers as a search of the entries does, and an insertion among them is one in it.
+-- The map that the entries stand for answers as a search of the entries does, and a change of an entry is one in it.
 use Rattle.std.proofs.Common.{◌≡◌, ℕ, Bool, true, false, cond, List, [], ◌∷◌, map, Option, Some, None, refl, sym, ap, ◌∙◌, nat_eq, true≢false}
 use Rattle.std.specs.Global.{Vec}
 use Rattle.std.specs.Ordering.{nat_cmp}
@@ -6,18 +6,10 @@ use Rattle.std.specs.Cmp.Lexicographic.{slice_cmp}
 use Rattle.std.specs.Cmp.Lexicographic.{pointwise, same_text, bytes_decides, nat_list_cmp_total, nat_list_eq_equiv}
 use Rattle.std.specs.Str.{bytes_eq}
 use Rattle.std.specs.Map.{lookup, KeepsOthers}
-use Rattle.std.specs.FinMap.{find, insert, remove, get-from_entries, get-insert, get-remove, same_map, slice_cmp-IsAntisymmetric, nat_cmp-IsAntisymmetric}
+use Rattle.std.specs.FinMap.{find, get, insert, remove, get-from_entries, get-insert, get-remove, same_map, slice_cmp-IsAntisymmetric, nat_cmp-IsAntisymmetric}
 use Rattle.std.proofs.lemmas.Map.Text.{is_eq-slice_cmp}
 use Rattle.indexmap.specs.IndexMap.{insert_entry}
-use Rattle.tx_bytes.specs.Files.{content}
-use Rattle.tx_files.specs.Entries.{files_of}
-
-pub find-entries : (es : List (Vec ℕ × List ℕ)) (q : List ℕ) → find (slice_cmp nat_cmp) q (map (λ e. (e.0.items, e.1)) es) ≡ lookup (λ k. bytes_eq q k.items) es
-find-entries [] q = refl
-find-entries (e ∷ es) q = λ i. cond (is_eq-slice_cmp q e.0.items i) (Some e.1) (find-entries es q i)
-
-pub content-files_of : (es : List (Vec ℕ × List ℕ)) (q : List ℕ) → content (files_of es) q ≡ lookup (λ k. bytes_eq q k.items) es
-content-files_of es q = get-from_entries nat_list_cmp_total _ q ∙ find-entries es q
+use Rattle.tx_files.specs.Entries.{by_names}
 
 -- the test by which the entries' keys are told apart
 abbrev pub same_key : Vec ℕ → Vec ℕ → Bool
@@ -34,45 +26,53 @@ twice : (c : Bool) {X : Type 0} (v old rest : X) → cond c v rest ≡ cond c v 
 twice true v old rest = refl
 twice false v old rest = refl
 
-pub lookup-insert_entry : (es : List (Vec ℕ × List ℕ)) (k : Vec ℕ) (v q : List ℕ) → lookup (λ x. bytes_eq q x.items) (insert_entry same_key es k v) ≡ cond (bytes_eq q k.items) (Some v) (lookup (λ x. bytes_eq q x.items) es)
-lookup-insert_entry [] k v q = refl
-lookup-insert_entry (e ∷ es) k v q = by (same_key k e.0) refl (lookup-insert_entry es k v q)
-  where
-    find_in : List (Vec ℕ × List ℕ) → Option (List ℕ)
-    find_in = lookup (λ x. bytes_eq q x.items)
+module _ {X : Type 0} where
+  pub find-entries : (es : List (Vec ℕ × X)) (q : List ℕ) → find (slice_cmp nat_cmp) q (map (λ e. (e.0.items, e.1)) es) ≡ lookup (λ k. bytes_eq q k.items) es
+  find-entries [] q = refl
+  find-entries (e ∷ es) q = λ i. cond (is_eq-slice_cmp q e.0.items i) (Some e.1) (find-entries es q i)
 
-    by : (b : Bool) → same_key k e.0 ≡ b → find_in (insert_entry same_key es k v) ≡ cond (bytes_eq q k.items) (Some v) (find_in es)
-        → find_in (cond b ((e.0, v) ∷ es) (e ∷ insert_entry same_key es k v)) ≡ cond (bytes_eq q k.items) (Some v) (cond (bytes_eq q e.0.items) (Some e.1) (find_in es))
-    by true h rest = twice (bytes_eq q e.0.items) (Some v) (Some e.1) (find_in es) ∙ ap (λ x. cond (bytes_eq q x) (Some v) (cond (bytes_eq q e.0.items) (Some e.1) (find_in es))) (sym (same_text k.items e.0.items (sym h)))
-    by false h rest = ap (λ r. cond (bytes_eq q e.0.items) (Some e.1) r) rest ∙ one_of_two q k.items e.0.items _ _ (Some v) (Some e.1) (find_in es) refl refl h
+  pub get-by_names : (es : List (Vec ℕ × X)) (q : List ℕ) → get (by_names es) q ≡ lookup (λ k. bytes_eq q k.items) es
+  get-by_names es q = get-from_entries nat_list_cmp_total _ q ∙ find-entries es q
 
-pub files_of-insert_entry : (es : List (Vec ℕ × List ℕ)) (k : Vec ℕ) (v : List ℕ) → files_of (insert_entry same_key es k v) ≡ insert (files_of es) k.items v
-files_of-insert_entry es k v = same_map nat_list_cmp_total (slice_cmp-IsAntisymmetric nat_cmp-IsAntisymmetric) _ _ (λ q.
-    content-files_of (insert_entry same_key es k v) q
-    ∙ lookup-insert_entry es k v q
-    ∙ sym (λ i. cond (is_eq-slice_cmp q k.items i) (Some v) (content-files_of es q i))
-    ∙ sym (get-insert nat_list_cmp_total (files_of es) k.items v q))
+  pub lookup-insert_entry : (es : List (Vec ℕ × X)) (k : Vec ℕ) (v : X) (q : List ℕ) → lookup (λ x. bytes_eq q x.items) (insert_entry same_key es k v) ≡ cond (bytes_eq q k.items) (Some v) (lookup (λ x. bytes_eq q x.items) es)
+  lookup-insert_entry [] k v q = refl
+  lookup-insert_entry (e ∷ es) k v q = by (same_key k e.0) refl (lookup-insert_entry es k v q)
+    where
+      find_in : List (Vec ℕ × X) → Option X
+      find_in = lookup (λ x. bytes_eq q x.items)
 
-others : (name q : List ℕ) (old new : List (Vec ℕ × List ℕ)) → bytes_eq name q ≡ false → KeepsOthers same_key (λ k. bytes_eq name k.items) old new
-    → lookup (λ k. bytes_eq q k.items) new ≡ lookup (λ k. bytes_eq q k.items) old
-unfolding KeepsOthers
-others name q old new apart keeps = keeps (λ k. bytes_eq q k.items) (λ x y. nat_list_eq_equiv.congr q x.items y.items) (λ k same. nat_list_eq_equiv.symm q k.items ∙ sym (nat_list_eq_equiv.congr name k.items q same) ∙ apart)
+      by : (b : Bool) → same_key k e.0 ≡ b → find_in (insert_entry same_key es k v) ≡ cond (bytes_eq q k.items) (Some v) (find_in es)
+          → find_in (cond b ((e.0, v) ∷ es) (e ∷ insert_entry same_key es k v)) ≡ cond (bytes_eq q k.items) (Some v) (cond (bytes_eq q e.0.items) (Some e.1) (find_in es))
+      by true h rest = twice (bytes_eq q e.0.items) (Some v) (Some e.1) (find_in es) ∙ ap (λ x. cond (bytes_eq q x) (Some v) (cond (bytes_eq q e.0.items) (Some e.1) (find_in es))) (sym (same_text k.items e.0.items (sym h)))
+      by false h rest = ap (λ r. cond (bytes_eq q e.0.items) (Some e.1) r) rest ∙ one_of_two q k.items e.0.items _ _ (Some v) (Some e.1) (find_in es) refl refl h
 
--- after a change of the entry with one key, the files are as before, but for the file of this name
-pub content-updates : (name : List ℕ) (old new : List (Vec ℕ × List ℕ)) (now : Option (List ℕ)) → lookup (λ k. bytes_eq name k.items) new ≡ now → KeepsOthers same_key (λ k. bytes_eq name k.items) old new
-    → (q : List ℕ) → content (files_of new) q ≡ cond (bytes_eq q name) now (content (files_of old) q)
-content-updates name old new now here keeps q = content-files_of new q ∙ by (bytes_eq q name) refl
-  where
-    by : (same : Bool) → bytes_eq q name ≡ same → lookup (λ k. bytes_eq q k.items) new ≡ cond same now (content (files_of old) q)
-    by true e = ap (λ x. lookup (λ k. bytes_eq x k.items) new) ((bytes_decides q name).0 e) ∙ here
-    by false e = others name q old new (nat_list_eq_equiv.symm name q ∙ e) keeps ∙ sym (content-files_of old q)
+  pub by_names-insert_entry : (es : List (Vec ℕ × X)) (k : Vec ℕ) (v : X) → by_names (insert_entry same_key es k v) ≡ insert (by_names es) k.items v
+  by_names-insert_entry es k v = same_map nat_list_cmp_total (slice_cmp-IsAntisymmetric nat_cmp-IsAntisymmetric) _ _ (λ q.
+      get-by_names (insert_entry same_key es k v) q
+      ∙ lookup-insert_entry es k v q
+      ∙ sym (λ i. cond (is_eq-slice_cmp q k.items i) (Some v) (get-by_names es q i))
+      ∙ sym (get-insert nat_list_cmp_total (by_names es) k.items v q))
 
-pub files_of-removed : (name : List ℕ) (old new : List (Vec ℕ × List ℕ)) → lookup (λ k. bytes_eq name k.items) new ≡ None → KeepsOthers same_key (λ k. bytes_eq name k.items) old new → files_of new ≡ remove (files_of old) name
-files_of-removed name old new here keeps = same_map nat_list_cmp_total (slice_cmp-IsAntisymmetric nat_cmp-IsAntisymmetric) _ _ (λ q.
-    content-updates name old new None here keeps q
-    ∙ sym (get-remove nat_list_cmp_total (files_of old) name q ∙ ap (λ b. cond b None (content (files_of old) q)) (is_eq-slice_cmp q name)))
+  others : (name q : List ℕ) (old new : List (Vec ℕ × X)) → bytes_eq name q ≡ false → KeepsOthers same_key (λ k. bytes_eq name k.items) old new
+      → lookup (λ k. bytes_eq q k.items) new ≡ lookup (λ k. bytes_eq q k.items) old
+  unfolding KeepsOthers
+  others name q old new apart keeps = keeps (λ k. bytes_eq q k.items) (λ x y. nat_list_eq_equiv.congr q x.items y.items) (λ k same. nat_list_eq_equiv.symm q k.items ∙ sym (nat_list_eq_equiv.congr name k.items q same) ∙ apart)
 
-pub files_of-changed : (name bytes : List ℕ) (old new : List (Vec ℕ × List ℕ)) → lookup (λ k. bytes_eq name k.items) new ≡ Some bytes → KeepsOthers same_key (λ k. bytes_eq name k.items) old new → files_of new ≡ insert (files_of old) name bytes
-files_of-changed name bytes old new here keeps = same_map nat_list_cmp_total (slice_cmp-IsAntisymmetric nat_cmp-IsAntisymmetric) _ _ (λ q.
-    content-updates name old new (Some bytes) here keeps q
-    ∙ sym (get-insert nat_list_cmp_total (files_of old) name bytes q ∙ ap (λ b. cond b (Some bytes) (content (files_of old) q)) (is_eq-slice_cmp q name)))
+  -- after a change of the entry with one key, the map is as before, but at this name
+  pub get-updates : (name : List ℕ) (old new : List (Vec ℕ × X)) (now : Option X) → lookup (λ k. bytes_eq name k.items) new ≡ now → KeepsOthers same_key (λ k. bytes_eq name k.items) old new
+      → (q : List ℕ) → get (by_names new) q ≡ cond (bytes_eq q name) now (get (by_names old) q)
+  get-updates name old new now here keeps q = get-by_names new q ∙ by (bytes_eq q name) refl
+    where
+      by : (same : Bool) → bytes_eq q name ≡ same → lookup (λ k. bytes_eq q k.items) new ≡ cond same now (get (by_names old) q)
+      by true e = ap (λ x. lookup (λ k. bytes_eq x k.items) new) ((bytes_decides q name).0 e) ∙ here
+      by false e = others name q old new (nat_list_eq_equiv.symm name q ∙ e) keeps ∙ sym (get-by_names old q)
+
+  pub by_names-removed : (name : List ℕ) (old new : List (Vec ℕ × X)) → lookup (λ k. bytes_eq name k.items) new ≡ None → KeepsOthers same_key (λ k. bytes_eq name k.items) old new → by_names new ≡ remove (by_names old) name
+  by_names-removed name old new here keeps = same_map nat_list_cmp_total (slice_cmp-IsAntisymmetric nat_cmp-IsAntisymmetric) _ _ (λ q.
+      get-updates name old new None here keeps q
+      ∙ sym (get-remove nat_list_cmp_total (by_names old) name q ∙ ap (λ b. cond b None (get (by_names old) q)) (is_eq-slice_cmp q name)))
+
+  pub by_names-changed : (name : List ℕ) (value : X) (old new : List (Vec ℕ × X)) → lookup (λ k. bytes_eq name k.items) new ≡ Some value → KeepsOthers same_key (λ k. bytes_eq name k.items) old new → by_names new ≡ insert (by_names old) name value
+  by_names-changed name value old new here keeps = same_map nat_list_cmp_total (slice_cmp-IsAntisymmetric nat_cmp-IsAntisymmetric) _ _ (λ q.
+      get-updates name old new (Some value) here keeps q
+      ∙ sym (get-insert nat_list_cmp_total (by_names old) name value q ∙ ap (λ b. cond b (Some value) (get (by_names old) q)) (is_eq-slice_cmp q name)))

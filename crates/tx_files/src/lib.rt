@@ -1,17 +1,21 @@
 //! Files as a run sees them: their names, a set of them in memory, how they are edited, and their lines.
 //!
-//! Read `name`, then `edit`, `file_set`, and `line`.
+//! Read `name`, then `edit`, `file_set` and `line`, and then `reads` and `seen`: what a run saw of the files.
 #![tactic(auto)]
 
 pub mod edit;
 pub mod file_set;
 pub mod line;
 pub mod name;
+pub mod reads;
+pub mod seen;
 
 pub use edit::{Edit, Refusal};
 pub use file_set::FileSet;
 pub use line::{NextLine, line_count, next_line};
 pub use name::Name;
+pub use reads::{Extent, FileReads, Note, Sight};
+pub use seen::{Seen, untouched};
 
 #[cfg(test)]
 mod tests;

@@ -1,4 +1,6 @@
-use crate::{Edit, FileSet, Name, NextLine, Refusal, line_count, next_line};
+use crate::{
+    Edit, FileSet, Name, NextLine, Refusal, Seen, Sight, line_count, next_line, untouched,
+};
 use std::alloc::{AllocError, Global};
 use std::test::Fail;
 use tx_bytes::Bytes;
@@ -109,4 +111,53 @@ fn a_last_line_needs_no_line_feed(rt: HostRuntime) {
             "of {read} bytes"
         );
     }
+}
+
+/// Each file with how it was seen, and then edits at places of files with whether they leave what was read.
+#[test]
+fn an_edit_leaves_what_was_read_before_its_place(rt: HostRuntime) -> Result<(), Fail> {
+    let mut seen = Seen::new(rt.alloc());
+    let sights: [(&[u8], Sight); 8] = [
+        (b"a.tex", Sight::Opened),
+        (b"a.tex", Sight::Line(9)),
+        (b"a.tex", Sight::Line(5)),
+        (b"b.tex", Sight::Opened),
+        (b"c.tex", Sight::Line(3)),
+        (b"c.tex", Sight::End),
+        (b"d.tex", Sight::Absent),
+        (b"e.tfm", Sight::Whole),
+    ];
+    for (name, sight) in sights {
+        seen.note(rt.alloc(), name, sight)?;
+    }
+    let places: [(&[u8], u64, bool); 8] = [
+        (b"a.tex", 9, true),
+        (b"a.tex", 8, false),
+        (b"b.tex", 0, true),
+        (b"c.tex", 3, false),
+        (b"c.tex", 100, false),
+        (b"d.tex", 0, false),
+        (b"e.tfm", 50, false),
+        (b"f.tex", 0, true),
+    ];
+    for (name, place, left) in places {
+        let e = Edit {
+            name: Name::new(Bytes::from_slice(rt.alloc(), name)?).ok_or("a name")?,
+            place,
+            removed: 0,
+            put: Bytes::new(rt.alloc()),
+        };
+        assert_eq!(rt; untouched(&seen, &e), left, "at {place}");
+    }
+    let asked: [(&[u8], bool); 4] = [
+        (b"a.tex", true),
+        (b"c.tex", false),
+        (b"d.tex", true),
+        (b"e.tfm", true),
+    ];
+    for (name, by_name) in asked {
+        let reads = seen.get(name).ok_or("it was seen")?;
+        assert_eq!(rt; reads.asked, by_name);
+    }
+    Ok(())
 }

@@ -15,6 +15,7 @@ use Rattle.tx_machine.specs.declared.types.Close.TheVariants.{Spent, Page, Halt}
 use Rattle.tx_machine.specs.declared.types.Event.{Event}
 use Rattle.tx_machine.specs.declared.types.Event.TheVariants.{Went, Asks, Shipped, Stopped}
 use Rattle.tx_machine.specs.declared.types.OpenFile.{OpenFile}
+use Rattle.tx_machine.specs.Counts.{closing_turns}
 use Rattle.tx_machine.specs.Machine.{Formatter, IsLawful, Ready, mode_after, kind_of, fits}
 use Rattle.tx_machine.specs.Opens.{reply_to, opening, reading, reading_on, whole, innermost, bytes_of}
 use Rattle.tx_machine.specs.Turn.{Place, Progress, one_turn, after_event, joined, stretch, stretch_by}
@@ -37,7 +38,7 @@ fits-reply_to files opens (Whole name) = elim (content files name) as (λ c. fit
 module _ {S : Type 0} (m : Formatter S) (files : Files) where
   -- a turn that the budget refuses, and one that it allows
   abbrev refused : Place S → Progress S
-  refused p = record { close = Some Spent; said = []; turns = 0; place = p }
+  refused p = record { close = Some Spent; said = []; turns = 0; log = []; place = p }
 
   abbrev allowed : Place S → Progress S
   allowed p = after_event m files p.opens (p.left - m.cost p.state) (m.step p.state).next (m.step p.state).said (m.step p.state).event
@@ -76,7 +77,7 @@ module _ {S : Type 0} (m : Formatter S) (files : Files) where
   ]
 
   -- no turn takes more turns than what it leaves less
-  turns-one_turn : IsLawful m → (p : Place S) → (one_turn m files p).turns + (one_turn m files p).place.left ≤ p.left
+  pub turns-one_turn : IsLawful m → (p : Place S) → (one_turn m files p).turns + (one_turn m files p).place.left ≤ p.left
   turns-one_turn lawful p = elim (is_turn p) [
     | Refused h e ↦
         let left : (one_turn m files p).place.left ≡ p.left = ap (λ t. t.place.left) e in
@@ -85,6 +86,26 @@ module _ {S : Type 0} (m : Formatter S) (files : Files) where
         let left : (one_turn m files p).place.left ≡ p.left - m.cost p.state = ap (λ t. t.place.left) e ∙ left-after_event p.opens _ _ _ (m.step p.state).event in
         let turns : (one_turn m files p).turns ≡ 1 = ap (λ t. t.turns) e ∙ turns-after_event p.opens _ _ _ (m.step p.state).event in
         omega (arith, lawful.costs p.state)
+  ]
+
+  -- a turn is taken unless the budget refuses it
+  turns_closing_after : (opens : List OpenFile) (left : ℕ) (next : S) (said : List ℕ) (event : Event) {c : Close}
+      → (after_event m files opens left next said event).close ≡ Some c → (after_event m files opens left next said event).turns ≡ closing_turns c
+  turns_closing_after opens left next said Went {c = c} e = let none : None ≡ Some c = e in cc
+  turns_closing_after opens left next said (Asks ask) {c = c} e = let none : None ≡ Some c = e in cc
+  turns_closing_after opens left next said (Shipped body) {c = c} e = let is : Page body ≡ c = (let h : Some (Page body) ≡ Some c = e in cc) in ap closing_turns is
+  turns_closing_after opens left next said (Stopped stop) {c = c} e = let is : Halt stop ≡ c = (let h : Some (Halt stop) ≡ Some c = e in cc) in ap closing_turns is
+
+  pub turns-closing : (p : Place S) {c : Close} → (one_turn m files p).close ≡ Some c → (one_turn m files p).turns ≡ closing_turns c
+  turns-closing p {c = c} closes = elim (is_turn p) [
+    | Refused h e ↦ ap (λ t. t.turns) e ∙ (let is : Spent ≡ c = (let spent : Some Spent ≡ Some c = sym (ap (λ t. t.close) e) ∙ closes in cc) in ap closing_turns is)
+    | Allowed h e ↦ ap (λ t. t.turns) e ∙ turns_closing_after p.opens _ _ _ (m.step p.state).event (sym (ap (λ t. t.close) e) ∙ closes)
+  ]
+
+  pub turns-going : (p : Place S) → (one_turn m files p).close ≡ None → (one_turn m files p).turns ≡ 1
+  turns-going p none = elim (is_turn p) [
+    | Refused h e ↦ absurd (let spent : Some Spent ≡ None = sym (ap (λ t. t.close) e) ∙ none in cc)
+    | Allowed h e ↦ ap (λ t. t.turns) e ∙ turns-after_event p.opens _ _ _ (m.step p.state).event
   ]
 
   -- what a stretch is by the close of its first turn

@@ -15,7 +15,7 @@ use crate::turn::format_page;
 use crate::types::{Close, Date, End, Limits, OpenFile, Ran, Stop};
 use std::alloc::{AllocError, Global};
 use tx_bytes::Bytes;
-use tx_files::{FileSet, Name, line_count};
+use tx_files::{FileSet, Name, Seen, line_count};
 
 /// How many lines the bytes of an open file before its offset make up.
 fn line_of(files: &FileSet, file: &OpenFile) -> u64
@@ -66,9 +66,12 @@ fn run_pages<M: Machine>(
 {
     let mut pages = Pages::new(alloc);
     let mut pieces = Pieces::new(alloc);
+    let mut seen = Seen::new(alloc);
     for _page in 0..limits.pages {
         spot.left = limits.budget;
-        let Closed { close, piece } = format_page(alloc, machine, files, &mut spot, steps)?;
+        let Closed { close, piece, .. } = format_page(
+            alloc, machine, files, &mut spot, &mut seen, steps,
+        )?;
         match close {
             Close::Page(body) => {
                 pages.push(body)?;

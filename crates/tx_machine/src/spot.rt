@@ -10,9 +10,10 @@ pub struct Spot<S> {
     pub left: u64,
 }
 
-/// What ended the turns of a page, and the piece of the transcript that they gave.
+/// What ended the turns of a page, the piece of the transcript that they gave, and how many they were.
 #[derive(Debug, Drop)]
 pub struct Closed {
     pub close: Close,
     pub piece: Bytes,
+    pub turns: u64,
 }

@@ -1,6 +1,7 @@
 ghost use Rattle.std.specs.Prelude.{◌≡◌, ◌≤◌, ◌++◌, [], Some, IfOk, OnOk};
+ghost use Rattle.tx_files.specs.Reads.{noting};
 ghost use Rattle.tx_machine.specs.Machine.{Ready};
-ghost use Rattle.tx_machine.specs.Counts.{Made, Closes};
+ghost use Rattle.tx_machine.specs.Counts.{Made, Closes, closing_turns};
 ghost use Rattle.tx_machine.specs.Steps.{raised};
 ghost use Rattle.tx_machine.specs.Turn.{one_turn, stretch, place_of};
 
@@ -11,19 +12,21 @@ use crate::steps::Steps;
 use crate::types::{Close, Event};
 use std::alloc::{AllocError, Global};
 use tx_bytes::Bytes;
-use tx_files::FileSet;
+use tx_files::{FileSet, Seen};
 
-/// Takes one turn, if the budget allows it, and answers what the machine asks in it.
+/// Takes one turn, if the budget allows it, answers what the machine asks in it, and notes what the answer shows of files.
 #[tactic(auto, unfolding(crate::specs::Turn::one_turn))]
 pub fn take_turn<M: Machine>(
     alloc: Global,
     machine: &M,
     files: &FileSet,
     spot: &mut Spot<M::State>,
+    seen: &mut Seen,
     steps: &mut Steps,
 ) -> Result<Option<Close>, AllocError>
     requires { M.formatter.mode (M.meaning spot.old.state) ≡ Ready }
     ensures made { IfOk result (λ close. Made (one_turn M.formatter files.now (place_of M.meaning spot.old)) close (place_of M.meaning spot.new) (M.pending spot.old.state) (M.pending spot.new.state)) }
+    ensures seen { OnOk result (seen.new ≡ noting seen.old (one_turn M.formatter files.now (place_of M.meaning spot.old)).log) }
     ensures steps { steps.new ≡ raised steps.old (one_turn M.formatter files.now (place_of M.meaning spot.old)).turns }
 {
     let cost = machine.cost(&spot.state);
@@ -35,7 +38,7 @@ pub fn take_turn<M: Machine>(
     match event {
         Event::Went => Ok(None),
         Event::Asks(ask) => {
-            let answer = reply(alloc, files, &mut spot.opens, ask)?;
+            let answer = reply(alloc, files, &mut spot.opens, seen, ask)?;
             machine.answer(alloc, &mut spot.state, &answer)?;
             Ok(None)
         }
@@ -44,26 +47,45 @@ pub fn take_turn<M: Machine>(
     }
 }
 
-/// Takes turns up to the next page or the run's end.
+/// How many turns a close took.
+fn closing_turns(close: &Close) -> u64
+    ensures { result ≡ closing_turns close.now }
+{
+    match close {
+        Close::Page(_) | Close::Halt(_) => 1,
+        Close::Spent => 0,
+    }
+}
+
+/// Takes turns up to the next page or the run's end, and notes what they see of files.
 pub fn format_page<M: Machine>(
     alloc: Global,
     machine: &M,
     files: &FileSet,
     spot: &mut Spot<M::State>,
+    seen: &mut Seen,
     steps: &mut Steps,
 ) -> Result<Closed, AllocError>
     requires ready { M.formatter.mode (M.meaning spot.old.state) ≡ Ready }
     requires taken { M.pending spot.old.state ≡ [] }
     ensures closes { IfOk result (λ closed. Closes (stretch M.formatter files.now (place_of M.meaning spot.old)) closed (place_of M.meaning spot.new)) }
+    ensures seen { OnOk result (seen.new ≡ noting seen.old (stretch M.formatter files.now (place_of M.meaning spot.old)).log) }
     ensures taken { OnOk result (M.pending spot.new.state ≡ []) }
     ensures steps { OnOk result (steps.new ≡ raised steps.old (stretch M.formatter files.now (place_of M.meaning spot.old)).turns) }
     ensures bound { steps.new ≤ raised steps.old (stretch M.formatter files.now (place_of M.meaning spot.old)).turns }
 {
+    let mut turns = 0;
     loop {
-        let close = take_turn(alloc, machine, files, spot, steps)?;
+        let close = take_turn(alloc, machine, files, spot, seen, steps)?;
         if let Some(close) = close {
+            turns += closing_turns(&close);
             let piece = machine.take_said(alloc, &mut spot.state);
-            return Ok(Closed { close, piece });
+            return Ok(Closed {
+                close,
+                piece,
+                turns,
+            });
         }
+        turns += 1;
     }
 }

@@ -1,7 +1,7 @@
-use Rattle.std.proofs.Common.{sym, ap, subst}
-use Rattle.tx_machine.specs.Counts.{Closes}
+use Rattle.std.proofs.Common.{◌+◌, ◌≤◌, sym, ap, subst, arith}
+use Rattle.tx_machine.specs.Counts.{Closes, closing_turns}
 use Rattle.tx_machine.specs.Turn.{Place, stretch, place_of}
-use Rattle.tx_machine.proofs.Going.{going-on, going-less, going-over, going-counted, going-bound}
+use Rattle.tx_machine.proofs.Going.{going-on, going-less, going-over, going-counted, going-bound, going-reads, going-fits, going-fits_one}
 use Rattle.tx_machine.proofs.turn.format_page.Goals as goal
 
 pub returns-in_err-close-clause-bound : goal.returns-in_err-close-clause-bound
@@ -9,9 +9,9 @@ returns-in_err-close-clause-bound g c = going-bound g.met.M.Machine.lawful c.loo
 
 pub returns-in-Some-clause-closes : goal.returns-in-Some-clause-closes
 returns-in-Some-clause-closes g c =
-    let kept : Place g.M.Machine.Meaning → Type 0 = λ p. Closes (stretch g.M.Machine.formatter c.args.files.now (place_of g.M.Machine.meaning c.args.spot.now)) (record { close = c.in-Some.close; piece = c.take_said-piece.result }) p in
+    let kept : Place g.M.Machine.Meaning → Type 0 = λ p. Closes (stretch g.M.Machine.formatter c.args.files.now (place_of g.M.Machine.meaning c.args.spot.now)) (record { close = c.in-Some.close; piece = c.take_said-piece.result; turns = c.loop-close.turns + c.closing_turns-turns.result }) p in
     subst kept (ap (λ s. record { state = s; opens = c.take_turn.new.spot.opens; left = c.take_turn.new.spot.left }) (sym c.take_said-piece.ensures.state))
-    (going-over g.met.M.Machine.lawful c.loop-close.invariant _ c.in-Some.is c.in_ok-close.ensures.made c.take_said-piece.ensures.said)
+    (going-over g.met.M.Machine.lawful c.loop-close.invariant _ _ c.in-Some.is c.in_ok-close.ensures.made c.take_said-piece.ensures.said (ap (λ n. c.loop-close.turns + n) c.closing_turns-turns.ensures))
 
 pub returns-in-Some-clause-steps : goal.returns-in-Some-clause-steps
 returns-in-Some-clause-steps g c = going-counted g.met.M.Machine.lawful c.loop-close.invariant c.in-Some.is c.in_ok-close.ensures.made c.take_turn.ensures.steps
@@ -23,4 +23,17 @@ pub loop-close-smaller : goal.loop-close-smaller
 loop-close-smaller g c = going-less g.met.M.Machine.lawful c.loop-close.invariant c.in_default.is c.in_ok-close.ensures.made
 
 pub loop-close-preserved : goal.loop-close-preserved
-loop-close-preserved g c = going-on g.met.M.Machine.lawful c.loop-close.invariant c.in_default.is c.in_ok-close.ensures.made c.take_turn.ensures.steps
+loop-close-preserved g c = going-on g.met.M.Machine.lawful c.loop-close.invariant c.in_default.is c.in_ok-close.ensures.made c.in_ok-close.ensures.seen c.take_turn.ensures.steps
+
+pub returns-in-Some-clause-seen : goal.returns-in-Some-clause-seen
+returns-in-Some-clause-seen g c = going-reads g.met.M.Machine.lawful c.loop-close.invariant c.in-Some.is c.in_ok-close.ensures.made c.in_ok-close.ensures.seen
+
+pub overflow_add-turns : goal.overflow_add-turns
+overflow_add-turns g c =
+    let within : c.loop-close.turns + closing_turns c.in-Some.close ≤ c.args.spot.now.left = going-fits g.met.M.Machine.lawful c.loop-close.invariant c.in-Some.is c.in_ok-close.ensures.made in
+    omega (arith, c.closing_turns-turns.ensures)
+
+pub overflow_add-turns-in-loop-close : goal.overflow_add-turns-in-loop-close
+overflow_add-turns-in-loop-close g c =
+    let within : c.loop-close.turns + 1 ≤ c.args.spot.now.left = going-fits_one g.met.M.Machine.lawful c.loop-close.invariant c.in_default.is c.in_ok-close.ensures.made in
+    omega arith

@@ -4,7 +4,7 @@ use Rattle.tx_machine.proofs.turn.format_page.Given as goal
 
 abbrev pub invariant-loop-close : goal.invariant-loop-close
 invariant-loop-close g l =
-    Going g.M.Machine.formatter l.files (place_of g.M.Machine.meaning l.initial.spot) (place_of g.M.Machine.meaning l.spot) (g.M.Machine.pending l.spot.state) l.initial.steps l.steps
+    Going g.M.Machine.formatter l.files (place_of g.M.Machine.meaning l.initial.spot) (place_of g.M.Machine.meaning l.spot) (g.M.Machine.pending l.spot.state) l.turns l.initial.seen l.seen l.initial.steps l.steps
 
 abbrev pub decreases-loop-close : goal.decreases-loop-close
 decreases-loop-close g l = l.spot.left

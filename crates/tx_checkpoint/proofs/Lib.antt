@@ -1,0 +1,5 @@
+pub mod Untouched
+pub mod Lines
+pub mod Edited
+pub mod Stretches
+pub mod Standing

@@ -1,0 +1,3 @@
+pub mod Rows
+pub mod Resume
+pub mod Laws

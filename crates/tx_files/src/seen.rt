@@ -1,0 +1,136 @@
+ghost use Rattle.std.specs.Prelude.{◌≡◌, OnOk, OnErr};
+ghost use Rattle.std.specs.FinMap.{empty, get};
+ghost use Rattle.tx_files.specs.Reads as reads;
+ghost use Rattle.tx_files.specs.Reads.{noted, seen_more, lies_before};
+
+use crate::edit::Edit;
+use crate::reads::{Extent, FileReads, Sight};
+use indexmap::IndexMap;
+use std::alloc::{AllocError, Global};
+use std::marker::Model;
+
+/// What was read of each file, by their names. Contracts see the finite map.
+#[derive(Drop)]
+pub struct Seen {
+    files: IndexMap<Vec<u8>, FileReads>,
+}
+
+impl Model for Seen {
+    ghost use Rattle.std.specs.Coded.{coded_ℕ, coded_list};
+    ghost use Rattle.std.specs.FinMap as map;
+    ghost use Rattle.tx_files.specs.Reads.{Reads};
+    ghost use Rattle.tx_files.specs.Entries.{by_names};
+    ghost use Rattle.tx_files.specs.contracts.reads.FileReads as file_reads;
+
+    ghost Value = { Reads };
+
+    ghost coded = { map.code (coded_list coded_ℕ) file_reads.the_row.coded };
+
+    ghost view = { λ s. by_names s.files.entries };
+}
+
+/// How much of a file one sight of it reads.
+fn extent_of(sight: Sight) -> Extent
+    ensures { result ≡ reads.extent_of sight }
+{
+    match sight {
+        Sight::Absent => Extent::Absent,
+        Sight::Opened => Extent::Upto(0),
+        Sight::Line(end) => Extent::Upto(end),
+        Sight::End | Sight::Whole => Extent::Whole,
+    }
+}
+
+/// Whether a sight comes of an ask for the file by its name.
+fn is_asked(sight: Sight) -> bool
+    ensures { result ≡ reads.is_asked sight }
+{
+    match sight {
+        Sight::Absent | Sight::Opened | Sight::Whole => true,
+        Sight::Line(_) | Sight::End => false,
+    }
+}
+
+/// How much of a file two readings of it read.
+fn together(first: Extent, later: Extent) -> Extent
+    ensures { result ≡ reads.together first later }
+{
+    match (first, later) {
+        (Extent::Absent, _) | (_, Extent::Absent) => Extent::Absent,
+        (Extent::Whole, _) | (_, Extent::Whole) => Extent::Whole,
+        (Extent::Upto(n), Extent::Upto(k)) => Extent::Upto(n.max(k)),
+    }
+}
+
+/// What is read of a file that wasn't seen before.
+fn seen_first(sight: Sight) -> FileReads
+    ensures { result ≡ seen_more None sight }
+{
+    FileReads {
+        extent: extent_of(sight),
+        asked: is_asked(sight),
+    }
+}
+
+/// What is read of a file with one sight more.
+fn seen_again(reads: FileReads, sight: Sight) -> FileReads
+    ensures { result ≡ seen_more (Some reads) sight }
+{
+    FileReads {
+        extent: together(reads.extent, extent_of(sight)),
+        asked: reads.asked || is_asked(sight),
+    }
+}
+
+/// Whether all that was read of a file lies before a place in it.
+fn lies_before(extent: Extent, place: u64) -> bool
+    ensures { result ≡ reads.lies_before extent place }
+{
+    match extent {
+        Extent::Upto(n) => n <= place,
+        Extent::Absent | Extent::Whole => false,
+    }
+}
+
+impl Seen {
+    /// Nothing was read; takes no memory.
+    pub fn new(alloc: Global) -> Seen
+        ensures { result ≡ empty }
+    {
+        Seen {
+            files: IndexMap::new(alloc),
+        }
+    }
+
+    /// Notes a sight of the file of this name. After want of memory nothing has changed.
+    pub fn note(&mut self, alloc: Global, name: &[u8], sight: Sight) -> Result<(), AllocError>
+        ensures ok { OnOk result (self.new ≡ noted self.old (record { name = name.now; sight = sight })) }
+        ensures err { OnErr result (self.new ≡ self.old) }
+    {
+        if let Some(reads) = self.files.get_mut(name) {
+            *reads = seen_again(*reads, sight);
+            return Ok(());
+        }
+        let key = Vec::from_slice(alloc, name)?;
+        self.files.insert(key, seen_first(sight))?;
+        Ok(())
+    }
+
+    /// What was read of the file of this name; None where it wasn't seen.
+    pub fn get(&self, name: &[u8]) -> Option<FileReads>
+        ensures { result ≡ get self.now name.now }
+    {
+        self.files.get(name).copied()
+    }
+}
+
+/// Whether an edit leaves all that was read as it is: its file wasn't seen, or was read up to the edit's place at most.
+/// It takes no memory.
+pub fn untouched(seen: &Seen, e: &Edit) -> bool
+    ensures { result ≡ reads.untouched seen.now e.now }
+{
+    match seen.get(e.name.as_slice()) {
+        None => true,
+        Some(reads) => lies_before(reads.extent, e.place),
+    }
+}
