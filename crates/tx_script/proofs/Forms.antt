@@ -28,10 +28,10 @@ pub record Reads {V : Type 0} (F : V → Type 0) (p : V → List (Rule × List �
   pub again : (v : V) (rest : List ℕ) → F v → bytes ≡ bytes_of (p v) ++ rest → r ≡ Ok (v, rest)
   pub breaks : (b : Broken) → r ≡ Err b → Breaks F p bytes b
 
-abbrev done : {A : Type 0} → A → Result A Broken
+abbrev pub done : {A : Type 0} → A → Result A Broken
 done x = Ok x
 
-abbrev failed : {A : Type 0} → Broken → Result A Broken
+abbrev pub failed : {A : Type 0} → Broken → Result A Broken
 failed b = Err b
 
 pub ok_is : {A : Type 0} (x y : A) → done x ≡ done y → x ≡ y
@@ -159,3 +159,66 @@ after {V} {U} F1 p1 F2 p2 F part to from some r first f others bytes = go (r byt
                 ];
             };
         }
+
+-- reading ended within one element
+pub record Stops {V : Type 0} (F : V → Type 0) (t : V → List ℕ) (bytes : List ℕ) (rule : Rule) (b : Broken) : Type 0 where
+  pub read : List ℕ
+  pub rest : List ℕ
+  pub split : bytes ≡ read ++ rest
+  pub left : length rest ≡ b.left
+  pub rule_is : b.rule ≡ rule
+  pub whose : V
+  pub more : List ℕ
+  pub fits : F whose
+  pub begins : t whose ≡ read ++ more
+  pub none : (v : V) (c : ℕ) (after others : List ℕ) → F v → rest ≡ c ∷ others → t v ≡ read ++ c ∷ after → ⊥
+
+-- a value of one element
+pub of_element : {V : Type 0} (F : V → Type 0) (t : V → List ℕ) (rule : Rule) (bytes : List ℕ) (r : Read V)
+    → ((v : V) (rest : List ℕ) → r ≡ Ok (v, rest) → F v × (bytes ≡ t v ++ rest))
+    → ((v : V) (rest : List ℕ) → F v → bytes ≡ t v ++ rest → r ≡ Ok (v, rest))
+    → ((b : Broken) → r ≡ Err b → Stops F t bytes rule b)
+    → Reads F (λ v. (rule, t v) ∷ []) bytes r
+of_element {V} F t rule bytes r takes again stops = record {
+    takes = λ v rest e. let k = takes v rest e in (k.0, k.1 ∙ ap (λ (y : List ℕ). y ++ rest) (sym (append-nil (t v))));
+    again = λ v rest fits e. again v rest fits (e ∙ ap (λ (y : List ℕ). y ++ rest) (append-nil (t v)));
+    breaks = λ b e.
+      let k = stops b e in
+      record {
+        read = k.read;
+        rest = k.rest;
+        split = k.split;
+        left = k.left;
+        whose = k.whose;
+        more = k.more;
+        fits = k.fits;
+        begins = append-nil (t k.whose) ∙ k.begins;
+        next = λ v c after_ fits eq.
+          let long : length (t v) ≡ length k.read + suc (length after_) = ap length (sym (append-nil (t v)) ∙ eq) ∙ length-append k.read (c ∷ after_) in
+          slice_get-append_left (replicate (length (t v)) rule) [] (length k.read) b.rule
+            (slice_get-replicate (length (t v)) rule (length k.read) (omega arith) ∙ ap (λ (x : Rule). Some x) (sym k.rule_is));
+        none = λ v c after_ others fits is eq. k.none v c after_ others fits is (sym (append-nil (t v)) ∙ eq);
+      };
+  }
+
+-- what is shown of a value from its form alone is shown of it from any other form with the same values
+pub refit : {V : Type 0} (F G : V → Type 0) (p : V → List (Rule × List ℕ)) (bytes : List ℕ) (r : Read V)
+    → ((v : V) → F v → G v) → ((v : V) → G v → F v) → Reads F p bytes r → Reads G p bytes r
+refit {V} F G p bytes r to from reads = record {
+    takes = λ v rest e. let k = reads.takes v rest e in (to v k.0, k.1);
+    again = λ v rest fits e. reads.again v rest (from v fits) e;
+    breaks = λ b e.
+      let k = reads.breaks b e in
+      record {
+        read = k.read;
+        rest = k.rest;
+        split = k.split;
+        left = k.left;
+        whose = k.whose;
+        more = k.more;
+        fits = to k.whose k.fits;
+        begins = k.begins;
+        next = λ v c after_ fits eq. k.next v c after_ (from v fits) eq;
+        none = λ v c after_ others fits is eq. k.none v c after_ others (from v fits) is eq;
+      };
+  }

@@ -1,3 +1,6 @@
 mod Parts
 mod Forms
 mod Literals
+mod Scans
+mod Digits
+mod Names
