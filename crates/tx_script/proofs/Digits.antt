@@ -1,11 +1,11 @@
 -- Reading a number.
 use Rattle.std.proofs.Common.{◌≡◌, ℕ, zero, suc, ◌+◌, ◌-◌, ◌*◌, ◌/◌, ◌%◌, ◌^◌, ◌<◌, ◌≤◌, Bool, true, false, cond, List, [], ◌∷◌, ◌++◌, length, take, get_or, refl, sym, ap, subst, ◌∙◌, append_assoc, arith}
-use Rattle.std.specs.Prelude.{Option, Some, None, Result, Ok, Err, option_map}
+use Rattle.std.specs.Prelude.{Option, Some, None, option_map}
 use Rattle.std.specs.Char.{is_ascii_digit}
 use Rattle.std.specs.Fmt.{decimal}
 use Rattle.std.specs.Int.{IsInRange}
-use Rattle.std.specs.Str.Parse.{AllDigits, digits_value}
-use Rattle.std.proofs.lemmas.Bool.{ltb-true, ltb-false, and_parts, and_cases, leb-false, leb-true, cases_eq}
+use Rattle.std.specs.Str.Parse.{digits_value}
+use Rattle.std.proofs.lemmas.Bool.{ltb-true, and_parts, leb-true}
 use Rattle.std.proofs.lemmas.Bool.Decides.{nat_tests}
 use Rattle.std.proofs.lemmas.Fmt.{decimal_is_IsNumeral, decimal_digit, decimal_step, decimal_nonempty, decimal_injective, first_decimal}
 use Rattle.std.proofs.lemmas.Int.Digits.{digits_value_push}
@@ -14,7 +14,7 @@ use Rattle.std.proofs.lemmas.Str.{digit_value_digit}
 use Rattle.std.proofs.lemmas.Str.Parse.{digit_at, digits_value-take-le}
 use Rattle.tx_script.specs.declared.error.Rule.TheVariants.{Number}
 use Rattle.tx_script.specs.Text.{greatest, number}
-use Rattle.tx_script.specs.Reading.{Read, further_number, may_follow, number_at, whole_number, with_byte, with_digit}
+use Rattle.tx_script.specs.Reading.{further_number, may_follow, number_at, whole_number, with_byte}
 use Rattle.tx_script.proofs.Forms.{Reads}
 use Rattle.tx_script.proofs.Scans.{Follows, scan_reads, some_is, some_or_none}
 
@@ -93,10 +93,10 @@ front_below v w c more hv hw digit e =
     let value : digits_value 10 (decimal v) ≡ v = (decimal_is_IsNumeral v (omega arith)).1 in
     let value_w : digits_value 10 (decimal w) ≡ w = (decimal_is_IsNumeral w (omega arith)).1 in
     let front : take (length (decimal w) + 1) (decimal v) ≡ decimal w ++ c ∷ [] =
-        ap (λ (x : List ℕ). take (length (decimal w) + 1) x) (e ∙ sym (append_assoc (decimal w) (c ∷ []) more))
-        ∙ take_at (decimal w ++ c ∷ []) more (length (decimal w) + 1) (length-append (decimal w) (c ∷ [])) in
+    ap (λ (x : List ℕ). take (length (decimal w) + 1) x) (e ∙ sym (append_assoc (decimal w) (c ∷ []) more))
+    ∙ take_at (decimal w ++ c ∷ []) more (length (decimal w) + 1) (length-append (decimal w) (c ∷ [])) in
     let part : digits_value 10 (decimal w ++ c ∷ []) ≤ digits_value 10 (decimal v) =
-        subst (λ (x : List ℕ). digits_value 10 x ≤ digits_value 10 (decimal v)) front (digits_value-take-le 10 (decimal v) (length (decimal w) + 1) (omega arith)) in
+    subst (λ (x : List ℕ). digits_value 10 x ≤ digits_value 10 (decimal v)) front (digits_value-take-le 10 (decimal v) (length (decimal w) + 1) (omega arith)) in
     omega (arith, part, digits_value_push 10 (decimal w) c, digit_value_digit c digit, value, value_w)
 
 Good : Option ℕ → Type 0
@@ -153,13 +153,13 @@ gone s c v more good e fits eq = by (with_byte s c) refl e
 follows : Follows 32 whole_number further_number (λ n. n ≤ greatest) decimal Good shown
 unfolding Good shown
 follows = record {
-    gives = gives_;
-    given = given_;
-    goes = goes;
-    gone = gone;
-    ahead = ahead_;
-    apart = λ v front more fits e. let digit = among v fits front 32 more e in omega (arith, digit.0);
-  }
+  gives = gives_;
+  given = given_;
+  goes = goes;
+  gone = gone;
+  ahead = ahead_;
+  apart = λ v front more fits e. let digit = among v fits front 32 more e in omega (arith, digit.0);
+}
   where
     gives_ : (s : Option ℕ) (v : ℕ) → Good s → s ≡ Some v → (v ≤ greatest) × (decimal v ≡ shown s)
     gives_ None v good e = absurd (some_or_none v e)

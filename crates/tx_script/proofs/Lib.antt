@@ -4,3 +4,5 @@ mod Literals
 mod Scans
 mod Digits
 mod Names
+mod Commands
+mod Scripts

@@ -1,11 +1,11 @@
 -- Reading a given text.
-use Rattle.std.proofs.Common.{◌≡◌, ℕ, ◌+◌, ◌<◌, ◌≤◌, Bool, true, false, cond, eqb, List, [], ◌∷◌, ◌++◌, length, refl, sym, ap, subst, ◌∙◌, arith}
+use Rattle.std.proofs.Common.{◌≡◌, ℕ, ◌<◌, Bool, true, false, cond, eqb, List, [], ◌∷◌, ◌++◌, length, refl, sym, ap, ◌∙◌, arith}
 use Rattle.std.specs.Prelude.{Result, Ok, Err}
 use Rattle.std.proofs.lemmas.Bool.{eqb-true, eqb-false, eq-eqb}
 use Rattle.tx_script.specs.declared.error.Broken.{Broken}
 use Rattle.tx_script.specs.declared.error.Rule.{Rule}
-use Rattle.tx_script.specs.Reading.{Read, ◌>>=◌, literal_at, stopped}
-use Rattle.tx_script.proofs.Forms.{Reads, Stops, of_element, done, failed, ok_is, err_is, ok_or_err}
+use Rattle.tx_script.specs.Reading.{◌>>=◌, literal_at, stopped}
+use Rattle.tx_script.proofs.Forms.{Reads, of_element, done, failed, ok_is, err_is, ok_or_err}
 
 -- nothing is left, and the text isn't at its end
 pub literal_at-end : (rule : Rule) (wanted rest : List ℕ) → 0 < length wanted → length rest < 1 → literal_at rule wanted rest ≡ stopped rule rest
@@ -45,21 +45,44 @@ pub literal_breaks : (rule : Rule) (wanted bytes : List ℕ) (b : Broken) → li
 literal_breaks rule [] bytes b e = absurd (ok_or_err bytes b e)
 literal_breaks rule (w ∷ wanted) [] b e =
     let is = err_is {A = List ℕ} (record { left = 0; rule = rule }) b e in
-    record { read = []; rest = []; split = refl; left = ap (λ (x : Broken). x.left) is; rule_is = ap (λ (x : Broken). x.rule) (sym is); more = w ∷ wanted; begins = refl;
-      none = λ c after others is_ eq. absurd cc }
+    record {
+      read = [];
+      rest = [];
+      split = refl;
+      left = ap (λ (x : Broken). x.left) is;
+      rule_is = ap (λ (x : Broken). x.rule) (sym is);
+      more = w ∷ wanted;
+      begins = refl;
+      none = λ c after others is_ eq. absurd cc;
+    }
 literal_breaks rule (w ∷ wanted) (a ∷ bytes) b e = by (literal_breaks rule wanted bytes b) (eqb a w) refl e
   where
     by : (literal_at rule wanted bytes ≡ failed b → Differs rule wanted bytes b) → (t : Bool) → eqb a w ≡ t → cond t (literal_at rule wanted bytes) (stopped rule (a ∷ bytes)) ≡ failed b → Differs rule (w ∷ wanted) (a ∷ bytes) b
     by others true is e =
         let k = others e in
         let same : a ≡ w = eqb-true a w is in
-        record { read = a ∷ k.read; rest = k.rest; split = ap (λ (x : List ℕ). a ∷ x) k.split; left = k.left; rule_is = k.rule_is; more = k.more;
+        record {
+          read = a ∷ k.read;
+          rest = k.rest;
+          split = ap (λ (x : List ℕ). a ∷ x) k.split;
+          left = k.left;
+          rule_is = k.rule_is;
+          more = k.more;
           begins = (λ i. sym same i ∷ k.begins i);
-          none = λ c after others is_ eq. k.none c after others is_ cc }
+          none = λ c after others is_ eq. k.none c after others is_ cc;
+        }
     by others false is e =
         let stop = err_is {A = List ℕ} (record { left = length (a ∷ bytes); rule = rule }) b e in
-        record { read = []; rest = a ∷ bytes; split = refl; left = ap (λ (x : Broken). x.left) stop; rule_is = ap (λ (x : Broken). x.rule) (sym stop); more = w ∷ wanted; begins = refl;
-          none = λ c after others is_ eq. eqb-false a w is cc }
+        record {
+          read = [];
+          rest = a ∷ bytes;
+          split = refl;
+          left = ap (λ (x : Broken). x.left) stop;
+          rule_is = ap (λ (x : Broken). x.rule) (sym stop);
+          more = w ∷ wanted;
+          begins = refl;
+          none = λ c after others is_ eq. eqb-false a w is cc;
+        }
 
 -- a value that a given text stands for
 pub literal_reads : {V : Type 0} (v0 : V) (rule : Rule) (wanted bytes : List ℕ)
@@ -69,16 +92,26 @@ literal_reads {V} v0 rule wanted bytes = go (literal_at rule wanted bytes) refl
     go : (x : Result (List ℕ) Broken) → literal_at rule wanted bytes ≡ x → Reads (λ v. v ≡ v0) (λ v. (rule, wanted) ∷ []) bytes (x >>= λ rest. Ok (v0, rest))
     go (Ok x) e = of_element (λ v. v ≡ v0) (λ v. wanted) rule bytes (Ok (v0, x))
         (λ v rest h.
-            let same = ok_is {A = V × List ℕ} (v0, x) (v, rest) h in
-            (ap (λ (z : V × List ℕ). z.0) (sym same), literal_takes rule wanted bytes x e ∙ ap (λ (z : V × List ℕ). wanted ++ z.1) same))
+        let same = ok_is {A = V × List ℕ} (v0, x) (v, rest) h in
+        (ap (λ (z : V × List ℕ). z.0) (sym same), literal_takes rule wanted bytes x e ∙ ap (λ (z : V × List ℕ). wanted ++ z.1) same))
         (λ v rest fits h.
-            let same = ok_is x rest (sym e ∙ literal_again rule wanted bytes rest h) in
-            λ i. Ok (sym fits i, same i))
+        let same = ok_is x rest (sym e ∙ literal_again rule wanted bytes rest h) in
+        λ i. Ok (sym fits i, same i))
         (λ b h. absurd (ok_or_err {A = V × List ℕ} (v0, x) b h))
     go (Err d) e = of_element (λ v. v ≡ v0) (λ v. wanted) rule bytes (Err d)
         (λ v rest h. absurd (ok_or_err {A = V × List ℕ} (v, rest) d (sym h)))
         (λ v rest fits h. absurd (ok_or_err rest d (sym (literal_again rule wanted bytes rest h) ∙ e)))
         (λ b h.
-            let k = literal_breaks rule wanted bytes b (e ∙ ap (λ (z : Broken). failed {A = List ℕ} z) (err_is {A = V × List ℕ} d b h)) in
-            record { read = k.read; rest = k.rest; split = k.split; left = k.left; rule_is = k.rule_is; whose = v0; more = k.more; fits = refl; begins = k.begins;
-              none = λ v c after others fits is eq. k.none c after others is eq })
+        let k = literal_breaks rule wanted bytes b (e ∙ ap (λ (z : Broken). failed {A = List ℕ} z) (err_is {A = V × List ℕ} d b h)) in
+        record {
+          read = k.read;
+          rest = k.rest;
+          split = k.split;
+          left = k.left;
+          rule_is = k.rule_is;
+          whose = v0;
+          more = k.more;
+          fits = refl;
+          begins = k.begins;
+          none = λ v c after others fits is eq. k.none c after others is eq;
+        })

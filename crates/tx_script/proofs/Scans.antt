@@ -1,7 +1,7 @@
 -- Reading byte by byte up to a last one.
-use Rattle.std.proofs.Common.{◌≡◌, ℕ, suc, ◌+◌, ◌<◌, ◌≤◌, Bool, true, false, cond, eqb, List, [], ◌∷◌, ◌++◌, length, refl, sym, ap, subst, ◌∙◌, append_assoc, arith, ◌⊎◌, inl, inr}
-use Rattle.std.specs.Prelude.{Option, Some, None, Result, Ok, Err}
-use Rattle.std.proofs.lemmas.Bool.{eqb-true, eqb-false, eq-eqb, ne_eqb}
+use Rattle.std.proofs.Common.{◌≡◌, ℕ, suc, ◌+◌, Bool, true, false, cond, eqb, List, [], ◌∷◌, ◌++◌, length, refl, sym, ap, subst, ◌∙◌, append_assoc, arith, ◌⊎◌, inl, inr}
+use Rattle.std.specs.Prelude.{Option, Some, None, Ok}
+use Rattle.std.proofs.lemmas.Bool.{eqb-true, eqb-false}
 use Rattle.std.proofs.lemmas.List.{append-nil, length-append, append_cancel_left}
 use Rattle.tx_script.specs.declared.error.Broken.{Broken}
 use Rattle.tx_script.specs.declared.error.Rule.{Rule}
@@ -47,7 +47,7 @@ turn_of {S} {V} rule last give go s c bytes = at_byte (eqb c last) refl
 
     at_byte : (b : Bool) → eqb c last ≡ b
         → Turn rule last give go s c bytes (cond b (elim (give s) [ None ↦ stopped rule (c ∷ bytes) | Some value ↦ Ok (value, bytes) ])
-                                                  (elim (go s c) [ None ↦ stopped rule (c ∷ bytes) | Some next ↦ scan rule last give go next bytes ]))
+        (elim (go s c) [ None ↦ stopped rule (c ∷ bytes) | Some next ↦ scan rule last give go next bytes ]))
     at_byte true e = at_end (eqb-true c last e) (give s) refl
     at_byte false e = further (eqb-false c last e) (go s c) refl
 
@@ -119,7 +119,7 @@ scan_takes {S} {V} rule last give go F t Good shown f (c ∷ bytes) s good v res
         let same = ok_is {A = V × List ℕ} (w, bytes) (v, rest) e in
         let k = f.gives s w good gave in
         subst (λ (z : V × List ℕ). F z.0 × (shown s ++ c ∷ bytes ≡ whole last t z.0 ++ z.1)) same
-          (k.0, (λ i. sym k.1 i ++ is i ∷ bytes) ∙ sym (regroup (t w) last bytes))
+        (k.0, (λ i. sym k.1 i ++ is i ∷ bytes) ∙ sym (regroup (t w) last bytes))
     by others r (Early is none) e = absurd (ok_or_err {A = V × List ℕ} (v, rest) _ (sym e))
     by others r (Goes s' is goes) e =
         let k = f.goes s c s' good goes in
@@ -191,8 +191,8 @@ scan_stops {S} {V} rule last give go F t Good shown f (c ∷ bytes) s good b e =
           fits = k.2;
           begins = ap (λ (x : List ℕ). x ++ last ∷ []) k.3 ∙ append_assoc (shown s) k.1 (last ∷ []);
           none = λ v c' after others fits is_ eq.
-            let same : c' ≡ c = cc in
-            none v after fits (eq ∙ ap (λ (x : ℕ). shown s ++ x ∷ after) same);
+              let same : c' ≡ c = cc in
+              none v after fits (eq ∙ ap (λ (x : ℕ). shown s ++ x ∷ after) same);
         }
 
     by : ((s' : S) → Good s' → scan rule last give go s' bytes ≡ failed b → Stops F (whole last t) (shown s' ++ bytes) rule b)
@@ -218,6 +218,6 @@ pub scan_reads : {S V : Type 0} (rule : Rule) (last : ℕ) (give : S → Option 
 scan_reads {S} {V} rule last give go F t Good shown f s good none bytes =
     let start : shown s ++ bytes ≡ bytes = ap (λ (x : List ℕ). x ++ bytes) none in
     of_element F (whole last t) rule bytes (scan rule last give go s bytes)
-      (λ v rest e. let k = scan_takes rule last give go F t Good shown f bytes s good v rest e in (k.0, sym start ∙ k.1))
-      (λ v rest fits e. scan_again rule last give go F t Good shown f bytes s good v rest fits (start ∙ e ∙ regroup (t v) last rest))
-      (λ b e. subst (λ (x : List ℕ). Stops F (whole last t) x rule b) start (scan_stops rule last give go F t Good shown f bytes s good b e))
+    (λ v rest e. let k = scan_takes rule last give go F t Good shown f bytes s good v rest e in (k.0, sym start ∙ k.1))
+    (λ v rest fits e. scan_again rule last give go F t Good shown f bytes s good v rest fits (start ∙ e ∙ regroup (t v) last rest))
+    (λ b e. subst (λ (x : List ℕ). Stops F (whole last t) x rule b) start (scan_stops rule last give go F t Good shown f bytes s good b e))

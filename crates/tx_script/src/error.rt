@@ -1,6 +1,7 @@
 ghost use Rattle.std.specs.Prelude.{◌≡◌};
 ghost use Rattle.tx_script.specs.Numbers.{number_of};
 ghost use Rattle.tx_script.specs.declared.error.Fault.TheVariants as faults;
+ghost use Rattle.tx_script.specs.declared.error.ScriptError.TheVariants as errors;
 
 use std::alloc::AllocError;
 use thiserror::Error;
@@ -48,6 +49,14 @@ pub enum ScriptError {
     /// There was no memory left.
     #[error("out of memory")]
     OutOfMemory,
+}
+
+impl From<AllocError> for ScriptError {
+    ghost from_gives = { λ _ e. e ≡ errors.OutOfMemory };
+
+    fn from(_: AllocError) -> ScriptError {
+        ScriptError::OutOfMemory
+    }
 }
 
 /// Where reading ended: before the last `left` bytes, at an element of this rule.

@@ -8,9 +8,9 @@ pub mod command;
 mod element;
 pub mod error;
 mod read;
-
-
+#[cfg(test)]
+mod tests;
 
 pub use command::{Command, Script};
 pub use error::{Rule, ScriptError};
-
+pub use read::read_script;

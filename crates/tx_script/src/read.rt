@@ -1,11 +1,12 @@
-ghost use Rattle.std.specs.Prelude.{◌≡◌, IfOk, IfErr, Ok, List};
+ghost use Rattle.std.specs.Prelude.{◌≡◌, IfOk, IfErr, List};
 ghost use Rattle.tx_script.specs.Reading.{Gives, command_at, edit_at};
 ghost use Rattle.tx_script.specs.Text.{IsTextOf};
+ghost use Rattle.tx_script.specs.Causes.{IsCause};
 ghost use Rattle.tx_script.specs.declared.command.Command.{Command};
 
 use crate::command::{Command, Script};
 use crate::element::{self, CommandWord};
-use crate::error::{Broken, Fault, ScriptError};
+use crate::error::{Fault, ScriptError};
 use std::alloc::Global;
 use tx_files::Edit;
 
@@ -45,4 +46,33 @@ fn command(alloc: Global, bytes: &[u8]) -> Result<(Command, &[u8]), Fault>
             Ok((Command::Save(name), rest))
         }
     }
+}
+
+/// The script of which the bytes are the text.
+///
+/// `BadScript` comes exactly where they are no script's text. Its place is how many of them begin one, and its rule that
+/// of the element in which the next byte of every script that begins so stands.
+pub fn read_script(alloc: Global, bytes: &[u8]) -> Result<Script, ScriptError>
+    ensures read { IfOk result (λ script. IsTextOf bytes.now script) }
+    ensures only { IfOk result (λ script. (other : List Command) → IsTextOf bytes.now other → script ≡ other) }
+    ensures refused { IfErr result (λ e. IsCause bytes.now e) }
+{
+    let mut script = Script::new(alloc);
+    let mut rest = bytes;
+    while !rest.is_empty() {
+        match command(alloc, rest) {
+            Ok((command, after)) => {
+                script.push(command)?;
+                rest = after;
+            }
+            Err(Fault::Broken(broken)) => {
+                return Err(ScriptError::BadScript {
+                    place: (bytes.len() - broken.left) as u64,
+                    rule: broken.rule,
+                });
+            }
+            Err(Fault::OutOfMemory) => return Err(ScriptError::OutOfMemory),
+        }
+    }
+    Ok(script)
 }

@@ -1,6 +1,5 @@
-use Rattle.std.proofs.Common.{◌≡◌, ◌<◌, length, drop, sym, ◌∙◌, arith}
+use Rattle.std.proofs.Common.{◌<◌, length, drop, sym, ◌∙◌, arith}
 use Rattle.std.proofs.lemmas.List.{length-drop}
-use Rattle.tx_script.specs.Reading.{literal_at, stopped}
 use Rattle.tx_script.proofs.Literals.{literal_at-end}
 use Rattle.tx_script.proofs.element.literal.Goals as goal
 
