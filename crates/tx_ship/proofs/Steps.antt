@@ -1,13 +1,17 @@
 -- Steps of the walks over a list, and what a test of places tells.
-use Rattle.std.proofs.Common.{◌≡◌, ◌==◌, ℕ, suc, ◌+◌, ◌<◌, ◌≤◌, ℤ, ◌+ℤ◌, ◌-ℤ◌, Bool, true, false, ◌&&◌, List, [], ◌∷◌, ◌++◌, length, drop, get_or, refl, sym, ap, ◌∙◌, arith, add-one, append_assoc, unsigned_abs}
-use Rattle.std.proofs.lemmas.Bool.{leb-true}
+use Rattle.std.proofs.Common.{◌≡◌, ◌==◌, ℕ, suc, ◌+◌, ◌<◌, ◌≤◌, ℤ, ◌+ℤ◌, ◌-ℤ◌, Bool, true, false, cond, take, ◌-◌, not, ◌&&◌, ◌||◌, List, [], ◌∷◌, ◌++◌, length, drop, get_or, refl, sym, ap, ◌∙◌, arith, add-one, append_assoc, unsigned_abs}
+use Rattle.std.proofs.lemmas.Bool.{leb-true, eqb-true, eqb-false}
 use Rattle.std.proofs.Math.Seq.{drop-cons}
+use Rattle.std.proofs.Math.Dec.{eqb-suc-zero}
+use Rattle.tx_node.specs.Items.{rule, kern, space, box}
+use Rattle.tx_ship.specs.declared.places.Cursor.{Cursor}
+use Rattle.tx_ship.specs.Commands.{is_entered, is_visible, height_in, depth_in, rule_item, rule_commands, behind_rule, passed, framed, list_commands, item_commands}
 use Rattle.tx_node.specs.declared.node.Node.{Node}
 use Rattle.tx_node.specs.Items.{Item, Items, none, more, items_of}
 use Rattle.tx_node.specs.Nodes.{item_of, list_of}
 use Rattle.tx_node.specs.Packing.{item_width}
 use Rattle.tx_ship.specs.declared.places.Frame.{Frame}
-use Rattle.tx_ship.specs.Within.{IsOnPage, on_page, edges_lie, box_lies, list_lies, item_lies}
+use Rattle.tx_ship.specs.Within.{Lies, IsOnPage, on_page, edges_lie, box_lies, list_lies, item_lies}
 
 -- both of two tests
 pub both : {a b : Bool} → (a && b) ≡ true → (a ≡ true) × (b ≡ true)
@@ -16,13 +20,7 @@ both {a = true} {b = false} e = absurd (cc)
 both {a = false} {b = true} e = absurd (cc)
 both {a = false} {b = false} e = absurd (cc)
 
--- a rule or box whose edges lie on the page
-pub record Lies (at width base height depth : ℤ) : Type 0 where
-  pub left : IsOnPage at
-  pub right : IsOnPage (at +ℤ width)
-  pub top : IsOnPage (base -ℤ height)
-  pub bottom : IsOnPage (base +ℤ depth)
-
+-- what the test of the edges tells
 pub lies-is : {at width base height depth : ℤ} → edges_lie at width base height depth ≡ true → Lies at width base height depth
 unfolding edges_lie
 lies-is e = record {
@@ -47,26 +45,30 @@ lies-on xs i {x} frame at h is so_far here moved =
     ∙ ap (list_lies frame at) (sym (items-on xs i x h is)) ∙ so_far
 
 -- the test of the edges, from their places
-pub edges-are : {at width base height depth right top bottom : ℤ} {told : Bool} → right ≡ at +ℤ width → top ≡ base -ℤ height → bottom ≡ base +ℤ depth
+pub edges-are : (at width base height depth : ℤ) {right top bottom : ℤ} {told : Bool} → right ≡ at +ℤ width → top ≡ base -ℤ height → bottom ≡ base +ℤ depth
     → true ≡ (on_page at && on_page right) → told ≡ (on_page top && on_page bottom) → told ≡ edges_lie at width base height depth
 unfolding edges_lie
-edges-are {at = at} right_is top_is bottom_is across down =
-    down ∙ (λ i. across i && (on_page (top_is i) && on_page (bottom_is i))) ∙ (λ i. (on_page at && on_page (right_is i)) && (on_page (top_is i1) && on_page (bottom_is i1)))
-
--- a box without a list lies anywhere
-pub empty-lies : (xs : List Node) {list : List Item} (edges inside : Bool) → list_of xs ≡ list → true ≡ (length xs == 0) → true ≡ box_lies (items_of list) edges inside
-unfolding box_lies
-empty-lies [] edges inside is h = ap (λ list. box_lies (items_of list) edges inside) is
-empty-lies (x ∷ xs) edges inside is h = absurd (cc)
+edges-are at width base height depth right_is top_is bottom_is across down =
+    down ∙ (λ i. across i && (on_page (top_is i) && on_page (bottom_is i)))
+    ∙ (λ i. (on_page at && on_page (right_is i)) && (on_page (base -ℤ height) && on_page (base +ℤ depth)))
 
 -- a box with a list lies where its edges and its list do
-pub entered-lies : (xs : List Node) {list : List Item} (edges inside : Bool) → list_of xs ≡ list → false ≡ (length xs == 0) → (edges && inside) ≡ box_lies (items_of list) edges inside
-unfolding box_lies
-entered-lies [] edges inside is h = absurd (cc)
-entered-lies (x ∷ xs) edges inside is h = ap (λ list. box_lies (items_of list) edges inside) is
+pub when-entered : {entered edges inside told : Bool} → true ≡ entered → true ≡ edges → told ≡ inside → told ≡ (not entered || (edges && inside))
+when-entered {inside = inside} e f g = g ∙ (λ i. not (e i) || (f i && inside))
+
+pub entered-is : (xs : List Node) {list : List Item} {told : Bool} → list_of xs ≡ list → told ≡ (length xs == 0) → not told ≡ is_entered (items_of list)
+entered-is [] is told_is = ap not told_is ∙ ap (λ list. is_entered (items_of list)) is
+entered-is (x ∷ xs) is told_is = ap not (told_is ∙ eqb-suc-zero (length xs)) ∙ ap (λ list. is_entered (items_of list)) is
 
 -- three pieces, appended one after another
 pub three-puts : (a : List ℕ) {b c d p q r : List ℕ} (p' q' r' : List ℕ) → b ≡ a ++ p → c ≡ b ++ q → d ≡ c ++ r → p ≡ p' → q ≡ q' → r ≡ r' → d ≡ a ++ ((p' ++ q') ++ r')
 three-puts a p' q' r' first second third p_is q_is r_is =
     third ∙ (λ i. second i ++ r_is i) ∙ (λ i. (first i ++ q_is i) ++ r') ∙ (λ i. ((a ++ p_is i) ++ q') ++ r')
     ∙ (λ i. append_assoc a p' q' i ++ r') ∙ append_assoc a (p' ++ q') r'
+
+-- an item lies on the page where the list from it on does
+pub lies-here : (xs : List Node) (i : ℕ) {x : Node} (frame : Frame) (at : ℤ) → i < length xs → x ≡ get_or xs i x
+    → list_lies frame at (items_of (list_of (drop i xs))) ≡ true → item_lies frame at (item_of x) ≡ true
+unfolding list_lies
+lies-here xs i {x} frame at h is all = (both (ap (list_lies frame at) (sym (items-on xs i x h is)) ∙ all)).0
+

@@ -1,5 +1,5 @@
 -- The commands of a page (TeX: The Program, sections 607 and 615 to 640; the DVI standard).
-use Rattle.std.specs.Prelude.{ℕ, Bool, suc, ◌+◌, ◌-◌, ◌^◌, ◌==◌, ◌&&◌, nat_lt, max, ℤ, pos, ◌+ℤ◌, ◌-ℤ◌, unsigned_abs, List, [], ◌∷◌, ◌++◌, drop, if◌then◌else◌}
+use Rattle.std.specs.Prelude.{ℕ, Bool, true, false, suc, ◌+◌, ◌-◌, ◌^◌, ◌==◌, ◌&&◌, nat_lt, max, ℤ, pos, ◌+ℤ◌, ◌-ℤ◌, unsigned_abs, List, [], ◌∷◌, ◌++◌, drop, if◌then◌else◌}
 use Rattle.std.specs.Option.{unwrap_or}
 use Rattle.std.specs.Int.{is_positive}
 use Rattle.tx_dvi.specs.Dvi.{four_bytes}
@@ -84,12 +84,13 @@ unfoldable mutual
   item_commands frame cursor space = ([], passed cursor (pos 0))
   item_commands frame cursor (box w h d inner) = (framed (list_commands (inner_frame frame h d) cursor inner), passed cursor w)
 
--- how deep boxes nest that TeX enters: it passes over a box without a list
-abbrev pub entered : Items → ℕ → ℕ
-entered none level = 0
-entered (more item rest) level = suc level
+-- TeX enters a box whose list isn't empty, and passes over another
+abbrev pub is_entered : Items → Bool
+is_entered none = false
+is_entered (more item rest) = true
 
-abbrev mutual
+-- how deep the boxes nest that TeX enters
+unfoldable mutual
   pub level_of : Items → ℕ
   level_of none = 0
   level_of (more item rest) = max (item_level item) (level_of rest)
@@ -98,11 +99,15 @@ abbrev mutual
   item_level (rule r) = 0
   item_level (kern w) = 0
   item_level space = 0
-  item_level (box w h d inner) = entered inner (level_of inner)
+  item_level (box w h d inner) = if is_entered inner then suc (level_of inner) else 0
+
+-- the frame of a box on a baseline
+abbrev pub frame_of : HBox → ℤ → Frame
+frame_of b base = record { height = b.height; depth = b.depth; base = base }
 
 -- the box of a page stands with its left upper corner at the two offsets, so its baseline is further down by its height
 abbrev pub page_frame : HBox → ℤ → Frame
-page_frame b voffset = record { height = b.height; depth = b.depth; base = b.height +ℤ voffset }
+page_frame b voffset = frame_of b (voffset +ℤ b.height)
 
 -- the reader of a page begins at the left upper corner
 abbrev pub page_cursor : ℤ → Cursor

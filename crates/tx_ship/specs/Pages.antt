@@ -1,6 +1,7 @@
 -- What a box that is shipped brings to the DVI file (TeX: The Program, sections 638 to 644).
 use Rattle.std.specs.Prelude.{◌≡◌, ℕ, Bool, ◌&&◌, nat_le, int_le, ℤ, pos, ◌+ℤ◌, ◌≤ℤ◌, unsigned_abs, List, length, Result, Ok, Err, if◌then◌else◌}
 use Rattle.std.specs.Int.{int_max}
+use Rattle.tx_dvi.specs.declared.page.DateParameters.{DateParameters}
 use Rattle.tx_dvi.specs.Page.{Page}
 use Rattle.tx_node.specs.Items.{HBox, items_of}
 use Rattle.tx_ship.specs.declared.params.ShipParams.{ShipParams}
@@ -15,13 +16,17 @@ fits size = int_le size (pos 1073741823)
 
 -- how high and how wide a page is
 abbrev pub page_height : HBox → ShipParams → ℤ
-page_height b params = b.height +ℤ b.depth +ℤ params.voffset
+page_height b params = params.voffset +ℤ b.height +ℤ b.depth
 
 abbrev pub page_width : HBox → ShipParams → ℤ
-page_width b params = b.width +ℤ params.hoffset
+page_width b params = params.hoffset +ℤ b.width
 
 abbrev pub sizes_fit : HBox → ShipParams → Bool
 sizes_fit b params = (fits b.height && fits b.depth) && (fits (page_height b params) && fits (page_width b params))
+
+-- the date that the parameters are
+abbrev pub date_of : ShipParams → DateParameters
+date_of params = record { year = params.year; month = params.month; day = params.day; time = params.time }
 
 -- the page with these commands
 abbrev pub page_with : HBox → ShipParams → List ℕ → Page
@@ -32,7 +37,7 @@ page_with b params body = record {
   width = int_max (pos 0) (page_width b params);
   nesting = level_of (items_of b.list);
   mag = unsigned_abs params.mag;
-  date = record { year = params.year; month = params.month; day = params.day; time = params.time };
+  date = date_of params;
 }
 
 -- a body has at most 200,000 bytes

@@ -6,8 +6,12 @@
 
 mod commands;
 mod error;
+mod frames;
+mod level;
+mod list;
 mod params;
 mod places;
+mod ship;
 mod within;
 
 pub use error::ShipError;

@@ -1,25 +1,16 @@
 //! Whether all that a box holds lies on the page.
 ghost use Rattle.std.specs.Prelude.{◌≡◌, ◌≤◌, ◌^◌, ◌&&◌, ◌+ℤ◌, ◌-ℤ◌, IsTrue, pos, unsigned_abs};
-ghost use Rattle.std.specs.Option.{unwrap_or};
 ghost use Rattle.tx_node.specs.Items.{items_of};
 ghost use Rattle.tx_node.specs.Nodes.{item_of, list_of};
 ghost use Rattle.tx_ship.specs.Within as spec;
+ghost use Rattle.tx_ship.specs.Commands.{frame_of};
 
+use crate::frames::{depth_in, frame_of, height_in, is_entered};
 use crate::places::Frame;
 use tx_node::{BoxNode, Node};
 
 /// The furthest place of a page, in sp, either way.
 const FURTHEST: u128 = 1073741823;
-
-/// A side of a rule: the one that was given, or as far as the box goes.
-pub fn side(given: Option<i32>, running: i32) -> i32
-    ensures { result ≡ unwrap_or given running }
-{
-    match given {
-        Some(size) => size,
-        None => running,
-    }
-}
 
 fn is_on_page(place: i128) -> bool
     ensures { result ≡ spec.on_page place }
@@ -63,6 +54,16 @@ pub fn edges_lie(at: i128, width: i32, base: i128, height: i32, depth: i32) -> b
     are_on_page(above(base, height), further(base, depth))
 }
 
+/// Whether those of a box do.
+fn box_edges_lie(inner: &BoxNode, base: i128, at: i128) -> bool
+    requires at { unsigned_abs at ≤ 2 ^ 96 }
+    requires base { unsigned_abs base ≤ 2 ^ 96 }
+    ensures value { result ≡ spec.edges_lie at inner.now.width base inner.now.height inner.now.depth }
+    ensures left { IsTrue result → spec.IsOnPage at }
+{
+    edges_lie(at, inner.width(), base, inner.height(), inner.depth())
+}
+
 /// Whether what a list holds does, which begins so far right.
 #[cycle(lies)]
 #[tactic(auto, unfolding(crate::specs::Within::list_lies))]
@@ -94,34 +95,28 @@ fn node_lies(node: &Node, frame: Frame, at: i128) -> bool
             at,
             rule.width,
             frame.base,
-            side(rule.height, frame.height),
-            side(rule.depth, frame.depth),
+            height_in(frame, *rule),
+            depth_in(frame, *rule),
         ),
         Node::Box(inner) => box_lies(inner, frame.base, at),
         _ => true,
     }
 }
 
-/// Whether a box and what it holds do; a box without a list takes no place.
+/// Whether a box and what it holds do; a box that isn't entered takes no place.
 #[cycle(lies)]
 #[tactic(auto, unfolding(crate::specs::Within::list_lies))]
 pub fn box_lies(inner: &BoxNode, base: i128, at: i128) -> bool
     requires at { unsigned_abs at ≤ 2 ^ 96 }
     requires base { unsigned_abs base ≤ 2 ^ 96 }
     ensures { result ≡ spec.box_lies (items_of inner.now.list) (spec.edges_lie at inner.now.width base inner.now.height inner.now.depth)
-        (spec.list_lies (record { height = inner.now.height; depth = inner.now.depth; base = base }) at (items_of inner.now.list)) }
+        (spec.list_lies (frame_of inner.now base) at (items_of inner.now.list)) }
 {
-    let frame = Frame {
-        height: inner.height(),
-        depth: inner.depth(),
-        base,
-    };
-    let list = inner.list();
-    if list.is_empty() {
+    if !is_entered(inner) {
         return true;
     }
-    if !edges_lie(at, inner.width(), base, frame.height, frame.depth) {
+    if !box_edges_lie(inner, base, at) {
         return false;
     }
-    list_lies(list, frame, at)
+    list_lies(inner.list(), frame_of(inner, base), at)
 }

@@ -1,5 +1,6 @@
-use Rattle.std.proofs.Common.{◌≡◌, ◌∙◌, sym, arith}
+use Rattle.std.proofs.Common.{ℕ, ◌<◌, sym, arith, subst}
 use Rattle.std.proofs.lemmas.Int.{ints}
+use Rattle.tx_ship.proofs.Measures.{node_measure, to-item}
 use Rattle.tx_ship.proofs.Steps.{lies-on}
 use Rattle.tx_ship.proofs.within.+lies.Goals as goal
 
@@ -11,14 +12,7 @@ list_lies-loop-node-preserved t c =
       bound = omega (arith, ints, w, c.further-at.ensures, c.loop-node.invariant.bound);
     }
 
-pub box_lies-returns-then-is_empty : goal.box_lies-returns-then-is_empty
-box_lies-returns-then-is_empty t c = let h = c.if-is_empty.ensures in let k = c.list-list.ensures in ?
-
-pub box_lies-returns-then-not-edges_lie : goal.box_lies-returns-then-not-edges_lie
-box_lies-returns-then-not-edges_lie t c = let h = c.if-not-edges_lie.ensures in ?
-
-pub box_lies-list_lies-requires : goal.box_lies-list_lies-requires
-box_lies-list_lies-requires t c = let h = c.edges_lie.ensures.left in ?
-
-pub box_lies-returns : goal.box_lies-returns
-box_lies-returns t c = let h = c.list_lies.ensures in ?
+pub list_lies-node_lies-requires : goal.list_lies-node_lies-requires
+list_lies-node_lies-requires t c =
+    let m = to-item c.args.list.now c.loop-node.node-index c.loop-node-test.true c.node-item.is in
+    (subst (λ (n : ℕ). node_measure c.node-item.result < n) c.decreases m, (omega (arith, ints, c.loop-node.invariant.bound, c.loop-node-test.true), c.requires.base))

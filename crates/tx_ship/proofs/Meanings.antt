@@ -1,0 +1,71 @@
+-- The commands of a list mean what it places.
+use Rattle.std.proofs.Common.{◌≡◌, ◌==◌, ℕ, ◌+◌, ◌^◌, ◌<◌, ◌≤◌, ℤ, pos, ◌+ℤ◌, ◌-ℤ◌, Bool, true, false, cond, not, ◌&&◌, ◌||◌, unsigned_abs, List, [], ◌∷◌, ◌++◌, Option, Some, None, refl, sym, ap, ◌∙◌, arith, append_assoc}
+use Rattle.std.proofs.lemmas.Int.{ints}
+use Rattle.std.proofs.lemmas.List.{append-nil}
+use Rattle.std.specs.Int.{is_positive}
+use Rattle.tx_node.specs.declared.rule.Rule.{Rule}
+use Rattle.tx_node.specs.Items.{Item, rule, kern, space, box, Items, none, more, HBox, items_of}
+use Rattle.tx_node.specs.Packing.{item_width}
+use Rattle.tx_dvi.specs.Meaning.{Registers, Reader, PlacedRule, right_by, down_by, rule_set, rule_met, rules_met, page_start, meaning}
+use Rattle.tx_dvi.proofs.Reading.{run, reader, run-append, run-push, run-pop}
+use Rattle.tx_ship.specs.declared.places.Frame.{Frame}
+use Rattle.tx_ship.specs.declared.places.Cursor.{Cursor}
+use Rattle.tx_ship.specs.Commands.{is_entered, is_visible, height_in, depth_in, inner_frame, frame_of, page_frame, page_cursor, body_of, right, down, set_rule, rule_item, rule_commands, behind_rule, passed, framed, list_commands, item_commands}
+use Rattle.tx_ship.specs.Within.{Lies, IsReader, IsOnPage, edges_lie, list_lies, item_lies, page_lies}
+use Rattle.tx_ship.specs.Placing.{placed, placed_list, placed_item}
+use Rattle.tx_ship.proofs.Steps.{both, lies-is}
+use Rattle.tx_ship.proofs.Puts.{next-at}
+use Rattle.tx_ship.proofs.Moves.{run-right, run-down, run-rule}
+
+-- the registers of a reader at a cursor, the others as they were, and that reader between two commands
+abbrev pub at_cursor : Registers → Cursor → Registers
+at_cursor now c = record now { h = c.right; v = c.down }
+
+abbrev pub here : Registers → Cursor → List Registers → List PlacedRule → Option Reader
+here now c stack rules = Some (reader (at_cursor now c) stack rules)
+
+-- commands that take a reader from one cursor to another, past these rules
+abbrev pub Takes : Registers → List Registers → List PlacedRule → Cursor → Cursor → List ℕ → List PlacedRule → Type 0
+Takes now stack rules c end bytes met = run (here now c stack rules) bytes ≡ here now end stack (rules ++ met)
+
+-- a rule that isn't written isn't met
+hidden : (h v height width : ℤ) → is_visible width height ≡ false → rule_met h v height width ≡ []
+hidden h v height width e = by (is_positive height) (is_positive width) e
+  where
+    by : (a b : Bool) → (b && a) ≡ false → cond a (cond b (record { h = h; v = v; height = height; width = width } ∷ []) []) [] ≡ []
+    by true true f = absurd (cc)
+    by true false f = refl
+    by false b f = refl
+
+-- a rule of a list
+module _ (now : Registers) (stack : List Registers) (rules : List PlacedRule) (frame : Frame) (c : Cursor) where
+  written : (width height depth : ℤ) → Lies c.at width frame.base height depth → IsReader c
+      → Takes now stack rules c (behind_rule c width (frame.base +ℤ depth)) (rule_commands c (frame.base +ℤ depth) (height +ℤ depth) width) (rule_met c.at (frame.base +ℤ depth) (height +ℤ depth) width)
+  written width height depth lies reads =
+      let corner : ℤ = frame.base +ℤ depth in
+      let r : List ℕ = right (c.at -ℤ c.right) in
+      let d : List ℕ = down (corner -ℤ c.down) in
+      let s : List ℕ = set_rule (height +ℤ depth) width in
+      let across : unsigned_abs (c.at -ℤ c.right) < 2 ^ 31 = omega (arith, ints, lies.left, reads.right) in
+      let along : unsigned_abs (corner -ℤ c.down) < 2 ^ 31 = omega (arith, ints, lies.bottom, reads.down) in
+      let high : unsigned_abs (height +ℤ depth) < 2 ^ 31 = omega (arith, ints, lies.top, lies.bottom) in
+      let wide : unsigned_abs width < 2 ^ 31 = omega (arith, ints, lies.left, lies.right) in
+      let h_is : c.right +ℤ (c.at -ℤ c.right) ≡ c.at = omega (arith, ints) in
+      let v_is : c.down +ℤ (corner -ℤ c.down) ≡ corner = omega (arith, ints) in
+      run-append (here now c stack rules) (r ++ d) s
+      ∙ ap (λ o. run o s) (run-append (here now c stack rules) r d)
+      ∙ ap (λ o. run (run o d) s) (run-right (at_cursor now c) stack rules (c.at -ℤ c.right) across)
+      ∙ ap (λ o. run o s) (run-down (right_by (c.at -ℤ c.right) (at_cursor now c)) stack rules (corner -ℤ c.down) along)
+      ∙ (λ i. run (Some (reader (record now { h = h_is i; v = v_is i }) stack rules)) s)
+      ∙ run-rule (record now { h = c.at; v = corner }) stack rules (height +ℤ depth) width high wide
+
+  rule-takes : (width height depth : ℤ) → Lies c.at width frame.base height depth → IsReader c
+      → Takes now stack rules c (rule_item frame c width height depth).1 (rule_item frame c width height depth).0 (rule_met c.at (frame.base +ℤ depth) (height +ℤ depth) width)
+  unfolding rule_item
+  rule-takes width height depth lies reads = by (is_visible width (height +ℤ depth)) refl
+    where
+      shown : Bool → List ℕ × Cursor
+      shown b = cond b (rule_commands c (frame.base +ℤ depth) (height +ℤ depth) width, behind_rule c width (frame.base +ℤ depth)) ([], passed c width)
+      by : (b : Bool) → is_visible width (height +ℤ depth) ≡ b → Takes now stack rules c (shown b).1 (shown b).0 (rule_met c.at (frame.base +ℤ depth) (height +ℤ depth) width)
+      by true e = written width height depth lies reads
+      by false e = ap (λ rs. here now c stack rs) (sym (append-nil rules) ∙ ap (λ met. rules ++ met) (sym (hidden c.at (frame.base +ℤ depth) (height +ℤ depth) width e)))
