@@ -32,7 +32,7 @@ Takes now stack rules c end bytes met = run (here now c stack rules) bytes ≡ h
 hidden : (h v height width : ℤ) → is_visible width height ≡ false → rule_met h v height width ≡ []
 hidden h v height width e = by (is_positive height) (is_positive width) e
   where
-    by : (a b : Bool) → (b && a) ≡ false → cond a (cond b (record { h = h; v = v; height = height; width = width } ∷ []) []) [] ≡ []
+    by : (a b : Bool) → (b && a) ≡ false → cond {A = List PlacedRule} a (cond {A = List PlacedRule} b (record { h = h; v = v; height = height; width = width } ∷ []) []) [] ≡ []
     by true true f = absurd (cc)
     by true false f = refl
     by false b f = refl
@@ -69,3 +69,55 @@ module _ (now : Registers) (stack : List Registers) (rules : List PlacedRule) (f
       by : (b : Bool) → is_visible width (height +ℤ depth) ≡ b → Takes now stack rules c (shown b).1 (shown b).0 (rule_met c.at (frame.base +ℤ depth) (height +ℤ depth) width)
       by true e = written width height depth lies reads
       by false e = ap (λ rs. here now c stack rs) (sym (append-nil rules) ∙ ap (λ met. rules ++ met) (sym (hidden c.at (frame.base +ℤ depth) (height +ℤ depth) width e)))
+
+-- push, the commands of a box and pop; both are dropped where there are none
+framed-takes : (n m : Registers) (stack : List Registers) (rules met : List PlacedRule) (bytes : List ℕ)
+    → run (Some (reader n (n ∷ stack) rules)) bytes ≡ Some (reader m (n ∷ stack) (rules ++ met)) → run (Some (reader n stack rules)) (framed bytes) ≡ Some (reader n stack (rules ++ met))
+framed-takes n m stack rules met [] is = ap (λ o. Some (reader n stack (rules_of o))) is
+  where
+    rules_of : Option Reader → List PlacedRule
+    rules_of None = []
+    rules_of (Some r) = r.rules
+framed-takes n m stack rules met (first ∷ others) is =
+    run-push n stack rules ((first ∷ others) ++ 142 ∷ [])
+    ∙ run-append (Some (reader n (n ∷ stack) rules)) (first ∷ others) (142 ∷ [])
+    ∙ ap (λ o. run o (142 ∷ [])) is ∙ run-pop m stack (rules ++ met) n
+
+-- what lies on the page with a box, where it has a list
+pub box-inside : (frame : Frame) (at : ℤ) (items : Items) (edges : Bool) → (not (is_entered items) || (edges && list_lies frame at items)) ≡ true → list_lies frame at items ≡ true
+unfolding list_lies
+box-inside frame at none edges h = refl
+box-inside frame at (more item rest) edges h = (both h).1
+
+-- the commands of a list take the reader somewhere
+pub record Means (now : Registers) (stack : List Registers) (rules : List PlacedRule) (c : Cursor) (bytes : List ℕ) (met : List PlacedRule) : Type 0 where
+  pub end : Cursor
+  pub takes : Takes now stack rules c end bytes met
+
+-- those of an item to the cursor behind it
+pub record ItemMeans (now : Registers) (stack : List Registers) (rules : List PlacedRule) (c end : Cursor) (bytes : List ℕ) (met : List PlacedRule) : Type 0 where
+  pub takes : Takes now stack rules c end bytes met
+  pub reads : IsReader end
+
+-- one after the other
+joined : (now : Registers) (stack : List Registers) (rules : List PlacedRule) (c next : Cursor) (bytes others : List ℕ) (met more_met : List PlacedRule)
+    → Takes now stack rules c next bytes met → Means now stack (rules ++ met) next others more_met → Means now stack rules c (bytes ++ others) (met ++ more_met)
+joined now stack rules c next bytes others met more_met first rest = record {
+  end = rest.end;
+  takes = run-append (here now c stack rules) bytes others ∙ ap (λ o. run o others) first ∙ rest.takes ∙ ap (λ rs. here now rest.end stack rs) (append_assoc rules met more_met);
+}
+
+mutual
+  unfolding list_commands list_lies placed_list rule_item
+
+  pub list-means : (frame : Frame) (c : Cursor) (items : Items) (now : Registers) (stack : List Registers) (rules : List PlacedRule)
+      → list_lies frame c.at items ≡ true → IsReader c → Means now stack rules c (list_commands frame c items) (placed_list frame c.at items)
+  list-means frame c none now stack rules lies reads = record { end = c; takes = ap (λ rs. here now c stack rs) (sym (append-nil rules)) }
+  list-means frame c (more item rest) now stack rules lies reads = ?
+
+  pub item-means : (frame : Frame) (c : Cursor) (item : Item) (now : Registers) (stack : List Registers) (rules : List PlacedRule)
+      → item_lies frame c.at item ≡ true → IsReader c → ItemMeans now stack rules c (item_commands frame c item).1 (item_commands frame c item).0 (placed_item frame c.at item)
+  item-means frame c (rule r) now stack rules lies reads = ?
+  item-means frame c (kern w) now stack rules lies reads = record { takes = ap (λ rs. here now c stack rs) (sym (append-nil rules)); reads = record { right = reads.right; down = reads.down } }
+  item-means frame c space now stack rules lies reads = record { takes = ap (λ rs. here now c stack rs) (sym (append-nil rules)); reads = record { right = reads.right; down = reads.down } }
+  item-means frame c (box w h d inner) now stack rules lies reads = ?

@@ -45,7 +45,7 @@ abbrev pub page_of_body : HBox → ShipParams → List ℕ → Result Page ShipE
 page_of_body b params body = if nat_le (length body) 200000 then Ok (page_with b params body) else Err BodyTooLong
 
 -- the page of a box, or the first thing that keeps it from being one
-abbrev pub page_of : HBox → ShipParams → Result Page ShipError
+unfoldable pub page_of : HBox → ShipParams → Result Page ShipError
 page_of b params =
     if sizes_fit b params
     then (if page_lies b params.hoffset params.voffset then page_of_body b params (body_of b params.hoffset params.voffset) else Err OutsidePage)

@@ -1,5 +1,5 @@
 //! A box as a page.
-ghost use Rattle.std.specs.Prelude.{◌≡◌, ◌≢◌, ◌≤◌, ◌^◌, ◌+ℤ◌, pos, true, unsigned_abs, is_some, IfSome, IfOk, IfErr, Ok, Err, Some};
+ghost use Rattle.std.specs.Prelude.{◌≡◌, ◌≢◌, ◌≤◌, ◌^◌, ◌+ℤ◌, pos, true, unsigned_abs, length, is_some, IfSome, IfOk, IfErr, Ok, Err, Some};
 ghost use Rattle.std.specs.Int.{int_max};
 ghost use Rattle.tx_dvi.specs.Meaning.{meaning};
 ghost use Rattle.tx_ship.specs.declared.error.ShipError.TheVariants.{OutOfMemory};
@@ -113,6 +113,40 @@ fn date_of(params: &ShipParams) -> DateParameters
     }
 }
 
+/// \mag, which is in its range.
+fn mag_of(params: &ShipParams) -> u16
+    requires { spec.IsMag params.now.mag }
+    ensures value { result ≡ unsigned_abs params.now.mag }
+    ensures least { 1 ≤ result }
+    ensures most { result ≤ 32768 }
+{
+    let mag = params.mag;
+    mag as u16
+}
+
+/// The page with these sizes and commands.
+fn page_with(node: &BoxNode, params: &ShipParams, sizes: PageSizes, commands: Bytes) -> PageBody
+    requires mag { spec.IsMag params.now.mag }
+    requires height { sizes.height ≡ int_max (pos 0) (spec.page_height node.now params.now) }
+    requires width { sizes.width ≡ int_max (pos 0) (spec.page_width node.now params.now) }
+    requires short { length commands ≤ 200000 }
+    ensures { result ≡ spec.page_with node.now params.now commands }
+{
+    let most = node.nesting();
+    let nesting = list_level(node.list());
+    let within = nesting < most;
+    prove!(within);
+    PageBody {
+        body: commands,
+        counts: params.counts,
+        height: sizes.height,
+        width: sizes.width,
+        nesting,
+        mag: mag_of(params),
+        date: date_of(params),
+    }
+}
+
 /// The body of the page on which a box is shipped. `SizeTooLarge` comes exactly where its height or depth, its height plus
 /// its depth plus \voffset or its width plus \hoffset is past 2^30-1; else `OutsidePage` exactly where a rule or a box with
 /// a list lies, in whole or part, past 2^30-1 to a side; else `BodyTooLong` exactly where the body has more than 200,000
@@ -137,17 +171,5 @@ pub fn body(
     if commands.len() > MAX_BODY {
         return Err(ShipError::BodyTooLong);
     }
-    let most = node.nesting();
-    let nesting = list_level(node.list());
-    let within = nesting < most;
-    prove!(within);
-    Ok(PageBody {
-        body: commands,
-        counts: params.counts,
-        height: sizes.height,
-        width: sizes.width,
-        nesting,
-        mag: params.mag as u16,
-        date: date_of(params),
-    })
+    Ok(page_with(node, params, sizes, commands))
 }

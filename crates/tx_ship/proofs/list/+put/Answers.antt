@@ -1,4 +1,4 @@
-use Rattle.std.proofs.Common.{◌≡◌, ℕ, ◌<◌, ◌++◌, ◌∙◌, sym, ap, arith, subst, to_z, of_z}
+use Rattle.std.proofs.Common.{◌≡◌, ℕ, ◌<◌, ◌++◌, length, ◌∙◌, sym, ap, arith, subst, to_z, of_z}
 use Rattle.std.specs.Int.{w32, w128}
 use Rattle.std.proofs.lemmas.List.{append-nil}
 use Rattle.std.proofs.lemmas.Int.{ints}
