@@ -70,6 +70,15 @@ module _ (now : Registers) (stack : List Registers) (rules : List PlacedRule) (f
       by true e = written width height depth lies reads
       by false e = ap (λ rs. here now c stack rs) (sym (append-nil rules) ∙ ap (λ met. rules ++ met) (sym (hidden c.at (frame.base +ℤ depth) (height +ℤ depth) width e)))
 
+-- which leaves it on the page
+rule-reads : (frame : Frame) (c : Cursor) (width height depth : ℤ) → Lies c.at width frame.base height depth → IsReader c → IsReader (rule_item frame c width height depth).1
+unfolding rule_item
+rule-reads frame c width height depth lies reads = by (is_visible width (height +ℤ depth))
+  where
+    by : (b : Bool) → IsReader (cond {A = List ℕ × Cursor} b (rule_commands c (frame.base +ℤ depth) (height +ℤ depth) width, behind_rule c width (frame.base +ℤ depth)) ([], passed c width)).1
+    by true = record { right = lies.right; down = lies.bottom }
+    by false = record { right = reads.right; down = reads.down }
+
 -- push, the commands of a box and pop; both are dropped where there are none
 framed-takes : (n m : Registers) (stack : List Registers) (rules met : List PlacedRule) (bytes : List ℕ)
     → run (Some (reader n (n ∷ stack) rules)) bytes ≡ Some (reader m (n ∷ stack) (rules ++ met)) → run (Some (reader n stack rules)) (framed bytes) ≡ Some (reader n stack (rules ++ met))
@@ -113,11 +122,36 @@ mutual
   pub list-means : (frame : Frame) (c : Cursor) (items : Items) (now : Registers) (stack : List Registers) (rules : List PlacedRule)
       → list_lies frame c.at items ≡ true → IsReader c → Means now stack rules c (list_commands frame c items) (placed_list frame c.at items)
   list-means frame c none now stack rules lies reads = record { end = c; takes = ap (λ rs. here now c stack rs) (sym (append-nil rules)) }
-  list-means frame c (more item rest) now stack rules lies reads = ?
+  list-means frame c (more item rest) now stack rules lies reads =
+      let first : ItemMeans now stack rules c (item_commands frame c item).1 (item_commands frame c item).0 (placed_item frame c.at item) = item-means frame c item now stack rules (both lies).0 reads in
+      let next : Cursor = (item_commands frame c item).1 in
+      let at_is : next.at ≡ c.at +ℤ item_width item = next-at frame c item in
+      let others : Means now stack (rules ++ placed_item frame c.at item) next (list_commands frame next rest) (placed_list frame next.at rest)
+          = list-means frame next rest now stack (rules ++ placed_item frame c.at item) (ap (λ z. list_lies frame z rest) at_is ∙ (both lies).1) first.reads in
+      joined now stack rules c next (item_commands frame c item).0 (list_commands frame next rest) (placed_item frame c.at item) (placed_list frame (c.at +ℤ item_width item) rest) first.takes
+      (record { end = others.end; takes = others.takes ∙ ap (λ z. here now others.end stack ((rules ++ placed_item frame c.at item) ++ placed_list frame z rest)) at_is })
 
   pub item-means : (frame : Frame) (c : Cursor) (item : Item) (now : Registers) (stack : List Registers) (rules : List PlacedRule)
       → item_lies frame c.at item ≡ true → IsReader c → ItemMeans now stack rules c (item_commands frame c item).1 (item_commands frame c item).0 (placed_item frame c.at item)
-  item-means frame c (rule r) now stack rules lies reads = ?
+  item-means frame c (rule r) now stack rules lies reads = record {
+    takes = rule-takes now stack rules frame c r.width (height_in frame r) (depth_in frame r) (lies-is lies) reads;
+    reads = rule-reads frame c r.width (height_in frame r) (depth_in frame r) (lies-is lies) reads;
+  }
   item-means frame c (kern w) now stack rules lies reads = record { takes = ap (λ rs. here now c stack rs) (sym (append-nil rules)); reads = record { right = reads.right; down = reads.down } }
   item-means frame c space now stack rules lies reads = record { takes = ap (λ rs. here now c stack rs) (sym (append-nil rules)); reads = record { right = reads.right; down = reads.down } }
-  item-means frame c (box w h d inner) now stack rules lies reads = ?
+  item-means frame c (box w h d inner) now stack rules lies reads =
+      let inside : Means (at_cursor now c) (at_cursor now c ∷ stack) rules c (list_commands (inner_frame frame h d) c inner) (placed_list (inner_frame frame h d) c.at inner)
+          = list-means (inner_frame frame h d) c inner (at_cursor now c) (at_cursor now c ∷ stack) rules (box-inside (inner_frame frame h d) c.at inner (edges_lie c.at w frame.base h d) lies) reads in
+      record {
+        takes = framed-takes (at_cursor now c) (at_cursor now inside.end) stack rules (placed_list (inner_frame frame h d) c.at inner) (list_commands (inner_frame frame h d) c inner) inside.takes;
+        reads = record { right = reads.right; down = reads.down };
+      }
+
+-- the commands of a page mean the rules of its box, at their places
+pub page-means : (b : HBox) (hoffset voffset : ℤ) → page_lies b hoffset voffset ≡ true → meaning (body_of b hoffset voffset) ≡ Some (placed b hoffset voffset)
+unfolding meaning
+page-means b hoffset voffset lies =
+    let all : Means page_start.now [] [] (page_cursor hoffset) (body_of b hoffset voffset) (placed b hoffset voffset)
+        = list-means (page_frame b voffset) (page_cursor hoffset) (items_of b.list) page_start.now [] []
+          (box-inside (page_frame b voffset) hoffset (items_of b.list) (edges_lie hoffset b.width (voffset +ℤ b.height) b.height b.depth) lies) (record { right = omega arith; down = omega arith }) in
+    ap rules_met all.takes

@@ -81,6 +81,13 @@ fn page_sizes(node: &BoxNode, params: &ShipParams) -> Option<PageSizes>
     Some(PageSizes { height, width })
 }
 
+/// Whether all lies on the page that a box holds.
+fn lies(node: &BoxNode, params: &ShipParams) -> bool
+    ensures { result ≡ page_lies node.now params.now.hoffset params.now.voffset }
+{
+    box_lies(node, page_base(node, params), i128::from(params.hoffset))
+}
+
 /// The commands of a page on which all lies that the box holds.
 fn page_commands(
     alloc: Global,
@@ -164,7 +171,7 @@ pub fn body(
     let Some(sizes) = page_sizes(node, params) else {
         return Err(ShipError::SizeTooLarge);
     };
-    if !box_lies(node, page_base(node, params), i128::from(params.hoffset)) {
+    if !lies(node, params) {
         return Err(ShipError::OutsidePage);
     }
     let commands = Bytes::from_vec(page_commands(alloc, node, params)?);
