@@ -1,5 +1,5 @@
 -- The page of a box, by the tests that were made.
-use Rattle.std.proofs.Common.{◌≡◌, ℕ, ◌<◌, ◌≤◌, Bool, true, false, cond, nat_le, List, length, Result, Ok, Err, refl, sym, ap, ◌∙◌}
+use Rattle.std.proofs.Common.{◌≡◌, ℕ, ◌<◌, ◌≤◌, Bool, true, false, cond, nat_le, List, length, Result, Ok, Err, refl, sym, ap, ◌∙◌, arith}
 use Rattle.std.proofs.lemmas.Bool.{le-leb}
 use Rattle.std.proofs.lemmas.Bool.Decides.{leb_tells}
 use Rattle.tx_dvi.specs.Page.{Page}
@@ -12,7 +12,7 @@ use Rattle.tx_ship.specs.Within.{page_lies}
 use Rattle.tx_ship.specs.Pages.{sizes_fit, page_of, page_of_body, page_with}
 
 module _ (b : HBox) (params : ShipParams) where
-  tested : Bool → Bool → List ℕ → Result Page ShipError
+  abbrev tested : Bool → Bool → List ℕ → Result Page ShipError
   tested fit lie body = cond fit (cond lie (page_of_body b params body) (Err OutsidePage)) (Err SizeTooLarge)
 
   page-of : (fit lie : Bool) → sizes_fit b params ≡ fit → page_lies b params.hoffset params.voffset ≡ lie → page_of b params ≡ tested fit lie (body_of b params.hoffset params.voffset)
@@ -30,7 +30,7 @@ module _ (b : HBox) (params : ShipParams) where
   too-long body e f is long = page-of true true e f ∙ ap (page_of_body b params) (sym is) ∙ ap (λ short. cond short (Ok (page_with b params body)) (Err BodyTooLong)) (gt-leb long)
     where
       gt-leb : 200000 < length body → nat_le (length body) 200000 ≡ false
-      gt-leb h = grind (leb_tells)
+      gt-leb h = grind (arith, leb_tells)
 
   pub page-is : (body : List ℕ) → sizes_fit b params ≡ true → page_lies b params.hoffset params.voffset ≡ true → body ≡ body_of b params.hoffset params.voffset → length body ≤ 200000
       → page_of b params ≡ Ok (page_with b params body)

@@ -55,7 +55,7 @@ put_box-put_list-requires t c =
 
 pub put_box-returns : goal.put_box-returns
 put_box-returns t c =
-    framed-close c.args.body.now.items _ c.in_ok-push.ensures.items (ap length c.as_slice-start.ensures)
+    framed-close c.args.body.now.items _ c.in_ok-push.ensures.items (ap length c.as_slice-start.ensures.value)
     (c.in_ok-put_list.ensures ∙ (λ i. c.push.new.self.items ++ list_commands (frame_is i) c.args.cursor (items_of (c.list.ensures i)))) c.in_ok-close.ensures
     where
       frame_is : c.frame_of.result ≡ frame_of c.args.inner.now c.args.base
