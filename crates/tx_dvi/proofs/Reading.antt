@@ -1,5 +1,5 @@
 -- What the reader of a page does at the commands that a page is made of.
-use Rattle.std.proofs.Common.{◌≡◌, ℕ, ◌+◌, ℤ, pos, ◌+ℤ◌, List, [], ◌∷◌, ◌++◌, length, drop, fold, Option, Some, None, refl, sym, ap, ◌∙◌}
+use Rattle.std.proofs.Common.{◌≡◌, ℕ, ℤ, List, [], ◌∷◌, ◌++◌, drop, fold, Option, Some, refl}
 use Rattle.std.proofs.lemmas.List.Sums.{fold-append}
 use Rattle.tx_dvi.specs.Dvi.{four_bytes}
 use Rattle.tx_dvi.specs.Meaning.{Registers, Reader, PlacedRule, read, signed, right_by, down_by, rule_set}

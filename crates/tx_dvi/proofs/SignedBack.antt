@@ -1,8 +1,7 @@
 -- A number that was written in as many bytes as it needs is read back from them.
-use Rattle.std.proofs.Common.{◌≡◌, ℕ, ◌+◌, ◌-◌, ◌*◌, ◌^◌, ◌<◌, ◌≤◌, ◌%◌, ◌/◌, ◌-ℤ◌, ℤ, pos, negsuc, unsigned_abs, List, [], ◌∷◌, drop, refl, arith, nat_lt, Bool, true, false, cond, ap, ◌∙◌}
+use Rattle.std.proofs.Common.{◌≡◌, ℕ, ◌-◌, ◌*◌, ◌^◌, ◌<◌, ◌≤◌, ◌-ℤ◌, ℤ, pos, negsuc, unsigned_abs, drop, refl, arith, nat_lt, Bool, true, false, cond}
 use Rattle.std.proofs.lemmas.Int.{ints}
 use Rattle.std.proofs.lemmas.Bool.{ltb-true, ltb-false}
-use Rattle.std.specs.Int.{cast_unsigned, w32}
 use Rattle.byteorder.specs.Endian.{big_number, twos_complement}
 use Rattle.tx_dvi.specs.Dvi.{four_bytes}
 use Rattle.tx_dvi.specs.Meaning.{signed}
@@ -34,4 +33,3 @@ pub signed-back4 : (z : ℤ) → unsigned_abs z < 2147483648 → signed 4 (drop 
 unfolding four_bytes
 signed-back4 (pos n) h = twos-is 4 (big_number 4 (drop 0 (four_bytes (pos n)))) (pos n) (λ l. omega (arith, ints, h)) (λ l. absurd (omega (arith, h, l)))
 signed-back4 (negsuc n) h = twos-is 4 (big_number 4 (drop 0 (four_bytes (negsuc n)))) (negsuc n) (λ l. absurd (omega (arith, h, l))) (λ l. omega (arith, ints, h))
-

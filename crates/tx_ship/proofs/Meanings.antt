@@ -1,17 +1,16 @@
 -- The commands of a list mean what it places.
-use Rattle.std.proofs.Common.{◌≡◌, ◌==◌, ℕ, ◌+◌, ◌^◌, ◌<◌, ◌≤◌, ℤ, pos, ◌+ℤ◌, ◌-ℤ◌, Bool, true, false, cond, not, ◌&&◌, ◌||◌, unsigned_abs, List, [], ◌∷◌, ◌++◌, Option, Some, None, refl, sym, ap, ◌∙◌, arith, append_assoc}
+use Rattle.std.proofs.Common.{◌≡◌, ℕ, ◌^◌, ◌<◌, ℤ, ◌+ℤ◌, ◌-ℤ◌, Bool, true, false, cond, not, ◌&&◌, ◌||◌, unsigned_abs, List, [], ◌∷◌, ◌++◌, Option, Some, None, refl, sym, ap, ◌∙◌, arith, append_assoc}
 use Rattle.std.proofs.lemmas.Int.{ints}
 use Rattle.std.proofs.lemmas.List.{append-nil}
 use Rattle.std.specs.Int.{is_positive}
-use Rattle.tx_node.specs.declared.rule.Rule.{Rule}
 use Rattle.tx_node.specs.Items.{Item, rule, kern, space, box, Items, none, more, HBox, items_of}
 use Rattle.tx_node.specs.Packing.{item_width}
-use Rattle.tx_dvi.specs.Meaning.{Registers, Reader, PlacedRule, right_by, down_by, rule_set, rule_met, rules_met, page_start, meaning}
+use Rattle.tx_dvi.specs.Meaning.{Registers, Reader, PlacedRule, right_by, rule_met, rules_met, page_start, meaning}
 use Rattle.tx_dvi.proofs.Reading.{run, reader, run-append, run-push, run-pop}
 use Rattle.tx_ship.specs.declared.places.Frame.{Frame}
 use Rattle.tx_ship.specs.declared.places.Cursor.{Cursor}
-use Rattle.tx_ship.specs.Commands.{is_entered, is_visible, height_in, depth_in, inner_frame, frame_of, page_frame, page_cursor, body_of, right, down, set_rule, rule_item, rule_commands, behind_rule, passed, framed, list_commands, item_commands}
-use Rattle.tx_ship.specs.Within.{Lies, IsReader, IsOnPage, edges_lie, list_lies, item_lies, page_lies}
+use Rattle.tx_ship.specs.Commands.{is_entered, is_visible, height_in, depth_in, inner_frame, page_frame, page_cursor, body_of, right, down, set_rule, rule_item, rule_commands, behind_rule, passed, framed, list_commands, item_commands}
+use Rattle.tx_ship.specs.Within.{Lies, IsReader, edges_lie, list_lies, item_lies, page_lies}
 use Rattle.tx_ship.specs.Placing.{placed, placed_list, placed_item}
 use Rattle.tx_ship.proofs.Steps.{both, lies-is}
 use Rattle.tx_ship.proofs.Puts.{next-at}
@@ -66,6 +65,7 @@ module _ (now : Registers) (stack : List Registers) (rules : List PlacedRule) (f
     where
       shown : Bool → List ℕ × Cursor
       shown b = cond b (rule_commands c (frame.base +ℤ depth) (height +ℤ depth) width, behind_rule c width (frame.base +ℤ depth)) ([], passed c width)
+
       by : (b : Bool) → is_visible width (height +ℤ depth) ≡ b → Takes now stack rules c (shown b).1 (shown b).0 (rule_met c.at (frame.base +ℤ depth) (height +ℤ depth) width)
       by true e = written width height depth lies reads
       by false e = ap (λ rs. here now c stack rs) (sym (append-nil rules) ∙ ap (λ met. rules ++ met) (sym (hidden c.at (frame.base +ℤ depth) (height +ℤ depth) width e)))
@@ -127,7 +127,7 @@ mutual
       let next : Cursor = (item_commands frame c item).1 in
       let at_is : next.at ≡ c.at +ℤ item_width item = next-at frame c item in
       let others : Means now stack (rules ++ placed_item frame c.at item) next (list_commands frame next rest) (placed_list frame next.at rest)
-          = list-means frame next rest now stack (rules ++ placed_item frame c.at item) (ap (λ z. list_lies frame z rest) at_is ∙ (both lies).1) first.reads in
+      = list-means frame next rest now stack (rules ++ placed_item frame c.at item) (ap (λ z. list_lies frame z rest) at_is ∙ (both lies).1) first.reads in
       joined now stack rules c next (item_commands frame c item).0 (list_commands frame next rest) (placed_item frame c.at item) (placed_list frame (c.at +ℤ item_width item) rest) first.takes
       (record { end = others.end; takes = others.takes ∙ ap (λ z. here now others.end stack ((rules ++ placed_item frame c.at item) ++ placed_list frame z rest)) at_is })
 
@@ -141,7 +141,7 @@ mutual
   item-means frame c space now stack rules lies reads = record { takes = ap (λ rs. here now c stack rs) (sym (append-nil rules)); reads = record { right = reads.right; down = reads.down } }
   item-means frame c (box w h d inner) now stack rules lies reads =
       let inside : Means (at_cursor now c) (at_cursor now c ∷ stack) rules c (list_commands (inner_frame frame h d) c inner) (placed_list (inner_frame frame h d) c.at inner)
-          = list-means (inner_frame frame h d) c inner (at_cursor now c) (at_cursor now c ∷ stack) rules (box-inside (inner_frame frame h d) c.at inner (edges_lie c.at w frame.base h d) lies) reads in
+      = list-means (inner_frame frame h d) c inner (at_cursor now c) (at_cursor now c ∷ stack) rules (box-inside (inner_frame frame h d) c.at inner (edges_lie c.at w frame.base h d) lies) reads in
       record {
         takes = framed-takes (at_cursor now c) (at_cursor now inside.end) stack rules (placed_list (inner_frame frame h d) c.at inner) (list_commands (inner_frame frame h d) c inner) inside.takes;
         reads = record { right = reads.right; down = reads.down };
@@ -152,6 +152,6 @@ pub page-means : (b : HBox) (hoffset voffset : ℤ) → page_lies b hoffset voff
 unfolding meaning
 page-means b hoffset voffset lies =
     let all : Means page_start.now [] [] (page_cursor hoffset) (body_of b hoffset voffset) (placed b hoffset voffset)
-        = list-means (page_frame b voffset) (page_cursor hoffset) (items_of b.list) page_start.now [] []
-          (box-inside (page_frame b voffset) hoffset (items_of b.list) (edges_lie hoffset b.width (voffset +ℤ b.height) b.height b.depth) lies) (record { right = omega arith; down = omega arith }) in
+    = list-means (page_frame b voffset) (page_cursor hoffset) (items_of b.list) page_start.now [] []
+    (box-inside (page_frame b voffset) hoffset (items_of b.list) (edges_lie hoffset b.width (voffset +ℤ b.height) b.height b.depth) lies) (record { right = omega arith; down = omega arith }) in
     ap rules_met all.takes

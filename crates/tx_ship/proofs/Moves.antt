@@ -1,9 +1,9 @@
 -- What the reader of a page does at a movement and at a rule.
-use Rattle.std.proofs.Common.{◌≡◌, ◌==◌, ℕ, ◌+◌, ◌-◌, ◌^◌, ◌<◌, ◌≤◌, ℤ, pos, negsuc, ◌+ℤ◌, ◌-ℤ◌, Bool, true, false, cond, nat_lt, unsigned_abs, List, [], ◌∷◌, ◌++◌, drop, Option, Some, refl, sym, ap, ◌∙◌, arith}
-use Rattle.std.proofs.lemmas.Bool.{ltb-true, ltb-false, eqb-true, eqb-false}
+use Rattle.std.proofs.Common.{◌≡◌, ◌==◌, ℕ, ◌+◌, ◌-◌, ◌^◌, ◌<◌, ℤ, pos, ◌+ℤ◌, Bool, true, false, cond, nat_lt, unsigned_abs, List, [], ◌∷◌, drop, Some, refl, ap, ◌∙◌, arith}
+use Rattle.std.proofs.lemmas.Bool.{ltb-true, eqb-true}
 use Rattle.std.proofs.lemmas.Int.{ints}
 use Rattle.tx_dvi.specs.Dvi.{four_bytes}
-use Rattle.tx_dvi.specs.Meaning.{Registers, Reader, PlacedRule, signed, right_by, down_by, rule_set, rule_met}
+use Rattle.tx_dvi.specs.Meaning.{Registers, PlacedRule, right_by, down_by, rule_set}
 use Rattle.tx_dvi.proofs.Reading as dvi
 use Rattle.tx_dvi.proofs.Reading.{run, reader}
 use Rattle.tx_dvi.proofs.SignedBack.{signed-back1, signed-back2, signed-back3, signed-back4}
@@ -22,9 +22,11 @@ sized by = first (nat_lt (unsigned_abs by) 128) refl
     third : nat_lt (unsigned_abs by) 128 ≡ false → nat_lt (unsigned_abs by) 32768 ≡ false → (b : Bool) → nat_lt (unsigned_abs by) 8388608 ≡ b → Sized by
     third e f true g = three (ap (λ b. cond b 1 (cond (nat_lt (unsigned_abs by) 32768) 2 (cond (nat_lt (unsigned_abs by) 8388608) 3 4))) e ∙ ap (λ b. cond b 2 (cond (nat_lt (unsigned_abs by) 8388608) 3 4)) f ∙ ap (λ b. cond b 3 4) g) (ltb-true _ _ g)
     third e f false g = four (ap (λ b. cond b 1 (cond (nat_lt (unsigned_abs by) 32768) 2 (cond (nat_lt (unsigned_abs by) 8388608) 3 4))) e ∙ ap (λ b. cond b 2 (cond (nat_lt (unsigned_abs by) 8388608) 3 4)) f ∙ ap (λ b. cond b 3 4) g)
+
     second : nat_lt (unsigned_abs by) 128 ≡ false → (b : Bool) → nat_lt (unsigned_abs by) 32768 ≡ b → Sized by
     second e true f = two (ap (λ b. cond b 1 (cond (nat_lt (unsigned_abs by) 32768) 2 (cond (nat_lt (unsigned_abs by) 8388608) 3 4))) e ∙ ap (λ b. cond b 2 (cond (nat_lt (unsigned_abs by) 8388608) 3 4)) f) (ltb-true _ _ f)
     second e false f = third e f (nat_lt (unsigned_abs by) 8388608) refl
+
     first : (b : Bool) → nat_lt (unsigned_abs by) 128 ≡ b → Sized by
     first true e = one (ap (λ b. cond b 1 (cond (nat_lt (unsigned_abs by) 32768) 2 (cond (nat_lt (unsigned_abs by) 8388608) 3 4))) e) (ltb-true _ _ e)
     first false e = second e (nat_lt (unsigned_abs by) 32768) refl
@@ -51,6 +53,7 @@ module _ (now : Registers) (stack : List Registers) (rules : List PlacedRule) wh
       of_size some (two is l) = ap (run (Some (reader now stack rules))) (moves 143 by 2 some is) ∙ dvi.run-right2 now stack rules by ∙ ap (λ z. Some (reader (right_by z now) stack rules)) (signed-back2 by l)
       of_size some (three is l) = ap (run (Some (reader now stack rules))) (moves 143 by 3 some is) ∙ dvi.run-right3 now stack rules by ∙ ap (λ z. Some (reader (right_by z now) stack rules)) (signed-back3 by l)
       of_size some (four is) = ap (run (Some (reader now stack rules))) (moves 143 by 4 some is) ∙ dvi.run-right4 now stack rules by ∙ ap (λ z. Some (reader (right_by z now) stack rules)) (signed-back4 by h)
+
       cases : (b : Bool) → (unsigned_abs by == 0) ≡ b → run (Some (reader now stack rules)) (right by) ≡ Some (reader (right_by by now) stack rules)
       cases true e = ap (run (Some (reader now stack rules))) (still 143 by e)
           ∙ (let same : now.h ≡ now.h +ℤ by = let z = nothing by e in omega (arith, ints, z) in λ i. Some (reader (record now { h = same i }) stack rules))
@@ -64,6 +67,7 @@ module _ (now : Registers) (stack : List Registers) (rules : List PlacedRule) wh
       of_size some (two is l) = ap (run (Some (reader now stack rules))) (moves 157 by 2 some is) ∙ dvi.run-down2 now stack rules by ∙ ap (λ z. Some (reader (down_by z now) stack rules)) (signed-back2 by l)
       of_size some (three is l) = ap (run (Some (reader now stack rules))) (moves 157 by 3 some is) ∙ dvi.run-down3 now stack rules by ∙ ap (λ z. Some (reader (down_by z now) stack rules)) (signed-back3 by l)
       of_size some (four is) = ap (run (Some (reader now stack rules))) (moves 157 by 4 some is) ∙ dvi.run-down4 now stack rules by ∙ ap (λ z. Some (reader (down_by z now) stack rules)) (signed-back4 by h)
+
       cases : (b : Bool) → (unsigned_abs by == 0) ≡ b → run (Some (reader now stack rules)) (down by) ≡ Some (reader (down_by by now) stack rules)
       cases true e = ap (run (Some (reader now stack rules))) (still 157 by e)
           ∙ (let same : now.v ≡ now.v +ℤ by = let z = nothing by e in omega (arith, ints, z) in λ i. Some (reader (record now { v = same i }) stack rules))

@@ -1,5 +1,5 @@
 -- How the commands of a list unroll, and how a box is closed.
-use Rattle.std.proofs.Common.{◌≡◌, ◌==◌, ℕ, suc, ◌+◌, ◌-◌, ◌<◌, ◌≤◌, ℤ, pos, ◌+ℤ◌, Bool, true, false, cond, not, ◌&&◌, ◌||◌, List, [], ◌∷◌, ◌++◌, length, take, drop, get_or, refl, sym, ap, ◌∙◌, arith, append_assoc}
+use Rattle.std.proofs.Common.{◌≡◌, ◌==◌, ℕ, ◌+◌, ◌-◌, ◌<◌, ◌≤◌, ℤ, ◌+ℤ◌, Bool, true, false, cond, not, ◌&&◌, ◌||◌, List, [], ◌∷◌, ◌++◌, length, take, drop, get_or, refl, sym, ap, ◌∙◌, arith, append_assoc}
 use Rattle.std.proofs.lemmas.Bool.{eqb-true, eqb-false}
 use Rattle.std.proofs.lemmas.List.{append-nil, length-append, drop_all}
 use Rattle.std.proofs.Math.Seq.{take-append_seam}
@@ -29,7 +29,7 @@ next-at frame cursor (box w h d inner) = refl
 -- the commands of a list from an item on
 pub commands-on : (xs : List Node) (i : ℕ) (x : Node) (frame : Frame) (cursor : Cursor) → i < length xs → x ≡ get_or xs i x
     → list_commands frame cursor (items_of (list_of (drop i xs)))
-      ≡ (item_commands frame cursor (item_of x)).0 ++ list_commands frame (item_commands frame cursor (item_of x)).1 (items_of (list_of (drop (i + 1) xs)))
+    ≡ (item_commands frame cursor (item_of x)).0 ++ list_commands frame (item_commands frame cursor (item_of x)).1 (items_of (list_of (drop (i + 1) xs)))
 unfolding list_commands
 commands-on xs i x frame cursor h is = ap (list_commands frame cursor) (items-on xs i x h is)
 
@@ -59,6 +59,7 @@ framed-close before inner {pushed} {put} {new} {start} pushed_is start_is put_is
   where
     long : start ≡ length before + 1
     long = start_is ∙ ap length pushed_is ∙ length-append before (141 ∷ [])
+
     by : (inner : List ℕ) → put ≡ pushed ++ inner → (b : Bool) → (length put == start) ≡ b → new ≡ cond b (take (start - 1) put) (put ++ 142 ∷ []) → new ≡ before ++ framed inner
     by [] is true e n =
         n ∙ (λ i. take (start - 1) ((is ∙ append-nil pushed ∙ pushed_is) i)) ∙ ap (λ k. take k (before ++ 141 ∷ [])) (omega (arith, long)) ∙ take-append_seam before (141 ∷ []) ∙ sym (append-nil before)

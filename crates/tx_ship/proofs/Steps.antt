@@ -1,17 +1,15 @@
 -- Steps of the walks over a list, and what a test of places tells.
-use Rattle.std.proofs.Common.{◌≡◌, ◌==◌, ℕ, suc, ◌+◌, ◌<◌, ◌≤◌, ℤ, ◌+ℤ◌, ◌-ℤ◌, Bool, true, false, cond, take, ◌-◌, not, ◌&&◌, ◌||◌, List, [], ◌∷◌, ◌++◌, length, drop, get_or, refl, sym, ap, ◌∙◌, arith, add-one, append_assoc, unsigned_abs}
-use Rattle.std.proofs.lemmas.Bool.{leb-true, eqb-true, eqb-false}
+use Rattle.std.proofs.Common.{◌≡◌, ◌==◌, ℕ, ◌+◌, ◌<◌, ℤ, ◌+ℤ◌, ◌-ℤ◌, Bool, true, false, not, ◌&&◌, ◌||◌, List, [], ◌∷◌, ◌++◌, length, drop, get_or, refl, sym, ap, ◌∙◌, add-one, append_assoc}
+use Rattle.std.proofs.lemmas.Bool.{leb-true}
 use Rattle.std.proofs.Math.Seq.{drop-cons}
 use Rattle.std.proofs.Math.Dec.{eqb-suc-zero}
-use Rattle.tx_node.specs.Items.{rule, kern, space, box}
-use Rattle.tx_ship.specs.declared.places.Cursor.{Cursor}
-use Rattle.tx_ship.specs.Commands.{is_entered, is_visible, height_in, depth_in, rule_item, rule_commands, behind_rule, passed, framed, list_commands, item_commands}
+use Rattle.tx_ship.specs.Commands.{is_entered}
 use Rattle.tx_node.specs.declared.node.Node.{Node}
-use Rattle.tx_node.specs.Items.{Item, Items, none, more, items_of}
+use Rattle.tx_node.specs.Items.{Item, more, items_of}
 use Rattle.tx_node.specs.Nodes.{item_of, list_of}
 use Rattle.tx_node.specs.Packing.{item_width}
 use Rattle.tx_ship.specs.declared.places.Frame.{Frame}
-use Rattle.tx_ship.specs.Within.{Lies, IsOnPage, on_page, edges_lie, box_lies, list_lies, item_lies}
+use Rattle.tx_ship.specs.Within.{Lies, on_page, edges_lie, list_lies, item_lies}
 
 -- both of two tests
 pub both : {a b : Bool} → (a && b) ≡ true → (a ≡ true) × (b ≡ true)
@@ -71,4 +69,3 @@ pub lies-here : (xs : List Node) (i : ℕ) {x : Node} (frame : Frame) (at : ℤ)
     → list_lies frame at (items_of (list_of (drop i xs))) ≡ true → item_lies frame at (item_of x) ≡ true
 unfolding list_lies
 lies-here xs i {x} frame at h is all = (both (ap (list_lies frame at) (sym (items-on xs i x h is)) ∙ all)).0
-

@@ -1,5 +1,5 @@
 -- What a box that is shipped brings to the DVI file (TeX: The Program, sections 638 to 644).
-use Rattle.std.specs.Prelude.{◌≡◌, ℕ, Bool, ◌&&◌, nat_le, int_le, ℤ, pos, ◌+ℤ◌, ◌≤ℤ◌, unsigned_abs, List, length, Result, Ok, Err, if◌then◌else◌}
+use Rattle.std.specs.Prelude.{ℕ, Bool, ◌&&◌, nat_le, int_le, ℤ, pos, ◌+ℤ◌, ◌≤ℤ◌, unsigned_abs, List, length, Result, Ok, Err, if◌then◌else◌}
 use Rattle.std.specs.Int.{int_max}
 use Rattle.tx_dvi.specs.declared.page.DateParameters.{DateParameters}
 use Rattle.tx_dvi.specs.Page.{Page}

@@ -1,5 +1,5 @@
 -- What lies on a page: nothing does past 2^30-1 sp.
-use Rattle.std.specs.Prelude.{Bool, true, not, ◌&&◌, ◌||◌, nat_le, ℤ, pos, ◌+ℤ◌, ◌-ℤ◌, unsigned_abs, ◌≤◌}
+use Rattle.std.specs.Prelude.{Bool, true, not, ◌&&◌, ◌||◌, nat_le, ℤ, ◌+ℤ◌, ◌-ℤ◌, unsigned_abs, ◌≤◌}
 use Rattle.tx_node.specs.Items.{Item, rule, kern, space, box, Items, none, more, HBox, items_of}
 use Rattle.tx_node.specs.Packing.{item_width}
 use Rattle.tx_ship.specs.declared.places.Frame.{Frame}

@@ -89,11 +89,7 @@ fn lies(node: &BoxNode, params: &ShipParams) -> bool
 }
 
 /// The commands of a page on which all lies that the box holds.
-fn page_commands(
-    alloc: Global,
-    node: &BoxNode,
-    params: &ShipParams,
-) -> Result<Vec<u8>, AllocError>
+fn page_commands(alloc: Global, node: &BoxNode, params: &ShipParams) -> Result<Vec<u8>, AllocError>
     requires { page_lies node.now params.now.hoffset params.now.voffset ≡ true }
     ensures { IfOk result (λ body. body.items ≡ body_of node.now params.now.hoffset params.now.voffset) }
 {
@@ -158,11 +154,7 @@ fn page_with(node: &BoxNode, params: &ShipParams, sizes: PageSizes, commands: By
 /// its depth plus \voffset or its width plus \hoffset is past 2^30-1; else `OutsidePage` exactly where a rule or a box with
 /// a list lies, in whole or part, past 2^30-1 to a side; else `BodyTooLong` exactly where the body has more than 200,000
 /// bytes. The body's commands mean the rules of the box, at their places.
-pub fn body(
-    alloc: Global,
-    node: &BoxNode,
-    params: &ShipParams,
-) -> Result<PageBody, ShipError>
+pub fn body(alloc: Global, node: &BoxNode, params: &ShipParams) -> Result<PageBody, ShipError>
     requires { spec.IsMag params.now.mag }
     ensures page { IfOk result (λ page. spec.page_of node.now params.now ≡ Ok page) }
     ensures error { IfErr result (λ e. e ≢ OutOfMemory → spec.page_of node.now params.now ≡ Err e) }

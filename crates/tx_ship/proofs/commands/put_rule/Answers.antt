@@ -1,4 +1,4 @@
-use Rattle.std.proofs.Common.{◌≡◌, ◌++◌, ◌-ℤ◌, ◌∙◌, arith, to_z, of_z, w32, sym}
+use Rattle.std.proofs.Common.{◌≡◌, ◌-ℤ◌, arith, to_z, of_z, w32}
 use Rattle.std.proofs.lemmas.Int.{ints}
 use Rattle.tx_ship.proofs.Steps.{three-puts}
 use Rattle.tx_ship.specs.Commands.{right, down, set_rule}

@@ -13,10 +13,13 @@ use Rattle.tx_ship.proofs.list.+put.Goals as goal
 
 pub put_list-put_node-requires : goal.put_list-put_node-requires
 put_list-put_node-requires t c =
-    let m = to-item c.args.list.now c.loop-node.node-index c.loop-node-test.true c.node-item.is in
-    (subst (λ (n : ℕ). node_measure c.node-item.result < n) c.decreases m,
-    (lies-here c.args.list.now c.loop-node.node-index c.args.frame c.loop-node.cursor.at c.loop-node-test.true c.node-item.is c.loop-node.invariant.lies,
-    (omega (arith, c.loop-node.invariant.bound, c.loop-node-test.true), (c.requires.base, c.loop-node.invariant.on_page))))
+    let m = to-item c.args.list.now c.loop-node.node-index c.loop-node-test.true c.node-item.is in (
+      subst (λ (n : ℕ). node_measure c.node-item.result < n) c.decreases m,
+      (
+        lies-here c.args.list.now c.loop-node.node-index c.args.frame c.loop-node.cursor.at c.loop-node-test.true c.node-item.is c.loop-node.invariant.lies,
+        (omega (arith, c.loop-node.invariant.bound, c.loop-node-test.true), (c.requires.base, c.loop-node.invariant.on_page)),
+      ),
+    )
 
 pub put_list-loop-node-preserved : goal.put_list-loop-node-preserved
 put_list-loop-node-preserved t c =
@@ -48,15 +51,18 @@ put_box-put_list-requires t c =
     let base_is : to_z w128 (of_z w128 c.args.base) ≡ c.args.base = omega (arith, ints, c.requires.base) in
     let frame_is : c.frame_of.result ≡ frame_of c.args.inner.now c.args.base = c.frame_of.ensures ∙ ap (frame_of c.args.inner.now) base_is in
     let lies = entered-lies c.if-not-is_entered.ensures c.requires.lies in
-    let edges = lies-is lies.0 in
-    (subst (λ (n : ℕ). list_measure c.list.result.now < n) c.decreases (to-list c.args.inner.now c.list.result.now c.list.ensures),
-    ((λ i. list_lies (frame_is i) c.args.cursor.at (items_of (c.list.ensures i))) ∙ lies.1,
-    (omega (arith, edges.left), (rw frame_is c.requires.base, c.requires.on_page))))
+    let edges = lies-is lies.0 in (
+      subst (λ (n : ℕ). list_measure c.list.result.now < n) c.decreases (to-list c.args.inner.now c.list.result.now c.list.ensures),
+      (
+        (λ i. list_lies (frame_is i) c.args.cursor.at (items_of (c.list.ensures i))) ∙ lies.1,
+        (omega (arith, edges.left), (rw frame_is c.requires.base, c.requires.on_page)),
+      ),
+    )
 
 pub put_box-returns : goal.put_box-returns
 put_box-returns t c =
     framed-close c.args.body.now.items _ c.in_ok-push.ensures.items (ap length c.as_slice-start.ensures.value)
     (c.in_ok-put_list.ensures ∙ (λ i. c.push.new.self.items ++ list_commands (frame_is i) c.args.cursor (items_of (c.list.ensures i)))) c.in_ok-close.ensures
-    where
-      frame_is : c.frame_of.result ≡ frame_of c.args.inner.now c.args.base
-      frame_is = let base_is : to_z w128 (of_z w128 c.args.base) ≡ c.args.base = omega (arith, ints, c.requires.base) in c.frame_of.ensures ∙ ap (frame_of c.args.inner.now) base_is
+  where
+    frame_is : c.frame_of.result ≡ frame_of c.args.inner.now c.args.base
+    frame_is = let base_is : to_z w128 (of_z w128 c.args.base) ≡ c.args.base = omega (arith, ints, c.requires.base) in c.frame_of.ensures ∙ ap (frame_of c.args.inner.now) base_is

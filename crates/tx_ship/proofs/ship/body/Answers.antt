@@ -1,4 +1,4 @@
-use Rattle.std.proofs.Common.{◌≡◌, ◌≤◌, List, length, Ok, Some, sym, ap, ◌∙◌, arith}
+use Rattle.std.proofs.Common.{Ok, sym, ap, ◌∙◌, arith}
 use Rattle.std.specs.Prelude.{is_some}
 use Rattle.tx_dvi.specs.Meaning.{meaning}
 use Rattle.tx_ship.proofs.Paged.{too-large, outside, too-long, page-is}
@@ -25,4 +25,4 @@ returns-then-not-lies-clause-error c = λ _. outside c.args.node.now c.args.para
 pub returns-then-len-gt-MAX_BODY-clause-error : goal.returns-then-len-gt-MAX_BODY-clause-error
 returns-then-len-gt-MAX_BODY-clause-error c =
     λ _. too-long c.args.node.now c.args.params.now c.from_vec-commands.result (sym c.in-Some.ensures.fit) (sym c.if-not-lies.ensures) (c.from_vec-commands.ensures ∙ c.in_ok-page_commands.ensures)
-      (omega (arith, c.len.ensures, c.if-len-gt-MAX_BODY.true))
+    (omega (arith, c.len.ensures, c.if-len-gt-MAX_BODY.true))
