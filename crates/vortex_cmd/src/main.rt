@@ -1,17 +1,22 @@
 //! The program `vortex`. `vortex` does all that it does, over any source and any sink, and its contract is the headline:
-//! what is put out is what a fresh run of TeX on the main file gives. `main` hands it the words and the current folder.
+//! what is put out is what a fresh run of TeX on the listed files gives. `main` hands it the words and the current folder.
 //!
-//! Read `arguments` (the words as they come), `words` (the command line), `lines` (what is said), `trouble`, `outputs`
-//! (what is put out of a run), `run`, and then `vortex`.
+//! Read `arguments` (the words as they come), `given` (what they ask for), `command` (the command line, as it is told to
+//! clap), `values` and `words` (how they are read), `lines` (what is said), `trouble`, `outputs` (what is put out of a
+//! run), `fetching`, `run`, and then `vortex`.
 #![tactic(auto)]
 
 mod arguments;
+mod command;
+mod fetching;
+mod given;
 mod lines;
 mod outputs;
 mod run;
 #[cfg(test)]
 mod tests;
 mod trouble;
+mod values;
 mod vortex;
 mod words;
 
