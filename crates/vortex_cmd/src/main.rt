@@ -5,6 +5,10 @@
 //! then `vortex`.
 #![tactic(auto)]
 
+#[cfg(test)]
+mod case_tests;
+#[cfg(test)]
+mod cases;
 mod lines;
 mod outputs;
 mod run;
