@@ -1,7 +1,6 @@
 pub mod Codes
 pub mod KeptDigits
 pub mod Leaves
-pub mod Packed
 pub mod Prefixes
 pub mod SameRest
 pub mod SideNames

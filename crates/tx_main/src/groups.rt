@@ -18,6 +18,11 @@ impl Model for Groups {
 
     ghost Value = { List Group };
 
+    ghost use Rattle.std.specs.Coded.{codes};
+    ghost use Rattle.tx_node.specs.Codes.{item_code};
+
+    ghost coded = { Prim.hlevel (codes, item_code) };
+
     ghost view = { λ g. g.items.items };
 }
 

@@ -1,7 +1,7 @@
 //! TeX as a machine: a state, and turns that each do one piece of due work, ask for a line, or take one token.
 //!
 //! Read `error` and `types`; how commands are taken off tokens: `tokens`, `scans`, `integer`, `dimension`, `rule`,
-//! `command`; what they build: `nodes`, `pack`, `ship`; then `parts`, `line`, `state`, `effects`, `turn` and `machine`.
+//! `command`; then `parts`, `line`, `state`, `effects`, `page`, `turn` and `machine`.
 #![tactic(auto)]
 
 mod back;
@@ -15,14 +15,12 @@ mod integer;
 mod keyword;
 mod line;
 mod machine;
-mod nodes;
-mod pack;
+mod page;
 mod parts;
 mod rule;
 #[cfg(test)]
 mod scan_tests;
 mod scans;
-mod ship;
 mod stage;
 mod state;
 mod token_list;

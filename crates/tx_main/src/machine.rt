@@ -9,9 +9,8 @@ use crate::back::GivenBack;
 use crate::command::CommandScan;
 use crate::groups::Groups;
 use crate::line::Line;
-use crate::nodes::Nodes;
+use crate::page::date_parameters;
 use crate::parts::{Due, Phase};
-use crate::ship::date_parameters;
 use crate::state::State;
 use crate::turn;
 use std::alloc::{AllocError, Global};
@@ -20,6 +19,7 @@ use tx_bytes::Bytes;
 use tx_char::Codes;
 use tx_files::Name;
 use tx_machine::{Date, Event, Machine, Reply, Steps};
+use tx_node::Nodes;
 
 /// TeX, begun as INITEX.
 #[derive(Clone, Copy, Debug)]

@@ -3,11 +3,11 @@ use crate::back::GivenBack;
 use crate::command::CommandScan;
 use crate::groups::Groups;
 use crate::line::Line;
-use crate::nodes::Nodes;
 use crate::parts::{Due, Phase};
 use tx_bytes::Bytes;
 use tx_char::Codes;
 use tx_dvi::DateParameters;
+use tx_node::Nodes;
 
 /// All that the next turns depend on, and the bytes of the transcript that were not yet taken.
 #[derive(Drop)]

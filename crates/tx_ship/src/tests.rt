@@ -74,7 +74,7 @@ fn a_box_in_a_box_is_pushed_and_popped(rt: HostRuntime) -> Result<(), Fail> {
                 144, 255, 49, 157, 2, 132, 0, 0, 0, 3, 0, 0, 0, 5, // the one as deep
                 141, 132, 0, 0, 0, 2, 0, 0, 0, 1, 142, // the last box
             ];
-            assert_eq!(rt; page.body(), &want);
+            assert_eq!(rt; page.body(), want.as_slice());
             assert_eq!(rt;
                 (page.height, page.width, page.nesting, page.mag),
                 (5, 112, 1, 1200)
