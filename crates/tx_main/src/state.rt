@@ -9,7 +9,7 @@ use tx_char::Codes;
 use tx_dvi::DateParameters;
 use tx_node::Nodes;
 
-/// All that the next turns depend on, and the bytes of the transcript that were not yet taken.
+/// All that the next turns depend on, and the bytes of the transcript that are still to be taken.
 #[derive(Drop)]
 pub struct State {
     pub(crate) phase: Phase,

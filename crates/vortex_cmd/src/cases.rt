@@ -79,7 +79,7 @@ pub const READING: &[Case] = &[
         b"A>",
     ),
     (
-        b"\\catcode`/=0 /shipout/hbox{a}/end\n",
+        b"\\catcode`|=0 |shipout|hbox{a}|end\n",
         "run: 1 pages, end",
         b"a",
     ),
