@@ -6,3 +6,4 @@ pub mod SameRest
 pub mod SideNames
 pub mod Sides
 pub mod UnitSpaces
+pub mod Reversed
