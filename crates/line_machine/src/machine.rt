@@ -60,4 +60,16 @@ impl Machine for LineMachine {
     fn take_said(&self, alloc: Global, s: &mut State) -> Bytes {
         mem::replace(&mut s.said, Bytes::new(alloc))
     }
+
+    fn same(&self, a: &State, b: &State) -> bool {
+        a.date == b.date && a.phase.same(&b.phase)
+    }
+
+    fn share(&self, _alloc: Global, s: &State) -> Result<State, AllocError> {
+        Ok(State {
+            date: s.date,
+            phase: s.phase.copy()?,
+            said: s.said.clone()?,
+        })
+    }
 }

@@ -37,95 +37,98 @@ fn edit(alloc: Global, place: u64, removed: u64, put: &[u8]) -> Result<Edit, All
     })
 }
 
-/// The pages, the transcript, the end, the size of the DVI file, and the turns so far.
-fn shown(
+/// A document of one file, opened.
+fn opened(
     alloc: Global,
-    session: &Session<LineMachine>,
-    steps: &Steps,
-) -> Result<String, AllocError> {
-    let mut text = String::new(alloc);
-    for page in 0..session.pages() {
-        for byte in session.body(page + 1) {
-            text.push(char::from(*byte))?;
-        }
-        text.push_str(", ")?;
-    }
-    for byte in session.said() {
+    bytes: &[u8],
+    steps: &mut Steps,
+) -> Result<Session<LineMachine>, AllocError> {
+    let mut files = FileSet::new(alloc);
+    files.put(main_name(alloc)?, Bytes::from_slice(alloc, bytes)?)?;
+    let main = main_name(alloc)?;
+    Session::open(alloc, LineMachine, files, main, DATE, LIMITS, steps)
+}
+
+fn append_bytes(text: &mut String, bytes: &[u8]) -> Result<(), AllocError> {
+    for byte in bytes {
         text.push(char::from(*byte))?;
     }
+    text.push(' ')
+}
+
+fn append_pages(text: &mut String, session: &Session<LineMachine>) -> Result<(), AllocError> {
+    for page in 0..session.pages() {
+        append_bytes(text, session.body(page + 1))?;
+    }
+    Ok(())
+}
+
+/// The pages, the transcript, the end, the size of the DVI file, and the turns so far.
+fn append_all(
+    text: &mut String,
+    session: &Session<LineMachine>,
+    steps: &Steps,
+) -> Result<(), AllocError> {
+    append_pages(text, session)?;
+    append_bytes(text, session.said())?;
     let end = session.end();
     let file = session.dvi()?;
     let size = file.len();
-    write!(text, ", {end:?}, {size} bytes, {steps:?}")?;
+    write!(text, "{end:?} {size} {steps:?}; ")
+}
+
+/// What an edit is answered, and what there is then.
+fn append_edit(
+    text: &mut String,
+    session: &mut Session<LineMachine>,
+    e: &Edit,
+    steps: &mut Steps,
+) -> Result<(), AllocError> {
+    match session.edit(e, steps) {
+        Ok(
+            Report {
+                pages,
+                resumed,
+                formatted,
+                reused,
+            },
+        ) => { write!(text, "{pages} = {resumed} + {formatted} + {reused}: ")? }
+        Err(Refusal::Outside { len }) => write!(text, "outside {len}: ")?,
+        Err(Refusal::OutOfMemory) => return Err(AllocError),
+    }
+    append_all(text, session, steps)
+}
+
+fn two_edits(alloc: Global, mut steps: Steps) -> Result<String, AllocError> {
+    let mut text = String::new(alloc);
+    let mut session = opened(alloc, b"a\nb\n.\n", &mut steps)?;
+    append_all(&mut text, &session, &steps)?;
+    let replaces = edit(alloc, 2, 1, b"cd\ne")?;
+    append_edit(&mut text, &mut session, &replaces, &mut steps)?;
+    let outside = edit(alloc, 8, 2, b"x")?;
+    append_edit(&mut text, &mut session, &outside, &mut steps)?;
+    Ok(text)
+}
+
+fn one_that_fits(alloc: Global, mut steps: Steps) -> Result<String, AllocError> {
+    let mut edits = Vec::new(alloc);
+    edits.push(edit(alloc, 1, 4, b"x")?)?;
+    edits.push(edit(alloc, 1, 0, b"b")?)?;
+    let mut text = String::new(alloc);
+    let mut session = opened(alloc, b"a\n.\n", &mut steps)?;
+    session.replay(edits.as_slice(), &mut steps)?;
+    append_all(&mut text, &session, &steps)?;
     Ok(text)
 }
 
 #[test]
 fn a_session_is_the_fresh_run_on_the_edited_files(rt: HostRuntime) -> Result<(), Fail> {
-    let alloc = rt.alloc();
-    let mut files = FileSet::new(alloc);
-    files.put(main_name(alloc)?, Bytes::from_slice(alloc, b"a\nb\n.\n")?)?;
-    let mut steps = rt.steps();
-    let mut session = Session::open(
-        alloc,
-        LineMachine,
-        files,
-        main_name(alloc)?,
-        DATE,
-        LIMITS,
-        &mut steps,
-    )?;
-    let opened = shown(alloc, &session, &steps)?;
-    assert_eq!(rt;
-        opened.as_str(),
-        "a, b, ab, End, 176 bytes, Steps { count: 7 }"
-    );
-    let report = session.edit(&edit(alloc, 2, 1, b"cd\ne")?, &mut steps)?;
-    assert_eq!(rt;
-        report,
-        Report {
-            pages: 3,
-            resumed: 0,
-            formatted: 3,
-            reused: 0
-        }
-    );
-    let edited = shown(alloc, &session, &steps)?;
+    let edited = two_edits(rt.alloc(), rt.steps())?;
     assert_eq!(rt;
         edited.as_str(),
-        "a, cd, e, ace, End, 224 bytes, Steps { count: 16 }"
+        "a b ab End 176 Steps { count: 7 }; 3 = 0 + 3 + 0: a cd e ace End 224 Steps { count: 16 }; outside 9: a cd e ace End 224 Steps { count: 16 }; "
     );
-    let refused = session.edit(&edit(alloc, 8, 2, b"x")?, &mut steps);
-    assert_eq!(rt; refused, Err(Refusal::Outside { len: 9 }));
-    let unchanged = shown(alloc, &session, &steps)?;
-    assert_eq!(rt; unchanged.as_str(), edited.as_str());
-    Ok(())
-}
-
-#[test]
-fn edits_that_do_not_fit_are_left_out(rt: HostRuntime) -> Result<(), Fail> {
-    let alloc = rt.alloc();
-    let mut steps = rt.steps();
-    let mut session = Session::open(
-        alloc,
-        LineMachine,
-        FileSet::new(alloc),
-        main_name(alloc)?,
-        DATE,
-        LIMITS,
-        &mut steps,
-    )?;
-    let edits = vec![in alloc;
-        edit(alloc, 1, 0, b"x")?,
-        edit(alloc, 0, 0, b"a\n.\n")?,
-        edit(alloc, 1, 4, b"x")?,
-        edit(alloc, 1, 0, b"b")?,
-    ]?;
-    session.replay(edits.as_slice(), &mut steps)?;
-    let replayed = shown(alloc, &session, &steps)?;
-    assert_eq!(rt;
-        replayed.as_str(),
-        "ab, a, End, 132 bytes, Steps { count: 12 }"
-    );
+    let replayed = one_that_fits(rt.alloc(), rt.steps())?;
+    assert_eq!(rt; replayed.as_str(), "ab a End 132 Steps { count: 10 }; ");
     Ok(())
 }

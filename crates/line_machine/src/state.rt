@@ -1,5 +1,8 @@
 //! The machine's state, in code.
+ghost use Rattle.std.specs.Prelude.{◌≡◌, ◌↔◌, IsTrue, IfOk};
+
 use crate::error::LineError;
+use std::alloc::AllocError;
 use tx_bytes::Bytes;
 use tx_dvi::DateParameters;
 use tx_files::Name;
@@ -26,4 +29,33 @@ pub struct State {
     pub(crate) date: DateParameters,
     pub(crate) phase: Phase,
     pub(crate) said: Bytes,
+}
+
+impl Phase {
+    /// Whether both are the same phase.
+    pub fn same(&self, other: &Phase) -> bool
+        ensures { IsTrue result ↔ (self.now ≡ other.now) }
+    {
+        match (self, other) {
+            (Phase::Begins(name), Phase::Begins(named)) => name.as_slice() == named.as_slice(),
+            (Phase::Reads(text), Phase::Reads(read)) => text.same(read),
+            (Phase::Fails(error), Phase::Fails(failed)) => error == failed,
+            (Phase::Waits(kind), Phase::Waits(waited)) => kind == waited,
+            (Phase::Halted, Phase::Halted) => true,
+            _ => false,
+        }
+    }
+
+    /// The same phase again. Its only error is want of memory.
+    pub fn copy(&self) -> Result<Phase, AllocError>
+        ensures { IfOk result (λ phase. phase ≡ self.now) }
+    {
+        match self {
+            Phase::Begins(name) => Ok(Phase::Begins(name.clone()?)),
+            Phase::Reads(text) => Ok(Phase::Reads(text.clone()?)),
+            Phase::Fails(error) => Ok(Phase::Fails(*error)),
+            Phase::Waits(kind) => Ok(Phase::Waits(*kind)),
+            Phase::Halted => Ok(Phase::Halted),
+        }
+    }
 }

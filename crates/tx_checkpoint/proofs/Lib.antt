@@ -3,3 +3,6 @@ pub mod Lines
 pub mod Edited
 pub mod Stretches
 pub mod Standing
+pub mod Keeping
+pub mod LastRow
+pub mod Replaced

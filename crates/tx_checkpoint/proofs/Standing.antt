@@ -2,15 +2,18 @@
 -- left all of it stands, its end included.
 use Rattle.std.proofs.Common.{◌≡◌, ℕ, zero, suc, ◌+◌, ◌-◌, ◌<◌, ◌≤◌, Bool, true, false, cond, ◌&&◌, List, [], ◌∷◌, length, take, slice_index_or, Option, Some, None, refl, sym, ap, subst, ◌∙◌, arith, true≢false, unwrap_or}
 use Rattle.std.specs.List.{prefix_len, list_all}
-use Rattle.std.proofs.lemmas.List.{length-take, length-take-le, length-map}
+use Rattle.std.proofs.lemmas.List.{length-take, length-take-le, length-map, take-map}
 use Rattle.std.proofs.lemmas.List.Sums.{prefix_len-le-length}
 use Rattle.std.proofs.lemmas.Option.{slice_get_within, get_or_from_slice_get}
 use Rattle.tx_bytes.specs.Files.{Files}
 use Rattle.tx_files.specs.declared.edit.Edit.{Edit}
+use Rattle.tx_files.specs.Edits.{fits_in, edited}
 use Rattle.tx_files.specs.Lines.{line_count}
 use Rattle.tx_machine.specs.declared.types.Close.{Close}
 use Rattle.tx_machine.specs.declared.types.Close.TheVariants.{Page, Halt, Spent}
 use Rattle.tx_machine.specs.declared.types.End.TheVariants.{Error, Budget}
+use Rattle.tx_machine.specs.declared.types.Date.{Date}
+use Rattle.tx_machine.specs.declared.types.Limits.{Limits}
 use Rattle.tx_machine.specs.declared.types.OpenFile.{OpenFile}
 use Rattle.tx_machine.specs.declared.types.Stop.{Stop}
 use Rattle.tx_machine.specs.declared.types.Stop.TheVariants.{End as StopEnd, Error as StopError}
@@ -19,12 +22,16 @@ use Rattle.tx_machine.specs.Opens.{innermost}
 use Rattle.tx_machine.specs.Run.{run_from, closed_run, end_of, error_at, ended, page_start}
 use Rattle.tx_machine.specs.Turn.{Place, Progress, stretch}
 use Rattle.tx_checkpoint.specs.declared.row.Row.{Row}
-use Rattle.tx_checkpoint.specs.Rows.{History, PageRow, page_row, rows_in, last_of, behind, only, closed_rows, rows_from, run_of, turns_of}
-use Rattle.tx_checkpoint.specs.Resume.{stays, resume, stands, Begun, after_pages}
+use Rattle.tx_checkpoint.specs.Rows.{History, PageRow, page_row, rows_in, last_of, behind, only, closed_rows, rows_from, fresh_rows, run_of, turns_of}
+use Rattle.tx_checkpoint.specs.Resume.{stays, resume, stands, Begun, after_rows, run_behind}
 use Rattle.tx_checkpoint.specs.Laws.{AreUntouched, IsLastUntouched}
 use Rattle.tx_checkpoint.proofs.Untouched.{AreLeft, untouched-left}
-use Rattle.tx_checkpoint.proofs.Edited.{Edited, same-read}
+use Rattle.tx_checkpoint.proofs.Edited.{Edited, edited-is, same-read}
 use Rattle.tx_checkpoint.proofs.Stretches.{IsWithin, AreWithin, within-stretch, same-stretch}
+
+-- where the next page begins behind some pages
+abbrev pub after_pages : {S : Type 0} → Begun S → List (PageRow S) → Begun S
+after_pages begun pages = after_rows begun (rows_in pages)
 
 both : (a b : Bool) → (a && b) ≡ true → (a ≡ true) × (b ≡ true)
 both true b h = (refl, h)
@@ -148,6 +155,17 @@ module _ {S : Type 0} (m : Formatter S) (budget : ℕ) {e : Edit} {before after 
       omega (arith, length-take k (rows_from m after budget pages state opens).pages)) in
       splits m after budget pages k state opens within ∙ ap (split_at m after budget pages k (record { state = state; opens = opens })) same
 
+  -- with the rows taken before, in place of the rows of the pages that are taken
+  pub resumes-behind : (pages k : ℕ) (state : S) (opens : List OpenFile) → AreUntouched (rows_in (rows_from m before budget pages state opens).pages) k e
+      → rows_from m after budget pages state opens ≡ behind (take k (rows_from m before budget pages state opens).pages)
+      (rows_from m after budget (pages - k) (after_rows (record { state = state; opens = opens }) (take k (rows_in (rows_from m before budget pages state opens).pages))).state
+      (after_rows (record { state = state; opens = opens }) (take k (rows_in (rows_from m before budget pages state opens).pages))).opens)
+  resumes-behind pages k state opens are =
+      let old : List (PageRow S) = (rows_from m before budget pages state opens).pages in
+      resumes pages k state opens are
+      ∙ ap (λ (rows : List (Row S)). behind (take k old) (rows_from m after budget (pages - k) (after_rows (record { state = state; opens = opens }) rows).state (after_rows (record { state = state; opens = opens }) rows).opens))
+      (sym (take-map (λ (page : PageRow S). page.row) k old))
+
   -- an error's line
   error_same : (code : ℕ) (opens : List OpenFile) (file : Option OpenFile) → innermost opens ≡ file → AreWithin e opens → error_at after code file ≡ error_at before code file
   error_same code opens None is within = refl
@@ -188,3 +206,12 @@ module _ {S : Type 0} (m : Formatter S) (budget : ℕ) {e : Edit} {before after 
       let inside : AreWithin e t.place.opens = within-stretch m e before start within left in
       ap (λ (u : Progress S). from_stretch m after budget pages u (unwrap_or u.close Spent)) (same-stretch m e edit start left)
       ∙ stretch_stands pages t close inside stand (λ later. all-stands pages t.place.state t.place.opens inside later)
+
+-- the fresh run on the edited files, where everything stands and where formatting resumes
+module _ {S : Type 0} (m : Formatter S) (files : Files) (e : Edit) (main : List ℕ) (date : Date) (limits : Limits) (fits : fits_in files e ≡ true) where
+  pub fresh-stands : stands (fresh_rows m files main date limits) e ≡ true → fresh_rows m (edited files e) main date limits ≡ fresh_rows m files main date limits
+  fresh-stands stand = all-stands m limits.budget (edited-is files e fits) limits.pages (m.start date main) [] (λ k d below. absurd (omega arith)) stand
+
+  pub fresh-resumes : (k : ℕ) → AreUntouched (rows_in (fresh_rows m files main date limits).pages) k e
+      → fresh_rows m (edited files e) main date limits ≡ behind (take k (fresh_rows m files main date limits).pages) (run_behind m (edited files e) (rows_in (fresh_rows m files main date limits).pages) k main date limits)
+  fresh-resumes k are = resumes-behind m limits.budget (edited-is files e fits) limits.pages k (m.start date main) [] are

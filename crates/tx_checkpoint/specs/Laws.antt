@@ -1,5 +1,5 @@
 -- Why formatting may resume: what an edit leaves untouched it doesn't change.
-use Rattle.std.specs.Prelude.{◌≡◌, ℕ, ◌≤◌, ◌-◌, true, List, [], length, take}
+use Rattle.std.specs.Prelude.{◌≡◌, ℕ, ◌≤◌, true, List, length, take}
 use Rattle.std.specs.List.{list_all}
 use Rattle.tx_bytes.specs.Files.{Files}
 use Rattle.tx_files.specs.Edits.{fits_in, edited}
@@ -9,8 +9,8 @@ use Rattle.tx_machine.specs.declared.types.Limits.{Limits}
 use Rattle.tx_machine.specs.Machine.{Formatter}
 use Rattle.tx_machine.specs.Run.{run}
 use Rattle.tx_checkpoint.specs.declared.row.Row.{Row}
-use Rattle.tx_checkpoint.specs.Rows.{rows_in, rows_from, fresh_rows, behind, run_of}
-use Rattle.tx_checkpoint.specs.Resume.{stays, resume, stands, after_pages}
+use Rattle.tx_checkpoint.specs.Rows.{rows_in, fresh_rows, behind, run_of}
+use Rattle.tx_checkpoint.specs.Resume.{stays, resume, stands, run_behind}
 
 -- there are so many rows, and an edit leaves their reads as they are
 pub record AreUntouched {S : Type 0} (rows : List (Row S)) (k : ℕ) (e : Edit) : Type 0 where
@@ -37,14 +37,12 @@ PrefixLaw m = (files : Files) (e : Edit) (main : List ℕ) (date : Date) (limits
     fits_in files e ≡ true → AreUntouched (rows_in (fresh_rows m files main date limits).pages) k e →
     take k (fresh_rows m (edited files e) main date limits).pages ≡ take k (fresh_rows m files main date limits).pages
 
--- the run on the edited files is then these pages, and the run from the state and the open files after the last of them,
--- with a whole budget, for the pages that are left
+-- the run on the edited files is then these pages, and the run behind them
 abbrev pub ResumedLaw : {S : Type 0} → Formatter S → Type 0
 ResumedLaw m = (files : Files) (e : Edit) (main : List ℕ) (date : Date) (limits : Limits) (k : ℕ) →
     fits_in files e ≡ true → AreUntouched (rows_in (fresh_rows m files main date limits).pages) k e →
-    let kept = take k (fresh_rows m files main date limits).pages in
-    let begun = after_pages (record { state = m.start date main; opens = [] }) kept in
-    fresh_rows m (edited files e) main date limits ≡ behind kept (rows_from m (edited files e) limits.budget (limits.pages - k) begun.state begun.opens)
+    let before = (fresh_rows m files main date limits).pages in
+    fresh_rows m (edited files e) main date limits ≡ behind (take k before) (run_behind m (edited files e) (rows_in before) k main date limits)
 
 -- where an edit leaves all reads, the whole run stands: its rows, its last stretch, and its end with an error's line
 abbrev pub StandsLaw : {S : Type 0} → Formatter S → Type 0

@@ -1,3 +1,4 @@
 pub mod Rows
 pub mod Resume
+pub mod Meant
 pub mod Laws

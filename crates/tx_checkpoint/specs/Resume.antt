@@ -1,12 +1,16 @@
 -- How far the rows of a run stand when one of its files is edited.
-use Rattle.std.specs.Prelude.{ℕ, Bool, ◌&&◌, List, [], ◌∷◌}
+use Rattle.std.specs.Prelude.{ℕ, ◌-◌, Bool, ◌&&◌, List, [], ◌∷◌, take}
 use Rattle.std.specs.List.{prefix_len, list_all}
 use Rattle.tx_files.specs.Reads.{untouched}
 use Rattle.tx_files.specs.declared.edit.Edit.{Edit}
+use Rattle.tx_bytes.specs.Files.{Files}
+use Rattle.tx_machine.specs.declared.types.Date.{Date}
+use Rattle.tx_machine.specs.declared.types.Limits.{Limits}
 use Rattle.tx_machine.specs.declared.types.OpenFile.{OpenFile}
+use Rattle.tx_machine.specs.Machine.{Formatter}
 use Rattle.tx_checkpoint.specs.declared.row.Row.{Row}
 use Rattle.tx_checkpoint.specs.declared.row.Last.{Last}
-use Rattle.tx_checkpoint.specs.Rows.{PageRow, History, rows_in}
+use Rattle.tx_checkpoint.specs.Rows.{History, rows_in, rows_from}
 
 -- whether an edit leaves what the turns of a row read as it is
 abbrev pub stays : {S : Type 0} → Edit → Row S → Bool
@@ -29,7 +33,18 @@ pub record Begun (S : Type 0) : Type 0 where
   pub state : S
   pub opens : List OpenFile
 
--- where the next page begins behind some pages: after the last of them, and where none is, where they began
-abbrev pub after_pages : {S : Type 0} → Begun S → List (PageRow S) → Begun S
-after_pages begun [] = begun
-after_pages begun (page ∷ pages) = after_pages (record { state = page.row.state; opens = page.row.opens }) pages
+-- where the next page begins behind some rows: after the last of them, and where none is, where they began
+abbrev pub after_rows : {S : Type 0} → Begun S → List (Row S) → Begun S
+after_rows begun [] = begun
+after_rows begun (row ∷ rows) = after_rows (record { state = row.state; opens = row.opens }) rows
+
+-- where a run begins: at the machine's start, with no file open
+abbrev pub start_of : {S : Type 0} → Formatter S → List ℕ → Date → Begun S
+start_of m main date = record { state = m.start date main; opens = [] }
+
+-- the run behind the first k of some rows: from the state and the open files after them, with a whole budget, for the pages
+-- that are left
+abbrev pub run_behind : {S : Type 0} → Formatter S → Files → List (Row S) → ℕ → List ℕ → Date → Limits → History S
+run_behind m files rows k main date limits =
+    let begun = after_rows (start_of m main date) (take k rows) in
+    rows_from m files limits.budget (limits.pages - k) begun.state begun.opens

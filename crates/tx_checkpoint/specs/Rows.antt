@@ -75,9 +75,13 @@ abbrev pub turns_of : {S : Type 0} → List (PageRow S) → ℕ
 turns_of [] = 0
 turns_of (page ∷ pages) = page.row.turns + turns_of pages
 
+-- all turns of a run
+abbrev pub all_turns : {S : Type 0} → History S → ℕ
+all_turns h = turns_of h.pages + h.last.turns
+
 -- the run that has these pages
 abbrev pub run_of : {S : Type 0} → History S → Counted
 run_of h = record {
   ran = record { pages = map (λ page. page.body) h.pages; pieces = map (λ page. page.piece) h.pages; last = h.last.piece; end = h.last.end };
-  turns = turns_of h.pages + h.last.turns;
+  turns = all_turns h;
 }

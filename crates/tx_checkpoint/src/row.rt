@@ -34,3 +34,16 @@ pub struct Rows<S> {
     pub rows: Vec<Row<S>>,
     pub last: Last,
 }
+
+/// What a stretch of turns came to.
+#[derive(Drop)]
+pub enum Formatted<S> {
+    /// A page.
+    Page {
+        body: PageBody,
+        piece: Bytes,
+        row: Row<S>,
+    },
+    /// The run's end.
+    Over(Last),
+}

@@ -1,4 +1,4 @@
 pub mod Stretch
 pub mod Going
 pub mod Running
-mod PageCounts
+pub mod PageCounts

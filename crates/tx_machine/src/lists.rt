@@ -73,6 +73,17 @@ impl Opens {
     }
 }
 
+/// A clone has the same files open, each at the same offset. Its only error is want of memory.
+impl Clone for Opens {
+    ghost is_clone = { λ source copy. copy ≡ source };
+
+    fn clone(&self) -> Result<Self, AllocError> {
+        Ok(Opens {
+            items: self.items.clone()?,
+        })
+    }
+}
+
 /// Page bodies in order.
 #[derive(Debug, Drop)]
 pub struct Pages {

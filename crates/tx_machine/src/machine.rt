@@ -1,4 +1,4 @@
-ghost use Rattle.std.specs.Prelude.{◌≡◌, ℕ, List, [], ◌++◌, true, IfOk, OnOk};
+ghost use Rattle.std.specs.Prelude.{◌≡◌, ◌↔◌, ℕ, List, [], ◌++◌, true, IsTrue, IfOk, OnOk};
 ghost use Rattle.tx_machine.specs.declared.types.AskKind.{AskKind};
 ghost use Rattle.tx_machine.specs.Machine.{Formatter, IsLawful, Ready, Awaits, fits};
 ghost use Rattle.tx_machine.specs.Ranges.{IsDate};
@@ -63,6 +63,15 @@ pub trait Machine {
         ensures said { result ≡ pending s.old }
         ensures pending { pending s.new ≡ [] }
         ensures state { meaning s.new ≡ meaning s.old };
+
+    /// Whether nothing that follows can differ between two states. It takes no memory.
+    fn same(&self, a: &Self::State, b: &Self::State) -> bool
+        ensures { IsTrue result ↔ (meaning a.now ≡ meaning b.now) };
+
+    /// A state that is equal to this one, its untaken bytes included, and stays so whatever is done to either.
+    fn share(&self, alloc: Global, s: &Self::State) -> Result<Self::State, AllocError>
+        ensures state { IfOk result (λ shared. meaning shared ≡ meaning s.now) }
+        ensures pending { IfOk result (λ shared. pending shared ≡ pending s.now) };
 
     /// Turns cost something, and events and replies lead from mode to mode.
     ghost lawful: { IsLawful formatter };

@@ -29,7 +29,7 @@ fn line_of(files: &FileSet, file: &OpenFile) -> u64
 }
 
 /// How a run ends where the machine stops: an error is in the line of the innermost open file.
-fn end_of(alloc: Global, files: &FileSet, opens: &Opens, stop: Stop) -> Result<End, AllocError>
+pub fn end_of(alloc: Global, files: &FileSet, opens: &Opens, stop: Stop) -> Result<End, AllocError>
     ensures { IfOk result (λ end. end ≡ end_of files.now opens.now stop) }
 {
     match stop {

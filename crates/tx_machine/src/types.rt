@@ -1,4 +1,7 @@
+ghost use Rattle.std.specs.Prelude.{◌≡◌};
+
 use crate::lists::{Pages, Pieces};
+use std::alloc::AllocError;
 use tx_bytes::Bytes;
 use tx_dvi::PageBody;
 
@@ -94,6 +97,18 @@ pub enum Close {
 pub struct OpenFile {
     pub name: Bytes,
     pub offset: u64,
+}
+
+/// A clone has the same name and offset. Its only error is want of memory.
+impl Clone for OpenFile {
+    ghost is_clone = { λ source copy. copy ≡ source };
+
+    fn clone(&self) -> Result<Self, AllocError> {
+        Ok(OpenFile {
+            name: self.name.clone()?,
+            offset: self.offset,
+        })
+    }
 }
 
 /// How a run ended.

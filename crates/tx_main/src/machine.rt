@@ -11,6 +11,8 @@ use crate::groups::Groups;
 use crate::line::Line;
 use crate::page::date_parameters;
 use crate::parts::{Due, Phase};
+use crate::same;
+use crate::share;
 use crate::state::State;
 use crate::turn;
 use std::alloc::{AllocError, Global};
@@ -73,5 +75,13 @@ impl Machine for Tex {
     #[tactic(auto, unfolding(crate::specs::Turns::tex))]
     fn take_said(&self, alloc: Global, s: &mut State) -> Bytes {
         mem::replace(&mut s.said, Bytes::new(alloc))
+    }
+
+    fn same(&self, a: &State, b: &State) -> bool {
+        same::same(a, b)
+    }
+
+    fn share(&self, _alloc: Global, s: &State) -> Result<State, AllocError> {
+        share::share(s)
     }
 }

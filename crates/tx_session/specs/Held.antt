@@ -10,6 +10,7 @@ use Rattle.tx_machine.specs.declared.types.Limits.{Limits}
 use Rattle.tx_machine.specs.declared.types.Ran.{Ran}
 use Rattle.tx_machine.specs.Machine.{Formatter}
 use Rattle.tx_machine.specs.Run.{Counted, run}
+use Rattle.tx_checkpoint.specs.Rows.{History, fresh_rows}
 
 -- the files as they are now, and what stays the same: the main file's name, the date and the limits
 pub record Held : Type 0 where
@@ -21,6 +22,10 @@ pub record Held : Type 0 where
 -- the fresh run on the files as they are now
 abbrev pub fresh : {S : Type 0} → Formatter S → Held → Counted
 fresh m held = run m held.files held.main held.date held.limits
+
+-- its rows
+abbrev pub rows_of : {S : Type 0} → Formatter S → Held → History S
+rows_of m held = fresh_rows m held.files held.main held.date held.limits
 
 -- the pieces of a transcript, joined, and what follows the last of them
 abbrev pub joined_with : List (List ℕ) → List ℕ → List ℕ

@@ -1,4 +1,5 @@
 pub mod Held
 pub mod HeldCode
 pub mod Report
+pub mod Made
 pub mod Shows

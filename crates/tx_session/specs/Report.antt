@@ -1,24 +1,34 @@
 -- What an edit that was accepted is answered, and the turns that it takes.
-use Rattle.std.specs.Prelude.{ℕ, ◌+◌, List, [], ◌∷◌, length, Result, Ok, Err, if◌then◌else◌}
+use Rattle.std.specs.Prelude.{ℕ, ◌+◌, ◌-◌, drop, List, [], ◌∷◌, length, Result, Ok, Err, if◌then◌else◌}
 use Rattle.tx_files.specs.Edits.{fits_in}
 use Rattle.tx_files.specs.declared.edit.Edit.{Edit}
 use Rattle.tx_files.specs.declared.edit.Refusal.{Refusal}
 use Rattle.tx_files.specs.declared.edit.Refusal.TheVariants.{Outside, OutOfMemory}
 use Rattle.tx_machine.specs.Machine.{Formatter}
 use Rattle.tx_session.specs.declared.report.Report.{Report}
-use Rattle.tx_session.specs.Held.{Held, fresh, edited_session, after}
+use Rattle.tx_checkpoint.specs.Resume.{resume, stands}
+use Rattle.tx_checkpoint.specs.Rows.{rows_in, turns_of}
+use Rattle.tx_session.specs.Held.{Held, fresh, rows_of, edited_session, after}
 
--- a document of so many pages that were all formatted anew
-abbrev pub all_anew : ℕ → Report
-all_anew pages = record { pages = pages; resumed = 0; formatted = pages; reused = 0 }
+-- a document of so many pages, the first of which stand
+abbrev pub resumed_after : ℕ → ℕ → Report
+resumed_after kept pages = record { pages = pages; resumed = kept; formatted = pages - kept; reused = 0 }
 
--- the report of an edit: the run is made anew from the start
+-- how many pages an edit leaves: all where all reads are left, and else those up to the row at which formatting resumes
+abbrev pub kept_pages : {S : Type 0} → Formatter S → Held → Edit → ℕ
+kept_pages m held e = let h = rows_of m held in if stands h e then length h.pages else resume (rows_in h.pages) e
+
+-- the report of an edit, by the pages of the run on the edited files
 abbrev pub report : {S : Type 0} → Formatter S → Held → Edit → Report
-report m held e = all_anew (length (fresh m (edited_session held e)).ran.pages)
+report m held e = resumed_after (kept_pages m held e) (length (fresh m (edited_session held e)).ran.pages)
 
--- its work: the turns of that run
+-- its work: none where everything stands, and else the turns of the rows behind the one at which formatting resumes, and of
+-- the last stretch, on the edited files
 abbrev pub work : {S : Type 0} → Formatter S → Held → Edit → ℕ
-work m held e = (fresh m (edited_session held e)).turns
+work m held e =
+    let h = rows_of m held in
+    let after = rows_of m (edited_session held e) in
+    if stands h e then 0 else turns_of (drop (resume (rows_in h.pages) e) after.pages) + after.last.turns
 
 -- the turns of an edit, none where it doesn't fit, and of edits one after the other
 abbrev pub turns_of_edit : {S : Type 0} → Formatter S → Held → Edit → ℕ

@@ -4,9 +4,10 @@ ghost use Rattle.tx_files.specs.Edits.{IsAnswerTo};
 ghost use Rattle.tx_machine.specs.Ranges.{IsDate, AreLimits};
 ghost use Rattle.tx_machine.specs.Steps.{raised};
 ghost use Rattle.tx_session.specs.Held.{fresh, transcript, body_of, edited_session, after, replayed};
-ghost use Rattle.tx_session.specs.Report.{all_anew, report, work, turns_of_edit, turns_of_edits, IsOutside};
+ghost use Rattle.tx_session.specs.Report.{resumed_after, report, work, turns_of_edit, turns_of_edits, IsOutside};
 
-use crate::made::{Made, make_anew};
+use crate::kept::Made;
+use crate::made::{make_anew, make_behind};
 use crate::report::Report;
 use std::alloc::{AllocError, Global};
 use std::marker::Model;
@@ -15,14 +16,15 @@ use tx_dvi::assemble;
 use tx_files::{Edit, FileSet, Name, Refusal};
 use tx_machine::{Date, End, Limits, Machine, Steps};
 
-/// The report of an edit after which every page was formatted.
-fn all_anew(pages: usize) -> Report
-    ensures { result ≡ all_anew pages }
+/// The report of an edit that left the first pages.
+fn resumed_after(kept: usize, pages: usize) -> Report
+    requires { kept ≤ pages }
+    ensures { result ≡ resumed_after kept pages }
 {
     Report {
         pages,
-        resumed: 0,
-        formatted: pages,
+        resumed: kept,
+        formatted: pages - kept,
         reused: 0,
     }
 }
@@ -37,7 +39,7 @@ pub struct Session<M: Machine> {
     main: Name,
     date: Date,
     limits: Limits,
-    made: Made,
+    made: Made<M::State>,
 }
 
 impl<M: Machine> Model for Session<M> {
@@ -51,7 +53,7 @@ impl<M: Machine> Model for Session<M> {
 
     ghost view = { λ s. record { files = s.files; main = s.main; date = s.date; limits = s.limits } };
 
-    ghost invariant = { λ s. Shows M.formatter (record { files = s.files; main = s.main; date = s.date; limits = s.limits }) s.made };
+    ghost invariant = { λ s. Shows M.formatter M.meaning M.pending (record { files = s.files; main = s.main; date = s.date; limits = s.limits }) s.made };
 }
 
 impl<M: Machine> Session<M> {
@@ -88,8 +90,9 @@ impl<M: Machine> Session<M> {
         })
     }
 
-    /// Makes an edit: its answer is what came of it, or why it was refused. The new run is made beside the old one,
-    /// which it replaces in the end, and that takes no memory; so after a refusal everything is as before.
+    /// Makes an edit: its answer is what came of it, or why it was refused. Where it leaves all that the run read,
+    /// everything stands, and no turn is taken. Else formatting resumes after the last page up to which it leaves all reads;
+    /// what follows is made beside the old pages, and replaces them in the end. After a refusal everything is as before.
     pub fn edit(&mut self, e: &Edit, steps: &mut Steps) -> Result<Report, Refusal>
         ensures answer { IsAnswerTo self.old.files e.now result }
         ensures held { OnOk result (self.new ≡ edited_session self.old e.now) }
@@ -103,18 +106,25 @@ impl<M: Machine> Session<M> {
         ensures bound { steps.new ≤ steps.old + (length (fresh M.formatter (edited_session self.old e.now)).ran.pages + 1) * self.old.limits.budget }
     {
         let before = self.files.change(e)?;
-        match make_anew(
+        if self.made.rows.stands(e) {
+            let pages = self.made.rows.pages.as_slice().len();
+            return Ok(resumed_after(pages, pages));
+        }
+        let kept = self.made.rows.resume_at(e);
+        match make_behind(
             self.alloc,
             &self.machine,
             &self.files,
+            &mut self.made,
+            kept as u32,
             &self.main,
             &self.date,
             &self.limits,
             steps,
         ) {
-            Ok(made) => {
-                self.made = made;
-                Ok(all_anew(self.pages()))
+            Ok(()) => {
+                let pages = self.made.rows.pages.as_slice().len();
+                Ok(resumed_after(kept, pages))
             }
             Err(_) => {
                 self.files.restore(&e.name, before);
@@ -153,7 +163,7 @@ impl<M: Machine> Session<M> {
     pub fn pages(&self) -> usize
         ensures { result ≡ length (fresh M.formatter self.now).ran.pages }
     {
-        self.made.ran.pages.as_slice().len()
+        self.made.rows.pages.as_slice().len()
     }
 
     /// The commands of the n-th page, counted from 1, lent.
@@ -161,14 +171,14 @@ impl<M: Machine> Session<M> {
         requires { (1 ≤ n) × (n ≤ length (fresh M.formatter self.now).ran.pages) }
         ensures { result.now ≡ body_of (fresh M.formatter self.now).ran.pages n }
     {
-        self.made.ran.pages.as_slice()[n - 1].body()
+        self.made.rows.pages[n - 1].body()
     }
 
     /// How the run ended.
     pub fn end(&self) -> &End
         ensures { result.now ≡ (fresh M.formatter self.now).ran.end }
     {
-        &self.made.ran.end
+        &self.made.rows.last.end
     }
 
     /// The whole transcript, lent.
@@ -183,6 +193,6 @@ impl<M: Machine> Session<M> {
     pub fn dvi(&self) -> Result<Bytes, AllocError>
         ensures { IfOk result (λ file. file ≡ dvi (fresh M.formatter self.now).ran.pages) }
     {
-        assemble(self.alloc, self.made.ran.pages.as_slice())
+        assemble(self.alloc, self.made.rows.pages.as_slice())
     }
 }
