@@ -1,0 +1,3 @@
+mod Inserted
+mod Rewritten
+mod Runs
