@@ -38,8 +38,8 @@ leads_within t k fit below far =
     let here = command_at_fits t k fit below in
     let is : ltb 128 (command_at t k).a ≡ true = lt-ltb 128 (command_at t k).a far in
     let e : ltb (target (command_at t k)) t.lengths.commands ≡ true =
-        sym (ap (λ (b : Bool). cond b (ltb (target (command_at t k)) t.lengths.commands)
-          (can_come t (command_at t k).b && inserts_well t (command_at t k) && (eqb (command_at t k).a 128 || ltb (k + (command_at t k).a + 1) t.lengths.commands))) is) ∙ here in
+    sym (ap (λ (b : Bool). cond b (ltb (target (command_at t k)) t.lengths.commands)
+    (can_come t (command_at t k).b && inserts_well t (command_at t k) && (eqb (command_at t k).a 128 || ltb (k + (command_at t k).a + 1) t.lengths.commands))) is) ∙ here in
     ltb-true (target (command_at t k)) t.lengths.commands e
 
 -- any other inserts what is there, and doesn't skip past the end
@@ -52,13 +52,14 @@ stays_within t k fit below near =
     let is : ltb 128 w.a ≡ false = le-ltb 128 w.a near in
     let skip : Bool = eqb w.a 128 || ltb (k + w.a + 1) t.lengths.commands in
     let e : (can_come t w.b && inserts_well t w && skip) ≡ true =
-        sym (ap (λ (b : Bool). cond b (ltb (target w) t.lengths.commands) (can_come t w.b && inserts_well t w && skip)) is) ∙ here in
-    let both = and_parts (can_come t w.b && inserts_well t w) skip e in
-    ((and_parts (can_come t w.b) (inserts_well t w) both.0).1,
+    sym (ap (λ (b : Bool). cond b (ltb (target w) t.lengths.commands) (can_come t w.b && inserts_well t w && skip)) is) ∙ here in
+    let both = and_parts (can_come t w.b && inserts_well t w) skip e in (
+      (and_parts (can_come t w.b) (inserts_well t w) both.0).1,
       λ last. elim (or_cases (eqb w.a 128) (ltb (k + w.a + 1) t.lengths.commands) both.1) [
         | inl is ↦ absurd (true≢false (sym is ∙ last))
         | inr less ↦ ltb-true (k + w.a + 1) t.lengths.commands less
-      ])
+      ],
+    )
 
 -- the command that is found in a program inserts what is there
 found_fits : (t : Tfm) (n k r : ℕ) (w : Word) → all_commands_fit t ≡ true → k < t.lengths.commands → found t n k r ≡ Some w → inserts_well t w ≡ true

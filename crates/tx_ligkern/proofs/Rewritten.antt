@@ -54,8 +54,8 @@ rewritten_by kind ligature current next rest = drop (kind / 4) (pieces_of kind l
 ahead_by : ℕ → ℕ → Piece → Piece → List Piece → List Piece
 ahead_by kind code current next rest =
     drop (kind / 4) ((if kind / 2 % 2 == 1 then current ∷ [] else [])
-      ++ Ligature code ((if kind / 2 % 2 == 1 then [] else originals current) ++ (if kind % 2 == 1 then [] else originals next))
-      ∷ (if kind % 2 == 1 then next ∷ [] else []))
+    ++ Ligature code ((if kind / 2 % 2 == 1 then [] else originals current) ++ (if kind % 2 == 1 then [] else originals next))
+    ∷ (if kind % 2 == 1 then next ∷ [] else []))
     ++ rest
 
 -- the codes of what is ahead are what is rewritten

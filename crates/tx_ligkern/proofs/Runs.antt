@@ -88,17 +88,17 @@ leads-command t fit remainders (suc n) prior x y list there e w is =
     let made = rewrites t w x y there.0 there.1.0 (ligature_is_there t x y w fit remainders there.0 k.0 k.1) in
     let less : suc n - 1 ≡ n = omega arith in
     let after : ends_within t n (made.first ∷ (made.others ++ list)) ≡ true =
-        sym (ends_within-command t (suc n) x y list w (omega arith) is ∙ (λ i. ends_within t (less i) (made.is list i))) ∙ e in
+    sym (ends_within-command t (suc n) x y list w (omega arith) is ∙ (λ i. ends_within t (less i) (made.is list i))) ∙ e in
     let j = prior made.first (made.others ++ list) (made.first_there, AllThere-append t made.others list made.others_there there.1.1) after in
     record {
       last = j.last;
       there = j.there;
       on = λ rest m h.
-        let fewer : suc n + m - 1 ≡ n + m = omega arith in
-        ends_within-command t (suc n + m) x y (list ++ rest) w (omega arith) is
-        ∙ (λ i. ends_within t (fewer i) (made.is (list ++ rest) i))
-        ∙ ap (λ (l : List (Option ℕ)). ends_within t (n + m) (made.first ∷ l)) (sym (append_assoc made.others list rest))
-        ∙ j.on rest m h;
+          let fewer : suc n + m - 1 ≡ n + m = omega arith in
+          ends_within-command t (suc n + m) x y (list ++ rest) w (omega arith) is
+          ∙ (λ i. ends_within t (fewer i) (made.is (list ++ rest) i))
+          ∙ ap (λ (l : List (Option ℕ)). ends_within t (n + m) (made.first ∷ l)) (sym (append_assoc made.others list rest))
+          ∙ j.on rest m h;
     }
 
 leads : (t : Tfm) → all_commands_fit t ≡ true → all_remainders_fit t ≡ true → (n : ℕ) → Prior t n → (x : Option ℕ) (list : List (Option ℕ)) → AllThere t (x ∷ list)
@@ -137,7 +137,7 @@ pair_ends_at m sound x y hx hy =
     let row = every-at 257 j.0 (all_pairs_end_after m.file) sound.pairs j.1 in
     let pair = every-at 257 k.0 (pair_ends m.file j.0) row k.1 in
     let both : (is_piece m.file (piece_of j.0) && is_piece m.file (piece_of k.0)) ≡ true =
-        and_from (is_piece m.file (piece_of j.0)) (is_piece m.file (piece_of k.0)) (ap (is_piece m.file) j.2 ∙ hx) (ap (is_piece m.file) k.2 ∙ hy) in
+    and_from (is_piece m.file (piece_of j.0)) (is_piece m.file (piece_of k.0)) (ap (is_piece m.file) j.2 ∙ hx) (ap (is_piece m.file) k.2 ∙ hy) in
     (λ i. ends_within m.file 1000 (sym j.2 i ∷ sym k.2 i ∷ []))
     ∙ sym (ap (λ (b : Bool). cond b (ends_within m.file 1000 (piece_of j.0 ∷ piece_of k.0 ∷ [])) true) both)
     ∙ pair

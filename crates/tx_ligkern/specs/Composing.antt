@@ -55,8 +55,3 @@ pub data Becomes (m : Metrics) : List Piece → List LigItem → Type 0 where
   Joined : (current next : Piece) (rest : List Piece) (items : List LigItem) (w : Word)
       → command_of m.file (code_of current) (code_of next) ≡ Some w → w.c < 128 → Becomes m (ahead w current next rest) items
       → Becomes m (current ∷ next ∷ rest) (passed w current next ++ items)
-
--- a ligature command was carried out: what is ahead now, and what is done
-pub record Carried (w : Word) (current next : Piece) (rest : List Piece) (done : List LigItem) (cursor : Piece) (rest' : List Piece) (done' : List LigItem) : Type 0 where
-  pub ahead_is : cursor ∷ rest' ≡ ahead w current next rest
-  pub done_is : done' ≡ done ++ passed w current next

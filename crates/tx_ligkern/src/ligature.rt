@@ -1,7 +1,7 @@
 //! Carrying out a ligature command.
 
 ghost use Rattle.std.specs.Prelude.{◌≡◌, [], reverse, IfOk};
-ghost use Rattle.tx_ligkern.specs.Composing.{Carried};
+ghost use Rattle.tx_ligkern.specs.Steps.{Carried};
 
 use crate::item::{Items, LigItem};
 use crate::piece::{Piece, put};

@@ -13,10 +13,7 @@ pub(crate) enum Piece {
     Boundary,
     Char(u8),
     /// `from` are the characters of the word in whose stead it stands.
-    Ligature {
-        code: u8,
-        from: Bytes,
-    },
+    Ligature { code: u8, from: Bytes },
 }
 
 impl Piece {
