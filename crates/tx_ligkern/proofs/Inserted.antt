@@ -1,11 +1,9 @@
 -- What a ligature command of a font inserts is there.
-use Rattle.std.proofs.Common.{◌≡◌, ℕ, zero, suc, ◌+◌, ◌-◌, ◌*◌, ◌<◌, ◌≤◌, Bool, true, false, cond, ltb, leb, eqb, Option, Some, None, refl, sym, ap, subst, ◌∙◌, arith, ◌⊎◌, inl, inr}
+use Rattle.std.proofs.Common.{◌≡◌, ℕ, zero, suc, ◌+◌, ◌-◌, ◌*◌, ◌<◌, ◌≤◌, Bool, true, false, cond, ltb, leb, eqb, Option, Some, None, refl, sym, ap, subst, ◌∙◌, arith, inl, inr}
 use Rattle.std.specs.Prelude.{◌&&◌, ◌||◌, option_and_then}
-use Rattle.std.proofs.lemmas.Bool.{ltb-true, ltb-false, leb-true, leb-false, eqb-true, eqb-false, and_parts, and_from, or_cases, cases_eq, cases_lt, lt-ltb, le-ltb, eq-eqb, true≢false}
-use Rattle.std.proofs.lemmas.Bool.Decides.{nat_tests}
+use Rattle.std.proofs.lemmas.Bool.{ltb-true, ltb-false, leb-true, eqb-true, and_parts, or_cases, cases_eq, lt-ltb, le-ltb, true≢false}
 use Rattle.tx_tfm.specs.declared.file.Tfm.{Tfm}
 use Rattle.tx_tfm.specs.declared.file.Word.{Word}
-use Rattle.tx_tfm.specs.declared.metrics.Metrics.{Metrics}
 use Rattle.tx_tfm.specs.Format.{character_count, info_of, is_listed, is_there, tag, width_index}
 use Rattle.tx_tfm.specs.LigKern.{boundary_start, character_start, code_of, command_at, command_of, found, start_of, target}
 use Rattle.tx_tfm.specs.Rules.{all_commands_fit, all_remainders_fit, can_come, command_fits, every, inserts_well, is_piece, remainder_fits}

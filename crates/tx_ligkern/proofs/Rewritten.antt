@@ -1,5 +1,5 @@
 -- The kinds of ligature commands, one by one.
-use Rattle.std.proofs.Common.{◌≡◌, ℕ, zero, suc, ◌+◌, ◌<◌, ◌≤◌, ◌/◌, ◌%◌, Bool, true, false, cond, ltb, eqb, Option, Some, None, List, [], ◌∷◌, ◌++◌, length, drop, map, refl, sym, ap, subst, ◌∙◌, arith, inl, inr}
+use Rattle.std.proofs.Common.{◌≡◌, ℕ, zero, suc, ◌+◌, ◌<◌, ◌≤◌, ◌/◌, ◌%◌, true, ltb, Option, Some, List, [], ◌∷◌, ◌++◌, length, drop, map, refl, sym, subst, arith, inl, inr}
 use Rattle.std.specs.Prelude.{◌&&◌, ◌||◌, ◌==◌, if◌then◌else◌}
 use Rattle.std.specs.List.{AllByRecursion}
 use Rattle.std.proofs.lemmas.Bool.{cases_lt}
@@ -11,7 +11,7 @@ use Rattle.tx_tfm.specs.Rules.{is_piece}
 use Rattle.tx_ligkern.specs.declared.piece.Piece.{Piece}
 use Rattle.tx_ligkern.specs.declared.piece.Piece.TheVariants.{Ligature}
 use Rattle.tx_ligkern.specs.Pieces.{code_of, originals}
-use Rattle.tx_ligkern.specs.Composing.{ahead, in_place}
+use Rattle.tx_ligkern.specs.Composing.{ahead}
 
 data Legal : ℕ → Type 0 where
   K0 : Legal 0

@@ -1,20 +1,20 @@
 -- The composition of a word ends, since that of each two characters does.
-use Rattle.std.proofs.Common.{◌≡◌, ℕ, zero, suc, ◌+◌, ◌-◌, ◌*◌, ◌<◌, ◌≤◌, Bool, true, false, cond, ltb, leb, Option, Some, None, List, [], ◌∷◌, ◌++◌, length, refl, sym, ap, subst, ◌∙◌, append_assoc, add-zero, add-suc, add_comm, arith, ◌⊎◌, inl, inr}
+use Rattle.std.proofs.Common.{◌≡◌, ℕ, zero, suc, ◌+◌, ◌-◌, ◌*◌, ◌<◌, ◌≤◌, Bool, true, false, cond, ltb, leb, Option, Some, None, List, [], ◌∷◌, ◌++◌, length, refl, sym, ap, subst, ◌∙◌, append_assoc, arith}
 use Rattle.std.specs.Prelude.{option_and_then, if◌then◌else◌, ◌&&◌}
 use Rattle.std.specs.List.{AllByRecursion}
 use Rattle.std.proofs.lemmas.Bool.{ltb-true, lt-ltb, le-ltb, leb-true, and_parts, and_from, true≢false}
 use Rattle.tx_tfm.specs.declared.file.Tfm.{Tfm}
 use Rattle.tx_tfm.specs.declared.file.Word.{Word}
 use Rattle.tx_tfm.specs.declared.metrics.Metrics.{Metrics}
-use Rattle.tx_tfm.specs.Format.{is_there, info_of, width_index}
+use Rattle.tx_tfm.specs.Format.{info_of, width_index}
 use Rattle.tx_tfm.specs.LigKern.{command_of}
-use Rattle.tx_tfm.specs.Rewriting.{after_command, ends_within, first_pair, is_empty, ligature_of, rewritten}
+use Rattle.tx_tfm.specs.Rewriting.{after_command, ends_within, first_pair, is_empty, ligature_of}
 use Rattle.tx_tfm.specs.Rules.{all_commands_fit, all_pairs_end, all_pairs_end_after, all_remainders_fit, codes_are_bytes, is_piece, pair_ends}
 use Rattle.tx_tfm.specs.Sound.{IsSound}
 use Rattle.tx_tfm.specs.Table.{piece_of}
 use Rattle.tx_tfm.proofs.Endings.{ends_within-one, ends_within-pass, ends_within-command, ends_within-spent}
 use Rattle.tx_ligkern.proofs.Inserted.{every-at, ligature_is_there}
-use Rattle.tx_ligkern.proofs.Rewritten.{Rewrites, rewrites}
+use Rattle.tx_ligkern.proofs.Rewritten.{rewrites}
 
 -- each of these is a character that is there, or a boundary
 abbrev pub AllThere : Tfm → List (Option ℕ) → Type 0

@@ -1,9 +1,9 @@
 -- The steps of composing a word, and how many commands are left.
-use Rattle.std.proofs.Common.{◌≡◌, ℕ, zero, suc, ◌+◌, ◌-◌, ◌*◌, ◌<◌, ◌≤◌, Bool, true, false, cond, ltb, Option, Some, None, List, [], ◌∷◌, ◌++◌, length, map, reverse, refl, sym, ap, subst, ◌∙◌, append_assoc, arith, inl, inr}
+use Rattle.std.proofs.Common.{◌≡◌, ℕ, zero, suc, ◌+◌, ◌-◌, ◌*◌, ◌<◌, ◌≤◌, Bool, true, false, cond, ltb, Option, Some, None, List, [], ◌∷◌, ◌++◌, length, map, reverse, refl, sym, ap, subst, ◌∙◌, append_assoc, arith}
 use Rattle.std.specs.Prelude.{if◌then◌else◌, All, IsTrue}
 use Rattle.std.specs.List.{AllByRecursion}
-use Rattle.std.proofs.lemmas.Bool.{lt-ltb, le-ltb, ltb-true, ltb-false, true≢false}
-use Rattle.std.proofs.lemmas.List.{append-nil, length-append, length-map, reverse-append, reverse-reverse}
+use Rattle.std.proofs.lemmas.Bool.{ltb-true, ltb-false, true≢false}
+use Rattle.std.proofs.lemmas.List.{length-map, reverse-append, reverse-reverse}
 use Rattle.std.proofs.lemmas.List.Elements.{recursion_from_All}
 use Rattle.tx_tfm.specs.declared.file.Tfm.{Tfm}
 use Rattle.tx_tfm.specs.declared.file.Word.{Word}
@@ -11,16 +11,15 @@ use Rattle.tx_tfm.specs.declared.metrics.Metrics.{Metrics}
 use Rattle.tx_tfm.specs.Format.{is_there}
 use Rattle.tx_tfm.specs.LigKern.{command_of}
 use Rattle.tx_tfm.specs.Metrics.{kern_of}
-use Rattle.tx_tfm.specs.Rewriting.{after_command, ends_within, first_pair, is_empty, ligature_of, rewritten, stay_or_pass, by_command}
-use Rattle.tx_tfm.specs.Rules.{is_piece}
+use Rattle.tx_tfm.specs.Rewriting.{after_command, ends_within, first_pair, is_empty, ligature_of, rewritten}
 use Rattle.tx_tfm.specs.Sound.{IsSound}
-use Rattle.tx_tfm.proofs.Endings.{ends_within-one, ends_within-pass, ends_within-command, ends_within-spent}
+use Rattle.tx_tfm.proofs.Endings.{ends_within-pass, ends_within-command, ends_within-spent}
 use Rattle.tx_ligkern.specs.declared.item.LigItem.{LigItem}
 use Rattle.tx_ligkern.specs.declared.item.LigItem.TheVariants.{Kern}
 use Rattle.tx_ligkern.specs.declared.piece.Piece.{Piece}
-use Rattle.tx_ligkern.specs.declared.piece.Piece.TheVariants.{Boundary, Char, Ligature}
-use Rattle.tx_ligkern.specs.Pieces.{boundary, code_of, items_of, word_of}
-use Rattle.tx_ligkern.specs.Composing.{ahead, passed, Becomes, Empty, Last, Apart, Kerned, Joined}
+use Rattle.tx_ligkern.specs.declared.piece.Piece.TheVariants.{Boundary, Char}
+use Rattle.tx_ligkern.specs.Pieces.{code_of, items_of, word_of}
+use Rattle.tx_ligkern.specs.Composing.{ahead, passed, Becomes, Last, Apart, Kerned, Joined}
 use Rattle.tx_ligkern.specs.Steps.{finished, most_commands, onward, Carried, Ends, Moved}
 use Rattle.tx_ligkern.proofs.Rewritten.{length-ahead-le, map-ahead}
 use Rattle.tx_ligkern.proofs.Runs.{AllThere, command-is_ligature, ends_more, kern-is_no_ligature, none-is_no_ligature, word_ends}

@@ -1,6 +1,6 @@
 -- Composing a word (TeX: The Program, section 545): its pieces from the cursor on, and what becomes of them. The cursor
 -- begins at the first piece, and moves to the right past what is finished.
-use Rattle.std.specs.Prelude.{◌≡◌, ℕ, ◌<◌, ◌≤◌, ◌/◌, ◌%◌, ◌==◌, Bool, if◌then◌else◌, Option, Some, None, List, [], ◌∷◌, ◌++◌, take, drop}
+use Rattle.std.specs.Prelude.{◌≡◌, ℕ, ◌<◌, ◌≤◌, ◌/◌, ◌%◌, ◌==◌, Bool, if◌then◌else◌, Some, None, List, [], ◌∷◌, ◌++◌, take, drop}
 use Rattle.std.specs.List.{flat_map}
 use Rattle.tx_tfm.specs.declared.file.Word.{Word}
 use Rattle.tx_tfm.specs.declared.metrics.Metrics.{Metrics}

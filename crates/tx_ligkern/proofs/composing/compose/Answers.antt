@@ -1,4 +1,4 @@
-use Rattle.std.proofs.Common.{◌≡◌, List, [], ◌∷◌, ◌++◌, length, reverse, sym, ap, subst, ◌∙◌, arith}
+use Rattle.std.proofs.Common.{◌≡◌, List, [], reverse, sym, subst, ◌∙◌, arith}
 use Rattle.std.specs.Prelude.{IfOk}
 use Rattle.std.proofs.lemmas.Result.{IfOk-weaker}
 use Rattle.tx_ligkern.specs.declared.item.LigItem.{LigItem}
@@ -19,7 +19,7 @@ returns-in-None-clause-becomes c =
     let none : c.reverse.new.self.items ≡ [] = no_pieces c.reverse.new.self.items (omega (arith, c.reverse.new.self.ok.0, c.in-None.ensures.cases)) in
     let e = sym c.in_ok-rest.ensures ∙ nothing_taken c.in_ok-rest.rest.items c.reverse.new.self.items c.reverse.ensures.items none in
     subst (λ (d : List LigItem). Becomes c.args.font.now (word_of c.args.chars.now c.args.left c.args.right) d) (sym c.new.ensures)
-      (subst (λ (w : List Piece). Becomes c.args.font.now w []) (sym e) Empty)
+    (subst (λ (w : List Piece). Becomes c.args.font.now w []) (sym e) Empty)
 
 pub returns-in-None-clause-only : goal.returns-in-None-clause-only
 returns-in-None-clause-only c = once c.args.font.now (word_of c.args.chars.now c.args.left c.args.right) c.new.result (returns-in-None-clause-becomes c)
@@ -32,4 +32,4 @@ returns-in-Some-clause-becomes c =
 pub returns-in-Some-clause-only : goal.returns-in-Some-clause-only
 returns-in-Some-clause-only c =
     IfOk-weaker c.run.result (λ items. Becomes c.args.font.now (word_of c.args.chars.now c.args.left c.args.right) items) _
-      (λ items b. once c.args.font.now (word_of c.args.chars.now c.args.left c.args.right) items b) (returns-in-Some-clause-becomes c)
+    (λ items b. once c.args.font.now (word_of c.args.chars.now c.args.left c.args.right) items b) (returns-in-Some-clause-becomes c)
