@@ -23,7 +23,7 @@ pub enum Phase {
     Halted,
 }
 
-/// All that the next turns depend on, and the bytes of the transcript that were not yet taken.
+/// All that the next turns depend on, and the bytes of the transcript that are still to be taken.
 #[derive(Drop)]
 pub struct State {
     pub(crate) date: DateParameters,

@@ -1,3 +1,5 @@
 mod Comment
 pub mod Pages
 mod Worked
+pub mod Reading
+pub mod SignedBack

@@ -21,8 +21,9 @@ const FORMAT_NUMBER: u8 = 2;
 
 const FILLER: u8 = 223;
 
+/// A number of four bytes, the highest first, in two's complement.
 #[tactic(auto, unfolding(crate::specs::Dvi::four_bytes))]
-fn four_bytes(n: i32) -> [u8; 4]
+pub fn four_bytes(n: i32) -> [u8; 4]
     ensures { result ≡ spec.four_bytes n }
 {
     let mut bytes = [0; 4];

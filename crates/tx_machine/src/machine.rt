@@ -23,7 +23,7 @@ pub trait Machine {
 
     ghost meaning: { Self.State → Meaning };
 
-    /// The bytes of the transcript that were not yet taken.
+    /// The bytes of the transcript that are still to be taken.
     ghost pending: { Self.State → List ℕ };
 
     /// All that the machine does, as functions on meanings.

@@ -1,9 +1,9 @@
 pub mod Codes
 pub mod KeptDigits
 pub mod Leaves
-pub mod Packed
 pub mod Prefixes
 pub mod SameRest
 pub mod SideNames
 pub mod Sides
 pub mod UnitSpaces
+pub mod Reversed

@@ -14,7 +14,7 @@ use Rattle.tx_main.specs.declared.scans.SideScan.{SideScan}
 use Rattle.tx_main.specs.declared.scans.SideScan.TheVariants as side
 use Rattle.tx_main.specs.declared.scans.RulePart.{RulePart}
 use Rattle.tx_main.specs.declared.scans.RulePart.TheVariants as rule
-use Rattle.tx_main.specs.declared.types.Rule.{Rule}
+use Rattle.tx_node.specs.declared.rule.Rule.{Rule}
 use Rattle.tx_main.specs.declared.scans.Stage.{Stage}
 use Rattle.tx_main.specs.declared.scans.Stage.TheVariants as stage
 use Rattle.tx_main.specs.Begun.{Begun}
@@ -58,7 +58,7 @@ command-more horizontal (stage.Category code scan) = ap (λ n. next n (category_
 command-more horizontal (stage.Kern scan) = ap (λ d. next d (λ size behind. Done (Kern size) behind)) (dimen-more scan.negative scan.part)
 command-more horizontal (stage.Vrule scan) = ap (λ r. next r (λ rule behind. Done (Vrule rule) behind)) (rule-more scan.rule scan.part)
 command-more horizontal stage.ShippedBox = refl
-command-more horizontal stage.BoxBegin = refl
+command-more horizontal (stage.BoxBegin context) = refl
 
 -- so the tokens that were taken are a part of a command
 pub taken-more : (horizontal : Bool) (taken : List Token) (s new : Stage) (t : Token) (answer : Fed Stage Command (List Token)) → ((more : List Token) → command horizontal (taken ++ more) ≡ command_rest horizontal s more) → IsCommand horizontal (λ more. command_rest horizontal s (t ∷ more)) answer → answer ≡ fed.More new → command horizontal (taken ++ t ∷ []) ≡ More

@@ -1,7 +1,7 @@
 -- A rule's sides and sizes, one after another: the steps that the definition allows are never too few.
 use Rattle.std.proofs.Common.{◌≡◌, ℕ, zero, suc, ◌<◌, ◌≤◌, Bool, true, false, cond, ℤ, Option, Some, None, List, [], ◌∷◌, ◌++◌, length, option_to_list, refl, ap, sym, ◌∙◌, arith}
 use Rattle.tx_char.specs.declared.tokens.Token.{Token}
-use Rattle.tx_main.specs.declared.types.Rule.{Rule}
+use Rattle.tx_node.specs.declared.rule.Rule.{Rule}
 use Rattle.tx_main.specs.declared.types.Side.{Side}
 use Rattle.tx_main.specs.declared.types.Side.TheVariants.{Width, Height, Depth}
 use Rattle.tx_main.specs.declared.scans.Fed.{Fed}

@@ -7,8 +7,10 @@ use Rattle.tx_char.specs.declared.tokens.Token.TheVariants.{Character as Token_c
 use Rattle.tx_main.specs.declared.error.TexError.TheVariants.{Undefined, NumberOutOfRange, MissingBeginGroup, NotAllowed, MisplacedAlignment, MissingBox}
 use Rattle.tx_main.specs.declared.types.Primitive.{Primitive}
 use Rattle.tx_main.specs.declared.types.Primitive.TheVariants as primitive
+use Rattle.tx_main.specs.declared.types.BoxContext.{BoxContext}
+use Rattle.tx_main.specs.declared.types.BoxContext.TheVariants.{Append, Ship}
 use Rattle.tx_main.specs.declared.types.Command.{Command}
-use Rattle.tx_main.specs.declared.types.Command.TheVariants.{Nothing, Space, Character, BeginGroup, EndGroup, Catcode, Kern, Vrule, ShipoutBox, End}
+use Rattle.tx_main.specs.declared.types.Command.TheVariants.{Nothing, Space, Character, BeginGroup, EndGroup, Catcode, Kern, Vrule, BeginBox, End}
 use Rattle.tx_main.specs.Tokens.{primitive_of, is_space, is_begin_group}
 use Rattle.tx_main.specs.Scans.{Scan, More, Done, Wrong, next, expanded}
 use Rattle.tx_main.specs.Numbers.{integer, equals}
@@ -46,12 +48,12 @@ is_hbox (Token_name name) = is_the_hbox (primitive_of name)
 is_hbox (Token_character code category) = false
 
 -- the begin-group token of a box, with spaces and \relax before it
-abbrev pub box_begin : Command → List Token → Scan Command
-box_begin command [] = More
-box_begin command (t ∷ rest) = expanded t (
-    if is_space t then box_begin command rest
-    else if is_relax t then box_begin command rest
-    else if is_begin_group t then Done command rest
+abbrev pub box_begin : BoxContext → List Token → Scan Command
+box_begin context [] = More
+box_begin context (t ∷ rest) = expanded t (
+    if is_space t then box_begin context rest
+    else if is_relax t then box_begin context rest
+    else if is_begin_group t then Done (BeginBox context) rest
     else Wrong MissingBeginGroup)
 
 -- the box that \shipout needs, with spaces and \relax before it
@@ -60,7 +62,7 @@ shipped_box [] = More
 shipped_box (t ∷ rest) = expanded t (
     if is_space t then shipped_box rest
     else if is_relax t then shipped_box rest
-    else if is_hbox t then box_begin ShipoutBox rest
+    else if is_hbox t then box_begin Ship rest
     else Wrong MissingBox)
 
 -- what is allowed only in a horizontal list: in a vertical one it would begin a paragraph, or add to the page, and
@@ -90,7 +92,7 @@ named_command horizontal (Some primitive.Kern) rest =
     horizontal_only horizontal (next (dimension rest) (λ size behind. Done (Kern size) behind))
 named_command horizontal (Some primitive.Vrule) rest =
     horizontal_only horizontal (next (rule_sides plain_vrule rest) (λ rule behind. Done (Vrule rule) behind))
-named_command horizontal (Some primitive.Hbox) rest = Wrong NotAllowed
+named_command horizontal (Some primitive.Hbox) rest = horizontal_only horizontal (box_begin Append rest)
 named_command horizontal (Some primitive.Shipout) rest = shipped_box rest
 named_command true (Some primitive.End) rest = Wrong NotAllowed
 named_command false (Some primitive.End) rest = Done End rest

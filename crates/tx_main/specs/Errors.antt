@@ -1,7 +1,7 @@
 -- The numbers of the errors.
 use Rattle.std.specs.Prelude.{ℕ}
 use Rattle.tx_main.specs.declared.error.TexError.{TexError}
-use Rattle.tx_main.specs.declared.error.TexError.TheVariants.{InvalidCharacter, Undefined, MissingNumber, MissingUnit, NumberOutOfRange, DimensionTooLarge, IntegerTooLarge, SizeOutOfRange, ExtraGroupEnd, MissingBeginGroup, FileAbsent, NotAllowed, TooManyGroups, MisplacedAlignment, MissingBox, NoEnd}
+use Rattle.tx_main.specs.declared.error.TexError.TheVariants.{InvalidCharacter, Undefined, MissingNumber, MissingUnit, NumberOutOfRange, DimensionTooLarge, IntegerTooLarge, SizeOutOfRange, ExtraGroupEnd, MissingBeginGroup, FileAbsent, NotAllowed, TooDeep, TooManyGroups, MisplacedAlignment, MissingBox, NoEnd}
 
 abbrev pub number_of : TexError → ℕ
 number_of InvalidCharacter = 1
@@ -16,6 +16,7 @@ number_of ExtraGroupEnd = 11
 number_of MissingBeginGroup = 18
 number_of FileAbsent = 20
 number_of NotAllowed = 24
+number_of TooDeep = 25
 number_of TooManyGroups = 26
 number_of MisplacedAlignment = 32
 number_of MissingBox = 34

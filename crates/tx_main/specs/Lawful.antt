@@ -1,5 +1,5 @@
 -- TeX keeps the laws of every machine.
-use Rattle.std.specs.Prelude.{◌≡◌, ◌≤◌, List, [], ◌∷◌, ◌++◌, Option, Some, None, refl}
+use Rattle.std.specs.Prelude.{◌≡◌, ◌≤◌, List, [], ◌∷◌, ◌++◌, Result, Ok, Err, refl}
 use Rattle.std.proofs.Common.{arith}
 use Rattle.tx_char.specs.declared.tokens.Token.{Token}
 use Rattle.tx_dvi.specs.Page.{Page}
@@ -10,7 +10,8 @@ use Rattle.tx_machine.specs.Machine.{Stepped, IsLawful, Ready, Awaits, mode_afte
 use Rattle.tx_main.specs.declared.parts.Due.{Due}
 use Rattle.tx_main.specs.declared.parts.Due.TheVariants.{Nothing, OpenMain, MainAbsent, FileEnded, MainClosed, Ship}
 use Rattle.tx_main.specs.declared.types.Command.{Command}
-use Rattle.tx_main.specs.Bodies.{page_of}
+use Rattle.tx_ship.specs.declared.error.ShipError.{ShipError}
+use Rattle.tx_main.specs.Pages.{page_of}
 use Rattle.tx_main.specs.Commands.{command}
 use Rattle.tx_main.specs.Effects.{Effect, Leaves, Fails, Ends, effect}
 use Rattle.tx_main.specs.Scans.{Scan, More, Done, Wrong}
@@ -40,9 +41,9 @@ reads-leads : (s : TexState) (back : List Token) → Leads (reads s back)
 reads-leads s [] = line-leads s (reading s.codes s.line.state s.line.rest)
 reads-leads s (t ∷ back) = scan-leads (record s { back = back }) _ (command s.horizontal (s.taken ++ t ∷ []))
 
-ships-leads : (s : TexState) (page : Option Page) → Leads (ships s page)
-ships-leads s None = refl
-ships-leads s (Some page) = refl
+ships-leads : (s : TexState) (page : Result Page ShipError) → Leads (ships s page)
+ships-leads s (Err e) = refl
+ships-leads s (Ok page) = refl
 
 works-leads : (s : TexState) (due : Due) → Leads (works s due)
 works-leads s Nothing = reads-leads s s.back

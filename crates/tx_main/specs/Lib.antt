@@ -9,8 +9,7 @@ pub mod Keywords
 pub mod Rests
 pub mod Begun
 pub mod Taken
-pub mod Boxes
-pub mod Bodies
+pub mod Pages
 pub mod Lines
 pub mod State
 pub mod Effects

@@ -13,11 +13,11 @@ use Rattle.tx_main.specs.declared.scans.DimenScan.{DimenScan}
 use Rattle.tx_main.specs.declared.scans.DimenPart.{DimenPart}
 use Rattle.tx_main.specs.declared.scans.DimenPart.TheVariants as dimen
 use Rattle.tx_main.specs.declared.types.Command.{Command}
-use Rattle.tx_main.specs.declared.types.Command.TheVariants.{Catcode, Kern, Vrule, ShipoutBox}
+use Rattle.tx_main.specs.declared.types.Command.TheVariants.{Catcode, Kern, Vrule}
 use Rattle.tx_main.specs.declared.scans.Stage.{Stage}
 use Rattle.tx_main.specs.declared.scans.Stage.TheVariants as stage
 use Rattle.tx_main.specs.Commands.{command, below, shipped_box, box_begin}
-use Rattle.tx_main.specs.declared.types.Rule.{Rule}
+use Rattle.tx_node.specs.declared.rule.Rule.{Rule}
 use Rattle.tx_main.specs.declared.types.Side.{Side}
 use Rattle.tx_main.specs.declared.scans.SideScan.{SideScan}
 use Rattle.tx_main.specs.declared.scans.SideScan.TheVariants as side
@@ -140,7 +140,7 @@ command_rest horizontal (stage.Category code scan) tokens = next (int_rest scan 
 command_rest horizontal (stage.Kern scan) tokens = next (dimen_rest scan tokens) (λ size behind. Done (Kern size) behind)
 command_rest horizontal (stage.Vrule scan) tokens = next (rule_rest scan tokens) (λ rule behind. Done (Vrule rule) behind)
 command_rest horizontal stage.ShippedBox tokens = shipped_box tokens
-command_rest horizontal stage.BoxBegin tokens = box_begin ShipoutBox tokens
+command_rest horizontal (stage.BoxBegin context) tokens = box_begin context tokens
 
 -- an answer says what reading a command gives
 abbrev pub IsCommand : Bool → (List Token → Scan Command) → Fed Stage Command (List Token) → Type 0

@@ -8,9 +8,9 @@ use Rattle.tx_dvi.specs.declared.page.DateParameters.{DateParameters}
 use Rattle.tx_machine.specs.declared.types.Date.{Date}
 use Rattle.tx_machine.specs.declared.types.AskKind.{AskKind}
 use Rattle.tx_machine.specs.Machine.{Mode, Ready, Awaits, Halted as Mode_halted}
-use Rattle.tx_main.specs.Bodies.{date_parameters}
+use Rattle.tx_main.specs.Pages.{date_parameters}
+use Rattle.tx_node.specs.Items.{Item}
 use Rattle.tx_main.specs.Lines.{Line}
-use Rattle.tx_main.specs.declared.nodes.Node.{Node}
 use Rattle.tx_main.specs.declared.parts.Due.{Due}
 use Rattle.tx_main.specs.declared.parts.Due.TheVariants.{OpenMain}
 use Rattle.tx_main.specs.declared.parts.Group.{Group}
@@ -28,7 +28,7 @@ pub record TexState : Type 0 where
   pub taken : List Token
   -- whether the list that is being built is horizontal, and the list
   pub horizontal : Bool
-  pub list : List Node
+  pub list : List Item
   -- the open groups, the innermost last, and the category codes
   pub groups : List Group
   pub codes : List Cat

@@ -1,5 +1,5 @@
 -- One turn of TeX: due work, the ask for a line, or one token (TeX: The Program, sections 1030, 343 and 360).
-use Rattle.std.specs.Prelude.{ℕ, ◌+◌, ◌-◌, ◌^◌, min, List, [], ◌∷◌, ◌++◌, length, Option, Some, None}
+use Rattle.std.specs.Prelude.{ℕ, List, [], ◌∷◌, ◌++◌, Some, Result, Ok, Err}
 use Rattle.tx_char.specs.declared.tokens.Token.{Token}
 use Rattle.tx_dvi.specs.Page.{Page}
 use Rattle.tx_lex.specs.declared.types.ReadState.TheVariants.{N}
@@ -19,7 +19,9 @@ use Rattle.tx_main.specs.declared.error.TexError.TheVariants.{InvalidCharacter, 
 use Rattle.tx_main.specs.declared.parts.Due.{Due}
 use Rattle.tx_main.specs.declared.parts.Due.TheVariants.{Nothing, OpenMain, MainAbsent, FileEnded, MainClosed, Ship}
 use Rattle.tx_main.specs.declared.types.Command.{Command}
-use Rattle.tx_main.specs.Bodies.{page_of}
+use Rattle.tx_node.specs.Counts.{box_count, ended}
+use Rattle.tx_ship.specs.declared.error.ShipError.{ShipError}
+use Rattle.tx_main.specs.Pages.{page_of}
 use Rattle.tx_main.specs.Commands.{command}
 use Rattle.tx_main.specs.Effects.{Effect, Leaves, Fails, Ends, effect}
 use Rattle.tx_main.specs.Errors.{number_of}
@@ -66,9 +68,9 @@ reads s [] = line_read s (reading s.codes s.line.state s.line.rest)
 reads s (t ∷ back) = taking (record s { back = back }) t
 
 -- shipping a box
-abbrev pub ships : TexState → Option Page → Stepped Meaning
-ships s None = fails SizeOutOfRange
-ships s (Some page) = record { event = Shipped page; next = Runs s; said = [] }
+abbrev pub ships : TexState → Result Page ShipError → Stepped Meaning
+ships s (Err e) = fails SizeOutOfRange
+ships s (Ok page) = record { event = Shipped page; next = Runs s; said = [] }
 
 -- due work comes first
 abbrev pub works : TexState → Due → Stepped Meaning
@@ -85,9 +87,9 @@ step (Runs s) = works s s.due
 step (Waits kind s) = fails NoEnd
 step Stops = fails NoEnd
 
--- shipping costs the nodes of the box and the box; all else costs 1
+-- shipping costs the box and all nodes that it holds; all else costs 1
 abbrev pub due_cost : Due → ℕ
-due_cost (Ship box) = min (length box.list + 1) (2 ^ 64 - 1)
+due_cost (Ship box) = ended (box_count box)
 due_cost _ = 1
 
 abbrev pub cost : Meaning → ℕ

@@ -1,7 +1,7 @@
 //! Tokens that were given back, and are read before the line (TeX: The Program, section 325).
-ghost use Rattle.std.specs.Prelude.{◌≡◌, ◌∷◌, ◌++◌, [], IfOk, OnOk, MatchOption};
+ghost use Rattle.std.specs.Prelude.{◌≡◌, ◌↔◌, IsTrue, ◌∷◌, ◌++◌, [], IfOk, OnOk, MatchOption};
 
-use crate::token_list::Tokens;
+use crate::token_list::{Tokens, same_tokens};
 use std::alloc::{AllocError, Global};
 use std::marker::Model;
 use tx_char::Token;
@@ -32,6 +32,13 @@ impl GivenBack {
         }
     }
 
+    /// Whether both have the same tokens.
+    pub fn same(&self, other: &GivenBack) -> bool
+        ensures { IsTrue result ↔ (self.now ≡ other.now) }
+    {
+        same_tokens(&self.stack, &other.stack)
+    }
+
     /// Takes the next token, if there is one.
     pub fn next(&mut self) -> Option<Token>
         ensures { MatchOption result ((self.old ≡ []) × (self.new ≡ [])) (λ token. self.old ≡ token ∷ self.new) }
@@ -56,5 +63,16 @@ impl GivenBack {
             self.give_one(token)?;
         }
         Ok(())
+    }
+}
+
+/// A clone has the same tokens, and shares their names. Its only error is want of memory.
+impl Clone for GivenBack {
+    ghost is_clone = { λ source copy. copy ≡ source };
+
+    fn clone(&self) -> Result<Self, AllocError> {
+        Ok(GivenBack {
+            stack: self.stack.clone()?,
+        })
     }
 }

@@ -51,6 +51,13 @@ impl CommandScan {
         self.horizontal
     }
 
+    /// Whether both have taken the same tokens, in lists of the same kind.
+    pub fn same(&self, other: &CommandScan) -> bool
+        ensures { IsTrue result ↔ (self.now ≡ other.now) }
+    {
+        self.horizontal == other.horizontal && self.taken.same(&other.taken)
+    }
+
     /// Takes one token more. After a whole command, or a wrong one, the next begins. After want of memory, its only
     /// error, the scan may only be dropped.
     pub fn feed(&mut self, alloc: Global, token: Token) -> Result<Taken, AllocError>
@@ -75,5 +82,18 @@ impl CommandScan {
             Fed::Done(command, back) => Ok(Taken::Whole(command, back)),
             Fed::Wrong(error) => Ok(Taken::Wrong(error)),
         }
+    }
+}
+
+/// A clone has taken the same tokens. Its only error is want of memory.
+impl Clone for CommandScan {
+    ghost is_clone = { λ source copy. copy ≡ source };
+
+    fn clone(&self) -> Result<Self, AllocError> {
+        Ok(CommandScan {
+            horizontal: self.horizontal,
+            taken: self.taken.clone()?,
+            stage: self.stage.clone()?,
+        })
     }
 }

@@ -1,23 +1,23 @@
 //! What each command does, once it is whole (TeX: The Program, parts 45 to 49).
 ghost use Rattle.std.specs.Prelude.{◌≡◌, ◌++◌, [], IfOk, OnOk};
-ghost use Rattle.tx_main.specs.Boxes.{packed};
+ghost use Rattle.tx_node.specs.Nodes.{item_of};
+ghost use Rattle.tx_node.specs.Packing.{natural};
 ghost use Rattle.tx_main.specs.Effects as effects;
 ghost use Rattle.tx_main.specs.Turns as turns;
 ghost use Rattle.tx_main.specs.Meanings.{IsStepped, meaning_of, state_of};
 
 use crate::command::CommandScan;
 use crate::error::TexError;
-use crate::nodes::{Node, Nodes};
-use crate::pack::pack;
 use crate::parts::{Due, Group, Phase};
 use crate::state::State;
-use crate::types::Command;
+use crate::types::{BoxContext, Command};
 use itoa::Buffer;
 use std::alloc::{AllocError, Global};
 use std::mem;
 use tx_bytes::Bytes;
 use tx_char::{Cat, Codes};
 use tx_machine::{Event, Stop};
+use tx_node::{BoxNode, Node, Nodes, PackError, hbox};
 
 /// How many groups may be open.
 const MAX_GROUPS: usize = 255;
@@ -33,7 +33,7 @@ pub fn fail(s: &mut State, error: TexError) -> Event
 /// Appends one more node.
 fn add(s: &mut State, node: Node) -> Result<Event, AllocError>
     requires { s.old.phase ≡ Phase.Running }
-    ensures { IfOk result (λ event. IsStepped (turns.effected (effects.adding (state_of s.old) node)) event (meaning_of s.new) s.old.said s.new.said) }
+    ensures { IfOk result (λ event. IsStepped (turns.effected (effects.adding (state_of s.old) (item_of node))) event (meaning_of s.new) s.old.said s.new.said) }
 {
     s.list.push(node)?;
     Ok(Event::Went)
@@ -63,11 +63,11 @@ fn open_simple(s: &mut State) -> Result<Event, AllocError>
     Ok(Event::Went)
 }
 
-/// Begins a box that is to be shipped.
-fn open_shipped(alloc: Global, s: &mut State) -> Result<Event, AllocError>
+/// Begins a box.
+fn open_box(alloc: Global, s: &mut State, context: BoxContext) -> Result<Event, AllocError>
     requires running { s.old.phase ≡ Phase.Running }
     requires between { s.old.scan.taken ≡ [] }
-    ensures { IfOk result (λ event. IsStepped (turns.effected (effects.effect (state_of s.old) Command.ShipoutBox)) event (meaning_of s.new) s.old.said s.new.said) }
+    ensures { IfOk result (λ event. IsStepped (turns.effected (effects.effect (state_of s.old) (Command.BeginBox context))) event (meaning_of s.new) s.old.said s.new.said) }
 {
     if s.groups.len() >= MAX_GROUPS {
         return Ok(fail(s, TexError::TooManyGroups));
@@ -75,45 +75,73 @@ fn open_shipped(alloc: Global, s: &mut State) -> Result<Event, AllocError>
     let list = mem::replace(&mut s.list, Nodes::new(alloc));
     let horizontal = s.scan.is_horizontal();
     s.groups
-        .push(Group::Shipped(s.codes.clone()?, list, horizontal))?;
+        .push(Group::Boxed(context, s.codes.clone()?, list, horizontal))?;
     s.scan = CommandScan::new(alloc, true);
     Ok(Event::Went)
 }
 
-/// Closes the innermost group, which brings back what it changed; the list of a box is packed and due to be shipped.
-fn close(alloc: Global, s: &mut State) -> Event
+/// Closes the innermost group, which brings back what it changed; of the list of a box a box is made.
+fn close(alloc: Global, s: &mut State) -> Result<Event, AllocError>
     requires running { s.old.phase ≡ Phase.Running }
     requires between { s.old.scan.taken ≡ [] }
-    ensures { IsStepped (turns.effected (effects.effect (state_of s.old) Command.EndGroup)) result (meaning_of s.new) s.old.said s.new.said }
+    ensures { IfOk result (λ event. IsStepped (turns.effected (effects.effect (state_of s.old) Command.EndGroup)) event (meaning_of s.new) s.old.said s.new.said) }
 {
     match s.groups.pop() {
-        None => fail(s, TexError::ExtraGroupEnd),
+        None => Ok(fail(s, TexError::ExtraGroupEnd)),
         Some(Group::Simple(codes)) => {
             s.codes = codes;
-            Event::Went
+            Ok(Event::Went)
         }
-        Some(Group::Shipped(codes, list, horizontal)) => close_shipped(
-            alloc, s, codes, list, horizontal,
-        ),
+        Some(Group::Boxed(context, codes, list, horizontal)) => {
+            let inner = mem::replace(&mut s.list, list);
+            s.codes = codes;
+            s.scan = CommandScan::new(alloc, horizontal);
+            close_box(alloc, s, context, inner)
+        }
     }
 }
 
-/// Packs the list of a box, and goes on with the list around it.
-fn close_shipped(alloc: Global, s: &mut State, codes: Codes, list: Nodes, horizontal: bool) -> Event
-    requires running { s.old.phase ≡ Phase.Running }
-    requires between { s.old.scan.taken ≡ [] }
-    ensures { IsStepped (turns.effected (effects.shipping (state_of s.old) codes list horizontal (packed s.old.list))) result (meaning_of s.new) s.old.said s.new.said }
+/// The error that keeps a list from being packed.
+fn pack_error(error: PackError) -> TexError
+    ensures { result ≡ effects.pack_error error }
 {
-    let inner = mem::replace(&mut s.list, list);
-    match pack(inner) {
-        Err(error) => fail(s, error),
-        Ok(shipped) => {
-            s.due = Due::Ship(shipped);
-            s.codes = codes;
-            s.scan = CommandScan::new(alloc, horizontal);
-            Event::Went
-        }
+    match error {
+        PackError::SizeOutOfRange => TexError::SizeOutOfRange,
+        PackError::TooDeep => TexError::TooDeep,
     }
+}
+
+/// Makes a box of a list.
+fn close_box(
+    alloc: Global,
+    s: &mut State,
+    context: BoxContext,
+    inner: Nodes,
+) -> Result<Event, AllocError>
+    requires running { s.old.phase ≡ Phase.Running }
+    ensures { IfOk result (λ event. IsStepped (turns.effected (effects.boxing context (state_of s.old) (natural inner))) event (meaning_of s.new) s.old.said s.new.said) }
+{
+    match hbox(inner) {
+        Err(error) => Ok(fail(s, pack_error(error))),
+        Ok(made) => use_box(alloc, s, context, made),
+    }
+}
+
+/// Appends a box to the list, or has it shipped by the next turn.
+fn use_box(
+    alloc: Global,
+    s: &mut State,
+    context: BoxContext,
+    made: BoxNode,
+) -> Result<Event, AllocError>
+    requires running { s.old.phase ≡ Phase.Running }
+    ensures { IfOk result (λ event. IsStepped (turns.goes (effects.using_box context made (state_of s.old)) []) event (meaning_of s.new) s.old.said s.new.said) }
+{
+    match context {
+        BoxContext::Append => s.list.push(Node::from_box(alloc, made)?)?,
+        BoxContext::Ship => s.due = Due::Ship(made),
+    }
+    Ok(Event::Went)
 }
 
 /// The category of a number, 0 to 15; of a greater one Other.
@@ -172,11 +200,11 @@ pub fn carry_out(alloc: Global, s: &mut State, command: Command) -> Result<Event
         Command::Space => space(s),
         Command::Character(code) => report(s, code),
         Command::BeginGroup => open_simple(s),
-        Command::EndGroup => Ok(close(alloc, s)),
+        Command::EndGroup => close(alloc, s),
         Command::Catcode(code, number) => assign(s, code, number),
         Command::Kern(size) => add(s, Node::Kern(size)),
         Command::Vrule(rule) => add(s, Node::Rule(rule)),
-        Command::ShipoutBox => open_shipped(alloc, s),
+        Command::BeginBox(context) => open_box(alloc, s, context),
         Command::End => Ok(finish(s)),
     }
 }

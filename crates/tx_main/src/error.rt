@@ -31,6 +31,8 @@ pub enum TexError {
     FileAbsent,
     #[error("a command isn't allowed in the mode")]
     NotAllowed,
+    #[error("a box would nest more than 500 deep")]
+    TooDeep,
     #[error("a 256th group would be open")]
     TooManyGroups,
     #[error("an alignment character is out of place")]
@@ -59,6 +61,7 @@ impl TexError {
             TexError::MissingBeginGroup => 18,
             TexError::FileAbsent => 20,
             TexError::NotAllowed => 24,
+            TexError::TooDeep => 25,
             TexError::TooManyGroups => 26,
             TexError::MisplacedAlignment => 32,
             TexError::MissingBox => 34,

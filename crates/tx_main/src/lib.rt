@@ -1,10 +1,11 @@
 //! TeX as a machine: a state, and turns that each do one piece of due work, ask for a line, or take one token.
 //!
 //! Read `error` and `types`; how commands are taken off tokens: `tokens`, `scans`, `integer`, `dimension`, `rule`,
-//! `command`; what they build: `nodes`, `pack`, `ship`; then `parts`, `line`, `state`, `effects`, `turn` and `machine`.
+//! `command`; then `parts`, `line`, `state`, `effects`, `page`, `turn` and `machine`; last `clones`, `share` and `same`.
 #![tactic(auto)]
 
 mod back;
+mod clones;
 mod command;
 mod dimension;
 mod effects;
@@ -15,16 +16,18 @@ mod integer;
 mod keyword;
 mod line;
 mod machine;
-mod nodes;
-mod pack;
+mod page;
 mod parts;
 mod rule;
+mod same;
 #[cfg(test)]
 mod scan_tests;
 mod scans;
-mod ship;
+mod share;
 mod stage;
 mod state;
+#[cfg(test)]
+mod state_tests;
 mod token_list;
 mod tokens;
 mod turn;

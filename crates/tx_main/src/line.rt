@@ -1,5 +1,5 @@
 //! The current line, read token by token.
-ghost use Rattle.std.specs.Prelude.{◌≡◌, [], Some, IfOk};
+ghost use Rattle.std.specs.Prelude.{◌≡◌, ◌↔◌, ◌∷◌, ◌++◌, [], Some, IsTrue, IfOk, option_to_list};
 ghost use Rattle.tx_lex.specs.Line.{seen_line};
 ghost use Rattle.tx_lex.specs.declared.types.ReadState.TheVariants.{N};
 ghost use Rattle.tx_main.specs.Meanings.{IsNext};
@@ -66,6 +66,15 @@ impl Line {
         })
     }
 
+    /// Whether the same is unread in both, and reading stands in the same state.
+    pub fn same(&self, other: &Line) -> bool
+        ensures { IsTrue result ↔ (self.now ≡ other.now) }
+    {
+        let rest = &self.bytes.as_slice()[self.at..];
+        let other_rest = &other.bytes.as_slice()[other.at..];
+        self.state == other.state && same_rest(self.front, rest, other.front, other_rest)
+    }
+
     /// Reads the next token. Its only error is want of memory.
     pub fn next(&mut self, alloc: Global, codes: &Codes) -> Result<LineToken, AllocError>
         ensures { IfOk result (λ next. IsNext codes.now self.old next self.new) }
@@ -86,5 +95,41 @@ impl Line {
             Lexed::LineDone => Ok(LineToken::UsedUp),
             Lexed::E1 => Ok(LineToken::Invalid),
         }
+    }
+}
+
+/// A clone reads on in the same way. Its only error is want of memory.
+impl Clone for Line {
+    ghost is_clone = { λ source copy. copy ≡ source };
+
+    fn clone(&self) -> Result<Self, AllocError> {
+        Ok(Line {
+            bytes: self.bytes.clone()?,
+            at: self.at,
+            front: self.front,
+            state: self.state,
+        })
+    }
+}
+
+/// Whether some bytes are one byte and the rest.
+fn is_joined(whole: &[u8], front: u8, rest: &[u8]) -> bool
+    ensures { IsTrue result ↔ (whole.now ≡ front ∷ rest.now) }
+{
+    match whole.split_first() {
+        Some((first, others)) => *first == front && others == rest,
+        None => false,
+    }
+}
+
+/// Whether two lists of bytes are the same, of each of which the first byte may stand by itself.
+fn same_rest(front: Option<u8>, rest: &[u8], other_front: Option<u8>, other_rest: &[u8]) -> bool
+    ensures { IsTrue result ↔ (option_to_list front ++ rest.now ≡ option_to_list other_front ++ other_rest.now) }
+{
+    match (front, other_front) {
+        (None, None) => rest == other_rest,
+        (Some(front), None) => is_joined(other_rest, front, rest),
+        (None, Some(front)) => is_joined(rest, front, other_rest),
+        (Some(front), Some(other_front)) => front == other_front && rest == other_rest,
     }
 }

@@ -9,9 +9,10 @@ use crate::back::GivenBack;
 use crate::command::CommandScan;
 use crate::groups::Groups;
 use crate::line::Line;
-use crate::nodes::Nodes;
+use crate::page::date_parameters;
 use crate::parts::{Due, Phase};
-use crate::ship::date_parameters;
+use crate::same;
+use crate::share;
 use crate::state::State;
 use crate::turn;
 use std::alloc::{AllocError, Global};
@@ -20,6 +21,7 @@ use tx_bytes::Bytes;
 use tx_char::Codes;
 use tx_files::Name;
 use tx_machine::{Date, Event, Machine, Reply, Steps};
+use tx_node::Nodes;
 
 /// TeX, begun as INITEX.
 #[derive(Clone, Copy, Debug)]
@@ -73,5 +75,13 @@ impl Machine for Tex {
     #[tactic(auto, unfolding(crate::specs::Turns::tex))]
     fn take_said(&self, alloc: Global, s: &mut State) -> Bytes {
         mem::replace(&mut s.said, Bytes::new(alloc))
+    }
+
+    fn same(&self, a: &State, b: &State) -> bool {
+        same::same(a, b)
+    }
+
+    fn share(&self, _alloc: Global, s: &State) -> Result<State, AllocError> {
+        share::share(s)
     }
 }

@@ -1,12 +1,12 @@
 //! The parts of TeX's state that are plain choices: what is due, which groups are open, what the state waits for.
-use crate::nodes::Nodes;
-use crate::pack::PackedBox;
+use crate::types::BoxContext;
 use tx_char::Codes;
 use tx_files::Name;
 use tx_machine::AskKind;
+use tx_node::{BoxNode, Nodes};
 
 /// A piece of work that the next turn does before it reads on.
-#[derive(Debug, Drop)]
+#[derive(Drop)]
 pub enum Due {
     /// None: the turn reads.
     Nothing,
@@ -19,7 +19,7 @@ pub enum Due {
     /// The main file is closed, and no \end came.
     MainClosed,
     /// To ship this box.
-    Ship(PackedBox),
+    Ship(BoxNode),
 }
 
 /// A group that is open, with what comes back when it is closed.
@@ -27,8 +27,8 @@ pub enum Due {
 pub enum Group {
     /// Between a begin-group and an end-group token: the category codes.
     Simple(Codes),
-    /// Of a box that is to be shipped: the category codes, the list around it and whether that is a horizontal one.
-    Shipped(Codes, Nodes, bool),
+    /// Of a box: what becomes of it, the category codes, the list around it and whether that is a horizontal one.
+    Boxed(BoxContext, Codes, Nodes, bool),
 }
 
 /// What a state is ready for.

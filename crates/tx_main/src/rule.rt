@@ -10,9 +10,10 @@ use crate::keyword::Keyword;
 use crate::scans::{DimenScan, Fed, RuleFed, RulePart, RuleScan, SideFed, SideScan};
 use crate::token_list::Tokens;
 use crate::tokens::{token_is_key, token_is_space, token_is_undefined};
-use crate::types::{Rule, Side};
+use crate::types::Side;
 use std::alloc::{AllocError, Global};
 use tx_char::Token;
+use tx_node::Rule;
 
 /// 0.4pt, the width of a \vrule where nothing else is said.
 const PLAIN_WIDTH: i32 = 26_214;

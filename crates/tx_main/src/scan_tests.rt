@@ -118,6 +118,9 @@ fn commands_of_a_horizontal_list(rt: HostRuntime) -> Result<(), Fail> {
             "\\vrule wid{",
             "Vrule(Rule { width: 26214, height: None, depth: None }) 119.11 105.11 100.11 123.1",
         ),
+        ("\\hbox\\relax {", "BeginBox(Append)"),
+        ("\\hbox}", "error 18"),
+        ("\\shipout\\hbox{", "BeginBox(Ship)"),
         ("\\end", "error 24"),
         ("&", "error 32"),
     ];
@@ -144,7 +147,7 @@ fn commands_of_a_vertical_list(rt: HostRuntime) -> Result<(), Fail> {
         ("\\catcode 65 16 ", "error 5"),
         ("\\catcode 65=-1 ", "error 5"),
         ("\\catcode`\\par", "error 3"),
-        ("\\shipout\\relax \\hbox \\relax{", "ShipoutBox"),
+        ("\\shipout\\relax \\hbox \\relax{", "BeginBox(Ship)"),
         ("\\shipout x", "error 34"),
         ("\\shipout\\hbox x", "error 18"),
         ("\\unknown", "error 2"),

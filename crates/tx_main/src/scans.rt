@@ -3,8 +3,9 @@ use crate::error::TexError;
 use crate::fraction::Digits;
 use crate::keyword::Keyword;
 use crate::token_list::Tokens;
-use crate::types::{Command, Rule, Side};
+use crate::types::{BoxContext, Command, Side};
 use tx_char::Token;
+use tx_node::Rule;
 use tx_num::PhysicalUnit;
 
 /// What a scan answers to a token.
@@ -141,8 +142,8 @@ pub enum Stage {
     Vrule(RuleScan),
     /// The box of a \shipout, with spaces and \relax before it.
     ShippedBox,
-    /// The begin-group token of a box, with spaces and \relax before it.
-    BoxBegin,
+    /// The begin-group token of a box of which this becomes, with spaces and \relax before it.
+    BoxBegin(BoxContext),
 }
 
 /// A command, and the tokens behind it that aren't part of it.

@@ -11,7 +11,7 @@ use crate::tokens::{
     primitive, token_begins_group, token_is_hbox, token_is_other, token_is_relax, token_is_space,
     token_is_undefined,
 };
-use crate::types::{Command, Primitive};
+use crate::types::{BoxContext, Command, Primitive};
 use std::alloc::{AllocError, Global};
 use tx_char::{Cat, Token};
 
@@ -33,7 +33,7 @@ impl Stage {
             Stage::Kern(scan) => feed_kern(alloc, horizontal, scan, token),
             Stage::Vrule(scan) => feed_rule(alloc, horizontal, scan, token),
             Stage::ShippedBox => Ok(feed_box(horizontal, token)),
-            Stage::BoxBegin => Ok(feed_begin(alloc, horizontal, token)),
+            Stage::BoxBegin(context) => Ok(feed_begin(alloc, horizontal, context, token)),
         }
     }
 }
@@ -80,6 +80,7 @@ fn named(alloc: Global, horizontal: bool, name: Option<Primitive>) -> StageFed
         Some(Primitive::Catcode) => Fed::More(Stage::CharacterCode(IntScan::new())),
         Some(Primitive::Kern) if horizontal => Fed::More(Stage::Kern(DimenScan::new())),
         Some(Primitive::Vrule) if horizontal => Fed::More(Stage::Vrule(RuleScan::new())),
+        Some(Primitive::Hbox) if horizontal => Fed::More(Stage::BoxBegin(BoxContext::Append)),
         Some(Primitive::Shipout) => Fed::More(Stage::ShippedBox),
         Some(Primitive::End) if !horizontal => whole(alloc, Command::End),
         Some(_) => Fed::Wrong(TexError::NotAllowed),
@@ -233,22 +234,22 @@ fn feed_box(horizontal: bool, token: Token) -> StageFed
     } else if token_is_space(&token) || token_is_relax(&token) {
         Fed::More(Stage::ShippedBox)
     } else if token_is_hbox(&token) {
-        Fed::More(Stage::BoxBegin)
+        Fed::More(Stage::BoxBegin(BoxContext::Ship))
     } else {
         Fed::Wrong(TexError::MissingBox)
     }
 }
 
 /// The begin-group token of a box.
-fn feed_begin(alloc: Global, horizontal: bool, token: Token) -> StageFed
-    ensures { IsCommand horizontal (λ more. command_rest horizontal Stage.BoxBegin (token ∷ more)) result }
+fn feed_begin(alloc: Global, horizontal: bool, context: BoxContext, token: Token) -> StageFed
+    ensures { IsCommand horizontal (λ more. command_rest horizontal (Stage.BoxBegin context) (token ∷ more)) result }
 {
     if token_is_undefined(&token) {
         Fed::Wrong(TexError::Undefined)
     } else if token_is_space(&token) || token_is_relax(&token) {
-        Fed::More(Stage::BoxBegin)
+        Fed::More(Stage::BoxBegin(context))
     } else if token_begins_group(&token) {
-        whole(alloc, Command::ShipoutBox)
+        whole(alloc, Command::BeginBox(context))
     } else {
         Fed::Wrong(TexError::MissingBeginGroup)
     }

@@ -3,13 +3,13 @@ use crate::back::GivenBack;
 use crate::command::CommandScan;
 use crate::groups::Groups;
 use crate::line::Line;
-use crate::nodes::Nodes;
 use crate::parts::{Due, Phase};
 use tx_bytes::Bytes;
 use tx_char::Codes;
 use tx_dvi::DateParameters;
+use tx_node::Nodes;
 
-/// All that the next turns depend on, and the bytes of the transcript that were not yet taken.
+/// All that the next turns depend on, and the bytes of the transcript that are still to be taken.
 #[derive(Drop)]
 pub struct State {
     pub(crate) phase: Phase,

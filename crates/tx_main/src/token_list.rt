@@ -79,6 +79,13 @@ impl Tokens {
         Ok(())
     }
 
+    /// Whether both have the same tokens.
+    pub fn same(&self, other: &Tokens) -> bool
+        ensures { IsTrue result ↔ (self.now ≡ other.now) }
+    {
+        same_tokens(&self.items, &other.items)
+    }
+
     /// Takes the last token, if there is one.
     pub fn pop(&mut self) -> Option<Token>
         ensures { MatchOption result ((self.old ≡ []) × (self.new ≡ [])) (λ token. self.old ≡ self.new ++ token ∷ []) }
@@ -96,4 +103,19 @@ impl Clone for Tokens {
             items: self.items.clone()?,
         })
     }
+}
+
+/// Whether both lists have the same tokens.
+pub fn same_tokens(one: &[Token], other: &[Token]) -> bool
+    ensures { IsTrue result ↔ (one.now ≡ other.now) }
+{
+    if one.len() != other.len() {
+        return false;
+    }
+    for i in 0..one.len() {
+        if !one[i].same(&other[i]) {
+            return false;
+        }
+    }
+    true
 }

@@ -1,7 +1,7 @@
 //! One turn: due work, the ask for a line, or one token (TeX: The Program, sections 1030, 343 and 360).
 ghost use Rattle.std.specs.Prelude.{◌≡◌, [], IfOk, OnOk};
 ghost use Rattle.tx_machine.specs.Machine.{kind_of, Ready};
-ghost use Rattle.tx_main.specs.Bodies.{page_of};
+ghost use Rattle.tx_main.specs.Pages.{page_of};
 ghost use Rattle.tx_main.specs.State.{Runs, mode_of};
 ghost use Rattle.tx_main.specs.Turns as turns;
 ghost use Rattle.tx_main.specs.Meanings.{IsStepped, meaning_of, state_of};
@@ -9,15 +9,16 @@ ghost use Rattle.tx_main.specs.Meanings.{IsStepped, meaning_of, state_of};
 use crate::effects::{carry_out, fail};
 use crate::error::TexError;
 use crate::line::{Line, LineToken};
-use crate::pack::PackedBox;
+use crate::page::ship_params;
 use crate::parts::{Due, Phase};
 use crate::scans::Taken;
-use crate::ship::ship;
 use crate::state::State;
 use std::alloc::{AllocError, Global};
 use std::mem;
 use tx_char::Token;
 use tx_machine::{Ask, AskKind, Event, Reply};
+use tx_node::BoxNode;
+use tx_ship::{ShipError, body};
 
 /// The turn ends with an ask.
 fn ask(s: &mut State, kind: AskKind, ask: Ask) -> Event
@@ -67,24 +68,23 @@ fn read(alloc: Global, s: &mut State) -> Result<Event, AllocError>
 }
 
 /// Ships a box.
-fn ship_box(alloc: Global, s: &mut State, shipped: &PackedBox) -> Result<Event, AllocError>
+fn ship_box(alloc: Global, s: &mut State, shipped: &BoxNode) -> Result<Event, AllocError>
     requires { s.old.phase ≡ Phase.Running }
     ensures { IfOk result (λ event. IsStepped (turns.ships (state_of s.old) (page_of s.old.date shipped.now)) event (meaning_of s.new) s.old.said s.new.said) }
 {
-    match ship(alloc, s.date, shipped.as_box())? {
-        Some(page) => Ok(Event::Shipped(page)),
-        None => Ok(fail(s, TexError::SizeOutOfRange)),
+    match body(alloc, shipped, &ship_params(s.date)) {
+        Ok(page) => Ok(Event::Shipped(page)),
+        Err(ShipError::OutOfMemory) => Err(AllocError),
+        Err(_) => Ok(fail(s, TexError::SizeOutOfRange)),
     }
 }
 
-/// What the next turn costs: shipping a box, the box and its nodes; all else 1.
+/// What the next turn costs: shipping a box, the box and all nodes that it holds; all else 1.
 pub fn cost(s: &State) -> u64
     ensures { result ≡ turns.cost (meaning_of s.now) }
 {
     match (s.phase, &s.due) {
-        (Phase::Running, Due::Ship(shipped)) => (shipped.as_box().list.len() as u64).saturating_add(
-            1,
-        ),
+        (Phase::Running, Due::Ship(shipped)) => shipped.count(),
         _ => 1,
     }
 }

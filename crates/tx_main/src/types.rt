@@ -1,4 +1,5 @@
 //! What commands are, once they are read whole.
+use tx_node::Rule;
 
 /// The commands that TeX knows by name so far.
 #[derive(Clone, Copy, Debug, PartialEq, Eq)]
@@ -13,20 +14,21 @@ pub enum Primitive {
     End,
 }
 
-/// A rule: its sides in sp. A side that isn't given runs as far as the box that the rule stands in.
-#[derive(Clone, Copy, Debug, PartialEq, Eq)]
-pub struct Rule {
-    pub width: i32,
-    pub height: Option<i32>,
-    pub depth: Option<i32>,
-}
-
 /// A side of a rule.
 #[derive(Clone, Copy, Debug, PartialEq, Eq)]
 pub enum Side {
     Width,
     Height,
     Depth,
+}
+
+/// What becomes of a box (TeX: The Program, section 1071).
+#[derive(Clone, Copy, Debug, PartialEq, Eq)]
+pub enum BoxContext {
+    /// It is appended to the list that it stands in.
+    Append,
+    /// It is shipped.
+    Ship,
 }
 
 /// A command with all that belongs to it.
@@ -47,8 +49,8 @@ pub enum Command {
     Kern(i32),
     /// `\vrule`.
     Vrule(Rule),
-    /// `\shipout\hbox` and its begin-group token.
-    ShipoutBox,
+    /// `\hbox` and its begin-group token, with what becomes of the box.
+    BeginBox(BoxContext),
     /// `\end`.
     End,
 }

@@ -1,17 +1,19 @@
 -- A run has no more pages than its limit.
-use Rattle.std.proofs.Common.{◌≡◌, ℕ, zero, suc, ◌≤◌, List, [], length, Option, Some, None, sym, ap, subst, arith, unwrap_or}
-use Rattle.tx_bytes.specs.Files.{Files, content}
+use Rattle.std.proofs.Common.{◌≡◌, ℕ, zero, suc, ◌≤◌, List, [], length, sym, ap, subst, arith, unwrap_or}
+use Rattle.std.proofs.Math.Nat.{mul-le-mul_right}
+use Rattle.std.specs.FinMap.{empty}
+use Rattle.tx_bytes.specs.Files.{Files}
 use Rattle.tx_machine.specs.declared.types.Close.{Close}
 use Rattle.tx_machine.specs.declared.types.Close.TheVariants.{Page, Halt, Spent}
 use Rattle.tx_machine.specs.declared.types.OpenFile.{OpenFile}
 use Rattle.tx_machine.specs.declared.types.Ran.{Ran}
 use Rattle.tx_machine.specs.Machine.{Formatter}
 use Rattle.tx_machine.specs.Turn.{Progress, stretch}
-use Rattle.tx_machine.specs.Run.{Counted, run_from, closed_run, page_start}
+use Rattle.tx_machine.specs.Run.{Counted, run, run_from, closed_run, page_start}
 use Rattle.tx_machine.proofs.Running.{run-zero, run-suc}
-use Rattle.vortex_cmd.specs.declared.words.Given.{Given}
-use Rattle.vortex_cmd.specs.Words.{words_meant}
-use Rattle.vortex_cmd.specs.Outcome.{given_outcome, outcome, alone}
+use Rattle.vortex_cmd.specs.declared.given.Asked.{Asked}
+use Rattle.vortex_cmd.specs.declared.given.Asked.TheVariants.{Run, Help, Version, Nothing}
+use Rattle.vortex_cmd.specs.Outcome.{asked_outcome, most_turns, with_listed}
 
 pages_of_close : {S : Type 0} (files : Files) (t : Progress S) (close : Close) (rest : Counted) (most : ℕ) → length rest.ran.pages ≤ most → length (closed_run files t close rest).ran.pages ≤ suc most
 pages_of_close files t (Page body) rest most h = omega arith
@@ -33,10 +35,12 @@ few_pages m files budget most state opens ran is few =
     let same : length ran.pages ≡ length (run_from m files budget most state opens).ran.pages = ap (λ (r : Ran). length r.pages) is in
     omega arith
 
-pages-given : {S : Type 0} (m : Formatter S) (given : Option Given) (held : Files) → (given_outcome m given held).pages ≤ 1000
-pages-given m None held = omega arith
-pages-given m (Some given) held =
-    pages-run_from m (alone given.main (content held given.main)) 1000000 1000 (m.start given.date given.main) []
-
-pub pages-outcome : {S : Type 0} (m : Formatter S) (words : List (List ℕ)) (held : Files) → (outcome m words held).pages ≤ 1000
-pages-outcome m words held = pages-given m (words_meant words) held
+-- so the turns are no more than the limits allow
+pub most-asked : {S : Type 0} (m : Formatter S) (asked : Asked) (held : Files) → (asked_outcome m asked held).most ≤ most_turns asked
+most-asked m (Run given) held =
+    let within : length (run m (with_listed held empty given.files) given.main given.date given.limits).ran.pages ≤ given.limits.pages
+    = pages-run_from m (with_listed held empty given.files) given.limits.budget given.limits.pages (m.start given.date given.main) [] in
+    mul-le-mul_right given.limits.budget (omega (arith, within))
+most-asked m Help held = omega arith
+most-asked m Version held = omega arith
+most-asked m Nothing held = omega arith

@@ -11,7 +11,9 @@ use Rattle.tx_machine.specs.declared.types.Event.TheVariants.{Went, Asks, Shippe
 use Rattle.tx_machine.specs.declared.types.Stop.TheVariants.{End, Error}
 use Rattle.tx_machine.specs.Machine.{Stepped}
 use Rattle.tx_main.specs.declared.parts.Due.TheVariants.{Nothing}
-use Rattle.tx_main.specs.Bodies.{movement, set_rule, node_commands, page_of}
+use Rattle.tx_ship.specs.Commands.{movement, set_rule, list_commands, rule_item, level_of}
+use Rattle.tx_ship.specs.Pages.{page_of}
+use Rattle.tx_ship.specs.Within.{list_lies, edges_lie}
 use Rattle.tx_main.specs.State.{Meaning, Runs, first_state}
 use Rattle.tx_main.specs.Turns.{step, replied}
 
@@ -51,8 +53,21 @@ one_rule : (until_event 200 (reading_line (braces ++ codes "\\shipout\\hbox{\\vr
   mag = 1000;
   date = record { year = pos 2024; month = pos 5; day = pos 17; time = pos 570 };
 })
-unfolding date reading initial_codes numbers_below characters movement set_rule node_commands page_of four_bytes
+unfolding date reading initial_codes numbers_below characters movement set_rule list_commands rule_item level_of list_lies edges_lie page_of four_bytes
 one_rule = refl
+
+-- a box in a box: push, 1sp to the right and 3sp down, the rule, and pop
+a_box_in_a_box : (until_event 200 (reading_line (braces ++ codes "\\shipout\\hbox{\\kern1sp\\hbox{\\vrule width2sp height3sp depth0sp}}\\end\n"))).event ≡ Shipped (record {
+  body = 141 ∷ 143 ∷ 1 ∷ 157 ∷ 3 ∷ 132 ∷ 0 ∷ 0 ∷ 0 ∷ 3 ∷ 0 ∷ 0 ∷ 0 ∷ 2 ∷ 142 ∷ [];
+  counts = replicate 10 (pos 0);
+  height = pos 3;
+  width = pos 3;
+  nesting = 1;
+  mag = 1000;
+  date = record { year = pos 2024; month = pos 5; day = pos 17; time = pos 570 };
+})
+unfolding date reading initial_codes numbers_below characters movement set_rule list_commands rule_item level_of list_lies edges_lie page_of four_bytes
+a_box_in_a_box = refl
 
 -- a category past 15, a unit that isn't there, a letter outside of a box, a brace too many
 category_of_16 : (until_event 200 (reading_line (codes "\\catcode`\\{=16 \n"))).event ≡ Stopped (Error 5)

@@ -23,3 +23,11 @@ run_line pages end = codes "run: " ++ decimal pages ++ codes " pages, " ++ end_t
 -- the line where the words aren't those of a call
 abbrev pub refusal_line : List ℕ
 refusal_line = codes "words refused\n"
+
+-- what --version says
+abbrev pub version_line : List ℕ
+version_line = codes "vortex 0.1.0\n"
+
+-- what --help says
+unfoldable pub help_text : List ℕ
+help_text = codes "vortex: TeX, written as DVI.\n\nUsage: vortex run --date Y-M-D-T --out NAME [OPTIONS] MAIN [FILE..]\n\nRuns TeX on MAIN, which may read the FILEs, and saves NAME.dvi and NAME.log.\n\n  --date Y-M-D-T  the date that TeX sees, T in minutes since midnight\n  --out NAME      the name of what is saved\n  --budget N      what a page may cost, 1 to 1000000000 (1000000)\n  --pages N       the most pages, 1 to 10000 (1000)\n  --keep N        the most states that are kept, 1 to 10000 (10000)\n  -h, --help      says this\n  -V, --version   says the version\n"

@@ -1,11 +1,11 @@
 -- What a part of a call leaves where it met trouble, and where it didn't.
-use Rattle.std.specs.Prelude.{◌≡◌, ℕ, ◌+◌, ◌*◌, ◌≤◌, List, Option, Result, Ok, Err}
+use Rattle.std.specs.Prelude.{◌≡◌, ℕ, ◌+◌, ◌≤◌, List, Option, Result, Ok, Err}
 use Rattle.tx_io.specs.Output.{Output, Piece, told}
 use Rattle.tx_io.specs.Cut.{IsCutShort}
 use Rattle.tx_io.specs.Faults.{CountsFault}
 use Rattle.vortex_cmd.specs.declared.trouble.Trouble.{Trouble}
 use Rattle.vortex_cmd.specs.declared.trouble.Trouble.TheVariants.{Memory, Source, Sink}
-use Rattle.vortex_cmd.specs.Outcome.{Outcome, IsDone, default_limits}
+use Rattle.vortex_cmd.specs.Outcome.{Outcome, IsDone}
 
 -- all pieces were put out, or the first of them
 abbrev pub PutsOut : {T : Type 0} → Result T Trouble → Option Output → List Piece → Option Output → Type 0
@@ -40,4 +40,4 @@ Ends (Err trouble) outcome before after steps steps' = IsCutShort before outcome
 
 pub record Does (result : Result ℕ Trouble) (outcome : Outcome) (before after : Option Output) (steps steps' : ℕ) : Type 0 where
   pub ends : Ends result outcome before after steps steps'
-  pub bound : steps' ≤ steps + (outcome.pages + 1) * default_limits.budget
+  pub bound : steps' ≤ steps + outcome.most

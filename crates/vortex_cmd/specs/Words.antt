@@ -1,76 +1,94 @@
--- The words of a call: `run --date Y-M-D-T --out NAME MAIN`, these six in this order.
-use Rattle.std.specs.Prelude.{ℕ, Bool, List, [], ◌∷◌, length, map, Option, Some, None, nat_le, ◌&&◌, ◌==◌, if◌then◌else◌, codes, String, string_bytes}
+-- What the words of a call ask for.
+use Rattle.std.specs.Prelude.{◌≡◌, ℕ, true, List, [], ◌∷◌, map, Option, Some, None, option_map, codes, String, string_bytes}
 use Rattle.std.specs.Global.{Global}
-use Rattle.std.specs.Char.{is_ascii_digit}
-use Rattle.std.specs.List.{before_first, after_first, list_all}
-use Rattle.std.specs.Str.{bytes_eq}
-use Rattle.std.specs.Str.Parse.{digits_value}
-use Rattle.tx_files.specs.Names.{is_name}
+use Rattle.clap.specs.Words.{Row, Kinds, all_of, first_of}
+use Rattle.clap.specs.declared.error.kind.ErrorKind.{ErrorKind}
+use Rattle.clap.specs.declared.error.kind.ErrorKind.TheVariants.{DisplayHelp, DisplayVersion}
+use Rattle.tx_machine.specs.Ranges.{IsDate, AreLimits}
 use Rattle.tx_machine.specs.declared.types.Date.{Date}
-use Rattle.vortex_cmd.specs.declared.words.Given.{Given}
+use Rattle.tx_machine.specs.declared.types.Limits.{Limits}
+use Rattle.vortex_cmd.specs.declared.given.Given.{Given}
+use Rattle.vortex_cmd.specs.declared.given.Asked.{Asked}
+use Rattle.vortex_cmd.specs.declared.given.Asked.TheVariants.{Run, Help, Version, Nothing}
+use Rattle.vortex_cmd.specs.CommandLine.{faults, subcommand}
+use Rattle.vortex_cmd.specs.Values.{date_meant, limit_meant, named, are_distinct, all_named}
 
--- a number has one to four decimal digits
-abbrev pub is_number : List ℕ → Bool
-is_number text = nat_le 1 (length text) && nat_le (length text) 4 && list_all is_ascii_digit text
+-- the value of --date
+abbrev pub date_given : Option (List ℕ) → Option Date
+date_given None = None
+date_given (Some text) = date_meant text
 
-abbrev pub number : List ℕ → Option ℕ
-number text = if is_number text then Some (digits_value 10 text) else None
+-- the value of --out
+abbrev pub name_given : Option (List ℕ) → Option (List ℕ)
+name_given None = None
+name_given (Some text) = named text
 
-abbrev pub is_between : ℕ → ℕ → ℕ → Bool
-is_between least most n = nat_le least n && nat_le n most
+-- the value of an option that may be left out
+abbrev pub limit_given : ℕ → ℕ → Option (List ℕ) → Option ℕ
+limit_given default most None = Some default
+limit_given default most (Some text) = limit_meant most text
 
--- a year of at most four digits, a month and a day, and the minutes since midnight
-abbrev pub is_date : Date → Bool
-is_date date = is_between 1 9999 date.year && is_between 1 12 date.month && is_between 1 31 date.day && is_between 0 1439 date.minutes
+abbrev pub limits_of : Option ℕ → Option ℕ → Option ℕ → Option Limits
+limits_of (Some budget) (Some pages) (Some keep) = Some (record { budget = budget; pages = pages; keep = keep })
+limits_of _ _ _ = None
 
-abbrev pub checked : Date → Option Date
-checked date = if is_date date then Some date else None
+-- the values of --budget, --pages and --keep
+abbrev pub limits_given : List Row → Option Limits
+limits_given rows = limits_of
+    (limit_given 1000000 1000000000 (first_of (codes "budget") rows))
+    (limit_given 1000 10000 (first_of (codes "pages") rows))
+    (limit_given 10000 10000 (first_of (codes "keep") rows))
 
--- four numbers are a date if they are in these ranges
-abbrev pub date_of : Option ℕ → Option ℕ → Option ℕ → Option ℕ → Option Date
-date_of (Some year) (Some month) (Some day) (Some minutes) = checked (record { year = year; month = month; day = day; minutes = minutes })
-date_of _ _ _ _ = None
+abbrev pub files_given : Option (List (List ℕ)) → Option (List (List ℕ))
+files_given None = None
+files_given (Some texts) = all_named texts
 
-abbrev pub is_hyphen : ℕ → Bool
-is_hyphen code = code == 45
+-- all four were given; the first file is the main one
+abbrev pub given_of : Option Date → Option Limits → Option (List ℕ) → Option (List (List ℕ)) → Option Given
+given_of (Some date) (Some limits) (Some out) (Some (main ∷ others)) =
+    Some (record { date = date; limits = limits; out = out; main = main; files = main ∷ others })
+given_of _ _ _ _ = None
 
-abbrev pub before_hyphen : List ℕ → List ℕ
-before_hyphen text = before_first is_hyphen text
+-- what `run` is given
+abbrev pub run_given : List Row → Option Given
+run_given rows = given_of (date_given (first_of (codes "date") rows)) (limits_given rows)
+    (name_given (first_of (codes "out") rows)) (files_given (all_of (codes "file") rows))
 
--- what follows the first hyphen, nothing where there is none
-abbrev pub after_hyphen : List ℕ → List ℕ
-after_hyphen text = after_first is_hyphen text
+abbrev pub run_asked : Option Given → Asked
+run_asked None = Nothing
+run_asked (Some given) = Run given
 
--- a date is written Y-M-D-T
-abbrev pub date_meant : List ℕ → Option Date
-date_meant text =
-    let month_on = after_hyphen text in
-    let day_on = after_hyphen month_on in
-    date_of (number (before_hyphen text)) (number (before_hyphen month_on)) (number (before_hyphen day_on)) (number (after_hyphen day_on))
+-- the date and the limits are those of a run, and the files are distinct
+abbrev pub IsWithin : Given → Type 0
+IsWithin given = IsDate given.date × AreLimits given.limits × (are_distinct given.files ≡ true)
 
--- a text as the name of a file, if it is one
-abbrev pub named : List ℕ → Option (List ℕ)
-named text = if is_name text then Some text else None
+abbrev pub IsAskedWithin : Asked → Type 0
+IsAskedWithin (Run given) = IsWithin given
+IsAskedWithin _ = Unit {0}
 
--- all three were given
-abbrev pub given_of : Option Date → Option (List ℕ) → Option (List ℕ) → Option Given
-given_of (Some date) (Some out) (Some main) = Some (record { date = date; out = out; main = main })
-given_of _ _ _ = None
+-- they ask for a run
+abbrev pub IsRun : Asked → Type 0
+IsRun (Run given) = Unit {0}
+IsRun _ = ⊥
 
--- what the words behind their options give
-abbrev pub given_by : List ℕ → List ℕ → List ℕ → Option Given
-given_by date out main = given_of (date_meant date) (named out) (named main)
+-- what a subcommand with its values asks for
+abbrev pub subcommand_asked : Option (List Row) → Asked
+subcommand_asked None = Nothing
+subcommand_asked (Some rows) = run_asked (run_given rows)
 
--- the verb and the two options
-abbrev pub ask_for_a_run : List ℕ → List ℕ → List ℕ → Bool
-ask_for_a_run verb date_option out_option =
-    bytes_eq verb (codes "run") && bytes_eq date_option (codes "--date") && bytes_eq out_option (codes "--out")
+-- where `clap` doesn't take the words, that may be since they ask for help or for the version
+abbrev pub asked_instead : ErrorKind → Asked
+asked_instead DisplayHelp = Help
+asked_instead DisplayVersion = Version
+asked_instead _ = Nothing
 
--- what the words give, if they are such words
-abbrev pub words_meant : List (List ℕ) → Option Given
-words_meant (verb ∷ date_option ∷ date ∷ out_option ∷ out ∷ main ∷ []) =
-    if ask_for_a_run verb date_option out_option then given_by date out main else None
-words_meant _ = None
+abbrev pub asked : Kinds → Option (List ℕ × List Row) → Asked
+asked [] found = subcommand_asked (option_map (λ named. named.1) found)
+asked (kind ∷ _) found = asked_instead kind
+
+-- what the words ask for
+abbrev pub words_meant : List (List ℕ) → Asked
+words_meant words = asked (faults words) (subcommand words)
 
 -- the bytes of each word
 abbrev pub texts : List (String Global) → List (List ℕ)

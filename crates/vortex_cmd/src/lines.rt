@@ -1,6 +1,6 @@
 ghost use Rattle.std.specs.Prelude.{◌≡◌, ◌++◌, OnOk, IfOk};
 ghost use Rattle.std.specs.Fmt.{decimal};
-ghost use Rattle.vortex_cmd.specs.Lines.{place_text, end_text, run_line};
+ghost use Rattle.vortex_cmd.specs.Lines.{place_text, end_text, run_line, help_text, version_line};
 
 use std::alloc::{AllocError, Global};
 use tx_bytes::Bytes;
@@ -57,4 +57,29 @@ pub fn run_line(alloc: Global, pages: u64, end: &End) -> Result<Bytes, AllocErro
     append_end(alloc, &mut line, end)?;
     line.append(b"\n")?;
     Ok(line)
+}
+
+/// What `--version` says.
+pub fn version_line() -> &'static [u8]
+    ensures { result.now ≡ version_line }
+{
+    b"vortex 0.1.0\n"
+}
+
+/// What `--help` says.
+#[tactic(auto, unfolding(crate::specs::Lines::help_text))]
+pub fn help_text() -> &'static [u8]
+    ensures { result.now ≡ help_text }
+{
+    b"vortex: TeX, written as DVI.\n
+Usage: vortex run --date Y-M-D-T --out NAME [OPTIONS] MAIN [FILE..]\n
+Runs TeX on MAIN, which may read the FILEs, and saves NAME.dvi and NAME.log.\n
+  --date Y-M-D-T  the date that TeX sees, T in minutes since midnight
+  --out NAME      the name of what is saved
+  --budget N      what a page may cost, 1 to 1000000000 (1000000)
+  --pages N       the most pages, 1 to 10000 (1000)
+  --keep N        the most states that are kept, 1 to 10000 (10000)
+  -h, --help      says this
+  -V, --version   says the version
+"
 }

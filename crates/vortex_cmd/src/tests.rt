@@ -1,13 +1,32 @@
 use crate::vortex::vortex;
-use std::alloc::Global;
+use std::alloc::{AllocError, Global};
 use std::test::Fail;
 use tx_io::{MemorySink, MemorySource};
 use tx_machine::CountsTurns;
 
-const WORDS: [&str; 6] = ["run", "--date", "2024-5-17-570", "--out", "a", "main.tex"];
+const RUN: &str = "run|--date|2024-5-17-570|--out|a|main.tex";
 
-const ONE_PAGE: &[u8] =
-    b"\\catcode`\\{=1 \\catcode`\\}=2 \\shipout\\hbox{\\vrule width 1pt height 2pt depth 0pt}\\end\n";
+const ONE_PAGE: &str =
+    "\\catcode`\\{=1 \\catcode`\\}=2 \\shipout\\hbox{\\vrule width 1pt height 2pt depth 0pt}\\end\n";
+
+const TWO_PAGES: &str =
+    "\\catcode`\\{=1 \\catcode`\\}=2 \\shipout\\hbox{\\vrule width 1pt height 2pt depth 0pt}\\shipout\\hbox{}\\end\n";
+
+const HELP: &str = "\
+vortex: TeX, written as DVI.
+
+Usage: vortex run --date Y-M-D-T --out NAME [OPTIONS] MAIN [FILE..]
+
+Runs TeX on MAIN, which may read the FILEs, and saves NAME.dvi and NAME.log.
+
+  --date Y-M-D-T  the date that TeX sees, T in minutes since midnight
+  --out NAME      the name of what is saved
+  --budget N      what a page may cost, 1 to 1000000000 (1000000)
+  --pages N       the most pages, 1 to 10000 (1000)
+  --keep N        the most states that are kept, 1 to 10000 (10000)
+  -h, --help      says this
+  -V, --version   says the version
+";
 
 // The page has one rule, 1pt wide and 2pt high.
 const ONE_PAGE_DVI: &[u8] =
@@ -20,10 +39,28 @@ const ONE_PAGE_DVI: &[u8] =
 
 const NOTHING: Option<&[u8]> = None;
 
-fn words(alloc: Global, texts: &[&str]) -> Result<Vec<String>, Fail> {
+/// A call and what comes of it: its words, parted by bars, and the file `main.tex`, if there is one; which fetches and
+/// saves fail; its status, what it says, the file `a.dvi`, and whether there is
+/// an empty `a.log`.
+#[derive(Drop)]
+struct Case<'a> {
+    words: &'a str,
+    main: Option<&'a str>,
+    fetches: &'a [u64],
+    saves: &'a [u64],
+    status: u8,
+    said: &'a str,
+    pages: Option<&'a [u8]>,
+    is_logged: bool,
+}
+
+fn words(alloc: Global, text: &str) -> Result<Vec<String>, AllocError> {
     let mut words = Vec::new(alloc);
-    for text in texts {
-        words.push(String::from_str(alloc, text)?)?;
+    if text.is_empty() {
+        return Ok(words);
+    }
+    for word in text.split('|') {
+        words.push(String::from_str(alloc, word)?)?;
     }
     Ok(words)
 }
@@ -36,22 +73,26 @@ fn is_saved(sink: &MemorySink, name: &[u8], wanted: Option<&[u8]>) -> bool {
     }
 }
 
-/// Calls `vortex` with these words, on a source that holds the file `main.tex` if there is one, and where the calls of
-/// these numbers fail.
-fn called(
-    rt: &HostRuntime,
-    texts: &[&str],
-    main: Option<&[u8]>,
-    fetches: &[u64],
-    saves: &[u64],
-) -> Result<(u8, MemorySink), Fail> {
-    let alloc = rt.alloc();
-    let mut source = MemorySource::new(alloc, fetches.to_vec(alloc)?);
-    if let Some(bytes) = main {
-        source.put(alloc, b"main.tex", bytes)?;
+fn is_logged(sink: &MemorySink) -> bool {
+    match sink.saved(b"a.log") {
+        Some(file) => file.is_empty(),
+        None => false,
     }
-    let mut sink = MemorySink::new(alloc, Vec::new(alloc), saves.to_vec(alloc)?);
-    let words = words(alloc, texts)?;
+}
+
+fn source(alloc: Global, case: &Case<'_>) -> Result<MemorySource, AllocError> {
+    let mut source = MemorySource::new(alloc, case.fetches.to_vec(alloc)?);
+    if let Some(text) = case.main {
+        source.put(alloc, b"main.tex", text.as_bytes())?;
+    }
+    Ok(source)
+}
+
+fn holds(rt: &HostRuntime, case: &Case<'_>) -> Result<bool, AllocError> {
+    let alloc = rt.alloc();
+    let words = words(alloc, case.words)?;
+    let mut source = source(alloc, case)?;
+    let mut sink = MemorySink::new(alloc, Vec::new(alloc), case.saves.to_vec(alloc)?);
     let status = vortex(
         alloc,
         words.as_slice(),
@@ -59,72 +100,169 @@ fn called(
         &mut sink,
         &mut rt.steps(),
     );
-    Ok((status, sink))
+    Ok(
+        status == case.status
+            && sink.said() == case.said.as_bytes()
+            && is_saved(&sink, b"a.dvi", case.pages)
+            && is_logged(&sink) == case.is_logged,
+    )
 }
 
-#[test]
-fn a_run_puts_out_its_line_its_pages_and_its_transcript(rt: HostRuntime) -> Result<(), Fail> {
-    let cases: [(Option<&[u8]>, u8, &str, Option<&[u8]>); 4] = [
-        (Some(ONE_PAGE), 0, "run: 1 pages, end\n", Some(ONE_PAGE_DVI)),
-        (Some(b"\\end\n"), 0, "run: 0 pages, end\n", NOTHING),
-        (Some(b""), 1, "run: 0 pages, error 36\n", NOTHING),
-        (NOTHING, 1, "run: 0 pages, error 20\n", NOTHING),
-    ];
-    for (main, status, line, dvi) in cases {
-        let (answer, sink) = called(&rt, &WORDS, main, &[], &[])?;
-        assert_eq!(rt; answer, status, "{line}");
-        assert_eq!(rt; sink.said(), line.as_bytes(), "{line}");
-        assert!(rt; is_saved(&sink, b"a.dvi", dvi), "{line}");
-        assert!(rt; is_saved(&sink, b"a.log", Some(b"")), "{line}");
+/// A run with no trouble.
+fn run<'a>(
+    words: &'a str,
+    main: Option<&'a str>,
+    status: u8,
+    said: &'a str,
+    pages: Option<&'a [u8]>,
+) -> Case<'a> {
+    Case {
+        words,
+        main,
+        fetches: &[],
+        saves: &[],
+        status,
+        said,
+        pages,
+        is_logged: true,
     }
-    Ok(())
 }
 
+/// Words that say one text; a fetch would fail.
+fn says<'a>(words: &'a str, status: u8, said: &'a str) -> Case<'a> {
+    Case {
+        words,
+        main: Some(ONE_PAGE),
+        fetches: &[1],
+        saves: &[],
+        status,
+        said,
+        pages: NOTHING,
+        is_logged: false,
+    }
+}
+
+/// A run of one page, of which a fetch or a save fails.
+fn failing<'a>(
+    fetches: &'a [u64],
+    saves: &'a [u64],
+    status: u8,
+    said: &'a str,
+    pages: Option<&'a [u8]>,
+) -> Case<'a> {
+    Case {
+        words: "run|--date|2024-5-17-570|--out|a|main.tex|b.tex",
+        main: Some(ONE_PAGE),
+        fetches,
+        saves,
+        status,
+        said,
+        pages,
+        is_logged: false,
+    }
+}
+
+const REFUSED: [&str; 45] = [
+    "",
+    "gen|--date|2024-5-17-570|--out|a|main.tex",
+    "help",
+    "main.tex",
+    "run",
+    "run|--date|2024-5-17-570|--out|a",
+    "run|--date|2024-5-17-570|main.tex",
+    "run|--out|a|main.tex",
+    "run|--date|2024-5-17-570|--date|2024-5-17-570|--out|a|main.tex",
+    "run|--date|2024-5-17-570|--out|a|--out|a|main.tex",
+    "run|--date|2024-5-17-570|--out|a|--bold|main.tex",
+    "run|--date|2024-5-17-570|--out|a|--script|edits|main.tex",
+    "run|--date|2024-5-17-570|--out|a|main.tex|--keep",
+    // Dates.
+    "run|--date|0-5-17-570|--out|a|main.tex",
+    "run|--date|10000-5-17-570|--out|a|main.tex",
+    "run|--date|2024-0-17-570|--out|a|main.tex",
+    "run|--date|2024-13-17-570|--out|a|main.tex",
+    "run|--date|2024-5-0-570|--out|a|main.tex",
+    "run|--date|2024-5-32-570|--out|a|main.tex",
+    "run|--date|2024-5-17-1440|--out|a|main.tex",
+    "run|--date|02024-5-17-570|--out|a|main.tex",
+    "run|--date|+24-5-17-570|--out|a|main.tex",
+    "run|--date|2024-5-17|--out|a|main.tex",
+    "run|--date|2024-5-17-570-|--out|a|main.tex",
+    "run|--date|2024-5--17-570|--out|a|main.tex",
+    // Names.
+    "run|--date|2024-5-17-570|--out||main.tex",
+    "run|--date|2024-5-17-570|--out=|main.tex",
+    "run|--date|2024-5-17-570|--out|a b|main.tex",
+    "run|--date|2024-5-17-570|--out|a|main tex",
+    "run|--date|2024-5-17-570|--out|a|main.tex|b tex",
+    "run|--date|2024-5-17-570|--out|a|main.tex|main.tex",
+    "run|--date|2024-5-17-570|--out|a|main.tex|b.tex|c.tex|b.tex",
+    // Limits.
+    "run|--date|2024-5-17-570|--out|a|--budget||main.tex",
+    "run|--date|2024-5-17-570|--out|a|--budget|0|main.tex",
+    "run|--date|2024-5-17-570|--out|a|--budget|01|main.tex",
+    "run|--date|2024-5-17-570|--out|a|--budget|+1|main.tex",
+    "run|--date|2024-5-17-570|--out|a|--budget|1e3|main.tex",
+    "run|--date|2024-5-17-570|--out|a|--budget|1000000001|main.tex",
+    "run|--date|2024-5-17-570|--out|a|--budget|4294967296|main.tex",
+    "run|--date|2024-5-17-570|--out|a|--budget|10000000000|main.tex",
+    "run|--date|2024-5-17-570|--out|a|--budget|18446744073709551617|main.tex",
+    "run|--date|2024-5-17-570|--out|a|--pages|0|main.tex",
+    "run|--date|2024-5-17-570|--out|a|--pages|10001|main.tex",
+    "run|--date|2024-5-17-570|--out|a|--keep|0|main.tex",
+    "run|--date|2024-5-17-570|--out|a|--keep|10001|main.tex",
+];
+
+/// Words of the same run, in other orders and with other options.
+const SAME_RUN: [&str; 6] = [
+    RUN,
+    "run|main.tex|--out=a|--date=2024-5-17-570",
+    "run|--out|a|main.tex|--date|2024-5-17-570|b.tex|c.tex",
+    "run|--date|2024-05-0017-0570|--out|a|main.tex",
+    "run|--budget|1000000000|--pages|10000|--keep|1|--date|2024-5-17-570|--out|a|main.tex",
+    "run|--out|a|--date|2024-5-17-570|--|main.tex",
+];
+
 #[test]
-fn words_of_another_form_are_refused(rt: HostRuntime) -> Result<(), Fail> {
-    let run = |date, out, main| ["run", "--date", date, "--out", out, main];
+fn a_call_puts_out_its_line_its_pages_and_its_transcript(rt: HostRuntime) -> Result<(), Fail> {
+    let budget = "run|--budget|10|--date|2024-5-17-570|--out|a|main.tex";
+    let pages = "run|--date|2024-5-17-570|--out|a|main.tex|--pages|1";
+    let line = "run: 1 pages, end\n";
     let cases = [
-        run("2024-13-17-570", "a", "main.tex"),
-        run("2024-0-17-570", "a", "main.tex"),
-        run("2024-5-32-570", "a", "main.tex"),
-        run("2024-5-17-1440", "a", "main.tex"),
-        run("02024-5-17-570", "a", "main.tex"),
-        run("+24-5-17-570", "a", "main.tex"),
-        run("2024-5-17", "a", "main.tex"),
-        run("2024-5-17-570-", "a", "main.tex"),
-        run("2024-5-17-570", "", "main.tex"),
-        run("2024-5-17-570", "a", "main tex"),
-        ["run", "--out", "a", "--date", "2024-5-17-570", "main.tex"],
-        ["gen", "--date", "2024-5-17-570", "--out", "a", "main.tex"],
+        run(RUN, Some("\\end\n"), 0, "run: 0 pages, end\n", NOTHING),
+        run(RUN, Some(""), 1, "run: 0 pages, error 36\n", NOTHING),
+        run(RUN, None, 1, "run: 0 pages, error 20\n", NOTHING),
+        run(budget, Some(ONE_PAGE), 1, "run: 0 pages, budget\n", NOTHING),
+        run(
+            pages,
+            Some(TWO_PAGES),
+            1,
+            "run: 1 pages, page limit\n",
+            Some(ONE_PAGE_DVI),
+        ),
+        failing(&[1], &[], 3, "", NOTHING),
+        failing(&[2], &[], 3, "", NOTHING),
+        failing(&[], &[1], 4, line, NOTHING),
+        failing(&[], &[2], 4, line, Some(ONE_PAGE_DVI)),
+        says("--version", 0, "vortex 0.1.0\n"),
+        says("run|-V|--out", 2, "words refused\n"),
+        says("--help", 0, HELP),
+        says("run|--date|x|--help", 0, HELP),
     ];
-    for texts in cases {
-        let (answer, sink) = called(&rt, &texts, Some(ONE_PAGE), &[1], &[])?;
-        assert_eq!(rt; answer, 2, "{texts:?}");
-        assert_eq!(rt; sink.said(), b"words refused\n".as_slice(), "{texts:?}");
-        assert!(rt; is_saved(&sink, b"a.log", NOTHING), "{texts:?}");
+    for case in &cases {
+        assert!(rt; holds(&rt, case)?, "{}: {}", case.words, case.said);
     }
-    let (answer, sink) = called(&rt, &[], Some(ONE_PAGE), &[1], &[])?;
-    assert_eq!(rt; answer, 2);
-    assert_eq!(rt; sink.said(), b"words refused\n".as_slice());
-    Ok(())
-}
-
-#[test]
-fn a_failing_call_ends_the_run(rt: HostRuntime) -> Result<(), Fail> {
-    let line = b"run: 1 pages, end\n".as_slice();
-    let (answer, sink) = called(&rt, &WORDS, Some(ONE_PAGE), &[1], &[])?;
-    assert_eq!(rt; answer, 3);
-    assert_eq!(rt; sink.said(), b"".as_slice());
-    assert!(rt; is_saved(&sink, b"a.log", NOTHING));
-    let (answer, sink) = called(&rt, &WORDS, Some(ONE_PAGE), &[], &[1])?;
-    assert_eq!(rt; answer, 4);
-    assert_eq!(rt; sink.said(), line);
-    assert!(rt; is_saved(&sink, b"a.dvi", NOTHING));
-    assert!(rt; is_saved(&sink, b"a.log", NOTHING));
-    let (answer, sink) = called(&rt, &WORDS, Some(ONE_PAGE), &[], &[2])?;
-    assert_eq!(rt; answer, 4);
-    assert_eq!(rt; sink.said(), line);
-    assert!(rt; is_saved(&sink, b"a.dvi", Some(ONE_PAGE_DVI)));
-    assert!(rt; is_saved(&sink, b"a.log", NOTHING));
+    for words in &SAME_RUN {
+        assert!(rt;
+            holds(
+                &rt,
+                &run(*words, Some(ONE_PAGE), 0, line, Some(ONE_PAGE_DVI))
+            )?,
+            "{words}"
+        );
+    }
+    for words in &REFUSED {
+        assert!(rt; holds(&rt, &says(*words, 2, "words refused\n"))?, "{words}");
+    }
     Ok(())
 }

@@ -1,132 +1,161 @@
-ghost use Rattle.std.specs.Prelude.{◌≡◌, length, IfOk, IfSome};
-ghost use Rattle.std.specs.Char.{is_ascii_digit};
-ghost use Rattle.std.specs.List.{list_all};
-ghost use Rattle.tx_machine.specs.Ranges.{IsDate};
-ghost use Rattle.vortex_cmd.specs.Words.{is_number, number, checked, date_of, date_meant, named, given_by, ask_for_a_run, words_meant, texts};
+ghost use Rattle.std.specs.Prelude.{◌≡◌, ◌≤◌, true, map, option_map, IfOk, IfSome, IsErr};
+ghost use Rattle.clap.specs.Words.{rows_of, found_of, subcommand_rows_of, first_of, all_of};
+ghost use Rattle.tx_machine.specs.Ranges.{IsDate, AreLimits};
+ghost use Rattle.clap.specs.declared.error.kind.ErrorKind.TheVariants.{OutOfMemory};
+ghost use Rattle.vortex_cmd.specs.Values.{are_distinct};
+ghost use Rattle.vortex_cmd.specs.Words.{IsWithin, IsAskedWithin, date_given, name_given, limit_given, limits_given, files_given, given_of, run_given, run_asked, subcommand_asked, asked_instead, words_meant, texts};
 
+use crate::command::command_line;
+use crate::given::{Asked, Given, Names};
+use crate::values::{read_date, read_limit, read_name, read_names};
+use clap::ArgMatches;
+use clap::error::ErrorKind;
 use std::alloc::{AllocError, Global};
-use tx_bytes::Bytes;
 use tx_files::Name;
-use tx_machine::Date;
+use tx_machine::{Date, Limits};
 
-/// What the words of a call give: the moment that the document sees, the name of the files that are saved, and the
-/// name of the main file.
-#[derive(Debug, Drop)]
-pub struct Given {
-    pub date: Date,
-    pub out: Name,
-    pub main: Name,
-}
-
-fn are_digits(text: &str) -> bool
-    ensures { result ≡ list_all is_ascii_digit text.now }
+/// The value of an option, if it was given.
+fn value<'a>(found: &ArgMatches<'a>, id: &str) -> Option<&'a str>
+    ensures { option_map (λ t. t.now) result ≡ first_of id.now (rows_of (found_of found.now)) }
 {
-    text.bytes().all(|c| c.is_ascii_digit())
+    found.get_str(id)
 }
 
-/// A number has one to four decimal digits.
-fn is_number(text: &str) -> bool
-    ensures { result ≡ is_number text.now }
+/// The files, if there are some.
+fn values<'m, 'a>(found: &'m ArgMatches<'a>, id: &str) -> Option<&'m [&'a str]>
+    ensures { option_map (λ s. map (λ t. t.now) s.now) result ≡ all_of id.now (rows_of (found_of found.now)) }
 {
-    1 <= text.len() && text.len() <= 4 && are_digits(text)
+    found.get_raw(id)
 }
 
-fn read_number(text: &str) -> Option<u32>
-    ensures { result ≡ number text.now }
-{
-    if !is_number(text) {
-        return None;
-    }
-    text.parse().ok()
-}
-
-/// The date, if there is such a year, month, day and minute.
-fn checked(date: Date) -> Option<Date>
-    ensures date { result ≡ checked date }
+fn date_given(text: Option<&str>) -> Option<Date>
+    ensures date { result ≡ date_given (option_map (λ t. t.now) text.entry) }
     ensures ranges { IfSome result (λ date. IsDate date) }
 {
-    let is_day = 1 <= date.month && date.month <= 12 && 1 <= date.day && date.day <= 31;
-    let is_year = 1 <= date.year && date.year <= 9999;
-    if is_year && is_day && date.minutes <= 1439 {
-        Some(date)
-    } else {
-        None
+    read_date(text?)
+}
+
+fn name_given(alloc: Global, text: Option<&str>) -> Result<Option<Name>, AllocError>
+    ensures { IfOk result (λ name. name ≡ name_given (option_map (λ t. t.now) text.entry)) }
+{
+    match text {
+        None => Ok(None),
+        Some(text) => read_name(alloc, text),
     }
 }
 
-/// The date of four numbers, where all four are numbers.
-fn date_of(
-    year: Option<u32>,
-    month: Option<u32>,
-    day: Option<u32>,
-    minutes: Option<u32>,
-) -> Option<Date>
-    ensures date { result ≡ date_of year month day minutes }
-    ensures ranges { IfSome result (λ date. IsDate date) }
+fn limit_given(default: u32, most: u32, text: Option<&str>) -> Option<u32>
+    requires { (1 ≤ default) × (default ≤ most) }
+    ensures limit { result ≡ limit_given default most (option_map (λ t. t.now) text.entry) }
+    ensures range { IfSome result (λ n. (1 ≤ n) × (n ≤ most)) }
 {
-    checked(Date {
-        year: year?,
-        month: month?,
-        day: day?,
-        minutes: minutes?,
+    match text {
+        None => Some(default),
+        Some(text) => read_limit(most, text),
+    }
+}
+
+/// The values of `--budget`, `--pages` and `--keep`.
+fn limits_given(found: &ArgMatches<'_>) -> Option<Limits>
+    ensures limits { result ≡ limits_given (rows_of (found_of found.now)) }
+    ensures ranges { IfSome result (λ limits. AreLimits limits) }
+{
+    let budget = limit_given(1_000_000, 1_000_000_000, value(found, "budget"))?;
+    let pages = limit_given(1000, 10_000, value(found, "pages"))?;
+    let keep = limit_given(10_000, 10_000, value(found, "keep"))?;
+    Some(Limits {
+        budget: u64::from(budget),
+        pages,
+        keep,
     })
 }
 
-/// A date is written Y-M-D-T.
-fn read_date(text: &str) -> Option<Date>
-    ensures date { result ≡ date_meant text.now }
-    ensures ranges { IfSome result (λ date. IsDate date) }
+fn files_given(alloc: Global, texts: Option<&[&str]>) -> Result<Option<Names>, AllocError>
+    ensures files { IfOk result (λ names. names ≡ files_given (option_map (λ s. map (λ t. t.now) s.now) texts.entry)) }
+    ensures apart { IfOk result (λ names. IfSome names (λ n. are_distinct n ≡ true)) }
 {
-    let (year, month_on) = text.split_once('-')?;
-    let (month, day_on) = month_on.split_once('-')?;
-    let (day, minutes) = day_on.split_once('-')?;
-    date_of(
-        read_number(year),
-        read_number(month),
-        read_number(day),
-        read_number(minutes),
-    )
-}
-
-fn read_name(alloc: Global, text: &str) -> Result<Option<Name>, AllocError>
-    ensures { IfOk result (λ name. name ≡ named text.now) }
-{
-    Ok(Name::new(Bytes::from_slice(alloc, text.as_bytes())?))
-}
-
-/// What the words behind their options give.
-fn read_given(alloc: Global, date: &str, out: &str, main: &str) -> Result<Option<Given>, AllocError>
-    ensures given { IfOk result (λ given. given ≡ given_by date.now out.now main.now) }
-    ensures dated { IfOk result (λ given. IfSome given (λ g. IsDate g.date)) }
-{
-    let Some(date) = read_date(date) else {
-        return Ok(None);
-    };
-    let Some(out) = read_name(alloc, out)? else {
-        return Ok(None);
-    };
-    let Some(main) = read_name(alloc, main)? else {
-        return Ok(None);
-    };
-    Ok(Some(Given { date, out, main }))
-}
-
-fn ask_for_a_run(verb: &str, date_option: &str, out_option: &str) -> bool
-    ensures { result ≡ ask_for_a_run verb.now date_option.now out_option.now }
-{
-    verb == "run" && date_option == "--date" && out_option == "--out"
-}
-
-/// Reads the words `run --date Y-M-D-T --out NAME MAIN`. There is no answer exactly where they aren't such words.
-pub fn read_words(alloc: Global, words: &[String]) -> Result<Option<Given>, AllocError>
-    ensures given { IfOk result (λ given. given ≡ words_meant (texts words.now)) }
-    ensures dated { IfOk result (λ given. IfSome given (λ g. IsDate g.date)) }
-{
-    let [verb, date_option, date, out_option, out, main] = words else {
-        return Ok(None);
-    };
-    if !ask_for_a_run(verb.as_str(), date_option.as_str(), out_option.as_str()) {
-        return Ok(None);
+    match texts {
+        None => Ok(None),
+        Some(texts) => read_names(alloc, texts),
     }
-    read_given(alloc, date.as_str(), out.as_str(), main.as_str())
+}
+
+/// All four were given; the first file is the main one.
+fn given_of(
+    date: Option<Date>,
+    limits: Option<Limits>,
+    out: Option<Name>,
+    files: Option<Names>,
+) -> Result<Option<Given>, AllocError>
+    requires dated { IfSome date (λ date. IsDate date) }
+    requires limited { IfSome limits (λ limits. AreLimits limits) }
+    requires apart { IfSome files (λ files. are_distinct files ≡ true) }
+    ensures within { IfOk result (λ given. IfSome given IsWithin) }
+    ensures given { IfOk result (λ given. given ≡ given_of date limits out files) }
+{
+    let (Some(date), Some(limits), Some(out), Some(files)) = (date, limits, out, files) else {
+        return Ok(None);
+    };
+    let Some(main) = files.as_slice().first() else {
+        return Ok(None);
+    };
+    let main = main.clone()?;
+    Ok(Some(Given {
+        date,
+        limits,
+        out,
+        main,
+        files,
+    }))
+}
+
+/// What `run` is given.
+fn run_given(alloc: Global, found: &ArgMatches<'_>) -> Result<Option<Given>, AllocError>
+    ensures given { IfOk result (λ given. given ≡ run_given (rows_of (found_of found.now))) }
+    ensures within { IfOk result (λ given. IfSome given IsWithin) }
+{
+    let date = date_given(value(found, "date"));
+    let limits = limits_given(found);
+    let out = name_given(alloc, value(found, "out"))?;
+    let files = files_given(alloc, values(found, "file"))?;
+    given_of(date, limits, out, files)
+}
+
+/// What a subcommand with its values asks for.
+fn subcommand_asked(alloc: Global, matches: &ArgMatches<'_>) -> Result<Asked, AllocError>
+    ensures asked { IfOk result (λ asked. asked ≡ subcommand_asked (option_map (λ named. named.1) (subcommand_rows_of matches.now))) }
+    ensures within { IfOk result IsAskedWithin }
+{
+    let Some((_, found)) = matches.subcommand() else {
+        return Ok(Asked::Nothing);
+    };
+    match run_given(alloc, found)? {
+        None => Ok(Asked::Nothing),
+        Some(given) => Ok(Asked::Run(given)),
+    }
+}
+
+/// What words ask for that `clap` doesn't take.
+fn asked_instead(kind: ErrorKind) -> Result<Asked, AllocError>
+    ensures asked { IfOk result (λ asked. asked ≡ asked_instead kind) }
+    ensures memory { kind ≡ OutOfMemory → IsErr result }
+    ensures within { IfOk result IsAskedWithin }
+{
+    match kind {
+        ErrorKind::DisplayHelp => Ok(Asked::Help),
+        ErrorKind::DisplayVersion => Ok(Asked::Version),
+        ErrorKind::OutOfMemory => Err(AllocError),
+        _ => Ok(Asked::Nothing),
+    }
+}
+
+/// Reads the words behind the program's name.
+pub fn read_words(alloc: Global, words: &[String]) -> Result<Asked, AllocError>
+    ensures asked { IfOk result (λ asked. asked ≡ words_meant (texts words.now)) }
+    ensures within { IfOk result IsAskedWithin }
+{
+    match command_line(alloc)?.try_get_matches_from(words) {
+        Ok(matches) => subcommand_asked(alloc, &matches),
+        Err(error) => asked_instead(error.kind()),
+    }
 }

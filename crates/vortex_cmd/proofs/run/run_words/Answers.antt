@@ -1,27 +1,34 @@
-use Rattle.std.proofs.Common.{◌≡◌, rules, Option, Some, None, sym, subst}
-use Rattle.vortex_cmd.specs.declared.words.Given.{Given}
-use Rattle.vortex_cmd.specs.Words.{words_meant, texts}
-use Rattle.vortex_cmd.specs.Outcome.{given_outcome}
+use Rattle.std.proofs.Common.{◌≡◌, ℕ, List, rules, subst}
+use Rattle.vortex_cmd.specs.Outcome.{saying}
 use Rattle.vortex_cmd.specs.Trouble.{Does}
-use Rattle.vortex_cmd.proofs.Held.{for_any, for_held, does_nothing, refused, refused_short}
+use Rattle.vortex_cmd.specs.Words.{words_meant, texts}
+use Rattle.vortex_cmd.specs.declared.given.Asked.TheVariants.{Run, Help, Version, Nothing}
+use Rattle.vortex_cmd.proofs.Held.{for_any, does_nothing, of_words}
 use Rattle.vortex_cmd.proofs.run.run_words.Goals as goal
 
-pub returns-in_err-read_words-clause-does : goal.returns-in_err-read_words-clause-does
-returns-in_err-read_words-clause-does g c = for_any _ (λ held. does_nothing c.from_residual.result c.from_residual.ensures.0 _ _ _)
+pub returns-in_err-given-clause-does : goal.returns-in_err-given-clause-does
+returns-in_err-given-clause-does g c = for_any _ (λ held. does_nothing c.from_residual.result c.from_residual.ensures.0 _ _ _)
 
-pub returns-in_err-say-in-None-clause-does : goal.returns-in_err-say-in-None-clause-does
-returns-in_err-say-in-None-clause-does g c =
-    let none : words_meant (texts c.args.words.now) ≡ None = search rules in
-    for_any _ (λ held. refused_short g.M.Machine.formatter (texts c.args.words.now) _ _ _ none held c.from_residual-in_err-say-in-None.result c.from_residual-in_err-say-in-None.ensures.0 c.in_err-say-in-None.ensures.puts)
+pub returns-in-Run-clause-does : goal.returns-in-Run-clause-does
+returns-in-Run-clause-does g c =
+    let are : Run c.in-Run.given ≡ words_meant (texts c.args.words.now) = search rules in
+    of_words g.M.Machine.formatter (texts c.args.words.now) _ are c.run_given.ensures.does
 
-pub returns-in_ok-say-in-None-clause-does : goal.returns-in_ok-say-in-None-clause-does
-returns-in_ok-say-in-None-clause-does g c =
-    let none : words_meant (texts c.args.words.now) ≡ None = search rules in
-    for_any _ (λ held. refused g.M.Machine.formatter (texts c.args.words.now) _ _ _ none held c.in_ok-say-in-None.ensures.puts)
+pub returns-in-Help-clause-does : goal.returns-in-Help-clause-does
+returns-in-Help-clause-does g c =
+    let are : Help ≡ words_meant (texts c.args.words.now) = search rules in
+    of_words g.M.Machine.formatter (texts c.args.words.now) _ are
+    (for_any _ (λ held. subst (λ (text : List ℕ). Does c.say_only.result (saying text 0) (g.K.Sink.output c.args.sink.now) (g.K.Sink.output c.say_only.new.sink) c.args.steps.now c.args.steps.now)
+    c.help_text.ensures (c.say_only.ensures.does c.args.steps.now)))
 
-pub returns-in-Some-clause-does : goal.returns-in-Some-clause-does
-returns-in-Some-clause-does g c =
-    let some : words_meant (texts c.args.words.now) ≡ Some c.in-Some.given = search rules in
-    for_held c.run_given.ensures.does
-    (λ held does. subst (λ (given : Option Given). Does c.run_given.result (given_outcome g.M.Machine.formatter given held) (g.K.Sink.output c.args.sink.now) (g.K.Sink.output c.run_given.new.sink) c.args.steps.now c.run_given.new.steps)
-    (sym some) does)
+pub returns-in-Version-clause-does : goal.returns-in-Version-clause-does
+returns-in-Version-clause-does g c =
+    let are : Version ≡ words_meant (texts c.args.words.now) = search rules in
+    of_words g.M.Machine.formatter (texts c.args.words.now) _ are
+    (for_any _ (λ held. subst (λ (text : List ℕ). Does c.say_only-in-Version.result (saying text 0) (g.K.Sink.output c.args.sink.now) (g.K.Sink.output c.say_only-in-Version.new.sink) c.args.steps.now c.args.steps.now)
+    c.version_line.ensures (c.say_only-in-Version.ensures.does c.args.steps.now)))
+
+pub returns-in-Nothing-clause-does : goal.returns-in-Nothing-clause-does
+returns-in-Nothing-clause-does g c =
+    let are : Nothing ≡ words_meant (texts c.args.words.now) = search rules in
+    of_words g.M.Machine.formatter (texts c.args.words.now) _ are (for_any _ (λ held. c.say_only-in-Nothing.ensures.does c.args.steps.now))

@@ -1,0 +1,5 @@
+mod Inserted
+mod Rewritten
+mod Runs
+mod Steps
+mod Once

@@ -1,0 +1,77 @@
+ghost use Rattle.std.specs.Prelude.{◌≡◌, ◌∷◌, List, reverse, All, IsTrue, IfOk};
+ghost use Rattle.tx_tfm.specs.Format.{is_there};
+ghost use Rattle.tx_ligkern.specs.Composing.{Becomes};
+ghost use Rattle.tx_ligkern.specs.Pieces.{word_of};
+ghost use Rattle.tx_ligkern.specs.Steps.{Ends, Moved};
+ghost use Rattle.tx_ligkern.specs.declared.item.LigItem.{LigItem};
+
+use crate::item::{Items, LigItem};
+use crate::ligature::carry_out;
+use crate::piece::{Piece, put, word};
+use std::alloc::{AllocError, Global};
+use tx_tfm::Font;
+
+/// What a word becomes by its font's ligatures and kerns. `left` and `right` tell whether the boundaries before and behind
+/// the word count. Its only error is want of memory.
+
+pub fn compose(
+    alloc: Global,
+    font: &Font,
+    chars: &[u8],
+    left: bool,
+    right: bool,
+) -> Result<Items, AllocError>
+    requires { All (λ c. IsTrue (is_there font.now.file c)) chars.now }
+    ensures becomes { IfOk result (λ items. Becomes font.now (word_of chars.now left right) items) }
+    ensures only { IfOk result (λ items. (others : List LigItem) → Becomes font.now (word_of chars.now left right) others → items ≡ others) }
+{
+    font.is_sound();
+    let mut rest = word(alloc, chars, left, right)?;
+    rest.reverse();
+    match rest.pop() {
+        None => Ok(Items::new(alloc)),
+        Some(first) => run(alloc, font, first, rest),
+    }
+}
+
+/// What becomes of pieces, of which all but the first stand in `rest`, the last one first.
+
+fn run(alloc: Global, font: &Font, first: Piece, rest: Vec<Piece>) -> Result<Items, AllocError>
+    requires { Ends font.now (first ∷ reverse rest.items) }
+    ensures { IfOk result (λ items. Becomes font.now (first ∷ reverse rest.items) items) }
+{
+    let mut current = first;
+    let mut rest = rest;
+    let mut done = Items::new(alloc);
+    while let Some(next) = rest.pop() {
+        current = step(alloc, font, current, next, &mut rest, &mut done)?;
+    }
+    put(&mut done, current)?;
+    Ok(done)
+}
+
+/// One step at a pair, where `rest` is what follows it, the last piece first. What is finished goes to the end of `done`,
+/// and the answer is what stands at the cursor then.
+fn step(
+    alloc: Global,
+    font: &Font,
+    current: Piece,
+    next: Piece,
+    rest: &mut Vec<Piece>,
+    done: &mut Items,
+) -> Result<Piece, AllocError>
+    ensures { IfOk result (λ cursor. Moved font.now current next (reverse rest.old.items) done.old cursor (reverse rest.new.items) done.new) }
+{
+    match font.command(current.code(), next.code()) {
+        None => {
+            put(done, current)?;
+            Ok(next)
+        }
+        Some(command) if command.c >= 128 => {
+            put(done, current)?;
+            done.push(LigItem::Kern(font.kern(command)))?;
+            Ok(next)
+        }
+        Some(command) => carry_out(alloc, command, current, next, rest, done),
+    }
+}

@@ -1,0 +1,15 @@
+//! Composing the characters of a word by the ligature and kerning programs of their font (TeX: The Program, sections
+//! 545, 906 to 911 and 1034 to 1040). `specs/Composing.antt` says by five rules what a word becomes.
+//!
+//! Read `item`, then `piece`, `ligature`, `composing`.
+#![tactic(auto)]
+
+mod composing;
+pub mod item;
+mod ligature;
+mod piece;
+#[cfg(test)]
+mod tests;
+
+pub use composing::compose;
+pub use item::{Items, LigItem};

@@ -1,6 +1,0 @@
-use Rattle.std.proofs.Common.{◌≡◌, take}
-use Rattle.tx_main.specs.Boxes.{height_of}
-use Rattle.tx_main.proofs.pack.greatest_height.Given as goal
-
-abbrev pub invariant-loop-node : goal.invariant-loop-node
-invariant-loop-node l = l.most ≡ height_of (take l.node-index l.list)

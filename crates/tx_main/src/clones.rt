@@ -1,0 +1,110 @@
+//! Clones of the parts of a command that is being read. Each is the same as its source; its only error is want of memory.
+ghost use Rattle.std.specs.Prelude.{◌≡◌};
+
+use crate::keyword::Keyword;
+use crate::scans::{DimenPart, DimenScan, Factor, RulePart, RuleScan, SideScan, Stage};
+use std::alloc::AllocError;
+
+impl Clone for Factor {
+    ghost is_clone = { λ source copy. copy ≡ source };
+
+    fn clone(&self) -> Result<Self, AllocError> {
+        Ok(Factor {
+            whole: self.whole,
+            digits: self.digits.clone()?,
+        })
+    }
+}
+
+impl Clone for DimenPart {
+    ghost is_clone = { λ source copy. copy ≡ source };
+
+    fn clone(&self) -> Result<Self, AllocError> {
+        match self {
+            DimenPart::Signs => Ok(DimenPart::Signs),
+            DimenPart::Character => Ok(DimenPart::Character),
+            DimenPart::AfterCharacter(code) => Ok(DimenPart::AfterCharacter(*code)),
+            DimenPart::Whole(number) => Ok(DimenPart::Whole(*number)),
+            DimenPart::Fraction(factor) => Ok(DimenPart::Fraction(factor.clone()?)),
+            DimenPart::Unit(factor) => Ok(DimenPart::Unit(factor.clone()?)),
+            DimenPart::SecondLetter(factor, unit, letter) => Ok(DimenPart::SecondLetter(
+                factor.clone()?,
+                *unit,
+                *letter,
+            )),
+            DimenPart::AfterUnit(factor, unit) => Ok(DimenPart::AfterUnit(factor.clone()?, *unit)),
+        }
+    }
+}
+
+impl Clone for DimenScan {
+    ghost is_clone = { λ source copy. copy ≡ source };
+
+    fn clone(&self) -> Result<Self, AllocError> {
+        Ok(DimenScan {
+            negative: self.negative,
+            part: self.part.clone()?,
+        })
+    }
+}
+
+impl Clone for Keyword {
+    ghost is_clone = { λ source copy. copy ≡ source };
+
+    fn clone(&self) -> Result<Self, AllocError> {
+        Ok(Keyword {
+            side: self.side,
+            letters: self.letters.clone()?,
+        })
+    }
+}
+
+impl Clone for SideScan {
+    ghost is_clone = { λ source copy. copy ≡ source };
+
+    fn clone(&self) -> Result<Self, AllocError> {
+        match self {
+            SideScan::Spaces => Ok(SideScan::Spaces),
+            SideScan::Keyword(keyword) => Ok(SideScan::Keyword(keyword.clone()?)),
+        }
+    }
+}
+
+impl Clone for RulePart {
+    ghost is_clone = { λ source copy. copy ≡ source };
+
+    fn clone(&self) -> Result<Self, AllocError> {
+        match self {
+            RulePart::Side(scan) => Ok(RulePart::Side(scan.clone()?)),
+            RulePart::Size(side, scan) => Ok(RulePart::Size(*side, scan.clone()?)),
+        }
+    }
+}
+
+impl Clone for RuleScan {
+    ghost is_clone = { λ source copy. copy ≡ source };
+
+    fn clone(&self) -> Result<Self, AllocError> {
+        Ok(RuleScan {
+            rule: self.rule,
+            part: self.part.clone()?,
+        })
+    }
+}
+
+impl Clone for Stage {
+    ghost is_clone = { λ source copy. copy ≡ source };
+
+    fn clone(&self) -> Result<Self, AllocError> {
+        match self {
+            Stage::Start => Ok(Stage::Start),
+            Stage::CharacterCode(scan) => Ok(Stage::CharacterCode(*scan)),
+            Stage::Equals(code) => Ok(Stage::Equals(*code)),
+            Stage::Category(code, scan) => Ok(Stage::Category(*code, *scan)),
+            Stage::Kern(scan) => Ok(Stage::Kern(scan.clone()?)),
+            Stage::Vrule(scan) => Ok(Stage::Vrule(scan.clone()?)),
+            Stage::ShippedBox => Ok(Stage::ShippedBox),
+            Stage::BoxBegin(context) => Ok(Stage::BoxBegin(*context)),
+        }
+    }
+}

@@ -1,0 +1,82 @@
+//! Whether two states mean the same. What is cheap to compare is compared first.
+ghost use Rattle.std.specs.Prelude.{◌≡◌, ◌↔◌, IsTrue};
+ghost use Rattle.tx_main.specs.Meanings.{meaning_of, state_of};
+
+use crate::parts::{Due, Group, Phase};
+use crate::state::State;
+use tx_dvi::DateParameters;
+use tx_node::same_box;
+
+/// Whether the same work is due.
+fn same_due(one: &Due, other: &Due) -> bool
+    ensures { IsTrue result ↔ (one.now ≡ other.now) }
+{
+    match (one, other) {
+        (Due::Nothing, Due::Nothing) => true,
+        (Due::OpenMain(name), Due::OpenMain(other_name)) => {
+            name.as_slice() == other_name.as_slice()
+        }
+        (Due::MainAbsent, Due::MainAbsent) => true,
+        (Due::FileEnded, Due::FileEnded) => true,
+        (Due::MainClosed, Due::MainClosed) => true,
+        (Due::Ship(shipped), Due::Ship(other_shipped)) => same_box(shipped, other_shipped),
+        _ => false,
+    }
+}
+
+/// Whether two open groups are the same.
+pub fn same_group(one: &Group, other: &Group) -> bool
+    ensures { IsTrue result ↔ (one.now ≡ other.now) }
+{
+    match (one, other) {
+        (Group::Simple(codes), Group::Simple(other_codes)) => codes.same(other_codes),
+        (
+            Group::Boxed(context, codes, list, horizontal),
+            Group::Boxed(other_context, other_codes, other_list, other_horizontal),
+        ) => {
+            context == other_context
+                && horizontal == other_horizontal
+                && codes.same(other_codes)
+                && list.same(other_list)
+        }
+        _ => false,
+    }
+}
+
+/// Whether two dates are the same.
+fn same_date(one: DateParameters, other: DateParameters) -> bool
+    ensures { IsTrue result ↔ (one ≡ other) }
+{
+    one.year == other.year
+        && one.month == other.month
+        && one.day == other.day
+        && one.time == other.time
+}
+
+/// Whether two states mean the same, where both are ready or wait for the same.
+fn same_parts(one: &State, other: &State) -> bool
+    ensures { IsTrue result ↔ (state_of one.now ≡ state_of other.now) }
+{
+    same_due(&one.due, &other.due)
+        && one.line.same(&other.line)
+        && one.back.same(&other.back)
+        && one.scan.same(&other.scan)
+        && one.list.same(&other.list)
+        && one.groups.same(&other.groups)
+        && one.codes.same(&other.codes)
+        && same_date(one.date, other.date)
+}
+
+/// Whether two states mean the same; of one that is done for nothing else matters.
+pub fn same(one: &State, other: &State) -> bool
+    ensures { IsTrue result ↔ (meaning_of one.now ≡ meaning_of other.now) }
+{
+    match (one.phase, other.phase) {
+        (Phase::Running, Phase::Running) => same_parts(one, other),
+        (Phase::Waiting(kind), Phase::Waiting(other_kind)) => {
+            kind == other_kind && same_parts(one, other)
+        }
+        (Phase::Halted, Phase::Halted) => true,
+        _ => false,
+    }
+}

@@ -1,0 +1,11 @@
+use Rattle.std.proofs.Common.{◌≡◌, ◌<◌, ◌+◌, ◌^◌, drop}
+use Rattle.tx_node.specs.Nodes.{list_of}
+use Rattle.tx_node.specs.Items.{items_of}
+use Rattle.tx_node.specs.Counts.{count_of, ended}
+use Rattle.tx_node.proofs.measure.counted.Given as goal
+
+abbrev pub invariant-loop-node : goal.invariant-loop-node
+invariant-loop-node l = record {
+  counted : ended (l.sum + count_of (items_of (list_of (drop l.node-index l.list)))) ≡ ended (count_of (items_of (list_of l.list)));
+  within : l.sum < 2 ^ 64;
+}

@@ -1,0 +1,71 @@
+//! The natural sizes of a list, how deep its boxes nest, and how many nodes it holds.
+ghost use Rattle.std.specs.Prelude.{◌≡◌, ◌≤◌, pos};
+ghost use Rattle.tx_node.specs.Nodes.{list_of};
+ghost use Rattle.tx_node.specs.Items.{items_of};
+ghost use Rattle.tx_node.specs.Counts.{nesting_of, count_of, ended};
+ghost use Rattle.tx_node.specs.Packing.{sum_within, height_of, depth_of};
+
+use crate::node::Node;
+
+/// The largest dimension, in sp, either way.
+const MAX_DIMENSION: u64 = 1073741823;
+
+/// The widths together, None exactly where one of the partial sums is no dimension.
+pub fn natural_width(list: &[Node]) -> Option<i32>
+    ensures { result ≡ sum_within (pos 0) (list_of list.now) }
+{
+    let mut sum: i32 = 0;
+    for node in list {
+        let next = i64::from(sum) + i64::from(node.width());
+        if next.unsigned_abs() > MAX_DIMENSION {
+            return None;
+        }
+        sum = next as i32;
+    }
+    Some(sum)
+}
+
+/// The greatest height in the list, at least 0.
+pub fn greatest_height(list: &[Node]) -> i32
+    ensures { result ≡ height_of (list_of list.now) }
+{
+    let mut most = 0;
+    for node in list {
+        most = most.max(node.height());
+    }
+    most
+}
+
+/// The greatest depth in the list, at least 0.
+pub fn greatest_depth(list: &[Node]) -> i32
+    ensures { result ≡ depth_of (list_of list.now) }
+{
+    let mut most = 0;
+    for node in list {
+        most = most.max(node.depth());
+    }
+    most
+}
+
+/// How deep the boxes of a list nest: 0 where there is none, at most 500.
+pub fn deepest(list: &[Node]) -> u16
+    ensures value { result ≡ nesting_of (items_of (list_of list.now)) }
+    ensures most { result ≤ 500 }
+{
+    let mut most: u16 = 0;
+    for node in list {
+        most = most.max(node.nesting());
+    }
+    most
+}
+
+/// How many nodes there are, with all that they hold; counts end at 2^64-1.
+pub fn counted(list: &[Node]) -> u64
+    ensures { result ≡ ended (count_of (items_of (list_of list.now))) }
+{
+    let mut sum: u64 = 0;
+    for node in list {
+        sum = sum.saturating_add(node.count());
+    }
+    sum
+}

@@ -1,0 +1,131 @@
+//! The elements of a command, each read at the front of the bytes. Each answers what it read and the bytes after it.
+
+ghost use Rattle.std.specs.Prelude.{◌≡◌, ◌∷◌, [], length};
+ghost use Rattle.tx_script.specs.Reading.{Gives, literal_at, name_at, number_at, put_at, with_byte, word_at};
+
+use crate::error::{Broken, Fault, Rule};
+use std::alloc::Global;
+use tx_bytes::Bytes;
+use tx_files::Name;
+
+/// The word that begins a command.
+#[derive(Clone, Copy, Debug, PartialEq, Eq)]
+pub(crate) enum CommandWord {
+    Edit,
+    Save,
+}
+
+/// The greatest number that a script may hold.
+const GREATEST: u64 = 4_294_967_295;
+
+/// The bytes after a text that has to stand there.
+fn literal<'a>(bytes: &'a [u8], text: &[u8], rule: Rule) -> Result<&'a [u8], Fault>
+    ensures { Gives (λ rest. rest.now) result (literal_at rule text.now bytes.now) }
+{
+    let mut rest = bytes;
+    for wanted in text {
+        match rest {
+            [byte, after @ ..] => {
+                if *byte != *wanted {
+                    return Err(stop(rest, rule));
+                }
+                rest = after;
+            }
+            [] => return Err(stop(rest, rule)),
+        }
+    }
+    Ok(rest)
+}
+
+/// Reading ends before these bytes.
+fn stop(rest: &[u8], rule: Rule) -> Fault
+    ensures { result ≡ Fault.Broken (record { left = length rest.now; rule = rule }) }
+{
+    Fault::Broken(Broken {
+        left: rest.len(),
+        rule,
+    })
+}
+
+/// The word that begins a command, and a space.
+#[tactic(auto, unfolding(crate::specs::Reading::word_at))]
+pub(crate) fn word(bytes: &[u8]) -> Result<(CommandWord, &[u8]), Fault>
+    ensures { Gives (λ x. (x.0, x.1.now)) result (word_at bytes.now) }
+{
+    match bytes {
+        [b's', ..] => Ok((CommandWord::Save, literal(bytes, b"save ", Rule::Word)?)),
+        _ => Ok((CommandWord::Edit, literal(bytes, b"edit ", Rule::Word)?)),
+    }
+}
+
+/// A number of which one more byte has been read; None where no number goes on so.
+fn with_byte(number: Option<u64>, byte: u8) -> Option<u64>
+    ensures { result ≡ with_byte number byte }
+{
+    if !byte.is_ascii_digit() {
+        return None;
+    }
+    let digit = u64::from(byte - b'0');
+    match number {
+        None => Some(digit),
+        Some(value) if 0 < value && value <= (GREATEST - digit) / 10 => Some(10 * value + digit),
+        Some(_) => None,
+    }
+}
+
+/// A number and a space.
+pub(crate) fn number(bytes: &[u8]) -> Result<(u64, &[u8]), Fault>
+    ensures { Gives (λ x. (x.0, x.1.now)) result (number_at bytes.now) }
+{
+    let mut known = None;
+    for (at, byte) in bytes.iter().enumerate() {
+        if *byte == b' ' {
+            return match known {
+                Some(value) => Ok((value, &bytes[at + 1..])),
+                None => Err(stop(&bytes[at..], Rule::Number)),
+            };
+        }
+        match with_byte(known, *byte) {
+            Some(value) => known = Some(value),
+            None => return Err(stop(&bytes[at..], Rule::Number)),
+        }
+    }
+    Err(stop(&[], Rule::Number))
+}
+
+/// A name and LF.
+pub(crate) fn name(alloc: Global, bytes: &[u8]) -> Result<(Name, &[u8]), Fault>
+    ensures { Gives (λ x. (x.0, x.1.now)) result (name_at bytes.now) }
+{
+    for (at, byte) in bytes.iter().enumerate() {
+        if *byte == b'\n' {
+            return match Name::new(Bytes::from_slice(alloc, &bytes[..at])?) {
+                Some(name) => Ok((name, &bytes[at + 1..])),
+                None => Err(stop(&bytes[at..], Rule::Name)),
+            };
+        }
+        if at >= 255 || *byte < 33 || 126 < *byte {
+            return Err(stop(&bytes[at..], Rule::Name));
+        }
+    }
+    Err(stop(&[], Rule::Name))
+}
+
+/// So many bytes.
+#[tactic(auto, unfolding(crate::specs::Reading::put_at))]
+pub(crate) fn put(alloc: Global, size: u64, bytes: &[u8]) -> Result<(Bytes, &[u8]), Fault>
+    ensures { Gives (λ x. (x.0, x.1.now)) result (put_at size bytes.now) }
+{
+    if (bytes.len() as u64) < size {
+        return Err(stop(&[], Rule::Put));
+    }
+    let (put, rest) = bytes.split_at(size as usize);
+    Ok((Bytes::from_slice(alloc, put)?, rest))
+}
+
+/// LF.
+pub(crate) fn line_feed(bytes: &[u8]) -> Result<&[u8], Fault>
+    ensures { Gives (λ rest. rest.now) result (literal_at Rule.LineFeed (10 ∷ []) bytes.now) }
+{
+    literal(bytes, b"\n", Rule::LineFeed)
+}

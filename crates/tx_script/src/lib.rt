@@ -1,0 +1,16 @@
+//! Scripts of edits: lists of commands, each of which edits a file or saves what there is, read from their texts.
+//! `specs/Text.antt` says which bytes are the text of a script, and what the refusal of any others names.
+//!
+//! Read `command`, then `error`, `element`, `read`.
+#![tactic(auto)]
+
+pub mod command;
+mod element;
+pub mod error;
+mod read;
+#[cfg(test)]
+mod tests;
+
+pub use command::{Command, Script};
+pub use error::{Rule, ScriptError};
+pub use read::read_script;

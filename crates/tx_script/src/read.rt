@@ -1,0 +1,78 @@
+ghost use Rattle.std.specs.Prelude.{◌≡◌, IfOk, IfErr, List};
+ghost use Rattle.tx_script.specs.Reading.{Gives, command_at, edit_at};
+ghost use Rattle.tx_script.specs.Text.{IsTextOf};
+ghost use Rattle.tx_script.specs.Causes.{IsCause};
+ghost use Rattle.tx_script.specs.declared.command.Command.{Command};
+
+use crate::command::{Command, Script};
+use crate::element::{self, CommandWord};
+use crate::error::{Fault, ScriptError};
+use std::alloc::Global;
+use tx_files::Edit;
+
+/// An edit, after its word.
+#[tactic(auto, unfolding(crate::specs::Reading::edit_at))]
+fn edit(alloc: Global, bytes: &[u8]) -> Result<(Edit, &[u8]), Fault>
+    ensures { Gives (λ x. (x.0, x.1.now)) result (edit_at bytes.now) }
+{
+    let (place, rest) = element::number(bytes)?;
+    let (removed, rest) = element::number(rest)?;
+    let (size, rest) = element::number(rest)?;
+    let (name, rest) = element::name(alloc, rest)?;
+    let (put, rest) = element::put(alloc, size, rest)?;
+    let rest = element::line_feed(rest)?;
+    let edit = Edit {
+        name,
+        place,
+        removed,
+        put,
+    };
+    Ok((edit, rest))
+}
+
+/// A command, and the bytes after it.
+#[tactic(auto, unfolding(crate::specs::Reading::command_at))]
+fn command(alloc: Global, bytes: &[u8]) -> Result<(Command, &[u8]), Fault>
+    ensures { Gives (λ x. (x.0, x.1.now)) result (command_at bytes.now) }
+{
+    let (word, rest) = element::word(bytes)?;
+    match word {
+        CommandWord::Edit => {
+            let (edit, rest) = edit(alloc, rest)?;
+            Ok((Command::Edit(edit), rest))
+        }
+        CommandWord::Save => {
+            let (name, rest) = element::name(alloc, rest)?;
+            Ok((Command::Save(name), rest))
+        }
+    }
+}
+
+/// The script of which the bytes are the text.
+///
+/// `BadScript` comes exactly where they are no script's text. Its place is how many of them begin one, and its rule that
+/// of the element in which the next byte of every script that begins so stands.
+pub fn read_script(alloc: Global, bytes: &[u8]) -> Result<Script, ScriptError>
+    ensures read { IfOk result (λ script. IsTextOf bytes.now script) }
+    ensures only { IfOk result (λ script. (other : List Command) → IsTextOf bytes.now other → script ≡ other) }
+    ensures refused { IfErr result (λ e. IsCause bytes.now e) }
+{
+    let mut script = Script::new(alloc);
+    let mut rest = bytes;
+    while !rest.is_empty() {
+        match command(alloc, rest) {
+            Ok((command, after)) => {
+                script.push(command)?;
+                rest = after;
+            }
+            Err(Fault::Broken(broken)) => {
+                return Err(ScriptError::BadScript {
+                    place: (bytes.len() - broken.left) as u64,
+                    rule: broken.rule,
+                });
+            }
+            Err(Fault::OutOfMemory) => return Err(ScriptError::OutOfMemory),
+        }
+    }
+    Ok(script)
+}

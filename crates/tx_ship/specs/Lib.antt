@@ -1,0 +1,4 @@
+pub mod Commands
+pub mod Within
+pub mod Placing
+pub mod Pages

@@ -1,0 +1,57 @@
+-- What a box that is shipped brings to the DVI file (TeX: The Program, sections 638 to 644).
+use Rattle.std.specs.Prelude.{ℕ, Bool, ◌&&◌, nat_le, int_le, ℤ, pos, ◌+ℤ◌, ◌≤ℤ◌, unsigned_abs, List, length, Result, Ok, Err, if◌then◌else◌}
+use Rattle.std.specs.Int.{int_max}
+use Rattle.tx_dvi.specs.declared.page.DateParameters.{DateParameters}
+use Rattle.tx_dvi.specs.Page.{Page}
+use Rattle.tx_node.specs.Items.{HBox, items_of}
+use Rattle.tx_ship.specs.declared.params.ShipParams.{ShipParams}
+use Rattle.tx_ship.specs.declared.error.ShipError.{ShipError}
+use Rattle.tx_ship.specs.declared.error.ShipError.TheVariants.{SizeTooLarge, OutsidePage, BodyTooLong}
+use Rattle.tx_ship.specs.Commands.{body_of, level_of}
+use Rattle.tx_ship.specs.Within.{page_lies}
+
+-- sizes of a page end at 2^30-1
+abbrev pub fits : ℤ → Bool
+fits size = int_le size (pos 1073741823)
+
+-- how high and how wide a page is
+abbrev pub page_height : HBox → ShipParams → ℤ
+page_height b params = params.voffset +ℤ b.height +ℤ b.depth
+
+abbrev pub page_width : HBox → ShipParams → ℤ
+page_width b params = params.hoffset +ℤ b.width
+
+abbrev pub sizes_fit : HBox → ShipParams → Bool
+sizes_fit b params = (fits b.height && fits b.depth) && (fits (page_height b params) && fits (page_width b params))
+
+-- the date that the parameters are
+abbrev pub date_of : ShipParams → DateParameters
+date_of params = record { year = params.year; month = params.month; day = params.day; time = params.time }
+
+-- the page with these commands
+abbrev pub page_with : HBox → ShipParams → List ℕ → Page
+page_with b params body = record {
+  body = body;
+  counts = params.counts;
+  height = int_max (pos 0) (page_height b params);
+  width = int_max (pos 0) (page_width b params);
+  nesting = level_of (items_of b.list);
+  mag = unsigned_abs params.mag;
+  date = date_of params;
+}
+
+-- a body has at most 200,000 bytes
+abbrev pub page_of_body : HBox → ShipParams → List ℕ → Result Page ShipError
+page_of_body b params body = if nat_le (length body) 200000 then Ok (page_with b params body) else Err BodyTooLong
+
+-- the page of a box, or the first thing that keeps it from being one
+unfoldable pub page_of : HBox → ShipParams → Result Page ShipError
+page_of b params =
+    if sizes_fit b params
+    then (if page_lies b params.hoffset params.voffset then page_of_body b params (body_of b params.hoffset params.voffset) else Err OutsidePage)
+    else Err SizeTooLarge
+
+-- the range of \mag
+pub record IsMag (mag : ℤ) : Type 0 where
+  pub least : pos 1 ≤ℤ mag
+  pub most : mag ≤ℤ pos 32768

@@ -1,0 +1,21 @@
+//! A box that is shipped, as the body of a page of the DVI file (TeX: The Program, part 32). What the commands of the body
+//! mean to a DVI reader is proved to be what the box holds, at its places.
+//!
+//! Modules in reading order: `params`, `error`, `places`, `frames`, `within`, `level`, `commands`, `list`, `ship`.
+#![tactic(auto)]
+
+mod commands;
+mod error;
+mod frames;
+mod level;
+mod list;
+mod params;
+mod places;
+mod ship;
+#[cfg(test)]
+mod tests;
+mod within;
+
+pub use error::ShipError;
+pub use params::ShipParams;
+pub use ship::body;

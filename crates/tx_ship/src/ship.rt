@@ -1,0 +1,174 @@
+//! A box as a page.
+ghost use Rattle.std.specs.Prelude.{◌≡◌, ◌≢◌, ◌≤◌, ◌^◌, ◌+ℤ◌, pos, true, unsigned_abs, length, is_some, IfSome, IfOk, IfErr, Ok, Err, Some};
+ghost use Rattle.std.specs.Int.{int_max};
+ghost use Rattle.tx_dvi.specs.Meaning.{meaning};
+ghost use Rattle.tx_ship.specs.declared.error.ShipError.TheVariants.{OutOfMemory};
+ghost use Rattle.tx_ship.specs.Commands.{body_of};
+ghost use Rattle.tx_ship.specs.Within.{page_lies};
+ghost use Rattle.tx_ship.specs.Placing.{placed};
+ghost use Rattle.tx_ship.specs.Pages as spec;
+
+use crate::error::ShipError;
+use crate::frames::frame_of;
+use crate::level::list_level;
+use crate::list::put_list;
+use crate::params::ShipParams;
+use crate::places::Cursor;
+use crate::within::{box_lies, further};
+use std::alloc::{AllocError, Global};
+use tx_bytes::Bytes;
+use tx_dvi::{DateParameters, PageBody};
+use tx_node::BoxNode;
+
+/// The greatest size of a page, in sp.
+const GREATEST: i128 = 1073741823;
+
+/// The most bytes that the body of a page may have.
+const MAX_BODY: usize = 200000;
+
+/// A size of a page, at least 0, None exactly where it is too large.
+fn page_size(size: i128) -> Option<i32>
+    ensures fits { is_some result ≡ spec.fits size }
+    ensures value { IfSome result (λ kept. kept ≡ int_max (pos 0) size) }
+{
+    if size <= GREATEST {
+        Some(size.max(0) as i32)
+    } else {
+        None
+    }
+}
+
+/// How far down the baseline of the box of a page lies.
+fn page_base(node: &BoxNode, params: &ShipParams) -> i128
+    ensures value { result ≡ params.now.voffset +ℤ node.now.height }
+    ensures near { unsigned_abs result ≤ 2 ^ 65 }
+{
+    further(i128::from(params.voffset), node.height())
+}
+
+fn page_height(node: &BoxNode, params: &ShipParams) -> Option<i32>
+    ensures fits { is_some result ≡ spec.fits (spec.page_height node.now params.now) }
+    ensures value { IfSome result (λ kept. kept ≡ int_max (pos 0) (spec.page_height node.now params.now)) }
+{
+    page_size(further(page_base(node, params), node.depth()))
+}
+
+fn page_width(node: &BoxNode, params: &ShipParams) -> Option<i32>
+    ensures fits { is_some result ≡ spec.fits (spec.page_width node.now params.now) }
+    ensures value { IfSome result (λ kept. kept ≡ int_max (pos 0) (spec.page_width node.now params.now)) }
+{
+    page_size(further(i128::from(params.hoffset), node.width()))
+}
+
+/// The sizes of a page, each at least 0: its height, with its depth, and its width.
+#[derive(Clone, Copy, Debug)]
+struct PageSizes {
+    height: i32,
+    width: i32,
+}
+
+/// The sizes of a page, None exactly where one is too large.
+fn page_sizes(node: &BoxNode, params: &ShipParams) -> Option<PageSizes>
+    ensures fit { is_some result ≡ spec.sizes_fit node.now params.now }
+    ensures height { IfSome result (λ sizes. sizes.height ≡ int_max (pos 0) (spec.page_height node.now params.now)) }
+    ensures width { IfSome result (λ sizes. sizes.width ≡ int_max (pos 0) (spec.page_width node.now params.now)) }
+{
+    if i128::from(node.height()) > GREATEST || i128::from(node.depth()) > GREATEST {
+        return None;
+    }
+    let height = page_height(node, params)?;
+    let width = page_width(node, params)?;
+    Some(PageSizes { height, width })
+}
+
+/// Whether all lies on the page that a box holds.
+fn lies(node: &BoxNode, params: &ShipParams) -> bool
+    ensures { result ≡ page_lies node.now params.now.hoffset params.now.voffset }
+{
+    box_lies(node, page_base(node, params), i128::from(params.hoffset))
+}
+
+/// The commands of a page on which all lies that the box holds.
+fn page_commands(alloc: Global, node: &BoxNode, params: &ShipParams) -> Result<Vec<u8>, AllocError>
+    requires { page_lies node.now params.now.hoffset params.now.voffset ≡ true }
+    ensures { IfOk result (λ body. body.items ≡ body_of node.now params.now.hoffset params.now.voffset) }
+{
+    let mut body = Vec::new(alloc);
+    let frame = frame_of(node, page_base(node, params));
+    let cursor = Cursor {
+        at: i128::from(params.hoffset),
+        right: 0,
+        down: 0,
+    };
+    put_list(&mut body, node.list(), frame, cursor)?;
+    Ok(body)
+}
+
+/// The parameters of TeX that are a date.
+fn date_of(params: &ShipParams) -> DateParameters
+    ensures { result ≡ spec.date_of params.now }
+{
+    DateParameters {
+        year: params.year,
+        month: params.month,
+        day: params.day,
+        time: params.time,
+    }
+}
+
+/// \mag, which is in its range.
+fn mag_of(params: &ShipParams) -> u16
+    requires { spec.IsMag params.now.mag }
+    ensures value { result ≡ unsigned_abs params.now.mag }
+    ensures least { 1 ≤ result }
+    ensures most { result ≤ 32768 }
+{
+    let mag = params.mag;
+    mag as u16
+}
+
+/// The page with these sizes and commands.
+fn page_with(node: &BoxNode, params: &ShipParams, sizes: PageSizes, commands: Bytes) -> PageBody
+    requires mag { spec.IsMag params.now.mag }
+    requires height { sizes.height ≡ int_max (pos 0) (spec.page_height node.now params.now) }
+    requires width { sizes.width ≡ int_max (pos 0) (spec.page_width node.now params.now) }
+    requires short { length commands ≤ 200000 }
+    ensures { result ≡ spec.page_with node.now params.now commands }
+{
+    let most = node.nesting();
+    let nesting = list_level(node.list());
+    let within = nesting < most;
+    prove!(within);
+    PageBody {
+        body: commands,
+        counts: params.counts,
+        height: sizes.height,
+        width: sizes.width,
+        nesting,
+        mag: mag_of(params),
+        date: date_of(params),
+    }
+}
+
+/// The body of the page on which a box is shipped. `SizeTooLarge` comes exactly where its height or depth, its height plus
+/// its depth plus \voffset or its width plus \hoffset is past 2^30-1; else `OutsidePage` exactly where a rule or a box with
+/// a list lies, in whole or part, past 2^30-1 to a side; else `BodyTooLong` exactly where the body has more than 200,000
+/// bytes. The body's commands mean the rules of the box, at their places.
+pub fn body(alloc: Global, node: &BoxNode, params: &ShipParams) -> Result<PageBody, ShipError>
+    requires { spec.IsMag params.now.mag }
+    ensures page { IfOk result (λ page. spec.page_of node.now params.now ≡ Ok page) }
+    ensures error { IfErr result (λ e. e ≢ OutOfMemory → spec.page_of node.now params.now ≡ Err e) }
+    ensures meaning { IfOk result (λ page. meaning page.body ≡ Some (placed node.now params.now.hoffset params.now.voffset)) }
+{
+    let Some(sizes) = page_sizes(node, params) else {
+        return Err(ShipError::SizeTooLarge);
+    };
+    if !lies(node, params) {
+        return Err(ShipError::OutsidePage);
+    }
+    let commands = Bytes::from_vec(page_commands(alloc, node, params)?);
+    if commands.len() > MAX_BODY {
+        return Err(ShipError::BodyTooLong);
+    }
+    Ok(page_with(node, params, sizes, commands))
+}

@@ -1,0 +1,71 @@
+ghost use Rattle.std.specs.Prelude.{◌≡◌, ◌∷◌, ◌++◌, [], OnOk, OnErr};
+
+use std::alloc::{AllocError, Global};
+use std::marker::Model;
+use tx_files::Name;
+use tx_machine::{Date, Limits};
+
+/// Names of files, in order.
+#[derive(Debug, Drop)]
+pub struct Names {
+    items: Vec<Name>,
+}
+
+impl Model for Names {
+    ghost use Rattle.std.specs.Prelude.{List, ℕ};
+
+    ghost Value = { List (List ℕ) };
+
+    ghost view = { λ n. n.items.items };
+}
+
+impl Names {
+    /// No name; takes no memory.
+    pub fn new(alloc: Global) -> Names
+        ensures { result ≡ [] }
+    {
+        Names {
+            items: Vec::new(alloc),
+        }
+    }
+
+    /// The names, lent.
+    pub fn as_slice(&self) -> &[Name]
+        ensures { result.now ≡ self.now }
+    {
+        self.items.as_slice()
+    }
+
+    /// Adds a name at the end.
+    pub fn push(&mut self, name: Name) -> Result<(), AllocError>
+        ensures ok { OnOk result (self.new ≡ self.old ++ name ∷ []) }
+        ensures err { OnErr result (self.new ≡ self.old) }
+    {
+        self.items.push(name)?;
+        Ok(())
+    }
+}
+
+/// What `run` is given: the moment that the document sees, the limits, the name of the files that are saved, the name
+/// of the main file, and the names of all files that the run may read, the main one first.
+#[derive(Debug, Drop)]
+pub struct Given {
+    pub date: Date,
+    pub limits: Limits,
+    pub out: Name,
+    pub main: Name,
+    pub files: Names,
+}
+
+/// What the words of a call ask for.
+#[derive(Debug, Drop)]
+pub enum Asked {
+    /// A run.
+    Run(Given),
+    /// The text that says how to call.
+    Help,
+    /// The version.
+    Version,
+    /// Nothing that there is: the words are refused.
+    Nothing,
+}
