@@ -19,7 +19,7 @@ use Rattle.tx_ligkern.specs.declared.item.LigItem.TheVariants.{Kern}
 use Rattle.tx_ligkern.specs.declared.piece.Piece.{Piece}
 use Rattle.tx_ligkern.specs.declared.piece.Piece.TheVariants.{Boundary, Char}
 use Rattle.tx_ligkern.specs.Pieces.{code_of, items_of, word_of}
-use Rattle.tx_ligkern.specs.Composing.{ahead, passed, Becomes, Last, Apart, Kerned, Joined}
+use Rattle.tx_ligkern.specs.Composing.{ahead, passed, AllWordsEnd, Becomes, Empty, Last, Apart, Kerned, Joined}
 use Rattle.tx_ligkern.specs.Steps.{finished, most_commands, onward, Carried, Ends, Moved}
 use Rattle.tx_ligkern.proofs.Rewritten.{length-ahead-le, map-ahead}
 use Rattle.tx_ligkern.proofs.Runs.{AllThere, command-is_ligature, ends_more, kern-is_no_ligature, none-is_no_ligature, word_ends}
@@ -211,3 +211,59 @@ first_taken pieces backwards popped x e h = sym (reverse-reverse pieces) ∙ rev
 
 pub nothing_taken : (pieces backwards : List Piece) → backwards ≡ reverse pieces → backwards ≡ [] → pieces ≡ []
 nothing_taken pieces backwards e h = sym (reverse-reverse pieces) ∙ ap reverse (sym e ∙ h)
+
+-- what is known with one command less
+Prior : Metrics → ℕ → Type 0
+Prior m zero = Unit {0}
+Prior m (suc n) = (pieces : List Piece) → ends_within m.file n (map code_of pieces) ≡ true → (items : List LigItem) × Becomes m pieces items
+
+becomes-next : (m : Metrics) (n : ℕ) → Prior m n → (pieces : List Piece) → ends_within m.file n (map code_of pieces) ≡ true → (items : List LigItem) × Becomes m pieces items
+unfolding Prior
+becomes-next m n prior [] e = ([], Empty)
+becomes-next m n prior (piece ∷ []) e = (items_of piece, Last piece)
+becomes-next m n prior (current ∷ next ∷ rest) e =
+    by (λ none. becomes-next m n prior (next ∷ rest) (sym (ends_within-pass m.file n (code_of current) (code_of next) (map code_of rest) none) ∙ e))
+    (command_of m.file (code_of current) (code_of next)) refl
+  where
+    joined : (k : ℕ) → Prior m k → (w : Word) → command_of m.file (code_of current) (code_of next) ≡ Some w → w.c < 128
+        → ends_within m.file k (map code_of (current ∷ next ∷ rest)) ≡ true → (items : List LigItem) × Becomes m (current ∷ next ∷ rest) items
+    joined zero prior w is small e =
+        absurd (true≢false (sym e ∙ ends_within-spent m.file (code_of current) (code_of next) (map code_of rest) w (command-is_ligature m.file (code_of current) (code_of next) w is small)))
+    joined (suc k) prior w is small e =
+        let less : suc k - 1 ≡ k = omega arith in
+        let after : ends_within m.file k (map code_of (ahead w current next rest)) ≡ true =
+        ap (λ (l : List (Option ℕ)). ends_within m.file k l) (map-ahead w current next rest)
+        ∙ sym (ends_within-command m.file (suc k) (code_of current) (code_of next) (map code_of rest) w (omega arith) (command-is_ligature m.file (code_of current) (code_of next) w is small)
+        ∙ ap (λ (j : ℕ). ends_within m.file j (rewritten w (code_of current) (code_of next) (map code_of rest))) less)
+        ∙ e in
+        let found = prior (ahead w current next rest) after in
+        (passed w current next ++ found.0, Joined current next rest found.0 w is small found.1)
+
+    sized : (ligature_of m.file (code_of current) (code_of next) ≡ None → (items : List LigItem) × Becomes m (next ∷ rest) items)
+        → (w : Word) → command_of m.file (code_of current) (code_of next) ≡ Some w → (b : Bool) → ltb w.c 128 ≡ b → (items : List LigItem) × Becomes m (current ∷ next ∷ rest) items
+    sized others w is true small = joined n prior w is (ltb-true w.c 128 small) e
+    sized others w is false great =
+        let found = others (kern-is_no_ligature m.file (code_of current) (code_of next) w is (ltb-false w.c 128 great)) in
+        (items_of current ++ Kern (kern_of m w) ∷ found.0, Kerned current next rest found.0 w is (ltb-false w.c 128 great) found.1)
+
+    by : (ligature_of m.file (code_of current) (code_of next) ≡ None → (items : List LigItem) × Becomes m (next ∷ rest) items)
+        → (o : Option Word) → command_of m.file (code_of current) (code_of next) ≡ o → (items : List LigItem) × Becomes m (current ∷ next ∷ rest) items
+    by others None is =
+        let found = others (none-is_no_ligature m.file (code_of current) (code_of next) is) in
+        (items_of current ++ found.0, Apart current next rest found.0 is found.1)
+    by others (Some w) is = sized others w is (ltb w.c 128) refl
+
+becomes-some : (m : Metrics) (n : ℕ) (pieces : List Piece) → ends_within m.file n (map code_of pieces) ≡ true → (items : List LigItem) × Becomes m pieces items
+unfolding Prior
+becomes-some m zero = becomes-next m zero tt
+becomes-some m (suc n) = becomes-next m (suc n) (becomes-some m n)
+
+-- each word of characters that are there becomes something
+pub words_end : (m : Metrics) → IsSound m → AllWordsEnd m
+words_end m sound chars left right all = by (word_of chars left right) refl
+  where
+    by : (word : List Piece) → word_of chars left right ≡ word → (items : List LigItem) × Becomes m (word_of chars left right) items
+    by [] e = ([], subst (λ (w : List Piece). Becomes m w []) (sym e) Empty)
+    by (current ∷ rest) e =
+        let found = becomes-some m (most_commands (current ∷ rest)) (current ∷ rest) (word-ends m current rest chars left right sound all e) in
+        (found.0, subst (λ (w : List Piece). Becomes m w found.0) (sym e) found.1)

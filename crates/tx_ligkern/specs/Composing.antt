@@ -1,9 +1,10 @@
 -- Composing a word (TeX: The Program, section 545): its pieces from the cursor on, and what becomes of them. The cursor
 -- begins at the first piece, and moves to the right past what is finished.
-use Rattle.std.specs.Prelude.{◌≡◌, ℕ, ◌<◌, ◌≤◌, ◌/◌, ◌%◌, ◌==◌, Bool, if◌then◌else◌, Some, None, List, [], ◌∷◌, ◌++◌, take, drop}
+use Rattle.std.specs.Prelude.{◌≡◌, ℕ, ◌<◌, ◌≤◌, ◌/◌, ◌%◌, ◌==◌, Bool, if◌then◌else◌, Some, None, List, [], ◌∷◌, ◌++◌, take, drop, All, IsTrue}
 use Rattle.std.specs.List.{flat_map}
 use Rattle.tx_tfm.specs.declared.file.Word.{Word}
 use Rattle.tx_tfm.specs.declared.metrics.Metrics.{Metrics}
+use Rattle.tx_tfm.specs.Format.{is_there}
 use Rattle.tx_tfm.specs.LigKern.{command_of}
 use Rattle.tx_tfm.specs.Metrics.{kern_of}
 use Rattle.tx_tfm.specs.Rewriting.{kind_of}
@@ -11,7 +12,7 @@ use Rattle.tx_ligkern.specs.declared.item.LigItem.{LigItem}
 use Rattle.tx_ligkern.specs.declared.item.LigItem.TheVariants.{Kern}
 use Rattle.tx_ligkern.specs.declared.piece.Piece.{Piece}
 use Rattle.tx_ligkern.specs.declared.piece.Piece.TheVariants.{Ligature}
-use Rattle.tx_ligkern.specs.Pieces.{code_of, items_of, originals}
+use Rattle.tx_ligkern.specs.Pieces.{code_of, items_of, originals, word_of}
 
 -- whether a ligature command keeps the piece at the cursor, and the one after it
 abbrev pub keeps_current : Word → Bool
@@ -55,3 +56,7 @@ pub data Becomes (m : Metrics) : List Piece → List LigItem → Type 0 where
   Joined : (current next : Piece) (rest : List Piece) (items : List LigItem) (w : Word)
       → command_of m.file (code_of current) (code_of next) ≡ Some w → w.c < 128 → Becomes m (ahead w current next rest) items
       → Becomes m (current ∷ next ∷ rest) (passed w current next ++ items)
+
+-- each word of characters that the font has becomes something, whichever of its boundaries count
+abbrev pub AllWordsEnd : Metrics → Type 0
+AllWordsEnd m = (chars : List ℕ) (left right : Bool) → All (λ c. IsTrue (is_there m.file c)) chars → (items : List LigItem) × Becomes m (word_of chars left right) items

@@ -1,6 +1,6 @@
 ghost use Rattle.std.specs.Prelude.{◌≡◌, ◌∷◌, List, reverse, All, IsTrue, IfOk};
 ghost use Rattle.tx_tfm.specs.Format.{is_there};
-ghost use Rattle.tx_ligkern.specs.Composing.{Becomes};
+ghost use Rattle.tx_ligkern.specs.Composing.{AllWordsEnd, Becomes};
 ghost use Rattle.tx_ligkern.specs.Pieces.{word_of};
 ghost use Rattle.tx_ligkern.specs.Steps.{Ends, Moved};
 ghost use Rattle.tx_ligkern.specs.declared.item.LigItem.{LigItem};
@@ -32,6 +32,13 @@ pub fn compose(
         None => Ok(Items::new(alloc)),
         Some(first) => run(alloc, font, first, rest),
     }
+}
+
+/// What holds of every font: each word of its characters becomes something, so composing it ends.
+pub fn every_word_ends(font: &Font)
+    ensures { AllWordsEnd font.now }
+{
+    font.is_sound();
 }
 
 /// What becomes of pieces, of which all but the first stand in `rest`, the last one first.

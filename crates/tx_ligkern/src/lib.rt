@@ -11,5 +11,5 @@ mod piece;
 #[cfg(test)]
 mod tests;
 
-pub use composing::compose;
+pub use composing::{compose, every_word_ends};
 pub use item::{Items, LigItem};

@@ -3,7 +3,7 @@
 ghost use Rattle.std.specs.Prelude.{◌↔◌, All, IsTrue};
 ghost use Rattle.tx_tfm.specs.Format.{is_there};
 
-use crate::composing::compose;
+use crate::composing::{compose, every_word_ends};
 use crate::item::{Items, LigItem};
 use std::alloc::{AllocError, Global};
 use std::test::Fail;
@@ -129,6 +129,7 @@ fn composed(
 #[test]
 fn a_pair_of_characters_gets_its_kern(rt: HostRuntime) -> Result<(), Fail> {
     let font = Font::read(rt.alloc(), SMALL.as_slice(), Size::Design)?;
+    every_word_ends(&font);
     for (word, text) in [("aa", "a+a"), ("ab", "ab"), ("baab", "ba+ab"), ("", "")] {
         assert_eq!(rt;
             composed(rt.alloc(), &font, word.as_bytes(), true, true)?.as_slice(),
