@@ -26,6 +26,8 @@ mod scans;
 mod share;
 mod stage;
 mod state;
+#[cfg(test)]
+mod state_tests;
 mod token_list;
 mod tokens;
 mod turn;

@@ -7,6 +7,10 @@
 #![tactic(auto)]
 
 mod arguments;
+#[cfg(test)]
+mod case_tests;
+#[cfg(test)]
+mod cases;
 mod command;
 mod fetching;
 mod given;
