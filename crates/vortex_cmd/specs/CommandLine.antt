@@ -1,5 +1,5 @@
 -- The command line of `vortex`, as the parser `clap` is told of it:
--- `vortex run --date Y-M-D-T --out NAME [--budget N] [--pages N] [--keep N] FILE..`, `--help` and `--version`.
+-- `vortex run --date Y-M-D-T --out NAME [--script EDITS] [--budget N] [--pages N] [--keep N] FILE..`, `--help` and `--version`.
 use Rattle.std.specs.Prelude.{List, ℕ, true, codes, Option, Some}
 use Rattle.clap.specs.Words.{App, Rule, Row, Shape, Kinds, fault_of, new_app, new_rule, subcommand_of, with_rule, with_subcommand}
 use Rattle.clap.specs.Simple.{on_top}
@@ -18,8 +18,8 @@ abbrev pub files_rule : Rule
 files_rule = record (new_rule (codes "file")) { required = true; action = Some Append }
 
 abbrev pub with_options : App → App
-with_options app = with_rule (with_rule (with_rule (with_rule (with_rule app
-    (required_rule (codes "date"))) (required_rule (codes "out")))
+with_options app = with_rule (with_rule (with_rule (with_rule (with_rule (with_rule app
+    (required_rule (codes "date"))) (required_rule (codes "out"))) (option_rule (codes "script")))
     (option_rule (codes "budget"))) (option_rule (codes "pages"))) (option_rule (codes "keep"))
 
 abbrev pub run_command : App

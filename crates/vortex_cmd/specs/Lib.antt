@@ -2,6 +2,10 @@ pub mod CommandLine
 pub mod Values
 pub mod Words
 pub mod Lines
+pub mod Scripts
+pub mod Pieces
+pub mod Replay
+pub mod Tally
 pub mod Outcome
 pub mod Fetching
 pub mod Trouble

@@ -1,6 +1,9 @@
 -- What is said of a run.
 use Rattle.std.specs.Prelude.{ℕ, List, [], ◌++◌, codes, Option, Some, None}
 use Rattle.std.specs.Fmt.{decimal}
+use Rattle.tx_script.specs.Numbers.{number_of}
+use Rattle.tx_script.specs.declared.error.Rule.{Rule}
+use Rattle.tx_session.specs.declared.report.Report.{Report}
 use Rattle.tx_machine.specs.declared.types.End.{End as RunEnd}
 use Rattle.tx_machine.specs.declared.types.End.TheVariants.{End, Error, Budget, PageLimit}
 
@@ -20,9 +23,33 @@ end_text PageLimit = codes "page limit"
 unfoldable pub run_line : ℕ → RunEnd → List ℕ
 run_line pages end = codes "run: " ++ decimal pages ++ codes " pages, " ++ end_text end ++ codes "\n"
 
+-- what the line of each edit begins with: its number among the edits, counted from 1
+abbrev pub edit_text : ℕ → List ℕ
+edit_text number = codes "edit " ++ decimal number ++ codes ": "
+
+-- the pages of an edit that was made, and where they come from
+abbrev pub report_text : Report → List ℕ
+report_text report =
+    decimal report.pages ++ codes " pages, resumed " ++ decimal report.resumed ++ codes ", formatted "
+    ++ decimal report.formatted ++ codes ", reused " ++ decimal report.reused
+
+-- the lines of an edit that was made, of one that goes past the end of its file, and of one that memory refused
+unfoldable pub edit_line : ℕ → Report → RunEnd → List ℕ
+edit_line number report end = edit_text number ++ report_text report ++ codes ", " ++ end_text end ++ codes "\n"
+
+unfoldable pub outside_line : ℕ → ℕ → List ℕ
+outside_line number len = edit_text number ++ codes "outside, file has " ++ decimal len ++ codes " bytes\n"
+
+unfoldable pub memory_line : ℕ → List ℕ
+memory_line number = edit_text number ++ codes "memory\n"
+
 -- the line where the words aren't those of a call
 abbrev pub refusal_line : List ℕ
 refusal_line = codes "words refused\n"
+
+-- the line where the file that they name as the script isn't one
+unfoldable pub script_refusal_line : ℕ → Rule → List ℕ
+script_refusal_line place rule = codes "script refused at " ++ decimal place ++ codes ", rule " ++ decimal (number_of rule) ++ codes "\n"
 
 -- what --version says
 abbrev pub version_line : List ℕ
@@ -30,4 +57,4 @@ version_line = codes "vortex 0.1.0\n"
 
 -- what --help says
 unfoldable pub help_text : List ℕ
-help_text = codes "vortex: TeX, written as DVI.\n\nUsage: vortex run --date Y-M-D-T --out NAME [OPTIONS] MAIN [FILE..]\n\nRuns TeX on MAIN, which may read the FILEs, and saves NAME.dvi and NAME.log.\n\n  --date Y-M-D-T  the date that TeX sees, T in minutes since midnight\n  --out NAME      the name of what is saved\n  --budget N      what a page may cost, 1 to 1000000000 (1000000)\n  --pages N       the most pages, 1 to 10000 (1000)\n  --keep N        the most states that are kept, 1 to 10000 (10000)\n  -h, --help      says this\n  -V, --version   says the version\n"
+help_text = codes "vortex: TeX, written as DVI.\n\nUsage: vortex run --date Y-M-D-T --out NAME [OPTIONS] MAIN [FILE..]\n\nRuns TeX on MAIN, which may read the FILEs, and saves NAME.dvi and NAME.log.\n\n  --date Y-M-D-T  the date that TeX sees, T in minutes since midnight\n  --out NAME      the name of what is saved\n  --script EDITS  a file of edits to make, and of saves between them\n  --budget N      what a page may cost, 1 to 1000000000 (1000000)\n  --pages N       the most pages, 1 to 10000 (1000)\n  --keep N        the most states that are kept, 1 to 10000 (10000)\n  -h, --help      says this\n  -V, --version   says the version\n"

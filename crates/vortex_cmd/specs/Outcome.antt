@@ -1,70 +1,57 @@
 -- What a call puts out, and how it ends.
-use Rattle.std.specs.Prelude.{◌≡◌, ℕ, ◌+◌, ◌*◌, ◌≤◌, ◌<◌, List, [], ◌∷◌, ◌++◌, length, codes, Option, Some, None, IfSome}
+use Rattle.std.specs.Prelude.{◌≡◌, ℕ, ◌+◌, ◌*◌, ◌≤◌, ◌<◌, ◌⊎◌, List, [], ◌∷◌, ◌++◌, length, Option, Some, None, option_map, IfSome}
 use Rattle.std.specs.FinMap.{empty, insert}
 use Rattle.tx_bytes.specs.Files.{Files, content}
-use Rattle.tx_io.specs.Output.{Output, Piece, Say, Save, told}
+use Rattle.tx_io.specs.Output.{Output, Piece, Say, told}
 use Rattle.tx_io.specs.Cut.{IsCutShort}
-use Rattle.tx_dvi.specs.Page.{Page}
-use Rattle.tx_dvi.specs.Dvi.{dvi}
 use Rattle.tx_machine.specs.declared.types.Ran.{Ran}
-use Rattle.tx_machine.specs.declared.types.End.{End as RunEnd}
-use Rattle.tx_machine.specs.declared.types.End.TheVariants.{End, Error, Budget, PageLimit}
 use Rattle.tx_machine.specs.Machine.{Formatter}
-use Rattle.tx_machine.specs.Run.{Counted, run}
 use Rattle.tx_machine.specs.Steps.{raised}
+use Rattle.tx_script.specs.declared.command.Command.{Command}
+use Rattle.tx_script.specs.declared.command.Command.TheVariants.{Edit, Save as SaveAs}
+use Rattle.tx_session.specs.Held.{Held, fresh}
 use Rattle.vortex_cmd.specs.declared.given.Given.{Given}
 use Rattle.vortex_cmd.specs.declared.given.Asked.{Asked}
 use Rattle.vortex_cmd.specs.declared.given.Asked.TheVariants.{Run, Help, Version, Nothing}
+use Rattle.vortex_cmd.specs.declared.scripted.Scripted.{Scripted}
+use Rattle.vortex_cmd.specs.declared.scripted.Scripted.TheVariants.{Plays, Refused}
 use Rattle.vortex_cmd.specs.Words.{words_meant}
-use Rattle.vortex_cmd.specs.Lines.{run_line, help_text, version_line, refusal_line}
+use Rattle.vortex_cmd.specs.Lines.{run_line, help_text, version_line, refusal_line, script_refusal_line}
+use Rattle.vortex_cmd.specs.Pieces.{saved_pieces}
+use Rattle.vortex_cmd.specs.Replay.{Moment, opened, moment_after, pieces_from, turns_from, refusal_at, status_after, IsRefused}
 
--- the pieces of the transcript, joined, and what follows the last of them
-abbrev pub transcript : List (List ℕ) → List ℕ → List ℕ
-transcript [] last = last
-transcript (piece ∷ pieces) last = piece ++ transcript pieces last
-
--- the pages as a DVI file, if there is one
-abbrev pub dvi_pieces : List ℕ → List Page → List Piece
-dvi_pieces out [] = []
-dvi_pieces out (first ∷ others) = Save (out ++ codes ".dvi") (dvi (first ∷ others)) ∷ []
-
-abbrev pub log_pieces : List ℕ → Ran → List Piece
-log_pieces out ran = Save (out ++ codes ".log") (transcript ran.pieces ran.last) ∷ []
-
--- what is put out of a run: its line, its pages, its transcript
-abbrev pub run_pieces : List ℕ → Ran → List Piece
-run_pieces out ran = Say (run_line (length ran.pages) ran.end) ∷ dvi_pieces out ran.pages ++ log_pieces out ran
-
--- the status after a run: whether it ended by the end of its text
-abbrev pub status_of : RunEnd → ℕ
-status_of End = 0
-status_of (Error code name line) = 1
-status_of Budget = 1
-status_of PageLimit = 1
-
--- what a call does: the pieces that it puts out, its status, the turns that it takes, and how many they may be
+-- what a call does: the pieces that it puts out, its status, the turns that it takes, and what it puts out where memory
+-- refuses one of its edits
 pub record Outcome : Type 0 where
   pub pieces : List Piece
   pub status : ℕ
   pub turns : ℕ
-  pub most : ℕ
+  pub refusal : ℕ → Option (List Piece)
 
 -- a call that runs nothing says one text
 abbrev pub saying : List ℕ → ℕ → Outcome
-saying text status = record { pieces = Say text ∷ []; status = status; turns = 0; most = 0 }
+saying text status = record { pieces = Say text ∷ []; status = status; turns = 0; refusal = λ made. None }
 
--- a page takes no more turns than its budget, nor does what follows the last page
-abbrev pub outcome_of : List ℕ → ℕ → Counted → Outcome
-outcome_of out budget counted = record {
-  pieces = run_pieces out counted.ran;
-  status = status_of counted.ran.end;
-  turns = counted.turns;
-  most = (length counted.ran.pages + 1) * budget;
-}
+-- the line of a session's opening, the commands, and what there is at last
+abbrev pub first_piece : Ran → Piece
+first_piece ran = Say (run_line (length ran.pages) ran.end)
 
--- the fresh run of the main file on these files
-abbrev pub run_outcome : {S : Type 0} → Formatter S → Given → Files → Outcome
-run_outcome m given files = outcome_of given.out given.limits.budget (run m files given.main given.date given.limits)
+abbrev pub session_outcome : {S : Type 0} → Formatter S → List ℕ → Held → List Command → Outcome
+session_outcome m out held commands =
+    let last : Moment = moment_after (opened held) commands in
+    record {
+      pieces = first_piece (fresh m held).ran ∷ pieces_from m (opened held) commands ++ saved_pieces out (fresh m last.held).ran;
+      status = status_after (fresh m last.held).ran.end last.outside;
+      turns = (fresh m held).turns + turns_from m (opened held) commands;
+      refusal = λ made. option_map (λ pieces. first_piece (fresh m held).ran ∷ pieces) (refusal_at m out (opened held) commands made);
+    }
+
+-- the document of a run on these files
+abbrev pub document : Given → Files → Held
+document given files = record { files = files; main = given.main; date = given.date; limits = given.limits }
+
+abbrev pub run_outcome : {S : Type 0} → Formatter S → Given → Files → List Command → Outcome
+run_outcome m given files commands = session_outcome m given.out (document given files) commands
 
 -- these files, and the one of this name, if there is one
 abbrev pub with_file : Files → List ℕ → Option (List ℕ) → Files
@@ -76,21 +63,34 @@ abbrev pub with_listed : Files → Files → List (List ℕ) → Files
 with_listed held files [] = files
 with_listed held files (name ∷ names) = with_listed held (with_file files name (content held name)) names
 
--- a run has, of the files that the source holds, those that the words list
-abbrev pub asked_outcome : {S : Type 0} → Formatter S → Asked → Files → Outcome
-asked_outcome m (Run given) held = run_outcome m given (with_listed held empty given.files)
-asked_outcome m Help held = saying help_text 0
-asked_outcome m Version held = saying version_line 0
-asked_outcome m Nothing held = saying refusal_line 2
+-- a run has, of the files that the source holds, those that the words list; it makes the commands of its script
+abbrev pub scripted_outcome : {S : Type 0} → Formatter S → Given → Scripted → Files → Outcome
+scripted_outcome m given (Plays commands) held = run_outcome m given (with_listed held empty given.files) commands
+scripted_outcome m given (Refused place rule) held = saying (script_refusal_line place rule) 2
 
--- what the call of these words does, where the source holds these files
-abbrev pub outcome : {S : Type 0} → Formatter S → List (List ℕ) → Files → Outcome
-outcome m words held = asked_outcome m (words_meant words) held
+abbrev pub asked_outcome : {S : Type 0} → Formatter S → Asked → Scripted → Files → Outcome
+asked_outcome m (Run given) scripted held = scripted_outcome m given scripted held
+asked_outcome m Help scripted held = saying help_text 0
+asked_outcome m Version scripted held = saying version_line 0
+asked_outcome m Nothing scripted held = saying refusal_line 2
 
--- how many turns a call may take, whatever the files say
-abbrev pub most_turns : Asked → ℕ
-most_turns (Run given) = (given.limits.pages + 1) * given.limits.budget
-most_turns _ = 0
+-- what the call of these words does, where this is read of its script, and the source holds these files
+abbrev pub outcome : {S : Type 0} → Formatter S → List (List ℕ) → Scripted → Files → Outcome
+outcome m words scripted held = asked_outcome m (words_meant words) scripted held
+
+-- how many turns edits may take, each no more than so many
+abbrev pub most_of_edits : ℕ → List Command → ℕ
+most_of_edits each [] = 0
+most_of_edits each (Edit e ∷ commands) = each + most_of_edits each commands
+most_of_edits each (SaveAs name ∷ commands) = most_of_edits each commands
+
+-- how many turns a call may take, whatever the files say: the opening and each edit the budget of each page, and of what
+-- follows the last one
+abbrev pub most_turns : Asked → Scripted → ℕ
+most_turns (Run given) (Plays commands) =
+    let each = (given.limits.pages + 1) * given.limits.budget in
+    each + most_of_edits each commands
+most_turns _ _ = 0
 
 -- some files, which are the source's if it tells what it holds, are so
 pub record ForHeld (holds : Option Files) (IsSo : Files → Type 0) : Type 0 where
@@ -104,9 +104,9 @@ pub record IsDone (outcome : Outcome) (status : ℕ) (before after : Option Outp
   pub output_is : after ≡ told before outcome.pieces
   pub steps_are : steps' ≡ raised steps outcome.turns
 
--- what a call leaves: all is done below status 3, and whatever the status, only the first pieces were put out, the last
--- of them perhaps in part, and the turns are bounded
+-- what a call leaves: at status 0, 1, 2 and 5 all is done, and whatever the status, only the first pieces were put out, the
+-- last of them perhaps in part, unless memory refused an edit; and no more turns were taken
 pub record Leaves (outcome : Outcome) (status : ℕ) (before after : Option Output) (steps steps' : ℕ) : Type 0 where
-  pub done : status < 3 → IsDone outcome status before after steps steps'
-  pub cut : IsCutShort before outcome.pieces after
-  pub bound : steps' ≤ steps + outcome.most
+  pub done : (status < 3) ⊎ (status ≡ 5) → IsDone outcome status before after steps steps'
+  pub cut : IsCutShort before outcome.pieces after ⊎ ((status ≡ 6) × IsRefused outcome.refusal before after)
+  pub most : steps' ≤ raised steps outcome.turns

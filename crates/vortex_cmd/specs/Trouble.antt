@@ -1,10 +1,14 @@
 -- What a part of a call leaves where it met trouble, and where it didn't.
-use Rattle.std.specs.Prelude.{◌≡◌, ℕ, ◌+◌, ◌≤◌, List, Option, Result, Ok, Err}
+use Rattle.std.specs.Prelude.{◌≡◌, ℕ, ◌≤◌, List, Option, Result, Ok, Err}
 use Rattle.tx_io.specs.Output.{Output, Piece, told}
 use Rattle.tx_io.specs.Cut.{IsCutShort}
 use Rattle.tx_io.specs.Faults.{CountsFault}
 use Rattle.vortex_cmd.specs.declared.trouble.Trouble.{Trouble}
 use Rattle.vortex_cmd.specs.declared.trouble.Trouble.TheVariants.{Memory, Source, Sink}
+use Rattle.tx_machine.specs.Steps.{raised}
+use Rattle.vortex_cmd.specs.declared.trouble.Interruption.{Interruption}
+use Rattle.vortex_cmd.specs.declared.trouble.Interruption.TheVariants.{Trouble as Interrupted, RefusedEdit}
+use Rattle.vortex_cmd.specs.Replay.{IsRefused}
 use Rattle.vortex_cmd.specs.Outcome.{Outcome, IsDone}
 
 -- all pieces were put out, or the first of them
@@ -33,11 +37,24 @@ SinkCauses (Err Memory) before now = now ≡ before
 SinkCauses (Err Source) before now = ⊥
 SinkCauses (Err Sink) before now = CountsFault before now
 
--- what was done by the answer
-abbrev pub Ends : Result ℕ Trouble → Outcome → Option Output → Option Output → ℕ → ℕ → Type 0
-Ends (Ok status) outcome before after steps steps' = IsDone outcome status before after steps steps'
-Ends (Err trouble) outcome before after steps steps' = IsCutShort before outcome.pieces after
+-- a part that edits: where memory refuses an edit, what is told of it may meet a fault of the sink
+abbrev pub EditCauses : {T : Type 0} → Result T Interruption → ℕ → ℕ → Type 0
+EditCauses (Ok value) before now = now ≡ before
+EditCauses {T} (Err (Interrupted trouble)) before now = SinkCauses {T = T} (Err trouble) before now
+EditCauses (Err RefusedEdit) before now = before ≤ now
 
-pub record Does (result : Result ℕ Trouble) (outcome : Outcome) (before after : Option Output) (steps steps' : ℕ) : Type 0 where
+-- and a part that has a source besides
+abbrev pub AllCauses : {T : Type 0} → Result T Interruption → ℕ → ℕ → ℕ → ℕ → Type 0
+AllCauses (Ok value) source source' sink sink' = (source' ≡ source) × (sink' ≡ sink)
+AllCauses {T} (Err (Interrupted trouble)) source source' sink sink' = Causes {T = T} (Err trouble) source source' sink sink'
+AllCauses (Err RefusedEdit) source source' sink sink' = (source' ≡ source) × (sink ≤ sink')
+
+-- what was done by the answer
+abbrev pub Ends : Result ℕ Interruption → Outcome → Option Output → Option Output → ℕ → ℕ → Type 0
+Ends (Ok status) outcome before after steps steps' = IsDone outcome status before after steps steps'
+Ends (Err (Interrupted trouble)) outcome before after steps steps' = IsCutShort before outcome.pieces after
+Ends (Err RefusedEdit) outcome before after steps steps' = IsRefused outcome.refusal before after
+
+pub record Does (result : Result ℕ Interruption) (outcome : Outcome) (before after : Option Output) (steps steps' : ℕ) : Type 0 where
   pub ends : Ends result outcome before after steps steps'
-  pub bound : steps' ≤ steps + outcome.most
+  pub most : steps' ≤ raised steps outcome.turns

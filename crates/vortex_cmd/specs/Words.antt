@@ -23,6 +23,15 @@ abbrev pub name_given : Option (List ℕ) → Option (List ℕ)
 name_given None = None
 name_given (Some text) = named text
 
+-- the value of --script, which may be left out
+abbrev pub some_named : Option (List ℕ) → Option (Option (List ℕ))
+some_named None = None
+some_named (Some name) = Some (Some name)
+
+abbrev pub script_given : Option (List ℕ) → Option (Option (List ℕ))
+script_given None = Some None
+script_given (Some text) = some_named (named text)
+
 -- the value of an option that may be left out
 abbrev pub limit_given : ℕ → ℕ → Option (List ℕ) → Option ℕ
 limit_given default most None = Some default
@@ -43,16 +52,16 @@ abbrev pub files_given : Option (List (List ℕ)) → Option (List (List ℕ))
 files_given None = None
 files_given (Some texts) = all_named texts
 
--- all four were given; the first file is the main one
-abbrev pub given_of : Option Date → Option Limits → Option (List ℕ) → Option (List (List ℕ)) → Option Given
-given_of (Some date) (Some limits) (Some out) (Some (main ∷ others)) =
-    Some (record { date = date; limits = limits; out = out; main = main; files = main ∷ others })
-given_of _ _ _ _ = None
+-- all five are as they are to be; the first file is the main one
+abbrev pub given_of : Option Date → Option Limits → Option (List ℕ) → Option (Option (List ℕ)) → Option (List (List ℕ)) → Option Given
+given_of (Some date) (Some limits) (Some out) (Some script) (Some (main ∷ others)) =
+    Some (record { date = date; limits = limits; out = out; script = script; main = main; files = main ∷ others })
+given_of _ _ _ _ _ = None
 
 -- what `run` is given
 abbrev pub run_given : List Row → Option Given
 run_given rows = given_of (date_given (first_of (codes "date") rows)) (limits_given rows)
-    (name_given (first_of (codes "out") rows)) (files_given (all_of (codes "file") rows))
+    (name_given (first_of (codes "out") rows)) (script_given (first_of (codes "script") rows)) (files_given (all_of (codes "file") rows))
 
 abbrev pub run_asked : Option Given → Asked
 run_asked None = Nothing
@@ -65,6 +74,11 @@ IsWithin given = IsDate given.date × AreLimits given.limits × (are_distinct gi
 abbrev pub IsAskedWithin : Asked → Type 0
 IsAskedWithin (Run given) = IsWithin given
 IsAskedWithin _ = Unit {0}
+
+-- the file of the script that they name, if they name one
+abbrev pub script_asked : Asked → Option (List ℕ)
+script_asked (Run given) = given.script
+script_asked _ = None
 
 -- they ask for a run
 abbrev pub IsRun : Asked → Type 0

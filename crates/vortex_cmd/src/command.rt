@@ -1,7 +1,7 @@
 ghost use Rattle.std.specs.Prelude.{◌≡◌, IfOk, false};
 ghost use Rattle.clap.specs.Words.{app_of, rule_of};
 ghost use Rattle.clap.specs.declared.builder.command.Command.TheViews.{out-Command as fields_of};
-ghost use Rattle.vortex_cmd.specs.CommandLine.{option_rule, run_command, command_line};
+ghost use Rattle.vortex_cmd.specs.CommandLine.{option_rule, required_rule, run_command, command_line};
 
 use clap::{Arg, ArgAction, Command};
 use std::alloc::{AllocError, Global};
@@ -14,12 +14,21 @@ fn option<'a>(alloc: Global, name: &'a str) -> Arg<'a>
     Arg::new(alloc, name).long(name)
 }
 
+/// An option that must be there.
+fn required_option<'a>(alloc: Global, name: &'a str) -> Arg<'a>
+    ensures rule { rule_of result ≡ required_rule name.entry.now }
+    ensures local { result.global ≡ false }
+{
+    option(alloc, name).required(true)
+}
+
 fn run_command<'a>(alloc: Global) -> Result<Command<'a>, AllocError>
     ensures app { IfOk result (λ run. app_of run ≡ run_command) }
     ensures local { IfOk result (λ run. (fields_of run).has_globals ≡ false) }
 {
-    let date = option(alloc, "date").required(true);
-    let out = option(alloc, "out").required(true);
+    let date = required_option(alloc, "date");
+    let out = required_option(alloc, "out");
+    let script = option(alloc, "script");
     let budget = option(alloc, "budget");
     let pages = option(alloc, "pages");
     let keep = option(alloc, "keep");
@@ -29,6 +38,7 @@ fn run_command<'a>(alloc: Global) -> Result<Command<'a>, AllocError>
     Command::new(alloc, "run")
         .arg(date)?
         .arg(out)?
+        .arg(script)?
         .arg(budget)?
         .arg(pages)?
         .arg(keep)?

@@ -47,12 +47,14 @@ impl Names {
 }
 
 /// What `run` is given: the moment that the document sees, the limits, the name of the files that are saved, the name
-/// of the main file, and the names of all files that the run may read, the main one first.
+/// of the script's file, if there is a script, the name of the main file, and the names of all files that the run may
+/// read, the main one first.
 #[derive(Debug, Drop)]
 pub struct Given {
     pub date: Date,
     pub limits: Limits,
     pub out: Name,
+    pub script: Option<Name>,
     pub main: Name,
     pub files: Names,
 }

@@ -1,10 +1,12 @@
 ghost use Rattle.std.specs.Prelude.{◌≡◌, ◌++◌, OnOk, IfOk};
 ghost use Rattle.std.specs.Fmt.{decimal};
-ghost use Rattle.vortex_cmd.specs.Lines.{place_text, end_text, run_line, help_text, version_line};
+ghost use Rattle.vortex_cmd.specs.Lines.{place_text, end_text, run_line, edit_text, report_text, edit_line, outside_line, memory_line, script_refusal_line, help_text, version_line};
 
 use std::alloc::{AllocError, Global};
 use tx_bytes::Bytes;
 use tx_machine::End;
+use tx_script::Rule;
+use tx_session::Report;
 
 fn append_number(alloc: Global, text: &mut Bytes, number: u64) -> Result<(), AllocError>
     ensures { OnOk result (text.new ≡ text.old ++ decimal number) }
@@ -59,6 +61,82 @@ pub fn run_line(alloc: Global, pages: u64, end: &End) -> Result<Bytes, AllocErro
     Ok(line)
 }
 
+/// `edit I: `, which begins the line of an edit.
+fn edit_text(alloc: Global, number: u64) -> Result<Bytes, AllocError>
+    ensures { IfOk result (λ text. text ≡ edit_text number) }
+{
+    let mut text = Bytes::from_slice(alloc, b"edit ")?;
+    append_number(alloc, &mut text, number)?;
+    text.append(b": ")?;
+    Ok(text)
+}
+
+/// `P pages, resumed K, formatted F, reused R`.
+fn append_report(alloc: Global, text: &mut Bytes, report: &Report) -> Result<(), AllocError>
+    ensures { OnOk result (text.new ≡ text.old ++ report_text report.now) }
+{
+    append_number(alloc, text, report.pages as u64)?;
+    text.append(b" pages, resumed ")?;
+    append_number(alloc, text, report.resumed as u64)?;
+    text.append(b", formatted ")?;
+    append_number(alloc, text, report.formatted as u64)?;
+    text.append(b", reused ")?;
+    append_number(alloc, text, report.reused as u64)
+}
+
+/// The line of an edit that was made, `edit I: P pages, resumed K, formatted F, reused R, END` and LF.
+#[tactic(auto, unfolding(crate::specs::Lines::edit_line))]
+pub fn edit_line(
+    alloc: Global,
+    number: u64,
+    report: &Report,
+    end: &End,
+) -> Result<Bytes, AllocError>
+    ensures { IfOk result (λ line. line ≡ edit_line number report.now end.now) }
+{
+    let mut line = edit_text(alloc, number)?;
+    append_report(alloc, &mut line, report)?;
+    line.append(b", ")?;
+    append_end(alloc, &mut line, end)?;
+    line.append(b"\n")?;
+    Ok(line)
+}
+
+/// The line of an edit that goes past the end of its file, `edit I: outside, file has L bytes` and LF.
+#[tactic(auto, unfolding(crate::specs::Lines::outside_line))]
+pub fn outside_line(alloc: Global, number: u64, len: u64) -> Result<Bytes, AllocError>
+    ensures { IfOk result (λ line. line ≡ outside_line number len) }
+{
+    let mut line = edit_text(alloc, number)?;
+    line.append(b"outside, file has ")?;
+    append_number(alloc, &mut line, len)?;
+    line.append(b" bytes\n")?;
+    Ok(line)
+}
+
+/// The line of an edit for which there was no memory, `edit I: memory` and LF.
+#[tactic(auto, unfolding(crate::specs::Lines::memory_line))]
+pub fn memory_line(alloc: Global, number: u64) -> Result<Bytes, AllocError>
+    ensures { IfOk result (λ line. line ≡ memory_line number) }
+{
+    let mut line = edit_text(alloc, number)?;
+    line.append(b"memory\n")?;
+    Ok(line)
+}
+
+/// The line of a script that is refused, `script refused at PLACE, rule R` and LF.
+#[tactic(auto, unfolding(crate::specs::Lines::script_refusal_line))]
+pub fn script_refusal_line(alloc: Global, place: u64, rule: Rule) -> Result<Bytes, AllocError>
+    ensures { IfOk result (λ line. line ≡ script_refusal_line place rule) }
+{
+    let mut line = Bytes::from_slice(alloc, b"script refused at ")?;
+    append_number(alloc, &mut line, place)?;
+    line.append(b", rule ")?;
+    append_number(alloc, &mut line, u64::from(rule.number()))?;
+    line.append(b"\n")?;
+    Ok(line)
+}
+
 /// What `--version` says.
 pub fn version_line() -> &'static [u8]
     ensures { result.now ≡ version_line }
@@ -76,6 +154,7 @@ Usage: vortex run --date Y-M-D-T --out NAME [OPTIONS] MAIN [FILE..]\n
 Runs TeX on MAIN, which may read the FILEs, and saves NAME.dvi and NAME.log.\n
   --date Y-M-D-T  the date that TeX sees, T in minutes since midnight
   --out NAME      the name of what is saved
+  --script EDITS  a file of edits to make, and of saves between them
   --budget N      what a page may cost, 1 to 1000000000 (1000000)
   --pages N       the most pages, 1 to 10000 (1000)
   --keep N        the most states that are kept, 1 to 10000 (10000)

@@ -1,9 +1,11 @@
 //! The program `vortex`. `vortex` does all that it does, over any source and any sink, and its contract is the headline:
-//! what is put out is what a fresh run of TeX on the listed files gives. `main` hands it the words and the current folder.
+//! after any edits of a script, made or refused, what is put out is what a fresh run of TeX on the edited files gives.
+//! `main` hands it the words and the current folder.
 //!
 //! Read `arguments` (the words as they come), `given` (what they ask for), `command` (the command line, as it is told to
-//! clap), `values` and `words` (how they are read), `lines` (what is said), `trouble`, `outputs` (what is put out of a
-//! run), `fetching`, `run`, and then `vortex`.
+//! clap), `values` and `words` (how they are read), `trouble`, `scripted`, `scripts` and `fetching` (what is read from the
+//! source), `lines` (what is said), `outputs` (what is put out of a run), `tally` and `replay` (the commands of a script),
+//! `run`, and then `vortex`.
 #![tactic(auto)]
 
 mod arguments;
@@ -16,7 +18,11 @@ mod fetching;
 mod given;
 mod lines;
 mod outputs;
+mod replay;
 mod run;
+mod scripted;
+mod scripts;
+mod tally;
 #[cfg(test)]
 mod tests;
 mod trouble;

@@ -1,16 +1,18 @@
-ghost use Rattle.std.specs.Prelude.{◌≡◌, ◌≤◌, ◌∷◌, ◌++◌, [], length, IfOk};
+ghost use Rattle.std.specs.Prelude.{◌≡◌, ◌∷◌, ◌++◌, [], IfOk};
 ghost use Rattle.tx_io.specs.Output.{Say, Save};
-ghost use Rattle.vortex_cmd.specs.Outcome.{transcript, dvi_pieces, log_pieces, run_pieces};
+ghost use Rattle.tx_session.specs.Held.{fresh};
+ghost use Rattle.vortex_cmd.specs.Outcome.{first_piece};
+ghost use Rattle.vortex_cmd.specs.Pieces.{dvi_pieces, log_pieces, saved_pieces};
 ghost use Rattle.vortex_cmd.specs.Trouble.{PutsOut, SinkCauses};
 
 use crate::lines::run_line;
 use crate::trouble::Trouble;
 use std::alloc::{AllocError, Global};
 use tx_bytes::Bytes;
-use tx_dvi::{PageBody, assemble};
 use tx_files::Name;
 use tx_io::{Put, Sink};
-use tx_machine::Ran;
+use tx_machine::Machine;
+use tx_session::Session;
 
 /// Says a text.
 pub fn say<K: Sink>(sink: &mut K, text: &[u8]) -> Result<(), Trouble>
@@ -45,61 +47,61 @@ fn with_suffix(alloc: Global, name: &Name, suffix: &[u8]) -> Result<Bytes, Alloc
     Ok(all)
 }
 
-/// The pieces of a transcript, joined, and what follows the last of them.
-fn transcript(alloc: Global, pieces: &[Bytes], last: &[u8]) -> Result<Bytes, AllocError>
-    ensures { IfOk result (λ log. log ≡ transcript pieces.now last.now) }
-{
-    let mut log = Bytes::new(alloc);
-    for piece in pieces {
-        log.append(piece.as_slice())?;
-    }
-    log.append(last)?;
-    Ok(log)
-}
-
-/// Saves the pages as `NAME.dvi`, if there is one.
-fn save_pages<K: Sink>(
+/// Saves the pages of a document as `NAME.dvi`, if there is one.
+fn save_pages<M: Machine, K: Sink>(
     alloc: Global,
-    out: &Name,
-    pages: &[PageBody],
+    name: &Name,
+    session: &Session<M>,
     sink: &mut K,
 ) -> Result<(), Trouble>
-    requires { length pages.now ≤ 10000 }
-    ensures puts { PutsOut result (K.output sink.old) (dvi_pieces out.now pages.now) (K.output sink.new) }
+    ensures puts { PutsOut result (K.output sink.old) (dvi_pieces name.now (fresh M.formatter session.now).ran.pages) (K.output sink.new) }
     ensures causes { SinkCauses result (K.faults sink.old) (K.faults sink.new) }
 {
-    if pages.is_empty() {
+    if session.pages() == 0 {
         return Ok(());
     }
-    let name = with_suffix(alloc, out, b".dvi")?;
-    let file = assemble(alloc, pages)?;
+    let name = with_suffix(alloc, name, b".dvi")?;
+    let file = session.dvi()?;
     save(sink, name.as_slice(), file.as_slice())
 }
 
-/// Saves the transcript as `NAME.log`, also where it is empty.
-fn save_transcript<K: Sink>(
+/// Saves the transcript of a document as `NAME.log`, also where it is empty.
+fn save_transcript<M: Machine, K: Sink>(
     alloc: Global,
-    out: &Name,
-    ran: &Ran,
+    name: &Name,
+    session: &Session<M>,
     sink: &mut K,
 ) -> Result<(), Trouble>
-    ensures puts { PutsOut result (K.output sink.old) (log_pieces out.now ran.now) (K.output sink.new) }
+    ensures puts { PutsOut result (K.output sink.old) (log_pieces name.now (fresh M.formatter session.now).ran) (K.output sink.new) }
     ensures causes { SinkCauses result (K.faults sink.old) (K.faults sink.new) }
 {
-    let name = with_suffix(alloc, out, b".log")?;
-    let log = transcript(alloc, ran.pieces.as_slice(), ran.last.as_slice())?;
-    save(sink, name.as_slice(), log.as_slice())
+    let name = with_suffix(alloc, name, b".log")?;
+    save(sink, name.as_slice(), session.said())
 }
 
-/// Puts out what a run gave: its line, its pages, its transcript.
-pub fn put_run<K: Sink>(alloc: Global, out: &Name, ran: &Ran, sink: &mut K) -> Result<(), Trouble>
-    requires { length ran.now.pages ≤ 10000 }
-    ensures puts { PutsOut result (K.output sink.old) (run_pieces out.now ran.now) (K.output sink.new) }
+/// Saves the pages of a document and its transcript under a name.
+pub fn save_session<M: Machine, K: Sink>(
+    alloc: Global,
+    name: &Name,
+    session: &Session<M>,
+    sink: &mut K,
+) -> Result<(), Trouble>
+    ensures puts { PutsOut result (K.output sink.old) (saved_pieces name.now (fresh M.formatter session.now).ran) (K.output sink.new) }
     ensures causes { SinkCauses result (K.faults sink.old) (K.faults sink.new) }
 {
-    let pages = ran.pages.as_slice();
-    let line = run_line(alloc, pages.len() as u64, &ran.end)?;
-    say(sink, line.as_slice())?;
-    save_pages(alloc, out, pages, sink)?;
-    save_transcript(alloc, out, ran, sink)
+    save_pages(alloc, name, session, sink)?;
+    save_transcript(alloc, name, session, sink)
+}
+
+/// Says how many pages a document has that was opened, and how its run ended.
+pub fn say_run<M: Machine, K: Sink>(
+    alloc: Global,
+    session: &Session<M>,
+    sink: &mut K,
+) -> Result<(), Trouble>
+    ensures puts { PutsOut result (K.output sink.old) (first_piece (fresh M.formatter session.now).ran ∷ []) (K.output sink.new) }
+    ensures causes { SinkCauses result (K.faults sink.old) (K.faults sink.new) }
+{
+    let line = run_line(alloc, session.pages() as u64, session.end())?;
+    say(sink, line.as_slice())
 }

@@ -1,104 +1,190 @@
-ghost use Rattle.std.specs.Prelude.{◌≡◌, ◌<◌, ◌≤◌, ℕ, IfOk, IsErrOf};
-ghost use Rattle.vortex_cmd.specs.Outcome.{status_of, saying, run_outcome, asked_outcome, outcome, ForHeld};
-ghost use Rattle.vortex_cmd.specs.Trouble.{Causes, SinkCauses, Does};
-ghost use Rattle.vortex_cmd.specs.Words.{IsRun, IsWithin, words_meant, texts};
+ghost use Rattle.std.specs.Prelude.{◌≡◌, ◌<◌, ◌≤◌, ◌⊎◌, ℕ, IfOk, OnOk, IsErrOf};
+ghost use Rattle.std.specs.FinMap.{empty};
+ghost use Rattle.tx_machine.specs.Steps.{raised};
+ghost use Rattle.vortex_cmd.specs.Outcome.{saying, session_outcome, run_outcome, asked_outcome, outcome, with_listed, ForHeld};
+ghost use Rattle.vortex_cmd.specs.Lines.{script_refusal_line};
+ghost use Rattle.vortex_cmd.specs.Replay.{Replays, opened, turns_from, status_after};
+ghost use Rattle.vortex_cmd.specs.Scripts.{ForScript, NamesNoScript, HoldsNoScript};
+ghost use Rattle.vortex_cmd.specs.Trouble.{EditCauses, AllCauses, Does};
+ghost use Rattle.vortex_cmd.specs.Words.{IsRun, IsWithin, script_asked, words_meant, texts};
 ghost use Rattle.vortex_cmd.specs.declared.given.Asked.TheVariants.{Run, Nothing};
 
 use crate::fetching::fetch_files;
 use crate::given::{Asked, Given};
-use crate::lines::{help_text, version_line};
-use crate::outputs::{put_run, say};
-use crate::trouble::Trouble;
+use crate::lines::{help_text, script_refusal_line, version_line};
+use crate::outputs::{save_session, say, say_run};
+use crate::replay::replay;
+use crate::scripted::Scripted;
+use crate::scripts::fetch_script;
+use crate::trouble::{Interruption, Trouble};
 use crate::words::read_words;
 use std::alloc::Global;
-use tx_files::FileSet;
+use tx_files::{FileSet, Name};
 use tx_io::{Sink, Source};
-use tx_machine::{End, Machine, Steps, fresh_run};
+use tx_machine::{End, Machine, Steps};
+use tx_script::{Command, Rule};
+use tx_session::Session;
 
-/// The status after a run: 0 if it ended by the end of its text, else 1.
-fn status_of(end: &End) -> u8
-    ensures status { result ≡ status_of end.now }
-    ensures range { result < 2 }
+/// The status after all commands: 1 where the last run ended otherwise than by the end of its text, else 5 where an edit
+/// went past the end of its file, else 0.
+fn status_after(end: &End, outside: bool) -> u8
+    ensures status { result ≡ status_after end.now outside }
+    ensures range { (result < 2) ⊎ (result ≡ 5) }
 {
     match end {
+        End::End if outside => 5,
         End::End => 0,
         End::Error { .. } | End::Budget | End::PageLimit => 1,
     }
 }
 
-/// Runs the main file on these files, puts out what the run gave, and answers the status.
-fn run_files<M: Machine, K: Sink>(
+/// Says how a document came out that was opened, carries out the commands, saves what there is then, and answers the
+/// status.
+fn run_session<M: Machine, K: Sink>(
     alloc: Global,
-    machine: &M,
-    given: &Given,
-    files: &FileSet,
+    out: &Name,
+    commands: &[Command],
+    session: &mut Session<M>,
     sink: &mut K,
     steps: &mut Steps,
-) -> Result<u8, Trouble>
-    requires { IsWithin given.now }
-    ensures does { Does result (run_outcome M.formatter given.now files.now) (K.output sink.old) (K.output sink.new) steps.old steps.new }
-    ensures status { IfOk result (λ status. status < 2) }
-    ensures causes { SinkCauses result (K.faults sink.old) (K.faults sink.new) }
+) -> Result<u8, Interruption>
+    ensures puts { Replays (session_outcome M.formatter out.now session.old commands.now).pieces (session_outcome M.formatter out.now session.old commands.now).refusal result (K.output sink.old) (K.output sink.new) }
+    ensures status { IfOk result (λ status. status ≡ (session_outcome M.formatter out.now session.old commands.now).status) }
+    ensures range { IfOk result (λ status. (status < 2) ⊎ (status ≡ 5)) }
+    ensures counted { OnOk result (steps.new ≡ raised steps.old (turns_from M.formatter (opened session.old) commands.now)) }
+    ensures most { steps.new ≤ raised steps.old (turns_from M.formatter (opened session.old) commands.now) }
+    ensures causes { EditCauses result (K.faults sink.old) (K.faults sink.new) }
 {
-    let ran = fresh_run(
+    say_run(alloc, session, sink)?;
+    let tally = replay(alloc, out, commands, session, sink, steps)?;
+    save_session(alloc, out, session, sink)?;
+    Ok(status_after(session.end(), tally.outside))
+}
+
+/// Runs the main file on these files, carries out the commands, puts out what came of it, and answers the status.
+fn run_files<M: Machine + Drop, K: Sink>(
+    alloc: Global,
+    machine: M,
+    given: &Given,
+    files: FileSet,
+    commands: &[Command],
+    sink: &mut K,
+    steps: &mut Steps,
+) -> Result<u8, Interruption>
+    requires { IsWithin given.now }
+    ensures does { Does result (run_outcome M.formatter given.now files commands.now) (K.output sink.old) (K.output sink.new) steps.old steps.new }
+    ensures range { IfOk result (λ status. (status < 2) ⊎ (status ≡ 5)) }
+    ensures causes { EditCauses result (K.faults sink.old) (K.faults sink.new) }
+{
+    let main = given.main.clone()?;
+    let mut session = Session::open(
         alloc,
         machine,
         files,
-        &given.main,
-        &given.date,
-        &given.limits,
+        main,
+        given.date,
+        given.limits,
         steps,
     )?;
-    put_run(alloc, &given.out, &ran, sink)?;
-    Ok(status_of(&ran.end))
+    run_session(alloc, &given.out, commands, &mut session, sink, steps)
 }
 
-/// Fetches the files, runs the main one, puts out what the run gave, and answers the status.
-pub fn run_given<M: Machine, S: Source, K: Sink>(
+/// Fetches the files, runs the main one, carries out the commands, puts out what came of it, and answers the status.
+fn run_script<M: Machine + Drop, S: Source, K: Sink>(
     alloc: Global,
-    machine: &M,
+    machine: M,
     given: &Given,
+    commands: &[Command],
     source: &mut S,
     sink: &mut K,
     steps: &mut Steps,
-) -> Result<u8, Trouble>
+) -> Result<u8, Interruption>
     requires { IsWithin given.now }
-    ensures does { ForHeld (S.holds source.old) (λ held. Does result (asked_outcome M.formatter (Run given.now) held) (K.output sink.old) (K.output sink.new) steps.old steps.new) }
-    ensures status { IfOk result (λ status. status < 2) }
-    ensures silent { IsErrOf result Trouble.Source → (K.output sink.new ≡ K.output sink.old) × (steps.new ≡ steps.old) }
-    ensures causes { Causes result (S.faults source.old) (S.faults source.new) (K.faults sink.old) (K.faults sink.new) }
+    ensures does { ForHeld (S.holds source.old) (λ held. Does result (run_outcome M.formatter given.now (with_listed held empty given.now.files) commands.now) (K.output sink.old) (K.output sink.new) steps.old steps.new) }
+    ensures range { IfOk result (λ status. (status < 2) ⊎ (status ≡ 5)) }
+    ensures silent { IsErrOf result (Interruption.Trouble Trouble.Source) → (K.output sink.new ≡ K.output sink.old) × (steps.new ≡ steps.old) }
+    ensures causes { AllCauses result (S.faults source.old) (S.faults source.new) (K.faults sink.old) (K.faults sink.new) }
     ensures holds { S.holds source.new ≡ S.holds source.old }
 {
     let files = fetch_files(alloc, given.files.as_slice(), source)?;
-    run_files(alloc, machine, given, &files, sink, steps)
+    run_files(alloc, machine, given, files, commands, sink, steps)
 }
 
 /// Says the one text of a call that runs nothing, and answers the status.
-fn say_only<K: Sink>(sink: &mut K, text: &[u8], status: u8) -> Result<u8, Trouble>
+fn say_only<K: Sink>(sink: &mut K, text: &[u8], status: u8) -> Result<u8, Interruption>
     ensures does { (steps : ℕ) → Does result (saying text.now status) (K.output sink.old) (K.output sink.new) steps steps }
     ensures status { IfOk result (λ answer. answer ≡ status) }
-    ensures causes { SinkCauses result (K.faults sink.old) (K.faults sink.new) }
+    ensures causes { EditCauses result (K.faults sink.old) (K.faults sink.new) }
 {
     say(sink, text)?;
     Ok(status)
 }
 
-/// Does what the words ask, and answers the status.
-pub fn run_words<M: Machine, S: Source, K: Sink>(
+/// Says that a script is refused, and answers the status.
+fn refuse_script<K: Sink>(
     alloc: Global,
-    machine: &M,
+    place: u64,
+    rule: Rule,
+    sink: &mut K,
+) -> Result<u8, Interruption>
+    ensures does { (steps : ℕ) → Does result (saying (script_refusal_line place rule) 2) (K.output sink.old) (K.output sink.new) steps steps }
+    ensures status { IfOk result (λ status. status ≡ 2) }
+    ensures causes { EditCauses result (K.faults sink.old) (K.faults sink.new) }
+{
+    let line = script_refusal_line(alloc, place, rule)?;
+    say_only(sink, line.as_slice(), 2)
+}
+
+/// Fetches the script and reads it, and where it is one, fetches the files, runs the main one, carries out the commands
+/// and puts out what came of it. Answers the status.
+pub fn run_given<M: Machine + Drop, S: Source, K: Sink>(
+    alloc: Global,
+    machine: M,
+    given: &Given,
+    source: &mut S,
+    sink: &mut K,
+    steps: &mut Steps,
+) -> Result<u8, Interruption>
+    requires { IsWithin given.now }
+    ensures does { ForScript (S.holds source.old) given.now.script (λ scripted. ForHeld (S.holds source.old) (λ held. Does result (asked_outcome M.formatter (Run given.now) scripted held) (K.output sink.old) (K.output sink.new) steps.old steps.new)) }
+    ensures range { IfOk result (λ status. (status ≤ 2) ⊎ (status ≡ 5)) }
+    ensures refused { IfOk result (λ status. status ≡ 2 → NamesNoScript (S.holds source.old) given.now.script) }
+    ensures refuses { HoldsNoScript (S.holds source.old) given.now.script → IfOk result (λ status. status ≡ 2) }
+    ensures silent { IsErrOf result (Interruption.Trouble Trouble.Source) → (K.output sink.new ≡ K.output sink.old) × (steps.new ≡ steps.old) }
+    ensures causes { AllCauses result (S.faults source.old) (S.faults source.new) (K.faults sink.old) (K.faults sink.new) }
+    ensures holds { S.holds source.new ≡ S.holds source.old }
+{
+    match fetch_script(alloc, &given.script, source)? {
+        Scripted::Plays(script) => run_script(
+            alloc,
+            machine,
+            given,
+            script.as_slice(),
+            source,
+            sink,
+            steps,
+        ),
+        Scripted::Refused { place, rule } => refuse_script(alloc, place, rule, sink),
+    }
+}
+
+/// Does what the words ask, and answers the status.
+pub fn run_words<M: Machine + Drop, S: Source, K: Sink>(
+    alloc: Global,
+    machine: M,
     words: &[String],
     source: &mut S,
     sink: &mut K,
     steps: &mut Steps,
-) -> Result<u8, Trouble>
-    ensures does { ForHeld (S.holds source.old) (λ held. Does result (outcome M.formatter (texts words.now) held) (K.output sink.old) (K.output sink.new) steps.old steps.new) }
-    ensures range { IfOk result (λ status. status ≤ 2) }
-    ensures refused { IfOk result (λ status. status ≡ 2 → words_meant (texts words.now) ≡ Nothing) }
+) -> Result<u8, Interruption>
+    ensures does { ForScript (S.holds source.old) (script_asked (words_meant (texts words.now))) (λ scripted. ForHeld (S.holds source.old) (λ held. Does result (outcome M.formatter (texts words.now) scripted held) (K.output sink.old) (K.output sink.new) steps.old steps.new)) }
+    ensures range { IfOk result (λ status. (status ≤ 2) ⊎ (status ≡ 5)) }
+    ensures refused { IfOk result (λ status. status ≡ 2 → (words_meant (texts words.now) ≡ Nothing) ⊎ NamesNoScript (S.holds source.old) (script_asked (words_meant (texts words.now)))) }
     ensures refuses { words_meant (texts words.now) ≡ Nothing → IfOk result (λ status. status ≡ 2) }
-    ensures fetched { IsErrOf result Trouble.Source → IsRun (words_meant (texts words.now)) }
-    ensures silent { IsErrOf result Trouble.Source → (K.output sink.new ≡ K.output sink.old) × (steps.new ≡ steps.old) }
-    ensures causes { Causes result (S.faults source.old) (S.faults source.new) (K.faults sink.old) (K.faults sink.new) }
+    ensures refuses_script { HoldsNoScript (S.holds source.old) (script_asked (words_meant (texts words.now))) → IfOk result (λ status. status ≡ 2) }
+    ensures fetched { IsErrOf result (Interruption.Trouble Trouble.Source) → IsRun (words_meant (texts words.now)) }
+    ensures silent { IsErrOf result (Interruption.Trouble Trouble.Source) → (K.output sink.new ≡ K.output sink.old) × (steps.new ≡ steps.old) }
+    ensures causes { AllCauses result (S.faults source.old) (S.faults source.new) (K.faults sink.old) (K.faults sink.new) }
     ensures holds { S.holds source.new ≡ S.holds source.old }
 {
     match read_words(alloc, words)? {

@@ -21,6 +21,7 @@ Runs TeX on MAIN, which may read the FILEs, and saves NAME.dvi and NAME.log.
 
   --date Y-M-D-T  the date that TeX sees, T in minutes since midnight
   --out NAME      the name of what is saved
+  --script EDITS  a file of edits to make, and of saves between them
   --budget N      what a page may cost, 1 to 1000000000 (1000000)
   --pages N       the most pages, 1 to 10000 (1000)
   --keep N        the most states that are kept, 1 to 10000 (10000)

@@ -1,5 +1,6 @@
 ghost use Rattle.std.specs.Prelude.{◌≡◌};
 ghost use Rattle.vortex_cmd.specs.declared.trouble.Trouble.TheVariants.{Memory};
+ghost use Rattle.vortex_cmd.specs.declared.trouble.Interruption.TheVariants as interruption;
 
 use std::alloc::AllocError;
 use thiserror::Error;
@@ -23,5 +24,33 @@ impl From<AllocError> for Trouble {
 
     fn from(_: AllocError) -> Trouble {
         Trouble::Memory
+    }
+}
+
+/// What ends a call before all is done.
+#[derive(Clone, Copy, Debug, PartialEq, Eq, Error)]
+pub enum Interruption {
+    /// Trouble that came in the midst of the outputs.
+    #[error("{0}")]
+    Trouble(Trouble),
+    /// There was no memory left for an edit. That has been told, and what there was before the edit has been saved, as far
+    /// as they could be.
+    #[error("out of memory for an edit")]
+    RefusedEdit,
+}
+
+impl From<Trouble> for Interruption {
+    ghost from_gives = { λ trouble e. e ≡ interruption.Trouble trouble };
+
+    fn from(trouble: Trouble) -> Interruption {
+        Interruption::Trouble(trouble)
+    }
+}
+
+impl From<AllocError> for Interruption {
+    ghost from_gives = { λ _ e. e ≡ interruption.Trouble Memory };
+
+    fn from(_: AllocError) -> Interruption {
+        Interruption::Trouble(Trouble::Memory)
     }
 }

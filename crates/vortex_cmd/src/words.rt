@@ -3,7 +3,7 @@ ghost use Rattle.clap.specs.Words.{rows_of, found_of, subcommand_rows_of, first_
 ghost use Rattle.tx_machine.specs.Ranges.{IsDate, AreLimits};
 ghost use Rattle.clap.specs.declared.error.kind.ErrorKind.TheVariants.{OutOfMemory};
 ghost use Rattle.vortex_cmd.specs.Values.{are_distinct};
-ghost use Rattle.vortex_cmd.specs.Words.{IsWithin, IsAskedWithin, date_given, name_given, limit_given, limits_given, files_given, given_of, run_given, run_asked, subcommand_asked, asked_instead, words_meant, texts};
+ghost use Rattle.vortex_cmd.specs.Words.{IsWithin, IsAskedWithin, date_given, name_given, limit_given, limits_given, script_given, files_given, given_of, run_given, run_asked, subcommand_asked, asked_instead, words_meant, texts};
 
 use crate::command::command_line;
 use crate::given::{Asked, Given, Names};
@@ -44,6 +44,19 @@ fn name_given(alloc: Global, text: Option<&str>) -> Result<Option<Name>, AllocEr
     }
 }
 
+/// The value of `--script`, which may be left out.
+fn script_given(alloc: Global, text: Option<&str>) -> Result<Option<Option<Name>>, AllocError>
+    ensures { IfOk result (λ name. name ≡ script_given (option_map (λ t. t.now) text.entry)) }
+{
+    let Some(text) = text else {
+        return Ok(Some(None));
+    };
+    match read_name(alloc, text)? {
+        None => Ok(None),
+        Some(name) => Ok(Some(Some(name))),
+    }
+}
+
 fn limit_given(default: u32, most: u32, text: Option<&str>) -> Option<u32>
     requires { (1 ≤ default) × (default ≤ most) }
     ensures limit { result ≡ limit_given default most (option_map (λ t. t.now) text.entry) }
@@ -80,20 +93,23 @@ fn files_given(alloc: Global, texts: Option<&[&str]>) -> Result<Option<Names>, A
     }
 }
 
-/// All four were given; the first file is the main one.
+/// All five are as they are to be; the first file is the main one.
 fn given_of(
     date: Option<Date>,
     limits: Option<Limits>,
     out: Option<Name>,
+    script: Option<Option<Name>>,
     files: Option<Names>,
 ) -> Result<Option<Given>, AllocError>
     requires dated { IfSome date (λ date. IsDate date) }
     requires limited { IfSome limits (λ limits. AreLimits limits) }
     requires apart { IfSome files (λ files. are_distinct files ≡ true) }
     ensures within { IfOk result (λ given. IfSome given IsWithin) }
-    ensures given { IfOk result (λ given. given ≡ given_of date limits out files) }
+    ensures given { IfOk result (λ given. given ≡ given_of date limits out script files) }
 {
-    let (Some(date), Some(limits), Some(out), Some(files)) = (date, limits, out, files) else {
+    let (Some(date), Some(limits), Some(out), Some(script), Some(files)) =
+        (date, limits, out, script, files)
+    else {
         return Ok(None);
     };
     let Some(main) = files.as_slice().first() else {
@@ -104,6 +120,7 @@ fn given_of(
         date,
         limits,
         out,
+        script,
         main,
         files,
     }))
@@ -117,8 +134,9 @@ fn run_given(alloc: Global, found: &ArgMatches<'_>) -> Result<Option<Given>, All
     let date = date_given(value(found, "date"));
     let limits = limits_given(found);
     let out = name_given(alloc, value(found, "out"))?;
+    let script = script_given(alloc, value(found, "script"))?;
     let files = files_given(alloc, values(found, "file"))?;
-    given_of(date, limits, out, files)
+    given_of(date, limits, out, script, files)
 }
 
 /// What a subcommand with its values asks for.

@@ -1,32 +1,27 @@
-use Rattle.std.proofs.Common.{◌≡◌, ◌||◌, rules, false, ap₂, ◌∙◌, codes}
+use Rattle.std.proofs.Common.{◌≡◌, ◌||◌, rules, false, ap₂, ◌∙◌}
 use Rattle.std.proofs.lemmas.Result.{IfOk-weaker}
 use Rattle.clap.specs.Words.{rule_of, with_rule}
-use Rattle.vortex_cmd.specs.CommandLine.{required_rule, option_rule, files_rule}
+use Rattle.vortex_cmd.specs.CommandLine.{files_rule}
 use Rattle.vortex_cmd.proofs.command.run_command.Goals as goal
 
 pub returns-clause-app : goal.returns-clause-app
 returns-clause-app c =
-    let date : rule_of c.required-date.result ≡ required_rule (codes "date") = search rules in
-    let out : rule_of c.required-out.result ≡ required_rule (codes "out") = search rules in
-    let budget : rule_of c.option-budget.result ≡ option_rule (codes "budget") = search rules in
-    let pages : rule_of c.option-pages.result ≡ option_rule (codes "pages") = search rules in
-    let keep : rule_of c.option-keep.result ≡ option_rule (codes "keep") = search rules in
     let files : rule_of c.action-files.result ≡ files_rule = search rules in
-    let one = c.in_ok-arg.ensures.shape (search rules) ∙ ap₂ with_rule c.new-2.ensures.app date in
-    let two = c.in_ok-arg-2.ensures.shape (search rules) ∙ ap₂ with_rule one out in
-    let three = c.in_ok-arg-3.ensures.shape (search rules) ∙ ap₂ with_rule two budget in
-    let four = c.in_ok-arg-4.ensures.shape (search rules) ∙ ap₂ with_rule three pages in
-    let five = c.in_ok-arg-5.ensures.shape (search rules) ∙ ap₂ with_rule four keep in
-    IfOk-weaker c.arg-6.result _ _ (λ run adds. adds.shape (search rules) ∙ ap₂ with_rule five files) c.arg-6.ensures
+    let one = c.in_ok-arg.ensures.shape c.required_option-date.ensures.local ∙ ap₂ with_rule c.new-2.ensures.app c.required_option-date.ensures.rule in
+    let two = c.in_ok-arg-2.ensures.shape c.required_option-out.ensures.local ∙ ap₂ with_rule one c.required_option-out.ensures.rule in
+    let three = c.in_ok-arg-3.ensures.shape c.option-script.ensures.local ∙ ap₂ with_rule two c.option-script.ensures.rule in
+    let four = c.in_ok-arg-4.ensures.shape c.option-budget.ensures.local ∙ ap₂ with_rule three c.option-budget.ensures.rule in
+    let five = c.in_ok-arg-5.ensures.shape c.option-pages.ensures.local ∙ ap₂ with_rule four c.option-pages.ensures.rule in
+    let six = c.in_ok-arg-6.ensures.shape c.option-keep.ensures.local ∙ ap₂ with_rule five c.option-keep.ensures.rule in
+    IfOk-weaker c.arg-7.result _ _ (λ run adds. adds.shape (search rules) ∙ ap₂ with_rule six files) c.arg-7.ensures
 
 pub returns-clause-local : goal.returns-clause-local
 returns-clause-local c =
-    let date : c.required-date.result.global ≡ false = search rules in
-    let out : c.required-out.result.global ≡ false = search rules in
     let files : c.action-files.result.global ≡ false = search rules in
-    let one = c.in_ok-arg.ensures.globals ∙ ap₂ (λ a b. a || b) c.new-2.ensures.local date in
-    let two = c.in_ok-arg-2.ensures.globals ∙ ap₂ (λ a b. a || b) one out in
-    let three = c.in_ok-arg-3.ensures.globals ∙ ap₂ (λ a b. a || b) two c.option-budget.ensures.local in
-    let four = c.in_ok-arg-4.ensures.globals ∙ ap₂ (λ a b. a || b) three c.option-pages.ensures.local in
-    let five = c.in_ok-arg-5.ensures.globals ∙ ap₂ (λ a b. a || b) four c.option-keep.ensures.local in
-    IfOk-weaker c.arg-6.result _ _ (λ run adds. adds.globals ∙ ap₂ (λ a b. a || b) five files) c.arg-6.ensures
+    let one = c.in_ok-arg.ensures.globals ∙ ap₂ (λ a b. a || b) c.new-2.ensures.local c.required_option-date.ensures.local in
+    let two = c.in_ok-arg-2.ensures.globals ∙ ap₂ (λ a b. a || b) one c.required_option-out.ensures.local in
+    let three = c.in_ok-arg-3.ensures.globals ∙ ap₂ (λ a b. a || b) two c.option-script.ensures.local in
+    let four = c.in_ok-arg-4.ensures.globals ∙ ap₂ (λ a b. a || b) three c.option-budget.ensures.local in
+    let five = c.in_ok-arg-5.ensures.globals ∙ ap₂ (λ a b. a || b) four c.option-pages.ensures.local in
+    let six = c.in_ok-arg-6.ensures.globals ∙ ap₂ (λ a b. a || b) five c.option-keep.ensures.local in
+    IfOk-weaker c.arg-7.result _ _ (λ run adds. adds.globals ∙ ap₂ (λ a b. a || b) six files) c.arg-7.ensures

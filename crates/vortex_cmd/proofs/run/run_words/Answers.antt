@@ -1,34 +1,44 @@
-use Rattle.std.proofs.Common.{◌≡◌, ℕ, List, rules, subst}
+use Rattle.std.proofs.Common.{◌≡◌, ℕ, List, inr, rules, subst}
+use Rattle.std.proofs.lemmas.Result.{IfOk-weaker}
 use Rattle.vortex_cmd.specs.Outcome.{saying}
+use Rattle.vortex_cmd.specs.Scripts.{NamesNoScript, Unread}
 use Rattle.vortex_cmd.specs.Trouble.{Does}
-use Rattle.vortex_cmd.specs.Words.{words_meant, texts}
+use Rattle.vortex_cmd.specs.Words.{script_asked, words_meant, texts}
+use Rattle.vortex_cmd.specs.declared.given.Asked.{Asked}
+use Rattle.vortex_cmd.specs.declared.trouble.Trouble.TheVariants.{Memory}
 use Rattle.vortex_cmd.specs.declared.given.Asked.TheVariants.{Run, Help, Version, Nothing}
 use Rattle.vortex_cmd.proofs.Held.{for_any, does_nothing, of_words}
 use Rattle.vortex_cmd.proofs.run.run_words.Goals as goal
 
 pub returns-in_err-given-clause-does : goal.returns-in_err-given-clause-does
-returns-in_err-given-clause-does g c = for_any _ (λ held. does_nothing c.from_residual.result c.from_residual.ensures.0 _ _ _)
+returns-in_err-given-clause-does g c = Unread (λ scripted. for_any _ (λ held. does_nothing c.from_residual.result Memory c.from_residual.ensures.1 _ _ _))
 
 pub returns-in-Run-clause-does : goal.returns-in-Run-clause-does
 returns-in-Run-clause-does g c =
     let are : Run c.in-Run.given ≡ words_meant (texts c.args.words.now) = search rules in
     of_words g.M.Machine.formatter (texts c.args.words.now) _ are c.run_given.ensures.does
 
+pub returns-in-Run-clause-refused : goal.returns-in-Run-clause-refused
+returns-in-Run-clause-refused g c =
+    let are : Run c.in-Run.given ≡ words_meant (texts c.args.words.now) = search rules in
+    IfOk-weaker c.run_given.result _ _
+    (λ status refused two. inr (subst (λ (a : Asked). NamesNoScript (g.S.Source.holds c.args.source.now) (script_asked a)) are (refused two))) c.run_given.ensures.refused
+
 pub returns-in-Help-clause-does : goal.returns-in-Help-clause-does
 returns-in-Help-clause-does g c =
     let are : Help ≡ words_meant (texts c.args.words.now) = search rules in
     of_words g.M.Machine.formatter (texts c.args.words.now) _ are
-    (for_any _ (λ held. subst (λ (text : List ℕ). Does c.say_only.result (saying text 0) (g.K.Sink.output c.args.sink.now) (g.K.Sink.output c.say_only.new.sink) c.args.steps.now c.args.steps.now)
-    c.help_text.ensures (c.say_only.ensures.does c.args.steps.now)))
+    (Unread (λ scripted. for_any _ (λ held. subst (λ (text : List ℕ). Does c.say_only.result (saying text 0) (g.K.Sink.output c.args.sink.now) (g.K.Sink.output c.say_only.new.sink) c.args.steps.now c.args.steps.now)
+    c.help_text.ensures (c.say_only.ensures.does c.args.steps.now))))
 
 pub returns-in-Version-clause-does : goal.returns-in-Version-clause-does
 returns-in-Version-clause-does g c =
     let are : Version ≡ words_meant (texts c.args.words.now) = search rules in
     of_words g.M.Machine.formatter (texts c.args.words.now) _ are
-    (for_any _ (λ held. subst (λ (text : List ℕ). Does c.say_only-in-Version.result (saying text 0) (g.K.Sink.output c.args.sink.now) (g.K.Sink.output c.say_only-in-Version.new.sink) c.args.steps.now c.args.steps.now)
-    c.version_line.ensures (c.say_only-in-Version.ensures.does c.args.steps.now)))
+    (Unread (λ scripted. for_any _ (λ held. subst (λ (text : List ℕ). Does c.say_only-in-Version.result (saying text 0) (g.K.Sink.output c.args.sink.now) (g.K.Sink.output c.say_only-in-Version.new.sink) c.args.steps.now c.args.steps.now)
+    c.version_line.ensures (c.say_only-in-Version.ensures.does c.args.steps.now))))
 
 pub returns-in-Nothing-clause-does : goal.returns-in-Nothing-clause-does
 returns-in-Nothing-clause-does g c =
     let are : Nothing ≡ words_meant (texts c.args.words.now) = search rules in
-    of_words g.M.Machine.formatter (texts c.args.words.now) _ are (for_any _ (λ held. c.say_only-in-Nothing.ensures.does c.args.steps.now))
+    of_words g.M.Machine.formatter (texts c.args.words.now) _ are (Unread (λ scripted. for_any _ (λ held. c.say_only-in-Nothing.ensures.does c.args.steps.now)))

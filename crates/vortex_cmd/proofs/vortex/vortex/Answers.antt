@@ -1,26 +1,43 @@
-use Rattle.std.proofs.Common.{arith}
+use Rattle.std.proofs.Common.{◌≡◌, ◌⊎◌, ⊎_elim, arith, rules}
 use Rattle.tx_main.specs.Turns.{tex}
+use Rattle.tx_main.specs.Lawful.{tex-lawful}
+use Rattle.vortex_cmd.specs.declared.trouble.Trouble.TheVariants.{Memory, Source, Sink}
+use Rattle.vortex_cmd.specs.declared.trouble.Interruption.TheVariants.{Trouble as Interrupted, RefusedEdit}
 use Rattle.vortex_cmd.specs.Words.{texts}
-use Rattle.vortex_cmd.proofs.Held.{for_held, leaves_all, leaves_part, turns_bound}
+use Rattle.vortex_cmd.proofs.Held.{for_script, for_held, turns_bound, leaves_all, leaves_part, leaves_refused}
 use Rattle.vortex_cmd.proofs.vortex.vortex.Goals as goal
 
 pub returns-in-Ok-clause-leaves : goal.returns-in-Ok-clause-leaves
-returns-in-Ok-clause-leaves g c = for_held c.in-Ok.ensures.does (λ held does. leaves_all does)
+returns-in-Ok-clause-leaves g c = for_script c.in-Ok.ensures.does (λ scripted some. for_held some (λ held does. leaves_all does))
+
+pub returns-in-Err-Trouble-Source-clause-leaves : goal.returns-in-Err-Trouble-Source-clause-leaves
+returns-in-Err-Trouble-Source-clause-leaves g c =
+    let is : c.in-Err-Trouble-Source.field-0 ≡ Interrupted Source = search rules in
+    for_script c.in-Err-Trouble-Source.ensures.does (λ scripted some. for_held some (λ held does. leaves_part _ Source is (⊎_elim (λ small. omega arith) (λ five. omega arith)) does))
+
+pub returns-in-Err-Trouble-Sink-clause-leaves : goal.returns-in-Err-Trouble-Sink-clause-leaves
+returns-in-Err-Trouble-Sink-clause-leaves g c =
+    let is : c.in-Err-Trouble-Sink.field-0 ≡ Interrupted Sink = search rules in
+    for_script c.in-Err-Trouble-Sink.ensures.does (λ scripted some. for_held some (λ held does. leaves_part _ Sink is (⊎_elim (λ small. omega arith) (λ five. omega arith)) does))
+
+pub returns-in-Err-Trouble-Memory-clause-leaves : goal.returns-in-Err-Trouble-Memory-clause-leaves
+returns-in-Err-Trouble-Memory-clause-leaves g c =
+    let is : c.in-Err-Trouble-Memory.field-0 ≡ Interrupted Memory = search rules in
+    for_script c.in-Err-Trouble-Memory.ensures.does (λ scripted some. for_held some (λ held does. leaves_part _ Memory is (⊎_elim (λ small. omega arith) (λ five. omega arith)) does))
+
+pub returns-in-Err-RefusedEdit-clause-leaves : goal.returns-in-Err-RefusedEdit-clause-leaves
+returns-in-Err-RefusedEdit-clause-leaves g c =
+    let is : c.in-Err-RefusedEdit.field-0 ≡ RefusedEdit = search rules in
+    for_script c.in-Err-RefusedEdit.ensures.does (λ scripted some. for_held some (λ held does. leaves_refused _ is does))
 
 pub returns-in-Ok-clause-bound : goal.returns-in-Ok-clause-bound
-returns-in-Ok-clause-bound g c = turns_bound tex (texts c.args.words.now) c.run_words.ensures.does
+returns-in-Ok-clause-bound g c = turns_bound tex (texts c.args.words.now) tex-lawful c.run_words.ensures.does
 
-pub returns-in-Err-Source-clause-leaves : goal.returns-in-Err-Source-clause-leaves
-returns-in-Err-Source-clause-leaves g c = for_held c.in-Err-Source.ensures.does (λ held does. leaves_part (omega arith) does)
+pub returns-in-Err-Trouble-Sink-clause-bound : goal.returns-in-Err-Trouble-Sink-clause-bound
+returns-in-Err-Trouble-Sink-clause-bound g c = turns_bound tex (texts c.args.words.now) tex-lawful c.run_words.ensures.does
 
-pub returns-in-Err-Sink-clause-leaves : goal.returns-in-Err-Sink-clause-leaves
-returns-in-Err-Sink-clause-leaves g c = for_held c.in-Err-Sink.ensures.does (λ held does. leaves_part (omega arith) does)
+pub returns-in-Err-Trouble-Memory-clause-bound : goal.returns-in-Err-Trouble-Memory-clause-bound
+returns-in-Err-Trouble-Memory-clause-bound g c = turns_bound tex (texts c.args.words.now) tex-lawful c.run_words.ensures.does
 
-pub returns-in-Err-Sink-clause-bound : goal.returns-in-Err-Sink-clause-bound
-returns-in-Err-Sink-clause-bound g c = turns_bound tex (texts c.args.words.now) c.run_words.ensures.does
-
-pub returns-in-Err-Memory-clause-leaves : goal.returns-in-Err-Memory-clause-leaves
-returns-in-Err-Memory-clause-leaves g c = for_held c.in-Err-Memory.ensures.does (λ held does. leaves_part (omega arith) does)
-
-pub returns-in-Err-Memory-clause-bound : goal.returns-in-Err-Memory-clause-bound
-returns-in-Err-Memory-clause-bound g c = turns_bound tex (texts c.args.words.now) c.run_words.ensures.does
+pub returns-in-Err-RefusedEdit-clause-bound : goal.returns-in-Err-RefusedEdit-clause-bound
+returns-in-Err-RefusedEdit-clause-bound g c = turns_bound tex (texts c.args.words.now) tex-lawful c.run_words.ensures.does

@@ -1,0 +1,85 @@
+-- The turns of a call are bounded by its words and its script.
+use Rattle.std.proofs.Common.{◌≡◌, ℕ, zero, suc, ◌+◌, ◌*◌, ◌≤◌, Bool, true, false, cond, List, [], ◌∷◌, length, drop, refl, sym, ap, arith}
+use Rattle.std.proofs.Math.Nat.{mul-le-mul_right}
+use Rattle.std.specs.FinMap.{empty}
+use Rattle.tx_bytes.specs.Files.{Files}
+use Rattle.tx_files.specs.Edits.{fits_in}
+use Rattle.tx_files.specs.declared.edit.Edit.{Edit as FileEdit}
+use Rattle.tx_machine.specs.Machine.{Formatter, IsLawful}
+use Rattle.tx_machine.proofs.Running.{turns-run}
+use Rattle.tx_machine.proofs.PageCounts.{pages-run_from}
+use Rattle.tx_checkpoint.specs.Resume.{resume, stands}
+use Rattle.tx_checkpoint.specs.Rows.{PageRow, rows_in, turns_of, all_turns}
+use Rattle.tx_checkpoint.proofs.Standing.{rows-tell}
+use Rattle.tx_script.specs.declared.command.Command.{Command}
+use Rattle.tx_script.specs.declared.command.Command.TheVariants.{Edit, Save as SaveAs}
+use Rattle.tx_session.specs.Held.{Held, fresh, rows_of, edited_session}
+use Rattle.tx_session.specs.Report.{work, turns_of_edit}
+use Rattle.vortex_cmd.specs.declared.given.Asked.{Asked}
+use Rattle.vortex_cmd.specs.declared.given.Asked.TheVariants.{Run, Help, Version, Nothing}
+use Rattle.vortex_cmd.specs.declared.scripted.Scripted.{Scripted}
+use Rattle.vortex_cmd.specs.declared.scripted.Scripted.TheVariants.{Plays, Refused}
+use Rattle.vortex_cmd.specs.Replay.{Moment, opened, next_moment, turns_from}
+use Rattle.vortex_cmd.specs.Outcome.{asked_outcome, document, with_listed, most_of_edits, most_turns}
+
+le_trans : (a b c : ℕ) → a ≤ b → b ≤ c → a ≤ c
+le_trans a b c first second = omega arith
+
+both_most : (a b c d : ℕ) → a ≤ c → b ≤ d → a + b ≤ c + d
+both_most a b c d first second = omega arith
+
+turns_of-drop : {S : Type 0} (pages : List (PageRow S)) (k : ℕ) → turns_of (drop k pages) ≤ turns_of pages
+turns_of-drop [] zero = omega arith
+turns_of-drop [] (suc k) = omega arith
+turns_of-drop (page ∷ pages) zero = omega arith
+turns_of-drop (page ∷ pages) (suc k) = let less : turns_of (drop k pages) ≤ turns_of pages = turns_of-drop pages k in omega arith
+
+-- what a run of this document may take
+abbrev most_of : Held → ℕ
+most_of held = (held.limits.pages + 1) * held.limits.budget
+
+module _ {S : Type 0} (m : Formatter S) (lawful : IsLawful m) where
+  fresh-most : (held : Held) → (fresh m held).turns ≤ most_of held
+  fresh-most held =
+      le_trans (fresh m held).turns ((length (fresh m held).ran.pages + 1) * held.limits.budget) (most_of held)
+      (turns-run m held.files held.limits.budget lawful held.limits.pages (m.start held.date held.main) [])
+      (mul-le-mul_right held.limits.budget (omega (arith, pages-run_from m held.files held.limits.budget held.limits.pages (m.start held.date held.main) [])))
+
+  rows-most : (held : Held) → all_turns (rows_of m held) ≤ most_of held
+  rows-most held =
+      let same : (fresh m held).turns ≡ all_turns (rows_of m held) = ap (λ c. c.turns) (rows-tell m held.files held.limits.budget held.limits.pages (m.start held.date held.main) []) in
+      omega (arith, same, fresh-most held)
+
+  work-most : (held : Held) (e : FileEdit) → work m held e ≤ most_of held
+  work-most held e = go (stands (rows_of m held) e)
+    where
+      k : ℕ
+      k = resume (rows_in (rows_of m held).pages) e
+
+      go : (b : Bool) → cond b 0 (turns_of (drop k (rows_of m (edited_session held e)).pages) + (rows_of m (edited_session held e)).last.turns) ≤ most_of held
+      go true = omega arith
+      go false =
+          le_trans _ _ (most_of held)
+          (both_most _ _ _ (rows_of m (edited_session held e)).last.turns (turns_of-drop (rows_of m (edited_session held e)).pages k) (omega arith))
+          (rows-most (edited_session held e))
+
+  edit-most : (held : Held) (e : FileEdit) → turns_of_edit m held e ≤ most_of held
+  edit-most held e = go (fits_in held.files e)
+    where
+      go : (b : Bool) → cond b (work m held e) 0 ≤ most_of held
+      go true = work-most held e
+      go false = omega arith
+
+  commands-most : (t : Moment) (commands : List Command) → turns_from m t commands ≤ most_of_edits (most_of t.held) commands
+  commands-most t [] = omega arith
+  commands-most t (Edit e ∷ commands) = both_most _ _ _ _ (edit-most t.held e) (commands-most (next_moment t (Edit e)) commands)
+  commands-most t (SaveAs name ∷ commands) = let less : turns_from m t commands ≤ most_of_edits (most_of t.held) commands = commands-most t commands in omega (arith, less)
+
+  pub turns-most : (asked : Asked) (scripted : Scripted) (held : Files) → (asked_outcome m asked scripted held).turns ≤ most_turns asked scripted
+  turns-most (Run given) (Plays commands) held =
+      let d : Held = document given (with_listed held empty given.files) in
+      both_most _ _ _ _ (fresh-most d) (commands-most (opened d) commands)
+  turns-most (Run given) (Refused place rule) held = omega arith
+  turns-most Help scripted held = omega arith
+  turns-most Version scripted held = omega arith
+  turns-most Nothing scripted held = omega arith

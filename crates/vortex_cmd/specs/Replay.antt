@@ -1,0 +1,111 @@
+-- What the commands of a script put out, one after the other, over a session.
+use Rattle.std.specs.Prelude.{◌≡◌, ℕ, ◌+◌, Bool, true, false, List, [], ◌∷◌, ◌++◌, length, take, slice_get, fold, codes, Option, Some, None, Result, Ok, Err, if◌then◌else◌}
+use Rattle.tx_io.specs.Output.{Output, Piece, Say, Save, told}
+use Rattle.tx_io.specs.Cut.{IsCutShort}
+use Rattle.tx_files.specs.Edits.{fits_in, length_of}
+use Rattle.tx_files.specs.declared.edit.Edit.{Edit as FileEdit}
+use Rattle.tx_machine.specs.declared.types.Ran.{Ran}
+use Rattle.tx_machine.specs.declared.types.End.{End as RunEnd}
+use Rattle.tx_machine.specs.declared.types.End.TheVariants.{End, Error, Budget, PageLimit}
+use Rattle.tx_machine.specs.Machine.{Formatter}
+use Rattle.tx_script.specs.declared.command.Command.{Command}
+use Rattle.tx_script.specs.declared.command.Command.TheVariants.{Edit, Save as SaveAs}
+use Rattle.tx_session.specs.Held.{Held, fresh, after}
+use Rattle.tx_session.specs.Report.{report, turns_of_edit}
+use Rattle.vortex_cmd.specs.declared.trouble.Interruption.{Interruption}
+use Rattle.vortex_cmd.specs.declared.trouble.Interruption.TheVariants.{Trouble as Interrupted, RefusedEdit}
+use Rattle.vortex_cmd.specs.Lines.{edit_line, outside_line, memory_line}
+use Rattle.vortex_cmd.specs.Pieces.{saved_pieces}
+
+-- where a replay stands: the document, how many edits were read, and whether one of them went past the end of its file
+pub record Moment : Type 0 where
+  pub held : Held
+  pub edits : ℕ
+  pub outside : Bool
+
+-- a document before its first edit
+abbrev pub opened : Held → Moment
+opened held = record { held = held; edits = 0; outside = false }
+
+abbrev pub IsEdit : Command → Type 0
+IsEdit (Edit e) = Unit {0}
+IsEdit (SaveAs name) = ⊥
+
+-- the moment after a command
+abbrev pub next_moment : Moment → Command → Moment
+next_moment t (Edit e) = record {
+  held = after t.held e;
+  edits = t.edits + 1;
+  outside = if fits_in t.held.files e then t.outside else true;
+}
+next_moment t (SaveAs name) = t
+
+-- what is said of an edit
+abbrev pub line_of : {S : Type 0} → Formatter S → Moment → FileEdit → List ℕ
+line_of m t e =
+    if fits_in t.held.files e
+    then edit_line (t.edits + 1) (report m t.held e) (fresh m (after t.held e)).ran.end
+    else outside_line (t.edits + 1) (length_of t.held.files e.name)
+
+-- what a command puts out, and the turns that it takes
+abbrev pub pieces_at : {S : Type 0} → Formatter S → Moment → Command → List Piece
+pieces_at m t (Edit e) = Say (line_of m t e) ∷ []
+pieces_at m t (SaveAs name) = saved_pieces name (fresh m t.held).ran
+
+abbrev pub turns_at : {S : Type 0} → Formatter S → Moment → Command → ℕ
+turns_at m t (Edit e) = turns_of_edit m t.held e
+turns_at m t (SaveAs name) = 0
+
+-- the same of commands one after the other
+abbrev pub moment_after : Moment → List Command → Moment
+moment_after t commands = fold next_moment t commands
+
+abbrev pub pieces_from : {S : Type 0} → Formatter S → Moment → List Command → List Piece
+pieces_from m t [] = []
+pieces_from m t (c ∷ commands) = pieces_at m t c ++ pieces_from m (next_moment t c) commands
+
+abbrev pub turns_from : {S : Type 0} → Formatter S → Moment → List Command → ℕ
+turns_from m t [] = 0
+turns_from m t (c ∷ commands) = turns_at m t c + turns_from m (next_moment t c) commands
+
+-- what is put out where memory refuses the next edit: its line, and then what there was before it
+abbrev pub refused_pieces : {S : Type 0} → Formatter S → List ℕ → Moment → List Piece
+refused_pieces m out t = Say (memory_line (t.edits + 1)) ∷ saved_pieces out (fresh m t.held).ran
+
+-- what a command put out by how it went: all its pieces, or the first of them, or of those for its refusal
+abbrev pub Puts : {T : Type 0} → List Piece → List Piece → Result T Interruption → Option Output → Option Output → Type 0
+Puts pieces refused (Ok value) before after = after ≡ told before pieces
+Puts pieces refused (Err (Interrupted trouble)) before after = IsCutShort before pieces after
+Puts pieces refused (Err RefusedEdit) before after = IsCutShort before refused after
+
+-- what is put out where memory refuses the edit at a place of the commands: all pieces of the commands before it, and then
+-- its line and what there was before it; None where no edit stands there
+abbrev pub refusal_of : Option Command → List Piece → Option (List Piece)
+refusal_of None pieces = None
+refusal_of (Some (SaveAs name)) pieces = None
+refusal_of (Some (Edit e)) pieces = Some pieces
+
+abbrev pub refusal_at : {S : Type 0} → Formatter S → List ℕ → Moment → List Command → ℕ → Option (List Piece)
+refusal_at m out t commands made =
+    refusal_of (slice_get commands made) (pieces_from m t (take made commands) ++ refused_pieces m out (moment_after t (take made commands)))
+
+-- memory refused an edit: of the pieces for that, the first ones were put out
+pub record IsRefused (refusal : ℕ → Option (List Piece)) (before after : Option Output) : Type 0 where
+  pub made : ℕ
+  pub pieces : List Piece
+  pub are : refusal made ≡ Some pieces
+  pub cut : IsCutShort before pieces after
+
+-- what commands put out by how they went
+abbrev pub Replays : {T : Type 0} → List Piece → (ℕ → Option (List Piece)) → Result T Interruption → Option Output → Option Output → Type 0
+Replays pieces refusal (Ok value) before after = after ≡ told before pieces
+Replays pieces refusal (Err (Interrupted trouble)) before after = IsCutShort before pieces after
+Replays pieces refusal (Err RefusedEdit) before after = IsRefused refusal before after
+
+-- the status after all commands: whether the last run ended by the end of its text, and whether all edits were made
+abbrev pub status_after : RunEnd → Bool → ℕ
+status_after End false = 0
+status_after End true = 5
+status_after (Error code name line) outside = 1
+status_after Budget outside = 1
+status_after PageLimit outside = 1

@@ -1,0 +1,131 @@
+ghost use Rattle.std.specs.Prelude.{◌≡◌, ◌∷◌, [], ◌+◌, ◌<◌, ◌≤◌, ◌^◌, length, IfOk, OnOk, IsErrOf};
+ghost use Rattle.tx_io.specs.Output.{Say};
+ghost use Rattle.tx_machine.specs.Steps.{raised};
+ghost use Rattle.tx_script.specs.declared.command.Command.TheVariants as command;
+ghost use Rattle.tx_session.specs.Held.{fresh};
+ghost use Rattle.tx_session.specs.Report.{turns_of_edit};
+ghost use Rattle.vortex_cmd.specs.Pieces.{saved_pieces};
+ghost use Rattle.vortex_cmd.specs.Replay.{Puts, Replays, IsEdit, opened, next_moment, moment_after, line_of, pieces_at, pieces_from, turns_at, turns_from, refused_pieces, refusal_at};
+ghost use Rattle.vortex_cmd.specs.Tally.{moment};
+ghost use Rattle.vortex_cmd.specs.Trouble.{PutsOut, SinkCauses, EditCauses};
+
+use crate::lines::{edit_line, memory_line, outside_line};
+use crate::outputs::{save_session, say};
+use crate::tally::Tally;
+use crate::trouble::{Interruption, Trouble};
+use std::alloc::Global;
+use tx_files::{Edit, Name, Refusal};
+use tx_io::Sink;
+use tx_machine::{Machine, Steps};
+use tx_script::Command;
+use tx_session::Session;
+
+/// Tells that memory refused the next edit, and saves what there was before it. The first of these outputs that can't be
+/// made is the last one.
+fn tell_refusal<M: Machine, K: Sink>(
+    alloc: Global,
+    out: &Name,
+    tally: Tally,
+    session: &Session<M>,
+    sink: &mut K,
+) -> Result<(), Trouble>
+    requires { tally.edits + 1 < 2 ^ 64 }
+    ensures puts { PutsOut result (K.output sink.old) (refused_pieces M.formatter out.now (moment session.now tally)) (K.output sink.new) }
+    ensures causes { SinkCauses result (K.faults sink.old) (K.faults sink.new) }
+{
+    let line = memory_line(alloc, tally.edits + 1)?;
+    say(sink, line.as_slice())?;
+    save_session(alloc, out, session, sink)
+}
+
+/// Makes an edit and says what came of it.
+fn run_edit<M: Machine, K: Sink>(
+    alloc: Global,
+    out: &Name,
+    e: &Edit,
+    session: &mut Session<M>,
+    tally: &mut Tally,
+    sink: &mut K,
+    steps: &mut Steps,
+) -> Result<(), Interruption>
+    requires { tally.old.edits + 1 < 2 ^ 64 }
+    ensures moment { OnOk result (moment session.new tally.new ≡ next_moment (moment session.old tally.old) (command.Edit e.now)) }
+    ensures puts { Puts (Say (line_of M.formatter (moment session.old tally.old) e.now) ∷ []) (refused_pieces M.formatter out.now (moment session.old tally.old)) result (K.output sink.old) (K.output sink.new) }
+    ensures counted { OnOk result (steps.new ≡ raised steps.old (turns_of_edit M.formatter session.old e.now)) }
+    ensures most { steps.new ≤ raised steps.old (turns_of_edit M.formatter session.old e.now) }
+    ensures causes { EditCauses result (K.faults sink.old) (K.faults sink.new) }
+{
+    match session.edit(e, steps) {
+        Ok(report) => {
+            tally.edits += 1;
+            let line = edit_line(alloc, tally.edits, &report, session.end())?;
+            say(sink, line.as_slice())?;
+            Ok(())
+        }
+        Err(Refusal::Outside { len }) => {
+            tally.edits += 1;
+            tally.outside = true;
+            let line = outside_line(alloc, tally.edits, len)?;
+            say(sink, line.as_slice())?;
+            Ok(())
+        }
+        Err(Refusal::OutOfMemory) => {
+            let _told = tell_refusal(alloc, out, *tally, session, sink);
+            Err(Interruption::RefusedEdit)
+        }
+    }
+}
+
+/// Carries out a command: makes an edit and says what came of it, or saves what there is.
+fn run_command<M: Machine, K: Sink>(
+    alloc: Global,
+    out: &Name,
+    command: &Command,
+    session: &mut Session<M>,
+    tally: &mut Tally,
+    sink: &mut K,
+    steps: &mut Steps,
+) -> Result<(), Interruption>
+    requires { tally.old.edits + 1 < 2 ^ 64 }
+    ensures moment { OnOk result (moment session.new tally.new ≡ next_moment (moment session.old tally.old) command.now) }
+    ensures edits { OnOk result (tally.new.edits ≤ tally.old.edits + 1) }
+    ensures puts { Puts (pieces_at M.formatter (moment session.old tally.old) command.now) (refused_pieces M.formatter out.now (moment session.old tally.old)) result (K.output sink.old) (K.output sink.new) }
+    ensures refused { IsErrOf result Interruption.RefusedEdit → IsEdit command.now }
+    ensures counted { OnOk result (steps.new ≡ raised steps.old (turns_at M.formatter (moment session.old tally.old) command.now)) }
+    ensures most { steps.new ≤ raised steps.old (turns_at M.formatter (moment session.old tally.old) command.now) }
+    ensures causes { EditCauses result (K.faults sink.old) (K.faults sink.new) }
+{
+    match command {
+        Command::Edit(e) => run_edit(alloc, out, e, session, tally, sink, steps),
+        Command::Save(name) => {
+            save_session(alloc, name, session, sink)?;
+            Ok(())
+        }
+    }
+}
+
+/// Carries out commands in their order, and answers how many edits there were and whether one of them went past the end
+/// of its file.
+pub fn replay<M: Machine, K: Sink>(
+    alloc: Global,
+    out: &Name,
+    commands: &[Command],
+    session: &mut Session<M>,
+    sink: &mut K,
+    steps: &mut Steps,
+) -> Result<Tally, Interruption>
+    ensures moment { IfOk result (λ tally. moment session.new tally ≡ moment_after (opened session.old) commands.now) }
+    ensures puts { Replays (pieces_from M.formatter (opened session.old) commands.now) (refusal_at M.formatter out.now (opened session.old) commands.now) result (K.output sink.old) (K.output sink.new) }
+    ensures counted { OnOk result (steps.new ≡ raised steps.old (turns_from M.formatter (opened session.old) commands.now)) }
+    ensures most { steps.new ≤ raised steps.old (turns_from M.formatter (opened session.old) commands.now) }
+    ensures causes { EditCauses result (K.faults sink.old) (K.faults sink.new) }
+{
+    let mut tally = Tally {
+        edits: 0,
+        outside: false,
+    };
+    for command in commands {
+        run_command(alloc, out, command, session, &mut tally, sink, steps)?;
+    }
+    Ok(tally)
+}
