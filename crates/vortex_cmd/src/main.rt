@@ -20,6 +20,8 @@ mod lines;
 mod outputs;
 mod replay;
 mod run;
+#[cfg(test)]
+mod script_tests;
 mod scripted;
 mod scripts;
 mod tally;

@@ -77,15 +77,7 @@ fn run_files<M: Machine + Drop, K: Sink>(
     ensures causes { EditCauses result (K.faults sink.old) (K.faults sink.new) }
 {
     let main = given.main.clone()?;
-    let mut session = Session::open(
-        alloc,
-        machine,
-        files,
-        main,
-        given.date,
-        given.limits,
-        steps,
-    )?;
+    let mut session = Session::open(alloc, machine, files, main, given.date, given.limits, steps)?;
     run_session(alloc, &given.out, commands, &mut session, sink, steps)
 }
 

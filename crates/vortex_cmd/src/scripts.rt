@@ -23,11 +23,7 @@ fn read_bytes(alloc: Global, bytes: &[u8]) -> Result<Scripted, AllocError>
 }
 
 /// Fetches the file of this name and reads it as a script.
-fn fetch_named<S: Source>(
-    alloc: Global,
-    name: &Name,
-    source: &mut S,
-) -> Result<Scripted, Trouble>
+fn fetch_named<S: Source>(alloc: Global, name: &Name, source: &mut S) -> Result<Scripted, Trouble>
     ensures read { IfOk result (λ scripted. ReadsFile (S.holds source.old) name.now scripted) }
     ensures causes { SourceCauses result (S.faults source.old) (S.faults source.new) }
     ensures holds { S.holds source.new ≡ S.holds source.old }

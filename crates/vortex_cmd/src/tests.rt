@@ -30,7 +30,7 @@ Runs TeX on MAIN, which may read the FILEs, and saves NAME.dvi and NAME.log.
 ";
 
 // The page has one rule, 1pt wide and 2pt high.
-const ONE_PAGE_DVI: &[u8] =
+pub const ONE_PAGE_DVI: &[u8] =
     b"\xf7\x02\x01\x83\x92\xc0\x1c\x3b\x00\x00\x00\x00\x03\xe8\x1b TeX output 2024.05.17:0930\
 \x8b\x00\x00\x00\x00\x00\x00\x00\x00\x00\x00\x00\x00\x00\x00\x00\x00\x00\x00\x00\x00\
 \x00\x00\x00\x00\x00\x00\x00\x00\x00\x00\x00\x00\x00\x00\x00\x00\x00\x00\x00\x00\xff\xff\xff\xff\
@@ -163,7 +163,7 @@ fn failing<'a>(
     }
 }
 
-const REFUSED: [&str; 45] = [
+const REFUSED: [&str; 47] = [
     "",
     "gen|--date|2024-5-17-570|--out|a|main.tex",
     "help",
@@ -175,7 +175,7 @@ const REFUSED: [&str; 45] = [
     "run|--date|2024-5-17-570|--date|2024-5-17-570|--out|a|main.tex",
     "run|--date|2024-5-17-570|--out|a|--out|a|main.tex",
     "run|--date|2024-5-17-570|--out|a|--bold|main.tex",
-    "run|--date|2024-5-17-570|--out|a|--script|edits|main.tex",
+    "run|--date|2024-5-17-570|--out|a|--script|b|--script|b|main.tex",
     "run|--date|2024-5-17-570|--out|a|main.tex|--keep",
     // Dates.
     "run|--date|0-5-17-570|--out|a|main.tex",
@@ -194,6 +194,8 @@ const REFUSED: [&str; 45] = [
     "run|--date|2024-5-17-570|--out||main.tex",
     "run|--date|2024-5-17-570|--out=|main.tex",
     "run|--date|2024-5-17-570|--out|a b|main.tex",
+    "run|--date|2024-5-17-570|--out|a|--script||main.tex",
+    "run|--date|2024-5-17-570|--out|a|--script|a b|main.tex",
     "run|--date|2024-5-17-570|--out|a|main tex",
     "run|--date|2024-5-17-570|--out|a|main.tex|b tex",
     "run|--date|2024-5-17-570|--out|a|main.tex|main.tex",

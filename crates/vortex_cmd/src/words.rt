@@ -107,9 +107,9 @@ fn given_of(
     ensures within { IfOk result (λ given. IfSome given IsWithin) }
     ensures given { IfOk result (λ given. given ≡ given_of date limits out script files) }
 {
-    let (Some(date), Some(limits), Some(out), Some(script), Some(files)) =
-        (date, limits, out, script, files)
-    else {
+    let (Some(date), Some(limits), Some(out), Some(script), Some(files)) = (
+        date, limits, out, script, files,
+    ) else {
         return Ok(None);
     };
     let Some(main) = files.as_slice().first() else {
