@@ -15,12 +15,14 @@ fn plain() -> [u8; 256] {
     lower
 }
 
-/// These patterns, the first nine of which are those of The TeXbook for one word.
+/// The patterns that plain TeX has for three words of The TeXbook's appendix H, and some more.
 fn patterns(rt: &HostRuntime) -> Result<Hyphens, Fail> {
     let mut hyphens = Hyphens::new(rt.alloc())?;
     for pattern in [
-        "hy3ph", "he2n", "hena4", "hen5at", "1na", "n2at", "1tio", "2io", "o2n", ".a1b", "c1d.",
-        "1E2f", "x3yz", "x2y",
+        "hy3ph", "he2n", "hena4", "hen5at", "1na", "n2at", "1tio", "2io", "o2n", "1ca", "1co",
+        "on1c", "ag1i", "al1i", "1ci", "1do", "1exp", "gil4", "2i1a", "i2al", "2id", "il1i",
+        "il4ist", "is1ti", "ou2", "pi3a", "r1c", "st2i", "s1tic", "1su", "u1pe", "2us", "x3p",
+        ".a1b", "c1d.", "1E2f", "x3yz", "x2y",
     ] {
         hyphens.add(rt.alloc(), pattern.as_bytes(), &plain())?;
     }
@@ -33,6 +35,13 @@ fn patterns_divide_words(rt: HostRuntime) -> Result<(), Fail> {
     let none: &[usize] = &[];
     for (word, left, right, places) in [
         ("hyphenation", 2, 3, [2, 6].as_slice()),
+        ("concatenation", 2, 3, [3, 7, 9].as_slice()),
+        (
+            "supercalifragilisticexpialidocious",
+            2,
+            3,
+            [2, 5, 8, 13, 17, 20, 22, 24, 27, 29].as_slice(),
+        ),
         ("hyphenation", 1, 1, [2, 6].as_slice()),
         ("hyphenation", 3, 5, [6].as_slice()),
         ("hyphenation", 3, 6, none),
