@@ -1,0 +1,2 @@
+mod ListSteps
+mod StackSteps

@@ -1,0 +1,22 @@
+-- What the sources on the stack are: each stands for elements of the pending input.
+use Rattle.std.specs.Prelude.{◌≢◌, ◌-◌, List, [], ◌∷◌, ◌++◌, fold, length, slice_get, IfSome}
+use Rattle.tx_pending.specs.declared.source.Source.{Source}
+use Rattle.tx_pending.specs.declared.source.Source.TheVariants.{List as Source_list, Line as Source_line}
+use Rattle.tx_pending.specs.Elements.{Element, Unread, list_elements}
+
+-- the elements that a source stands for
+abbrev pub elements_of : Source → List Element
+elements_of (Source_list l) = list_elements l.left l.marked
+elements_of (Source_line l) = Unread l.unread l.state ∷ []
+
+-- a source before others
+abbrev pub before : List Element → Source → List Element
+before behind source = elements_of source ++ behind
+
+-- the elements of a stack of sources, whose innermost one stands last
+abbrev pub stack_elements : List Source → List Element
+stack_elements stack = fold before [] stack
+
+-- something is left of the innermost source, if there is one
+abbrev pub IsReady : List Source → Type 0
+IsReady stack = IfSome (slice_get stack (length stack - 1)) (λ top. elements_of top ≢ [])

@@ -1,0 +1,91 @@
+//! A list of tokens that is being read.
+ghost use Rattle.std.specs.Prelude.{◌≡◌, ◌≢◌, ◌↔◌, [], slice_get, IsTrue, IfOk};
+ghost use Rattle.std.specs.Option.{option_copied};
+ghost use Rattle.tx_pending.specs.Elements.{list_elements};
+ghost use Rattle.tx_pending.specs.Steps.{IsListStep};
+
+use crate::given::Given;
+use std::alloc::AllocError;
+use std::marker::Model;
+use tx_char::Token;
+use tx_toklist::TokList;
+
+/// A shared list, and how many of its tokens are read. Contracts see the tokens that are left, and whether a marker
+/// comes behind them.
+#[derive(Debug, Drop)]
+pub struct ListReading {
+    list: TokList,
+    read: usize,
+    marked: bool,
+}
+
+impl Model for ListReading {
+    ghost use Rattle.std.specs.Prelude.{drop, length, ◌≤◌};
+    ghost use Rattle.tx_pending.specs.Tails.{ListTail};
+
+    ghost Value = { ListTail };
+
+    ghost view = { λ l. record { left = drop l.read l.list; marked = l.marked } };
+
+    ghost invariant = { λ l. l.read ≤ length l.list };
+}
+
+impl ListReading {
+    /// A list of which nothing is read.
+    pub fn new(list: TokList, marked: bool) -> ListReading
+        ensures { result ≡ record { left = list; marked = marked } }
+    {
+        ListReading {
+            list,
+            read: 0,
+            marked,
+        }
+    }
+
+    /// The next token, and the marker where none is left. Its only error is that no more owners can be counted.
+    pub fn next(&mut self) -> Result<Given, AllocError>
+        requires { list_elements self.old.left self.old.marked ≢ [] }
+        ensures { IfOk result (λ given. IsListStep self.old given self.new) }
+    {
+        let tokens = self.list.as_slice();
+        if self.read >= tokens.len() {
+            self.marked = false;
+            return Ok(Given::Marker);
+        }
+        let token = tokens[self.read].clone()?;
+        self.read += 1;
+        Ok(Given::Token(token))
+    }
+
+    /// Whether neither a token nor a marker is left.
+    pub fn is_spent(&self) -> bool
+        ensures { IsTrue result ↔ (list_elements self.now.left self.now.marked ≡ []) }
+    {
+        !self.marked && self.read >= self.list.len()
+    }
+
+    /// Whether a marker comes behind the tokens.
+    pub fn is_marked(&self) -> bool
+        ensures { result ≡ self.now.marked }
+    {
+        self.marked
+    }
+
+    /// The token at this place behind those that are read, lent.
+    pub fn get(&self, place: usize) -> Option<&Token>
+        ensures { option_copied result ≡ slice_get self.now.left place }
+    {
+        self.list.as_slice()[self.read..].get(place)
+    }
+
+    /// Another reading of the same list, which copies no token. Its only error is that no more owners can be counted.
+    pub fn share(&self) -> Result<ListReading, AllocError>
+        ensures { IfOk result (λ shared. shared ≡ self.now) }
+    {
+        Ok(ListReading {
+            list: self.list.share()?,
+            read: self.read,
+            marked: self.marked,
+        })
+    }
+}
