@@ -1,2 +1,3 @@
 mod ListSteps
+mod Places
 mod StackSteps

@@ -2,7 +2,7 @@
 //! markers and lines, whose front is replaced; the code keeps a stack of shared lists and lines, none of which is copied
 //! to be read.
 //!
-//! Modules in reading order: `next`, `given`, `list`, `line`, `source`, `pending`.
+//! Modules in reading order: `next`, `given`, `list`, `line`, `source`, `same`, `pending`.
 #![tactic(auto)]
 
 mod given;
@@ -10,6 +10,7 @@ mod line;
 mod list;
 mod next;
 mod pending;
+mod same;
 mod source;
 #[cfg(test)]
 mod tests;

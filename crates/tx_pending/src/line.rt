@@ -1,5 +1,6 @@
 //! A line that is being read.
-ghost use Rattle.std.specs.Prelude.{◌≡◌, IfOk};
+ghost use Rattle.std.specs.Prelude.{◌≡◌, ◌↔◌, ◌∷◌, ◌++◌, IsTrue, IfOk};
+ghost use Rattle.std.specs.Option.{option_to_list};
 ghost use Rattle.tx_lex.specs.declared.types.ReadState.TheVariants.{N};
 ghost use Rattle.tx_pending.specs.Steps.{IsLineStep};
 
@@ -68,6 +69,19 @@ impl LineReading {
         }
     }
 
+    /// Whether both have the same rest, which is read in the same state.
+    pub fn same(&self, other: &LineReading) -> bool
+        ensures { IsTrue result ↔ (self.now ≡ other.now) }
+    {
+        self.state == other.state
+            && same_rest(
+                self.front,
+                &self.line.as_ref().as_slice()[self.used..],
+                other.front,
+                &other.line.as_ref().as_slice()[other.used..],
+            )
+    }
+
     /// Another reading of the same line, which copies no byte. Its only error is that no more owners can be counted.
     pub fn share(&self) -> Result<LineReading, AllocError>
         ensures { IfOk result (λ shared. shared ≡ self.now) }
@@ -79,4 +93,33 @@ impl LineReading {
             state: self.state,
         })
     }
+}
+
+/// Whether two texts are the same, before each of which a character may stand that is not its own.
+fn same_rest(front: Option<u8>, rest: &[u8], other_front: Option<u8>, other_rest: &[u8]) -> bool
+    ensures { IsTrue result ↔ (option_to_list front ++ rest.now ≡ option_to_list other_front ++ other_rest.now) }
+{
+    match (front, other_front) {
+        (Some(code), Some(other_code)) => code == other_code && same_bytes(rest, other_rest),
+        (Some(code), None) => begins_so(other_rest, code, rest),
+        (None, Some(other_code)) => begins_so(rest, other_code, other_rest),
+        (None, None) => same_bytes(rest, other_rest),
+    }
+}
+
+/// Whether a text is this character and then this rest.
+fn begins_so(text: &[u8], code: u8, rest: &[u8]) -> bool
+    ensures { IsTrue result ↔ (code ∷ rest.now ≡ text.now) }
+{
+    match text {
+        [first, behind @ ..] => *first == code && same_bytes(behind, rest),
+        [] => false,
+    }
+}
+
+/// Whether two texts are the same.
+fn same_bytes(one: &[u8], other: &[u8]) -> bool
+    ensures { IsTrue result ↔ (one.now ≡ other.now) }
+{
+    one == other
 }

@@ -1,5 +1,5 @@
 //! A list of tokens that is being read.
-ghost use Rattle.std.specs.Prelude.{◌≡◌, ◌≢◌, ◌↔◌, [], slice_get, IsTrue, IfOk};
+ghost use Rattle.std.specs.Prelude.{◌≡◌, ◌≢◌, ◌↔◌, ◌<◌, [], length, slice_get, IsTrue, IfOk};
 ghost use Rattle.std.specs.Option.{option_copied};
 ghost use Rattle.tx_pending.specs.Elements.{list_elements};
 ghost use Rattle.tx_pending.specs.Steps.{IsListStep};
@@ -64,18 +64,37 @@ impl ListReading {
         !self.marked && self.read >= self.list.len()
     }
 
-    /// Whether a marker comes behind the tokens.
-    pub fn is_marked(&self) -> bool
-        ensures { result ≡ self.now.marked }
+    /// How many elements are left: the tokens, and the marker.
+    pub fn count(&self) -> usize
+        ensures { result ≡ length (list_elements self.now.left self.now.marked) }
     {
-        self.marked
+        let tokens = self.list.as_slice();
+        let left = tokens.len() - self.read;
+        if self.marked {
+            left + 1
+        } else {
+            left
+        }
     }
 
-    /// The token at this place behind those that are read, lent.
-    pub fn get(&self, place: usize) -> Option<&Token>
+    /// The token at this place of those that are left, lent.
+    fn get(&self, place: usize) -> Option<&Token>
         ensures { option_copied result ≡ slice_get self.now.left place }
     {
         self.list.as_slice()[self.read..].get(place)
+    }
+
+    /// Whether the elements at these places are the same token, or are both markers.
+    pub fn same_at(&self, place: usize, other: &ListReading, other_place: usize) -> bool
+        requires here { place < length (list_elements self.now.left self.now.marked) }
+        requires there { other_place < length (list_elements other.now.left other.now.marked) }
+        ensures { IsTrue result ↔ (slice_get (list_elements self.now.left self.now.marked) place ≡ slice_get (list_elements other.now.left other.now.marked) other_place) }
+    {
+        match (self.get(place), other.get(other_place)) {
+            (Some(token), Some(other_token)) => token.same(other_token),
+            (None, None) => true,
+            _ => false,
+        }
     }
 
     /// Another reading of the same list, which copies no token. Its only error is that no more owners can be counted.

@@ -1,5 +1,5 @@
 //! The pending input.
-ghost use Rattle.std.specs.Prelude.{◌≡◌, ◌++◌, IfOk, OnOk, OnErr};
+ghost use Rattle.std.specs.Prelude.{◌≡◌, ◌↔◌, ◌++◌, IsTrue, IfOk, OnOk, OnErr};
 ghost use Rattle.tx_pending.specs.Elements.{no_input, step, with_close, with_line, with_list};
 ghost use Rattle.tx_pending.specs.Sources.{IsReady, elements_of, stack_elements};
 ghost use Rattle.tx_pending.specs.Steps.{Takes};
@@ -8,6 +8,7 @@ use crate::given::Given;
 use crate::line::LineReading;
 use crate::list::ListReading;
 use crate::next::Next;
+use crate::same::same_elements;
 use crate::source::Source;
 use std::alloc::{AllocError, Global};
 use std::marker::Model;
@@ -92,6 +93,13 @@ impl Pending {
             }
             Given::E1 => Ok(Next::E1),
         }
+    }
+
+    /// Whether the same is pending, however the lists are cut, and \endinput came in both or in none.
+    pub fn same(&self, other: &Pending) -> bool
+        ensures { IsTrue result ↔ (self.now ≡ other.now) }
+    {
+        self.closing == other.closing && same_elements(&self.stack, &other.stack)
     }
 
     /// The same pending input for another owner, in which no token and no byte is copied. Its only error is want of

@@ -1,5 +1,5 @@
 //! The sources of pending input.
-ghost use Rattle.std.specs.Prelude.{◌≡◌, ◌≢◌, ◌↔◌, [], IsTrue, IfOk};
+ghost use Rattle.std.specs.Prelude.{◌≡◌, ◌≢◌, ◌↔◌, ◌<◌, [], length, slice_get, IsTrue, IfOk};
 ghost use Rattle.tx_pending.specs.Sources.{elements_of};
 ghost use Rattle.tx_pending.specs.Steps.{Gives};
 
@@ -35,6 +35,31 @@ impl Source {
         match self {
             Source::List(list) => list.next(),
             Source::Line(line) => line.next(alloc, codes),
+        }
+    }
+
+    /// How many elements it stands for.
+    pub fn count(&self) -> usize
+        ensures { result ≡ length (elements_of self.now) }
+    {
+        match self {
+            Source::List(list) => list.count(),
+            Source::Line(_) => 1,
+        }
+    }
+
+    /// Whether the elements at these places are the same.
+    pub fn same_at(&self, place: usize, other: &Source, other_place: usize) -> bool
+        requires here { place < length (elements_of self.now) }
+        requires there { other_place < length (elements_of other.now) }
+        ensures { IsTrue result ↔ (slice_get (elements_of self.now) place ≡ slice_get (elements_of other.now) other_place) }
+    {
+        match (self, other) {
+            (Source::List(list), Source::List(other_list)) => {
+                list.same_at(place, other_list, other_place)
+            }
+            (Source::Line(line), Source::Line(other_line)) => line.same(other_line),
+            _ => false,
         }
     }
 
