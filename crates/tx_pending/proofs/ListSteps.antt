@@ -39,8 +39,7 @@ length-of-nothing tokens read h =
 pub spent-tells : (tail : ListTail) (tokens : List Token) (read n : ℕ) (marked : Bool) → record { left = drop read tokens; marked = marked } ≡ tail → n ≡ length tokens → marked ≡ false → (IsTrue (leb n read) → list_elements tail.left tail.marked ≡ []) × (list_elements tail.left tail.marked ≡ [] → IsTrue (leb n read))
 spent-tells tail tokens read n marked view long unmarked =
     let left : drop read tokens ≡ tail.left = ap (λ (t : ListTail). t.left) view in
-    let mark : marked ≡ tail.marked = ap (λ (t : ListTail). t.marked) view in
-    (
+    let mark : marked ≡ tail.marked = ap (λ (t : ListTail). t.marked) view in (
       (λ t. let l : n ≤ read = leb-true n read t in spent-of tail.left tail.marked (sym mark ∙ unmarked) (sym left ∙ drop_all read tokens (omega arith))),
       (λ h. let l : length tokens ≤ read = length-of-nothing tokens read (left ∙ left-of tail.left tail.marked h) in le-leb n read (omega arith)),
     )

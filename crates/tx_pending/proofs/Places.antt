@@ -18,7 +18,7 @@ ahead-source stack place x within at inside =
     let some : 0 < place.sources = at.0 in
     let n : place.sources - 1 + 1 ≡ place.sources = omega arith in
     let e : take place.sources stack ≡ take (place.sources - 1) stack ++ x ∷ [] =
-      ap (λ m. take m stack) (sym n) ∙ take_more stack (place.sources - 1) x (omega arith) ∙ ap (λ t. take (place.sources - 1) stack ++ t ∷ []) (sym at.1) in
+    ap (λ m. take m stack) (sym n) ∙ take_more stack (place.sources - 1) x (omega arith) ∙ ap (λ t. take (place.sources - 1) stack ++ t ∷ []) (sym at.1) in
     ap (λ s. drop place.passed (stack_elements s)) e
     ∙ ap (drop place.passed) (stack_elements-top (take (place.sources - 1) stack) x)
     ∙ drop-append-le place.passed (elements_of x) (stack_elements (take (place.sources - 1) stack)) inside
@@ -44,10 +44,10 @@ settled-some stack place x within at here =
     record {
       within = within;
       inside = λ y other.
-        let some : 0 < place.sources = at.0 in
-        let e : x ≡ y = same-source stack (place.sources - 1) x y (omega arith) at.1 other.1 in
-        let P : Source → Type 0 = λ s. place.passed < length (elements_of s) in
-        subst P e here;
+          let some : 0 < place.sources = at.0 in
+          let e : x ≡ y = same-source stack (place.sources - 1) x y (omega arith) at.1 other.1 in
+          let P : Source → Type 0 = λ s. place.passed < length (elements_of s) in
+          subst P e here;
     }
 
 pub settled-none : (stack : List Source) (place : Place) → place.sources ≤ length stack → place.sources ≤ 0 → IsSettled stack place
@@ -104,28 +104,28 @@ none-ahead stack place e = ap (λ n. drop place.passed (stack_elements (take n s
 -- where nothing is ahead in one of two stacks, the same is ahead if nothing is in the other
 pub end-tells : (one other : List Source) (here there : Place) → IsSettled one here → IsSettled other there → (here.sources ≤ 0) ⊎ (there.sources ≤ 0) → IsTrue (nat_eq here.sources there.sources) ↔ (ahead one here ≡ ahead other there)
 end-tells one other here there s t over = elim (eqb_tells here.sources there.sources) [
-    | inl p ↦
+  | inl p ↦
       let h : here.sources ≡ 0 = elim over [ inl l ↦ omega arith | inr l ↦ omega arith ] in
       let h' : there.sources ≡ 0 = omega arith in
       ((λ u. none-ahead one here h ∙ sym (none-ahead other there h')), (λ u. p.0))
-    | inr p ↦ (
-      (λ u. absurd (cc (u, p.0))),
-      (λ u. elim over [
-        | inl l ↦
+  | inr p ↦ (
+    (λ u. absurd (cc (u, p.0))),
+    (λ u. elim over [
+      | inl l ↦
           let h : here.sources ≡ 0 = omega arith in
           let some : 0 < there.sources = omega arith in
           let m : 0 < length (ahead other there) = sources-ahead other there t some in
           let n : length (ahead other there) ≡ 0 = ap length (sym u ∙ none-ahead one here h) in
           absurd (omega arith)
-        | inr l ↦
+      | inr l ↦
           let h : there.sources ≡ 0 = omega arith in
           let some : 0 < here.sources = omega arith in
           let m : 0 < length (ahead one here) = sources-ahead one here s some in
           let n : length (ahead one here) ≡ 0 = ap length (u ∙ none-ahead other there h) in
           absurd (omega arith)
-      ])
-    )
-    ]
+    ]),
+  )
+]
 
 pub fewer-ahead : (stack : List Source) (place next : Place) → IsSettled stack place → 0 < place.sources → ahead stack next ≡ drop 1 (ahead stack place) → length (ahead stack next) < length (ahead stack place)
 fewer-ahead stack place next s some e =

@@ -70,11 +70,7 @@ impl ListReading {
     {
         let tokens = self.list.as_slice();
         let left = tokens.len() - self.read;
-        if self.marked {
-            left + 1
-        } else {
-            left
-        }
+        if self.marked { left + 1 } else { left }
     }
 
     /// The token at this place of those that are left, lent.

@@ -53,7 +53,10 @@ impl Pending {
         ensures err { OnErr result (self.new ≡ self.old) }
     {
         drop_spent(&mut self.stack);
-        put(&mut self.stack, Source::List(ListReading::new(list, marked)))
+        put(
+            &mut self.stack,
+            Source::List(ListReading::new(list, marked)),
+        )
     }
 
     /// Puts a new line at the front, which is read from the state at a line's start on. After want of memory nothing has

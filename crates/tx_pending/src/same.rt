@@ -32,10 +32,13 @@ fn front(stack: &[Source]) -> Place
     ensures all { ahead stack.now result ≡ stack_elements stack.now }
     ensures settled { IsSettled stack.now result }
 {
-    settled(stack, Place {
-        sources: stack.len(),
-        passed: 0,
-    })
+    settled(
+        stack,
+        Place {
+            sources: stack.len(),
+            passed: 0,
+        },
+    )
 }
 
 /// The place of the next element, at or behind a place.
@@ -72,10 +75,13 @@ fn beyond(stack: &[Source], place: Place) -> Place
             passed: place.passed + 1,
         };
     }
-    settled(stack, Place {
-        sources: place.sources - 1,
-        passed: 0,
-    })
+    settled(
+        stack,
+        Place {
+            sources: place.sources - 1,
+            passed: 0,
+        },
+    )
 }
 
 /// Whether the elements at these places are the same.

@@ -21,7 +21,8 @@ impl BodyPart {
     {
         match (self, other) {
             (BodyPart::Token(token), BodyPart::Token(other_token)) => token.same(other_token),
-            (BodyPart::Argument(number), BodyPart::Argument(other_number)) => number == other_number,
+            (BodyPart::Argument(number), BodyPart::Argument(other_number)) => number
+                == other_number,
             _ => false,
         }
     }

@@ -50,12 +50,15 @@ impl Macro {
         ensures { IfOk result (λ m. m ≡ record { parameters = parameters; body = body; long = long; outer = outer }) }
     {
         Ok(Macro {
-            made: Rc::new(alloc, Made {
-                parameters,
-                body,
-                long,
-                outer,
-            })?,
+            made: Rc::new(
+                alloc,
+                Made {
+                    parameters,
+                    body,
+                    long,
+                    outer,
+                },
+            )?,
         })
     }
 

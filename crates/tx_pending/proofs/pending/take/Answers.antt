@@ -14,10 +14,10 @@ returns c =
     let some : c.args.stack.now.len ≢ 0 = false-eqb c.args.stack.now.len 0 (sym (sym c.is_empty.ensures ∙ c.if-is_empty.false)) in
     let long : length stack ≡ c.len-top.result - 1 + 1 = omega (arith, c.args.stack.now.ok, c.len-top.ensures) in
     elim c.if-is_used.branch [
-    | then-is_used w ↦
-      subst P (sym (ap (λ v. v.items) w.stack-is ∙ w.truncate.ensures.items))
-      (takes-line c.args.codes.now stack (c.len-top.result - 1) c.index_mut.result.now c.next.new.self c.in_ok-given.given long c.index_mut.ensures.value c.in_ok-given.ensures (c.is_used.ensures.0 w.if-is_used.true))
-    | else-is_used w ↦
-      subst P (sym (ap (λ v. v.items) w.stack-is))
-      (takes-top c.args.codes.now stack (c.len-top.result - 1) c.index_mut.result.now c.next.new.self c.in_ok-given.given long c.index_mut.ensures.value c.in_ok-given.ensures (λ h. other-than w.if-is_used.false (c.is_used.ensures.1 h)))
+      | then-is_used w ↦
+          subst P (sym (ap (λ v. v.items) w.stack-is ∙ w.truncate.ensures.items))
+          (takes-line c.args.codes.now stack (c.len-top.result - 1) c.index_mut.result.now c.next.new.self c.in_ok-given.given long c.index_mut.ensures.value c.in_ok-given.ensures (c.is_used.ensures.0 w.if-is_used.true))
+      | else-is_used w ↦
+          subst P (sym (ap (λ v. v.items) w.stack-is))
+          (takes-top c.args.codes.now stack (c.len-top.result - 1) c.index_mut.result.now c.next.new.self c.in_ok-given.given long c.index_mut.ensures.value c.in_ok-given.ensures (λ h. other-than w.if-is_used.false (c.is_used.ensures.1 h)))
     ]
