@@ -30,6 +30,21 @@ impl Toks {
         }
     }
 
+    /// These tokens; takes no memory.
+    pub fn from_vec(items: Vec<Token>) -> Toks
+        ensures { result ≡ items.items }
+    {
+        Toks { items }
+    }
+
+    /// Gives the tokens back; takes no memory.
+    pub fn into_vec(self) -> Vec<Token>
+        ensures { result.items ≡ self }
+    {
+        let Toks { items } = self;
+        items
+    }
+
     /// The tokens, lent.
     pub fn as_slice(&self) -> &[Token]
         ensures { result.now ≡ self.now }
