@@ -1,0 +1,3 @@
+mod ListSteps
+mod Places
+mod StackSteps

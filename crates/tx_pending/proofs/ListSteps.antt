@@ -1,0 +1,66 @@
+-- Reading a list.
+use Rattle.std.proofs.Common.{◌≡◌, ◌≢◌, ℕ, ◌+◌, ◌-◌, ◌≤◌, ◌<◌, Bool, true, false, cond, List, [], ◌∷◌, ◌++◌, length, take, drop, refl, ap, sym, ◌∙◌, arith, leb, leb-true, le-leb, IsTrue, ◌↔◌, get_or, slice_get, subst, zero, suc}
+use Rattle.std.proofs.lemmas.List.{drop_all, length-drop, take_rest}
+use Rattle.tx_char.specs.declared.tokens.Token.{Token}
+use Rattle.tx_lex.specs.declared.types.ReadState.{ReadState}
+use Rattle.tx_pending.specs.declared.source.Source.{Source}
+use Rattle.tx_pending.specs.declared.source.Source.TheVariants.{List as Source_list, Line as Source_line}
+use Rattle.tx_pending.specs.Elements.{Element, Unread, list_elements}
+use Rattle.tx_pending.specs.Sources.{elements_of}
+use Rattle.tx_pending.specs.Tails.{ListTail, LineTail}
+
+-- a list of which something is left, but no token, is marked
+pub marked-of : (left : List Token) (marked : Bool) → list_elements left marked ≢ [] → left ≡ [] → marked ≡ true
+marked-of left true h e = refl
+marked-of [] false h e = absurd (h refl)
+marked-of (t ∷ left) false h e = cc
+
+pub spent-of : (left : List Token) (marked : Bool) → marked ≡ false → left ≡ [] → list_elements left marked ≡ []
+spent-of [] false m e = refl
+spent-of [] true m e = cc
+spent-of (t ∷ left) marked m e = cc
+
+-- a list of which nothing is left has no token left, and no marker
+pub left-of : (left : List Token) (marked : Bool) → list_elements left marked ≡ [] → left ≡ []
+left-of [] marked h = refl
+left-of (t ∷ left) true h = cc
+left-of (t ∷ left) false h = cc
+
+pub unmarked-of : (left : List Token) (marked : Bool) → list_elements left marked ≡ [] → marked ≡ false
+unmarked-of left false h = refl
+unmarked-of [] true h = cc
+unmarked-of (t ∷ left) true h = cc
+
+pub length-of-nothing : (tokens : List Token) (read : ℕ) → drop read tokens ≡ [] → length tokens ≤ read
+length-of-nothing tokens read h =
+    let e : length tokens - read ≡ 0 = sym (length-drop read tokens) ∙ ap length h in omega arith
+
+-- whether a list is spent, by how much of it is read
+pub spent-tells : (tail : ListTail) (tokens : List Token) (read n : ℕ) (marked : Bool) → record { left = drop read tokens; marked = marked } ≡ tail → n ≡ length tokens → marked ≡ false → (IsTrue (leb n read) → list_elements tail.left tail.marked ≡ []) × (list_elements tail.left tail.marked ≡ [] → IsTrue (leb n read))
+spent-tells tail tokens read n marked view long unmarked =
+    let left : drop read tokens ≡ tail.left = ap (λ (t : ListTail). t.left) view in
+    let mark : marked ≡ tail.marked = ap (λ (t : ListTail). t.marked) view in (
+      (λ t. let l : n ≤ read = leb-true n read t in spent-of tail.left tail.marked (sym mark ∙ unmarked) (sym left ∙ drop_all read tokens (omega arith))),
+      (λ h. let l : length tokens ≤ read = length-of-nothing tokens read (left ∙ left-of tail.left tail.marked h) in le-leb n read (omega arith)),
+    )
+
+list-no-line : (left : List Token) (marked : Bool) (unread : List ℕ) (state : ReadState) (i j : ℕ) → i < length (list_elements left marked) → j < 1 → slice_get (list_elements left marked) i ≡ slice_get (Unread unread state ∷ []) j → ⊥
+list-no-line left marked unread state i (suc j) l m h = absurd (omega arith)
+list-no-line [] true unread state zero zero l m h = cc
+list-no-line [] true unread state (suc i) zero l m h = absurd (omega arith)
+list-no-line [] false unread state i zero l m h = absurd (omega arith)
+list-no-line (t ∷ left) marked unread state zero zero l m h = cc
+list-no-line (t ∷ left) marked unread state (suc i) zero l m h = list-no-line left marked unread state i zero (omega arith) m h
+
+-- no element of a list is a line
+pub no-line : (a b : Source) (l : ListTail) (m : LineTail) (i j : ℕ) → a ≡ Source_list l → b ≡ Source_line m → i < length (elements_of a) → j < length (elements_of b) → slice_get (elements_of a) i ≡ slice_get (elements_of b) j → ⊥
+no-line a b l m i j e f =
+    let P : Source → Source → Type 0 = λ s t. i < length (elements_of s) → j < length (elements_of t) → slice_get (elements_of s) i ≡ slice_get (elements_of t) j → ⊥ in
+    subst (λ s. P s b) (sym e) (subst (λ t. P (Source_list l) t) (sym f) (list-no-line l.left l.marked m.unread m.state i j))
+
+-- a text that begins with this character
+pub begins : (text rest : List ℕ) (code : ℕ) (b : Bool) → 1 ≤ length text → get_or text 0 0 ≡ code → (IsTrue b ↔ (take (length text - 1) (drop 1 text) ≡ rest)) → IsTrue b ↔ (code ∷ rest ≡ text)
+begins [] rest code b some first h = absurd (omega arith)
+begins (c ∷ text) rest code b some first h =
+    let e : take (length (c ∷ text) - 1) (drop 1 (c ∷ text)) ≡ text = take_rest (c ∷ text) 1 in
+    ((λ t. let r : take (length (c ∷ text) - 1) (drop 1 (c ∷ text)) ≡ rest = h.0 t in cc), (λ u. h.1 (let v : text ≡ rest = cc in e ∙ v)))

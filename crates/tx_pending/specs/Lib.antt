@@ -1,0 +1,4 @@
+pub mod Elements
+pub mod Tails
+pub mod Steps
+pub mod Sources

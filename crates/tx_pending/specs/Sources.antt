@@ -1,0 +1,41 @@
+-- What the sources on the stack are: each stands for elements of the pending input.
+use Rattle.std.specs.Prelude.{◌≡◌, ◌≢◌, ◌-◌, ◌≤◌, ◌<◌, drop, take, slice_index_or, List, [], ◌∷◌, ◌++◌, fold, length, slice_get, IfSome}
+use Rattle.tx_pending.specs.declared.source.Source.{Source}
+use Rattle.tx_pending.specs.declared.source.Source.TheVariants.{List as Source_list, Line as Source_line}
+use Rattle.tx_pending.specs.declared.same.Place.{Place}
+use Rattle.tx_pending.specs.Elements.{Element, Unread, list_elements}
+
+-- the elements that a source stands for
+abbrev pub elements_of : Source → List Element
+elements_of (Source_list l) = list_elements l.left l.marked
+elements_of (Source_line l) = Unread l.unread l.state ∷ []
+
+-- a source before others
+abbrev pub before : List Element → Source → List Element
+before behind source = elements_of source ++ behind
+
+-- the elements of a stack of sources, whose innermost one stands last
+abbrev pub stack_elements : List Source → List Element
+stack_elements stack = fold before [] stack
+
+-- something is left of the innermost source, if there is one
+abbrev pub IsReady : List Source → Type 0
+IsReady stack = IfSome (slice_get stack (length stack - 1)) (λ top. elements_of top ≢ [])
+
+-- the elements that are ahead at a place of a stack
+abbrev pub ahead : List Source → Place → List Element
+ahead stack place = drop place.passed (stack_elements (take place.sources stack))
+
+-- the source at which a place stands
+abbrev pub IsAt : List Source → Place → Source → Type 0
+IsAt stack place source = (0 < place.sources) × (source ≡ slice_index_or stack (place.sources - 1) source)
+
+-- a place within the stack, and within the source at which it stands
+pub record IsPlace (stack : List Source) (place : Place) : Type 0 where
+  pub within : place.sources ≤ length stack
+  pub inside : (source : Source) → IsAt stack place source → place.passed ≤ length (elements_of source)
+
+-- a place at which an element stands, or nothing is ahead
+pub record IsSettled (stack : List Source) (place : Place) : Type 0 where
+  pub within : place.sources ≤ length stack
+  pub inside : (source : Source) → IsAt stack place source → place.passed < length (elements_of source)

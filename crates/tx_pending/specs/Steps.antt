@@ -1,0 +1,47 @@
+-- A step of reading one source.
+use Rattle.std.specs.Prelude.{◌≡◌, true, false, List, [], ◌∷◌, ◌++◌}
+use Rattle.tx_char.specs.declared.category.Cat.{Cat}
+use Rattle.tx_lex.specs.Reading.{Read, Nothing, Refused, reading}
+use Rattle.tx_pending.specs.declared.given.Given.{Given}
+use Rattle.tx_pending.specs.declared.given.Given.TheVariants.{Token, Marker, Used, E1}
+use Rattle.tx_pending.specs.declared.next.Next.TheVariants.{Token as Next_token, Marker as Next_marker, Used as Next_used, E1 as Next_E1}
+use Rattle.tx_pending.specs.Tails.{ListTail, LineTail}
+use Rattle.tx_pending.specs.Elements.{Element, Input, Step, step_of}
+
+-- a list gives its first token, or its marker where no token is left
+abbrev pub IsListStep : ListTail → Given → ListTail → Type 0
+IsListStep from (Token token) to = from ≡ record { left = token ∷ to.left; marked = to.marked }
+IsListStep from Marker to = (from ≡ record { left = []; marked = true }) × (to ≡ record { left = []; marked = false })
+IsListStep from Used to = ⊥
+IsListStep from E1 to = ⊥
+
+-- a line gives what the reading of its rest is; all stays where that is no token
+abbrev pub IsLineStep : List Cat → LineTail → Given → LineTail → Type 0
+IsLineStep codes from (Token token) to = reading codes from.state from.unread ≡ Read token to.unread to.state
+IsLineStep codes from Marker to = ⊥
+IsLineStep codes from Used to = (reading codes from.state from.unread ≡ Nothing) × (to ≡ from)
+IsLineStep codes from E1 to = (reading codes from.state from.unread ≡ Refused) × (to ≡ from)
+
+-- what comes next where a source gives this and leaves these elements, before those behind it
+abbrev pub given_step : Input → List Element → List Element → Given → Step
+given_step input left behind (Token token) = record { next = Next_token token; left = record { elements = left ++ behind; closing = input.closing } }
+given_step input left behind Marker = record { next = Next_marker; left = record { elements = left ++ behind; closing = input.closing } }
+given_step input left behind Used = record { next = Next_used input.closing; left = record { elements = behind; closing = false } }
+given_step input left behind E1 = record { next = Next_E1; left = input }
+
+-- a source of these elements gives this and leaves those, whatever is behind it
+pub record Gives (codes : List Cat) (from : List Element) (given : Given) (to : List Element) : Type 0 where
+  pub steps : (input : Input) (behind : List Element) → step_of codes input (from ++ behind) ≡ given_step input to behind given
+  pub stays : given ≡ E1 → to ≡ from
+
+-- what comes next where all that is pending gives this and leaves these elements
+abbrev pub taken_step : Input → List Element → Given → Step
+taken_step input left (Token token) = record { next = Next_token token; left = record { elements = left; closing = input.closing } }
+taken_step input left Marker = record { next = Next_marker; left = record { elements = left; closing = input.closing } }
+taken_step input left Used = record { next = Next_used input.closing; left = record { elements = left; closing = false } }
+taken_step input left E1 = record { next = Next_E1; left = input }
+
+-- all that is pending gives this and leaves that
+pub record Takes (codes : List Cat) (from : List Element) (given : Given) (to : List Element) : Type 0 where
+  pub steps : (input : Input) → step_of codes input from ≡ taken_step input to given
+  pub stays : given ≡ E1 → to ≡ from

@@ -1,0 +1,19 @@
+//! Pending input: what TeX reads before it asks for another line (TeX: The Program, part 22). It is one list of tokens,
+//! markers and lines, whose front is replaced; the code keeps a stack of shared lists and lines, none of which is copied
+//! to be read.
+//!
+//! Modules in reading order: `next`, `given`, `list`, `line`, `source`, `same`, `pending`.
+#![tactic(auto)]
+
+mod given;
+mod line;
+mod list;
+mod next;
+mod pending;
+mod same;
+mod source;
+#[cfg(test)]
+mod tests;
+
+pub use next::Next;
+pub use pending::Pending;

@@ -1,0 +1,106 @@
+//! A list of tokens that is being read.
+ghost use Rattle.std.specs.Prelude.{◌≡◌, ◌≢◌, ◌↔◌, ◌<◌, [], length, slice_get, IsTrue, IfOk};
+ghost use Rattle.std.specs.Option.{option_copied};
+ghost use Rattle.tx_pending.specs.Elements.{list_elements};
+ghost use Rattle.tx_pending.specs.Steps.{IsListStep};
+
+use crate::given::Given;
+use std::alloc::AllocError;
+use std::marker::Model;
+use tx_char::Token;
+use tx_toklist::TokList;
+
+/// A shared list, and how many of its tokens are read. Contracts see the tokens that are left, and whether a marker
+/// comes behind them.
+#[derive(Debug, Drop)]
+pub struct ListReading {
+    list: TokList,
+    read: usize,
+    marked: bool,
+}
+
+impl Model for ListReading {
+    ghost use Rattle.std.specs.Prelude.{drop, length, ◌≤◌};
+    ghost use Rattle.tx_pending.specs.Tails.{ListTail};
+
+    ghost Value = { ListTail };
+
+    ghost view = { λ l. record { left = drop l.read l.list; marked = l.marked } };
+
+    ghost invariant = { λ l. l.read ≤ length l.list };
+}
+
+impl ListReading {
+    /// A list of which nothing is read.
+    pub fn new(list: TokList, marked: bool) -> ListReading
+        ensures { result ≡ record { left = list; marked = marked } }
+    {
+        ListReading {
+            list,
+            read: 0,
+            marked,
+        }
+    }
+
+    /// The next token, and the marker where none is left. Its only error is that no more owners can be counted.
+    pub fn next(&mut self) -> Result<Given, AllocError>
+        requires { list_elements self.old.left self.old.marked ≢ [] }
+        ensures { IfOk result (λ given. IsListStep self.old given self.new) }
+    {
+        let tokens = self.list.as_slice();
+        if self.read >= tokens.len() {
+            self.marked = false;
+            return Ok(Given::Marker);
+        }
+        let token = tokens[self.read].clone()?;
+        self.read += 1;
+        Ok(Given::Token(token))
+    }
+
+    /// Whether neither a token nor a marker is left.
+    pub fn is_spent(&self) -> bool
+        ensures { IsTrue result ↔ (list_elements self.now.left self.now.marked ≡ []) }
+    {
+        !self.marked && self.read >= self.list.len()
+    }
+
+    /// How many elements are left: the tokens, and the marker.
+    pub fn count(&self) -> usize
+        ensures { result ≡ length (list_elements self.now.left self.now.marked) }
+    {
+        let tokens = self.list.as_slice();
+        let left = tokens.len() - self.read;
+        if self.marked { left + 1 } else { left }
+    }
+
+    /// The token at this place of those that are left, lent.
+    fn get(&self, place: usize) -> Option<&Token>
+        ensures { option_copied result ≡ slice_get self.now.left place }
+    {
+        self.list.as_slice()[self.read..].get(place)
+    }
+
+    /// Whether the elements at these places are the same token, or are both markers.
+    pub fn same_at(&self, place: usize, other: &ListReading, other_place: usize) -> bool
+        requires here { place < length (list_elements self.now.left self.now.marked) }
+        requires there { other_place < length (list_elements other.now.left other.now.marked) }
+        ensures { IsTrue result ↔ (slice_get (list_elements self.now.left self.now.marked) place ≡ slice_get (list_elements other.now.left other.now.marked) other_place) }
+    {
+        match (self.get(place), other.get(other_place)) {
+            (Some(token), Some(other_token)) => token.same(other_token),
+            (None, None) => true,
+            _ => false,
+        }
+    }
+
+    /// Another reading of the same list, which copies no token. Its only error is that no more owners can be counted.
+    pub fn share(&self) -> Result<ListReading, AllocError>
+        ensures { IfOk result (λ shared. shared ≡ self.now) }
+    {
+        Ok(ListReading {
+            list: self.list.share()?,
+            read: self.read,
+            marked: self.marked,
+        })
+    }
+}

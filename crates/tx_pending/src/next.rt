@@ -1,0 +1,15 @@
+//! What reading the pending input answers.
+use tx_char::Token;
+
+/// What comes next.
+#[derive(Debug, Drop)]
+pub enum Next {
+    /// A token.
+    Token(Token),
+    /// The end of a list that was to be marked.
+    Marker,
+    /// The line is used up, or there is none; whether \endinput came since the last such answer.
+    Used { close: bool },
+    /// Error 1: a character of category Invalid was read.
+    E1,
+}

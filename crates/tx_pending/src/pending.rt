@@ -1,0 +1,167 @@
+//! The pending input.
+ghost use Rattle.std.specs.Prelude.{◌≡◌, ◌↔◌, ◌++◌, IsTrue, IfOk, OnOk, OnErr};
+ghost use Rattle.tx_pending.specs.Elements.{no_input, step, with_close, with_line, with_list};
+ghost use Rattle.tx_pending.specs.Sources.{IsReady, elements_of, stack_elements};
+ghost use Rattle.tx_pending.specs.Steps.{Takes};
+
+use crate::given::Given;
+use crate::line::LineReading;
+use crate::list::ListReading;
+use crate::next::Next;
+use crate::same::same_elements;
+use crate::source::Source;
+use std::alloc::{AllocError, Global};
+use std::marker::Model;
+use tx_bytes::Bytes;
+use tx_char::Codes;
+use tx_toklist::TokList;
+
+/// What is read before another line is asked for. Contracts see one list of tokens, markers and lines, and whether
+/// \endinput came since a line was used up.
+#[derive(Debug, Drop)]
+pub struct Pending {
+    /// The innermost source stands last.
+    stack: Vec<Source>,
+    closing: bool,
+}
+
+impl Model for Pending {
+    ghost use Rattle.tx_pending.specs.Elements.{Input};
+
+    ghost Value = { Input };
+
+    ghost use Rattle.tx_pending.specs.Sources.{stack_elements};
+
+    ghost view = { λ p. record { elements = stack_elements p.stack.items; closing = p.closing } };
+}
+
+impl Pending {
+    /// Nothing is pending; takes no memory.
+    pub fn new(alloc: Global) -> Pending
+        ensures { result ≡ no_input }
+    {
+        Pending {
+            stack: Vec::new(alloc),
+            closing: false,
+        }
+    }
+
+    /// Puts a list at the front, and a marker behind it if it is to be marked. No token is copied. After want of memory
+    /// nothing has changed.
+    pub fn push_list(&mut self, list: TokList, marked: bool) -> Result<(), AllocError>
+        ensures ok { OnOk result (self.new ≡ with_list self.old list marked) }
+        ensures err { OnErr result (self.new ≡ self.old) }
+    {
+        drop_spent(&mut self.stack);
+        put(
+            &mut self.stack,
+            Source::List(ListReading::new(list, marked)),
+        )
+    }
+
+    /// Puts a new line at the front, which is read from the state at a line's start on. After want of memory nothing has
+    /// changed.
+    pub fn push_line(&mut self, alloc: Global, line: Bytes) -> Result<(), AllocError>
+        ensures ok { OnOk result (self.new ≡ with_line self.old line) }
+        ensures err { OnErr result (self.new ≡ self.old) }
+    {
+        let reading = LineReading::new(alloc, line)?;
+        drop_spent(&mut self.stack);
+        put(&mut self.stack, Source::Line(reading))
+    }
+
+    /// \endinput: the next `Used` is to tell that the file is to be closed.
+    pub fn end_input(&mut self)
+        ensures { self.new ≡ with_close self.old }
+    {
+        self.closing = true;
+    }
+
+    /// Takes what comes next. `Marker` comes exactly where a marker is at the front; `Used` exactly where a line of which
+    /// nothing but dropped characters is left is at the front, which is taken away, or nothing is pending; `E1` exactly
+    /// where the line at the front has a character of category Invalid next. Its only error is want of memory.
+    pub fn next(&mut self, alloc: Global, codes: &Codes) -> Result<Next, AllocError>
+        ensures next { IfOk result (λ next. next ≡ (step codes.now self.old).next) }
+        ensures left { OnOk result (self.new ≡ (step codes.now self.old).left) }
+    {
+        drop_spent(&mut self.stack);
+        let given = take(&mut self.stack, alloc, codes)?;
+        match given {
+            Given::Token(token) => Ok(Next::Token(token)),
+            Given::Marker => Ok(Next::Marker),
+            Given::Used => {
+                let close = self.closing;
+                self.closing = false;
+                Ok(Next::Used { close })
+            }
+            Given::E1 => Ok(Next::E1),
+        }
+    }
+
+    /// Whether the same is pending, however the lists are cut, and \endinput came in both or in none.
+    pub fn same(&self, other: &Pending) -> bool
+        ensures { IsTrue result ↔ (self.now ≡ other.now) }
+    {
+        self.closing == other.closing && same_elements(&self.stack, &other.stack)
+    }
+
+    /// The same pending input for another owner, in which no token and no byte is copied. Its only error is want of
+    /// memory.
+    pub fn share(&self, alloc: Global) -> Result<Pending, AllocError>
+        ensures { IfOk result (λ shared. shared ≡ self.now) }
+    {
+        Ok(Pending {
+            stack: shared(alloc, &self.stack)?,
+            closing: self.closing,
+        })
+    }
+}
+
+/// Takes the sources away of which nothing is left, so that they don't pile up where macros end with macros.
+fn drop_spent(stack: &mut Vec<Source>)
+    ensures same { stack_elements stack.new.items ≡ stack_elements stack.old.items }
+    ensures ready { IsReady stack.new.items }
+{
+    while let Some(top) = stack.last() {
+        if !top.is_spent() {
+            return;
+        }
+        stack.pop();
+    }
+}
+
+/// Puts a source on the stack. After want of memory nothing has changed.
+fn put(stack: &mut Vec<Source>, source: Source) -> Result<(), AllocError>
+    ensures ok { OnOk result (stack_elements stack.new.items ≡ elements_of source ++ stack_elements stack.old.items) }
+    ensures err { OnErr result (stack.new.items ≡ stack.old.items) }
+{
+    stack.push(source)?;
+    Ok(())
+}
+
+/// Takes what comes next. Its only error is want of memory.
+fn take(stack: &mut Vec<Source>, alloc: Global, codes: &Codes) -> Result<Given, AllocError>
+    requires { IsReady stack.old.items }
+    ensures { IfOk result (λ given. Takes codes.now (stack_elements stack.old.items) given (stack_elements stack.new.items)) }
+{
+    if stack.is_empty() {
+        return Ok(Given::Used);
+    }
+    let top = stack.len() - 1;
+    let given = stack[top].next(alloc, codes)?;
+    if given.is_used() {
+        stack.truncate(top);
+    }
+    Ok(given)
+}
+
+/// The same sources, in a stack of their own. Its only error is want of memory.
+fn shared(alloc: Global, stack: &[Source]) -> Result<Vec<Source>, AllocError>
+    ensures { IfOk result (λ copy. stack_elements copy.items ≡ stack_elements stack.now) }
+{
+    let mut copy = Vec::new(alloc);
+    for source in stack {
+        copy.push(source.share()?)?;
+    }
+    Ok(copy)
+}
