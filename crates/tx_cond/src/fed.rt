@@ -1,12 +1,12 @@
-//! What an automaton answers when it is fed.
+//! What an automaton answers that is fed one item at a time.
 
-/// The answer to one more item.
-#[derive(Clone, Copy, Debug, PartialEq, Eq)]
+/// The answer of an automaton to what it was fed.
+#[derive(Debug, Drop)]
 pub enum Fed<T> {
-    /// It goes on.
+    /// It needs more.
     More,
-    /// What was fed is whole, and means this.
+    /// It is done, with this.
     Done(T),
-    /// What was fed is an error, of this number.
+    /// The error of this number.
     E(u8),
 }

@@ -13,7 +13,7 @@ fn skipped(items: &[SkipItem]) -> Result<Fed<CondWord>, Fail> {
     let mut skipper = Skipper::new();
     let mut answer = Fed::More;
     for item in items {
-        if answer != Fed::More {
+        if !matches!(answer, Fed::More) {
             return Err(Fail::from("an earlier answer"));
         }
         answer = skipper.feed(*item)?;
@@ -33,11 +33,11 @@ fn words_of_inner_conditionals_are_skipped(rt: HostRuntime) -> Result<(), Fail> 
         FI,
         ELSE,
     ];
-    assert!(rt; skipped(&inner[..7])? == Fed::More);
-    assert!(rt; skipped(&inner)? == Fed::Done(CondWord::Else));
-    assert!(rt; skipped(&[SkipItem::Other, OR])? == Fed::Done(CondWord::Or));
-    assert!(rt; skipped(&[SkipItem::If, SkipItem::Outer])? == Fed::E(16));
-    assert!(rt; skipped(&[SkipItem::EndOfFile])? == Fed::E(16));
+    assert!(rt; matches!(skipped(&inner[..7])?, Fed::More));
+    assert!(rt; matches!(skipped(&inner)?, Fed::Done(CondWord::Else)));
+    assert!(rt; matches!(skipped(&[SkipItem::Other, OR])?, Fed::Done(CondWord::Or)));
+    assert!(rt; matches!(skipped(&[SkipItem::If, SkipItem::Outer])?, Fed::E(16)));
+    assert!(rt; matches!(skipped(&[SkipItem::EndOfFile])?, Fed::E(16)));
     Ok(())
 }
 
