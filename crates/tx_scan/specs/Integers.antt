@@ -102,8 +102,12 @@ with_sign negative n behind = Done (if negative then neg_ℤ n else n) behind
 abbrev pub integer : List Item → Reading ℤ
 integer items = next (signs false items) (λ negative rest. next (unsigned rest) (with_sign negative))
 
+-- the range of integers
+abbrev pub IsInRange : ℤ → Type 0
+IsInRange n = (neg_ℤ (pos 2147483647) ≤ℤ n) × (n ≤ℤ pos 2147483647)
+
 -- an answer to the question for a quantity: within the range of integers, or no
 abbrev pub IsQuantity : Value → Type 0
-IsQuantity (Int n) = (neg_ℤ (pos 2147483647) ≤ℤ n) × (n ≤ℤ pos 2147483647)
-IsQuantity (Dimen n) = (neg_ℤ (pos 2147483647) ≤ℤ n) × (n ≤ℤ pos 2147483647)
+IsQuantity (Int n) = IsInRange n
+IsQuantity (Dimen n) = IsInRange n
 IsQuantity (Flag b) = b ≡ false

@@ -10,12 +10,12 @@ use Rattle.tx_scan.specs.declared.scans.IntFed.TheVariants as int_fed
 use Rattle.tx_scan.specs.declared.types.Scanned.{Scanned}
 use Rattle.tx_scan.specs.declared.types.Scanned.TheVariants as scanned
 use Rattle.tx_scan.specs.Readings.{Item, Fed, Reading, More, Done, Wrong, next}
-use Rattle.tx_scan.specs.Integers.{signs, unsigned, first_digit, digits, character_code, space_after, quantity, with_sign, integer}
+use Rattle.tx_scan.specs.Integers.{signs, unsigned, first_digit, digits, character_code, space_after, quantity, with_sign, integer, IsInRange}
 
 abbrev pub part_rest : Bool → IntPart → List Item → Reading ℤ
 part_rest negative Signs items = next (signs negative items) (λ negative rest. next (unsigned rest) (with_sign negative))
 part_rest negative (FirstDigit radix) items = next (first_digit radix items) (with_sign negative)
-part_rest negative (Digits radix n) items = next (digits radix n items) (with_sign negative)
+part_rest negative (Digits constant) items = next (digits constant.radix constant.number items) (with_sign negative)
 part_rest negative Character items = next (character_code items) (with_sign negative)
 part_rest negative (AfterCharacter code) items = next (space_after (pos code) items) (with_sign negative)
 part_rest negative Quantity items = next (quantity items) (with_sign negative)
@@ -52,3 +52,15 @@ Awaits scan scanned.More = awaits_value scan ≡ false
 Awaits scan (scanned.Need kind) = awaits_value scan ≡ true
 Awaits scan (scanned.Done value back) = Unit {0}
 Awaits scan (scanned.E number) = Unit {0}
+
+-- an integer that is done is in the range of integers
+abbrev pub IsWithin : IntFed → Type 0
+IsWithin (int_fed.More new) = Unit {0}
+IsWithin (int_fed.Done value back) = IsInRange value
+IsWithin (int_fed.Wrong number) = Unit {0}
+
+abbrev pub IsInteger : Scanned ℤ → Type 0
+IsInteger scanned.More = Unit {0}
+IsInteger (scanned.Need kind) = Unit {0}
+IsInteger (scanned.Done value back) = IsInRange value
+IsInteger (scanned.E number) = Unit {0}

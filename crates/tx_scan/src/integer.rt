@@ -1,14 +1,14 @@
 //! Integers, token by token (TeX: The Program, sections 440 to 445).
-ghost use Rattle.std.specs.Prelude.{◌≡◌, ◌↔◌, ◌+◌, ◌*◌, ◌<◌, ◌≤◌, ◌∷◌, ◌++◌, [], true, false, pos, neg_ℤ, ◌≤ℤ◌, List, IsTrue, IfOk, MatchOption, option_to_list, if◌then◌else◌};
+ghost use Rattle.std.specs.Prelude.{◌≡◌, ◌↔◌, ◌+◌, ◌*◌, ◌<◌, ◌≤◌, ◌∷◌, ◌++◌, [], true, false, pos, neg_ℤ, ◌≤ℤ◌, List, IsTrue, IfOk, IfSome, MatchOption, option_to_list, if◌then◌else◌};
 ghost use Rattle.tx_scan.specs.Readings.{Item, Fed, Given, Answers};
 ghost use Rattle.tx_scan.specs.Tokens.{base};
-ghost use Rattle.tx_scan.specs.Integers.{integer, IsQuantity};
-ghost use Rattle.tx_scan.specs.Rests.{IsFed, HasTaken, Awaits, TakesName, awaits_value};
+ghost use Rattle.tx_scan.specs.Integers.{integer, IsInRange, IsQuantity};
+ghost use Rattle.tx_scan.specs.Rests.{IsFed, HasTaken, Awaits, TakesName, IsWithin, IsInteger, awaits_value};
 
 use crate::characters::{
     character_named, not_space, token_digit, token_is_command, token_is_other, token_is_space,
 };
-use crate::scans::{IntFed, IntPart, IntScan, Radix};
+use crate::scans::{Constant, IntFed, IntPart, IntScan, Radix};
 use crate::toks::Toks;
 use crate::types::{Kind, Scanned, Value};
 use std::alloc::{AllocError, Global};
@@ -23,13 +23,29 @@ pub const TOO_LARGE: u8 = 7;
 /// The greatest integer.
 const GREATEST: u64 = 2_147_483_647;
 
-/// The number with one more digit, if it isn't too large.
-fn longer(radix: Radix, number: u32, digit: u8) -> Option<u32>
-    ensures { MatchOption result (2147483647 < base radix * number + digit) (λ n. (n ≡ base radix * number + digit) × (n ≤ 2147483647)) }
+/// The constant of one digit.
+fn first(radix: Radix, digit: u8) -> Constant
+    ensures radix { result.radix ≡ radix }
+    ensures number { result.number ≡ digit }
 {
-    let number = u64::from(radix.base()) * u64::from(number) + u64::from(digit);
+    Constant {
+        radix,
+        number: u32::from(digit),
+    }
+}
+
+/// The constant with one more digit, if it isn't too large.
+fn longer(constant: Constant, digit: u8) -> Option<Constant>
+    ensures radix { IfSome result (λ longer. longer.radix ≡ constant.radix) }
+    ensures number { MatchOption result (2147483647 < base constant.radix * constant.number + digit) (λ longer. longer.number ≡ base constant.radix * constant.number + digit) }
+{
+    let radix = constant.radix;
+    let number = u64::from(radix.base()) * u64::from(constant.number) + u64::from(digit);
     if number <= GREATEST {
-        Some(number as u32)
+        Some(Constant {
+            radix,
+            number: number as u32,
+        })
     } else {
         None
     }
@@ -37,8 +53,9 @@ fn longer(radix: Radix, number: u32, digit: u8) -> Option<u32>
 
 /// The number with its sign.
 fn with_its_sign(negative: bool, number: i64) -> i64
-    requires { neg_ℤ (pos 2147483647) ≤ℤ number }
-    ensures { result ≡ (if negative then neg_ℤ number else number) }
+    requires { IsInRange number }
+    ensures value { result ≡ (if negative then neg_ℤ number else number) }
+    ensures within { IsInRange result }
 {
     if negative { -number } else { number }
 }
@@ -52,7 +69,8 @@ fn on(negative: bool, part: IntPart) -> IntFed
 
 /// Signs and spaces, or what begins the number.
 fn feed_sign(negative: bool, token: Token) -> IntFed
-    ensures { IsFed (record { negative = negative; part = IntPart.Signs }) (Fed token) result }
+    ensures fed { IsFed (record { negative = negative; part = IntPart.Signs }) (Fed token) result }
+    ensures within { IsWithin result }
 {
     if token_is_space(&token) || token_is_other(&token, b'+') {
         return on(negative, IntPart::Signs);
@@ -61,7 +79,7 @@ fn feed_sign(negative: bool, token: Token) -> IntFed
         return on(!negative, IntPart::Signs);
     }
     if let Some(digit) = token_digit(Radix::Decimal, &token) {
-        return on(negative, IntPart::Digits(Radix::Decimal, u32::from(digit)));
+        return on(negative, IntPart::Digits(first(Radix::Decimal, digit)));
     }
     if token_is_other(&token, b'\'') {
         return on(negative, IntPart::FirstDigit(Radix::Octal));
@@ -80,30 +98,36 @@ fn feed_sign(negative: bool, token: Token) -> IntFed
 
 /// The first digit of an octal or hexadecimal constant.
 fn feed_first_digit(negative: bool, radix: Radix, token: Token) -> IntFed
-    ensures { IsFed (record { negative = negative; part = IntPart.FirstDigit radix }) (Fed token) result }
+    ensures fed { IsFed (record { negative = negative; part = IntPart.FirstDigit radix }) (Fed token) result }
+    ensures within { IsWithin result }
 {
     match token_digit(radix, &token) {
-        Some(digit) => on(negative, IntPart::Digits(radix, u32::from(digit))),
+        Some(digit) => on(negative, IntPart::Digits(first(radix, digit))),
         None => IntFed::Wrong(MISSING_NUMBER),
     }
 }
 
 /// One more digit, or what ends the number.
-fn feed_digit(negative: bool, radix: Radix, number: u32, token: Token) -> IntFed
-    ensures { IsFed (record { negative = negative; part = IntPart.Digits radix number }) (Fed token) result }
+fn feed_digit(negative: bool, constant: Constant, token: Token) -> IntFed
+    ensures fed { IsFed (record { negative = negative; part = IntPart.Digits constant }) (Fed token) result }
+    ensures within { IsWithin result }
 {
-    let Some(digit) = token_digit(radix, &token) else {
-        return IntFed::Done(with_its_sign(negative, i64::from(number)), not_space(token));
+    let Some(digit) = token_digit(constant.radix, &token) else {
+        return IntFed::Done(
+            with_its_sign(negative, i64::from(constant.number)),
+            not_space(token),
+        );
     };
-    match longer(radix, number, digit) {
-        Some(number) => on(negative, IntPart::Digits(radix, number)),
+    match longer(constant, digit) {
+        Some(constant) => on(negative, IntPart::Digits(constant)),
         None => IntFed::Wrong(TOO_LARGE),
     }
 }
 
 /// The character behind a backquote.
 fn feed_character(negative: bool, token: Token) -> IntFed
-    ensures { IsFed (record { negative = negative; part = IntPart.Character }) (Fed token) result }
+    ensures fed { IsFed (record { negative = negative; part = IntPart.Character }) (Fed token) result }
+    ensures within { IsWithin result }
 {
     match character_named(&token) {
         Some(code) => on(negative, IntPart::AfterCharacter(code)),
@@ -136,6 +160,7 @@ impl IntScan {
         requires { awaits_value self.old ≡ false }
         ensures answer { (taken : List Item) → HasTaken self.old taken → IfOk result (Answers integer HasTaken (taken ++ Fed token ∷ []) self.new) }
         ensures next { IfOk result (Awaits self.new) }
+        ensures within { IfOk result IsInteger }
     {
         match self.behind(token) {
             IntFed::More(scan) => {
@@ -154,6 +179,7 @@ impl IntScan {
         requires kind { IsQuantity value }
         ensures answer { (taken : List Item) → HasTaken self.old taken → Answers integer HasTaken (taken ++ Given value ∷ []) self.new result }
         ensures next { Awaits self.new result }
+        ensures within { IsInteger result }
     {
         let number = match value {
             Value::Int(number) => number,
@@ -166,13 +192,14 @@ impl IntScan {
     /// What it is behind one more token.
     fn behind(&self, token: Token) -> IntFed
         requires { awaits_value self.now ≡ false }
-        ensures { IsFed self.now (Fed token) result }
+        ensures fed { IsFed self.now (Fed token) result }
+        ensures within { IsWithin result }
     {
         let negative = self.negative;
         match self.part {
             IntPart::Signs => feed_sign(negative, token),
             IntPart::FirstDigit(radix) => feed_first_digit(negative, radix, token),
-            IntPart::Digits(radix, number) => feed_digit(negative, radix, number, token),
+            IntPart::Digits(constant) => feed_digit(negative, constant, token),
             IntPart::Character => feed_character(negative, token),
             IntPart::AfterCharacter(code) => {
                 IntFed::Done(with_its_sign(negative, i64::from(code)), not_space(token))

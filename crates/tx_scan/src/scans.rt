@@ -1,4 +1,6 @@
 //! How far a scan is.
+ghost use Rattle.std.specs.Prelude.{◌≤◌};
+
 use crate::toks::Toks;
 use tx_bytes::Bytes;
 use tx_char::Token;
@@ -11,15 +13,23 @@ pub enum Radix {
     Hexadecimal,
 }
 
+/// The digits of a constant that are read, by the number for which they stand.
+#[derive(Clone, Copy, Debug)]
+pub struct Constant {
+    pub(crate) radix: Radix,
+    pub(crate) number: u32,
+    ghost within: { number ≤ 2147483647 },
+}
+
 /// The part of an integer that comes next.
-#[derive(Clone, Copy, Debug, PartialEq, Eq)]
+#[derive(Clone, Copy, Debug)]
 pub enum IntPart {
     /// Signs and spaces, then the number.
     Signs,
     /// The first digit of an octal or hexadecimal constant.
     FirstDigit(Radix),
-    /// Digits behind those that stand for this number, then an optional space.
-    Digits(Radix, u32),
+    /// Digits behind those of this constant, then an optional space.
+    Digits(Constant),
     /// The character behind a backquote.
     Character,
     /// An optional space behind a character with this code.
@@ -29,7 +39,7 @@ pub enum IntPart {
 }
 
 /// An integer that is being scanned.
-#[derive(Clone, Copy, Debug, PartialEq, Eq)]
+#[derive(Clone, Copy, Debug)]
 pub struct IntScan {
     /// Whether the signs so far make it negative.
     pub(crate) negative: bool,
