@@ -1,0 +1,63 @@
+-- The innermost test, found from the inside, and the conditionals within it.
+use Rattle.std.proofs.Common.{◌≡◌, ℕ, suc, ◌+◌, ◌<◌, Bool, true, false, ℤ, IsTrue, List, [], ◌∷◌, ◌++◌, length, take, drop, get_or, set, refl, sym, ◌∙◌, ap, arith, add-one, drop-cons}
+use Rattle.std.proofs.Math.Seq.{take-suc}
+use Rattle.std.proofs.lemmas.List.{take-set, drop-set}
+use Rattle.tx_cond.specs.declared.types.Conditional.{Conditional}
+use Rattle.tx_cond.specs.declared.types.Conditional.TheVariants.{Testing, AwaitingOr, AwaitingElse, Live, Ending, LastBranch}
+use Rattle.tx_cond.specs.Conditionals.{is_test, has_test, skips, is_skipped, within, within_all, decide}
+
+pub decide-inner : (branch : ℤ) (c : Conditional) (outer : List Conditional) → is_test c ≡ false → decide branch (c ∷ outer) ≡ within c (decide branch outer)
+decide-inner branch (Testing cases) outer h = cc
+decide-inner branch (AwaitingOr others) outer h = refl
+decide-inner branch (AwaitingElse cases) outer h = refl
+decide-inner branch (Live cases) outer h = refl
+decide-inner branch Ending outer h = refl
+decide-inner branch LastBranch outer h = refl
+
+pub within_all-push : (xs : List Conditional) (c : Conditional) (outer : List Conditional) → within_all (xs ++ c ∷ []) outer ≡ within_all xs (within c outer)
+within_all-push [] c outer = refl
+within_all-push (x ∷ xs) c outer = ap (within x) (within_all-push xs c outer)
+
+-- the step of the search for the innermost test
+pub search-on : (branch : ℤ) (xs : List Conditional) (place : ℕ) (c : Conditional) → place < length xs → c ≡ get_or xs place c → is_test c ≡ false → decide branch xs ≡ within_all (take place xs) (decide branch (drop place xs)) → decide branch xs ≡ within_all (take (place + 1) xs) (decide branch (drop (place + 1) xs))
+search-on branch xs place c i at e h =
+    h
+    ∙ rw (drop-cons xs place c, ← at) (ap (within_all (take place xs)) (decide-inner branch c (drop (suc place) xs) e))
+    ∙ sym (within_all-push (take place xs) c (decide branch (drop (suc place) xs)))
+    ∙ rw (add-one, take-suc xs place c, ← at) refl
+
+has-test-rest : (c : Conditional) (outer : List Conditional) → is_test c ≡ false → IsTrue (has_test (c ∷ outer)) → IsTrue (has_test outer)
+has-test-rest (Testing cases) outer e h = cc
+has-test-rest (AwaitingOr others) outer e h = h
+has-test-rest (AwaitingElse cases) outer e h = h
+has-test-rest (Live cases) outer e h = h
+has-test-rest Ending outer e h = h
+has-test-rest LastBranch outer e h = h
+
+pub has-test-on : (xs : List Conditional) (place : ℕ) (c : Conditional) → place < length xs → c ≡ get_or xs place c → is_test c ≡ false → IsTrue (has_test (drop place xs)) → IsTrue (has_test (drop (place + 1) xs))
+has-test-on xs place c i at e h = rw add-one (has-test-rest c (drop (suc place) xs) e (rw (drop-cons xs place c, ← at) at h))
+
+skipped-at : (xs : List Conditional) (i : ℕ) (d : Conditional) (b : Bool) → i < length xs → d ≡ get_or xs i d → skips d ≡ b → is_skipped (drop i xs) ≡ b
+skipped-at xs i d b l at e = rw (drop-cons xs i d, ← at) e
+
+within-next : (xs : List Conditional) (k : ℕ) (d : Conditional) → k < length xs → within_all (take (k + 1) xs) (drop (k + 1) xs) ≡ within_all (take k xs) (within (get_or xs k d) (drop (k + 1) xs))
+within-next xs k d l = rw (add-one, take-suc xs k d) (within_all-push (take k xs) (get_or xs k d) (drop (suc k) xs))
+
+pass-skipped-suc : (xs : List Conditional) (k : ℕ) (d : Conditional) → k + 1 < length xs → d ≡ get_or xs (k + 1) d → skips d ≡ true → within_all (take k (set xs k Ending)) (drop k (set xs k Ending)) ≡ within_all (take (k + 1) xs) (drop (k + 1) xs)
+pass-skipped-suc xs k d l at e =
+    let m : k < length xs = omega arith in
+    rw (take-set xs k Ending, drop-set xs k Ending)
+    (sym (within-next xs k d m ∙ rw (skipped-at xs (k + 1) d true l at e) refl))
+
+-- the step that passes over one more conditional, and the one that leaves it
+pub pass-skipped : (xs : List Conditional) (k i : ℕ) (d : Conditional) → i ≡ k + 1 → i < length xs → d ≡ get_or xs i d → skips d ≡ true → within_all (take k (set xs k Ending)) (drop k (set xs k Ending)) ≡ within_all (take i xs) (drop i xs)
+pass-skipped xs k i d is l at e = rw is (pass-skipped-suc xs k d (rw is at l) (rw is at at) e)
+
+pass-live-suc : (xs : List Conditional) (k : ℕ) (d : Conditional) → k + 1 < length xs → d ≡ get_or xs (k + 1) d → skips d ≡ false → within_all (take k xs) (drop k xs) ≡ within_all (take (k + 1) xs) (drop (k + 1) xs)
+pass-live-suc xs k d l at e =
+    let m : k < length xs = omega arith in
+    rw (drop-cons xs k d, ← add-one)
+    (sym (within-next xs k d m ∙ rw (skipped-at xs (k + 1) d false l at e) refl))
+
+pub pass-live : (xs : List Conditional) (k i : ℕ) (d : Conditional) → i ≡ k + 1 → i < length xs → d ≡ get_or xs i d → skips d ≡ false → within_all (take k xs) (drop k xs) ≡ within_all (take i xs) (drop i xs)
+pass-live xs k i d is l at e = rw is (pass-live-suc xs k d (rw is at l) (rw is at at) e)

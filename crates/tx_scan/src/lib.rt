@@ -1,0 +1,19 @@
+//! Scans: what is read off the tokens that TeX has expanded, here integers and keywords. A scan is fed token by token,
+//! asks for the values that only its caller knows, and gives back the tokens that it has taken in vain.
+//!
+//! Read `toks`, `types`, `characters`, `scans`, then `integer` and `keyword`.
+#![tactic(auto)]
+
+mod characters;
+mod integer;
+mod keyword;
+mod scans;
+#[cfg(test)]
+mod tests;
+mod toks;
+mod types;
+
+pub use integer::{MISSING_NUMBER, TOO_LARGE};
+pub use scans::{IntScan, KeyScan};
+pub use toks::Toks;
+pub use types::{Kind, Scanned, Value};
