@@ -1,6 +1,6 @@
 -- What stands at a place of entries whose names rise, and what a change there makes of the map.
 use Rattle.std.proofs.Common.{◌≡◌, ◌≢◌, ◌↔◌, ℕ, zero, suc, ◌+◌, ◌<◌, ◌≤◌, Bool, true, false, cond, not, ◌&&◌, List, [], ◌∷◌, ◌++◌, length, get_or, set, Option, Some, None, Result, Ok, Err, IfOk, IfErr, refl, sym, ap, subst, ◌∙◌, arith}
-use Rattle.std.specs.Prelude.{T, insert, remove}
+use Rattle.std.specs.Prelude.{T, insert, remove, IsSome, is_some}
 use mathlib.Core.Bool.{false≢true}
 use Rattle.std.proofs.Common.{◌⊎◌, inl, inr}
 use Rattle.std.proofs.lemmas.Bool.{cases_lt}
@@ -229,3 +229,7 @@ module _ {X : Type 0} where
   -- no entry at all
   pub map_of-nothing : map_of {X = X} [] ≡ map.empty
   map_of-nothing = same_map nat_list_cmp_total (slice_cmp-IsAntisymmetric nat_cmp-IsAntisymmetric) (map_of {X = X} []) map.empty (λ q. get-from_sorted by_bytes [] q tt ∙ sym (map.get-empty by_bytes q))
+
+  -- nothing is found and not found
+  pub not_there : {o : Option X} {Any : Type 0} → o ≡ None → IsSome o → Any
+  not_there none some = absurd (false≢true (sym (ap is_some none) ∙ some))

@@ -1,5 +1,5 @@
 //! One bucket: names in their order, each with its value.
-ghost use Rattle.std.specs.Prelude.{◌≡◌, ◌↔◌, IsTrue, IfOk, IfErr, OnOk, OnErr};
+ghost use Rattle.std.specs.Prelude.{◌≡◌, ◌↔◌, IsTrue, IsSome, IfOk, IfErr, OnOk, OnErr};
 ghost use Rattle.std.specs.Option.{option_copied};
 ghost use Rattle.std.specs.Ordering.{nat_cmp};
 ghost use Rattle.std.specs.Cmp.Lexicographic.{slice_cmp};
@@ -66,6 +66,16 @@ impl<T: Kept> Bucket<T> {
                 Ok(())
             }
             Err(place) => Ok(self.entries.insert(place, (name, value))?),
+        }
+    }
+
+    /// Gives a name that has a value another; takes no memory.
+    pub fn replace(&mut self, name: &[u8], value: T)
+        requires { IsSome (get self.old name.now) }
+        ensures { self.new ≡ insert self.old name.now value }
+    {
+        if let Ok(place) = search(self.entries.as_slice(), name) {
+            self.entries[place].1 = value;
         }
     }
 

@@ -13,3 +13,13 @@ pub trait Kept: Drop {
     fn same(&self, other: &Self) -> bool
         ensures { IsTrue result ↔ (self.now ≡ other.now) };
 }
+
+impl Kept for i32 {
+    fn share(&self) -> Result<Self, AllocError> {
+        Ok(*self)
+    }
+
+    fn same(&self, other: &Self) -> bool {
+        *self == *other
+    }
+}

@@ -1,5 +1,5 @@
 //! The map: a name's bytes say in which bucket it lies.
-ghost use Rattle.std.specs.Prelude.{◌≡◌, ◌↔◌, ◌<◌, length, IsTrue, IfOk, OnOk, OnErr};
+ghost use Rattle.std.specs.Prelude.{◌≡◌, ◌↔◌, ◌<◌, length, IsTrue, IsSome, IfOk, OnOk, OnErr};
 ghost use Rattle.std.specs.Option.{option_copied};
 ghost use Rattle.std.specs.FinMap.{empty, get, insert, remove};
 ghost use Rattle.tx_name.specs.Buckets.{IsPlaced, bucket_of, together};
@@ -62,6 +62,15 @@ impl<T: Kept> NameMap<T> {
         let at = bucket_number(name.as_slice());
         self.buckets[at].insert(name, value)?;
         Ok(())
+    }
+
+    /// Gives a name that has a value another; takes no memory.
+    pub fn replace(&mut self, name: &ControlName, value: T)
+        requires { IsSome (get self.old name.now) }
+        ensures { self.new ≡ insert self.old name.now value }
+    {
+        let name = name.as_slice();
+        self.buckets[bucket_number(name)].replace(name, value);
     }
 
     /// Takes a name's value away, if it has one; takes no memory.

@@ -1,5 +1,5 @@
 -- The integer parameters (The TeXbook, chapter 24), in the book's order.
-use Rattle.std.specs.Prelude.{ℕ, ℤ, pos, List, codes}
+use Rattle.std.specs.Prelude.{ℕ, ℤ, pos, List, [], ◌∷◌, codes}
 use Rattle.tx_prim.specs.declared.integer.IntegerParameter.{IntegerParameter}
 use Rattle.tx_prim.specs.declared.integer.IntegerParameter.TheVariants.{Pretolerance, Tolerance, Hbadness, Vbadness, Linepenalty, Hyphenpenalty, Exhyphenpenalty, Binoppenalty, Relpenalty, Clubpenalty, Widowpenalty, Displaywidowpenalty, Brokenpenalty, Predisplaypenalty, Postdisplaypenalty, Interlinepenalty, Floatingpenalty, Outputpenalty, Doublehyphendemerits, Finalhyphendemerits, Adjdemerits, Looseness, Pausing, Holdinginserts, Tracingonline, Tracingmacros, Tracingstats, Tracingparagraphs, Tracingpages, Tracingoutput, Tracinglostchars, Tracingcommands, Tracingrestores, Language, Uchyph, Lefthyphenmin, Righthyphenmin, Globaldefs, Defaulthyphenchar, Defaultskewchar, Escapechar, Endlinechar, Newlinechar, Maxdeadcycles, Hangafter, Fam, Mag, Delimiterfactor, Time, Day, Month, Year, Showboxbreadth, Showboxdepth, Errorcontextlines}
 use Rattle.tx_prim.specs.declared.integer.Moment.{Moment}
@@ -119,6 +119,10 @@ integer_number Year = 51
 integer_number Showboxbreadth = 52
 integer_number Showboxdepth = 53
 integer_number Errorcontextlines = 54
+
+-- all of them
+unfoldable pub all_integers : List IntegerParameter
+all_integers = Pretolerance ∷ Tolerance ∷ Hbadness ∷ Vbadness ∷ Linepenalty ∷ Hyphenpenalty ∷ Exhyphenpenalty ∷ Binoppenalty ∷ Relpenalty ∷ Clubpenalty ∷ Widowpenalty ∷ Displaywidowpenalty ∷ Brokenpenalty ∷ Predisplaypenalty ∷ Postdisplaypenalty ∷ Interlinepenalty ∷ Floatingpenalty ∷ Outputpenalty ∷ Doublehyphendemerits ∷ Finalhyphendemerits ∷ Adjdemerits ∷ Looseness ∷ Pausing ∷ Holdinginserts ∷ Tracingonline ∷ Tracingmacros ∷ Tracingstats ∷ Tracingparagraphs ∷ Tracingpages ∷ Tracingoutput ∷ Tracinglostchars ∷ Tracingcommands ∷ Tracingrestores ∷ Language ∷ Uchyph ∷ Lefthyphenmin ∷ Righthyphenmin ∷ Globaldefs ∷ Defaulthyphenchar ∷ Defaultskewchar ∷ Escapechar ∷ Endlinechar ∷ Newlinechar ∷ Maxdeadcycles ∷ Hangafter ∷ Fam ∷ Mag ∷ Delimiterfactor ∷ Time ∷ Day ∷ Month ∷ Year ∷ Showboxbreadth ∷ Showboxdepth ∷ Errorcontextlines ∷ []
 
 -- the values with which INITEX begins (TeX: The Program, section 240; the date parameters are those of the run's words)
 unfoldable pub initial_integer : Moment → IntegerParameter → ℤ

@@ -1,6 +1,6 @@
 //! The integer parameters (The TeXbook, chapter 24), in the order of the book.
 ghost use Rattle.std.specs.Prelude.{◌≡◌, ◌<◌};
-ghost use Rattle.tx_prim.specs.Integers.{integer_name, integer_number, initial_integer};
+ghost use Rattle.tx_prim.specs.Integers.{all_integers, integer_name, integer_number, initial_integer};
 
 /// An integer parameter.
 #[derive(Clone, Copy, PartialEq, Eq, Debug)]
@@ -72,9 +72,73 @@ pub struct Moment {
     pub time: i32,
 }
 
+/// All integer parameters, in the order of the book.
+const ALL: [IntegerParameter; 55] = [
+    IntegerParameter::Pretolerance,
+    IntegerParameter::Tolerance,
+    IntegerParameter::Hbadness,
+    IntegerParameter::Vbadness,
+    IntegerParameter::Linepenalty,
+    IntegerParameter::Hyphenpenalty,
+    IntegerParameter::Exhyphenpenalty,
+    IntegerParameter::Binoppenalty,
+    IntegerParameter::Relpenalty,
+    IntegerParameter::Clubpenalty,
+    IntegerParameter::Widowpenalty,
+    IntegerParameter::Displaywidowpenalty,
+    IntegerParameter::Brokenpenalty,
+    IntegerParameter::Predisplaypenalty,
+    IntegerParameter::Postdisplaypenalty,
+    IntegerParameter::Interlinepenalty,
+    IntegerParameter::Floatingpenalty,
+    IntegerParameter::Outputpenalty,
+    IntegerParameter::Doublehyphendemerits,
+    IntegerParameter::Finalhyphendemerits,
+    IntegerParameter::Adjdemerits,
+    IntegerParameter::Looseness,
+    IntegerParameter::Pausing,
+    IntegerParameter::Holdinginserts,
+    IntegerParameter::Tracingonline,
+    IntegerParameter::Tracingmacros,
+    IntegerParameter::Tracingstats,
+    IntegerParameter::Tracingparagraphs,
+    IntegerParameter::Tracingpages,
+    IntegerParameter::Tracingoutput,
+    IntegerParameter::Tracinglostchars,
+    IntegerParameter::Tracingcommands,
+    IntegerParameter::Tracingrestores,
+    IntegerParameter::Language,
+    IntegerParameter::Uchyph,
+    IntegerParameter::Lefthyphenmin,
+    IntegerParameter::Righthyphenmin,
+    IntegerParameter::Globaldefs,
+    IntegerParameter::Defaulthyphenchar,
+    IntegerParameter::Defaultskewchar,
+    IntegerParameter::Escapechar,
+    IntegerParameter::Endlinechar,
+    IntegerParameter::Newlinechar,
+    IntegerParameter::Maxdeadcycles,
+    IntegerParameter::Hangafter,
+    IntegerParameter::Fam,
+    IntegerParameter::Mag,
+    IntegerParameter::Delimiterfactor,
+    IntegerParameter::Time,
+    IntegerParameter::Day,
+    IntegerParameter::Month,
+    IntegerParameter::Year,
+    IntegerParameter::Showboxbreadth,
+    IntegerParameter::Showboxdepth,
+    IntegerParameter::Errorcontextlines,
+];
+
 impl IntegerParameter {
-    /// How many there are.
-    pub const COUNT: usize = 55;
+    /// All integer parameters, each once.
+    #[tactic(auto, unfolding(crate::specs::Integers::all_integers))]
+    pub fn all() -> &'static [IntegerParameter]
+        ensures { result.now ≡ all_integers }
+    {
+        &ALL
+    }
 
     /// The parameter's name, without its escape character.
     #[tactic(auto, unfolding(crate::specs::Integers::integer_name))]

@@ -32,7 +32,7 @@ fn names_and_beginnings_are_those_of_initex(rt: HostRuntime) -> Result<(), Fail>
     }
     assert_eq!(rt; IntegerParameter::Errorcontextlines.number(), 54);
     assert_eq!(rt; DimensionParameter::Voffset.number(), 20);
-    assert!(rt; DimensionParameter::Hsize.name() == b"hsize");
+    assert!(rt; DimensionParameter::Hsize.name() == b"hsize".as_slice());
     assert_eq!(rt; Primitive::all().len(), 102);
     assert!(rt; Primitive::of_name(b"hbo").is_none());
     assert!(rt; Primitive::of_name(b"").is_none());
