@@ -1,0 +1,62 @@
+-- How a map is laid out: which bucket a name belongs to, and where it stands there. For the look-up alone, no public
+-- clause says it.
+use Rattle.std.specs.Prelude.{◌≡◌, ◌≢◌, ◌<◌, ◌≤◌, ◌+◌, ◌*◌, ◌%◌, ℕ, T, List, [], ◌∷◌, ◌++◌, map, length, slice_index_or, None}
+use Rattle.std.specs.declared.cmp.Ordering.TheVariants.{Less, Equal, Greater}
+use Rattle.std.specs.Ordering.{nat_cmp}
+use Rattle.std.specs.Cmp.Lexicographic.{slice_cmp}
+use Rattle.std.specs.FinMap.{FinMap, empty, entries, get, from_entries, from_sorted, is_sorted}
+use Rattle.tx_name.specs.Names.{Names}
+
+-- the names of a list of entries strictly rise
+abbrev pub IsRising : {X : Type 0} → List (List ℕ × X) → Type 0
+IsRising {X} es = T (is_sorted (slice_cmp nat_cmp) es)
+
+-- the map of a list of entries whose names rise
+abbrev pub map_of : {X : Type 0} → List (List ℕ × X) → Names X
+map_of {X} es = from_sorted es
+
+-- a name is greater, equal to, or less than that of each entry in a range of places
+abbrev pub IsAbove : {X : Type 0} → List (List ℕ × X) → List ℕ → ℕ → Type 0
+IsAbove {X} es name end = (j : ℕ) (d : List ℕ × X) → j < end → slice_cmp nat_cmp name (slice_index_or es j d).0 ≡ Greater
+
+abbrev pub IsBelow : {X : Type 0} → List (List ℕ × X) → List ℕ → ℕ → Type 0
+IsBelow {X} es name begin = (j : ℕ) (d : List ℕ × X) → begin ≤ j → j < length es → slice_cmp nat_cmp name (slice_index_or es j d).0 ≡ Less
+
+-- the entry at a place has the name
+pub record IsAt {X : Type 0} (es : List (List ℕ × X)) (name : List ℕ) (place : ℕ) : Type 0 where
+  pub inside : place < length es
+  pub before : IsAbove es name place
+  pub here : (d : List ℕ × X) → slice_cmp nat_cmp name (slice_index_or es place d).0 ≡ Equal
+  pub after : IsBelow es name (place + 1)
+
+-- no entry has the name, and one that had it would go to a place
+pub record IsGap {X : Type 0} (es : List (List ℕ × X)) (name : List ℕ) (place : ℕ) : Type 0 where
+  pub inside : place ≤ length es
+  pub before : IsAbove es name place
+  pub after : IsBelow es name place
+
+-- the number that the bytes of a name are mixed to, from a number on
+abbrev pub mixed : ℕ → List ℕ → ℕ
+mixed number [] = number
+mixed number (byte ∷ bytes) = mixed ((number * 31 + byte) % 1024) bytes
+
+-- which of the 1024 buckets a name belongs to
+abbrev pub bucket_of : List ℕ → ℕ
+bucket_of name = mixed 0 name
+
+-- the map that buckets make up together
+abbrev pub entries_in : {X : Type 0} → List (Names X) → List (List ℕ × X)
+entries_in [] = []
+entries_in (bucket ∷ buckets) = entries bucket ++ entries_in buckets
+
+abbrev pub together : {X : Type 0} → List (Names X) → Names X
+together buckets = from_entries (entries_in buckets)
+
+-- what the bucket of a number holds
+abbrev pub bucket_at : {X : Type 0} → List (Names X) → ℕ → Names X
+bucket_at buckets at = slice_index_or buckets at empty
+
+-- there are 1024 buckets, and each name stands in its own alone
+pub record IsPlaced {X : Type 0} (buckets : List (Names X)) : Type 0 where
+  pub count : length buckets ≡ 1024
+  pub placed : (at : ℕ) (name : List ℕ) → bucket_of name ≢ at → get (bucket_at buckets at) name ≡ None

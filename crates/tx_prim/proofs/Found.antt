@@ -1,0 +1,135 @@
+-- Each primitive is the first of all that has its name.
+use Rattle.std.proofs.Common.{◌≡◌, ℕ, List, [], ◌∷◌, Option, None, Some, IfSome, cond, true, false, Bool, refl, sym, ap, ◌∙◌, subst}
+use Rattle.tx_prim.specs.declared.primitive.Primitive.{Primitive}
+use Rattle.tx_prim.specs.declared.primitive.Primitive.TheVariants.{Relax, BeginGroup, EndGroup, Global, Let, Advance, Multiply, Divide, Count, Dimen, Countdef, Dimendef, Chardef, Mathchardef, Catcode, Lccode, Uccode, Sfcode, Mathcode, Delcode, Hbox, Shipout, Kern, Par, End, Vrule, Integer, Dimension}
+use Rattle.tx_prim.specs.declared.integer.IntegerParameter.{IntegerParameter}
+use Rattle.tx_prim.specs.declared.integer.IntegerParameter.TheVariants.{Pretolerance, Tolerance, Hbadness, Vbadness, Linepenalty, Hyphenpenalty, Exhyphenpenalty, Binoppenalty, Relpenalty, Clubpenalty, Widowpenalty, Displaywidowpenalty, Brokenpenalty, Predisplaypenalty, Postdisplaypenalty, Interlinepenalty, Floatingpenalty, Outputpenalty, Doublehyphendemerits, Finalhyphendemerits, Adjdemerits, Looseness, Pausing, Holdinginserts, Tracingonline, Tracingmacros, Tracingstats, Tracingparagraphs, Tracingpages, Tracingoutput, Tracinglostchars, Tracingcommands, Tracingrestores, Language, Uchyph, Lefthyphenmin, Righthyphenmin, Globaldefs, Defaulthyphenchar, Defaultskewchar, Escapechar, Endlinechar, Newlinechar, Maxdeadcycles, Hangafter, Fam, Mag, Delimiterfactor, Time, Day, Month, Year, Showboxbreadth, Showboxdepth, Errorcontextlines}
+use Rattle.tx_prim.specs.declared.dimension.DimensionParameter.{DimensionParameter}
+use Rattle.tx_prim.specs.declared.dimension.DimensionParameter.TheVariants.{Hfuzz, Vfuzz, Overfullrule, Emergencystretch, Hsize, Vsize, Maxdepth, Splitmaxdepth, Boxmaxdepth, Lineskiplimit, Delimitershortfall, Nulldelimiterspace, Scriptspace, Mathsurround, Predisplaysize, Displaywidth, Displayindent, Parindent, Hangindent, Hoffset, Voffset}
+use Rattle.tx_prim.specs.Integers.{integer_name}
+use Rattle.tx_prim.specs.Dimensions.{dimension_name}
+use Rattle.std.specs.Str.{bytes_eq}
+use Rattle.std.specs.Cmp.Lexicographic.{bytes_decides}
+use Rattle.tx_prim.specs.Table.{all, line_of, name_of, named}
+
+integer-found : (p : IntegerParameter) → named all (name_of (Integer p)) ≡ Some (Integer p)
+unfolding all line_of integer_name dimension_name
+integer-found Pretolerance = refl
+integer-found Tolerance = refl
+integer-found Hbadness = refl
+integer-found Vbadness = refl
+integer-found Linepenalty = refl
+integer-found Hyphenpenalty = refl
+integer-found Exhyphenpenalty = refl
+integer-found Binoppenalty = refl
+integer-found Relpenalty = refl
+integer-found Clubpenalty = refl
+integer-found Widowpenalty = refl
+integer-found Displaywidowpenalty = refl
+integer-found Brokenpenalty = refl
+integer-found Predisplaypenalty = refl
+integer-found Postdisplaypenalty = refl
+integer-found Interlinepenalty = refl
+integer-found Floatingpenalty = refl
+integer-found Outputpenalty = refl
+integer-found Doublehyphendemerits = refl
+integer-found Finalhyphendemerits = refl
+integer-found Adjdemerits = refl
+integer-found Looseness = refl
+integer-found Pausing = refl
+integer-found Holdinginserts = refl
+integer-found Tracingonline = refl
+integer-found Tracingmacros = refl
+integer-found Tracingstats = refl
+integer-found Tracingparagraphs = refl
+integer-found Tracingpages = refl
+integer-found Tracingoutput = refl
+integer-found Tracinglostchars = refl
+integer-found Tracingcommands = refl
+integer-found Tracingrestores = refl
+integer-found Language = refl
+integer-found Uchyph = refl
+integer-found Lefthyphenmin = refl
+integer-found Righthyphenmin = refl
+integer-found Globaldefs = refl
+integer-found Defaulthyphenchar = refl
+integer-found Defaultskewchar = refl
+integer-found Escapechar = refl
+integer-found Endlinechar = refl
+integer-found Newlinechar = refl
+integer-found Maxdeadcycles = refl
+integer-found Hangafter = refl
+integer-found Fam = refl
+integer-found Mag = refl
+integer-found Delimiterfactor = refl
+integer-found Time = refl
+integer-found Day = refl
+integer-found Month = refl
+integer-found Year = refl
+integer-found Showboxbreadth = refl
+integer-found Showboxdepth = refl
+integer-found Errorcontextlines = refl
+
+dimension-found : (p : DimensionParameter) → named all (name_of (Dimension p)) ≡ Some (Dimension p)
+unfolding all line_of integer_name dimension_name
+dimension-found Hfuzz = refl
+dimension-found Vfuzz = refl
+dimension-found Overfullrule = refl
+dimension-found Emergencystretch = refl
+dimension-found Hsize = refl
+dimension-found Vsize = refl
+dimension-found Maxdepth = refl
+dimension-found Splitmaxdepth = refl
+dimension-found Boxmaxdepth = refl
+dimension-found Lineskiplimit = refl
+dimension-found Delimitershortfall = refl
+dimension-found Nulldelimiterspace = refl
+dimension-found Scriptspace = refl
+dimension-found Mathsurround = refl
+dimension-found Predisplaysize = refl
+dimension-found Displaywidth = refl
+dimension-found Displayindent = refl
+dimension-found Parindent = refl
+dimension-found Hangindent = refl
+dimension-found Hoffset = refl
+dimension-found Voffset = refl
+
+pub found : (p : Primitive) → named all (name_of p) ≡ Some p
+unfolding all line_of integer_name dimension_name
+found Relax = refl
+found BeginGroup = refl
+found EndGroup = refl
+found Global = refl
+found Let = refl
+found Advance = refl
+found Multiply = refl
+found Divide = refl
+found Count = refl
+found Dimen = refl
+found Countdef = refl
+found Dimendef = refl
+found Chardef = refl
+found Mathchardef = refl
+found Catcode = refl
+found Lccode = refl
+found Uccode = refl
+found Sfcode = refl
+found Mathcode = refl
+found Delcode = refl
+found Hbox = refl
+found Shipout = refl
+found Kern = refl
+found Par = refl
+found End = refl
+found Vrule = refl
+found (Integer p) = integer-found p
+found (Dimension p) = dimension-found p
+
+-- what is found has the name
+pub has-name : (primitives : List Primitive) (name : List ℕ) → IfSome (named primitives name) (λ p. name_of p ≡ name)
+has-name [] name = tt
+has-name (p ∷ primitives) name =
+    elim (bytes_eq (name_of p) name) as (λ b. bytes_eq (name_of p) name ≡ b → IfSome (cond b (Some p) (named primitives name)) (λ q. name_of q ≡ name)) [
+      | true ↦ λ e. (bytes_decides (name_of p) name).0 e
+      | false ↦ λ e. has-name primitives name
+    ] refl

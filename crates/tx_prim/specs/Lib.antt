@@ -1,0 +1,4 @@
+pub mod Integers
+pub mod Dimensions
+pub mod Modes
+pub mod Table

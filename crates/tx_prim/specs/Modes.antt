@@ -1,0 +1,22 @@
+-- What becomes of a command in a mode.
+use Rattle.tx_prim.specs.declared.modes.Mode.{Mode}
+use Rattle.tx_prim.specs.declared.modes.Mode.TheVariants.{Vertical, InternalVertical, Horizontal, RestrictedHorizontal, Math, DisplayMath}
+use Rattle.tx_prim.specs.declared.modes.Modes.{Modes}
+use Rattle.tx_prim.specs.declared.modes.Modes.TheVariants.{All, NotMath, NotVertical, Pages}
+use Rattle.tx_prim.specs.declared.modes.Standing.{Standing}
+use Rattle.tx_prim.specs.declared.modes.Standing.TheVariants.{Stands, BeginsParagraph, EndsParagraph, Refused}
+
+-- a command of all modes stands in each; \par isn't for formulas; \vrule begins a paragraph in vertical modes; \end
+-- stands on the pages' list and ends a paragraph, but may stand in no box and no formula (TeX: The Program, sections
+-- 1045 to 1056, 1090 to 1096)
+abbrev pub standing : Modes → Mode → Standing
+standing All mode = Stands
+standing NotMath Math = Refused
+standing NotMath DisplayMath = Refused
+standing NotMath mode = Stands
+standing NotVertical Vertical = BeginsParagraph
+standing NotVertical InternalVertical = BeginsParagraph
+standing NotVertical mode = Stands
+standing Pages Vertical = Stands
+standing Pages Horizontal = EndsParagraph
+standing Pages mode = Refused

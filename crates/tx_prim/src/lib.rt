@@ -1,0 +1,17 @@
+//! TeX's primitives: the commands and parameters with which INITEX begins. One table says what each is called and in which
+//! modes it may stand; the parameters stand in the order of The TeXbook, with the values that they begin with.
+//!
+//! Read `modes`, `integer` and `dimension`, and then `primitive`.
+#![tactic(auto)]
+
+mod dimension;
+mod integer;
+mod modes;
+mod primitive;
+#[cfg(test)]
+mod tests;
+
+pub use dimension::DimensionParameter;
+pub use integer::{IntegerParameter, Moment};
+pub use modes::{Mode, Modes, Standing};
+pub use primitive::Primitive;

@@ -1,0 +1,64 @@
+//! Modes, and what becomes of a command in each.
+ghost use Rattle.std.specs.Prelude.{◌≡◌};
+ghost use Rattle.tx_prim.specs.Modes.{standing};
+
+/// What TeX is building (The TeXbook, chapter 13).
+#[derive(Clone, Copy, PartialEq, Eq, Debug)]
+pub enum Mode {
+    /// The pages' list.
+    Vertical,
+    /// The list of a vertical box.
+    InternalVertical,
+    /// The list of a paragraph.
+    Horizontal,
+    /// The list of a horizontal box.
+    RestrictedHorizontal,
+    /// A formula in a text.
+    Math,
+    /// A displayed formula.
+    DisplayMath,
+}
+
+/// In which modes a command may stand.
+#[derive(Clone, Copy, PartialEq, Eq, Debug)]
+pub enum Modes {
+    /// In all modes.
+    All,
+    /// In all modes but those of formulas.
+    NotMath,
+    /// In horizontal modes and formulas; in vertical modes it begins a paragraph, and stands in that.
+    NotVertical,
+    /// On the pages' list alone; in a paragraph it ends that first.
+    Pages,
+}
+
+/// What becomes of a command in a mode.
+#[derive(Clone, Copy, PartialEq, Eq, Debug)]
+pub enum Standing {
+    /// It is carried out.
+    Stands,
+    /// A paragraph is begun, in which it is carried out.
+    BeginsParagraph,
+    /// The paragraph is ended, as by \par, and then it is carried out.
+    EndsParagraph,
+    /// It may not stand there.
+    Refused,
+}
+
+impl Modes {
+    /// What becomes in a mode of a command that may stand in these modes.
+    pub fn standing(self, mode: Mode) -> Standing
+        ensures { result ≡ standing self mode }
+    {
+        match (self, mode) {
+            (Modes::NotMath, Mode::Math | Mode::DisplayMath) => Standing::Refused,
+            (Modes::NotVertical, Mode::Vertical | Mode::InternalVertical) => {
+                Standing::BeginsParagraph
+            }
+            (Modes::Pages, Mode::Horizontal) => Standing::EndsParagraph,
+            (Modes::All | Modes::NotMath | Modes::NotVertical, _) => Standing::Stands,
+            (Modes::Pages, Mode::Vertical) => Standing::Stands,
+            (Modes::Pages, _) => Standing::Refused,
+        }
+    }
+}
