@@ -1,11 +1,11 @@
 -- Reading a list.
-use Rattle.std.proofs.Common.{◌≡◌, ◌≢◌, ℕ, ◌+◌, ◌-◌, ◌≤◌, ◌<◌, Bool, true, false, cond, List, [], ◌∷◌, ◌++◌, length, take, drop, refl, ap, sym, ◌∙◌, arith, leb, leb-true, le-leb, IsTrue, ◌↔◌, get_or, slice_get, subst, zero, suc}
+use Rattle.std.proofs.Common.{◌≡◌, ◌≢◌, ℕ, ◌-◌, ◌≤◌, ◌<◌, Bool, true, false, List, [], ◌∷◌, length, take, drop, refl, ap, sym, ◌∙◌, arith, leb, leb-true, le-leb, IsTrue, ◌↔◌, get_or, slice_get, subst, zero, suc}
 use Rattle.std.proofs.lemmas.List.{drop_all, length-drop, take_rest}
 use Rattle.tx_char.specs.declared.tokens.Token.{Token}
 use Rattle.tx_lex.specs.declared.types.ReadState.{ReadState}
 use Rattle.tx_pending.specs.declared.source.Source.{Source}
 use Rattle.tx_pending.specs.declared.source.Source.TheVariants.{List as Source_list, Line as Source_line}
-use Rattle.tx_pending.specs.Elements.{Element, Unread, list_elements}
+use Rattle.tx_pending.specs.Elements.{Unread, list_elements}
 use Rattle.tx_pending.specs.Sources.{elements_of}
 use Rattle.tx_pending.specs.Tails.{ListTail, LineTail}
 

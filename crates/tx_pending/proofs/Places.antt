@@ -1,7 +1,7 @@
 -- Places on a stack.
-use Rattle.std.proofs.Common.{◌≡◌, ◌≢◌, ℕ, zero, suc, ◌+◌, ◌-◌, ◌≤◌, ◌<◌, List, [], ◌∷◌, ◌++◌, length, take, drop, get_or, slice_get, Option, Some, None, refl, ap, sym, subst, ◌∙◌, arith, Bool, true, false, IsTrue, nat_eq, eqb, ◌↔◌, ◌⊎◌, inl, inr}
+use Rattle.std.proofs.Common.{◌≡◌, ℕ, zero, suc, ◌+◌, ◌-◌, ◌≤◌, ◌<◌, List, [], ◌∷◌, ◌++◌, length, take, drop, get_or, slice_get, refl, ap, sym, subst, ◌∙◌, arith, Bool, IsTrue, nat_eq, ◌↔◌, ◌⊎◌, inl, inr}
 use Rattle.std.proofs.lemmas.Bool.Decides.{eqb_tells}
-use Rattle.std.proofs.lemmas.List.{take_all, take_more, drop_at, drop-append-le, drop-drop, drop_all, length-drop, length-append, get_or_read, get_or_past}
+use Rattle.std.proofs.lemmas.List.{take_all, take_more, drop-append-le, drop-drop, drop_all, length-drop, length-append, get_or_read}
 use Rattle.tx_pending.specs.declared.same.Place.{Place}
 use Rattle.tx_pending.specs.declared.source.Source.{Source}
 use Rattle.tx_pending.specs.Elements.{Element}

@@ -1,5 +1,5 @@
 -- Reading the innermost of the sources on a stack.
-use Rattle.std.proofs.Common.{◌≡◌, ◌≢◌, ℕ, ◌+◌, ◌-◌, ◌≤◌, ◌<◌, List, [], ◌∷◌, ◌++◌, length, take, set, get_or, refl, ap, sym, subst, ◌∙◌, arith, Bool, false, IsTrue}
+use Rattle.std.proofs.Common.{◌≡◌, ◌≢◌, ℕ, ◌+◌, List, [], ◌∷◌, ◌++◌, length, take, set, get_or, refl, ap, sym, subst, ◌∙◌, arith, Bool, false, IsTrue}
 use Rattle.std.proofs.lemmas.List.{take_all, take_more, take-set, take_more_set, length-set}
 use Rattle.std.proofs.lemmas.List.Sums.{fold-append}
 use Rattle.tx_char.specs.declared.category.Cat.{Cat}

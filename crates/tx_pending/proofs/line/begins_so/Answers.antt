@@ -1,4 +1,3 @@
-use Rattle.std.proofs.Common.{arith}
 use Rattle.tx_pending.proofs.ListSteps.{begins}
 use Rattle.tx_pending.proofs.line.begins_so.Goals as goal
 

@@ -1,5 +1,4 @@
 use Rattle.std.proofs.Common.{arith, ap, sym, subst, ◌∙◌, ◌≡◌, ◌≢◌, ◌+◌, ◌-◌, List, length, false-eqb}
-use Rattle.tx_pending.specs.declared.given.Given.TheVariants.{Used}
 use Rattle.tx_pending.specs.declared.source.Source.{Source}
 use Rattle.tx_pending.specs.Sources.{stack_elements}
 use Rattle.tx_pending.specs.Steps.{Takes}
