@@ -1,5 +1,5 @@
 //! Scans: what is read off the tokens that TeX has expanded, here integers and keywords. A scan is fed token by token,
-//! asks for the values that only its caller knows, and gives back the tokens that it has taken in vain.
+//! asks for the values that only its caller knows, and gives back the tokens that aren't part of what it reads.
 //!
 //! Read `toks`, `types`, `characters`, `scans`, then `integer` and `keyword`, and `laws`.
 #![tactic(auto)]
