@@ -1,11 +1,11 @@
 -- One more token behind the letters of a word.
-use Rattle.std.proofs.Common.{◌≡◌, ℕ, suc, ◌+◌, ◌<◌, Bool, true, false, not, ◌&&◌, List, [], ◌∷◌, ◌++◌, map, length, drop, get_or, refl, sym, ◌∙◌, ap, append_assoc, append-nil, add-one, drop-cons, length-append, ◌≢◌, arith}
+use Rattle.std.proofs.Common.{◌≡◌, ℕ, suc, ◌+◌, ◌<◌, Bool, true, false, ◌&&◌, List, [], ◌∷◌, ◌++◌, map, length, drop, get_or, refl, sym, ◌∙◌, ap, append_assoc, append-nil, add-one, drop-cons, length-append, ◌≢◌, arith}
 use Rattle.std.proofs.Math.Seq.{drop-length}
 use Rattle.tx_char.specs.declared.tokens.Token.{Token}
 use Rattle.tx_scan.specs.declared.scans.KeyScan.{KeyScan}
 use Rattle.tx_scan.specs.Tokens.{is_space, is_key}
-use Rattle.tx_scan.specs.Readings.{Item, Fed, Reading, More, Done}
-use Rattle.tx_scan.specs.Keywords.{keyword, letters, begins_with, word_rest, HasTaken}
+use Rattle.tx_scan.specs.Readings.{Item, Fed, More, Done}
+use Rattle.tx_scan.specs.Keywords.{keyword, letters, word_rest, HasTaken}
 
 and-false : (b : Bool) → (b && false) ≡ false
 and-false true = refl

@@ -1,5 +1,5 @@
 -- Reading one thing off the tokens at the front of a list, and off the values that only the caller knows.
-use Rattle.std.specs.Prelude.{◌≡◌, ℕ, ◌++◌, ◌∷◌, [], List, map}
+use Rattle.std.specs.Prelude.{◌≡◌, ℕ, ◌++◌, List, map}
 use Rattle.tx_char.specs.declared.tokens.Token.{Token}
 use Rattle.tx_scan.specs.declared.types.Kind.{Kind}
 use Rattle.tx_scan.specs.declared.types.Value.{Value}
@@ -33,3 +33,10 @@ Answers reading HasTaken taken scan scanned.More = (reading taken ≡ More) × H
 Answers reading HasTaken taken scan (scanned.Need kind) = (reading taken ≡ Need kind) × HasTaken scan taken
 Answers reading HasTaken taken scan (scanned.Done value back) = (more : List Item) → reading (taken ++ more) ≡ Done value (map Fed back ++ more)
 Answers reading HasTaken taken scan (scanned.E number) = (more : List Item) → reading (taken ++ more) ≡ Wrong number
+
+-- reading on from here: what is whole stays so with more items behind it, and what is wrong stays wrong
+abbrev pub ReadsOn : {A : Type 0} → List Item → Reading A → Reading A → Type 0
+ReadsOn more More longer = Unit {0}
+ReadsOn more (Need kind) longer = Unit {0}
+ReadsOn more (Done a rest) longer = longer ≡ Done a (rest ++ more)
+ReadsOn more (Wrong number) longer = longer ≡ Wrong number

@@ -1,6 +1,5 @@
 -- The scan of an integer means what reading on gives.
-use Rattle.std.specs.Prelude.{◌≡◌, ℕ, ◌++◌, ◌∷◌, [], Bool, true, false, ℤ, pos, List, map, option_to_list}
-use Rattle.tx_char.specs.declared.tokens.Token.{Token}
+use Rattle.std.specs.Prelude.{◌≡◌, ◌++◌, ◌∷◌, [], Bool, true, false, ℤ, pos, List, map, option_to_list}
 use Rattle.tx_char.specs.declared.tokens.Token.TheVariants.{Name}
 use Rattle.tx_scan.specs.declared.scans.IntScan.{IntScan}
 use Rattle.tx_scan.specs.declared.scans.IntPart.{IntPart}
