@@ -2,8 +2,8 @@
 use Rattle.std.proofs.Common.{◌≡◌, ℕ, ◌+◌, ◌<◌, ◌==◌, Bool, true, false, cond, List, [], ◌∷◌, ◌++◌, refl, sym, ◌∙◌, ap, arith, append_assoc, append-nil, zero-add, ◌⊎◌, inl, inr}
 use Rattle.std.specs.Prelude.{count_by}
 use Rattle.std.proofs.lemmas.List.Sums.{sum_by-append}
-use Rattle.tx_cond.specs.declared.fed.Fed.{Fed}
-use Rattle.tx_cond.specs.declared.fed.Fed.TheVariants.{More, Done, E}
+use Rattle.tx_toklist.specs.declared.fed.Fed.{Fed}
+use Rattle.tx_toklist.specs.declared.fed.Fed.TheVariants.{More, Done, E}
 use Rattle.tx_cond.specs.declared.types.CondWord.{CondWord}
 use Rattle.tx_cond.specs.declared.types.SkipItem.{SkipItem}
 use Rattle.tx_cond.specs.declared.types.SkipItem.TheVariants.{Word, Outer, EndOfFile}

@@ -1,7 +1,7 @@
 -- Skipping the text that no branch takes (The TeXbook, chapter 20; TeX: The Program, section 494).
 use Rattle.std.specs.Prelude.{◌≡◌, ℕ, ◌+◌, ◌-◌, ◌==◌, Bool, true, false, List, [], ◌∷◌, ◌++◌, count_by, if◌then◌else◌}
-use Rattle.tx_cond.specs.declared.fed.Fed.{Fed}
-use Rattle.tx_cond.specs.declared.fed.Fed.TheVariants.{More, Done, E}
+use Rattle.tx_toklist.specs.declared.fed.Fed.{Fed}
+use Rattle.tx_toklist.specs.declared.fed.Fed.TheVariants.{More, Done, E}
 use Rattle.tx_cond.specs.declared.types.CondWord.{CondWord}
 use Rattle.tx_cond.specs.declared.types.CondWord.TheVariants.{Fi}
 use Rattle.tx_cond.specs.declared.types.SkipItem.{SkipItem}

@@ -1,11 +1,10 @@
 //! TeX's conditionals without their tests: which \if.. are open and what each of them waits for, and the skipping of
 //! text that no branch takes. The caller says what a token is, and scans the tests.
 //!
-//! Read `fed`, `types`, `skipper`, then `error`, `stage` and `stack`.
+//! Read `types`, `skipper`, then `error`, `stage` and `stack`.
 #![tactic(auto)]
 
 mod error;
-mod fed;
 mod skipper;
 mod stack;
 mod stage;
@@ -14,7 +13,6 @@ mod tests;
 mod types;
 
 pub use error::{EXTRA, ExtraWord};
-pub use fed::Fed;
 pub use skipper::{INCOMPLETE, Skipper};
 pub use stack::CondStack;
 pub use types::{CondWord, Conditional, Meet, SkipItem};

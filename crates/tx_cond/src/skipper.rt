@@ -3,10 +3,10 @@ ghost use Rattle.std.specs.Prelude.{◌≡◌, ◌-◌, ◌^◌, ◌∷◌, ◌+
 ghost use Rattle.tx_cond.specs.declared.types.SkipItem.{SkipItem};
 ghost use Rattle.tx_cond.specs.Skipping.{skip, HasSkipped};
 
-use crate::fed::Fed;
 use crate::types::{CondWord, SkipItem};
 use std::alloc::AllocError;
 use std::marker::Model;
+use tx_toklist::Fed;
 
 /// TeX's number of an \outer macro or the end of a file in skipped text, among the errors of a run.
 pub const INCOMPLETE: u8 = 16;

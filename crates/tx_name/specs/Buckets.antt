@@ -1,10 +1,10 @@
 -- How a map is laid out: which bucket a name belongs to, and where it stands there. For the look-up alone, no public
 -- clause says it.
-use Rattle.std.specs.Prelude.{◌≡◌, ◌≢◌, ◌<◌, ◌≤◌, ◌+◌, ◌*◌, ◌%◌, ℕ, T, List, [], ◌∷◌, ◌++◌, map, length, slice_index_or, None}
+use Rattle.std.specs.Prelude.{◌≡◌, ◌≢◌, ◌<◌, ◌≤◌, ◌+◌, ◌*◌, ◌%◌, ℕ, T, List, [], ◌∷◌, ◌++◌, length, slice_index_or, None}
 use Rattle.std.specs.declared.cmp.Ordering.TheVariants.{Less, Equal, Greater}
 use Rattle.std.specs.Ordering.{nat_cmp}
 use Rattle.std.specs.Cmp.Lexicographic.{slice_cmp}
-use Rattle.std.specs.FinMap.{FinMap, empty, entries, get, from_entries, from_sorted, is_sorted}
+use Rattle.std.specs.FinMap.{empty, entries, get, from_entries, from_sorted, is_sorted}
 use Rattle.tx_name.specs.Names.{Names}
 
 -- the names of a list of entries strictly rise

@@ -1,5 +1,4 @@
 -- What names mean: a finite map, as TeX's hash table and table of equivalents are one (TeX: The Program, parts 17 and 18).
-use Rattle.std.specs.Prelude.{ℕ, List}
 use Rattle.std.specs.Ordering.{nat_cmp}
 use Rattle.std.specs.Cmp.Lexicographic.{slice_cmp}
 use Rattle.std.specs.FinMap.{FinMap}

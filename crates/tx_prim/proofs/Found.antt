@@ -1,5 +1,5 @@
 -- Each primitive is the first of all that has its name.
-use Rattle.std.proofs.Common.{◌≡◌, ℕ, List, [], ◌∷◌, Option, None, Some, IfSome, cond, true, false, Bool, refl, sym, ap, ◌∙◌, subst}
+use Rattle.std.proofs.Common.{◌≡◌, ℕ, List, [], ◌∷◌, Some, IfSome, cond, true, false, refl}
 use Rattle.tx_prim.specs.declared.primitive.Primitive.{Primitive}
 use Rattle.tx_prim.specs.declared.primitive.Primitive.TheVariants.{Relax, BeginGroup, EndGroup, Global, Let, Advance, Multiply, Divide, Count, Dimen, Countdef, Dimendef, Chardef, Mathchardef, Catcode, Lccode, Uccode, Sfcode, Mathcode, Delcode, Hbox, Shipout, Kern, Par, End, Vrule, Integer, Dimension}
 use Rattle.tx_prim.specs.declared.integer.IntegerParameter.{IntegerParameter}

@@ -1,6 +1,6 @@
 -- What becomes of a command in a mode.
 use Rattle.tx_prim.specs.declared.modes.Mode.{Mode}
-use Rattle.tx_prim.specs.declared.modes.Mode.TheVariants.{Vertical, InternalVertical, Horizontal, RestrictedHorizontal, Math, DisplayMath}
+use Rattle.tx_prim.specs.declared.modes.Mode.TheVariants.{Vertical, InternalVertical, Horizontal, Math, DisplayMath}
 use Rattle.tx_prim.specs.declared.modes.Modes.{Modes}
 use Rattle.tx_prim.specs.declared.modes.Modes.TheVariants.{All, NotMath, NotVertical, Pages}
 use Rattle.tx_prim.specs.declared.modes.Standing.{Standing}

@@ -9,10 +9,10 @@ use crate::characters::{
     character_named, not_space, token_digit, token_is_command, token_is_other, token_is_space,
 };
 use crate::scans::{Constant, IntFed, IntPart, IntScan, Radix};
-use crate::toks::Toks;
 use crate::types::{Kind, Scanned, Value};
 use std::alloc::{AllocError, Global};
 use tx_char::Token;
+use tx_toklist::Toks;
 
 /// TeX's number of a missing number, among the errors of a run.
 pub const MISSING_NUMBER: u8 = 3;

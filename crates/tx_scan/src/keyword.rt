@@ -5,12 +5,12 @@ ghost use Rattle.tx_scan.specs.Keywords.{keyword, HasTaken};
 
 use crate::characters::{token_is_key, token_is_space};
 use crate::scans::KeyScan;
-use crate::toks::Toks;
 use crate::types::Scanned;
 use std::alloc::{AllocError, Global};
 use std::mem;
 use tx_bytes::Bytes;
 use tx_char::Token;
+use tx_toklist::Toks;
 
 impl KeyScan {
     /// The scan of a word of small letters, of which nothing is read. Its only error is want of memory.

@@ -1,7 +1,7 @@
 //! Scans: what is read off the tokens that TeX has expanded, here integers and keywords. A scan is fed token by token,
 //! asks for the values that only its caller knows, and gives back the tokens that aren't part of what it reads.
 //!
-//! Read `toks`, `types`, `characters`, `scans`, then `integer` and `keyword`, and `laws`.
+//! Read `types`, `characters`, `scans`, then `integer` and `keyword`, and `laws`.
 #![tactic(auto)]
 
 mod characters;
@@ -11,11 +11,9 @@ mod laws;
 mod scans;
 #[cfg(test)]
 mod tests;
-mod toks;
 mod types;
 
 pub use integer::{MISSING_NUMBER, TOO_LARGE};
 pub use laws::integers_are_read_from_the_left;
 pub use scans::{IntScan, KeyScan};
-pub use toks::Toks;
 pub use types::{Kind, Scanned, Value};

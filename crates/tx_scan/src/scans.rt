@@ -1,9 +1,9 @@
 //! How far a scan is.
 ghost use Rattle.std.specs.Prelude.{◌≤◌};
 
-use crate::toks::Toks;
 use tx_bytes::Bytes;
 use tx_char::Token;
+use tx_toklist::Toks;
 
 /// What the digits of a constant count in.
 #[derive(Clone, Copy, Debug, PartialEq, Eq)]

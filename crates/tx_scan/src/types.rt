@@ -1,5 +1,5 @@
 //! What a scan is given, asks for and answers.
-use crate::toks::Toks;
+use tx_toklist::Toks;
 
 /// A value that only the caller knows.
 #[derive(Clone, Copy, Debug, PartialEq, Eq)]

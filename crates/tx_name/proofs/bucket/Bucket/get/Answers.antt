@@ -1,6 +1,5 @@
 use Rattle.std.proofs.Common.{Some, sym, ap, ◌∙◌, subst}
 use Rattle.std.specs.FinMap.{get}
-use Rattle.std.specs.Prelude.{slice_index_or}
 use Rattle.tx_name.specs.Buckets.{IsAt, IsGap}
 use Rattle.tx_name.proofs.Places.{find-at, find-gap, get-map_of}
 use Rattle.tx_name.proofs.bucket.Bucket.get.Goals as goal

@@ -1,7 +1,6 @@
-use Rattle.std.proofs.Common.{◌∙◌, ap, refl}
-use Rattle.std.specs.FinMap.{empty, entries, same_entries_map, entries-from_sorted}
+use Rattle.std.proofs.Common.{◌∙◌, ap}
 use Rattle.tx_name.specs.Buckets.{map_of}
-use Rattle.tx_name.proofs.Places.{by_bytes, map_of-nothing}
+use Rattle.tx_name.proofs.Places.{map_of-nothing}
 use Rattle.tx_name.proofs.bucket.Bucket.new.Goals as goal
 
 pub returns : goal.returns

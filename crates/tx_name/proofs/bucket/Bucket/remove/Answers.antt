@@ -1,4 +1,4 @@
-use Rattle.std.proofs.Common.{Err, sym, ap, ◌∙◌, subst, IfErr}
+use Rattle.std.proofs.Common.{sym, ap, ◌∙◌, subst}
 use Rattle.std.specs.FinMap.{get, remove}
 use Rattle.tx_name.specs.Buckets.{IsRising, IsAt, IsGap, map_of}
 use Rattle.tx_name.proofs.Places.{rising-taken, map-taken, find-gap, get-map_of, remove-absent}

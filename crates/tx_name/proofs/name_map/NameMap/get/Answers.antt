@@ -1,6 +1,6 @@
 use Rattle.std.proofs.Common.{sym, ap, ◌∙◌}
 use Rattle.std.specs.FinMap.{get}
-use Rattle.tx_name.specs.Buckets.{bucket_at, bucket_of, together}
+use Rattle.tx_name.specs.Buckets.{bucket_at}
 use Rattle.tx_name.proofs.Together.{get-together, bucket-read}
 use Rattle.tx_name.proofs.name_map.NameMap.get.Goals as goal
 

@@ -1,5 +1,5 @@
-use Rattle.std.proofs.Common.{sym, ap, ◌∙◌, subst, arith, ◌<◌, ◌≡◌}
-use Rattle.std.specs.FinMap.{empty, remove}
+use Rattle.std.proofs.Common.{sym, ap, ◌∙◌, subst, ◌<◌, ◌≡◌}
+use Rattle.std.specs.FinMap.{remove}
 use Rattle.std.specs.Prelude.{slice_set}
 use Rattle.tx_name.proofs.Together.{placed-remove, together-remove, bucket-read}
 use Rattle.tx_name.specs.Buckets.{IsPlaced, bucket_at, bucket_of, together}
