@@ -23,20 +23,23 @@ fn plain_codes(alloc: Global) -> Result<Codes, AllocError> {
     Ok(codes)
 }
 
-/// Writes a character token as its code and its category, a name with a backslash before it.
+/// Writes a name with a backslash before it.
+fn write_name(text: &mut String, name: &[u8]) -> Result<(), AllocError> {
+    text.push_str(" \\")?;
+    for byte in name {
+        text.push(char::from(*byte))?;
+    }
+    Ok(())
+}
+
+/// Writes a character token as its code and its category.
 fn write_token(text: &mut String, token: &Token) -> Result<(), AllocError> {
     match token {
         Token::Character(code, category) => {
             let number = category.number();
             write!(text, " {code}.{number}")
         }
-        Token::Name(name) => {
-            text.push_str(" \\")?;
-            for byte in name.as_slice() {
-                text.push(char::from(*byte))?;
-            }
-            Ok(())
-        }
+        Token::Name(name) => write_name(text, name.as_slice()),
     }
 }
 
@@ -49,7 +52,19 @@ fn written(alloc: Global, command: Command, back: &Tokens) -> Result<String, All
     Ok(text)
 }
 
-/// What the first command of a line is: `more` where the line ends before it does, an error by its number.
+/// What a token makes of a command, where it is the last one: an error by its number.
+fn fed(alloc: Global, scan: &mut CommandScan, token: Token) -> Result<Option<String>, AllocError> {
+    match scan.feed(alloc, token)? {
+        Taken::More => Ok(None),
+        Taken::Whole(command, back) => Ok(Some(written(alloc, command, &back)?)),
+        Taken::Wrong(error) => {
+            let number = error.number();
+            Ok(Some(format!(in alloc; "error {number}")?))
+        }
+    }
+}
+
+/// What the first command of a line is: `more` where the line ends before it does.
 fn first_command(
     alloc: Global,
     codes: &Codes,
@@ -70,92 +85,101 @@ fn first_command(
         else {
             break;
         };
-        match scan.feed(alloc, token)? {
-            Taken::More => {}
-            Taken::Whole(command, back) => return written(alloc, command, &back),
-            Taken::Wrong(error) => {
-                let number = error.number();
-                return format!(in alloc; "error {number}");
-            }
+        if let Some(found) = fed(alloc, &mut scan, token)? {
+            return Ok(found);
         }
         front = left;
         rest = &rest[used..];
         state = next;
     }
-    format!(in alloc; "more")
+    String::from_str(alloc, "more")
 }
+
+/// The first line of which the first command is another than the table has.
+fn first_wrong(
+    alloc: Global,
+    codes: &Codes,
+    horizontal: bool,
+    worked: &[(&'static str, &'static str)],
+) -> Result<Option<&'static str>, AllocError> {
+    for (line, expected) in worked {
+        let found = first_command(alloc, codes, horizontal, line.as_bytes())?;
+        if found.as_str() != *expected {
+            return Ok(Some(*line));
+        }
+    }
+    Ok(None)
+}
+
+/// Lines of a horizontal list.
+const HORIZONTAL: &[(&str, &str)] = &[
+    ("x", "Character(120)"),
+    (" ", "more"),
+    ("{", "BeginGroup"),
+    ("}", "EndGroup"),
+    ("\\relax", "Nothing"),
+    ("\\kern-.5pt ", "Kern(-32768)"),
+    ("\\kern 1.5PT ", "Kern(98304)"),
+    ("\\kern--+2sp}", "Kern(2) 125.2"),
+    ("\\kern.12345678901234567890pt\\par", "Kern(8091) \\par"),
+    ("\\kern`\\A sp ", "Kern(65)"),
+    ("\\kern 16383.99999pt ", "Kern(1073741823)"),
+    ("\\kern 16384pt ", "error 6"),
+    ("\\kern 2147483648sp ", "error 7"),
+    ("\\kern x", "error 3"),
+    ("\\kern 1\\relax", "error 4"),
+    ("\\kern 1~", "error 2"),
+    ("\\kern 1p", "more"),
+    (
+        "\\vrule width 1pt height 2pt depth 0pt}",
+        "Vrule(Rule { width: 65536, height: Some(131072), depth: Some(0) }) 125.2",
+    ),
+    (
+        "\\vrule WIDTH-1pt\\relax",
+        "Vrule(Rule { width: -65536, height: None, depth: None }) \\relax",
+    ),
+    (
+        "\\vrule wid{",
+        "Vrule(Rule { width: 26214, height: None, depth: None }) 119.11 105.11 100.11 123.1",
+    ),
+    ("\\hbox\\relax {", "BeginBox(Append)"),
+    ("\\hbox}", "error 18"),
+    ("\\shipout\\hbox{", "BeginBox(Ship)"),
+    ("\\end", "error 24"),
+    ("&", "error 32"),
+];
 
 #[test]
 fn commands_of_a_horizontal_list(rt: HostRuntime) -> Result<(), Fail> {
     let codes = plain_codes(rt.alloc())?;
-    let worked = [
-        ("x", "Character(120)"),
-        (" ", "more"),
-        ("{", "BeginGroup"),
-        ("}", "EndGroup"),
-        ("\\relax", "Nothing"),
-        ("\\kern-.5pt ", "Kern(-32768)"),
-        ("\\kern 1.5PT ", "Kern(98304)"),
-        ("\\kern--+2sp}", "Kern(2) 125.2"),
-        ("\\kern.12345678901234567890pt\\par", "Kern(8091) \\par"),
-        ("\\kern`\\A sp ", "Kern(65)"),
-        ("\\kern 16383.99999pt ", "Kern(1073741823)"),
-        ("\\kern 16384pt ", "error 6"),
-        ("\\kern 2147483648sp ", "error 7"),
-        ("\\kern x", "error 3"),
-        ("\\kern 1\\relax", "error 4"),
-        ("\\kern 1~", "error 2"),
-        ("\\kern 1p", "more"),
-        (
-            "\\vrule width 1pt height 2pt depth 0pt}",
-            "Vrule(Rule { width: 65536, height: Some(131072), depth: Some(0) }) 125.2",
-        ),
-        (
-            "\\vrule WIDTH-1pt\\relax",
-            "Vrule(Rule { width: -65536, height: None, depth: None }) \\relax",
-        ),
-        (
-            "\\vrule wid{",
-            "Vrule(Rule { width: 26214, height: None, depth: None }) 119.11 105.11 100.11 123.1",
-        ),
-        ("\\hbox\\relax {", "BeginBox(Append)"),
-        ("\\hbox}", "error 18"),
-        ("\\shipout\\hbox{", "BeginBox(Ship)"),
-        ("\\end", "error 24"),
-        ("&", "error 32"),
-    ];
-    for (line, expected) in worked {
-        let found = first_command(rt.alloc(), &codes, true, line.as_bytes())?;
-        assert_eq!(rt; found.as_str(), expected, "{line}");
-    }
+    assert_eq!(rt; first_wrong(rt.alloc(), &codes, true, HORIZONTAL)?, None);
     Ok(())
 }
+
+/// Lines of a vertical list.
+const VERTICAL: &[(&str, &str)] = &[
+    ("x", "error 24"),
+    ("\\kern1pt ", "error 24"),
+    ("\\vrule", "error 24"),
+    ("\\hbox", "error 24"),
+    ("\\end", "End"),
+    ("\\catcode`\\{=1 ", "Catcode(123, 1)"),
+    ("\\catcode`a11 ", "Catcode(97, 11)"),
+    ("\\catcode 65 = 13x", "Catcode(65, 13) 120.11"),
+    ("\\catcode 256 ", "error 5"),
+    ("\\catcode 65 16 ", "error 5"),
+    ("\\catcode 65=-1 ", "error 5"),
+    ("\\catcode`\\par", "error 3"),
+    ("\\shipout\\relax \\hbox \\relax{", "BeginBox(Ship)"),
+    ("\\shipout x", "error 34"),
+    ("\\shipout\\hbox x", "error 18"),
+    ("\\unknown", "error 2"),
+];
 
 #[test]
 fn commands_of_a_vertical_list(rt: HostRuntime) -> Result<(), Fail> {
     let codes = plain_codes(rt.alloc())?;
-    let worked = [
-        ("x", "error 24"),
-        ("\\kern1pt ", "error 24"),
-        ("\\vrule", "error 24"),
-        ("\\hbox", "error 24"),
-        ("\\end", "End"),
-        ("\\catcode`\\{=1 ", "Catcode(123, 1)"),
-        ("\\catcode`a11 ", "Catcode(97, 11)"),
-        ("\\catcode 65 = 13x", "Catcode(65, 13) 120.11"),
-        ("\\catcode 256 ", "error 5"),
-        ("\\catcode 65 16 ", "error 5"),
-        ("\\catcode 65=-1 ", "error 5"),
-        ("\\catcode`\\par", "error 3"),
-        ("\\shipout\\relax \\hbox \\relax{", "BeginBox(Ship)"),
-        ("\\shipout x", "error 34"),
-        ("\\shipout\\hbox x", "error 18"),
-        ("\\unknown", "error 2"),
-    ];
-    for (line, expected) in worked {
-        let found = first_command(rt.alloc(), &codes, false, line.as_bytes())?;
-        assert_eq!(rt; found.as_str(), expected, "{line}");
-    }
+    assert_eq!(rt; first_wrong(rt.alloc(), &codes, false, VERTICAL)?, None);
     Ok(())
 }
 

@@ -39,7 +39,7 @@ impl Clone for Group {
     }
 }
 
-/// A state that means the same, with the same bytes of the transcript that were not yet taken. Its only error is want of
+/// A state that means the same, with the same bytes of the transcript that are still to be taken. Its only error is want of
 /// memory.
 pub fn share(s: &State) -> Result<State, AllocError>
     ensures meaning { IfOk result (λ t. meaning_of t ≡ meaning_of s.now) }

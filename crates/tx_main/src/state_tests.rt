@@ -14,30 +14,36 @@ const DATE: Date = Date {
     minutes: 570,
 };
 
-/// The first state of a run of the file of this name, if it is one.
-fn first(alloc: Global, name: &[u8]) -> Result<Option<State>, AllocError> {
-    match Name::new(Bytes::from_slice(alloc, name)?) {
-        Some(main) => Ok(Some(Tex.start(alloc, &DATE, &main)?)),
-        None => Ok(None),
-    }
+/// What is shared of the first state of a run of this file.
+fn shared_first(alloc: Global, name: &Name) -> Result<State, AllocError> {
+    let state = Tex.start(alloc, &DATE, name)?;
+    Tex.share(alloc, &state)
 }
 
-/// Whether a state is equal to what is shared of it.
-fn is_shared(alloc: Global, state: &State) -> Result<bool, AllocError> {
-    let shared = Tex.share(alloc, state)?;
-    Ok(Tex.same(state, &shared))
+/// Whether the first state of a run of the one file is equal to what is shared of that of the other.
+fn is_same(alloc: Global, one: &Name, other: &Name) -> Result<bool, AllocError> {
+    let state = Tex.start(alloc, &DATE, one)?;
+    let shared = shared_first(alloc, other)?;
+    Ok(Tex.same(&state, &shared))
+}
+
+/// The same by the names of the files, where both are names.
+fn is_same_of(alloc: Global, one: &[u8], other: &[u8]) -> Result<Option<bool>, AllocError> {
+    let Some(one) = Name::new(Bytes::from_slice(alloc, one)?) else {
+        return Ok(None);
+    };
+    let Some(other) = Name::new(Bytes::from_slice(alloc, other)?) else {
+        return Ok(None);
+    };
+    Ok(Some(is_same(alloc, &one, &other)?))
 }
 
 #[test]
 fn a_state_is_equal_to_its_share_and_to_no_other(rt: HostRuntime) -> Result<(), Fail> {
-    let alloc = rt.alloc();
-    let one = first(alloc, b"main.tex")?;
-    let other = first(alloc, b"other.tex")?;
-    let (Some(one), Some(other)) = (one, other) else {
-        assert!(rt; false);
-        return Ok(());
-    };
-    assert!(rt; is_shared(alloc, &one)?);
-    assert!(rt; !Tex.same(&one, &other));
+    let names = [("main.tex", Some(true)), ("other.tex", Some(false))];
+    for (name, expected) in names {
+        let found = is_same_of(rt.alloc(), b"main.tex", name.as_bytes())?;
+        assert_eq!(rt; found, expected, "{name}");
+    }
     Ok(())
 }
