@@ -11,8 +11,6 @@
 mod arguments;
 #[cfg(test)]
 mod case_tests;
-#[cfg(test)]
-mod cases;
 mod command;
 mod fetching;
 mod given;
@@ -27,6 +25,8 @@ mod scripts;
 mod tally;
 #[cfg(test)]
 mod tests;
+#[cfg(test)]
+mod trial;
 mod trouble;
 mod values;
 mod vortex;

@@ -1,10 +1,6 @@
-use crate::vortex::vortex;
-use std::alloc::{AllocError, Global};
+//! Calls of a run: their words, their limits, and what fails in them.
+use crate::trial::{Case, EMPTY, first_wrong, first_wrong_words};
 use std::test::Fail;
-use tx_io::{MemorySink, MemorySource};
-use tx_machine::CountsTurns;
-
-const RUN: &str = "run|--date|2024-5-17-570|--out|a|main.tex";
 
 const ONE_PAGE: &str =
     "\\catcode`\\{=1 \\catcode`\\}=2 \\shipout\\hbox{\\vrule width 1pt height 2pt depth 0pt}\\end\n";
@@ -29,7 +25,7 @@ Runs TeX on MAIN, which may read the FILEs, and saves NAME.dvi and NAME.log.
   -V, --version   says the version
 ";
 
-// The page has one rule, 1pt wide and 2pt high.
+/// The file of one page, which has one rule, 1pt wide and 2pt high.
 pub const ONE_PAGE_DVI: &[u8] =
     b"\xf7\x02\x01\x83\x92\xc0\x1c\x3b\x00\x00\x00\x00\x03\xe8\x1b TeX output 2024.05.17:0930\
 \x8b\x00\x00\x00\x00\x00\x00\x00\x00\x00\x00\x00\x00\x00\x00\x00\x00\x00\x00\x00\x00\
@@ -38,130 +34,131 @@ pub const ONE_PAGE_DVI: &[u8] =
 \xf8\x00\x00\x00\x2a\x01\x83\x92\xc0\x1c\x3b\x00\x00\x00\x00\x03\xe8\x00\x02\x00\x00\x00\x01\x00\x00\x00\x00\x00\x01\
 \xf9\x00\x00\x00\x65\x02\xdf\xdf\xdf\xdf";
 
-const NOTHING: Option<&[u8]> = None;
+/// A run of one page.
+pub const RUN: Case = Case {
+    words: "run|--date|2024-5-17-570|--out|a|main.tex",
+    files: &[("main.tex", ONE_PAGE)],
+    fetches: &[],
+    saves: &[],
+    status: 0,
+    said: "run: 1 pages, end\n",
+    saved: &[("a.dvi", Some(ONE_PAGE_DVI)), ("a.log", Some(EMPTY))],
+};
 
-/// A call and what comes of it: its words, parted by bars, and the file `main.tex`, if there is one; which fetches and
-/// saves fail; its status, what it says, the file `a.dvi`, and whether there is
-/// an empty `a.log`.
-#[derive(Drop)]
-struct Case<'a> {
-    words: &'a str,
-    main: Option<&'a str>,
-    fetches: &'a [u64],
-    saves: &'a [u64],
-    status: u8,
-    said: &'a str,
-    pages: Option<&'a [u8]>,
-    is_logged: bool,
-}
+/// A run without pages.
+const NO_PAGE: Case = Case {
+    files: &[("main.tex", "\\end\n")],
+    said: "run: 0 pages, end\n",
+    saved: &[("a.dvi", None), ("a.log", Some(EMPTY))],
+    ..RUN
+};
 
-fn words(alloc: Global, text: &str) -> Result<Vec<String>, AllocError> {
-    let mut words = Vec::new(alloc);
-    if text.is_empty() {
-        return Ok(words);
-    }
-    for word in text.split('|') {
-        words.push(String::from_str(alloc, word)?)?;
-    }
-    Ok(words)
-}
+/// A call that only says a text; a fetch would fail.
+const SAYS: Case = Case {
+    fetches: &[1],
+    status: 2,
+    said: "words refused\n",
+    saved: &[("a.dvi", None), ("a.log", None)],
+    ..RUN
+};
 
-fn is_saved(sink: &MemorySink, name: &[u8], wanted: Option<&[u8]>) -> bool {
-    match (sink.saved(name), wanted) {
-        (Some(file), Some(bytes)) => file.as_slice() == bytes,
-        (None, None) => true,
-        _ => false,
-    }
-}
+/// A run of two files, the second of which is absent.
+const TWO_FILES: Case = Case {
+    words: "run|--date|2024-5-17-570|--out|a|main.tex|b.tex",
+    saved: &[("a.dvi", None), ("a.log", None)],
+    ..RUN
+};
 
-fn is_logged(sink: &MemorySink) -> bool {
-    match sink.saved(b"a.log") {
-        Some(file) => file.is_empty(),
-        None => false,
-    }
-}
-
-fn source(alloc: Global, case: &Case<'_>) -> Result<MemorySource, AllocError> {
-    let mut source = MemorySource::new(alloc, case.fetches.to_vec(alloc)?);
-    if let Some(text) = case.main {
-        source.put(alloc, b"main.tex", text.as_bytes())?;
-    }
-    Ok(source)
-}
-
-fn holds(rt: &HostRuntime, case: &Case<'_>) -> Result<bool, AllocError> {
-    let alloc = rt.alloc();
-    let words = words(alloc, case.words)?;
-    let mut source = source(alloc, case)?;
-    let mut sink = MemorySink::new(alloc, Vec::new(alloc), case.saves.to_vec(alloc)?);
-    let status = vortex(
-        alloc,
-        words.as_slice(),
-        &mut source,
-        &mut sink,
-        &mut rt.steps(),
-    );
-    Ok(
-        status == case.status
-            && sink.said() == case.said.as_bytes()
-            && is_saved(&sink, b"a.dvi", case.pages)
-            && is_logged(&sink) == case.is_logged,
-    )
-}
-
-/// A run with no trouble.
-fn run<'a>(
-    words: &'a str,
-    main: Option<&'a str>,
-    status: u8,
-    said: &'a str,
-    pages: Option<&'a [u8]>,
-) -> Case<'a> {
+const RUNS: &[Case] = &[
+    NO_PAGE,
     Case {
-        words,
-        main,
-        fetches: &[],
-        saves: &[],
-        status,
-        said,
-        pages,
-        is_logged: true,
-    }
-}
-
-/// Words that say one text; a fetch would fail.
-fn says<'a>(words: &'a str, status: u8, said: &'a str) -> Case<'a> {
+        files: &[("main.tex", "")],
+        status: 1,
+        said: "run: 0 pages, error 36\n",
+        ..NO_PAGE
+    },
     Case {
-        words,
-        main: Some(ONE_PAGE),
+        files: &[],
+        status: 1,
+        said: "run: 0 pages, error 20\n",
+        ..NO_PAGE
+    },
+    Case {
+        words: "run|--budget|10|--date|2024-5-17-570|--out|a|main.tex",
+        files: &[("main.tex", ONE_PAGE)],
+        status: 1,
+        said: "run: 0 pages, budget\n",
+        ..NO_PAGE
+    },
+    Case {
+        words: "run|--date|2024-5-17-570|--out|a|main.tex|--pages|1",
+        files: &[("main.tex", TWO_PAGES)],
+        status: 1,
+        said: "run: 1 pages, page limit\n",
+        ..RUN
+    },
+];
+
+const FAULTS: &[Case] = &[
+    Case {
         fetches: &[1],
-        saves: &[],
-        status,
-        said,
-        pages: NOTHING,
-        is_logged: false,
-    }
-}
-
-/// A run of one page, of which a fetch or a save fails.
-fn failing<'a>(
-    fetches: &'a [u64],
-    saves: &'a [u64],
-    status: u8,
-    said: &'a str,
-    pages: Option<&'a [u8]>,
-) -> Case<'a> {
+        status: 3,
+        said: "",
+        ..TWO_FILES
+    },
     Case {
-        words: "run|--date|2024-5-17-570|--out|a|main.tex|b.tex",
-        main: Some(ONE_PAGE),
-        fetches,
-        saves,
-        status,
-        said,
-        pages,
-        is_logged: false,
-    }
-}
+        fetches: &[2],
+        status: 3,
+        said: "",
+        ..TWO_FILES
+    },
+    Case {
+        saves: &[1],
+        status: 4,
+        ..TWO_FILES
+    },
+    Case {
+        saves: &[2],
+        status: 4,
+        saved: &[("a.dvi", Some(ONE_PAGE_DVI)), ("a.log", None)],
+        ..TWO_FILES
+    },
+];
+
+const TEXTS: &[Case] = &[
+    Case {
+        words: "--version",
+        status: 0,
+        said: "vortex 0.1.0\n",
+        ..SAYS
+    },
+    Case {
+        words: "run|-V|--out",
+        ..SAYS
+    },
+    Case {
+        words: "--help",
+        status: 0,
+        said: HELP,
+        ..SAYS
+    },
+    Case {
+        words: "run|--date|x|--help",
+        status: 0,
+        said: HELP,
+        ..SAYS
+    },
+];
+
+/// Words of the same run, in other orders and with other options.
+const SAME_RUN: [&str; 6] = [
+    "run|--date|2024-5-17-570|--out|a|main.tex",
+    "run|main.tex|--out=a|--date=2024-5-17-570",
+    "run|--out|a|main.tex|--date|2024-5-17-570|b.tex|c.tex",
+    "run|--date|2024-05-0017-0570|--out|a|main.tex",
+    "run|--budget|1000000000|--pages|10000|--keep|1|--date|2024-5-17-570|--out|a|main.tex",
+    "run|--out|a|--date|2024-5-17-570|--|main.tex",
+];
 
 const REFUSED: [&str; 47] = [
     "",
@@ -216,56 +213,32 @@ const REFUSED: [&str; 47] = [
     "run|--date|2024-5-17-570|--out|a|--keep|10001|main.tex",
 ];
 
-/// Words of the same run, in other orders and with other options.
-const SAME_RUN: [&str; 6] = [
-    RUN,
-    "run|main.tex|--out=a|--date=2024-5-17-570",
-    "run|--out|a|main.tex|--date|2024-5-17-570|b.tex|c.tex",
-    "run|--date|2024-05-0017-0570|--out|a|main.tex",
-    "run|--budget|1000000000|--pages|10000|--keep|1|--date|2024-5-17-570|--out|a|main.tex",
-    "run|--out|a|--date|2024-5-17-570|--|main.tex",
-];
+#[test]
+fn a_run_puts_out_its_line_its_pages_and_its_transcript(rt: HostRuntime) -> Result<(), Fail> {
+    assert_eq!(rt; first_wrong(&rt, RUNS)?, None);
+    Ok(())
+}
 
 #[test]
-fn a_call_puts_out_its_line_its_pages_and_its_transcript(rt: HostRuntime) -> Result<(), Fail> {
-    let budget = "run|--budget|10|--date|2024-5-17-570|--out|a|main.tex";
-    let pages = "run|--date|2024-5-17-570|--out|a|main.tex|--pages|1";
-    let line = "run: 1 pages, end\n";
-    let cases = [
-        run(RUN, Some("\\end\n"), 0, "run: 0 pages, end\n", NOTHING),
-        run(RUN, Some(""), 1, "run: 0 pages, error 36\n", NOTHING),
-        run(RUN, None, 1, "run: 0 pages, error 20\n", NOTHING),
-        run(budget, Some(ONE_PAGE), 1, "run: 0 pages, budget\n", NOTHING),
-        run(
-            pages,
-            Some(TWO_PAGES),
-            1,
-            "run: 1 pages, page limit\n",
-            Some(ONE_PAGE_DVI),
-        ),
-        failing(&[1], &[], 3, "", NOTHING),
-        failing(&[2], &[], 3, "", NOTHING),
-        failing(&[], &[1], 4, line, NOTHING),
-        failing(&[], &[2], 4, line, Some(ONE_PAGE_DVI)),
-        says("--version", 0, "vortex 0.1.0\n"),
-        says("run|-V|--out", 2, "words refused\n"),
-        says("--help", 0, HELP),
-        says("run|--date|x|--help", 0, HELP),
-    ];
-    for case in &cases {
-        assert!(rt; holds(&rt, case)?, "{}: {}", case.words, case.said);
-    }
-    for words in &SAME_RUN {
-        assert!(rt;
-            holds(
-                &rt,
-                &run(*words, Some(ONE_PAGE), 0, line, Some(ONE_PAGE_DVI))
-            )?,
-            "{words}"
-        );
-    }
-    for words in &REFUSED {
-        assert!(rt; holds(&rt, &says(*words, 2, "words refused\n"))?, "{words}");
-    }
+fn a_fault_has_its_status(rt: HostRuntime) -> Result<(), Fail> {
+    assert_eq!(rt; first_wrong(&rt, FAULTS)?, None);
+    Ok(())
+}
+
+#[test]
+fn help_and_version_are_said_and_nothing_is_run(rt: HostRuntime) -> Result<(), Fail> {
+    assert_eq!(rt; first_wrong(&rt, TEXTS)?, None);
+    Ok(())
+}
+
+#[test]
+fn options_stand_in_any_order(rt: HostRuntime) -> Result<(), Fail> {
+    assert_eq!(rt; first_wrong_words(&rt, RUN, &SAME_RUN)?, None);
+    Ok(())
+}
+
+#[test]
+fn other_words_are_refused(rt: HostRuntime) -> Result<(), Fail> {
+    assert_eq!(rt; first_wrong_words(&rt, SAYS, &REFUSED)?, None);
     Ok(())
 }
