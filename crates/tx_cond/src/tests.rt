@@ -1,6 +1,7 @@
 //! Values by hand, from The TeXbook's chapter 20 and TeX: The Program's sections 494 to 510.
 use super::*;
 use std::test::Fail;
+use tx_toklist::Fed;
 
 const ELSE: SkipItem = SkipItem::Word(CondWord::Else);
 
