@@ -1,0 +1,7 @@
+mod Put
+mod Names
+mod Back
+mod Outside
+mod Undone
+mod Filled
+pub mod Unfitting

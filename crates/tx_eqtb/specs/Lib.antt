@@ -1,0 +1,4 @@
+pub mod Table
+pub mod Initex
+pub mod Before
+pub mod Stack

@@ -1,0 +1,106 @@
+-- What stands at the places of a table, and how that changes.
+use Rattle.std.specs.Prelude.{◌≡◌, ℕ, ℤ, pos, Bool, true, false, List, unwrap_or, slice_get, slice_set}
+use Rattle.std.specs.FinMap.{get, insert, remove}
+use Rattle.tx_char.specs.declared.category.Cat.{Cat}
+use Rattle.tx_char.specs.declared.category.Cat.TheVariants as category
+use Rattle.tx_char.specs.declared.tokens.Token.{Token}
+use Rattle.tx_char.specs.declared.tokens.Token.TheVariants as token
+use Rattle.tx_char.specs.Category.{category as category_at}
+use Rattle.tx_name.specs.Names.{Names}
+use Rattle.tx_prim.specs.Integers.{integer_number}
+use Rattle.tx_prim.specs.Dimensions.{dimension_number}
+use Rattle.tx_eqtb.specs.declared.place.CharacterCode.TheVariants.{LowerCase, UpperCase, SpaceFactor, Math, Delimiter}
+use Rattle.tx_eqtb.specs.declared.place.Place.{Place}
+use Rattle.tx_eqtb.specs.declared.place.Place.TheVariants.{Name, Active, Count, Dimen, Category, Code, Integer, Dimension}
+use Rattle.tx_eqtb.specs.declared.meaning.Meaning.{Meaning}
+use Rattle.tx_eqtb.specs.declared.meaning.Meaning.TheVariants.{Undefined, Character}
+use Rattle.tx_eqtb.specs.declared.entry.Entry.{Entry}
+use Rattle.tx_eqtb.specs.declared.entry.Entry.TheVariants.{Means, InCategory, Number}
+use Rattle.tx_eqtb.specs.declared.table.Table.{Table}
+
+-- the meaning of a name: undefined where it has no entry
+abbrev pub meaning_of : Names Meaning → List ℕ → Meaning
+meaning_of names name = unwrap_or (get names name) Undefined
+
+-- a name given a meaning; to be undefined is to have no entry
+abbrev pub with_meaning : Names Meaning → List ℕ → Meaning → Names Meaning
+with_meaning names name Undefined = remove names name
+with_meaning names name meaning = insert names name meaning
+
+-- the meaning of an active character
+abbrev pub active_meaning : List Meaning → ℕ → Meaning
+active_meaning active code = unwrap_or (slice_get active code) Undefined
+
+-- a number of a list of registers, codes or parameters
+abbrev pub number_at : List ℤ → ℕ → Entry
+number_at numbers at = Number (unwrap_or (slice_get numbers at) (pos 0))
+
+-- what stands at a place
+unfoldable pub entry : Table → Place → Entry
+entry table (Name name) = Means (meaning_of table.names name)
+entry table (Active code) = Means (active_meaning table.active code)
+entry table (Count number) = number_at table.counts number
+entry table (Dimen number) = number_at table.dimens number
+entry table (Category code) = InCategory (category_at table.categories code)
+entry table (Code LowerCase code) = number_at table.lower_case code
+entry table (Code UpperCase code) = number_at table.upper_case code
+entry table (Code SpaceFactor code) = number_at table.space_factors code
+entry table (Code Math code) = number_at table.math code
+entry table (Code Delimiter code) = number_at table.delimiters code
+entry table (Integer parameter) = number_at table.integers (integer_number parameter)
+entry table (Dimension parameter) = number_at table.dimensions (dimension_number parameter)
+
+-- what a token means (TeX: The Program, part 20): a name and an active character what the table says, any other character
+-- itself
+abbrev pub token_meaning : Table → Token → Meaning
+token_meaning table (token.Name name) = meaning_of table.names name
+token_meaning table (token.Character code category.Active) = active_meaning table.active code
+token_meaning table (token.Character code other) = Character code other
+
+-- whether an entry is of the kind that stands at a place
+abbrev pub fits : Place → Entry → Bool
+fits (Name name) (Means meaning) = true
+fits (Active code) (Means meaning) = true
+fits (Category code) (InCategory category) = true
+fits (Count number) (Number value) = true
+fits (Dimen number) (Number value) = true
+fits (Code kind code) (Number value) = true
+fits (Integer parameter) (Number value) = true
+fits (Dimension parameter) (Number value) = true
+fits place other = false
+
+-- the table with a meaning, a category or a number at a place, all else as it was
+abbrev pub with_meaning_at : Table → Place → Meaning → Table
+with_meaning_at table (Name name) meaning = record table { names = with_meaning table.names name meaning }
+with_meaning_at table (Active code) meaning = record table { active = slice_set table.active code meaning }
+with_meaning_at table other meaning = table
+
+abbrev pub with_number_at : Table → Place → ℤ → Table
+with_number_at table (Count number) value = record table { counts = slice_set table.counts number value }
+with_number_at table (Dimen number) value = record table { dimens = slice_set table.dimens number value }
+with_number_at table (Code LowerCase code) value = record table { lower_case = slice_set table.lower_case code value }
+with_number_at table (Code UpperCase code) value = record table { upper_case = slice_set table.upper_case code value }
+with_number_at table (Code SpaceFactor code) value = record table { space_factors = slice_set table.space_factors code value }
+with_number_at table (Code Math code) value = record table { math = slice_set table.math code value }
+with_number_at table (Code Delimiter code) value = record table { delimiters = slice_set table.delimiters code value }
+with_number_at table (Integer parameter) value = record table { integers = slice_set table.integers (integer_number parameter) value }
+with_number_at table (Dimension parameter) value = record table { dimensions = slice_set table.dimensions (dimension_number parameter) value }
+with_number_at table other value = table
+
+abbrev pub with_category_at : Table → Place → Cat → Table
+with_category_at table (Category code) category = record table { categories = slice_set table.categories code category }
+with_category_at table other category = table
+
+-- the table with an entry at a place that it fits
+unfoldable pub with_entry : Table → Place → Entry → Table
+with_entry table place (Means meaning) = with_meaning_at table place meaning
+with_entry table place (InCategory category) = with_category_at table place category
+with_entry table place (Number value) = with_number_at table place value
+
+-- all characters have the same codes in two tables
+pub record HasSameCodes (some other : Table) : Type 0 where
+  pub lower_case : some.lower_case ≡ other.lower_case
+  pub upper_case : some.upper_case ≡ other.upper_case
+  pub space_factors : some.space_factors ≡ other.space_factors
+  pub math : some.math ≡ other.math
+  pub delimiters : some.delimiters ≡ other.delimiters

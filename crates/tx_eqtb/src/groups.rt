@@ -1,0 +1,21 @@
+//! Groups that are open.
+
+use crate::table::Table;
+
+/// What opened a group, which has to be closed by the same (TeX: The Program, section 269).
+#[derive(Clone, Copy, Debug, PartialEq, Eq)]
+pub enum GroupKind {
+    /// A character that begins a group.
+    Simple,
+    /// The brace after \hbox.
+    HorizontalBox,
+    /// \begingroup.
+    SemiSimple,
+}
+
+/// A group, and the table as it stands outside it.
+#[derive(Drop)]
+pub struct Group {
+    pub(crate) kind: GroupKind,
+    pub(crate) outside: Table,
+}

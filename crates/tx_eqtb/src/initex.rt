@@ -1,0 +1,114 @@
+//! The table with which INITEX begins.
+ghost use Rattle.std.specs.Prelude.{◌≡◌, pos, map, replicate, IfOk};
+ghost use Rattle.tx_eqtb.specs.declared.meaning.Meaning.TheVariants.{Undefined};
+ghost use Rattle.tx_prim.specs.Integers.{initial_integer, all_integers};
+ghost use Rattle.tx_eqtb.specs.Initex as spec;
+
+use crate::cells::Cells;
+use crate::meaning::Meaning;
+use crate::place::CharacterCode;
+use crate::table::Table;
+use std::alloc::{AllocError, Global};
+use tx_char::{Codes, ControlName};
+use tx_name::NameMap;
+use tx_prim::{DimensionParameter, IntegerParameter, Moment, Primitive};
+
+/// How many registers of a kind, and how many characters there are.
+const ALL: usize = 256;
+
+/// A code of a character.
+fn initial_code(kind: CharacterCode, code: u8) -> i32
+    ensures { result ≡ spec.initial_code kind code }
+{
+    match (kind, code) {
+        (CharacterCode::LowerCase, b'A'..=b'Z') => code as i32 + 32,
+        (CharacterCode::LowerCase, b'a'..=b'z') => code as i32,
+        (CharacterCode::LowerCase, _) => 0,
+        (CharacterCode::UpperCase, b'A'..=b'Z') => code as i32,
+        (CharacterCode::UpperCase, b'a'..=b'z') => code as i32 - 32,
+        (CharacterCode::UpperCase, _) => 0,
+        (CharacterCode::SpaceFactor, b'A'..=b'Z') => 999,
+        (CharacterCode::SpaceFactor, _) => 1000,
+        (CharacterCode::Math, b'0'..=b'9') => code as i32 + 0x7000,
+        (CharacterCode::Math, b'A'..=b'Z' | b'a'..=b'z') => code as i32 + 0x7100,
+        (CharacterCode::Math, _) => code as i32,
+        (CharacterCode::Delimiter, b'.') => 0,
+        (CharacterCode::Delimiter, _) => -1,
+    }
+}
+
+/// A code of all characters.
+#[tactic(auto, using(crate::proofs::Filled::filled_steps))]
+fn initial_codes(alloc: Global, kind: CharacterCode) -> Result<Cells<i32>, AllocError>
+    ensures { IfOk result (λ codes. codes ≡ spec.codes_of kind) }
+{
+    let mut codes = Vec::with_capacity(alloc, ALL)?;
+    for code in 0..ALL {
+        codes.push(initial_code(kind, code as u8))?;
+    }
+    Ok(Cells::from_vec(codes))
+}
+
+/// The integer parameters.
+fn initial_integers(alloc: Global, begun: &Moment) -> Result<Cells<i32>, AllocError>
+    ensures { IfOk result (λ values. values ≡ map (initial_integer begun.now) all_integers) }
+{
+    let parameters = IntegerParameter::all();
+    let mut values = Vec::with_capacity(alloc, parameters.len())?;
+    for parameter in parameters {
+        values.push(parameter.initial(begun))?;
+    }
+    Ok(Cells::from_vec(values))
+}
+
+/// As many zeros.
+fn zeros(alloc: Global, count: usize) -> Result<Cells<i32>, AllocError>
+    ensures { IfOk result (λ values. values ≡ replicate count (pos 0)) }
+{
+    Ok(Cells::from_vec(vec![in alloc; 0i32; count]?))
+}
+
+/// As many meanings, none of which is defined.
+fn undefined(alloc: Global, count: usize) -> Result<Cells<Meaning>, AllocError>
+    ensures { IfOk result (λ values. values ≡ replicate count Undefined) }
+{
+    Ok(Cells::from_vec(vec![in alloc; Meaning::Undefined; count]?))
+}
+
+/// The names of all primitives.
+#[tactic(auto, using(crate::proofs::Filled::filled_steps))]
+fn initial_names(alloc: Global) -> Result<NameMap<Meaning>, AllocError>
+    ensures { IfOk result (λ names. names ≡ spec.initial_names) }
+{
+    let primitives = Primitive::all();
+    let mut names = NameMap::new(alloc)?;
+    let mut left = primitives.len();
+    while left > 0 {
+        left -= 1;
+        let primitive = primitives[left];
+        let name = ControlName::from_slice(alloc, primitive.name())?;
+        names.insert(name, Meaning::Command(primitive))?;
+    }
+    Ok(names)
+}
+
+/// The table with which INITEX begins, in a run that began at this moment. Its only error is want of memory.
+#[tactic(auto, unfolding(crate::specs::Initex::initial_table))]
+pub fn initial_table(alloc: Global, begun: &Moment) -> Result<Table, AllocError>
+    ensures { IfOk result (λ table. table ≡ spec.initial_table begun.now) }
+{
+    Ok(Table {
+        names: initial_names(alloc)?,
+        active: undefined(alloc, ALL)?,
+        categories: Codes::initex(alloc)?,
+        counts: zeros(alloc, ALL)?,
+        dimens: zeros(alloc, ALL)?,
+        lower_case: initial_codes(alloc, CharacterCode::LowerCase)?,
+        upper_case: initial_codes(alloc, CharacterCode::UpperCase)?,
+        space_factors: initial_codes(alloc, CharacterCode::SpaceFactor)?,
+        math: initial_codes(alloc, CharacterCode::Math)?,
+        delimiters: initial_codes(alloc, CharacterCode::Delimiter)?,
+        integers: initial_integers(alloc, begun)?,
+        dimensions: zeros(alloc, DimensionParameter::COUNT)?,
+    })
+}

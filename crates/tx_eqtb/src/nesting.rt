@@ -1,0 +1,142 @@
+//! The groups that are open, one in another.
+ghost use Rattle.std.specs.Prelude.{◌≡◌, ◌↔◌, ◌-◌, [], ◌∷◌, ◌++◌, length, take, map, slice_get, IsTrue, IfOk, OnOk, OnErr};
+ghost use Rattle.std.specs.Option.{option_map};
+ghost use Rattle.tx_eqtb.specs.Stack.{assigned_outside, innermost};
+ghost use Rattle.tx_eqtb.specs.Table.{with_entry, fits};
+
+use crate::entry::Entry;
+use crate::everywhere::assign_from;
+use crate::groups::{Group, GroupKind};
+use crate::place::Place;
+use crate::table::Table;
+use std::alloc::{AllocError, Global};
+use std::marker::Model;
+
+/// The open groups, innermost last. Contracts see their list.
+#[derive(Drop)]
+pub struct Nesting {
+    groups: Vec<Group>,
+}
+
+impl Model for Nesting {
+    ghost use Rattle.std.specs.Prelude.{List};
+    ghost use Rattle.tx_eqtb.specs.declared.groups.Group.{Group};
+    ghost use Rattle.std.specs.Coded.{coded_list};
+    ghost use Rattle.tx_eqtb.specs.contracts.groups.Group as group;
+
+    ghost Value = { List Group };
+
+    ghost coded = { coded_list group.the_row.coded };
+
+    ghost view = { λ n. n.groups.items };
+}
+
+impl Nesting {
+    /// No group; takes no memory.
+    pub fn new(alloc: Global) -> Nesting
+        ensures { result ≡ [] }
+    {
+        Nesting {
+            groups: Vec::new(alloc),
+        }
+    }
+
+    /// How many groups are open.
+    pub fn depth(&self) -> usize
+        ensures { result ≡ length self.now }
+    {
+        self.groups.len()
+    }
+
+    /// The kind of the innermost group; None exactly where none is open.
+    pub fn kind(&self) -> Option<GroupKind>
+        ensures { result ≡ option_map (λ group. group.kind) (innermost self.now) }
+    {
+        match self.groups.last() {
+            Some(group) => Some(group.kind),
+            None => None,
+        }
+    }
+
+    /// Opens a group, with the table outside it. After want of memory nothing has changed.
+    pub fn open(&mut self, kind: GroupKind, outside: Table) -> Result<(), AllocError>
+        ensures ok { OnOk result (self.new ≡ self.old ++ record { kind = kind; outside = outside } ∷ []) }
+        ensures err { OnErr result (self.new ≡ self.old) }
+    {
+        self.groups.push(Group { kind, outside })?;
+        Ok(())
+    }
+
+    /// Closes the innermost group and answers the table outside it; None exactly where none is open. It takes no memory.
+    pub fn close(&mut self) -> Option<Table>
+        ensures outside { result ≡ option_map (λ group. group.outside) (innermost self.old) }
+        ensures left { self.new ≡ take (length self.old - 1) self.old }
+    {
+        match self.groups.pop() {
+            Some(Group { kind: _, outside }) => Some(outside),
+            None => None,
+        }
+    }
+
+    /// Gives a place an entry in the table as it stands and outside each group. After want of memory nothing has changed.
+    pub fn assign_everywhere(
+        &mut self,
+        table: &mut Table,
+        place: &Place,
+        value: Entry,
+    ) -> Result<(), AllocError>
+        requires { IsTrue (fits place.now value) }
+        ensures ok { OnOk result (self.new ≡ map (assigned_outside place.now value) self.old) }
+        ensures ok_table { OnOk result (table.new ≡ with_entry table.old place.now value) }
+        ensures err { OnErr result (self.new ≡ self.old) }
+        ensures err_table { OnErr result (table.new ≡ table.old) }
+    {
+        assign_from(self.groups.as_mut_slice(), table, 0, place, value)
+    }
+
+    /// Whether both are the same groups.
+    pub fn same(&self, other: &Nesting) -> bool
+        ensures { IsTrue result ↔ (self.now ≡ other.now) }
+    {
+        same_groups(self.groups.as_slice(), other.groups.as_slice())
+    }
+
+    /// A second list, equal to this one. Its only error is want of memory.
+    pub fn share(&self) -> Result<Nesting, AllocError>
+        ensures { IfOk result (λ twin. twin ≡ self.now) }
+    {
+        let alloc = *self.groups.allocator();
+        Ok(Nesting {
+            groups: share_groups(alloc, self.groups.as_slice())?,
+        })
+    }
+}
+
+/// Whether both lists hold the same groups in the same order.
+fn same_groups(some: &[Group], others: &[Group]) -> bool
+    ensures { IsTrue result ↔ (some.now ≡ others.now) }
+{
+    if some.len() != others.len() {
+        return false;
+    }
+    for k in 0..some.len() {
+        if some[k].kind != others[k].kind || !some[k].outside.same(&others[k].outside) {
+            return false;
+        }
+    }
+    true
+}
+
+/// Second groups, equal to these.
+fn share_groups(alloc: Global, groups: &[Group]) -> Result<Vec<Group>, AllocError>
+    ensures { IfOk result (λ twins. twins.items ≡ groups.now) }
+{
+    let mut twins = Vec::with_capacity(alloc, groups.len())?;
+    for group in groups {
+        twins.push(Group {
+            kind: group.kind,
+            outside: group.outside.share()?,
+        })?;
+    }
+    Ok(twins)
+}

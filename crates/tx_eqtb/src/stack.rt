@@ -1,0 +1,139 @@
+//! What is done to the table with its groups.
+ghost use Rattle.std.specs.Prelude.{◌≡◌, ◌↔◌, ◌≤◌, [], length, Some, Ok, Err, IsOk, IsTrue, IfOk, IfErr, OnOk, OnErr};
+ghost use Rattle.tx_eqtb.specs.Initex.{initial_table};
+ghost use Rattle.tx_eqtb.specs.Stack.{assigned, assigned_everywhere, closed, kind_of, opened};
+ghost use Rattle.tx_eqtb.specs.Table.{entry, token_meaning};
+
+use crate::entry::Entry;
+use crate::eqtb::Eqtb;
+use crate::error::{CloseError, OpenError};
+use crate::groups::GroupKind;
+use crate::initex;
+use crate::meaning::Meaning;
+use crate::nesting::Nesting;
+use crate::place::Place;
+use std::alloc::{AllocError, Global};
+use tx_char::{Codes, Token};
+use tx_prim::Moment;
+
+/// How many groups can be open.
+const MOST_GROUPS: usize = 255;
+
+impl Eqtb {
+    /// The table with which INITEX begins, in a run that began at this moment, and no group. Its only error is want of
+    /// memory.
+    pub fn new(alloc: Global, begun: &Moment) -> Result<Eqtb, AllocError>
+        ensures { IfOk result (λ e. e ≡ record { table = initial_table begun.now; groups = [] }) }
+    {
+        Ok(Eqtb {
+            table: initex::initial_table(alloc, begun)?,
+            groups: Nesting::new(alloc),
+        })
+    }
+
+    /// What stands at a place.
+    pub fn get(&self, place: &Place) -> Entry
+        ensures { result ≡ entry self.now.table place.now }
+    {
+        self.table.entry(place)
+    }
+
+    /// What a token means: a name and an active character what the table says, any other character itself.
+    pub fn meaning(&self, token: &Token) -> Meaning
+        ensures { result ≡ token_meaning self.now.table token.now }
+    {
+        self.table.meaning(token)
+    }
+
+    /// The categories of all characters, lent, for reading lines.
+    pub fn categories(&self) -> &Codes
+        ensures { result.now ≡ self.now.table.categories }
+    {
+        &self.table.categories
+    }
+
+    /// Gives a place an entry until the innermost group ends; one of another kind than stands there changes nothing. After
+    /// want of memory nothing has changed.
+    pub fn assign(&mut self, place: Place, value: Entry) -> Result<(), AllocError>
+        ensures ok { OnOk result (self.new ≡ assigned self.old place value) }
+        ensures err { OnErr result (self.new ≡ self.old) }
+    {
+        self.table.set(&place, value)
+    }
+
+    /// Gives a place an entry in all groups and outside them; one of another kind than stands there changes nothing. After
+    /// want of memory nothing has changed.
+    pub fn assign_global(&mut self, place: Place, value: Entry) -> Result<(), AllocError>
+        ensures ok { OnOk result (self.new ≡ assigned_everywhere self.old place value) }
+        ensures err { OnErr result (self.new ≡ self.old) }
+    {
+        if !place.takes(value) {
+            return Ok(());
+        }
+        self.groups
+            .assign_everywhere(&mut self.table, &place, value)
+    }
+
+    /// Opens a group. `TooMany` comes exactly where 255 are open. After an error nothing has changed.
+    pub fn open_group(&mut self, kind: GroupKind) -> Result<(), OpenError>
+        ensures full { (result ≡ Err OpenError.TooMany) ↔ (255 ≤ length self.old.groups) }
+        ensures ok { OnOk result (self.new ≡ opened self.old kind) }
+        ensures err { OnErr result (self.new ≡ self.old) }
+    {
+        if MOST_GROUPS <= self.groups.depth() {
+            return Err(OpenError::TooMany);
+        }
+        let outside = self.table.share()?;
+        self.groups.open(kind, outside)?;
+        Ok(())
+    }
+
+    /// Closes the innermost group; `NotThatGroup` comes exactly where that isn't of this kind, or none is open, and then
+    /// nothing has changed. It takes no memory.
+    pub fn close_group(&mut self, kind: GroupKind) -> Result<(), CloseError>
+        ensures exact { IsOk result ↔ (kind_of self.old ≡ Some kind) }
+        ensures ok { OnOk result (self.new ≡ closed self.old) }
+        ensures err { OnErr result (self.new ≡ self.old) }
+    {
+        if self.groups.kind() != Some(kind) {
+            return Err(CloseError::NotThatGroup);
+        }
+        if let Some(outside) = self.groups.close() {
+            self.table = outside;
+        }
+        Ok(())
+    }
+
+    /// How many groups are open.
+    pub fn depth(&self) -> usize
+        ensures { result ≡ length self.now.groups }
+    {
+        self.groups.depth()
+    }
+
+    /// The kind of the innermost group; None exactly where none is open.
+    pub fn kind(&self) -> Option<GroupKind>
+        ensures { result ≡ kind_of self.now }
+    {
+        self.groups.kind()
+    }
+
+    /// Whether both are the same table with the same groups.
+    pub fn same(&self, other: &Eqtb) -> bool
+        ensures { IsTrue result ↔ (self.now ≡ other.now) }
+    {
+        self.groups.depth() == other.groups.depth()
+            && self.table.same(&other.table)
+            && self.groups.same(&other.groups)
+    }
+
+    /// A second table with groups, equal to this one, which changes alone from then on. Its only error is want of memory.
+    pub fn share(&self) -> Result<Eqtb, AllocError>
+        ensures { IfOk result (λ twin. twin ≡ self.now) }
+    {
+        Ok(Eqtb {
+            table: self.table.share()?,
+            groups: self.groups.share()?,
+        })
+    }
+}

@@ -1,0 +1,23 @@
+//! The table itself.
+
+use crate::cells::Cells;
+use crate::meaning::Meaning;
+use tx_char::Codes;
+use tx_name::NameMap;
+
+/// What stands at each place. A name that has no entry is undefined.
+#[derive(Drop)]
+pub struct Table {
+    pub(crate) names: NameMap<Meaning>,
+    pub(crate) active: Cells<Meaning>,
+    pub(crate) categories: Codes,
+    pub(crate) counts: Cells<i32>,
+    pub(crate) dimens: Cells<i32>,
+    pub(crate) lower_case: Cells<i32>,
+    pub(crate) upper_case: Cells<i32>,
+    pub(crate) space_factors: Cells<i32>,
+    pub(crate) math: Cells<i32>,
+    pub(crate) delimiters: Cells<i32>,
+    pub(crate) integers: Cells<i32>,
+    pub(crate) dimensions: Cells<i32>,
+}
