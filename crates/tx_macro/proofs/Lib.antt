@@ -1,0 +1,10 @@
+mod Completing
+mod Groups
+mod OneUse
+mod ReadingOn
+mod Same
+mod Slides
+mod Standings
+mod Tables
+mod Takings
+mod Uses

@@ -1,0 +1,7 @@
+pub mod Tokens
+pub mod Agreement
+pub mod Arguments
+pub mod Matching
+pub mod Rests
+pub mod Matchers
+pub mod Standing

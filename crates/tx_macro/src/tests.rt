@@ -1,0 +1,218 @@
+//! Worked uses. The values are from The TeXbook, chapter 20, or worked out by hand by its rules.
+ghost use Rattle.std.specs.Prelude.{◌≡◌, ◌≢◌, [], true, IfOk, IfSome, IsTrue};
+ghost use Rattle.std.specs.List.{list_all};
+ghost use Rattle.tx_toklist.specs.Macros.{IsMacro, is_delimiter, no_parameters};
+
+use crate::Matcher;
+use crate::tokens::{begins_group, ends_group};
+use std::alloc::{AllocError, Global};
+use std::test::Fail;
+use tx_bytes::Bytes;
+use tx_char::{Cat, Codes, Token};
+use tx_lex::{Lexed, ReadState, lex};
+use tx_toklist::{Body, Fed, Item, Lists, Macro, ParameterText, Toks, text_of};
+
+/// The categories of plain TeX that these uses need.
+fn codes_of_plain(alloc: Global) -> Result<Codes, AllocError> {
+    let mut codes = Codes::initex(alloc)?;
+    let changes = [
+        (b'{', Cat::BeginGroup),
+        (b'}', Cat::EndGroup),
+        (b'$', Cat::MathShift),
+        (b'#', Cat::Parameter),
+    ];
+    for (code, category) in changes {
+        codes.set(code, category)?;
+    }
+    Ok(codes)
+}
+
+/// The tokens of a line.
+fn tokens(alloc: Global, line: &[u8], codes: &Codes) -> Result<Toks, AllocError> {
+    let mut toks = Toks::new(alloc);
+    let mut state = ReadState::M;
+    let mut rest = line;
+    for _ in 0..60 {
+        match lex(alloc, rest, state, codes)? {
+            Lexed::Token {
+                token,
+                used,
+                state: next,
+                ..
+            } => {
+                toks.push(token)?;
+                rest = &rest[used..];
+                state = next;
+            }
+            _ => return Ok(toks),
+        }
+    }
+    Ok(toks)
+}
+
+/// Whether a list may stand before a parameter or behind it.
+fn delimits(tokens: &[Token]) -> bool
+    ensures { result ≡ is_delimiter tokens.now }
+{
+    match tokens {
+        [] => true,
+        [only] => !ends_group(only),
+        [first, rest @ ..] => !ends_group(first) && !begins_group(first) && delimits(rest),
+    }
+}
+
+/// Whether all of these lists may stand behind a parameter.
+fn all_delimit(lists: &[Toks]) -> bool
+    ensures { result ≡ list_all is_delimiter lists.now }
+{
+    for list in lists {
+        if !delimits(list.as_slice()) {
+            return false;
+        }
+    }
+    true
+}
+
+/// Whether a parameter text may be a macro's, and has something in it.
+fn is_whole(parameters: &ParameterText) -> bool
+    ensures { IsTrue result → IsMacro parameters.now [] × (parameters.now ≢ no_parameters) }
+{
+    !parameters.is_empty()
+        && parameters.parameters() <= 9
+        && delimits(parameters.before())
+        && all_delimit(parameters.delimiters())
+}
+
+/// A macro with this parameter text, each # of which is a parameter; a begin-group token may end it. None where the text
+/// may be no macro's.
+fn macro_of(
+    alloc: Global,
+    text: &[u8],
+    long: bool,
+    codes: &Codes,
+) -> Result<Option<Macro>, AllocError>
+    ensures { IfOk result (λ made. IfSome made (λ m. m.parameters ≢ no_parameters)) }
+{
+    let mut parameters = ParameterText::new(alloc);
+    for token in tokens(alloc, text, codes)?.as_slice() {
+        match token {
+            Token::Character(_, Cat::Parameter) => parameters.push_parameter(alloc)?,
+            _ => parameters.push_token(token.clone()?)?,
+        }
+    }
+    if !is_whole(&parameters) {
+        return Ok(None);
+    }
+    Ok(Some(Macro::new(alloc, parameters, Body::new(alloc), long, false)?))
+}
+
+/// The arguments, each with a bar behind it.
+fn write_arguments(alloc: Global, arguments: &Lists, codes: &Codes) -> Result<Bytes, AllocError> {
+    let mut text = Bytes::new(alloc);
+    for argument in arguments.as_slice() {
+        text.append(text_of(alloc, argument.as_slice(), Some(b'\\'), codes)?.as_slice())?;
+        text.push(b'|')?;
+    }
+    Ok(text)
+}
+
+/// What a macro with this parameter text makes of this line: its arguments, each with a bar behind it, and then how many
+/// tokens are left; or `E` and the last digit of the error's number; or `?` where it wants more. Behind a line comes the
+/// end of its file where `ends` says so.
+fn used(alloc: Global, text: &[u8], line: &[u8], ends: bool) -> Result<Bytes, AllocError> {
+    let codes = codes_of_plain(alloc)?;
+    let Some(made) = macro_of(alloc, text, false, &codes)? else {
+        return Bytes::from_slice(alloc, b"!");
+    };
+    let mut matcher = Matcher::new(alloc, &made)?;
+    let toks = tokens(alloc, line, &codes)?;
+    let mut left = toks.len();
+    for token in toks.as_slice() {
+        left = left.saturating_sub(1);
+        match matcher.feed(alloc, Item::Token(token.clone()?))? {
+            Fed::More => {}
+            Fed::Done(arguments) => {
+                let mut answer = write_arguments(alloc, &arguments, &codes)?;
+                answer.push(b'0' + (left % 10) as u8)?;
+                return Ok(answer);
+            }
+            Fed::E(number) => return Bytes::from_slice(alloc, &[b'E', b'0' + number % 10]),
+        }
+    }
+    if ends {
+        if let Fed::E(number) = matcher.feed(alloc, Item::EndOfFile)? {
+            return Bytes::from_slice(alloc, &[b'E', b'0' + number % 10]);
+        }
+    }
+    Bytes::from_slice(alloc, b"?")
+}
+
+#[test]
+fn uses_fit_as_the_texbook_says(rt: HostRuntime) -> Result<(), Fail> {
+    let alloc = rt.alloc();
+    let rows: [(&[u8], &[u8], &[u8]); 26] = [
+        (b"#.#", b"xy.zw", b"xy|z|1"),
+        (b"#.#", b"{x}.{yz}", b"x|yz|0"),
+        (
+            b"AB##C$#\\$ ",
+            b"AB {\\Look}C${And\\$ }{look}\\$ 5",
+            b"\\Look ||{And\\$ }{look}|1",
+        ),
+        (b"#{", b"3pt{x}", b"3pt|2"),
+        (b"#.", b"{a}{b}.", b"{a}{b}|0"),
+        (b"#.", b"{a{b}}.", b"a{b}|0"),
+        (b"#.", b"{a.b}c.d.", b"{a.b}c|2"),
+        (b"#.", b".", b"|0"),
+        (b"#", b"   {}x", b"|1"),
+        (b"#", b"  \\par ", b"E3"),
+        (b"#", b"}", b"E4"),
+        (b"#", b"{a\\par }", b"E3"),
+        (b"#.", b"a\\par .", b"E3"),
+        (b"#.", b"a}.", b"E4"),
+        (b"#\\par ", b"a\\par b", b"a|1"),
+        (b"#\\par .", b"a\\par \\par .", b"a\\par |0"),
+        (b"ab#", b"abc", b"c|0"),
+        (b"ab#", b"aac", b"E2"),
+        (b"a", b"a", b"0"),
+        (b"a", b"\\par ", b"E2"),
+        (b"#aab", b"aaab", b"a|0"),
+        (b"#abab", b"abcabaabab", b"abcaba|0"),
+        (b"#aba.", b"xababa.", b"xab|0"),
+        (b"#aab", b"aa{aab}aab", b"aa{aab}|0"),
+        (b"#ab", b"a", b"?"),
+        (b"##", b"a ", b"?"),
+    ];
+    for (text, line, answer) in rows {
+        assert_eq!(rt; used(alloc, text, line, false)?.as_slice(), answer);
+    }
+    assert_eq!(rt; used(alloc, b"#.", b"a", true)?.as_slice(), &b"E7"[..]);
+    Ok(())
+}
+
+/// A use of a macro of one parameter; nothing is taken.
+fn fresh_use(alloc: Global) -> Result<Option<Matcher>, AllocError>
+    ensures { IfOk result (λ made. IfSome made (λ m. m.goes_on ≡ true)) }
+{
+    let codes = codes_of_plain(alloc)?;
+    match macro_of(alloc, b"#", false, &codes)? {
+        Some(made) => Ok(Some(Matcher::new(alloc, &made)?)),
+        None => Ok(None),
+    }
+}
+
+#[test]
+fn a_shared_use_goes_on_by_itself(rt: HostRuntime) -> Result<(), Fail> {
+    let Some(mut one) = fresh_use(rt.alloc())? else {
+        return Err(Fail::from("no macro"));
+    };
+    let other = one.share()?;
+    assert!(rt; other.same(&one));
+    assert!(rt;
+        matches!(
+            one.feed(rt.alloc(), Item::Token(Token::Character(b' ', Cat::Space)))?,
+            Fed::More
+        )
+    );
+    assert!(rt; one.goes_on() && !other.same(&one));
+    Ok(())
+}
