@@ -1,0 +1,5 @@
+pub mod KeptDigits
+pub mod SameRest
+pub mod UnitSpaces
+pub mod Lets
+pub mod ValueScans

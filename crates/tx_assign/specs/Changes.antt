@@ -1,0 +1,82 @@
+-- How an assignment is carried out on the table (TeX: The Program, sections 1211 to 1218 and 1236 to 1240).
+use Rattle.std.specs.Prelude.{◌≡◌, ℤ, pos, zero, ◌+ℤ◌, ◌*ℤ◌, int_div, int_lt, unsigned_abs, Bool, true, false, nat_le, Result, Ok, Err, if◌then◌else◌}
+use Rattle.tx_num.specs.Limits.{limit}
+use Rattle.tx_num.specs.declared.limits.Range.{Range}
+use Rattle.tx_num.specs.declared.limits.Range.TheVariants.{Integer as Range_integer, Dimen as Range_dimen}
+use Rattle.tx_prim.specs.declared.integer.IntegerParameter.TheVariants.{Globaldefs}
+use Rattle.tx_eqtb.specs.declared.entry.Entry.{Entry}
+use Rattle.tx_eqtb.specs.declared.entry.Entry.TheVariants.{Means, InCategory, Number}
+use Rattle.tx_eqtb.specs.declared.eqtb.Eqtb.{Eqtb}
+use Rattle.tx_eqtb.specs.declared.place.Place.{Place}
+use Rattle.tx_eqtb.specs.declared.place.Place.TheVariants.{Integer}
+use Rattle.tx_eqtb.specs.declared.table.Table.{Table}
+use Rattle.tx_eqtb.specs.Table.{entry}
+use Rattle.tx_eqtb.specs.Stack.{assigned, assigned_everywhere}
+use Rattle.tx_assign.specs.declared.error.TexError.{TexError}
+use Rattle.tx_assign.specs.declared.error.TexError.TheVariants.{ArithmeticOverflow}
+use Rattle.tx_assign.specs.declared.types.Assignment.{Assignment}
+use Rattle.tx_assign.specs.declared.types.Carried.{Carried}
+use Rattle.tx_assign.specs.declared.types.Carried.TheVariants.{Done as Carried_done, Refused}
+use Rattle.tx_assign.specs.declared.types.Change.{Change}
+use Rattle.tx_assign.specs.declared.types.Change.TheVariants.{Set, Compute}
+use Rattle.tx_assign.specs.declared.types.Operation.{Operation}
+use Rattle.tx_assign.specs.declared.types.Operation.TheVariants.{Advance, Multiply, Divide}
+use Rattle.tx_assign.specs.Targets.{is_size}
+
+-- the number that is an entry
+abbrev pub number_in : Entry → ℤ
+number_in (Number n) = n
+number_in (Means meaning) = pos 0
+number_in (InCategory category) = pos 0
+
+-- the number at a place
+abbrev pub number_at : Table → Place → ℤ
+number_at table place = number_in (entry table place)
+
+-- an assignment is global as its prefix says, unless \globaldefs isn't 0: then all are where it is positive, and none is
+-- where it is negative
+abbrev pub is_global : ℤ → Bool → Bool
+is_global globaldefs prefixed = if int_lt (pos 0) globaldefs then true else if int_lt globaldefs (pos 0) then false else prefixed
+
+-- sizes reach up to 2^30-1, other numbers up to 2^31-1
+abbrev pub range_of : Place → Range
+range_of place = if is_size place then Range_dimen else Range_integer
+
+-- a result, if it is within the range
+abbrev pub computed : Range → ℤ → Result Entry TexError
+computed range n = if nat_le (unsigned_abs n) (limit range) then Ok (Number n) else Err ArithmeticOverflow
+
+-- a quotient is cut off towards 0
+abbrev pub quotient : Range → ℤ → ℤ → Result Entry TexError
+quotient range n (pos zero) = Err ArithmeticOverflow
+quotient range n d = computed range (int_div n d)
+
+abbrev pub result : Operation → Range → ℤ → ℤ → Result Entry TexError
+result Advance range n m = computed range (n +ℤ m)
+result Multiply range n m = computed range (n *ℤ m)
+result Divide range n m = quotient range n m
+
+-- what stands at a place after a change, by the number that stood there
+abbrev pub changed : Range → ℤ → Change → Result Entry TexError
+changed range n (Set value) = Ok value
+changed range n (Compute operation m) = result operation range n m
+
+abbrev pub changed_entry : Table → Place → Change → Result Entry TexError
+changed_entry table place change = changed (range_of place) (number_at table place) change
+
+abbrev pub assigned_by : Bool → Eqtb → Place → Entry → Eqtb
+assigned_by true stack place value = assigned_everywhere stack place value
+assigned_by false stack place value = assigned stack place value
+
+abbrev pub carried_to : Eqtb → Assignment → Result Entry TexError → Result Eqtb TexError
+carried_to stack a (Err e) = Err e
+carried_to stack a (Ok value) = Ok (assigned_by (is_global (number_at stack.table (Integer Globaldefs)) a.global) stack a.place value)
+
+-- the table with the assignment carried out
+abbrev pub carried_out : Eqtb → Assignment → Result Eqtb TexError
+carried_out stack a = carried_to stack a (changed_entry stack.table a.place a.change)
+
+-- the assignment is done, or refused with nothing changed
+abbrev pub IsCarried : Eqtb → Assignment → Eqtb → Carried → Type 0
+IsCarried old a new Carried_done = carried_out old a ≡ Ok new
+IsCarried old a new (Refused e) = (carried_out old a ≡ Err e) × (new ≡ old)

@@ -1,0 +1,10 @@
+pub mod Errors
+pub mod Seen
+pub mod Scans
+pub mod Numbers
+pub mod Dimensions
+pub mod Beginnings
+pub mod Targets
+pub mod Assignments
+pub mod Changes
+pub mod Rests

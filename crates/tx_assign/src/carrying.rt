@@ -1,0 +1,125 @@
+//! How an assignment is carried out on the table (TeX: The Program, sections 1211 to 1218 and 1236 to 1240).
+ghost use Rattle.std.specs.Prelude.{◌≡◌, IfOk, OnErr};
+ghost use Rattle.tx_num.specs.Limits.{limit};
+ghost use Rattle.tx_assign.specs.Changes as spec;
+ghost use Rattle.tx_assign.specs.Changes.{IsCarried};
+
+use crate::error::TexError;
+use crate::target::is_size;
+use crate::types::{Assignment, Carried, Change, Operation};
+use std::alloc::AllocError;
+use tx_eqtb::{Entry, Eqtb, Place};
+use tx_num::{Range, x_over_n};
+use tx_prim::IntegerParameter;
+
+/// The number at a place; 0 where no number stands.
+pub fn number_at(table: &Eqtb, place: &Place) -> i32
+    ensures { result ≡ spec.number_at table.now.table place.now }
+{
+    match table.get(place) {
+        Entry::Number(number) => number,
+        _ => 0,
+    }
+}
+
+/// Whether an assignment is global, with this value of \globaldefs.
+fn is_global(globaldefs: i32, prefixed: bool) -> bool
+    ensures { result ≡ spec.is_global globaldefs prefixed }
+{
+    if globaldefs > 0 {
+        true
+    } else if globaldefs < 0 {
+        false
+    } else {
+        prefixed
+    }
+}
+
+/// Sizes reach up to 2^30-1, other numbers up to 2^31-1.
+fn range_of(place: &Place) -> Range
+    ensures { result ≡ spec.range_of place.now }
+{
+    if is_size(place) {
+        Range::Dimen
+    } else {
+        Range::Integer
+    }
+}
+
+/// The greatest number of a range.
+fn greatest(range: Range) -> u64
+    ensures { result ≡ limit range }
+{
+    match range {
+        Range::Integer => 2_147_483_647,
+        Range::Dimen => 1_073_741_823,
+    }
+}
+
+/// A result, if it is within the range.
+fn computed(range: Range, number: i64) -> Result<Entry, TexError>
+    ensures { result ≡ spec.computed range number }
+{
+    if number.unsigned_abs() <= greatest(range) {
+        Ok(Entry::Number(number as i32))
+    } else {
+        Err(TexError::ArithmeticOverflow)
+    }
+}
+
+/// A quotient, cut off towards 0.
+fn quotient(range: Range, number: i64, divisor: i64) -> Result<Entry, TexError>
+    ensures { result ≡ spec.quotient range number divisor }
+{
+    if divisor == 0 {
+        return Err(TexError::ArithmeticOverflow);
+    }
+    match x_over_n(number, divisor, range) {
+        Ok((quotient, _)) => computed(range, quotient),
+        Err(_) => Err(TexError::ArithmeticOverflow),
+    }
+}
+
+/// What stands at a place after a change; at the place stands this number now.
+fn changed_entry(range: Range, number: i32, change: Change) -> Result<Entry, TexError>
+    ensures { result ≡ spec.changed range number change }
+{
+    let number = i64::from(number);
+    match change {
+        Change::Set(entry) => Ok(entry),
+        Change::Compute(Operation::Advance, operand) => computed(
+            range,
+            number + i64::from(operand),
+        ),
+        Change::Compute(Operation::Multiply, operand) => computed(
+            range,
+            number * i64::from(operand),
+        ),
+        Change::Compute(Operation::Divide, operand) => quotient(range, number, i64::from(operand)),
+    }
+}
+
+/// Carries an assignment out; it is refused where a result leaves its range or a divisor is 0, and then nothing has changed.
+/// Its only error is want of memory, after which nothing has changed either.
+pub fn carry_out(table: &mut Eqtb, assignment: Assignment) -> Result<Carried, AllocError>
+    ensures ok { IfOk result (IsCarried table.old assignment table.new) }
+    ensures err { OnErr result (table.new ≡ table.old) }
+{
+    let Assignment {
+        global,
+        place,
+        change,
+    } = assignment;
+    let number = number_at(table, &place);
+    let entry = match changed_entry(range_of(&place), number, change) {
+        Ok(entry) => entry,
+        Err(error) => return Ok(Carried::Refused(error)),
+    };
+    let globaldefs = number_at(table, &Place::Integer(IntegerParameter::Globaldefs));
+    if is_global(globaldefs, global) {
+        table.assign_global(place, entry)?;
+    } else {
+        table.assign(place, entry)?;
+    }
+    Ok(Carried::Done)
+}
