@@ -1,13 +1,14 @@
-"""The program word_show, for the checks that ask it."""
+"""The programs word_show and mouth_show, for the checks that ask them."""
 import os
 import subprocess
 
-FOLDER = os.path.join(os.path.dirname(os.path.abspath(__file__)), "..", "crates", "word_show")
+CRATES = os.path.join(os.path.dirname(os.path.abspath(__file__)), "..", "crates")
 
 
-def word_show():
-    """The path of the program, which is built, and so proved, first."""
-    built = subprocess.run(["rt", "run"], cwd=FOLDER, stdin=subprocess.DEVNULL, capture_output=True, text=True)
-    if built.returncode != 0:
-        raise SystemExit(built.stdout + built.stderr + "word_show wasn't built")
-    return os.path.join(FOLDER, "out", "word_show")
+def built(name):
+    """The path of a program, which is built, and so proved, first."""
+    folder = os.path.join(CRATES, name)
+    done = subprocess.run(["rt", "run"], cwd=folder, stdin=subprocess.DEVNULL, capture_output=True, text=True)
+    if done.returncode != 0:
+        raise SystemExit(done.stdout + done.stderr + name + " wasn't built")
+    return os.path.join(folder, "out", name)
