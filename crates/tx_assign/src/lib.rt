@@ -16,11 +16,7 @@ mod naming;
 mod scans;
 mod seen;
 mod stage;
-#[cfg(test)]
-mod table_tests;
 mod target;
-#[cfg(test)]
-mod tests;
 mod types;
 mod values;
 

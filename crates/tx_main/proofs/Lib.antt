@@ -1,9 +1,8 @@
-pub mod Codes
-pub mod KeptDigits
 pub mod Leaves
 pub mod Prefixes
-pub mod SameRest
 pub mod SideNames
 pub mod Sides
-pub mod UnitSpaces
 pub mod Reversed
+pub mod Defined
+pub mod Ships
+mod Worked

@@ -1,9 +1,9 @@
 -- The names of a rule's sides (The TeXbook, chapter 21).
 use Rattle.std.specs.Prelude.{ℕ, List, codes, Option, Some, None, if◌then◌else◌}
-use Rattle.tx_char.specs.declared.tokens.Token.{Token}
+use Rattle.tx_assign.specs.declared.seen.Seen.{Seen}
 use Rattle.tx_main.specs.declared.types.Side.{Side}
 use Rattle.tx_main.specs.declared.types.Side.TheVariants.{Width, Height, Depth}
-use Rattle.tx_main.specs.Tokens.{is_key}
+use Rattle.tx_assign.specs.Seen.{is_key}
 
 -- by small letters
 abbrev pub letters_of : Side → List ℕ
@@ -12,7 +12,7 @@ letters_of Height = codes "height"
 letters_of Depth = codes "depth"
 
 -- the side whose name begins with this token
-abbrev pub begun_by : Token → Option Side
+abbrev pub begun_by : Seen → Option Side
 begun_by t =
     if is_key 119 t then Some Width
     else if is_key 104 t then Some Height

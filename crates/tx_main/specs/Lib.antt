@@ -1,8 +1,3 @@
-pub mod Errors
-pub mod Tokens
-pub mod Scans
-pub mod Numbers
-pub mod Dimensions
 pub mod Rules
 pub mod Commands
 pub mod Keywords

@@ -25,9 +25,9 @@ state_of s = record {
   taken = s.scan.taken;
   horizontal = s.scan.horizontal;
   list = s.list;
-  groups = s.groups;
-  codes = s.codes;
-  date = s.date;
+  boxes = s.boxes;
+  table = s.table;
+  magnification = s.magnification;
 }
 
 abbrev pub meaning_of : State → Meaning

@@ -1,30 +1,67 @@
--- What shipping takes from TeX's state (TeX: The Program, sections 638 to 644).
-use Rattle.std.specs.Prelude.{pos, replicate, Result}
-use Rattle.tx_dvi.specs.declared.page.DateParameters.{DateParameters}
+-- What shipping and reading take from the table (TeX: The Program, sections 638 to 644 and 362).
+use Rattle.std.specs.Prelude.{ℕ, ℤ, pos, negsuc, Bool, true, ◌&&◌, nat_lt, int_le, List, [], ◌∷◌, Option, Some, None, Result, if◌then◌else◌}
 use Rattle.tx_dvi.specs.Page.{Page}
 use Rattle.tx_machine.specs.declared.types.Date.{Date}
 use Rattle.tx_node.specs.Items.{HBox}
+use Rattle.tx_prim.specs.declared.integer.Moment.{Moment}
+use Rattle.tx_prim.specs.declared.integer.IntegerParameter.{IntegerParameter}
+use Rattle.tx_prim.specs.declared.integer.IntegerParameter.TheVariants.{Endlinechar, Mag, Year, Month, Day, Time}
+use Rattle.tx_prim.specs.declared.dimension.DimensionParameter.{DimensionParameter}
+use Rattle.tx_prim.specs.declared.dimension.DimensionParameter.TheVariants.{Hoffset, Voffset}
+use Rattle.tx_eqtb.specs.declared.place.Place.TheVariants.{Count, Integer, Dimension}
+use Rattle.tx_eqtb.specs.declared.table.Table.{Table}
+use Rattle.tx_assign.specs.Changes.{number_at}
 use Rattle.tx_ship.specs.declared.error.ShipError.{ShipError}
 use Rattle.tx_ship.specs.declared.params.ShipParams.{ShipParams}
 use Rattle.tx_ship.specs.Pages as ship
 
--- a date as the parameters of TeX
-abbrev pub date_parameters : Date → DateParameters
-date_parameters date = record { year = pos date.year; month = pos date.month; day = pos date.day; time = pos date.minutes }
+-- when a run began, as the date parameters say it
+abbrev pub moment_of : Date → Moment
+moment_of date = record { year = pos date.year; month = pos date.month; day = pos date.day; time = pos date.minutes }
 
--- counts and offsets are 0, and the magnification is the usual one
-abbrev pub ship_params : DateParameters → ShipParams
-ship_params date = record {
-  counts = replicate 10 (pos 0);
-  hoffset = pos 0;
-  voffset = pos 0;
-  mag = pos 1000;
-  year = date.year;
-  month = date.month;
-  day = date.day;
-  time = date.time;
+abbrev pub count : Table → ℕ → ℤ
+count table n = number_at table (Count n)
+
+abbrev pub integer : Table → IntegerParameter → ℤ
+integer table parameter = number_at table (Integer parameter)
+
+abbrev pub dimension : Table → DimensionParameter → ℤ
+dimension table parameter = number_at table (Dimension parameter)
+
+abbrev pub counts : Table → List ℤ
+counts table =
+    count table 0 ∷ count table 1 ∷ count table 2 ∷ count table 3 ∷ count table 4 ∷ count table 5 ∷ count table 6 ∷ count table 7
+    ∷ count table 8 ∷ count table 9 ∷ []
+
+-- what the page takes from the table: \count0 to \count9, the offsets, the magnification, the date
+abbrev pub ship_params : Table → ShipParams
+ship_params table = record {
+  counts = counts table;
+  hoffset = dimension table Hoffset;
+  voffset = dimension table Voffset;
+  mag = integer table Mag;
+  year = integer table Year;
+  month = integer table Month;
+  day = integer table Day;
+  time = integer table Time;
 }
 
 -- the page of a box
-abbrev pub page_of : DateParameters → HBox → Result Page ShipError
-page_of date box = ship.page_of box (ship_params date)
+abbrev pub page_of : Table → HBox → Result Page ShipError
+page_of table box = ship.page_of box (ship_params table)
+
+-- a page's magnification is 1 to 32768, and that of the first page
+abbrev pub may_be : Option ℤ → ℤ → Bool
+may_be first mag = (int_le (pos 1) mag && int_le mag (pos 32768)) && is_that first mag
+  where
+    is_that : Option ℤ → ℤ → Bool
+    is_that None mag = true
+    is_that (Some n) mag = int_le n mag && int_le mag n
+
+-- the character at the end of each line that is read, if there is one (TeX: The Program, section 362)
+abbrev pub line_end : Table → Option ℕ
+line_end table = character (integer table Endlinechar)
+  where
+    character : ℤ → Option ℕ
+    character (pos n) = if nat_lt n 256 then Some n else None
+    character (negsuc n) = None

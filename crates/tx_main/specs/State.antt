@@ -1,19 +1,19 @@
 -- What TeX's state means: plain data (TeX: The Program, parts 15, 19 and 22).
-use Rattle.std.specs.Prelude.{ℕ, Bool, false, List, []}
-use Rattle.tx_char.specs.declared.category.Cat.{Cat}
+use Rattle.std.specs.Prelude.{ℕ, ℤ, Bool, false, List, [], Option, None}
 use Rattle.tx_char.specs.declared.tokens.Token.{Token}
-use Rattle.tx_char.specs.Category.{initial_codes}
+use Rattle.tx_assign.specs.declared.seen.Seen.{Seen}
 use Rattle.tx_lex.specs.declared.types.ReadState.TheVariants.{N}
-use Rattle.tx_dvi.specs.declared.page.DateParameters.{DateParameters}
+use Rattle.tx_eqtb.specs.declared.eqtb.Eqtb.{Eqtb}
+use Rattle.tx_eqtb.specs.Initex.{initial_table}
 use Rattle.tx_machine.specs.declared.types.Date.{Date}
 use Rattle.tx_machine.specs.declared.types.AskKind.{AskKind}
 use Rattle.tx_machine.specs.Machine.{Mode, Ready, Awaits, Halted as Mode_halted}
-use Rattle.tx_main.specs.Pages.{date_parameters}
+use Rattle.tx_main.specs.Pages.{moment_of}
 use Rattle.tx_node.specs.Items.{Item}
 use Rattle.tx_main.specs.Lines.{Line}
 use Rattle.tx_main.specs.declared.parts.Due.{Due}
 use Rattle.tx_main.specs.declared.parts.Due.TheVariants.{OpenMain}
-use Rattle.tx_main.specs.declared.parts.Group.{Group}
+use Rattle.tx_main.specs.declared.parts.OpenBox.{OpenBox}
 use Rattle.tx_main.specs.declared.parts.Phase.{Phase}
 use Rattle.tx_main.specs.declared.parts.Phase.TheVariants.{Running, Waiting, Halted}
 
@@ -24,16 +24,17 @@ pub record TexState : Type 0 where
   -- the line, and the tokens that were given back and are read before it
   pub line : Line
   pub back : List Token
-  -- the tokens that the open command has taken
-  pub taken : List Token
+  -- the tokens that the open command has taken, with what they mean
+  pub taken : List Seen
   -- whether the list that is being built is horizontal, and the list
   pub horizontal : Bool
   pub list : List Item
-  -- the open groups, the innermost last, and the category codes
-  pub groups : List Group
-  pub codes : List Cat
-  -- \year, \month, \day and \time
-  pub date : DateParameters
+  -- the open boxes, the innermost last
+  pub boxes : List OpenBox
+  -- meanings, codes, registers and parameters, with the open groups
+  pub table : Eqtb
+  -- the magnification, once a page has it
+  pub magnification : Option ℤ
 
 -- a state as the outside sees it: ready for a turn, waiting for a reply, or done for; of the last nothing else matters
 pub data Meaning : Type 0 where
@@ -60,7 +61,7 @@ first_state date main = record {
   taken = [];
   horizontal = false;
   list = [];
-  groups = [];
-  codes = initial_codes;
-  date = date_parameters date;
+  boxes = [];
+  table = record { table = initial_table (moment_of date); groups = [] };
+  magnification = None;
 }

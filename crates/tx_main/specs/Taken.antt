@@ -1,17 +1,26 @@
 -- How a command is taken off the input.
-use Rattle.std.specs.Prelude.{◌≡◌, [], ◌∷◌, ◌++◌}
+use Rattle.std.specs.Prelude.{◌≡◌, Bool, List, [], ◌∷◌, ◌++◌, Option, None}
 use Rattle.tx_char.specs.declared.tokens.Token.{Token}
+use Rattle.tx_assign.specs.declared.seen.Seen.{Seen}
+use Rattle.tx_assign.specs.Scans.{Scan, More, Done, Wrong}
 use Rattle.tx_main.specs.declared.scans.Taken.{Taken}
 use Rattle.tx_main.specs.declared.scans.Taken.TheVariants as taken
 use Rattle.tx_main.specs.Begun.{Begun}
-use Rattle.tx_main.specs.Scans.{More, Done, Wrong}
 use Rattle.tx_main.specs.Commands.{command}
 
--- one more token: the command isn't whole yet, or it is, or it is wrong; after the last two the next one begins
-abbrev pub IsTaken : Begun → Token → Begun → Taken → Type 0
-IsTaken old t new taken.More =
-    (command old.horizontal (old.taken ++ t ∷ []) ≡ More) × (new ≡ record { horizontal = old.horizontal; taken = old.taken ++ t ∷ [] })
-IsTaken old t new (taken.Whole c back) =
-    (command old.horizontal (old.taken ++ t ∷ []) ≡ Done c back) × (new ≡ record { horizontal = old.horizontal; taken = [] })
-IsTaken old t new (taken.Wrong e) =
-    (command old.horizontal (old.taken ++ t ∷ []) ≡ Wrong e) × (new ≡ record { horizontal = old.horizontal; taken = [] })
+-- the name that a command defines of which this was read, if there is one
+abbrev pub name_defined : {A : Type 0} → Scan A → Option Token
+name_defined (More name) = name
+name_defined (Done a rest) = None
+name_defined (Wrong e) = None
+
+-- of these tokens the command isn't whole yet, or it is, or it is wrong; after the last two the next one begins
+abbrev pub IsTakenAll : Bool → List Seen → Begun → Taken → Type 0
+IsTakenAll horizontal tokens new taken.More =
+    (command horizontal tokens ≡ More (name_defined (command horizontal tokens))) × (new ≡ record { horizontal = horizontal; taken = tokens })
+IsTakenAll horizontal tokens new (taken.Whole c back) = (command horizontal tokens ≡ Done c back) × (new ≡ record { horizontal = horizontal; taken = [] })
+IsTakenAll horizontal tokens new (taken.Wrong e) = (command horizontal tokens ≡ Wrong e) × (new ≡ record { horizontal = horizontal; taken = [] })
+
+-- one more token
+abbrev pub IsTaken : Begun → Seen → Begun → Taken → Type 0
+IsTaken old t new taken = IsTakenAll old.horizontal (old.taken ++ t ∷ []) new taken

@@ -1,6 +1,7 @@
 -- One turn of TeX: due work, the ask for a line, or one token (TeX: The Program, sections 1030, 343 and 360).
-use Rattle.std.specs.Prelude.{ℕ, List, [], ◌∷◌, ◌++◌, Some, Result, Ok, Err}
+use Rattle.std.specs.Prelude.{ℕ, ℤ, ◌&&◌, List, [], ◌∷◌, ◌++◌, map, Some, Result, Ok, Err, if◌then◌else◌}
 use Rattle.tx_char.specs.declared.tokens.Token.{Token}
+use Rattle.tx_assign.specs.declared.seen.Seen.{Seen}
 use Rattle.tx_dvi.specs.Page.{Page}
 use Rattle.tx_lex.specs.declared.types.ReadState.TheVariants.{N}
 use Rattle.tx_lex.specs.Line.{seen_line}
@@ -14,18 +15,21 @@ use Rattle.tx_machine.specs.declared.types.Reply.TheVariants.{Absent, Line as Re
 use Rattle.tx_machine.specs.declared.types.Event.TheVariants.{Went, Asks, Shipped, Stopped}
 use Rattle.tx_machine.specs.declared.types.Stop.TheVariants.{End, Error}
 use Rattle.tx_machine.specs.Machine.{Formatter, Stepped, kind_of}
-use Rattle.tx_main.specs.declared.error.TexError.{TexError}
-use Rattle.tx_main.specs.declared.error.TexError.TheVariants.{InvalidCharacter, SizeOutOfRange, FileAbsent, NoEnd}
+use Rattle.tx_assign.specs.declared.error.TexError.{TexError}
+use Rattle.tx_assign.specs.declared.error.TexError.TheVariants.{InvalidCharacter, SizeOutOfRange, FileAbsent, BadMagnification, NoEnd}
 use Rattle.tx_main.specs.declared.parts.Due.{Due}
 use Rattle.tx_main.specs.declared.parts.Due.TheVariants.{Nothing, OpenMain, MainAbsent, FileEnded, MainClosed, Ship}
 use Rattle.tx_main.specs.declared.types.Command.{Command}
 use Rattle.tx_node.specs.Counts.{box_count, ended}
 use Rattle.tx_ship.specs.declared.error.ShipError.{ShipError}
-use Rattle.tx_main.specs.Pages.{page_of}
+use Rattle.tx_prim.specs.declared.integer.IntegerParameter.TheVariants.{Mag}
+use Rattle.tx_assign.specs.Seen.{seen}
+use Rattle.tx_main.specs.Pages.{integer, line_end, page_of, may_be}
+use Rattle.tx_main.specs.Taken.{name_defined}
 use Rattle.tx_main.specs.Commands.{command}
 use Rattle.tx_main.specs.Effects.{Effect, Leaves, Fails, Ends, effect}
-use Rattle.tx_main.specs.Errors.{number_of}
-use Rattle.tx_main.specs.Scans.{Scan, More, Done, Wrong}
+use Rattle.tx_assign.specs.Errors.{number_of}
+use Rattle.tx_assign.specs.Scans.{Scan, More, Done, Wrong}
 use Rattle.tx_main.specs.State.{TexState, Meaning, Runs, Waits, Stops, mode_of, first_state}
 
 -- the turn goes on, with these bytes for the transcript
@@ -47,14 +51,17 @@ effected (Fails error) = fails error
 effected Ends = record { event = Stopped End; next = Stops; said = [] }
 
 -- what comes of these tokens: the command goes on, or is wrong, or takes effect, and what it didn't need is read again
-abbrev pub scanned : TexState → List Token → Scan Command → Stepped Meaning
-scanned s tokens More = goes (record s { taken = tokens }) []
+abbrev pub scanned : TexState → List Seen → Scan Command → Stepped Meaning
+scanned s tokens (More name) = goes (record s { taken = tokens }) []
 scanned s tokens (Wrong error) = fails error
-scanned s tokens (Done c behind) = effected (effect (record s { taken = []; back = behind ++ s.back }) c)
+scanned s tokens (Done c behind) = effected (effect (record s { taken = []; back = map (λ t. t.token) behind ++ s.back }) c)
 
--- a token joins those that the open command has taken
+-- a token, with what it means, joins those that the open command has taken
+abbrev pub joining : TexState → Seen → Stepped Meaning
+joining s t = scanned s (s.taken ++ t ∷ []) (command s.horizontal (s.taken ++ t ∷ []))
+
 abbrev pub taking : TexState → Token → Stepped Meaning
-taking s t = scanned s (s.taken ++ t ∷ []) (command s.horizontal (s.taken ++ t ∷ []))
+taking s t = joining s (seen s.table.table (name_defined (command s.horizontal s.taken)) t)
 
 -- what the line gives; a line with nothing left but dropped characters is used up
 abbrev pub line_read : TexState → Reading → Stepped Meaning
@@ -64,13 +71,17 @@ line_read s Refused = fails InvalidCharacter
 
 -- tokens that were given back come before the line
 abbrev pub reads : TexState → List Token → Stepped Meaning
-reads s [] = line_read s (reading s.codes s.line.state s.line.rest)
+reads s [] = line_read s (reading s.table.table.categories s.line.state s.line.rest)
 reads s (t ∷ back) = taking (record s { back = back }) t
 
--- shipping a box
-abbrev pub ships : TexState → Result Page ShipError → Stepped Meaning
-ships s (Err e) = fails SizeOutOfRange
-ships s (Ok page) = record { event = Shipped page; next = Runs s; said = [] }
+-- a page of a box, with the magnification
+abbrev pub ships_with : TexState → ℤ → Result Page ShipError → Stepped Meaning
+ships_with s mag (Err e) = fails SizeOutOfRange
+ships_with s mag (Ok page) = record { event = Shipped page; next = Runs (record s { magnification = Some mag }); said = [] }
+
+-- shipping a box: the magnification has to be one, and that of the first page
+abbrev pub ships : TexState → ℤ → Result Page ShipError → Stepped Meaning
+ships s mag page = if may_be s.magnification mag then ships_with s mag page else fails BadMagnification
 
 -- due work comes first
 abbrev pub works : TexState → Due → Stepped Meaning
@@ -79,7 +90,7 @@ works s (OpenMain name) = asks (record s { due = Nothing }) (Open name)
 works s MainAbsent = fails FileAbsent
 works s FileEnded = asks (record s { due = Nothing }) Close
 works s MainClosed = fails NoEnd
-works s (Ship box) = ships (record s { due = Nothing }) (page_of s.date box)
+works s (Ship box) = ships (record s { due = Nothing }) (integer s.table.table Mag) (page_of s.table.table box)
 
 -- one turn
 abbrev pub step : Meaning → Stepped Meaning
@@ -99,7 +110,7 @@ cost _ = 1
 -- what a reply brings: a line, or due work
 abbrev pub replied : TexState → AskKind → Reply → TexState
 replied s Opening Absent = record s { due = MainAbsent }
-replied s ReadingOn (ReplyLine bytes) = record s { line = record { rest = seen_line bytes (Some 13); state = N } }
+replied s ReadingOn (ReplyLine bytes) = record s { line = record { rest = seen_line bytes (line_end s.table.table); state = N } }
 replied s ReadingOn Ended = record s { due = FileEnded }
 replied s Closing Closed = record s { due = MainClosed }
 replied s kind reply = s

@@ -1,7 +1,7 @@
 //! Tokens that were given back, and are read before the line (TeX: The Program, section 325).
-ghost use Rattle.std.specs.Prelude.{◌≡◌, ◌↔◌, IsTrue, ◌∷◌, ◌++◌, [], IfOk, OnOk, MatchOption};
+ghost use Rattle.std.specs.Prelude.{◌≡◌, ◌↔◌, IsTrue, ◌∷◌, ◌++◌, [], map, length, IfOk, OnOk, MatchOption};
 
-use crate::token_list::{Tokens, same_tokens};
+use crate::token_list::Tokens;
 use std::alloc::{AllocError, Global};
 use std::marker::Model;
 use tx_char::Token;
@@ -54,13 +54,13 @@ impl GivenBack {
         Ok(())
     }
 
-    /// Puts these tokens before the others. Its only error is want of memory.
+    /// Puts these tokens before the others; what they meant is forgotten. Its only error is want of memory.
     pub fn give(&mut self, tokens: Tokens) -> Result<(), AllocError>
-        ensures { OnOk result (self.new ≡ tokens ++ self.old) }
+        ensures { OnOk result (self.new ≡ map (λ t. t.token) tokens ++ self.old) }
     {
         let mut tokens = tokens;
-        while let Some(token) = tokens.pop() {
-            self.give_one(token)?;
+        while let Some(seen) = tokens.pop() {
+            self.give_one(seen.token)?;
         }
         Ok(())
     }
@@ -75,4 +75,19 @@ impl Clone for GivenBack {
             stack: self.stack.clone()?,
         })
     }
+}
+
+/// Whether both lists have the same tokens.
+fn same_tokens(one: &[Token], other: &[Token]) -> bool
+    ensures { IsTrue result ↔ (one.now ≡ other.now) }
+{
+    if one.len() != other.len() {
+        return false;
+    }
+    for i in 0..one.len() {
+        if !one[i].same(&other[i]) {
+            return false;
+        }
+    }
+    true
 }

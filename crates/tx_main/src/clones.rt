@@ -2,51 +2,8 @@
 ghost use Rattle.std.specs.Prelude.{◌≡◌};
 
 use crate::keyword::Keyword;
-use crate::scans::{DimenPart, DimenScan, Factor, RulePart, RuleScan, SideScan, Stage};
+use crate::scans::{RulePart, RuleScan, SideScan, Stage};
 use std::alloc::AllocError;
-
-impl Clone for Factor {
-    ghost is_clone = { λ source copy. copy ≡ source };
-
-    fn clone(&self) -> Result<Self, AllocError> {
-        Ok(Factor {
-            whole: self.whole,
-            digits: self.digits.clone()?,
-        })
-    }
-}
-
-impl Clone for DimenPart {
-    ghost is_clone = { λ source copy. copy ≡ source };
-
-    fn clone(&self) -> Result<Self, AllocError> {
-        match self {
-            DimenPart::Signs => Ok(DimenPart::Signs),
-            DimenPart::Character => Ok(DimenPart::Character),
-            DimenPart::AfterCharacter(code) => Ok(DimenPart::AfterCharacter(*code)),
-            DimenPart::Whole(number) => Ok(DimenPart::Whole(*number)),
-            DimenPart::Fraction(factor) => Ok(DimenPart::Fraction(factor.clone()?)),
-            DimenPart::Unit(factor) => Ok(DimenPart::Unit(factor.clone()?)),
-            DimenPart::SecondLetter(factor, unit, letter) => Ok(DimenPart::SecondLetter(
-                factor.clone()?,
-                *unit,
-                *letter,
-            )),
-            DimenPart::AfterUnit(factor, unit) => Ok(DimenPart::AfterUnit(factor.clone()?, *unit)),
-        }
-    }
-}
-
-impl Clone for DimenScan {
-    ghost is_clone = { λ source copy. copy ≡ source };
-
-    fn clone(&self) -> Result<Self, AllocError> {
-        Ok(DimenScan {
-            negative: self.negative,
-            part: self.part.clone()?,
-        })
-    }
-}
 
 impl Clone for Keyword {
     ghost is_clone = { λ source copy. copy ≡ source };
@@ -98,9 +55,7 @@ impl Clone for Stage {
     fn clone(&self) -> Result<Self, AllocError> {
         match self {
             Stage::Start => Ok(Stage::Start),
-            Stage::CharacterCode(scan) => Ok(Stage::CharacterCode(*scan)),
-            Stage::Equals(code) => Ok(Stage::Equals(*code)),
-            Stage::Category(code, scan) => Ok(Stage::Category(*code, *scan)),
+            Stage::Assign(scan) => Ok(Stage::Assign(scan.clone()?)),
             Stage::Kern(scan) => Ok(Stage::Kern(scan.clone()?)),
             Stage::Vrule(scan) => Ok(Stage::Vrule(scan.clone()?)),
             Stage::ShippedBox => Ok(Stage::ShippedBox),

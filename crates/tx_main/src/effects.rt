@@ -1,26 +1,25 @@
 //! What each command does, once it is whole (TeX: The Program, parts 45 to 49).
-ghost use Rattle.std.specs.Prelude.{◌≡◌, ◌++◌, [], IfOk, OnOk};
+ghost use Rattle.std.specs.Prelude.{◌≡◌, ◌++◌, [], Some, IfOk, OnOk};
 ghost use Rattle.tx_node.specs.Nodes.{item_of};
 ghost use Rattle.tx_node.specs.Packing.{natural};
+ghost use Rattle.tx_eqtb.specs.Stack.{kind_of};
 ghost use Rattle.tx_main.specs.Effects as effects;
+ghost use Rattle.tx_main.specs.Effects.{innermost};
 ghost use Rattle.tx_main.specs.Turns as turns;
 ghost use Rattle.tx_main.specs.Meanings.{IsStepped, meaning_of, state_of};
 
 use crate::command::CommandScan;
-use crate::error::TexError;
-use crate::parts::{Due, Group, Phase};
+use crate::parts::{Due, OpenBox, Phase};
 use crate::state::State;
 use crate::types::{BoxContext, Command};
 use itoa::Buffer;
 use std::alloc::{AllocError, Global};
 use std::mem;
+use tx_assign::{Assignment, Carried, TexError};
 use tx_bytes::Bytes;
-use tx_char::{Cat, Codes};
+use tx_eqtb::{GroupKind, OpenError};
 use tx_machine::{Event, Stop};
 use tx_node::{BoxNode, Node, Nodes, PackError, hbox};
-
-/// How many groups may be open.
-const MAX_GROUPS: usize = 255;
 
 /// The run ends by an error.
 pub fn fail(s: &mut State, error: TexError) -> Event
@@ -51,16 +50,16 @@ fn report_missing(said: &mut Bytes, code: u8) -> Result<(), AllocError>
     Ok(())
 }
 
-/// Opens a group between braces.
-fn open_simple(s: &mut State) -> Result<Event, AllocError>
+/// Opens a group of this kind.
+fn open(s: &mut State, kind: GroupKind) -> Result<Event, AllocError>
     requires { s.old.phase ≡ Phase.Running }
-    ensures { IfOk result (λ event. IsStepped (turns.effected (effects.effect (state_of s.old) Command.BeginGroup)) event (meaning_of s.new) s.old.said s.new.said) }
+    ensures { IfOk result (λ event. IsStepped (turns.effected (effects.opening (state_of s.old) kind (state_of s.old))) event (meaning_of s.new) s.old.said s.new.said) }
 {
-    if s.groups.len() >= MAX_GROUPS {
-        return Ok(fail(s, TexError::TooManyGroups));
+    match s.table.open_group(kind) {
+        Ok(()) => Ok(Event::Went),
+        Err(OpenError::TooMany) => Ok(fail(s, TexError::TooManyGroups)),
+        Err(OpenError::OutOfMemory) => Err(AllocError),
     }
-    s.groups.push(Group::Simple(s.codes.clone()?))?;
-    Ok(Event::Went)
 }
 
 /// Begins a box.
@@ -69,32 +68,89 @@ fn open_box(alloc: Global, s: &mut State, context: BoxContext) -> Result<Event, 
     requires between { s.old.scan.taken ≡ [] }
     ensures { IfOk result (λ event. IsStepped (turns.effected (effects.effect (state_of s.old) (Command.BeginBox context))) event (meaning_of s.new) s.old.said s.new.said) }
 {
-    if s.groups.len() >= MAX_GROUPS {
-        return Ok(fail(s, TexError::TooManyGroups));
+    match s.table.open_group(GroupKind::HorizontalBox) {
+        Ok(()) => {}
+        Err(OpenError::TooMany) => return Ok(fail(s, TexError::TooManyGroups)),
+        Err(OpenError::OutOfMemory) => return Err(AllocError),
     }
-    let list = mem::replace(&mut s.list, Nodes::new(alloc));
-    let horizontal = s.scan.is_horizontal();
-    s.groups
-        .push(Group::Boxed(context, s.codes.clone()?, list, horizontal))?;
-    s.scan = CommandScan::new(alloc, true);
+    enter_box(alloc, s, context)?;
     Ok(Event::Went)
 }
 
-/// Closes the innermost group, which brings back what it changed; of the list of a box a box is made.
-fn close(alloc: Global, s: &mut State) -> Result<Event, AllocError>
+/// The list of a box is begun; what stands around it is kept.
+fn enter_box(alloc: Global, s: &mut State, context: BoxContext) -> Result<(), AllocError>
+    requires { s.old.scan.taken ≡ [] }
+    ensures state { OnOk result (state_of s.new ≡ effects.in_box context (state_of s.old)) }
+    ensures phase { OnOk result (s.new.phase ≡ s.old.phase) }
+    ensures said { OnOk result (s.new.said ≡ s.old.said) }
+{
+    let list = mem::replace(&mut s.list, Nodes::new(alloc));
+    let horizontal = s.scan.is_horizontal();
+    s.boxes.push(OpenBox {
+        context,
+        list,
+        horizontal,
+    })?;
+    s.scan = CommandScan::new(alloc, true);
+    Ok(())
+}
+
+/// Closes the innermost group, of this kind, and nothing else.
+fn close_group(s: &mut State, kind: GroupKind) -> Event
+    requires running { s.old.phase ≡ Phase.Running }
+    requires kind { kind_of s.old.table ≡ Some kind }
+    ensures { IsStepped (turns.effected (effects.leaves (effects.closing (state_of s.old)))) result (meaning_of s.new) s.old.said s.new.said }
+{
+    match s.table.close_group(kind) {
+        Ok(()) => Event::Went,
+        Err(_) => fail(s, TexError::ExtraGroupEnd),
+    }
+}
+
+/// An end-group token: closes the innermost group, which brings back what it changed; of the list of a box a box is made.
+fn end_group(alloc: Global, s: &mut State) -> Result<Event, AllocError>
     requires running { s.old.phase ≡ Phase.Running }
     requires between { s.old.scan.taken ≡ [] }
     ensures { IfOk result (λ event. IsStepped (turns.effected (effects.effect (state_of s.old) Command.EndGroup)) event (meaning_of s.new) s.old.said s.new.said) }
 {
-    match s.groups.pop() {
+    match s.table.kind() {
+        Some(GroupKind::Simple) => Ok(close_group(s, GroupKind::Simple)),
+        Some(GroupKind::HorizontalBox) => end_box(alloc, s),
+        Some(GroupKind::SemiSimple) | None => Ok(fail(s, TexError::ExtraGroupEnd)),
+    }
+}
+
+/// \endgroup.
+fn end_semi_simple(s: &mut State) -> Event
+    requires running { s.old.phase ≡ Phase.Running }
+    ensures { IsStepped (turns.effected (effects.effect (state_of s.old) Command.EndSemiSimple)) result (meaning_of s.new) s.old.said s.new.said }
+{
+    match s.table.kind() {
+        Some(GroupKind::SemiSimple) => close_group(s, GroupKind::SemiSimple),
+        _ => fail(s, TexError::ExtraGroupEnd),
+    }
+}
+
+/// The end of a box.
+fn end_box(alloc: Global, s: &mut State) -> Result<Event, AllocError>
+    requires running { s.old.phase ≡ Phase.Running }
+    requires between { s.old.scan.taken ≡ [] }
+    requires kind { kind_of s.old.table ≡ Some GroupKind.HorizontalBox }
+    ensures { IfOk result (λ event. IsStepped (turns.effected (effects.closing_box (effects.closing (state_of s.old)) (innermost s.old.boxes))) event (meaning_of s.new) s.old.said s.new.said) }
+{
+    if s.table.close_group(GroupKind::HorizontalBox).is_err() {
+        return Ok(fail(s, TexError::ExtraGroupEnd));
+    }
+    match s.boxes.pop() {
         None => Ok(fail(s, TexError::ExtraGroupEnd)),
-        Some(Group::Simple(codes)) => {
-            s.codes = codes;
-            Ok(Event::Went)
-        }
-        Some(Group::Boxed(context, codes, list, horizontal)) => {
+        Some(
+            OpenBox {
+                context,
+                list,
+                horizontal,
+            },
+        ) => {
             let inner = mem::replace(&mut s.list, list);
-            s.codes = codes;
             s.scan = CommandScan::new(alloc, horizontal);
             close_box(alloc, s, context, inner)
         }
@@ -144,20 +200,15 @@ fn use_box(
     Ok(Event::Went)
 }
 
-/// The category of a number, 0 to 15; of a greater one Other.
-fn category(number: u8) -> Cat
-    ensures { result ≡ effects.category_numbered number }
-{
-    Cat::from_number(number).unwrap_or(Cat::Other)
-}
-
-/// Gives a character code another category.
-fn assign(s: &mut State, code: u8, number: u8) -> Result<Event, AllocError>
+/// An assignment.
+fn assign(s: &mut State, assignment: Assignment) -> Result<Event, AllocError>
     requires { s.old.phase ≡ Phase.Running }
-    ensures { IfOk result (λ event. IsStepped (turns.effected (effects.effect (state_of s.old) (Command.Catcode code number))) event (meaning_of s.new) s.old.said s.new.said) }
+    ensures { IfOk result (λ event. IsStepped (turns.effected (effects.effect (state_of s.old) (Command.Assign assignment))) event (meaning_of s.new) s.old.said s.new.said) }
 {
-    s.codes.set(code, category(number))?;
-    Ok(Event::Went)
+    match tx_assign::carry_out(&mut s.table, assignment)? {
+        Carried::Done => Ok(Event::Went),
+        Carried::Refused(error) => Ok(fail(s, error)),
+    }
 }
 
 /// A space token.
@@ -199,9 +250,11 @@ pub fn carry_out(alloc: Global, s: &mut State, command: Command) -> Result<Event
         Command::Nothing => Ok(Event::Went),
         Command::Space => space(s),
         Command::Character(code) => report(s, code),
-        Command::BeginGroup => open_simple(s),
-        Command::EndGroup => close(alloc, s),
-        Command::Catcode(code, number) => assign(s, code, number),
+        Command::BeginGroup => open(s, GroupKind::Simple),
+        Command::EndGroup => end_group(alloc, s),
+        Command::BeginSemiSimple => open(s, GroupKind::SemiSimple),
+        Command::EndSemiSimple => Ok(end_semi_simple(s)),
+        Command::Assign(assignment) => assign(s, assignment),
         Command::Kern(size) => add(s, Node::Kern(size)),
         Command::Vrule(rule) => add(s, Node::Rule(rule)),
         Command::BeginBox(context) => open_box(alloc, s, context),

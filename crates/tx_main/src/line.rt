@@ -1,5 +1,5 @@
 //! The current line, read token by token.
-ghost use Rattle.std.specs.Prelude.{◌≡◌, ◌↔◌, ◌∷◌, ◌++◌, [], Some, IsTrue, IfOk, option_to_list};
+ghost use Rattle.std.specs.Prelude.{◌≡◌, ◌↔◌, ◌∷◌, ◌++◌, [], IsTrue, IfOk, option_to_list};
 ghost use Rattle.tx_lex.specs.Line.{seen_line};
 ghost use Rattle.tx_lex.specs.declared.types.ReadState.TheVariants.{N};
 ghost use Rattle.tx_main.specs.Meanings.{IsNext};
@@ -54,12 +54,12 @@ impl Line {
         }
     }
 
-    /// The line that TeX sees of a line of a file, with a carriage return at its end. Its only error is want of memory.
-    pub fn of_file(alloc: Global, raw: &[u8]) -> Result<Line, AllocError>
-        ensures { IfOk result (λ line. line ≡ record { rest = seen_line raw.now (Some 13); state = N }) }
+    /// The line that TeX sees of a line of a file, with this character at its end. Its only error is want of memory.
+    pub fn of_file(alloc: Global, raw: &[u8], end: Option<u8>) -> Result<Line, AllocError>
+        ensures { IfOk result (λ line. line ≡ record { rest = seen_line raw.now end; state = N }) }
     {
         Ok(Line {
-            bytes: line_text(alloc, raw, Some(b'\r'))?,
+            bytes: line_text(alloc, raw, end)?,
             at: 0,
             front: None,
             state: ReadState::N,

@@ -6,17 +6,17 @@ ghost use Rattle.tx_main.specs.Turns.{tex};
 ghost use Rattle.tx_main.specs.Lawful.{tex-lawful};
 
 use crate::back::GivenBack;
+use crate::boxes::Boxes;
 use crate::command::CommandScan;
-use crate::groups::Groups;
 use crate::line::Line;
-use crate::page::date_parameters;
+use crate::page::moment_of;
 use crate::parts::{Due, Phase};
 use crate::state::State;
 use crate::{same, share, turn};
 use std::alloc::{AllocError, Global};
 use std::mem;
 use tx_bytes::Bytes;
-use tx_char::Codes;
+use tx_eqtb::Eqtb;
 use tx_files::Name;
 use tx_machine::{Date, Event, Machine, Reply, Steps};
 use tx_node::Nodes;
@@ -47,9 +47,9 @@ impl Machine for Tex {
             back: GivenBack::new(alloc),
             scan: CommandScan::new(alloc, false),
             list: Nodes::new(alloc),
-            groups: Groups::new(alloc),
-            codes: Codes::initex(alloc)?,
-            date: date_parameters(date),
+            boxes: Boxes::new(alloc),
+            table: Eqtb::new(alloc, &moment_of(date))?,
+            magnification: None,
             said: Bytes::new(alloc),
         })
     }

@@ -1,18 +1,21 @@
-//! What shipping takes from TeX's state (TeX: The Program, sections 638 to 644).
-ghost use Rattle.std.specs.Prelude.{◌≡◌};
+//! What shipping and reading take from the table (TeX: The Program, sections 638 to 644 and 362).
+ghost use Rattle.std.specs.Prelude.{◌≡◌, IsTrue};
+ghost use Rattle.tx_ship.specs.Pages.{IsMag};
 ghost use Rattle.tx_machine.specs.Ranges.{IsDate};
 ghost use Rattle.tx_main.specs.Pages as spec;
 
-use tx_dvi::DateParameters;
+use tx_assign::number_at;
+use tx_eqtb::{Eqtb, Place};
 use tx_machine::Date;
+use tx_prim::{DimensionParameter, IntegerParameter, Moment};
 use tx_ship::ShipParams;
 
-/// The date as the parameters of TeX.
-pub fn date_parameters(date: &Date) -> DateParameters
+/// When a run began, as the date parameters say it.
+pub fn moment_of(date: &Date) -> Moment
     requires { IsDate date.now }
-    ensures { result ≡ spec.date_parameters date.now }
+    ensures { result ≡ spec.moment_of date.now }
 {
-    DateParameters {
+    Moment {
         year: date.year as i32,
         month: date.month as i32,
         day: date.day as i32,
@@ -20,18 +23,77 @@ pub fn date_parameters(date: &Date) -> DateParameters
     }
 }
 
-/// The parameters of a \shipout: no offsets, all counts 0, the usual magnification.
-pub fn ship_params(date: DateParameters) -> ShipParams
-    ensures { result ≡ spec.ship_params date }
+/// An integer parameter.
+pub fn integer(table: &Eqtb, parameter: IntegerParameter) -> i32
+    ensures { result ≡ spec.integer table.now.table parameter }
+{
+    number_at(table, &Place::Integer(parameter))
+}
+
+/// A dimension parameter, in sp.
+fn dimension(table: &Eqtb, parameter: DimensionParameter) -> i64
+    ensures { result ≡ spec.dimension table.now.table parameter }
+{
+    i64::from(number_at(table, &Place::Dimension(parameter)))
+}
+
+/// A register of \count.
+fn count(table: &Eqtb, number: u8) -> i32
+    ensures { result ≡ spec.count table.now.table number }
+{
+    number_at(table, &Place::Count(number))
+}
+
+/// \count0 to \count9.
+fn counts(table: &Eqtb) -> [i32; 10]
+    ensures { result ≡ spec.counts table.now.table }
+{
+    [
+        count(table, 0),
+        count(table, 1),
+        count(table, 2),
+        count(table, 3),
+        count(table, 4),
+        count(table, 5),
+        count(table, 6),
+        count(table, 7),
+        count(table, 8),
+        count(table, 9),
+    ]
+}
+
+/// What a page takes from the table.
+pub fn ship_params(table: &Eqtb) -> ShipParams
+    ensures { result ≡ spec.ship_params table.now.table }
 {
     ShipParams {
-        counts: [0; 10],
-        hoffset: 0,
-        voffset: 0,
-        mag: 1000,
-        year: date.year,
-        month: date.month,
-        day: date.day,
-        time: date.time,
+        counts: counts(table),
+        hoffset: dimension(table, DimensionParameter::Hoffset),
+        voffset: dimension(table, DimensionParameter::Voffset),
+        mag: i64::from(integer(table, IntegerParameter::Mag)),
+        year: integer(table, IntegerParameter::Year),
+        month: integer(table, IntegerParameter::Month),
+        day: integer(table, IntegerParameter::Day),
+        time: integer(table, IntegerParameter::Time),
+    }
+}
+
+/// Whether a page may have this magnification: 1 to 32768, and that of the first page.
+pub fn may_be(first: Option<i32>, magnification: i32) -> bool
+    ensures known { result ≡ spec.may_be first magnification }
+    ensures fits { IsTrue result → IsMag magnification }
+{
+    1 <= magnification && magnification <= 32768 && first.is_none_or(|first| first == magnification)
+}
+
+/// The character at the end of each line that is read: \endlinechar, if it is a character's code.
+pub fn line_end(table: &Eqtb) -> Option<u8>
+    ensures { result ≡ spec.line_end table.now.table }
+{
+    let code = integer(table, IntegerParameter::Endlinechar);
+    if 0 <= code && code < 256 {
+        Some(code as u8)
+    } else {
+        None
     }
 }

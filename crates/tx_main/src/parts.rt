@@ -1,6 +1,5 @@
-//! The parts of TeX's state that are plain choices: what is due, which groups are open, what the state waits for.
+//! The parts of TeX's state that are plain choices: what is due, which boxes are open, what the state waits for.
 use crate::types::BoxContext;
-use tx_char::Codes;
 use tx_files::Name;
 use tx_machine::AskKind;
 use tx_node::{BoxNode, Nodes};
@@ -22,13 +21,15 @@ pub enum Due {
     Ship(BoxNode),
 }
 
-/// A group that is open, with what comes back when it is closed.
+/// A box whose list is being built, and what stands around it.
 #[derive(Drop)]
-pub enum Group {
-    /// Between a begin-group and an end-group token: the category codes.
-    Simple(Codes),
-    /// Of a box: what becomes of it, the category codes, the list around it and whether that is a horizontal one.
-    Boxed(BoxContext, Codes, Nodes, bool),
+pub struct OpenBox {
+    /// What becomes of the box.
+    pub context: BoxContext,
+    /// The list around it.
+    pub list: Nodes,
+    /// Whether that is a horizontal one.
+    pub horizontal: bool,
 }
 
 /// What a state is ready for.

@@ -1,18 +1,17 @@
 //! The sides and sizes of a rule, token by token (TeX: The Program, section 463).
 ghost use Rattle.std.specs.Prelude.{◌≡◌, ◌<◌, ◌++◌, ◌∷◌, [], List, IfOk, length};
-ghost use Rattle.tx_char.specs.declared.tokens.Token.{Token};
+ghost use Rattle.tx_assign.specs.declared.seen.Seen.{Seen};
 ghost use Rattle.tx_main.specs.Keywords.{letters_of, begun_by};
 ghost use Rattle.tx_main.specs.Rules.{with_side, plain_vrule, rule_sides};
-ghost use Rattle.tx_main.specs.Rests.{IsFed, IsSideFed, rule_rest};
+ghost use Rattle.tx_assign.specs.Rests.{IsFed};
+ghost use Rattle.tx_main.specs.Rests.{IsSideFed, rule_rest};
 
-use crate::error::TexError;
 use crate::keyword::Keyword;
-use crate::scans::{DimenScan, Fed, RuleFed, RulePart, RuleScan, SideFed, SideScan};
+use crate::scans::{RuleFed, RulePart, RuleScan, SideFed, SideScan};
 use crate::token_list::Tokens;
-use crate::tokens::{token_is_key, token_is_space, token_is_undefined};
 use crate::types::Side;
 use std::alloc::{AllocError, Global};
-use tx_char::Token;
+use tx_assign::{DimenScan, Fed, Seen, TexError};
 use tx_node::Rule;
 
 /// 0.4pt, the width of a \vrule where nothing else is said.
@@ -30,14 +29,14 @@ fn name_of(side: Side) -> &'static [u8]
 }
 
 /// The side whose name begins with this token.
-fn side_begun(token: &Token) -> Option<Side>
+fn side_begun(token: &Seen) -> Option<Side>
     ensures { result ≡ begun_by token.now }
 {
-    if token_is_key(token, b'w') {
+    if token.is_key(b'w') {
         Some(Side::Width)
-    } else if token_is_key(token, b'h') {
+    } else if token.is_key(b'h') {
         Some(Side::Height)
-    } else if token_is_key(token, b'd') {
+    } else if token.is_key(b'd') {
         Some(Side::Depth)
     } else {
         None
@@ -46,7 +45,7 @@ fn side_begun(token: &Token) -> Option<Side>
 
 impl SideScan {
     /// Takes one token. Its only error is want of memory.
-    fn feed(self, alloc: Global, token: Token) -> Result<SideFed, AllocError>
+    fn feed(self, alloc: Global, token: Seen) -> Result<SideFed, AllocError>
         ensures { IfOk result (IsSideFed self token) }
     {
         match self {
@@ -57,13 +56,13 @@ impl SideScan {
 }
 
 /// A space, or the first letter of a name.
-fn feed_first(alloc: Global, token: Token) -> Result<SideFed, AllocError>
+fn feed_first(alloc: Global, token: Seen) -> Result<SideFed, AllocError>
     ensures { IfOk result (IsSideFed SideScan.Spaces token) }
 {
-    if token_is_undefined(&token) {
+    if token.is_undefined() {
         return Ok(SideFed::Wrong(TexError::Undefined));
     }
-    if token_is_space(&token) {
+    if token.is_space() {
         return Ok(SideFed::More(SideScan::Spaces));
     }
     let begun = side_begun(&token);
@@ -75,15 +74,15 @@ fn feed_first(alloc: Global, token: Token) -> Result<SideFed, AllocError>
 }
 
 /// The next letter of a name.
-fn feed_letter(keyword: Keyword, token: Token) -> Result<SideFed, AllocError>
+fn feed_letter(keyword: Keyword, token: Seen) -> Result<SideFed, AllocError>
     ensures { IfOk result (IsSideFed (SideScan.Keyword keyword) token) }
 {
     let Keyword { side, mut letters } = keyword;
-    if token_is_undefined(&token) {
+    if token.is_undefined() {
         return Ok(SideFed::Wrong(TexError::Undefined));
     }
     let name = name_of(side);
-    let fits = token_is_key(&token, name[letters.len()]);
+    let fits = token.is_key(name[letters.len()]);
     letters.push(token)?;
     if !fits {
         return Ok(SideFed::Unnamed(letters));
@@ -117,7 +116,7 @@ fn rule_with_side(rule: Rule, side: Side, size: i32) -> Rule
 impl RuleScan {
     /// The scan of a \vrule of which no side is read.
     pub(crate) fn new() -> RuleScan
-        ensures { (tokens : List Token) → rule_rest result tokens ≡ rule_sides plain_vrule tokens }
+        ensures { (tokens : List Seen) → rule_rest result tokens ≡ rule_sides plain_vrule tokens }
     {
         RuleScan {
             rule: Rule {
@@ -130,7 +129,7 @@ impl RuleScan {
     }
 
     /// Takes one token. Its only error is want of memory.
-    pub(crate) fn feed(self, alloc: Global, token: Token) -> Result<RuleFed, AllocError>
+    pub(crate) fn feed(self, alloc: Global, token: Seen) -> Result<RuleFed, AllocError>
         ensures { IfOk result (IsFed rule_rest (λ tokens. tokens) self token) }
     {
         let RuleScan { rule, part } = self;
@@ -142,7 +141,7 @@ impl RuleScan {
 }
 
 /// The name of a side, or the rule's end.
-fn feed_side(alloc: Global, rule: Rule, scan: SideScan, token: Token) -> Result<RuleFed, AllocError>
+fn feed_side(alloc: Global, rule: Rule, scan: SideScan, token: Seen) -> Result<RuleFed, AllocError>
     ensures { IfOk result (IsFed rule_rest (λ tokens. tokens) (record { rule = rule; part = RulePart.Side scan }) token) }
 {
     match scan.feed(alloc, token)? {
@@ -165,7 +164,7 @@ fn feed_size(
     rule: Rule,
     side: Side,
     scan: DimenScan,
-    token: Token,
+    token: Seen,
 ) -> Result<RuleFed, AllocError>
     ensures { IfOk result (IsFed rule_rest (λ tokens. tokens) (record { rule = rule; part = RulePart.Size side scan }) token) }
 {

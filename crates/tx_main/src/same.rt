@@ -2,9 +2,8 @@
 ghost use Rattle.std.specs.Prelude.{◌≡◌, ◌↔◌, IsTrue};
 ghost use Rattle.tx_main.specs.Meanings.{meaning_of, state_of};
 
-use crate::parts::{Due, Group, Phase};
+use crate::parts::{Due, OpenBox, Phase};
 use crate::state::State;
-use tx_dvi::DateParameters;
 use tx_node::same_box;
 
 /// Whether the same work is due.
@@ -24,33 +23,11 @@ fn same_due(one: &Due, other: &Due) -> bool
     }
 }
 
-/// Whether two open groups are the same.
-pub fn same_group(one: &Group, other: &Group) -> bool
+/// Whether two open boxes are the same.
+pub fn same_open_box(one: &OpenBox, other: &OpenBox) -> bool
     ensures { IsTrue result ↔ (one.now ≡ other.now) }
 {
-    match (one, other) {
-        (Group::Simple(codes), Group::Simple(other_codes)) => codes.same(other_codes),
-        (
-            Group::Boxed(context, codes, list, horizontal),
-            Group::Boxed(other_context, other_codes, other_list, other_horizontal),
-        ) => {
-            context == other_context
-                && horizontal == other_horizontal
-                && codes.same(other_codes)
-                && list.same(other_list)
-        }
-        _ => false,
-    }
-}
-
-/// Whether two dates are the same.
-fn same_date(one: DateParameters, other: DateParameters) -> bool
-    ensures { IsTrue result ↔ (one ≡ other) }
-{
-    one.year == other.year
-        && one.month == other.month
-        && one.day == other.day
-        && one.time == other.time
+    one.context == other.context && one.horizontal == other.horizontal && one.list.same(&other.list)
 }
 
 /// Whether two states mean the same, where both are ready or wait for the same.
@@ -62,9 +39,9 @@ fn same_parts(one: &State, other: &State) -> bool
         && one.back.same(&other.back)
         && one.scan.same(&other.scan)
         && one.list.same(&other.list)
-        && one.groups.same(&other.groups)
-        && one.codes.same(&other.codes)
-        && same_date(one.date, other.date)
+        && one.boxes.same(&other.boxes)
+        && one.magnification == other.magnification
+        && one.table.same(&other.table)
 }
 
 /// Whether two states mean the same; of one that is done for nothing else matters.

@@ -1,86 +1,9 @@
 //! What a scan that is fed token by token still needs, and what it answers to a token.
-use crate::error::TexError;
-use crate::fraction::Digits;
 use crate::keyword::Keyword;
 use crate::token_list::Tokens;
 use crate::types::{BoxContext, Command, Side};
-use tx_char::Token;
+use tx_assign::{AssignScan, DimenScan, Fed, TexError};
 use tx_node::Rule;
-use tx_num::PhysicalUnit;
-
-/// What a scan answers to a token.
-#[derive(Debug, Drop)]
-pub enum Fed<A, T, B> {
-    /// The scan goes on.
-    More(A),
-    /// The value is whole; these tokens are given back, to be read again.
-    Done(T, B),
-    /// The tokens begin no value.
-    Wrong(TexError),
-}
-
-/// An integer that is being read.
-#[derive(Clone, Copy, Debug)]
-pub struct IntScan {
-    /// Whether the signs so far make it negative.
-    pub negative: bool,
-    pub part: IntPart,
-}
-
-/// The part of an integer that comes next.
-#[derive(Clone, Copy, Debug)]
-pub enum IntPart {
-    /// Signs and spaces, then the number.
-    Signs,
-    /// The character behind a backquote.
-    Character,
-    /// An optional space behind this code of a character.
-    AfterCharacter(u8),
-    /// Digits behind those that stand for this number, and an optional space.
-    Digits(u32),
-}
-
-/// An integer, and the token behind it that isn't part of it.
-pub type IntFed = Fed<IntScan, i64, Option<Token>>;
-
-/// What stands before a unit: whole units, and the digits of a fraction.
-#[derive(Debug, Drop)]
-pub struct Factor {
-    pub whole: u32,
-    pub digits: Digits,
-}
-
-/// A dimension that is being read.
-#[derive(Debug, Drop)]
-pub struct DimenScan {
-    /// Whether the signs so far make it negative.
-    pub negative: bool,
-    pub part: DimenPart,
-}
-
-/// The part of a dimension that comes next.
-#[derive(Debug, Drop)]
-pub enum DimenPart {
-    /// Signs and spaces, then the factor.
-    Signs,
-    /// The character behind a backquote.
-    Character,
-    /// An optional space behind this code of a character.
-    AfterCharacter(u8),
-    /// Digits behind those that stand for this number, then perhaps a fraction, and an optional space.
-    Whole(u32),
-    /// Digits of a fraction, and an optional space.
-    Fraction(Factor),
-    /// Spaces, and the first letter of a unit.
-    Unit(Factor),
-    /// This letter, the second of the unit.
-    SecondLetter(Factor, PhysicalUnit, u8),
-    /// An optional space behind the unit.
-    AfterUnit(Factor, PhysicalUnit),
-}
-
-/// A dimension in sp, and the token behind it that isn't part of it.
-pub type DimenFed = Fed<DimenScan, i32, Option<Token>>;
 
 /// The name of a rule's side that is being read.
 #[derive(Debug, Drop)]
@@ -130,12 +53,8 @@ pub type RuleFed = Fed<RuleScan, Rule, Tokens>;
 pub enum Stage {
     /// Its first token.
     Start,
-    /// The character code of a \catcode.
-    CharacterCode(IntScan),
-    /// An optional `=` behind this character code, with spaces before it.
-    Equals(u8),
-    /// The category of this character code.
-    Category(u8, IntScan),
+    /// An assignment.
+    Assign(AssignScan),
     /// The size of a \kern.
     Kern(DimenScan),
     /// The sides of a \vrule.

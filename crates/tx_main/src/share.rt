@@ -2,9 +2,15 @@
 ghost use Rattle.std.specs.Prelude.{◌≡◌, IfOk};
 ghost use Rattle.tx_main.specs.Meanings.{meaning_of};
 
-use crate::parts::{Due, Group};
+use crate::back::GivenBack;
+use crate::boxes::Boxes;
+use crate::command::CommandScan;
+use crate::line::Line;
+use crate::parts::{Due, OpenBox};
 use crate::state::State;
 use std::alloc::{AllocError, Global};
+use tx_eqtb::Eqtb;
+use tx_node::Nodes;
 
 /// A clone is the same work. Its only error is want of memory.
 impl Clone for Due {
@@ -22,21 +28,41 @@ impl Clone for Due {
     }
 }
 
-/// A clone is the same group. Its only error is want of memory.
-impl Clone for Group {
+/// A clone is the same open box. Its only error is want of memory.
+impl Clone for OpenBox {
     ghost is_clone = { λ source copy. copy ≡ source };
 
     fn clone(&self) -> Result<Self, AllocError> {
-        match self {
-            Group::Simple(codes) => Ok(Group::Simple(codes.clone()?)),
-            Group::Boxed(context, codes, list, horizontal) => Ok(Group::Boxed(
-                *context,
-                codes.clone()?,
-                list.clone()?,
-                *horizontal,
-            )),
-        }
+        Ok(OpenBox {
+            context: self.context,
+            list: self.list.clone()?,
+            horizontal: self.horizontal,
+        })
     }
+}
+
+/// Copies of what is read next. Its only error is want of memory.
+fn share_input(s: &State) -> Result<(Due, Line, GivenBack, CommandScan), AllocError>
+    ensures due { IfOk result (λ t. t.0 ≡ s.now.due) }
+    ensures line { IfOk result (λ t. t.1 ≡ s.now.line) }
+    ensures back { IfOk result (λ t. t.2 ≡ s.now.back) }
+    ensures scan { IfOk result (λ t. t.3 ≡ s.now.scan) }
+{
+    Ok((
+        s.due.clone()?,
+        s.line.clone()?,
+        s.back.clone()?,
+        s.scan.clone()?,
+    ))
+}
+
+/// Copies of the lists that are built, and of the table. Its only error is want of memory.
+fn share_lists(s: &State) -> Result<(Nodes, Boxes, Eqtb), AllocError>
+    ensures list { IfOk result (λ t. t.0 ≡ s.now.list) }
+    ensures boxes { IfOk result (λ t. t.1 ≡ s.now.boxes) }
+    ensures table { IfOk result (λ t. t.2 ≡ s.now.table) }
+{
+    Ok((s.list.clone()?, s.boxes.clone()?, s.table.share()?))
 }
 
 /// A state that means the same, with the same bytes of the transcript that are still to be taken. Its only error is want of
@@ -45,16 +71,19 @@ pub fn share(s: &State) -> Result<State, AllocError>
     ensures meaning { IfOk result (λ t. meaning_of t ≡ meaning_of s.now) }
     ensures said { IfOk result (λ t. t.said ≡ s.now.said) }
 {
+    let said = s.said.clone()?;
+    let (due, line, back, scan) = share_input(s)?;
+    let (list, boxes, table) = share_lists(s)?;
     Ok(State {
         phase: s.phase,
-        due: s.due.clone()?,
-        line: s.line.clone()?,
-        back: s.back.clone()?,
-        scan: s.scan.clone()?,
-        list: s.list.clone()?,
-        groups: s.groups.clone()?,
-        codes: s.codes.clone()?,
-        date: s.date,
-        said: s.said.clone()?,
+        due,
+        line,
+        back,
+        scan,
+        list,
+        boxes,
+        table,
+        magnification: s.magnification,
+        said,
     })
 }

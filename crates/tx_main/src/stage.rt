@@ -1,19 +1,18 @@
 //! The stages of a command, token by token (TeX: The Program, part 46 on).
-ghost use Rattle.std.specs.Prelude.{◌≡◌, ◌≤◌, ◌++◌, ◌∷◌, [], List, IfOk, option_to_list};
-ghost use Rattle.tx_char.specs.declared.tokens.Token.{Token};
-ghost use Rattle.tx_main.specs.Commands.{below, character_command, named_command};
-ghost use Rattle.tx_main.specs.Rests.{IsCommand, command_rest, ranged, code_over, equals_over, category_over};
+ghost use Rattle.std.specs.Prelude.{◌≡◌, ◌∷◌, [], List, IfOk};
+ghost use Rattle.tx_assign.specs.declared.seen.Seen.{Seen};
+ghost use Rattle.tx_assign.specs.Scans.{Done};
+ghost use Rattle.tx_main.specs.Commands.{character_command, horizontal_only, hbox_meant, primitive_command};
+ghost use Rattle.tx_main.specs.Rests.{IsCommand, command_rest};
 
-use crate::error::TexError;
-use crate::scans::{DimenScan, Fed, IntScan, RuleScan, Stage, StageFed};
+use crate::scans::{RuleScan, Stage, StageFed};
 use crate::token_list::Tokens;
-use crate::tokens::{
-    primitive, token_begins_group, token_is_hbox, token_is_other, token_is_relax, token_is_space,
-    token_is_undefined,
-};
-use crate::types::{BoxContext, Command, Primitive};
+use crate::types::{BoxContext, Command};
 use std::alloc::{AllocError, Global};
-use tx_char::{Cat, Token};
+use tx_assign::{AssignScan, DimenScan, Fed, Seen, TexError};
+use tx_char::Cat;
+use tx_eqtb::Meaning;
+use tx_prim::Primitive;
 
 impl Stage {
     /// Takes one token, in a horizontal or a vertical list. Its only error is want of memory.
@@ -21,15 +20,13 @@ impl Stage {
         self,
         alloc: Global,
         horizontal: bool,
-        token: Token,
+        token: Seen,
     ) -> Result<StageFed, AllocError>
         ensures { IfOk result (IsCommand horizontal (λ more. command_rest horizontal self (token ∷ more))) }
     {
         match self {
-            Stage::Start => Ok(feed_first(alloc, horizontal, token)),
-            Stage::CharacterCode(scan) => feed_code(alloc, horizontal, scan, token),
-            Stage::Equals(code) => feed_equals(alloc, horizontal, code, token),
-            Stage::Category(code, scan) => feed_category(alloc, horizontal, code, scan, token),
+            Stage::Start => feed_first(alloc, horizontal, token),
+            Stage::Assign(scan) => feed_assignment(alloc, horizontal, scan, token),
             Stage::Kern(scan) => feed_kern(alloc, horizontal, scan, token),
             Stage::Vrule(scan) => feed_rule(alloc, horizontal, scan, token),
             Stage::ShippedBox => Ok(feed_box(horizontal, token)),
@@ -45,13 +42,30 @@ fn whole(alloc: Global, command: Command) -> StageFed
     Fed::Done(command, Tokens::new(alloc))
 }
 
-/// The first token of a command.
-fn feed_first(alloc: Global, horizontal: bool, token: Token) -> StageFed
-    ensures { IsCommand horizontal (λ more. command_rest horizontal Stage.Start (token ∷ more)) result }
+/// The first token of a command. Its only error is want of memory.
+fn feed_first(alloc: Global, horizontal: bool, token: Seen) -> Result<StageFed, AllocError>
+    ensures { IfOk result (IsCommand horizontal (λ more. command_rest horizontal Stage.Start (token ∷ more))) }
 {
-    match token {
-        Token::Character(code, category) => character(alloc, horizontal, code, category),
-        Token::Name(name) => named(alloc, horizontal, primitive(name.as_slice())),
+    match token.meaning {
+        Meaning::Undefined => Ok(Fed::Wrong(TexError::Undefined)),
+        Meaning::Command(primitive) => feed_primitive(alloc, horizontal, primitive, token),
+        Meaning::Character(code, category) => Ok(character(alloc, horizontal, code, category)),
+        Meaning::CharacterNumber(code) => Ok(set_character(alloc, horizontal, code)),
+        Meaning::MathNumber(_) => Ok(Fed::Wrong(TexError::NotAllowed)),
+        Meaning::CountRegister(_) | Meaning::DimenRegister(_) => {
+            feed_assignment(alloc, horizontal, AssignScan::Start, token)
+        }
+    }
+}
+
+/// A character to be set.
+fn set_character(alloc: Global, horizontal: bool, code: u8) -> StageFed
+    ensures { IsCommand horizontal (λ more. horizontal_only horizontal (Done (Command.Character code) more)) result }
+{
+    if horizontal {
+        whole(alloc, Command::Character(code))
+    } else {
+        Fed::Wrong(TexError::NotAllowed)
     }
 }
 
@@ -64,129 +78,53 @@ fn character(alloc: Global, horizontal: bool, code: u8, category: Cat) -> StageF
         Cat::EndGroup => whole(alloc, Command::EndGroup),
         Cat::AlignmentTab => Fed::Wrong(TexError::MisplacedAlignment),
         Cat::Space => whole(alloc, Command::Space),
-        Cat::Letter | Cat::Other if horizontal => whole(alloc, Command::Character(code)),
-        Cat::Active => Fed::Wrong(TexError::Undefined),
+        Cat::Letter | Cat::Other => set_character(alloc, horizontal, code),
         _ => Fed::Wrong(TexError::NotAllowed),
     }
 }
 
-/// A command with a name.
-fn named(alloc: Global, horizontal: bool, name: Option<Primitive>) -> StageFed
-    ensures { IsCommand horizontal (named_command horizontal name) result }
-{
-    match name {
-        None => Fed::Wrong(TexError::Undefined),
-        Some(Primitive::Relax) | Some(Primitive::Par) => whole(alloc, Command::Nothing),
-        Some(Primitive::Catcode) => Fed::More(Stage::CharacterCode(IntScan::new())),
-        Some(Primitive::Kern) if horizontal => Fed::More(Stage::Kern(DimenScan::new())),
-        Some(Primitive::Vrule) if horizontal => Fed::More(Stage::Vrule(RuleScan::new())),
-        Some(Primitive::Hbox) if horizontal => Fed::More(Stage::BoxBegin(BoxContext::Append)),
-        Some(Primitive::Shipout) => Fed::More(Stage::ShippedBox),
-        Some(Primitive::End) if !horizontal => whole(alloc, Command::End),
-        Some(_) => Fed::Wrong(TexError::NotAllowed),
-    }
-}
-
-/// The number as a byte, if it is below the bound.
-fn number_below(bound: u16, number: i64) -> Option<u8>
-    requires { bound ≤ 256 }
-    ensures { (rest : List Token) → below bound number rest ≡ ranged result rest }
-{
-    if 0 <= number && number < i64::from(bound) {
-        Some(number as u8)
-    } else {
-        None
-    }
-}
-
-/// The character code of a \catcode.
-fn feed_code(
+/// A primitive, which this token means; all that have no line of their own begin assignments. Its only error is want of
+/// memory.
+fn feed_primitive(
     alloc: Global,
     horizontal: bool,
-    scan: IntScan,
-    token: Token,
+    primitive: Primitive,
+    token: Seen,
 ) -> Result<StageFed, AllocError>
-    ensures { IfOk result (IsCommand horizontal (λ more. command_rest horizontal (Stage.CharacterCode scan) (token ∷ more))) }
+    ensures { IfOk result (IsCommand horizontal (λ more. primitive_command horizontal primitive (token ∷ more) more)) }
 {
-    match scan.feed(token) {
-        Fed::More(scan) => Ok(Fed::More(Stage::CharacterCode(scan))),
-        Fed::Done(code, back) => end_code(alloc, horizontal, code, back),
-        Fed::Wrong(error) => Ok(Fed::Wrong(error)),
+    match primitive {
+        Primitive::Relax | Primitive::Par => Ok(whole(alloc, Command::Nothing)),
+        Primitive::BeginGroup => Ok(whole(alloc, Command::BeginSemiSimple)),
+        Primitive::EndGroup => Ok(whole(alloc, Command::EndSemiSimple)),
+        Primitive::Kern if horizontal => Ok(Fed::More(Stage::Kern(DimenScan::new()))),
+        Primitive::Vrule if horizontal => Ok(Fed::More(Stage::Vrule(RuleScan::new()))),
+        Primitive::Hbox if horizontal => Ok(Fed::More(Stage::BoxBegin(BoxContext::Append))),
+        Primitive::Shipout => Ok(Fed::More(Stage::ShippedBox)),
+        Primitive::End if !horizontal => Ok(whole(alloc, Command::End)),
+        Primitive::Kern | Primitive::Vrule | Primitive::Hbox | Primitive::End => {
+            Ok(Fed::Wrong(TexError::NotAllowed))
+        }
+        _ => feed_assignment(alloc, horizontal, AssignScan::Start, token),
     }
 }
 
-/// The number that is the character code is whole.
-fn end_code(
+/// A token of an assignment. Its only error is want of memory.
+fn feed_assignment(
     alloc: Global,
     horizontal: bool,
-    code: i64,
-    back: Option<Token>,
+    scan: AssignScan,
+    token: Seen,
 ) -> Result<StageFed, AllocError>
-    ensures { IfOk result (IsCommand horizontal (λ more. code_over code (option_to_list back ++ more))) }
+    ensures { IfOk result (IsCommand horizontal (λ more. command_rest horizontal (Stage.Assign scan) (token ∷ more))) }
 {
-    let Some(code) = number_below(256, code) else {
-        return Ok(Fed::Wrong(TexError::NumberOutOfRange));
-    };
-    match back {
-        Some(token) => feed_equals(alloc, horizontal, code, token),
-        None => Ok(Fed::More(Stage::Equals(code))),
-    }
-}
-
-/// An optional `=`, or the first token of the category.
-fn feed_equals(
-    alloc: Global,
-    horizontal: bool,
-    code: u8,
-    token: Token,
-) -> Result<StageFed, AllocError>
-    ensures { IfOk result (IsCommand horizontal (λ more. equals_over code (token ∷ more))) }
-{
-    if token_is_undefined(&token) {
-        return Ok(Fed::Wrong(TexError::Undefined));
-    }
-    if token_is_space(&token) {
-        return Ok(Fed::More(Stage::Equals(code)));
-    }
-    if token_is_other(&token, b'=') {
-        return Ok(Fed::More(Stage::Category(code, IntScan::new())));
-    }
-    feed_category(alloc, horizontal, code, IntScan::new(), token)
-}
-
-/// The category of a \catcode.
-fn feed_category(
-    alloc: Global,
-    horizontal: bool,
-    code: u8,
-    scan: IntScan,
-    token: Token,
-) -> Result<StageFed, AllocError>
-    ensures { IfOk result (IsCommand horizontal (λ more. command_rest horizontal (Stage.Category code scan) (token ∷ more))) }
-{
-    match scan.feed(token) {
-        Fed::More(scan) => Ok(Fed::More(Stage::Category(code, scan))),
-        Fed::Done(category, back) => end_category(alloc, horizontal, code, category, back),
-        Fed::Wrong(error) => Ok(Fed::Wrong(error)),
-    }
-}
-
-/// The number that is the category is whole.
-fn end_category(
-    alloc: Global,
-    horizontal: bool,
-    code: u8,
-    category: i64,
-    back: Option<Token>,
-) -> Result<StageFed, AllocError>
-    ensures { IfOk result (IsCommand horizontal (λ more. category_over code category (option_to_list back ++ more))) }
-{
-    match number_below(16, category) {
-        Some(category) => Ok(Fed::Done(
-            Command::Catcode(code, category),
+    match scan.feed(alloc, token)? {
+        Fed::More(scan) => Ok(Fed::More(Stage::Assign(scan))),
+        Fed::Done(assignment, back) => Ok(Fed::Done(
+            Command::Assign(assignment),
             Tokens::from_option(alloc, back)?,
         )),
-        None => Ok(Fed::Wrong(TexError::NumberOutOfRange)),
+        Fed::Wrong(error) => Ok(Fed::Wrong(error)),
     }
 }
 
@@ -195,7 +133,7 @@ fn feed_kern(
     alloc: Global,
     horizontal: bool,
     scan: DimenScan,
-    token: Token,
+    token: Seen,
 ) -> Result<StageFed, AllocError>
     ensures { IfOk result (IsCommand horizontal (λ more. command_rest horizontal (Stage.Kern scan) (token ∷ more))) }
 {
@@ -214,7 +152,7 @@ fn feed_rule(
     alloc: Global,
     horizontal: bool,
     scan: RuleScan,
-    token: Token,
+    token: Seen,
 ) -> Result<StageFed, AllocError>
     ensures { IfOk result (IsCommand horizontal (λ more. command_rest horizontal (Stage.Vrule scan) (token ∷ more))) }
 {
@@ -225,15 +163,22 @@ fn feed_rule(
     }
 }
 
+/// Whether this is the meaning of \hbox.
+fn is_hbox(meaning: Meaning) -> bool
+    ensures { result ≡ hbox_meant meaning }
+{
+    matches!(meaning, Meaning::Command(Primitive::Hbox))
+}
+
 /// The box of a \shipout.
-fn feed_box(horizontal: bool, token: Token) -> StageFed
+fn feed_box(horizontal: bool, token: Seen) -> StageFed
     ensures { IsCommand horizontal (λ more. command_rest horizontal Stage.ShippedBox (token ∷ more)) result }
 {
-    if token_is_undefined(&token) {
+    if token.is_undefined() {
         Fed::Wrong(TexError::Undefined)
-    } else if token_is_space(&token) || token_is_relax(&token) {
+    } else if token.is_space() || token.is_relax() {
         Fed::More(Stage::ShippedBox)
-    } else if token_is_hbox(&token) {
+    } else if is_hbox(token.meaning) {
         Fed::More(Stage::BoxBegin(BoxContext::Ship))
     } else {
         Fed::Wrong(TexError::MissingBox)
@@ -241,14 +186,14 @@ fn feed_box(horizontal: bool, token: Token) -> StageFed
 }
 
 /// The begin-group token of a box.
-fn feed_begin(alloc: Global, horizontal: bool, context: BoxContext, token: Token) -> StageFed
+fn feed_begin(alloc: Global, horizontal: bool, context: BoxContext, token: Seen) -> StageFed
     ensures { IsCommand horizontal (λ more. command_rest horizontal (Stage.BoxBegin context) (token ∷ more)) result }
 {
-    if token_is_undefined(&token) {
+    if token.is_undefined() {
         Fed::Wrong(TexError::Undefined)
-    } else if token_is_space(&token) || token_is_relax(&token) {
+    } else if token.is_space() || token.is_relax() {
         Fed::More(Stage::BoxBegin(context))
-    } else if token_begins_group(&token) {
+    } else if token.begins_group() {
         whole(alloc, Command::BeginBox(context))
     } else {
         Fed::Wrong(TexError::MissingBeginGroup)

@@ -1,12 +1,11 @@
 //! TeX's state, in code.
 use crate::back::GivenBack;
+use crate::boxes::Boxes;
 use crate::command::CommandScan;
-use crate::groups::Groups;
 use crate::line::Line;
 use crate::parts::{Due, Phase};
 use tx_bytes::Bytes;
-use tx_char::Codes;
-use tx_dvi::DateParameters;
+use tx_eqtb::Eqtb;
 use tx_node::Nodes;
 
 /// All that the next turns depend on, and the bytes of the transcript that are still to be taken.
@@ -18,8 +17,8 @@ pub struct State {
     pub(crate) back: GivenBack,
     pub(crate) scan: CommandScan,
     pub(crate) list: Nodes,
-    pub(crate) groups: Groups,
-    pub(crate) codes: Codes,
-    pub(crate) date: DateParameters,
+    pub(crate) boxes: Boxes,
+    pub(crate) table: Eqtb,
+    pub(crate) magnification: Option<i32>,
     pub(crate) said: Bytes,
 }

@@ -1,21 +1,21 @@
-//! Lists of tokens.
+//! Lists of tokens with what they mean.
 ghost use Rattle.std.specs.Prelude.{◌≡◌, ◌↔◌, ◌∷◌, ◌++◌, [], length, IsTrue, IfOk, OnOk, OnErr, MatchOption, option_to_list};
 
 use std::alloc::{AllocError, Global};
 use std::marker::Model;
-use tx_char::Token;
+use tx_assign::Seen;
 
-/// Tokens in the order in which they are read. Contracts see a `Tokens` as the list of them.
+/// Tokens with their meanings, in the order in which they are read. Contracts see a `Tokens` as the list of them.
 #[derive(Debug, Drop)]
 pub struct Tokens {
-    items: Vec<Token>,
+    items: Vec<Seen>,
 }
 
 impl Model for Tokens {
     ghost use Rattle.std.specs.Prelude.{List};
-    ghost use Rattle.tx_char.specs.declared.tokens.Token.{Token};
+    ghost use Rattle.tx_assign.specs.declared.seen.Seen.{Seen};
 
-    ghost Value = { List Token };
+    ghost Value = { List Seen };
 
     ghost view = { λ t. t.items.items };
 }
@@ -31,7 +31,7 @@ impl Tokens {
     }
 
     /// One token. Its only error is want of memory.
-    pub fn one(alloc: Global, token: Token) -> Result<Tokens, AllocError>
+    pub fn one(alloc: Global, token: Seen) -> Result<Tokens, AllocError>
         ensures { IfOk result (λ tokens. tokens ≡ token ∷ []) }
     {
         let mut tokens = Tokens::new(alloc);
@@ -40,7 +40,7 @@ impl Tokens {
     }
 
     /// The token, if there is one. Its only error is want of memory.
-    pub fn from_option(alloc: Global, token: Option<Token>) -> Result<Tokens, AllocError>
+    pub fn from_option(alloc: Global, token: Option<Seen>) -> Result<Tokens, AllocError>
         ensures { IfOk result (λ tokens. tokens ≡ option_to_list token) }
     {
         match token {
@@ -50,7 +50,7 @@ impl Tokens {
     }
 
     /// The tokens, lent.
-    pub fn as_slice(&self) -> &[Token]
+    pub fn as_slice(&self) -> &[Seen]
         ensures { result.now ≡ self.now }
     {
         self.items.as_slice()
@@ -71,7 +71,7 @@ impl Tokens {
     }
 
     /// Puts a token behind the others. After want of memory nothing has changed.
-    pub fn push(&mut self, token: Token) -> Result<(), AllocError>
+    pub fn push(&mut self, token: Seen) -> Result<(), AllocError>
         ensures ok { OnOk result (self.new ≡ self.old ++ token ∷ []) }
         ensures err { OnErr result (self.new ≡ self.old) }
     {
@@ -87,7 +87,7 @@ impl Tokens {
     }
 
     /// Takes the last token, if there is one.
-    pub fn pop(&mut self) -> Option<Token>
+    pub fn pop(&mut self) -> Option<Seen>
         ensures { MatchOption result ((self.old ≡ []) × (self.new ≡ [])) (λ token. self.old ≡ self.new ++ token ∷ []) }
     {
         self.items.pop()
@@ -106,7 +106,7 @@ impl Clone for Tokens {
 }
 
 /// Whether both lists have the same tokens.
-pub fn same_tokens(one: &[Token], other: &[Token]) -> bool
+fn same_tokens(one: &[Seen], other: &[Seen]) -> bool
     ensures { IsTrue result ↔ (one.now ≡ other.now) }
 {
     if one.len() != other.len() {

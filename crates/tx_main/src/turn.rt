@@ -1,23 +1,26 @@
 //! One turn: due work, the ask for a line, or one token (TeX: The Program, sections 1030, 343 and 360).
 ghost use Rattle.std.specs.Prelude.{◌≡◌, [], IfOk, OnOk};
 ghost use Rattle.tx_machine.specs.Machine.{kind_of, Ready};
-ghost use Rattle.tx_main.specs.Pages.{page_of};
+ghost use Rattle.tx_prim.specs.declared.integer.IntegerParameter.TheVariants.{Mag};
+ghost use Rattle.tx_ship.specs.Pages.{IsMag};
+ghost use Rattle.tx_main.specs.Pages.{integer as magnification_in, page_of};
 ghost use Rattle.tx_main.specs.State.{Runs, mode_of};
 ghost use Rattle.tx_main.specs.Turns as turns;
 ghost use Rattle.tx_main.specs.Meanings.{IsStepped, meaning_of, state_of};
 
 use crate::effects::{carry_out, fail};
-use crate::error::TexError;
 use crate::line::{Line, LineToken};
-use crate::page::ship_params;
+use crate::page::{integer, line_end, may_be, ship_params};
 use crate::parts::{Due, Phase};
 use crate::scans::Taken;
 use crate::state::State;
 use std::alloc::{AllocError, Global};
 use std::mem;
+use tx_assign::{TexError, see};
 use tx_char::Token;
 use tx_machine::{Ask, AskKind, Event, Reply};
 use tx_node::BoxNode;
+use tx_prim::IntegerParameter;
 use tx_ship::{ShipError, body};
 
 /// The turn ends with an ask.
@@ -34,7 +37,8 @@ fn take(alloc: Global, s: &mut State, token: Token) -> Result<Event, AllocError>
     requires { s.old.phase ≡ Phase.Running }
     ensures { IfOk result (λ event. IsStepped (turns.taking (state_of s.old) token) event (meaning_of s.new) s.old.said s.new.said) }
 {
-    match s.scan.feed(alloc, token)? {
+    let seen = see(&s.table, s.scan.defined(), token);
+    match s.scan.feed(alloc, seen)? {
         Taken::More => Ok(Event::Went),
         Taken::Wrong(error) => Ok(fail(s, error)),
         Taken::Whole(command, behind) => {
@@ -49,7 +53,7 @@ fn read_line(alloc: Global, s: &mut State) -> Result<Event, AllocError>
     requires { s.old.phase ≡ Phase.Running }
     ensures { IfOk result (λ event. IsStepped (turns.reads (state_of s.old) []) event (meaning_of s.new) s.old.said s.new.said) }
 {
-    match s.line.next(alloc, &s.codes)? {
+    match s.line.next(alloc, s.table.categories())? {
         LineToken::Token(token) => take(alloc, s, token),
         LineToken::UsedUp => Ok(ask(s, AskKind::Line, Ask::Line)),
         LineToken::Invalid => Ok(fail(s, TexError::InvalidCharacter)),
@@ -67,16 +71,38 @@ fn read(alloc: Global, s: &mut State) -> Result<Event, AllocError>
     }
 }
 
-/// Ships a box.
-fn ship_box(alloc: Global, s: &mut State, shipped: &BoxNode) -> Result<Event, AllocError>
-    requires { s.old.phase ≡ Phase.Running }
-    ensures { IfOk result (λ event. IsStepped (turns.ships (state_of s.old) (page_of s.old.date shipped.now)) event (meaning_of s.new) s.old.said s.new.said) }
+/// Ships a box with the magnification.
+fn ship_with(
+    alloc: Global,
+    s: &mut State,
+    magnification: i32,
+    shipped: &BoxNode,
+) -> Result<Event, AllocError>
+    requires running { s.old.phase ≡ Phase.Running }
+    requires fits { IsMag magnification }
+    requires own { magnification ≡ magnification_in s.old.table.table Mag }
+    ensures { IfOk result (λ event. IsStepped (turns.ships_with (state_of s.old) magnification (page_of s.old.table.table shipped.now)) event (meaning_of s.new) s.old.said s.new.said) }
 {
-    match body(alloc, shipped, &ship_params(s.date)) {
-        Ok(page) => Ok(Event::Shipped(page)),
+    match body(alloc, shipped, &ship_params(&s.table)) {
+        Ok(page) => {
+            s.magnification = Some(magnification);
+            Ok(Event::Shipped(page))
+        }
         Err(ShipError::OutOfMemory) => Err(AllocError),
         Err(_) => Ok(fail(s, TexError::SizeOutOfRange)),
     }
+}
+
+/// Ships a box: the magnification has to be one, and that of the first page.
+fn ship_box(alloc: Global, s: &mut State, shipped: &BoxNode) -> Result<Event, AllocError>
+    requires { s.old.phase ≡ Phase.Running }
+    ensures { IfOk result (λ event. IsStepped (turns.ships (state_of s.old) (magnification_in s.old.table.table Mag) (page_of s.old.table.table shipped.now)) event (meaning_of s.new) s.old.said s.new.said) }
+{
+    let magnification = integer(&s.table, IntegerParameter::Mag);
+    if !may_be(s.magnification, magnification) {
+        return Ok(fail(s, TexError::BadMagnification));
+    }
+    ship_with(alloc, s, magnification, shipped)
 }
 
 /// What the next turn costs: shipping a box, the box and all nodes that it holds; all else 1.
@@ -123,7 +149,9 @@ fn hear(alloc: Global, s: &mut State, kind: AskKind, reply: &Reply) -> Result<()
 {
     match (kind, reply) {
         (AskKind::Open, Reply::Absent) => s.due = Due::MainAbsent,
-        (AskKind::Line, Reply::Line(bytes)) => s.line = Line::of_file(alloc, bytes.as_slice())?,
+        (AskKind::Line, Reply::Line(bytes)) => {
+            s.line = Line::of_file(alloc, bytes.as_slice(), line_end(&s.table))?
+        }
         (AskKind::Line, Reply::Ended) => s.due = Due::FileEnded,
         (AskKind::Close, Reply::Closed) => s.due = Due::MainClosed,
         _ => {}

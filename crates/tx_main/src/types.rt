@@ -1,18 +1,6 @@
 //! What commands are, once they are read whole.
+use tx_assign::Assignment;
 use tx_node::Rule;
-
-/// The commands that TeX knows by name so far.
-#[derive(Clone, Copy, Debug, PartialEq, Eq)]
-pub enum Primitive {
-    Relax,
-    Par,
-    Catcode,
-    Kern,
-    Vrule,
-    Hbox,
-    Shipout,
-    End,
-}
 
 /// A side of a rule.
 #[derive(Clone, Copy, Debug, PartialEq, Eq)]
@@ -32,19 +20,22 @@ pub enum BoxContext {
 }
 
 /// A command with all that belongs to it.
-#[derive(Clone, Copy, Debug, PartialEq, Eq)]
+#[derive(Debug, Drop)]
 pub enum Command {
     /// `\relax`, and `\par` outside of a paragraph.
     Nothing,
-    /// A space token.
+    /// A space.
     Space,
-    /// A letter or another character to be set.
+    /// A character to be set.
     Character(u8),
     /// A begin-group or an end-group token.
     BeginGroup,
     EndGroup,
-    /// `\catcode`: a character code and the number of its new category.
-    Catcode(u8, u8),
+    /// `\begingroup` and `\endgroup`.
+    BeginSemiSimple,
+    EndSemiSimple,
+    /// An assignment.
+    Assign(Assignment),
     /// `\kern`, in sp.
     Kern(i32),
     /// `\vrule`.

@@ -9,4 +9,3 @@ pub mod Puts
 pub mod Replayed
 pub mod Sessions
 pub mod Held
-mod Worked

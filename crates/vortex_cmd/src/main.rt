@@ -9,8 +9,6 @@
 #![tactic(auto)]
 
 mod arguments;
-#[cfg(test)]
-mod case_tests;
 mod command;
 mod fetching;
 mod given;

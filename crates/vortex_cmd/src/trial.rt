@@ -88,14 +88,13 @@ pub fn first_wrong(
     Ok(None)
 }
 
-/// The first words of which it comes out otherwise than of the words of a case.
+/// The first words, one call a line, of which it comes out otherwise than of the words of a case.
 pub fn first_wrong_words(
     rt: &HostRuntime,
     case: Case,
-    all_words: &[&'static str],
+    calls: &'static str,
 ) -> Result<Option<&'static str>, AllocError> {
-    for words in all_words {
-        let words = *words;
+    for words in calls.split('\n') {
         if !holds(rt, &Case { words, ..case })? {
             return Ok(Some(words));
         }

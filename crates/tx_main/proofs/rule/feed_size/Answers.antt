@@ -2,7 +2,7 @@ use Rattle.std.proofs.Common.{None, Some, rules}
 use Rattle.tx_main.specs.declared.scans.RulePart.TheVariants.{Side, Size}
 use Rattle.tx_main.specs.declared.scans.SideScan.TheVariants.{Spaces}
 use Rattle.tx_main.specs.Rests.{rule_rest}
-use Rattle.tx_main.proofs.SameRest.{same-again}
+use Rattle.tx_assign.proofs.SameRest.{same-again}
 use Rattle.tx_main.proofs.Sides.{size-over}
 use Rattle.tx_main.proofs.rule.feed_size.Goals as goal
 
