@@ -8,8 +8,6 @@ mod error;
 mod skipper;
 mod stack;
 mod stage;
-#[cfg(test)]
-mod tests;
 mod types;
 
 pub use error::{EXTRA, ExtraWord};

@@ -11,6 +11,4 @@ mod lexicon;
 pub mod places;
 mod reading;
 mod spelling;
-#[cfg(test)]
-mod tests;
 mod trie;

@@ -8,8 +8,6 @@ mod composing;
 pub mod item;
 mod ligature;
 mod piece;
-#[cfg(test)]
-mod tests;
 
 pub use composing::{compose, every_word_ends};
 pub use item::{Items, LigItem};

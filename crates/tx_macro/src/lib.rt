@@ -9,8 +9,6 @@ mod delimited;
 mod laws;
 mod matcher;
 mod stage;
-#[cfg(test)]
-mod tests;
 mod tokens;
 mod undelimited;
 

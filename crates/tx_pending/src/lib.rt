@@ -12,8 +12,6 @@ mod next;
 mod pending;
 mod same;
 mod source;
-#[cfg(test)]
-mod tests;
 
 pub use next::Next;
 pub use pending::Pending;

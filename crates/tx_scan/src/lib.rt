@@ -9,8 +9,6 @@ mod integer;
 mod keyword;
 mod laws;
 mod scans;
-#[cfg(test)]
-mod tests;
 mod types;
 
 pub use integer::{MISSING_NUMBER, TOO_LARGE};

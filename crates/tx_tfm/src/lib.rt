@@ -14,8 +14,6 @@ mod metrics;
 mod rewriting;
 mod rules;
 mod scaling;
-#[cfg(test)]
-mod tests;
 
 pub use errors::FontError;
 pub use file::Word;

@@ -10,8 +10,6 @@ mod item;
 mod lists;
 mod macros;
 mod parameters;
-#[cfg(test)]
-mod tests;
 mod text;
 mod tok_list;
 mod toks;

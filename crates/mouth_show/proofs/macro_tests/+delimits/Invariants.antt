@@ -1,5 +1,5 @@
 use Rattle.std.proofs.Common.{length}
-use Rattle.tx_macro.proofs.tests.+delimits.Given as goal
+use Rattle.mouth_show.proofs.macro_tests.+delimits.Given as goal
 
 abbrev pub decreases-delimits : goal.decreases-delimits
 decreases-delimits l = length l.tokens.now

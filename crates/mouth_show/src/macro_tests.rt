@@ -1,15 +1,14 @@
-//! Worked uses. The values are from The TeXbook, chapter 20, or worked out by hand by its rules.
+//! Tests of tx_macro: worked uses. The values are from The TeXbook, chapter 20, or worked out by hand by its rules.
 ghost use Rattle.std.specs.Prelude.{◌≡◌, ◌≢◌, [], true, IfOk, IfSome, IsTrue};
 ghost use Rattle.std.specs.List.{list_all};
-ghost use Rattle.tx_toklist.specs.Macros.{IsMacro, is_delimiter, no_parameters};
+ghost use Rattle.tx_toklist.specs.Macros.{IsMacro, is_begin, is_delimiter, is_end, no_parameters};
 
-use crate::Matcher;
-use crate::tokens::{begins_group, ends_group};
 use std::alloc::{AllocError, Global};
 use std::test::Fail;
 use tx_bytes::Bytes;
 use tx_char::{Cat, Codes, Token};
 use tx_lex::{Lexed, ReadState, lex};
+use tx_macro::Matcher;
 use tx_toklist::{Body, Fed, Item, Lists, Macro, ParameterText, Toks, text_of};
 
 /// The categories of plain TeX that these uses need.
@@ -48,6 +47,20 @@ fn tokens(alloc: Global, line: &[u8], codes: &Codes) -> Result<Toks, AllocError>
         }
     }
     Ok(toks)
+}
+
+/// Whether this is a begin-group token.
+fn begins_group(token: &Token) -> bool
+    ensures { result ≡ is_begin token.now }
+{
+    matches!(token, Token::Character(_, Cat::BeginGroup))
+}
+
+/// Whether this is an end-group token.
+fn ends_group(token: &Token) -> bool
+    ensures { result ≡ is_end token.now }
+{
+    matches!(token, Token::Character(_, Cat::EndGroup))
 }
 
 /// Whether a list may stand before a parameter or behind it.
@@ -147,44 +160,51 @@ fn used(alloc: Global, text: &[u8], line: &[u8], ends: bool) -> Result<Bytes, Al
     Bytes::from_slice(alloc, b"?")
 }
 
+/// Parameter texts, uses, and what they come to; a semicolon stands between them.
+const USES: &str = r"#.#;xy.zw;xy|z|1
+#.#;{x}.{yz};x|yz|0
+AB##C$#\$ ;AB {\Look}C${And\$ }{look}\$ 5;\Look ||{And\$ }{look}|1
+#{;3pt{x};3pt|2
+#.;{a}{b}.;{a}{b}|0
+#.;{a{b}}.;a{b}|0
+#.;{a.b}c.d.;{a.b}c|2
+#.;.;|0
+#;   {}x;|1
+#;  \par ;E3
+#;};E4
+#;{a\par };E3
+#.;a\par .;E3
+#.;a}.;E4
+#\par ;a\par b;a|1
+#\par .;a\par \par .;a\par |0
+ab#;abc;c|0
+ab#;aac;E2
+a;a;0
+a;\par ;E2
+#aab;aaab;a|0
+#abab;abcabaabab;abcaba|0
+#aba.;xababa.;xab|0
+#aab;aa{aab}aab;aa{aab}|0
+#ab;a;?
+##;a ;?";
+
+/// The first row whose use comes to something else.
+fn first_other(alloc: Global) -> Result<Option<&'static str>, AllocError> {
+    for case in USES.split('\n') {
+        let (text, rest) = case.split_once(';').unwrap_or((case, ""));
+        let (line, expected) = rest.split_once(';').unwrap_or((rest, ""));
+        let found = used(alloc, text.as_bytes(), line.as_bytes(), false)?;
+        if found.as_slice() != expected.as_bytes() {
+            return Ok(Some(case));
+        }
+    }
+    Ok(None)
+}
+
 #[test]
 fn uses_fit_as_the_texbook_says(rt: HostRuntime) -> Result<(), Fail> {
     let alloc = rt.alloc();
-    let rows: [(&[u8], &[u8], &[u8]); 26] = [
-        (b"#.#", b"xy.zw", b"xy|z|1"),
-        (b"#.#", b"{x}.{yz}", b"x|yz|0"),
-        (
-            b"AB##C$#\\$ ",
-            b"AB {\\Look}C${And\\$ }{look}\\$ 5",
-            b"\\Look ||{And\\$ }{look}|1",
-        ),
-        (b"#{", b"3pt{x}", b"3pt|2"),
-        (b"#.", b"{a}{b}.", b"{a}{b}|0"),
-        (b"#.", b"{a{b}}.", b"a{b}|0"),
-        (b"#.", b"{a.b}c.d.", b"{a.b}c|2"),
-        (b"#.", b".", b"|0"),
-        (b"#", b"   {}x", b"|1"),
-        (b"#", b"  \\par ", b"E3"),
-        (b"#", b"}", b"E4"),
-        (b"#", b"{a\\par }", b"E3"),
-        (b"#.", b"a\\par .", b"E3"),
-        (b"#.", b"a}.", b"E4"),
-        (b"#\\par ", b"a\\par b", b"a|1"),
-        (b"#\\par .", b"a\\par \\par .", b"a\\par |0"),
-        (b"ab#", b"abc", b"c|0"),
-        (b"ab#", b"aac", b"E2"),
-        (b"a", b"a", b"0"),
-        (b"a", b"\\par ", b"E2"),
-        (b"#aab", b"aaab", b"a|0"),
-        (b"#abab", b"abcabaabab", b"abcaba|0"),
-        (b"#aba.", b"xababa.", b"xab|0"),
-        (b"#aab", b"aa{aab}aab", b"aa{aab}|0"),
-        (b"#ab", b"a", b"?"),
-        (b"##", b"a ", b"?"),
-    ];
-    for (text, line, answer) in rows {
-        assert_eq!(rt; used(alloc, text, line, false)?.as_slice(), answer);
-    }
+    assert_eq!(rt; first_other(alloc)?, None);
     assert_eq!(rt; used(alloc, b"#.", b"a", true)?.as_slice(), &b"E7"[..]);
     Ok(())
 }

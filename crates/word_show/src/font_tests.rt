@@ -1,8 +1,10 @@
-//! A small font, worked out by hand: a and b are 5pt wide and 2.5pt high, aa has a kern of 0.625pt.
-use super::*;
+//! Tests of tx_tfm: a small font, worked out by hand. Its a and b are 5pt wide and 2.5pt high, and aa has a kern of 0.625pt.
+use std::alloc::{AllocError, Global};
 use std::test::Fail;
+use tx_tfm::{Font, FontError, Size};
 
-const FONT: [u8; 160] = [
+/// The file of the font.
+pub const FONT: [u8; 160] = [
     0x00, 0x28, 0x00, 0x02, 0x00, 0x61, 0x00, 0x62, 0x00, 0x02, 0x00, 0x02, 0x00, 0x01, 0x00, 0x01,
     0x00, 0x01, 0x00, 0x01, 0x00, 0x00, 0x00, 0x16, 0x00, 0x00, 0x00, 0x00, 0x00, 0xa0, 0x00, 0x00,
     0x01, 0x10, 0x01, 0x00, 0x01, 0x10, 0x00, 0x00, 0x00, 0x00, 0x00, 0x00, 0x00, 0x08, 0x00, 0x00,
@@ -88,34 +90,56 @@ fn sizes_out_of_range_are_refused(rt: HostRuntime) {
     }
 }
 
+/// Rules, and two bytes of the file with which each is the first that is broken: the place and the value of both.
+const BROKEN: &str = r"2|0 128|159 0
+3|6 1|159 0
+4|1 41|159 0
+6|13 0|23 23
+7|3 1|23 23
+8|29 0|159 0
+9|32 2|159 0
+10|35 1|159 0
+11|44 1|159 0
+12|43 1|159 0
+13|67 1|159 0
+14|21 1|23 21
+15|66 3|67 97";
+
+/// Gives the byte at a place a value; None where the text doesn't say so.
+fn change(bytes: &mut [u8], text: &str) -> Option<()> {
+    let (place, value) = text.split_once(' ')?;
+    let byte = bytes.get_mut(place.parse::<usize>().ok()?)?;
+    *byte = value.parse().ok()?;
+    Some(())
+}
+
+/// The first rule that the font with these two bytes breaks, 0 for none.
+fn rule_with(alloc: Global, changes: &str) -> Result<Option<u8>, AllocError> {
+    let mut bytes = FONT.to_vec(alloc)?;
+    for text in changes.split('|') {
+        if change(bytes.as_mut_slice(), text).is_none() {
+            return Ok(None);
+        }
+    }
+    let font = Font::read(alloc, bytes.as_slice(), Size::Design);
+    Ok(Some(rule_of(&font)))
+}
+
+/// The first row of which another rule is broken, with that.
+fn first_other(alloc: Global) -> Result<Option<(&'static str, Option<u8>)>, AllocError> {
+    for case in BROKEN.split('\n') {
+        let (rule, changes) = case.split_once('|').unwrap_or((case, ""));
+        let found = rule_with(alloc, changes)?;
+        if found.is_none() || rule.parse().ok() != found {
+            return Ok(Some((case, found)));
+        }
+    }
+    Ok(None)
+}
+
 #[test]
 fn each_rule_is_found_broken_first(rt: HostRuntime) -> Result<(), Fail> {
-    let table = [
-        (2, 0, 0x80, 159, 0),
-        (3, 6, 0x01, 159, 0),
-        (4, 1, 0x29, 159, 0),
-        (6, 13, 0x00, 23, 0x17),
-        (7, 3, 0x01, 23, 0x17),
-        (8, 29, 0x00, 159, 0),
-        (9, 32, 0x02, 159, 0),
-        (10, 35, 0x01, 159, 0),
-        (11, 44, 0x01, 159, 0),
-        (12, 43, 0x01, 159, 0),
-        (13, 67, 0x01, 159, 0),
-        (14, 21, 0x01, 23, 0x15),
-        (15, 66, 0x03, 67, 0x61),
-    ];
-    for (rule, place, value, other_place, other) in table {
-        let mut bytes = FONT.to_vec(rt.alloc())?;
-        if let Some(byte) = bytes.get_mut(place) {
-            *byte = value;
-        }
-        if let Some(byte) = bytes.get_mut(other_place) {
-            *byte = other;
-        }
-        let font = Font::read(rt.alloc(), bytes.as_slice(), Size::Design);
-        assert_eq!(rt; rule_of(&font), rule);
-    }
+    assert_eq!(rt; first_other(rt.alloc())?, None);
     let short = Font::read(rt.alloc(), &FONT[..23], Size::Design);
     assert_eq!(rt; rule_of(&short), 1);
     let cut = Font::read(rt.alloc(), &FONT[..159], Size::Design);

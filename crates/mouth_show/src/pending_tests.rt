@@ -1,9 +1,9 @@
-//! Worked input. The expected values were worked out by hand.
-use crate::{Next, Pending};
+//! Tests of tx_pending: worked input. The expected values were worked out by hand.
 use std::alloc::{AllocError, Global};
 use std::test::Fail;
 use tx_bytes::Bytes;
 use tx_char::{Cat, Codes, Token};
+use tx_pending::{Next, Pending};
 use tx_toklist::{TokList, Toks};
 
 /// A list of letters.

@@ -1,9 +1,8 @@
-//! Words whose places Knuth's program shows by \showhyphens, with the same patterns and exceptions.
-
-use crate::error::{ExceptionError, PatternError};
-use crate::hyphens::Hyphens;
-use std::process::Abort;
+//! Tests of tx_hyphen: words whose places Knuth's program shows by \showhyphens, with the same patterns and exceptions.
+use std::alloc::{AllocError, Global};
 use std::test::Fail;
+use tx_hyphen::hyphens::Hyphens;
+use tx_hyphen::places::Places;
 
 /// The \lccodes of plain TeX.
 fn plain() -> [u8; 256] {
@@ -16,46 +15,76 @@ fn plain() -> [u8; 256] {
 }
 
 /// The patterns that plain TeX has for three words of The TeXbook's appendix H, and some more.
+const PATTERNS: &str = r"hy3ph he2n hena4 hen5at 1na n2at 1tio 2io o2n
+1ca 1co on1c
+ag1i al1i 1ci 1do 1exp gil4 2i1a i2al 2id il1i il4ist is1ti ou2 pi3a r1c st2i s1tic 1su u1pe 2us x3p
+.a1b c1d. 1E2f x3yz x2y";
+
+/// What these patterns say.
 fn patterns(rt: &HostRuntime) -> Result<Hyphens, Fail> {
     let mut hyphens = Hyphens::new(rt.alloc())?;
-    for pattern in [
-        "hy3ph", "he2n", "hena4", "hen5at", "1na", "n2at", "1tio", "2io", "o2n", "1ca", "1co",
-        "on1c", "ag1i", "al1i", "1ci", "1do", "1exp", "gil4", "2i1a", "i2al", "2id", "il1i",
-        "il4ist", "is1ti", "ou2", "pi3a", "r1c", "st2i", "s1tic", "1su", "u1pe", "2us", "x3p",
-        ".a1b", "c1d.", "1E2f", "x3yz", "x2y",
-    ] {
+    for pattern in PATTERNS.split_whitespace() {
         hyphens.add(rt.alloc(), pattern.as_bytes(), &plain())?;
     }
     Ok(hyphens)
 }
 
+/// Words with the two minimums, and their places.
+const WORDS: &str = r"hyphenation|2|3|2 6
+concatenation|2|3|3 7 9
+supercalifragilisticexpialidocious|2|3|2 5 8 13 17 20 22 24 27 29
+hyphenation|1|1|2 6
+hyphenation|3|5|6
+hyphenation|3|6|
+nation|0|-7|2
+abab|1|1|1
+cdcd|1|1|3
+gefe|1|1|1
+axyz|1|1|2
+axyx|1|1|
+|1|1|";
+
+/// The word, the minimums and the places of a row.
+fn row(case: &str) -> Option<(&str, i64, i64, &str)> {
+    let (word, rest) = case.split_once('|')?;
+    let (left, rest) = rest.split_once('|')?;
+    let (right, places) = rest.split_once('|')?;
+    Some((word, left.parse().ok()?, right.parse().ok()?, places))
+}
+
+/// Places as a text.
+fn shown(alloc: Global, places: &Places) -> Result<String, AllocError> {
+    let mut text = String::new(alloc);
+    for place in places.as_slice() {
+        if !text.is_empty() {
+            text.push(' ')?;
+        }
+        write!(text, "{place}")?;
+    }
+    Ok(text)
+}
+
+/// The first row whose word has other places, with these.
+fn first_other(
+    alloc: Global,
+    hyphens: &Hyphens,
+) -> Result<Option<(&'static str, String)>, AllocError> {
+    for case in WORDS.split('\n') {
+        let Some((word, left, right, expected)) = row(case) else {
+            return Ok(Some((case, String::new(alloc))));
+        };
+        let found = shown(alloc, &hyphens.points(alloc, word.as_bytes(), left, right)?)?;
+        if found.as_str() != expected {
+            return Ok(Some((case, found)));
+        }
+    }
+    Ok(None)
+}
+
 #[test]
 fn patterns_divide_words(rt: HostRuntime) -> Result<(), Fail> {
     let hyphens = patterns(&rt)?;
-    let none: &[usize] = &[];
-    for (word, left, right, places) in [
-        ("hyphenation", 2, 3, [2, 6].as_slice()),
-        ("concatenation", 2, 3, [3, 7, 9].as_slice()),
-        (
-            "supercalifragilisticexpialidocious",
-            2,
-            3,
-            [2, 5, 8, 13, 17, 20, 22, 24, 27, 29].as_slice(),
-        ),
-        ("hyphenation", 1, 1, [2, 6].as_slice()),
-        ("hyphenation", 3, 5, [6].as_slice()),
-        ("hyphenation", 3, 6, none),
-        ("nation", 0, -7, [2].as_slice()),
-        ("abab", 1, 1, [1].as_slice()),
-        ("cdcd", 1, 1, [3].as_slice()),
-        ("gefe", 1, 1, [1].as_slice()),
-        ("axyz", 1, 1, [2].as_slice()),
-        ("axyx", 1, 1, none),
-        ("", 1, 1, none),
-    ] {
-        let found = hyphens.points(rt.alloc(), word.as_bytes(), left, right)?;
-        assert_eq!(rt; found.as_slice(), places, "{word}");
-    }
+    assert_eq!(rt; first_other(rt.alloc(), &hyphens)?, None);
     Ok(())
 }
 

@@ -1,28 +1,14 @@
-//! Words composed by hand from the programs of two small fonts.
+//! Tests of tx_ligkern: words composed by hand from the programs of two small fonts.
 
 ghost use Rattle.std.specs.Prelude.{◌↔◌, All, IsTrue};
 ghost use Rattle.tx_tfm.specs.Format.{is_there};
 
-use crate::composing::{compose, every_word_ends};
-use crate::item::{Items, LigItem};
+use crate::font_tests::FONT;
 use std::alloc::{AllocError, Global};
 use std::test::Fail;
 use tx_bytes::Bytes;
+use tx_ligkern::{Items, LigItem, compose, every_word_ends};
 use tx_tfm::{Font, Size};
-
-/// A font of a and b; aa has a kern of 0.625pt.
-const SMALL: [u8; 160] = [
-    0x00, 0x28, 0x00, 0x02, 0x00, 0x61, 0x00, 0x62, 0x00, 0x02, 0x00, 0x02, 0x00, 0x01, 0x00, 0x01,
-    0x00, 0x01, 0x00, 0x01, 0x00, 0x00, 0x00, 0x16, 0x00, 0x00, 0x00, 0x00, 0x00, 0xa0, 0x00, 0x00,
-    0x01, 0x10, 0x01, 0x00, 0x01, 0x10, 0x00, 0x00, 0x00, 0x00, 0x00, 0x00, 0x00, 0x08, 0x00, 0x00,
-    0x00, 0x00, 0x00, 0x00, 0x00, 0x04, 0x00, 0x00, 0x00, 0x00, 0x00, 0x00, 0x00, 0x00, 0x00, 0x00,
-    0x80, 0x61, 0x80, 0x00, 0x00, 0x01, 0x00, 0x00, 0x00, 0x00, 0x00, 0x00, 0x00, 0x04, 0x00, 0x00,
-    0x00, 0x02, 0x00, 0x00, 0x00, 0x01, 0x00, 0x00, 0x00, 0x08, 0x00, 0x00, 0x00, 0x10, 0x00, 0x00,
-    0x00, 0x00, 0x00, 0x00, 0x00, 0x00, 0x00, 0x00, 0x00, 0x00, 0x00, 0x00, 0x00, 0x00, 0x00, 0x00,
-    0x00, 0x00, 0x00, 0x00, 0x00, 0x00, 0x00, 0x00, 0x00, 0x00, 0x00, 0x00, 0x00, 0x00, 0x00, 0x00,
-    0x00, 0x00, 0x00, 0x00, 0x00, 0x00, 0x00, 0x00, 0x00, 0x00, 0x00, 0x00, 0x00, 0x00, 0x00, 0x00,
-    0x00, 0x00, 0x00, 0x00, 0x00, 0x00, 0x00, 0x00, 0x00, 0x00, 0x00, 0x00, 0x00, 0x04, 0x00, 0x00,
-];
 
 /// A font of a to z, with a program for each kind of ligature command and for both boundaries.
 const KINDS: [u8; 316] = [
@@ -128,7 +114,7 @@ fn composed(
 
 #[test]
 fn a_pair_of_characters_gets_its_kern(rt: HostRuntime) -> Result<(), Fail> {
-    let font = Font::read(rt.alloc(), SMALL.as_slice(), Size::Design)?;
+    let font = Font::read(rt.alloc(), FONT.as_slice(), Size::Design)?;
     every_word_ends(&font);
     for (word, text) in [("aa", "a+a"), ("ab", "ab"), ("baab", "ba+ab"), ("", "")] {
         assert_eq!(rt;
@@ -139,55 +125,68 @@ fn a_pair_of_characters_gets_its_kern(rt: HostRuntime) -> Result<(), Fail> {
     Ok(())
 }
 
+/// Words of the font with each kind of ligature command, and what they become.
+const LIGATURES: &str = r"ax|z(ax)
+bx|z(b)+x
+cx|c*z(x)
+dx|d*z()+x
+ex|z(e)x
+fx|fz(x)
+gx|gz()+x
+hx|hz()x
+ix|z(ix)
+jx|z(jx)
+axx|z(ax)+x
+aax|az(ax)
+dxx|d*z()+xx";
+
+/// Words of the same font; an underscore before or behind one is a boundary that counts.
+const BOUNDARIES: &str = r"_q|z(q)
+q_|q
+_r|+r
+_u|*z(u)
+s_|z(s)
+_s|s
+sy|z(sy)
+t_|t*
+ty|t*y
+v_|vz()
+_qs_|z(q)z(s)
+__|";
+
+/// What a word of such a table becomes, as a text.
+fn composed_between(alloc: Global, font: &Font, word: &str) -> Result<Bytes, Fail> {
+    let (left, word) = match word.strip_prefix('_') {
+        Some(rest) => (true, rest),
+        None => (false, word),
+    };
+    let (right, word) = match word.strip_suffix('_') {
+        Some(rest) => (true, rest),
+        None => (false, word),
+    };
+    composed(alloc, font, word.as_bytes(), left, right)
+}
+
+/// The first row of a table whose word becomes something else.
+fn first_other(alloc: Global, table: &'static str) -> Result<Option<&'static str>, Fail> {
+    let font = Font::read(alloc, KINDS.as_slice(), Size::Design)?;
+    for case in table.split('\n') {
+        let (word, expected) = case.split_once('|').unwrap_or((case, "?"));
+        if composed_between(alloc, &font, word)?.as_slice() != expected.as_bytes() {
+            return Ok(Some(case));
+        }
+    }
+    Ok(None)
+}
+
 #[test]
 fn each_kind_of_ligature_keeps_and_passes_over_what_it_says(rt: HostRuntime) -> Result<(), Fail> {
-    let font = Font::read(rt.alloc(), KINDS.as_slice(), Size::Design)?;
-    for (word, text) in [
-        ("ax", "z(ax)"),
-        ("bx", "z(b)+x"),
-        ("cx", "c*z(x)"),
-        ("dx", "d*z()+x"),
-        ("ex", "z(e)x"),
-        ("fx", "fz(x)"),
-        ("gx", "gz()+x"),
-        ("hx", "hz()x"),
-        ("ix", "z(ix)"),
-        ("jx", "z(jx)"),
-        ("axx", "z(ax)+x"),
-        ("aax", "az(ax)"),
-        ("dxx", "d*z()+xx"),
-    ] {
-        assert_eq!(rt;
-            composed(rt.alloc(), &font, word.as_bytes(), false, false)?.as_slice(),
-            text.as_bytes(),
-            "{word}"
-        );
-    }
+    assert_eq!(rt; first_other(rt.alloc(), LIGATURES)?, None);
     Ok(())
 }
 
 #[test]
 fn boundaries_count_where_they_are_asked_for(rt: HostRuntime) -> Result<(), Fail> {
-    let font = Font::read(rt.alloc(), KINDS.as_slice(), Size::Design)?;
-    for (word, left, right, text) in [
-        ("q", true, false, "z(q)"),
-        ("q", false, true, "q"),
-        ("r", true, false, "+r"),
-        ("u", true, false, "*z(u)"),
-        ("s", false, true, "z(s)"),
-        ("s", true, false, "s"),
-        ("sy", false, false, "z(sy)"),
-        ("t", false, true, "t*"),
-        ("ty", false, false, "t*y"),
-        ("v", false, true, "vz()"),
-        ("qs", true, true, "z(q)z(s)"),
-        ("", true, true, ""),
-    ] {
-        assert_eq!(rt;
-            composed(rt.alloc(), &font, word.as_bytes(), left, right)?.as_slice(),
-            text.as_bytes(),
-            "{word}"
-        );
-    }
+    assert_eq!(rt; first_other(rt.alloc(), BOUNDARIES)?, None);
     Ok(())
 }

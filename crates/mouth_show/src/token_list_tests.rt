@@ -1,8 +1,8 @@
-//! Worked values: texts by hand, by the rules of TeX: The Program, section 262; macros from The TeXbook, chapter 20.
-use crate::{Body, BodyPart, Macro, ParameterText, TokList, Toks, text_of};
+//! Tests of tx_toklist: texts by hand, by the rules of TeX: The Program, section 262; macros from The TeXbook, chapter 20.
 use std::alloc::{AllocError, Global};
 use std::test::Fail;
 use tx_char::{Cat, Codes, ControlName, Token};
+use tx_toklist::{Body, BodyPart, Macro, ParameterText, TokList, Toks, text_of};
 
 /// A name as a token.
 fn name(alloc: Global, text: &[u8]) -> Result<Token, AllocError> {
