@@ -23,4 +23,9 @@ every-fails (suc n) k test h e = elim (cases_lt k n) [ inl less ↦ rw (every-fa
     last : (m : ℕ) → m ≡ k → (every m test && test m) ≡ false
     last m same = rw (same, e) (and-false (every k test))
 
+pub every-all : (n : ℕ) (test : ℕ → Bool) → ((k : ℕ) → k < n → test k ≡ true) → every n test ≡ true
+unfolding every
+every-all zero test h = refl
+every-all (suc n) test h = rw (every-all n test (λ k less. h k (omega arith)), h n (omega arith)) refl
+
 pub ruleset every_steps = (every-none, every-more, every-fails)

@@ -4,5 +4,6 @@ pub mod LigKern
 pub mod Rewriting
 pub mod Rules
 pub mod Table
+pub mod Filling
 pub mod Metrics
 pub mod Sound

@@ -70,7 +70,7 @@ impl Tfm {
     }
 
     /// The command for a next character of this code in the program from a place on.
-    fn find(&self, start: usize, code: u8) -> Option<Word>
+    pub fn find(&self, start: usize, code: u8) -> Option<Word>
         requires { start < 2 ^ 16 }
         ensures { result ≡ found self.now self.now.lengths.commands start code }
     {
@@ -103,7 +103,7 @@ impl Tfm {
         self.find(start, code)
     }
 
-    fn code_of(&self, right: Option<u8>) -> Option<u8>
+    pub fn code_of(&self, right: Option<u8>) -> Option<u8>
         ensures { result ≡ code_of self.now right }
     {
         match right {
@@ -112,7 +112,7 @@ impl Tfm {
         }
     }
 
-    fn start_of(&self, left: Option<u8>) -> Option<usize>
+    pub fn start_of(&self, left: Option<u8>) -> Option<usize>
         ensures value { result ≡ start_of self.now left }
         ensures bound { IfSome result (λ k. k < 2 ^ 16) }
     {

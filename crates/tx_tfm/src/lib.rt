@@ -1,7 +1,7 @@
 //! Font metric files (TFM): what a file says of its font, at the size at which it is used, and the first of fifteen rules
 //! that a bad file breaks. It stands on bytes and numbers alone, and knows no names of fonts.
 //!
-//! Modules in reading order: `lengths`, `file`, `scaling`, `commands`, `rewriting`, `rules`, `metrics`,
+//! Modules in reading order: `lengths`, `file`, `scaling`, `commands`, `ligatures`, `rewriting`, `rules`, `metrics`,
 //! `errors`, `font`.
 #![tactic(auto)]
 
@@ -10,6 +10,7 @@ mod errors;
 mod file;
 mod font;
 mod lengths;
+mod ligatures;
 mod metrics;
 mod rewriting;
 mod rules;

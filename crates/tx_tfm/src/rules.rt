@@ -8,7 +8,7 @@ ghost use Rattle.tx_tfm.specs.Rules.{every, lengths_are_small, codes_are_bytes, 
 
 use super::file::{Tfm, Word};
 use super::lengths::Lengths;
-use super::rewriting::{Ligatures, piece};
+use super::ligatures::{Ligatures, piece};
 use std::alloc::{AllocError, Global};
 use tx_num::{Range, xn_over_d};
 
@@ -411,7 +411,7 @@ impl Tfm {
         }
     }
 
-    /// Composing a pair ends soon.
+    /// Composing a pair ends soon. Most pairs meet no command, so that is asked first.
     #[tactic(auto, unfolding(crate::specs::Rules::pair_ends))]
     fn pair_ends(
         &self,
@@ -420,16 +420,20 @@ impl Tfm {
         left: usize,
         right: usize,
     ) -> Result<bool, AllocError>
-        requires { IsTableOf self.now table.now.commands.items }
+        requires { IsTableOf self.now table.now.rows.items }
         ensures { IfOk result (λ ends. ends ≡ pair_ends self.now left right) }
     {
         let (left, right) = (piece(left), piece(right));
+        if table.meets(left, right).is_none() {
+            return Ok(true);
+        }
         if self.is_piece(left) && self.is_piece(right) {
             return self.ends_within(alloc, table, 1000, left, right);
         }
         Ok(true)
     }
 
+    /// Composing each pair of this left piece ends soon. Most pieces meet no command, and are passed over.
     #[tactic(auto, unfolding(crate::specs::Rules::all_pairs_end_after), using(crate::proofs::Every::every_steps))]
     fn all_pairs_end_after(
         &self,
@@ -437,9 +441,13 @@ impl Tfm {
         table: &Ligatures,
         left: usize,
     ) -> Result<bool, AllocError>
-        requires { IsTableOf self.now table.now.commands.items }
+        requires table { IsTableOf self.now table.now.rows.items }
+        requires left { left < 257 }
         ensures { IfOk result (λ ends. ends ≡ all_pairs_end_after self.now left) }
     {
+        if table.meets_none(left) {
+            return Ok(true);
+        }
         for k in 0..257 {
             let ends = self.pair_ends(alloc, table, left, k)?;
             if !ends {

@@ -147,13 +147,18 @@ const VALUES: &str = r"\count 255 -2147483647|\count255=-2147483647
 \chardef\a=255 \let\b\a\let\a\c|\chardef\b=255
 \day=-3|\day-3";
 
+/// Whether a text leaves this table, without an error.
+fn leaves(alloc: Global, text: &str, expected: &Eqtb) -> Result<bool, AllocError> {
+    let mut table = Eqtb::new(alloc, &BEGUN)?;
+    let error = error_after(alloc, &mut table, text)?;
+    Ok(error == 0 && table.same(expected))
+}
+
 /// Whether both texts leave the same table, the first one without an error.
 fn leave_the_same(alloc: Global, text: &str, plain: &str) -> Result<bool, AllocError> {
-    let mut table = Eqtb::new(alloc, &BEGUN)?;
     let mut expected = Eqtb::new(alloc, &BEGUN)?;
-    let error = error_after(alloc, &mut table, text)?;
     error_after(alloc, &mut expected, plain)?;
-    Ok(error == 0 && table.same(&expected))
+    leaves(alloc, text, &expected)
 }
 
 /// The first case whose texts leave different tables.

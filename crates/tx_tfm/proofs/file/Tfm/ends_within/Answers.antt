@@ -1,6 +1,4 @@
-use Rattle.std.proofs.Common.{Some, None, false, refl, ◌≡◌, ◌-◌, ℕ, Option, List, [], ◌∷◌, reverse, sym, ap, ◌∙◌, arith}
-use Rattle.std.specs.Prelude.{is_some}
-use Rattle.tx_tfm.specs.declared.file.Word.{Word}
+use Rattle.std.proofs.Common.{◌≡◌, ◌-◌, ℕ, Option, List, [], ◌∷◌, reverse, sym, ap, ◌∙◌, arith}
 use Rattle.tx_tfm.specs.Rewriting.{ends_within}
 use Rattle.tx_tfm.proofs.Endings.{ends_within-one, ends_within-pass, ends_within-command, ends_within-spent, reverse-last, empty}
 use Rattle.tx_tfm.proofs.file.Tfm.ends_within.Goals as goal
@@ -27,12 +25,3 @@ returns c =
     let none : c.loop-next.rest.items ≡ [] = empty c.loop-next.rest.items (omega (arith, c.loop-next.rest.ok.0, c.in_default.ensures.cases)) in
     let over = ap (λ (l : List (Option ℕ)). ends_within c.args.self.now c.loop-next.remaining (c.loop-next.current ∷ reverse l)) none in
     sym (over ∙ ends_within-one c.args.self.now c.loop-next.remaining c.loop-next.current) ∙ c.loop-next.invariant
-
-none : (met : Option Word) → is_some met ≡ false → met ≡ None
-none None e = refl
-none (Some w) e = cc
-
-pub returns-then-is_none : goal.returns-then-is_none
-returns-then-is_none c =
-    let met = sym (c.meets.ensures c.args.self.now c.requires) ∙ none c.meets.result c.if-is_none.ensures in
-    sym (ends_within-pass c.args.self.now c.args.limit c.args.left c.args.right [] met ∙ ends_within-one c.args.self.now c.args.limit c.args.right)
