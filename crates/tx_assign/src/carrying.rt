@@ -1,5 +1,5 @@
 //! How an assignment is carried out on the table (TeX: The Program, sections 1211 to 1218 and 1236 to 1240).
-ghost use Rattle.std.specs.Prelude.{◌≡◌, IfOk, OnErr};
+ghost use Rattle.std.specs.Prelude.{◌≡◌, IfOk};
 ghost use Rattle.tx_num.specs.Limits.{limit};
 ghost use Rattle.tx_assign.specs.Changes as spec;
 ghost use Rattle.tx_assign.specs.Changes.{IsCarried};
@@ -100,10 +100,9 @@ fn changed_entry(range: Range, number: i32, change: Change) -> Result<Entry, Tex
 }
 
 /// Carries an assignment out; it is refused where a result leaves its range or a divisor is 0, and then nothing has changed.
-/// Its only error is want of memory, after which nothing has changed either.
+/// After want of memory, its only error, the table may only be dropped.
 pub fn carry_out(table: &mut Eqtb, assignment: Assignment) -> Result<Carried, AllocError>
     ensures ok { IfOk result (IsCarried table.old assignment table.new) }
-    ensures err { OnErr result (table.new ≡ table.old) }
 {
     let Assignment {
         global,

@@ -1,4 +1,3 @@
 pub mod Table
 pub mod Initex
-pub mod Before
 pub mod Stack

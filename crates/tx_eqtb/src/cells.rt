@@ -1,15 +1,23 @@
 //! Values by number.
-ghost use Rattle.std.specs.Prelude.{◌≡◌, ◌↔◌, slice_get, slice_set, IsTrue, IfOk};
+ghost use Rattle.std.specs.Prelude.{◌≡◌, ◌↔◌, slice_get, slice_set, IsTrue, IfOk, OnOk};
 ghost use Rattle.std.specs.Option.{option_copied};
 
-use std::alloc::{AllocError, Global};
+use std::alloc::AllocError;
 use std::marker::Model;
+use std::rc::Rc;
 use tx_name::Kept;
 
-/// As many values as there are registers, codes or parameters of a kind. Contracts see their list.
+/// As many values as there are registers, codes or parameters of a kind. Contracts see their list. Shared lists take one
+/// block of memory between them until one of them changes.
 #[derive(Drop)]
 pub struct Cells<T> {
-    values: Vec<T>,
+    values: Rc<Values<T>>,
+}
+
+/// The values themselves, which `Cells` may share.
+#[derive(Drop)]
+struct Values<T> {
+    by_number: Vec<T>,
 }
 
 impl<T> Model for Cells<T> {
@@ -17,49 +25,75 @@ impl<T> Model for Cells<T> {
 
     ghost Value = { List T };
 
-    ghost view = { λ c. c.values.items };
+    ghost view = { λ c. c.values.value.by_number.items };
 }
 
-impl<T: Kept> Cells<T> {
-    /// These values; takes no memory.
-    pub fn from_vec(values: Vec<T>) -> Cells<T>
-        ensures { result ≡ values.items }
+impl<T: Copy> Clone for Values<T> {
+    ghost is_clone = { λ source copy. copy.by_number.items ≡ source.by_number.items };
+
+    fn clone(&self) -> Result<Self, AllocError> {
+        let alloc = *self.by_number.allocator();
+        Ok(Values {
+            by_number: Vec::from_slice(alloc, self.by_number.as_slice())?,
+        })
+    }
+}
+
+impl<T: Kept + Copy> Cells<T> {
+    /// These values. Its only error is want of memory.
+    pub fn from_vec(values: Vec<T>) -> Result<Cells<T>, AllocError>
+        ensures { IfOk result (λ cells. cells ≡ values.items) }
     {
-        Cells { values }
+        let alloc = *values.allocator();
+        Ok(Cells {
+            values: Rc::new(alloc, Values { by_number: values })?,
+        })
     }
 
     /// The value of a number, lent; None where there is none.
     pub fn get(&self, number: usize) -> Option<&T>
         ensures { option_copied result ≡ slice_get self.now number }
     {
-        self.values.get(number)
+        self.values.by_number.get(number)
     }
 
-    /// Puts another value in the place of the one of a number, if there is one; takes no memory.
-    pub fn set(&mut self, number: usize, value: T)
-        ensures { self.new ≡ slice_set self.old number value }
+    /// Puts another value in the place of the one of a number, if there is one; lists that share the values keep theirs.
+    /// After want of memory, its only error, the list may only be dropped.
+    pub fn set(&mut self, number: usize, value: T) -> Result<(), AllocError>
+        ensures { OnOk result (self.new ≡ slice_set self.old number value) }
     {
-        if number < self.values.len() {
-            self.values[number] = value;
-        }
+        set_in(&mut self.values, number, value)
     }
 
     /// Whether both hold the same values.
     pub fn same(&self, other: &Cells<T>) -> bool
         ensures { IsTrue result ↔ (self.now ≡ other.now) }
     {
-        same_values(self.values.as_slice(), other.values.as_slice())
+        same_values(
+            self.values.by_number.as_slice(),
+            other.values.by_number.as_slice(),
+        )
     }
 
-    /// A second list of equal values. Its only error is want of memory.
+    /// A second list of equal values, which it shares. Its only error is that no more owners can be counted.
     pub fn share(&self) -> Result<Cells<T>, AllocError>
         ensures { IfOk result (λ twin. twin ≡ self.now) }
     {
-        let alloc = *self.values.allocator();
         Ok(Cells {
-            values: share_values(alloc, self.values.as_slice())?,
+            values: self.values.clone()?,
         })
     }
+}
+
+/// Changes one of the values that may be shared; only this owner sees the change.
+fn set_in<T: Copy>(values: &mut Rc<Values<T>>, number: usize, value: T) -> Result<(), AllocError>
+    ensures { OnOk result (values.new.value.by_number.items ≡ slice_set values.old.value.by_number.items number value) }
+{
+    let own = Rc::make_mut(values)?;
+    if number < own.by_number.len() {
+        own.by_number[number] = value;
+    }
+    Ok(())
 }
 
 /// Whether both lists hold the same values in the same order.
@@ -75,15 +109,4 @@ fn same_values<T: Kept>(some: &[T], others: &[T]) -> bool
         }
     }
     true
-}
-
-/// Second values, equal to these.
-fn share_values<T: Kept>(alloc: Global, values: &[T]) -> Result<Vec<T>, AllocError>
-    ensures { IfOk result (λ twins. twins.items ≡ values.now) }
-{
-    let mut twins = Vec::with_capacity(alloc, values.len())?;
-    for value in values {
-        twins.push(value.share()?)?;
-    }
-    Ok(twins)
 }

@@ -46,7 +46,7 @@ fn initial_codes(alloc: Global, kind: CharacterCode) -> Result<Cells<i32>, Alloc
     for code in 0..ALL {
         codes.push(initial_code(kind, code as u8))?;
     }
-    Ok(Cells::from_vec(codes))
+    Cells::from_vec(codes)
 }
 
 /// The integer parameters.
@@ -58,21 +58,21 @@ fn initial_integers(alloc: Global, begun: &Moment) -> Result<Cells<i32>, AllocEr
     for parameter in parameters {
         values.push(parameter.initial(begun))?;
     }
-    Ok(Cells::from_vec(values))
+    Cells::from_vec(values)
 }
 
 /// As many zeros.
 fn zeros(alloc: Global, count: usize) -> Result<Cells<i32>, AllocError>
     ensures { IfOk result (λ values. values ≡ replicate count (pos 0)) }
 {
-    Ok(Cells::from_vec(vec![in alloc; 0i32; count]?))
+    Cells::from_vec(vec![in alloc; 0i32; count]?)
 }
 
 /// As many meanings, none of which is defined.
 fn undefined(alloc: Global, count: usize) -> Result<Cells<Meaning>, AllocError>
     ensures { IfOk result (λ values. values ≡ replicate count Undefined) }
 {
-    Ok(Cells::from_vec(vec![in alloc; Meaning::Undefined; count]?))
+    Cells::from_vec(vec![in alloc; Meaning::Undefined; count]?)
 }
 
 /// The names of all primitives.

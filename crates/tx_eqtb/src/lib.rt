@@ -2,17 +2,14 @@
 //! the groups that are open. Contracts see the table as it stands and, for each open group, its kind and the table outside
 //! it: a group begins with a copy, and what was outside comes back when it ends.
 //!
-//! Read `place`, where something can stand, and `meaning` and `entry`, what stands there; `cells`, `table`, `reading`,
-//! `before` and `writing`; `initex`, the table at the beginning; `groups`, `everywhere` and `nesting`; and then `eqtb` with
-//! `stack`.
+//! Read `place`, where something can stand, and `meaning` and `entry`, what stands there; `cells`, `table`, `reading` and
+//! `writing`; `initex`, the table at the beginning; `groups` and `nesting`; and then `eqtb` with `stack`.
 #![tactic(auto)]
 
-mod before;
 mod cells;
 mod entry;
 mod eqtb;
 mod error;
-mod everywhere;
 mod groups;
 mod initex;
 mod meaning;

@@ -2,10 +2,8 @@
 ghost use Rattle.std.specs.Prelude.{◌≡◌, ◌↔◌, ◌-◌, [], ◌∷◌, ◌++◌, length, take, map, slice_get, IsTrue, IfOk, OnOk, OnErr};
 ghost use Rattle.std.specs.Option.{option_map};
 ghost use Rattle.tx_eqtb.specs.Stack.{assigned_outside, innermost};
-ghost use Rattle.tx_eqtb.specs.Table.{with_entry, fits};
 
 use crate::entry::Entry;
-use crate::everywhere::assign_from;
 use crate::groups::{Group, GroupKind};
 use crate::place::Place;
 use crate::table::Table;
@@ -78,20 +76,11 @@ impl Nesting {
         }
     }
 
-    /// Gives a place an entry in the table as it stands and outside each group. After want of memory nothing has changed.
-    pub fn assign_everywhere(
-        &mut self,
-        table: &mut Table,
-        place: &Place,
-        value: Entry,
-    ) -> Result<(), AllocError>
-        requires { IsTrue (fits place.now value) }
-        ensures ok { OnOk result (self.new ≡ map (assigned_outside place.now value) self.old) }
-        ensures ok_table { OnOk result (table.new ≡ with_entry table.old place.now value) }
-        ensures err { OnErr result (self.new ≡ self.old) }
-        ensures err_table { OnErr result (table.new ≡ table.old) }
+    /// Gives a place an entry outside each group. After want of memory, its only error, the groups may only be dropped.
+    pub fn assign_outside(&mut self, place: &Place, value: Entry) -> Result<(), AllocError>
+        ensures { OnOk result (self.new ≡ map (assigned_outside place.now value) self.old) }
     {
-        assign_from(self.groups.as_mut_slice(), table, 0, place, value)
+        assign_each(self.groups.as_mut_slice(), place, value)
     }
 
     /// Whether both are the same groups.
@@ -110,6 +99,16 @@ impl Nesting {
             groups: share_groups(alloc, self.groups.as_slice())?,
         })
     }
+}
+
+/// Gives a place an entry outside each of these groups.
+fn assign_each(groups: &mut [Group], place: &Place, value: Entry) -> Result<(), AllocError>
+    ensures { OnOk result (groups.new ≡ map (assigned_outside place.now value) groups.old) }
+{
+    for k in 0..groups.len() {
+        groups[k].outside.set(place, value)?;
+    }
+    Ok(())
 }
 
 /// Whether both lists hold the same groups in the same order.

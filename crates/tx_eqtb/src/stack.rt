@@ -53,25 +53,20 @@ impl Eqtb {
     }
 
     /// Gives a place an entry until the innermost group ends; one of another kind than stands there changes nothing. After
-    /// want of memory nothing has changed.
+    /// want of memory, its only error, the table may only be dropped.
     pub fn assign(&mut self, place: Place, value: Entry) -> Result<(), AllocError>
         ensures ok { OnOk result (self.new ≡ assigned self.old place value) }
-        ensures err { OnErr result (self.new ≡ self.old) }
     {
         self.table.set(&place, value)
     }
 
     /// Gives a place an entry in all groups and outside them; one of another kind than stands there changes nothing. After
-    /// want of memory nothing has changed.
+    /// want of memory, its only error, the table may only be dropped.
     pub fn assign_global(&mut self, place: Place, value: Entry) -> Result<(), AllocError>
         ensures ok { OnOk result (self.new ≡ assigned_everywhere self.old place value) }
-        ensures err { OnErr result (self.new ≡ self.old) }
     {
-        if !place.takes(value) {
-            return Ok(());
-        }
-        self.groups
-            .assign_everywhere(&mut self.table, &place, value)
+        self.table.set(&place, value)?;
+        self.groups.assign_outside(&place, value)
     }
 
     /// Opens a group. `TooMany` comes exactly where 255 are open. After an error nothing has changed.

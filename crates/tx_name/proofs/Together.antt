@@ -95,10 +95,10 @@ module _ {X : Type 0} where
     ]
 
   -- a value put in, and a value taken away
-  pub changes-insert : (m : Names X) (name : List ℕ) (v : X) → Changes m (insert m name v) name (Some v)
+  changes-insert : (m : Names X) (name : List ℕ) (v : X) → Changes m (insert m name v) name (Some v)
   changes-insert m name v q = get-insert nat_list_cmp_total m name v q
 
-  pub changes-remove : (m : Names X) (name : List ℕ) → Changes m (remove m name) name None
+  changes-remove : (m : Names X) (name : List ℕ) → Changes m (remove m name) name None
   changes-remove m name q = get-remove nat_list_cmp_total m name q
 
   -- maps that have changed alike from the same one are equal
@@ -128,23 +128,9 @@ module _ {X : Type 0} where
       ]))
 
   -- buckets that are all empty
-  pub pushed-empty : (buckets : List (Names X)) (bucket : Names X) → bucket ≡ empty → ((i : ℕ) → bucket_at buckets i ≡ empty) → (i : ℕ) → bucket_at (buckets ++ bucket ∷ []) i ≡ empty
-  pushed-empty [] bucket e all zero = e
-  pushed-empty [] bucket e all (suc i) = refl
-  pushed-empty (b ∷ buckets) bucket e all zero = all 0
-  pushed-empty (b ∷ buckets) bucket e all (suc i) = pushed-empty buckets bucket e (λ j. all (suc j)) i
-
   pub empty-placed : (buckets : List (Names X)) → length buckets ≡ 1024 → ((i : ℕ) → bucket_at buckets i ≡ empty) → IsPlaced buckets
   empty-placed buckets count all = record { count = count; placed = λ at q apart. ap (λ m. get m q) (all at) ∙ get-empty by_bytes q }
 
   pub empty-together : (buckets : List (Names X)) → ((i : ℕ) → bucket_at buckets i ≡ empty) → together buckets ≡ empty
   empty-together buckets all = same_map nat_list_cmp_total (slice_cmp-IsAntisymmetric nat_cmp-IsAntisymmetric) _ _ (λ q.
       get-from_entries nat_list_cmp_total _ q ∙ find-none q buckets (λ i. ap (λ m. get m q) (all i) ∙ get-empty by_bytes q) ∙ sym (get-empty by_bytes q))
-
-  -- what stands at a place below 1024 is the bucket of that number
-  pub bucket-read : (buckets : List (Names X)) → IsPlaced buckets → (at : ℕ) (bucket : Names X) → at < 1024 → bucket ≡ get_or buckets at bucket → bucket ≡ bucket_at buckets at
-  bucket-read buckets is at bucket within read = read ∙ get_or_default buckets at bucket empty (omega (arith, within, is.count))
-
-  -- a bucket written over with what it was changes nothing
-  pub written-back : (buckets : List (Names X)) (at : ℕ) (bucket new : Names X) → bucket ≡ get_or buckets at bucket → new ≡ bucket → set buckets at new ≡ buckets
-  written-back buckets at bucket new read same = ap (set buckets at) (same ∙ read) ∙ set-get_or buckets at bucket

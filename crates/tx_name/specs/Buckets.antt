@@ -1,10 +1,12 @@
 -- How a map is laid out: which bucket a name belongs to, and where it stands there. For the look-up alone, no public
 -- clause says it.
-use Rattle.std.specs.Prelude.{◌≡◌, ◌≢◌, ◌<◌, ◌≤◌, ◌+◌, ◌*◌, ◌%◌, ℕ, T, List, [], ◌∷◌, ◌++◌, length, slice_index_or, None}
+use Rattle.std.specs.Prelude.{◌≡◌, ◌≢◌, ◌<◌, ◌≤◌, ◌+◌, ◌*◌, ◌%◌, ℕ, T, List, [], ◌∷◌, ◌++◌, length, map, slice_index_or, None}
 use Rattle.std.specs.declared.cmp.Ordering.TheVariants.{Less, Equal, Greater}
 use Rattle.std.specs.Ordering.{nat_cmp}
 use Rattle.std.specs.Cmp.Lexicographic.{slice_cmp}
 use Rattle.std.specs.FinMap.{empty, entries, get, from_entries, from_sorted, is_sorted}
+use Rattle.std.specs.declared.rc.Rc.{Rc}
+use Rattle.std.specs.Rc.{rc_value}
 use Rattle.tx_name.specs.Names.{Names}
 
 -- the names of a list of entries strictly rise
@@ -51,6 +53,10 @@ entries_in (bucket ∷ buckets) = entries bucket ++ entries_in buckets
 
 abbrev pub together : {X : Type 0} → List (Names X) → Names X
 together buckets = from_entries (entries_in buckets)
+
+-- what buckets hold that may be shared
+abbrev pub held : {X Z : Type 0} → List (Rc (Names X) Z) → List (Names X)
+held buckets = map rc_value buckets
 
 -- what the bucket of a number holds
 abbrev pub bucket_at : {X : Type 0} → List (Names X) → ℕ → Names X

@@ -1,5 +1,5 @@
 //! One bucket: names in their order, each with its value.
-ghost use Rattle.std.specs.Prelude.{◌≡◌, ◌↔◌, IsTrue, IsSome, IfOk, IfErr, OnOk, OnErr};
+ghost use Rattle.std.specs.Prelude.{◌≡◌, ◌↔◌, IsTrue, IfOk, IfErr, OnOk, OnErr};
 ghost use Rattle.std.specs.Option.{option_copied};
 ghost use Rattle.std.specs.Ordering.{nat_cmp};
 ghost use Rattle.std.specs.Cmp.Lexicographic.{slice_cmp};
@@ -69,16 +69,6 @@ impl<T: Kept> Bucket<T> {
         }
     }
 
-    /// Gives a name that has a value another; takes no memory.
-    pub fn replace(&mut self, name: &[u8], value: T)
-        requires { IsSome (get self.old name.now) }
-        ensures { self.new ≡ insert self.old name.now value }
-    {
-        if let Ok(place) = search(self.entries.as_slice(), name) {
-            self.entries[place].1 = value;
-        }
-    }
-
     /// Takes a name's value away, if it has one; takes no memory.
     pub fn remove(&mut self, name: &[u8])
         ensures { self.new ≡ remove self.old name.now }
@@ -94,11 +84,13 @@ impl<T: Kept> Bucket<T> {
     {
         same_entries(self.entries.as_slice(), other.entries.as_slice())
     }
+}
 
-    /// A second bucket, the same map. Its only error is want of memory.
-    pub fn share(&self) -> Result<Bucket<T>, AllocError>
-        ensures { IfOk result (λ twin. twin ≡ self.now) }
-    {
+/// A clone is the same map. Its only error is want of memory.
+impl<T: Kept> Clone for Bucket<T> {
+    ghost is_clone = { λ source copy. copy ≡ source };
+
+    fn clone(&self) -> Result<Self, AllocError> {
         let alloc = *self.entries.allocator();
         Ok(Bucket {
             entries: share_entries(alloc, self.entries.as_slice())?,

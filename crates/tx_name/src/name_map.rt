@@ -1,22 +1,24 @@
 //! The map: a name's bytes say in which bucket it lies.
-ghost use Rattle.std.specs.Prelude.{◌≡◌, ◌↔◌, ◌<◌, length, IsTrue, IsSome, IfOk, OnOk, OnErr};
+ghost use Rattle.std.specs.Prelude.{◌≡◌, ◌↔◌, ◌<◌, IsTrue, IfOk, OnOk, OnErr};
 ghost use Rattle.std.specs.Option.{option_copied};
 ghost use Rattle.std.specs.FinMap.{empty, get, insert, remove};
-ghost use Rattle.tx_name.specs.Buckets.{IsPlaced, bucket_of, together};
+ghost use Rattle.tx_name.specs.Buckets.{bucket_of, held};
 
 use crate::bucket::Bucket;
 use crate::kept::Kept;
 use std::alloc::{AllocError, Global};
 use std::marker::Model;
+use std::rc::Rc;
 use tx_char::ControlName;
 
 /// How many buckets there are.
 const BUCKETS: usize = 1024;
 
-/// A finite map from names to values. Contracts see the map.
+/// A finite map from names to values. Contracts see the map. Shared maps have one list of buckets between them until one
+/// of them changes, and then each bucket that neither has changed.
 #[derive(Drop)]
 pub struct NameMap<T> {
-    buckets: Vec<Bucket<T>>,
+    buckets: Rc<Vec<Rc<Bucket<T>>>>,
 }
 
 impl<T> Model for NameMap<T> {
@@ -29,11 +31,11 @@ impl<T> Model for NameMap<T> {
 
     ghost coded = { map.code (coded_list coded_ℕ) T.code };
 
-    ghost use Rattle.tx_name.specs.Buckets.{IsPlaced, together};
+    ghost use Rattle.tx_name.specs.Buckets.{IsPlaced, held, together};
 
-    ghost view = { λ m. together m.buckets.items };
+    ghost view = { λ m. together (held m.buckets.value.items) };
 
-    ghost invariant = { λ m. IsPlaced m.buckets.items };
+    ghost invariant = { λ m. IsPlaced (held m.buckets.value.items) };
 }
 
 impl<T: Kept> NameMap<T> {
@@ -41,8 +43,9 @@ impl<T: Kept> NameMap<T> {
     pub fn new(alloc: Global) -> Result<NameMap<T>, AllocError>
         ensures { IfOk result (λ m. m ≡ empty) }
     {
+        let bucket = Rc::new(alloc, Bucket::new(alloc))?;
         Ok(NameMap {
-            buckets: empty_buckets(alloc)?,
+            buckets: Rc::new(alloc, vec![in alloc; bucket; BUCKETS]?)?,
         })
     }
 
@@ -54,31 +57,26 @@ impl<T: Kept> NameMap<T> {
         self.buckets[bucket_number(name)].get(name)
     }
 
-    /// Gives a name a value, in the place of the one that it has. After want of memory nothing has changed.
+    /// Gives a name a value, in the place of the one that it has. After want of memory, its only error, the map may only be
+    /// dropped.
     pub fn insert(&mut self, name: ControlName, value: T) -> Result<(), AllocError>
-        ensures ok { OnOk result (self.new ≡ insert self.old name value) }
-        ensures err { OnErr result (self.new ≡ self.old) }
+        ensures { OnOk result (self.new ≡ insert self.old name value) }
     {
         let at = bucket_number(name.as_slice());
-        self.buckets[at].insert(name, value)?;
+        let own = Rc::make_mut(&mut self.buckets)?;
+        insert_in(&mut own[at], name, value)?;
         Ok(())
     }
 
-    /// Gives a name that has a value another; takes no memory.
-    pub fn replace(&mut self, name: &ControlName, value: T)
-        requires { IsSome (get self.old name.now) }
-        ensures { self.new ≡ insert self.old name.now value }
+    /// Takes a name's value away, if it has one. After want of memory, its only error, the map may only be dropped.
+    pub fn remove(&mut self, name: &ControlName) -> Result<(), AllocError>
+        ensures { OnOk result (self.new ≡ remove self.old name.now) }
     {
         let name = name.as_slice();
-        self.buckets[bucket_number(name)].replace(name, value);
-    }
-
-    /// Takes a name's value away, if it has one; takes no memory.
-    pub fn remove(&mut self, name: &ControlName)
-        ensures { self.new ≡ remove self.old name.now }
-    {
-        let name = name.as_slice();
-        self.buckets[bucket_number(name)].remove(name);
+        let at = bucket_number(name);
+        let own = Rc::make_mut(&mut self.buckets)?;
+        remove_in(&mut own[at], name)?;
+        Ok(())
     }
 
     /// Whether both give the same names the same values.
@@ -88,13 +86,13 @@ impl<T: Kept> NameMap<T> {
         same_buckets(self.buckets.as_slice(), other.buckets.as_slice())
     }
 
-    /// A second map, equal to this one, which changes alone from then on. Its only error is want of memory.
+    /// A second map, equal to this one, which changes alone from then on. Nothing is copied until then. Its only error is
+    /// that no more owners can be counted.
     pub fn share(&self) -> Result<NameMap<T>, AllocError>
         ensures { IfOk result (λ twin. twin ≡ self.now) }
     {
-        let alloc = *self.buckets.allocator();
         Ok(NameMap {
-            buckets: share_buckets(alloc, self.buckets.as_slice())?,
+            buckets: self.buckets.clone()?,
         })
     }
 }
@@ -111,21 +109,33 @@ fn bucket_number(name: &[u8]) -> usize
     number
 }
 
-/// As many empty buckets as a map has.
-fn empty_buckets<T: Kept>(alloc: Global) -> Result<Vec<Bucket<T>>, AllocError>
-    ensures placed { IfOk result (λ buckets. IsPlaced buckets.items) }
-    ensures none { IfOk result (λ buckets. together buckets.items ≡ empty) }
+/// Gives a name a value in a bucket that maps may share; only this owner sees it. After want of memory nothing has changed.
+fn insert_in<T: Kept>(
+    bucket: &mut Rc<Bucket<T>>,
+    name: ControlName,
+    value: T,
+) -> Result<(), AllocError>
+    ensures ok { OnOk result (bucket.new.value ≡ insert bucket.old.value name value) }
+    ensures err { OnErr result (bucket.new.value ≡ bucket.old.value) }
 {
-    let mut buckets = Vec::with_capacity(alloc, BUCKETS)?;
-    for _number in 0..BUCKETS {
-        buckets.push(Bucket::new(alloc))?;
-    }
-    Ok(buckets)
+    let own = Rc::make_mut(bucket)?;
+    own.insert(name, value)
+}
+
+/// Takes a name's value away in a bucket that maps may share; only this owner sees it. After want of memory nothing has
+/// changed.
+fn remove_in<T: Kept>(bucket: &mut Rc<Bucket<T>>, name: &[u8]) -> Result<(), AllocError>
+    ensures ok { OnOk result (bucket.new.value ≡ remove bucket.old.value name.now) }
+    ensures err { OnErr result (bucket.new.value ≡ bucket.old.value) }
+{
+    let own = Rc::make_mut(bucket)?;
+    own.remove(name);
+    Ok(())
 }
 
 /// Whether both lists hold the same buckets in the same order.
-fn same_buckets<T: Kept>(some: &[Bucket<T>], others: &[Bucket<T>]) -> bool
-    ensures { IsTrue result ↔ (some.now ≡ others.now) }
+fn same_buckets<T: Kept>(some: &[Rc<Bucket<T>>], others: &[Rc<Bucket<T>>]) -> bool
+    ensures { IsTrue result ↔ (held some.now ≡ held others.now) }
 {
     if some.len() != others.len() {
         return false;
@@ -136,18 +146,4 @@ fn same_buckets<T: Kept>(some: &[Bucket<T>], others: &[Bucket<T>]) -> bool
         }
     }
     true
-}
-
-/// Second buckets, equal to these.
-fn share_buckets<T: Kept>(
-    alloc: Global,
-    buckets: &[Bucket<T>],
-) -> Result<Vec<Bucket<T>>, AllocError>
-    ensures { IfOk result (λ twins. twins.items ≡ buckets.now) }
-{
-    let mut twins = Vec::with_capacity(alloc, buckets.len())?;
-    for bucket in buckets {
-        twins.push(bucket.share()?)?;
-    }
-    Ok(twins)
 }

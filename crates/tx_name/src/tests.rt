@@ -49,11 +49,11 @@ fn maps_are_the_same_whatever_was_put_in_and_taken_out(rt: HostRuntime) -> Resul
     let found = map.get(&name_of(&rt, 417)?).map(|counted| counted.count);
     assert_eq!(rt; found, Some(417));
     let mut twin = map.share()?;
-    twin.remove(&name_of(&rt, 417)?);
+    twin.remove(&name_of(&rt, 417)?)?;
     assert!(rt; twin.get(&name_of(&rt, 417)?).is_none());
     assert!(rt; map.get(&name_of(&rt, 417)?).is_some());
     assert!(rt; !map.same(&twin));
-    twin.remove(&name_of(&rt, 417)?);
+    twin.remove(&name_of(&rt, 417)?)?;
     twin.insert(name_of(&rt, 417)?, Counted { count: 417 })?;
     assert!(rt; map.same(&twin));
     Ok(())

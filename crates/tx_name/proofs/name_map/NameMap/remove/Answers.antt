@@ -1,20 +1,17 @@
-use Rattle.std.proofs.Common.{sym, ap, ◌∙◌, subst, ◌<◌, ◌≡◌}
+use Rattle.std.proofs.Common.{rules, ap, ◌∙◌}
 use Rattle.std.specs.FinMap.{remove}
-use Rattle.std.specs.Prelude.{slice_set}
-use Rattle.tx_name.proofs.Together.{placed-remove, together-remove, bucket-read}
-use Rattle.tx_name.specs.Buckets.{IsPlaced, bucket_at, bucket_of, together}
+use Rattle.tx_name.specs.Buckets.{bucket_of}
+use Rattle.tx_name.proofs.Held.{still-placed, removed, unchanged}
 use Rattle.tx_name.proofs.name_map.NameMap.remove.Goals as goal
 
 pub invariant_of-self : goal.invariant_of-self
-invariant_of-self g c =
-    let at : c.bucket_number.result ≡ bucket_of c.args.name.now = c.bucket_number.ensures.value ∙ ap bucket_of c.as_slice-name.ensures in
-    let new = c.remove.ensures ∙ (λ i. remove (bucket-read c.self.inside.buckets.items c.self.invariant _ _ c.bucket_number.ensures.within c.index_mut.ensures.value i) (c.as_slice-name.ensures i)) in
-    subst (λ k. IsPlaced (slice_set c.self.inside.buckets.items k c.remove.new.self)) (sym at) (placed-remove c.self.inside.buckets.items c.self.invariant c.args.name.now (subst (λ k. k < 1024) at c.bucket_number.ensures.within) c.remove.new.self (new ∙ ap (λ k. remove (bucket_at c.self.inside.buckets.items k) c.args.name.now) at))
+invariant_of-self g c = still-placed _ _ _ _ c.in_err-own.was c.make_mut.follows.holds-at-none c.self.invariant
+
+pub invariant_of-self-in_err-remove_in : goal.invariant_of-self-in_err-remove_in
+invariant_of-self-in_err-remove_in g c = unchanged c.self.inside.buckets.value c.self.invariant c.in_ok-own.own.now c.in_ok-own.ensures.value c.bucket_number-at.result c.bucket_number-at.ensures.within c.index_mut.result.now c.index_mut.ensures.value c.remove_in.new.bucket _ (c.make_mut.follows.holds _ (search rules)) c.in_err-remove_in.ensures.err
+
+pub invariant_of-self-2 : goal.invariant_of-self-2
+invariant_of-self-2 g c = (removed c.self.inside.buckets.value c.self.invariant c.in_ok-own.own.now c.in_ok-own.ensures.value c.bucket_number-at.result c.bucket_number-at.ensures.within c.index_mut.result.now c.index_mut.ensures.value c.remove_in.new.bucket _ (c.make_mut.follows.holds _ (search rules)) c.args.name.now (c.bucket_number-at.ensures.value ∙ ap bucket_of c.as_slice-name.ensures) (c.in_ok-remove_in.ensures.ok ∙ ap (remove c.index_mut.result.now.value) c.as_slice-name.ensures)).0
 
 pub returns : goal.returns
-returns g c =
-    let at : c.bucket_number.result ≡ bucket_of c.args.name.now = c.bucket_number.ensures.value ∙ ap bucket_of c.as_slice-name.ensures in
-    let new = c.remove.ensures ∙ (λ i. remove (bucket-read c.self.inside.buckets.items c.self.invariant _ _ c.bucket_number.ensures.within c.index_mut.ensures.value i) (c.as_slice-name.ensures i)) in
-    ap (λ k. together (slice_set c.self.inside.buckets.items k c.remove.new.self)) at
-    ∙ together-remove c.self.inside.buckets.items c.self.invariant c.args.name.now (subst (λ k. k < 1024) at c.bucket_number.ensures.within) c.remove.new.self (new ∙ ap (λ k. remove (bucket_at c.self.inside.buckets.items k) c.args.name.now) at)
-    ∙ ap (λ m. remove m c.args.name.now) c.self.view_is
+returns g c = (removed c.self.inside.buckets.value c.self.invariant c.in_ok-own.own.now c.in_ok-own.ensures.value c.bucket_number-at.result c.bucket_number-at.ensures.within c.index_mut.result.now c.index_mut.ensures.value c.remove_in.new.bucket _ (c.make_mut.follows.holds _ (search rules)) c.args.name.now (c.bucket_number-at.ensures.value ∙ ap bucket_of c.as_slice-name.ensures) (c.in_ok-remove_in.ensures.ok ∙ ap (remove c.index_mut.result.now.value) c.as_slice-name.ensures)).1 ∙ ap (λ m. remove m c.args.name.now) c.self.view_is

@@ -1,0 +1,12 @@
+use Rattle.std.proofs.Common.{ap, ◌∙◌, get_or, set}
+use Rattle.std.proofs.lemmas.List.Edits.{map_over_more}
+use Rattle.tx_eqtb.specs.declared.groups.Group.{Group}
+use Rattle.tx_eqtb.specs.declared.table.Table.{Table}
+use Rattle.tx_eqtb.specs.Stack.{assigned_outside}
+use Rattle.tx_eqtb.proofs.nesting.assign_each.Goals as goal
+
+pub loop-k-preserved : goal.loop-k-preserved
+loop-k-preserved c =
+    let before : Group = get_or c.loop-k.groups c.loop-k.k c.index-groups-k.result in
+    ap (λ (t : Table). set c.loop-k.groups c.loop-k.k (record before { outside = t })) c.in_ok-set.ensures
+    ∙ map_over_more (assigned_outside c.args.place.now c.args.value) _ _ _ before c.loop-k-test.true c.loop-k.invariant (ap (get_or c.loop-k.groups c.loop-k.k) c.index-groups-k.is)
