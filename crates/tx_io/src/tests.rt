@@ -73,7 +73,8 @@ fn a_folder_gives_what_it_holds(rt: HostRuntime) -> Result<(), Fail> {
     let alloc = rt.alloc();
     fs::write(&rt, "h.tex", "one")?;
     fs::create(&rt, "long.tex")?.set_len(67_108_865)?;
-    let mut source = DirSource::new(&rt);
+    let read = FilesRead::new(alloc);
+    let mut source = DirSource::new(&rt, &read);
     for (name, want) in [
         ("h.tex", Answer::Found),
         ("b.tex", Answer::Absent),
@@ -91,7 +92,9 @@ fn a_folder_gives_what_it_holds(rt: HostRuntime) -> Result<(), Fail> {
 
 #[test]
 fn a_folder_takes_what_is_saved(rt: HostRuntime) -> Result<(), Fail> {
-    let mut sink = DirSink::new(&rt);
+    let alloc = rt.alloc();
+    let read = FilesRead::new(alloc);
+    let mut sink = DirSink::new(&rt, alloc, &read);
     assert!(rt; put_out(&mut sink) == [Put::Done; 4]);
     assert!(rt; sink.save(b"b/a", b"one") == Put::Failed);
     assert!(rt; fs::read_to_string(&rt, "a")?.as_str() == "two");
