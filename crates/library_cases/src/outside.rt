@@ -5,8 +5,8 @@ use std::{fs, io};
 use tx_bytes::Bytes;
 use tx_cases::{bytes_of, text_of};
 use tx_io::{
-    DirSink, DirSource, Fetched, MemorySink, MemorySource, Put, Sink, Source, SteadySink,
-    SteadySource,
+    DirSink, DirSource, Fetched, FilesRead, MemorySink, MemorySource, Put, Sink, Source,
+    SteadySink, SteadySource,
 };
 
 /// What comes of a steady source and sink by lines of
@@ -112,8 +112,9 @@ fn told(alloc: Global, put: Put) -> Result<String, AllocError> {
 /// What comes of the current folder and standard output by lines of `fetch NAME`, `say TEXT` and `save NAME TEXT`, and of
 /// `write NAME TEXT`, `grow NAME SIZE`, `read NAME` and `remove NAME`, which are done by std's file calls.
 pub fn folder(rt: &HostRuntime, lines: &str) -> io::Result<String> {
-    let mut source = DirSource::new(rt);
-    let mut sink = DirSink::new(rt);
+    let read = FilesRead::new(rt.alloc());
+    let mut source = DirSource::new(rt, &read);
+    let mut sink = DirSink::new(rt, rt.alloc(), &read);
     let mut text = String::new(rt.alloc());
     for line in lines.split('\n') {
         let (word, rest) = first_word(line);
