@@ -1,8 +1,7 @@
 //! Cases of tx_node and tx_ship.
 use crate::lists::{Fault, list_of};
-use crate::words::{answered, first_word, malformed};
 use std::alloc::{AllocError, Global};
-use tx_cases::hexadecimal;
+use tx_cases::{answered, first_word, hexadecimal, malformed};
 use tx_dvi::PageBody;
 use tx_node::{BoxNode, PackError, hbox, same_box, same_list};
 use tx_ship::{ShipError, ShipParams, body};

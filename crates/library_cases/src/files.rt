@@ -1,8 +1,7 @@
 //! Cases of tx_files.
-use crate::words::{answered, first_word, malformed};
 use std::alloc::{AllocError, Global};
 use tx_bytes::Bytes;
-use tx_cases::{bytes_of, text_of};
+use tx_cases::{answered, bytes_of, first_word, malformed, text_of};
 use tx_files::{
     Edit, FileSet, Name, NextLine, Refusal, Seen, Sight, line_count, next_line, untouched,
 };
@@ -148,13 +147,12 @@ fn try_edit(
 }
 
 fn note(alloc: Global, seen: &mut Seen, name: &Name, rest: &str) -> Result<String, AllocError> {
-    let sight = match (rest, rest.parse::<u64>()) {
-        ("opened", _) => Sight::Opened,
-        ("absent", _) => Sight::Absent,
-        ("end", _) => Sight::End,
-        ("whole", _) => Sight::Whole,
-        (_, Ok(end)) => Sight::Line(end),
-        _ => return malformed(alloc),
+    let sight = match rest {
+        "opened" => Sight::Opened,
+        "absent" => Sight::Absent,
+        "end" => Sight::End,
+        "whole" => Sight::Whole,
+        _ => Sight::Line(rest.parse().unwrap_or(0)),
     };
     seen.note(alloc, name.as_slice(), sight)?;
     answered(alloc, "seen")
@@ -170,7 +168,14 @@ fn leaves(alloc: Global, seen: &Seen, name: Name, rest: &str) -> Result<String, 
         removed: 0,
         put: Bytes::new(alloc),
     };
-    answered(alloc, if untouched(seen, &e) { "left" } else { "touched" })
+    answered(
+        alloc,
+        if untouched(seen, &e) {
+            "left"
+        } else {
+            "touched"
+        },
+    )
 }
 
 fn asked(alloc: Global, seen: &Seen, name: &Name) -> Result<String, AllocError> {

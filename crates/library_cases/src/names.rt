@@ -1,6 +1,6 @@
 //! Cases of tx_name.
-use crate::words::{answered, first_word, malformed};
 use std::alloc::{AllocError, Global};
+use tx_cases::{answered, first_word, malformed};
 use tx_char::ControlName;
 use tx_name::NameMap;
 
@@ -34,15 +34,17 @@ pub fn play(alloc: Global, lines: &str) -> Result<String, AllocError> {
 fn step(alloc: Global, maps: &mut Maps, line: &str) -> Result<String, AllocError> {
     let (word, rest) = first_word(line);
     let (map, rest) = first_word(rest);
-    match (word, map) {
-        ("same", _) => format!(in alloc; "{}", maps.one.same(&maps.other)),
-        ("share", _) => {
+    match word {
+        "same" => return format!(in alloc; "{}", maps.one.same(&maps.other)),
+        "share" => {
             maps.other = maps.one.share()?;
-            answered(alloc, "shared")
+            return answered(alloc, "shared");
         }
-        (_, "one") => change(alloc, &mut maps.one, word, rest),
-        (_, "other") => change(alloc, &mut maps.other, word, rest),
-        _ => malformed(alloc),
+        _ => {}
+    }
+    match map {
+        "one" => change(alloc, &mut maps.one, word, rest),
+        _ => change(alloc, &mut maps.other, word, rest),
     }
 }
 
@@ -54,15 +56,15 @@ fn change(
 ) -> Result<String, AllocError> {
     let (name, value) = first_word(rest);
     let name = ControlName::from_slice(alloc, name.as_bytes())?;
-    match (word, value.parse()) {
-        ("fill", _) => fill(alloc, map, rest),
-        ("get", _) => found(alloc, map.get(&name)),
-        ("remove", _) => {
+    match word {
+        "fill" => fill(alloc, map, rest),
+        "get" => found(alloc, map.get(&name)),
+        "remove" => {
             map.remove(&name)?;
             answered(alloc, "removed")
         }
-        ("put", Ok(value)) => {
-            map.insert(name, value)?;
+        "put" => {
+            map.insert(name, value.parse().unwrap_or(0))?;
             answered(alloc, "put")
         }
         _ => malformed(alloc),

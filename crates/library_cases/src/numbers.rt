@@ -1,12 +1,12 @@
 //! Cases of tx_num.
-ghost use Rattle.std.specs.Prelude.{IsTrue};
+ghost use Rattle.std.specs.Prelude.{◌<◌, ◌^◌, unsigned_abs, IsTrue};
 ghost use Rattle.std.specs.Str.Parse.{AllDigits};
 
-use crate::words::{answered, first_word, integers, malformed};
 use std::alloc::{AllocError, Global};
-use tx_cases::text_of;
+use tx_cases::{answered, first_word, integers, malformed, text_of};
 use tx_num::{
-    Glue, Overflow, PhysicalUnit, Range, badness, decimals, scaled_text, set_at, x_over_n, xn_over_d,
+    Glue, Overflow, PhysicalUnit, Range, badness, decimals, scaled_text, set_at, x_over_n,
+    xn_over_d,
 };
 
 /// - `badness T S`, `over X N`, `dimen_over X N`, `times_over X N D` and `set TOTAL EXCESS SUM`;
@@ -64,16 +64,19 @@ fn fraction_of(alloc: Global, numbers: &[i64]) -> Result<String, AllocError> {
 
 fn setting_of(alloc: Global, numbers: &[i64]) -> Result<String, AllocError> {
     match numbers {
-        [total, excess, sum] if *total != 0 && are_integers(*total, *excess, *sum) => {
+        [total, excess, sum]
+            if *total != 0 && is_integer(*total) && is_integer(*excess) && is_integer(*sum) => {
             format!(in alloc; "{}", set_at(*total, *excess, *sum))
         }
         _ => malformed(alloc),
     }
 }
 
-/// Whether all three are integers of TeX.
-fn are_integers(a: i64, b: i64, c: i64) -> bool {
-    Range::Integer.holds(a) && Range::Integer.holds(b) && Range::Integer.holds(c)
+/// Whether a number is an integer of TeX.
+fn is_integer(number: i64) -> bool
+    ensures { IsTrue result → unsigned_abs number < 2 ^ 31 }
+{
+    number.unsigned_abs() < 2147483648
 }
 
 /// Whether all bytes are decimal digits.
@@ -120,8 +123,7 @@ fn size_of(alloc: Global, rest: &str, numbers: &[i64]) -> Result<String, AllocEr
     let (name, _) = first_word(rest);
     match (unit_of(name), numbers) {
         (Some(unit), [whole, fraction])
-            if 0 <= *whole && *whole < 2147483648 && 0 <= *fraction && *fraction <= 65536 =>
-        {
+            if 0 <= *whole && *whole < 2147483648 && 0 <= *fraction && *fraction <= 65536 => {
             match unit.to_scaled(*whole as u32, *fraction as u32) {
                 Ok(size) => format!(in alloc; "{size}"),
                 Err(Overflow) => answered(alloc, "overflow"),
@@ -135,8 +137,7 @@ fn size_of(alloc: Global, rest: &str, numbers: &[i64]) -> Result<String, AllocEr
 fn glue_of(numbers: &[i64]) -> Option<Result<Glue, Overflow>> {
     match numbers {
         [width, stretch, fil, shrink, shrink_fil]
-            if 0 <= *fil && *fil <= 3 && 0 <= *shrink_fil && *shrink_fil <= 3 =>
-        {
+            if 0 <= *fil && *fil <= 3 && 0 <= *shrink_fil && *shrink_fil <= 3 => {
             Some(Glue::try_new(*width, *stretch, *fil as u8, *shrink, *shrink_fil as u8))
         }
         _ => None,

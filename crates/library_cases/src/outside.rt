@@ -1,9 +1,8 @@
 //! Cases of tx_io.
-use crate::words::{answered, first_word, malformed};
 use std::alloc::{AllocError, Global};
 use std::{fs, io};
 use tx_bytes::Bytes;
-use tx_cases::{bytes_of, text_of};
+use tx_cases::{answered, bytes_of, first_word, malformed, text_of};
 use tx_io::{
     DirSink, DirSource, Fetched, FilesRead, MemorySink, MemorySource, Put, Sink, Source,
     SteadySink, SteadySource,
@@ -21,13 +20,12 @@ pub fn steady(alloc: Global, lines: &str) -> Result<String, AllocError> {
         let (word, rest) = first_word(line);
         let (name, bytes) = first_word(rest);
         let answer = match word {
-            "put" => given(alloc, source.put(alloc, name.as_bytes(), bytes.as_bytes()))?,
-            "said" => text_of(alloc, sink.said())?,
-            "saved" => shown(alloc, sink.saved(name.as_bytes()))?,
-            _ => called(alloc, &mut source, &mut sink, word, rest)?,
+            "put" => given(alloc, source.put(alloc, name.as_bytes(), bytes.as_bytes())),
+            "said" => text_of(alloc, sink.said()),
+            "saved" => shown(alloc, sink.saved(name.as_bytes())),
+            _ => called(alloc, &mut source, &mut sink, word, rest),
         };
-        text.push_str(answer.as_str())?;
-        text.push('\n')?;
+        append(&mut text, answer?)?;
     }
     Ok(text)
 }
@@ -43,15 +41,20 @@ pub fn memory(alloc: Global, rest: &str, lines: &str) -> Result<String, AllocErr
         let (word, rest) = first_word(line);
         let (name, bytes) = first_word(rest);
         let answer = match word {
-            "put" => given(alloc, source.put(alloc, name.as_bytes(), bytes.as_bytes()))?,
-            "said" => text_of(alloc, sink.said())?,
-            "saved" => shown(alloc, sink.saved(name.as_bytes()))?,
-            _ => called(alloc, &mut source, &mut sink, word, rest)?,
+            "put" => given(alloc, source.put(alloc, name.as_bytes(), bytes.as_bytes())),
+            "said" => text_of(alloc, sink.said()),
+            "saved" => shown(alloc, sink.saved(name.as_bytes())),
+            _ => called(alloc, &mut source, &mut sink, word, rest),
         };
-        text.push_str(answer.as_str())?;
-        text.push('\n')?;
+        append(&mut text, answer?)?;
     }
     Ok(text)
+}
+
+/// Puts an answer at the end, in a line of its own.
+fn append(text: &mut String, answer: String) -> Result<(), AllocError> {
+    text.push_str(answer.as_str())?;
+    text.push('\n')
 }
 
 /// The number of the call that fails, if one does.
@@ -122,8 +125,7 @@ pub fn folder(rt: &HostRuntime, lines: &str) -> io::Result<String> {
             "fetch" | "say" | "save" => called(rt.alloc(), &mut source, &mut sink, word, rest)?,
             _ => in_folder(rt, word, rest)?,
         };
-        text.push_str(answer.as_str())?;
-        text.push('\n')?;
+        append(&mut text, answer)?;
     }
     Ok(text)
 }

@@ -1,10 +1,9 @@
 //! Cases of tx_dvi.
 ghost use Rattle.std.specs.Prelude.{◌≤◌, length};
 
-use crate::words::{integers, malformed};
 use std::alloc::{AllocError, Global};
 use tx_bytes::Bytes;
-use tx_cases::hexadecimal;
+use tx_cases::{hexadecimal, integers, malformed};
 use tx_dvi::{DateParameters, PageBody, assemble};
 
 /// A rule of 2pt by 1pt.

@@ -1,7 +1,6 @@
 //! Cases of tx_prim.
-use crate::words::{answered, first_word, malformed};
 use std::alloc::{AllocError, Global};
-use tx_cases::text_of;
+use tx_cases::{answered, first_word, malformed, text_of};
 use tx_prim::{Mode, Moment, Primitive};
 
 /// When the run begins.
@@ -17,21 +16,34 @@ const BEGUN: Moment = Moment {
 /// - `standing NAME MODE`, the modes in which it may stand, and what becomes of it in this one.
 pub fn answer(alloc: Global, word: &str, rest: &str) -> Result<String, AllocError> {
     let (name, mode) = first_word(rest);
-    let found = Primitive::of_name(name.as_bytes());
-    match (word, found) {
-        ("primitives", _) => format!(in alloc; "{}", Primitive::all().len()),
-        ("primitive", Some(primitive)) => text_of(alloc, primitive.name()),
-        ("primitive", None) => answered(alloc, "none"),
-        ("begins", Some(Primitive::Integer(parameter))) => {
+    match word {
+        "primitives" => format!(in alloc; "{}", Primitive::all().len()),
+        "primitive" => match Primitive::of_name(name.as_bytes()) {
+            Some(primitive) => text_of(alloc, primitive.name()),
+            None => answered(alloc, "none"),
+        },
+        "standing" => match Primitive::of_name(name.as_bytes()) {
+            Some(primitive) => standing(alloc, primitive, mode),
+            None => malformed(alloc),
+        },
+        "begins" => begins(alloc, name),
+        _ => place(alloc, name),
+    }
+}
+
+fn begins(alloc: Global, name: &str) -> Result<String, AllocError> {
+    match Primitive::of_name(name.as_bytes()) {
+        Some(Primitive::Integer(parameter)) => {
             format!(in alloc; "{}", parameter.initial(&BEGUN))
         }
-        ("place", Some(Primitive::Integer(parameter))) => {
-            format!(in alloc; "{}", parameter.number())
-        }
-        ("place", Some(Primitive::Dimension(parameter))) => {
-            format!(in alloc; "{}", parameter.number())
-        }
-        ("standing", Some(primitive)) => standing(alloc, primitive, mode),
+        _ => malformed(alloc),
+    }
+}
+
+fn place(alloc: Global, name: &str) -> Result<String, AllocError> {
+    match Primitive::of_name(name.as_bytes()) {
+        Some(Primitive::Integer(parameter)) => format!(in alloc; "{}", parameter.number()),
+        Some(Primitive::Dimension(parameter)) => format!(in alloc; "{}", parameter.number()),
         _ => malformed(alloc),
     }
 }

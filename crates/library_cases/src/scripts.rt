@@ -1,8 +1,7 @@
 //! Cases of tx_script.
-use crate::words::first_word;
 use std::alloc::{AllocError, Global};
 use tx_bytes::Bytes;
-use tx_cases::{bytes_of, text_of};
+use tx_cases::{bytes_of, first_word, text_of};
 use tx_script::{Command, ScriptError, read_script};
 
 /// `script TEXT`, its commands or where and by which rule it is refused; `front LENGTH TEXT`, the same of so many bytes.

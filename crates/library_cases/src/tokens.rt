@@ -1,7 +1,6 @@
 //! Cases of tx_char and tx_lex.
-use crate::words::{answered, first_word, malformed};
 use std::alloc::{AllocError, Global};
-use tx_cases::{bytes_of, text_of};
+use tx_cases::{answered, bytes_of, first_word, malformed, text_of};
 use tx_char::{Cat, Codes, ControlName, Token};
 use tx_lex::{Lexed, ReadState, lex_on, line_text};
 

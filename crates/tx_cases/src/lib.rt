@@ -7,11 +7,13 @@
 //! The program answers what is given by a text of its own. A case that is answered otherwise, or is none, is shown with its
 //! name and both answers, and at last comes a line with how many cases there were.
 //!
-//! Read `notation`, then `running`.
+//! Read `words` and `notation`, then `running`.
 #![tactic(auto)]
 
 mod notation;
 mod running;
+mod words;
 
 pub use notation::{bytes_of, hexadecimal, text_of};
 pub use running::{Answers, run_files};
+pub use words::{answered, first_line, first_word, integers, malformed};
