@@ -26,6 +26,3 @@ pub use memory::{MemorySink, MemorySource};
 pub use sink::{Put, Sink};
 pub use source::{Fetched, Source};
 pub use steady::{SteadySink, SteadySource};
-
-#[cfg(test)]
-mod tests;
