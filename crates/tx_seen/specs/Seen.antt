@@ -1,5 +1,6 @@
 -- Tokens with what they mean, and what they are to the commands that read them.
 use Rattle.std.specs.Prelude.{ℕ, ◌+◌, ◌-◌, ◌==◌, ◌&&◌, ◌||◌, Bool, true, false, nat_le, Option, Some, None, if◌then◌else◌}
+use Rattle.tx_char.specs.Character.{character}
 use Rattle.tx_char.specs.declared.category.Cat.TheVariants.{BeginGroup, Space, Other, Active}
 use Rattle.tx_char.specs.declared.tokens.Token.{Token}
 use Rattle.tx_char.specs.declared.tokens.Token.TheVariants as token
@@ -53,12 +54,13 @@ abbrev pub digit_value : Seen → Option ℕ
 digit_value t = value t.token
   where
     value : Token → Option ℕ
-    value (token.Character code Other) = if nat_le 48 code && nat_le code 57 then Some (code - 48) else None
+    value (token.Character code Other) =
+        if nat_le (character "0") code && nat_le code (character "9") then Some (code - character "0") else None
     value _ = None
 
 -- the point of a decimal fraction, `.` or `,`
 abbrev pub is_point : Seen → Bool
-is_point t = is_other 46 t || is_other 44 t
+is_point t = is_other (character ".") t || is_other (character ",") t
 
 -- a character, of any category but active, that is this small letter or its capital: so keywords are told
 abbrev pub is_key : ℕ → Seen → Bool
@@ -66,6 +68,6 @@ is_key c t = is_letter t.token
   where
     is_letter : Token → Bool
     is_letter (token.Character code Active) = false
-    is_letter (token.Character code _) = (code == c) || (code + 32 == c)
+    is_letter (token.Character code _) = (code == c) || (code + (character "a" - character "A") == c)
     is_letter (token.Name name) = false
     is_letter token.FrozenRelax = false
