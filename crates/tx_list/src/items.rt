@@ -115,6 +115,18 @@ impl<T: Drop> Items<T> {
     }
 }
 
+impl<T: Drop> Items<Items<T>> {
+    /// Puts a value at the end of the last list. After want of memory nothing has changed.
+    pub fn push_to_last(&mut self, value: T) -> Result<(), AllocError>
+        requires { 0 < length self.old }
+        ensures ok { OnOk result (self.new ≡ slice_set self.old (length self.old - 1) (slice_index_or self.old (length self.old - 1) [] ++ value ∷ [])) }
+        ensures err { OnErr result (self.new ≡ self.old) }
+    {
+        let last = self.values.len() - 1;
+        self.values[last].push(value)
+    }
+}
+
 impl<T: Kept> Items<T> {
     /// Whether both have the same values.
     pub fn same(&self, other: &Items<T>) -> bool
