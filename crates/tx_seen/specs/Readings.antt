@@ -1,5 +1,5 @@
 -- Reading one thing off the items at the front of a list: this is what every scan's definition gives.
-use Rattle.std.specs.Prelude.{◌≡◌, ℕ, ◌-◌, ◌++◌, List, length, drop}
+use Rattle.std.specs.Prelude.{◌≡◌, ℕ, ◌-◌, ◌++◌, ◌∷◌, [], List, length, drop}
 use Rattle.tx_seen.specs.declared.seen.Seen.{Seen}
 use Rattle.tx_seen.specs.declared.error.TexError.{TexError}
 use Rattle.tx_seen.specs.declared.fed.Want.{Want}
@@ -28,9 +28,15 @@ next (Need kind) on = Need kind
 next (Done a rest) on = on a rest
 next (Wrong error) on = Wrong error
 
--- the last items, so many of them
+-- the tokens among them
+abbrev pub tokens : List Item → List Item
+tokens [] = []
+tokens (Took t ∷ rest) = Took t ∷ tokens rest
+tokens (Gave v ∷ rest) = tokens rest
+
+-- the last tokens, so many of them: a value can be given after a token that goes back, as in \count1x
 abbrev pub last : ℕ → List Item → List Item
-last count items = drop (length items - count) items
+last count items = drop (length (tokens items) - count) (tokens items)
 
 -- an answer is what reading gives of the items taken, whatever comes behind them where the thing ends or goes wrong: the
 -- last of them, so many, stand behind a thing that has ended. Before that the scan is the one that has taken them.
