@@ -25,7 +25,7 @@ part_rest long delimiter (Delimited s) tokens = delimited long delimiter (take (
 abbrev pub step_rest : Bool → List Token → Step → List Token → Taken
 step_rest long delimiter (step.On part) tokens = part_rest long delimiter part tokens
 step_rest long delimiter (step.Argument text) tokens = Argument text tokens
-step_rest long delimiter (step.Broken number) tokens = Broken number
+step_rest long delimiter (step.Broken error) tokens = Broken error
 
 -- the last tokens of a delimited argument that was met agree with the first ones of its delimiter, fewer than all,
 -- and none do in a group; and the table is the delimiter's
@@ -62,7 +62,7 @@ use_rest m Over tokens = Open
 abbrev pub next_rest : Definition → Next → List Token → Use
 next_rest m (next.On stage) tokens = use_rest m stage tokens
 next_rest m (next.Fits taken) tokens = Fits taken
-next_rest m (next.Fails number) tokens = Fails number
+next_rest m (next.Fails error) tokens = Fails error
 
 -- something more is to come
 abbrev pub IsStage : Definition → Stage → Type 0

@@ -11,6 +11,7 @@ use crate::tokens::{begins_group, ends_group, is_paragraph};
 use crate::undelimited::{level_behind, level_of};
 use std::alloc::{AllocError, Global};
 use tx_char::Token;
+use tx_seen::TexError;
 use tx_toklist::Toks;
 
 /// Nothing of a delimited argument is met. Its only error is want of memory.
@@ -70,10 +71,10 @@ fn take_outside(taken: Delimited, long: bool, token: Token) -> Result<Step, Allo
     ensures part { IfOk result (λ step. (delimiter : List Token) → IsTaking delimiter taken → IsStep delimiter step) }
 {
     if is_paragraph(&token) && !long {
-        return Ok(Step::Broken(13));
+        return Ok(Step::Broken(TexError::ParagraphInArgument));
     }
     if ends_group(&token) {
-        return Ok(Step::Broken(14));
+        return Ok(Step::Broken(TexError::GroupEndInArgument));
     }
     go_on(taken, token)
 }
@@ -85,7 +86,7 @@ fn take_inside(taken: Delimited, long: bool, token: Token) -> Result<Step, Alloc
     ensures part { IfOk result (λ step. (delimiter : List Token) → IsTaking delimiter taken → IsStep delimiter step) }
 {
     if is_paragraph(&token) && !long {
-        return Ok(Step::Broken(13));
+        return Ok(Step::Broken(TexError::ParagraphInArgument));
     }
     go_on(taken, token)
 }

@@ -13,5 +13,5 @@ mod tokens;
 mod undelimited;
 
 pub use laws::{arguments_are_what_stands_in_a_use, uses_are_read_from_the_left};
-pub use matcher::{INCOMPLETE_USE, Matcher, NO_MATCH};
+pub use matcher::Matcher;
 pub use tx_toklist::Lists as Args;

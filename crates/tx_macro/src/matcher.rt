@@ -12,13 +12,8 @@ use std::alloc::{AllocError, Global};
 use std::marker::Model;
 use std::mem;
 use tx_char::Token;
-use tx_toklist::{Fed, Item, Lists, Macro, Toks};
-
-/// TeX's number of a use that doesn't match its definition, among the errors of a run.
-pub const NO_MATCH: u8 = 12;
-
-/// TeX's number of an \outer macro or the end of a file in a use.
-pub const INCOMPLETE_USE: u8 = 17;
+use tx_seen::{Fed, TexError, Want};
+use tx_toklist::{Item, Lists, Macro, Toks};
 
 /// The use of a macro, of which some tokens are taken. Contracts see the macro, these tokens, and whether it goes on: at
 /// first and after `More`. After any other answer and after want of memory it may only be dropped.
@@ -53,26 +48,27 @@ impl Matcher {
         })
     }
 
-    /// Takes the next token. The answer is what the use comes to with it: error 12 where it doesn't match the parameter
-    /// text, 13 where \par is in an argument of a macro that isn't \long, 14 where an argument has an end-group token
-    /// without its begin; and 17 at an \outer macro and at the end of a file. Its only further error is want of memory.
+    /// Takes the next token. The answer is what the use comes to with it: `UseDiffers` where it doesn't match the parameter
+    /// text, `ParagraphInArgument` where \par is in an argument of a macro that isn't \long, `GroupEndInArgument` where an
+    /// argument has an end-group token without its begin; and `IncompleteText` at an \outer macro and at the end of a file.
+    /// Its only further error is want of memory.
     pub fn feed(&mut self, alloc: Global, item: Item) -> Result<Fed<Lists>, AllocError>
         requires { self.old.goes_on ≡ true }
         ensures answer { IfOk result (λ fed. fed ≡ answer self.old item) }
-        ensures next { IfOk result (λ fed. fed ≡ Fed.More → self.new ≡ more_taken self.old item) }
+        ensures next { IfOk result (λ fed. fed ≡ Fed.More Want.Raw → self.new ≡ more_taken self.old item) }
     {
         let Item::Token(token) = item else {
-            return Ok(Fed::E(INCOMPLETE_USE));
+            return Ok(Fed::Wrong(TexError::IncompleteText));
         };
         let stage = mem::replace(&mut self.stage, Stage::Over);
         self.taken.push(token.clone()?)?;
         match next(alloc, &self.made, stage, token)? {
             Next::On(stage) => {
                 self.stage = stage;
-                Ok(Fed::More)
+                Ok(Fed::More(Want::Raw))
             }
-            Next::Fits(arguments) => Ok(Fed::Done(arguments)),
-            Next::Fails(number) => Ok(Fed::E(number)),
+            Next::Fits(arguments) => Ok(Fed::Done(arguments, 0)),
+            Next::Fails(error) => Ok(Fed::Wrong(error)),
         }
     }
 
@@ -141,7 +137,7 @@ fn next_before(alloc: Global, made: &Macro, met: usize, token: Token) -> Result<
 {
     let before = made.before();
     if !before[met].same(&token) {
-        return Ok(Next::Fails(NO_MATCH));
+        return Ok(Next::Fails(TexError::UseDiffers));
     }
     if met + 1 < before.len() {
         return Ok(Next::On(Stage::Before { met: met + 1 }));
@@ -164,7 +160,7 @@ fn next_within(
     let delimiter = made.delimiters()[arguments.len()].as_slice();
     match take(alloc, made.is_long(), delimiter, part, token)? {
         Step::On(part) => Ok(Next::On(Stage::Within { arguments, part })),
-        Step::Broken(number) => Ok(Next::Fails(number)),
+        Step::Broken(error) => Ok(Next::Fails(error)),
         Step::Argument(argument) => {
             let mut arguments = arguments;
             arguments.push(argument)?;

@@ -3,6 +3,7 @@ ghost use Rattle.std.specs.Prelude.{◌≡◌};
 
 use std::alloc::AllocError;
 use std::marker::Model;
+use tx_seen::TexError;
 use tx_toklist::{Lists, Toks};
 
 /// The table of a delimiter. Contracts see the list of its numbers.
@@ -97,8 +98,8 @@ pub(crate) enum Step {
     On(Part),
     /// This argument is taken.
     Argument(Toks),
-    /// The error of this number.
-    Broken(u8),
+    /// This error comes.
+    Broken(TexError),
 }
 
 /// What a token makes of a use.
@@ -108,6 +109,6 @@ pub(crate) enum Next {
     On(Stage),
     /// It is whole, with these arguments.
     Fits(Lists),
-    /// The error of this number.
-    Fails(u8),
+    /// This error comes.
+    Fails(TexError),
 }

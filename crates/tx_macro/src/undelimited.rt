@@ -8,6 +8,7 @@ use crate::stage::{Group, Part, Step};
 use crate::tokens::{begins_group, ends_group, is_paragraph, is_space_token};
 use std::alloc::{AllocError, Global};
 use tx_char::Token;
+use tx_seen::TexError;
 use tx_toklist::Toks;
 
 /// Takes the first token of an undelimited argument, or a space before it. Its only error is want of memory.
@@ -25,10 +26,10 @@ pub(crate) fn begin(alloc: Global, long: bool, token: Token) -> Result<Step, All
         })));
     }
     if ends_group(&token) {
-        return Ok(Step::Broken(14));
+        return Ok(Step::Broken(TexError::GroupEndInArgument));
     }
     if is_paragraph(&token) && !long {
-        return Ok(Step::Broken(13));
+        return Ok(Step::Broken(TexError::ParagraphInArgument));
     }
     let mut argument = Toks::new(alloc);
     argument.push(token)?;
@@ -42,7 +43,7 @@ pub(crate) fn go_on(taken: Group, long: bool, token: Token) -> Result<Step, Allo
 {
     let Group { mut inside, depth } = taken;
     if is_paragraph(&token) && !long {
-        return Ok(Step::Broken(13));
+        return Ok(Step::Broken(TexError::ParagraphInArgument));
     }
     if ends_group(&token) && depth == 0 {
         return Ok(Step::Argument(inside));
