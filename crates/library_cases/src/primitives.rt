@@ -1,0 +1,58 @@
+//! Cases of tx_prim.
+use crate::words::{answered, first_word, malformed};
+use std::alloc::{AllocError, Global};
+use tx_cases::text_of;
+use tx_prim::{Mode, Moment, Primitive};
+
+/// When the run begins.
+const BEGUN: Moment = Moment {
+    year: 2024,
+    month: 5,
+    day: 17,
+    time: 570,
+};
+
+/// - `primitive NAME`, the name of the primitive to which this name leads, or `none`; `primitives`, how many there are;
+/// - `begins NAME`, the value with which INITEX begins; `place NAME`, a parameter's place in the book's order;
+/// - `standing NAME MODE`, the modes in which it may stand, and what becomes of it in this one.
+pub fn answer(alloc: Global, word: &str, rest: &str) -> Result<String, AllocError> {
+    let (name, mode) = first_word(rest);
+    let found = Primitive::of_name(name.as_bytes());
+    match (word, found) {
+        ("primitives", _) => format!(in alloc; "{}", Primitive::all().len()),
+        ("primitive", Some(primitive)) => text_of(alloc, primitive.name()),
+        ("primitive", None) => answered(alloc, "none"),
+        ("begins", Some(Primitive::Integer(parameter))) => {
+            format!(in alloc; "{}", parameter.initial(&BEGUN))
+        }
+        ("place", Some(Primitive::Integer(parameter))) => {
+            format!(in alloc; "{}", parameter.number())
+        }
+        ("place", Some(Primitive::Dimension(parameter))) => {
+            format!(in alloc; "{}", parameter.number())
+        }
+        ("standing", Some(primitive)) => standing(alloc, primitive, mode),
+        _ => malformed(alloc),
+    }
+}
+
+fn standing(alloc: Global, primitive: Primitive, mode: &str) -> Result<String, AllocError> {
+    let Some(mode) = mode_of(mode) else {
+        return malformed(alloc);
+    };
+    let modes = primitive.modes();
+    let standing = modes.standing(mode);
+    format!(in alloc; "{modes:?} {standing:?}")
+}
+
+fn mode_of(name: &str) -> Option<Mode> {
+    match name {
+        "vertical" => Some(Mode::Vertical),
+        "internal" => Some(Mode::InternalVertical),
+        "horizontal" => Some(Mode::Horizontal),
+        "restricted" => Some(Mode::RestrictedHorizontal),
+        "math" => Some(Mode::Math),
+        "display" => Some(Mode::DisplayMath),
+        _ => None,
+    }
+}
