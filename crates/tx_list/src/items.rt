@@ -135,15 +135,22 @@ impl<T: Kept> Items<T> {
         same_items(self.as_slice(), other.as_slice())
     }
 
+    /// A list of values equal to these. Its only error is want of memory.
+    pub fn from_slice(alloc: Global, values: &[T]) -> Result<Items<T>, AllocError>
+        ensures { IfOk result (λ items. items ≡ values.now) }
+    {
+        let mut twins = Vec::with_capacity(alloc, values.len())?;
+        for value in values {
+            twins.push(value.share()?)?;
+        }
+        Ok(Items { values: twins })
+    }
+
     /// A second list of equal values. Its only error is want of memory.
     pub fn share(&self) -> Result<Items<T>, AllocError>
         ensures { IfOk result (λ twin. twin ≡ self.now) }
     {
-        let mut twin = Vec::with_capacity(*self.values.allocator(), self.values.len())?;
-        for value in self.as_slice() {
-            twin.push(value.share()?)?;
-        }
-        Ok(Items { values: twin })
+        Items::from_slice(*self.values.allocator(), self.as_slice())
     }
 }
 
