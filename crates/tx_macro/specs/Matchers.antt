@@ -1,5 +1,5 @@
 -- A use of which some tokens are taken.
-use Rattle.std.specs.Prelude.{◌≡◌, Bool, true, false, List, [], ◌∷◌, ◌++◌}
+use Rattle.std.specs.Prelude.{◌≡◌, ◌≤◌, Bool, true, false, List, [], ◌∷◌, ◌++◌, length}
 use Rattle.tx_char.specs.declared.tokens.Token.{Token}
 use Rattle.tx_toklist.specs.Macros.{Definition}
 use Rattle.tx_seen.specs.declared.error.TexError.TheVariants.{IncompleteText}
@@ -9,8 +9,10 @@ use Rattle.tx_seen.specs.declared.fed.Fed.TheVariants.{More, Done, Wrong}
 use Rattle.tx_toklist.specs.declared.item.Item.{Item}
 use Rattle.tx_toklist.specs.declared.item.Item.TheVariants as item
 use Rattle.tx_seen.specs.declared.error.TexError.{TexError}
-use Rattle.tx_macro.specs.declared.stage.Stage.{Stage}
-use Rattle.tx_macro.specs.declared.stage.Stage.TheVariants.{Over}
+use Rattle.tx_macro.specs.declared.stage.Awaited.{Awaited}
+use Rattle.tx_macro.specs.declared.stage.Awaited.TheVariants.{Over}
+use Rattle.tx_macro.specs.declared.stage.Gathered.{Gathered}
+use Rattle.tx_macro.specs.Stages.{Stage, stage_of}
 use Rattle.tx_macro.specs.Matching.{Use, Open, Fits, Fails, use_of}
 use Rattle.tx_macro.specs.Rests.{IsStage, use_rest}
 
@@ -37,12 +39,13 @@ abbrev pub more_taken : Matching → Item → Matching
 more_taken m (item.Token token) = record { definition = m.definition; taken = m.taken ++ token ∷ []; goes_on = m.goes_on }
 more_taken m _ = m
 
--- nothing is to come in the last stage alone
-abbrev pub goes_on : Stage → Bool
+-- a use that waits for nothing is over
+abbrev pub goes_on : Awaited → Bool
 goes_on Over = false
 goes_on _ = true
 
--- the stage of a use that goes on behind these tokens: its rest is the rest of the whole
-pub record HasTaken (m : Definition) (taken : List Token) (stage : Stage) : Type 0 where
-  pub stage_is : IsStage m stage
-  pub rest : (more : List Token) → use_of m (taken ++ more) ≡ use_rest m stage more
+-- a use that goes on, and has gathered this, has come so far: its rest is the rest of the whole
+pub record HasGathered (m : Definition) (g : Gathered) (awaited : Awaited) : Type 0 where
+  pub stage_is : IsStage m (stage_of awaited g)
+  pub within : g.from ≤ length g.taken
+  pub rest : (more : List Token) → use_of m (g.taken ++ more) ≡ use_rest m (stage_of awaited g) more

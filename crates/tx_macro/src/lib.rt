@@ -1,9 +1,10 @@
 //! The arguments of macros (The TeXbook, chapter 20; TeX: The Program, sections 389 to 399): a matcher is fed the tokens
 //! behind a macro's name, one at a time, up to the last one that its parameter text takes.
 //!
-//! Modules in reading order: `tokens`, `stage`, `borders`, `undelimited`, `delimited`, `matcher`, `laws`.
+//! Modules in reading order: `tokens`, `stage`, `borders`, `undelimited`, `delimited`, `advance`, `matcher`, `laws`.
 #![tactic(auto)]
 
+mod advance;
 mod borders;
 mod delimited;
 mod laws;
