@@ -8,11 +8,10 @@ use Rattle.tx_seen.specs.declared.fed.Fed.{Fed}
 use Rattle.tx_seen.specs.declared.fed.Fed.TheVariants.{More, Done, Wrong}
 use Rattle.tx_toklist.specs.declared.item.Item.{Item}
 use Rattle.tx_toklist.specs.declared.item.Item.TheVariants as item
-use Rattle.tx_seen.specs.declared.error.TexError.{TexError}
 use Rattle.tx_macro.specs.declared.stage.Awaited.{Awaited}
 use Rattle.tx_macro.specs.declared.stage.Awaited.TheVariants.{Over}
 use Rattle.tx_macro.specs.declared.stage.Gathered.{Gathered}
-use Rattle.tx_macro.specs.Stages.{Stage, stage_of}
+use Rattle.tx_macro.specs.Stages.{stage_of}
 use Rattle.tx_macro.specs.Matching.{Use, Open, Fits, Fails, use_of}
 use Rattle.tx_macro.specs.Rests.{IsStage, use_rest}
 

@@ -1,5 +1,5 @@
 -- The use of a macro (The TeXbook, chapter 20; TeX: The Program, sections 389 to 399).
-use Rattle.std.specs.Prelude.{◌≡◌, ℕ, Bool, List, [], ◌∷◌, ◌++◌, ◌==◌, length, drop, if◌then◌else◌}
+use Rattle.std.specs.Prelude.{◌≡◌, Bool, List, [], ◌∷◌, ◌++◌, ◌==◌, length, drop, if◌then◌else◌}
 use Rattle.tx_char.specs.declared.tokens.Token.{Token}
 use Rattle.tx_toklist.specs.Macros.{Definition}
 use Rattle.tx_seen.specs.declared.error.TexError.{TexError}
