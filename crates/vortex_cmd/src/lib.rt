@@ -17,6 +17,6 @@ mod scripted;
 mod scripts;
 mod tally;
 mod trouble;
-pub mod values;
+mod values;
 pub mod vortex;
 pub mod words;
