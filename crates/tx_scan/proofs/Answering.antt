@@ -1,11 +1,11 @@
 -- From what reading on gives behind one more item to what it gives of all that was taken.
-use Rattle.std.proofs.Common.{◌≡◌, ◌≤◌, ℕ, zero, suc, ◌+◌, ◌-◌, List, [], ◌∷◌, ◌++◌, length, drop, Result, Ok, Err, IfOk, refl, ap, sym, ◌∙◌, append_assoc, append-nil, add-one, arith, length-append}
+use Rattle.std.proofs.Common.{◌≡◌, ◌≤◌, ℕ, zero, suc, ◌-◌, List, [], ◌∷◌, ◌++◌, length, drop, Result, Ok, Err, IfOk, refl, ap, sym, ◌∙◌, append_assoc, append-nil, arith, length-append}
 use Rattle.std.proofs.Math.Seq.{drop-length, drop-append_seam}
 use Rattle.tx_seen.specs.declared.seen.Seen.{Seen}
 use Rattle.tx_seen.specs.declared.fed.Value.{Value}
 use Rattle.tx_seen.specs.declared.fed.Fed.{Fed}
 use Rattle.tx_seen.specs.declared.fed.Fed.TheVariants as fed
-use Rattle.tx_seen.specs.Readings.{Item, Took, Gave, Reading, More, Need, Done, Wrong, tokens, last, Answers}
+use Rattle.tx_seen.specs.Readings.{Item, Took, Gave, Reading, Done, tokens, last, Answers}
 use Rattle.tx_scan.specs.Rests.{HasTakenBy, kept, IsAnswer, IsPassed}
 
 pub tokens-append : (xs ys : List Item) → tokens (xs ++ ys) ≡ tokens xs ++ tokens ys

@@ -1,5 +1,5 @@
 -- What is a part of an integer can be made whole.
-use Rattle.std.proofs.Common.{◌≡◌, ℕ, ◌+◌, ◌*◌, Bool, true, false, not, ℤ, pos, Option, Some, None, List, [], ◌∷◌, ◌++◌, inl, inr, refl, sym, ◌∙◌, ap, append_assoc}
+use Rattle.std.proofs.Common.{◌≡◌, ℕ, ◌+◌, ◌*◌, Bool, true, false, not, ℤ, pos, Option, Some, None, List, [], ◌∷◌, ◌++◌, inl, inr, refl, sym, append_assoc}
 use Rattle.std.specs.Prelude.{nat_le}
 use Rattle.tx_char.specs.declared.category.Cat.TheVariants as cat
 use Rattle.tx_char.specs.declared.tokens.Token.TheVariants as token
@@ -17,9 +17,9 @@ use Rattle.tx_scan.specs.declared.scans.Outer.{Outer}
 use Rattle.tx_scan.specs.declared.scans.Beginning.{Beginning}
 use Rattle.tx_scan.specs.declared.scans.Beginning.TheVariants as begin
 use Rattle.tx_scan.specs.Beginnings.{base, digit, place_of, beginning}
-use Rattle.tx_scan.specs.Integers.{Ended, ended_by, space_after, code_named, coded, character_code, digits, first_digit, given, quantity, byte_of, numbered, with_sign, whole, signed_constant, begun, signs, integer}
+use Rattle.tx_scan.specs.Integers.{Ended, ended_by, space_after, code_named, character_code, digits, first_digit, given, quantity, byte_of, numbered, with_sign, whole, signed_constant, begun, signs, integer}
 use Rattle.tx_scan.specs.Laws.{HasEnded}
-use Rattle.tx_scan.proofs.ReadingOn.{on-space, on-code, on-digits, on-first}
+use Rattle.tx_scan.proofs.ReadingOn.{on-code, on-digits, on-first}
 
 -- a character with its category
 abbrev seen_character : ℕ → Item

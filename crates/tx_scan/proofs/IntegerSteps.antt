@@ -5,7 +5,7 @@ use Rattle.tx_seen.specs.declared.fed.Value.{Value}
 use Rattle.tx_seen.specs.declared.fed.Value.TheVariants.{Int, Dimen}
 use Rattle.tx_seen.specs.declared.fed.Fed.{Fed}
 use Rattle.tx_seen.specs.Seen.{is_space, is_undefined}
-use Rattle.tx_seen.specs.Readings.{Item, Took, Gave, next}
+use Rattle.tx_seen.specs.Readings.{Took, Gave, next}
 use Rattle.tx_scan.specs.declared.scans.Outer.{Outer}
 use Rattle.tx_scan.specs.declared.scans.Beginning.TheVariants as begin
 use Rattle.tx_scan.specs.declared.scans.IntScan.{IntScan}

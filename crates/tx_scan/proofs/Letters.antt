@@ -5,7 +5,7 @@ use Rattle.tx_seen.specs.declared.fed.Want.TheVariants.{Expanded}
 use Rattle.tx_seen.specs.declared.error.TexError.TheVariants.{Undefined}
 use Rattle.tx_seen.specs.declared.seen.Seen.{Seen}
 use Rattle.tx_seen.specs.Seen.{is_space, is_key, is_undefined}
-use Rattle.tx_seen.specs.Readings.{Item, Took, Reading, More, Done, Wrong, tokens, last}
+use Rattle.tx_seen.specs.Readings.{Item, Took, More, Done, Wrong, tokens, last}
 use Rattle.tx_scan.specs.declared.scans.KeyScan.{KeyScan}
 use Rattle.tx_scan.specs.Keywords.{keyword, letters, begins_with, skips, word_rest, rest, held, HasTaken}
 use Rattle.tx_scan.proofs.Answering.{taken-on, taken-now, last-none, last-kept, tokens-append}

@@ -14,7 +14,7 @@ use Rattle.tx_scan.specs.declared.scans.Outer.{Outer}
 use Rattle.tx_scan.specs.declared.scans.Beginning.{Beginning}
 use Rattle.tx_scan.specs.declared.scans.Beginning.TheVariants as begin
 use Rattle.tx_scan.specs.Beginnings.{base, digit, place_of, beginning}
-use Rattle.tx_scan.specs.Integers.{Ended, ended_by, space_after, code_named, coded, character_code, digits, first_digit, given, quantity, byte_of, numbered, with_sign, whole, signed_constant, begun, signs, integer}
+use Rattle.tx_scan.specs.Integers.{Ended, ended_by, space_after, code_named, coded, character_code, digits, first_digit, quantity, byte_of, numbered, with_sign, whole, signed_constant, begun, signs, integer}
 
 pub on-if : {A : Type 0} (more : List Item) (b : Bool) (x y u v : Reading A) → ReadsOn more x u → ReadsOn more y v → ReadsOn more (cond b x y) (cond b u v)
 on-if more true x y u v p q = p

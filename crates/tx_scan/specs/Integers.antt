@@ -1,5 +1,5 @@
 -- Integers (The TeXbook, chapter 24; TeX: The Program, sections 413 and 440 to 445).
-use Rattle.std.specs.Prelude.{◌≡◌, ℕ, ◌+◌, ◌*◌, ◌∷◌, [], ◌++◌, Bool, false, not, nat_le, ℤ, pos, negsuc, neg_ℤ, ◌≤ℤ◌, List, Option, Some, None, if◌then◌else◌}
+use Rattle.std.specs.Prelude.{ℕ, ◌+◌, ◌*◌, ◌∷◌, [], ◌++◌, Bool, false, not, nat_le, ℤ, pos, negsuc, neg_ℤ, ◌≤ℤ◌, List, Option, Some, None, if◌then◌else◌}
 use Rattle.tx_char.specs.declared.tokens.Token.{Token}
 use Rattle.tx_char.specs.declared.tokens.Token.TheVariants as token
 use Rattle.tx_seen.specs.declared.error.TexError.TheVariants.{Undefined, MissingNumber, NumberOutOfRange, IntegerTooLarge}
