@@ -3,6 +3,7 @@ ghost use Rattle.std.specs.Prelude.{◌≡◌};
 ghost use Rattle.tx_scan.specs.Integers.{IsQuantity};
 
 use std::alloc::{AllocError, Global};
+use std::fmt::Display;
 use tx_cases::{answered, first_word, malformed};
 use tx_char::{Cat, ControlName, Token};
 use tx_prim::Primitive;
