@@ -1,10 +1,9 @@
 -- TeX keeps the laws of every machine.
-use Rattle.std.specs.Prelude.{◌≡◌, ◌≤◌, ℤ, Bool, true, false, cond, ◌&&◌, List, [], ◌∷◌, ◌++◌, map, Result, Ok, Err, refl}
+use Rattle.std.specs.Prelude.{◌≡◌, ◌≤◌, ℤ, Bool, true, false, cond, List, [], ◌∷◌, ◌++◌, map, Result, Ok, Err, refl}
 use Rattle.std.proofs.Common.{arith}
 use Rattle.tx_char.specs.declared.tokens.Token.{Token}
 use Rattle.tx_assign.specs.declared.seen.Seen.{Seen}
 use Rattle.tx_dvi.specs.Page.{Page}
-use Rattle.tx_lex.specs.Reading.{Reading, Read, Nothing as Nothing_read, Refused, reading}
 use Rattle.tx_machine.specs.declared.types.AskKind.{AskKind}
 use Rattle.tx_machine.specs.declared.types.Reply.{Reply}
 use Rattle.tx_machine.specs.Machine.{Stepped, IsLawful, Ready, Awaits, mode_after}
@@ -12,6 +11,9 @@ use Rattle.tx_main.specs.declared.parts.Due.{Due}
 use Rattle.tx_main.specs.declared.parts.Due.TheVariants.{Nothing, OpenMain, MainAbsent, FileEnded, MainClosed, Ship}
 use Rattle.tx_main.specs.declared.types.Command.{Command}
 use Rattle.tx_ship.specs.declared.error.ShipError.{ShipError}
+use Rattle.tx_pending.specs.declared.next.Next.{Next}
+use Rattle.tx_pending.specs.declared.next.Next.TheVariants.{Token as Next_token, Marker, Used, E1}
+use Rattle.tx_pending.specs.Elements.{Step, with_tokens, step as next_of}
 use Rattle.tx_prim.specs.declared.integer.IntegerParameter.TheVariants.{Mag}
 use Rattle.tx_assign.specs.Seen.{seen}
 use Rattle.tx_main.specs.Pages.{integer, page_of, may_be}
@@ -20,7 +22,7 @@ use Rattle.tx_main.specs.Commands.{command}
 use Rattle.tx_main.specs.Effects.{Effect, Leaves, Fails, Ends, effect}
 use Rattle.tx_assign.specs.Scans.{Scan, More, Done, Wrong}
 use Rattle.tx_main.specs.State.{TexState, Meaning, Runs, Waits, Stops, mode_of}
-use Rattle.tx_main.specs.Turns.{tex, cost, due_cost, step, works, reads, line_read, joining, taking, scanned, effected, ships_with, ships, takes}
+use Rattle.tx_main.specs.Turns.{tex, cost, due_cost, step, works, read, joining, taking, scanned, effected, ships_with, ships, takes}
 
 -- the mode after a turn is that of its event
 abbrev Leads : Stepped Meaning → Type 0
@@ -34,7 +36,7 @@ effect-leads Ends = refl
 scan-leads : (s : TexState) (tokens : List Seen) (scan : Scan Command) → Leads (scanned s tokens scan)
 scan-leads s tokens (More name) = refl
 scan-leads s tokens (Wrong error) = refl
-scan-leads s tokens (Done c behind) = effect-leads (effect (record s { taken = []; back = map (λ t. t.token) behind ++ s.back }) c)
+scan-leads s tokens (Done c behind) = effect-leads (effect (record s { taken = []; input = with_tokens s.input (map (λ t. t.token) behind) }) c)
 
 joining-leads : (s : TexState) (t : Seen) → Leads (joining s t)
 joining-leads s t = scan-leads s (s.taken ++ t ∷ []) (command s.horizontal (s.taken ++ t ∷ []))
@@ -42,14 +44,12 @@ joining-leads s t = scan-leads s (s.taken ++ t ∷ []) (command s.horizontal (s.
 taking-leads : (s : TexState) (t : Token) → Leads (taking s t)
 taking-leads s t = joining-leads s (seen s.table.table (name_defined (command s.horizontal s.taken)) t)
 
-line-leads : (s : TexState) (r : Reading) → Leads (line_read s r)
-line-leads s (Read t rest state) = taking-leads (record s { line = record { rest = rest; state = state } }) t
-line-leads s Nothing_read = refl
-line-leads s Refused = refl
-
-reads-leads : (s : TexState) (back : List Token) → Leads (reads s back)
-reads-leads s [] = line-leads s (reading s.table.table.categories s.line.state s.line.rest)
-reads-leads s (t ∷ back) = taking-leads (record s { back = back }) t
+read-leads : (s : TexState) (next : Next) → Leads (read s next)
+read-leads s (Next_token t) = taking-leads s t
+read-leads s Marker = refl
+read-leads s (Used false) = refl
+read-leads s (Used true) = refl
+read-leads s E1 = refl
 
 page-leads : (s : TexState) (mag : ℤ) (page : Result Page ShipError) → Leads (ships_with s mag page)
 page-leads s mag (Err e) = refl
@@ -63,7 +63,7 @@ ships-leads : (s : TexState) (mag : ℤ) (page : Result Page ShipError) → Lead
 ships-leads s mag page = if-leads (may_be s.magnification mag) _ _ (page-leads s mag page) refl
 
 works-leads : (s : TexState) (due : Due) → Leads (works s due)
-works-leads s Nothing = reads-leads s s.back
+works-leads s Nothing = let step : Step = next_of s.table.table.categories s.input in read-leads (record s { input = step.left }) step.next
 works-leads s (OpenMain name) = refl
 works-leads s MainAbsent = refl
 works-leads s FileEnded = refl

@@ -5,7 +5,6 @@ pub mod Rests
 pub mod Begun
 pub mod Taken
 pub mod Pages
-pub mod Lines
 pub mod State
 pub mod Effects
 pub mod Turns

@@ -1,11 +1,9 @@
 -- One turn of TeX: due work, the ask for a line, or one token (TeX: The Program, sections 1030, 343 and 360).
-use Rattle.std.specs.Prelude.{ℕ, ℤ, ◌&&◌, List, [], ◌∷◌, ◌++◌, map, Some, Result, Ok, Err, if◌then◌else◌}
+use Rattle.std.specs.Prelude.{ℕ, ℤ, true, false, List, [], ◌∷◌, ◌++◌, map, Some, Result, Ok, Err, if◌then◌else◌}
 use Rattle.tx_char.specs.declared.tokens.Token.{Token}
 use Rattle.tx_assign.specs.declared.seen.Seen.{Seen}
 use Rattle.tx_dvi.specs.Page.{Page}
-use Rattle.tx_lex.specs.declared.types.ReadState.TheVariants.{N}
 use Rattle.tx_lex.specs.Line.{seen_line}
-use Rattle.tx_lex.specs.Reading.{Reading, Read, Nothing as Nothing_read, Refused, reading}
 use Rattle.tx_machine.specs.declared.types.AskKind.{AskKind}
 use Rattle.tx_machine.specs.declared.types.AskKind.TheVariants.{Open as Opening, Line as ReadingOn, Close as Closing}
 use Rattle.tx_machine.specs.declared.types.Ask.{Ask}
@@ -22,6 +20,9 @@ use Rattle.tx_main.specs.declared.parts.Due.TheVariants.{Nothing, OpenMain, Main
 use Rattle.tx_main.specs.declared.types.Command.{Command}
 use Rattle.tx_node.specs.Counts.{box_count, ended}
 use Rattle.tx_ship.specs.declared.error.ShipError.{ShipError}
+use Rattle.tx_pending.specs.declared.next.Next.{Next}
+use Rattle.tx_pending.specs.declared.next.Next.TheVariants.{Token as Next_token, Marker, Used, E1}
+use Rattle.tx_pending.specs.Elements.{Step, with_line, with_tokens, step as next_of}
 use Rattle.tx_prim.specs.declared.integer.IntegerParameter.TheVariants.{Mag}
 use Rattle.tx_assign.specs.Seen.{seen}
 use Rattle.tx_main.specs.Pages.{integer, line_end, page_of, may_be}
@@ -54,7 +55,7 @@ effected Ends = record { event = Stopped End; next = Stops; said = [] }
 abbrev pub scanned : TexState → List Seen → Scan Command → Stepped Meaning
 scanned s tokens (More name) = goes (record s { taken = tokens }) []
 scanned s tokens (Wrong error) = fails error
-scanned s tokens (Done c behind) = effected (effect (record s { taken = []; back = map (λ t. t.token) behind ++ s.back }) c)
+scanned s tokens (Done c behind) = effected (effect (record s { taken = []; input = with_tokens s.input (map (λ t. t.token) behind) }) c)
 
 -- a token, with what it means, joins those that the open command has taken
 abbrev pub joining : TexState → Seen → Stepped Meaning
@@ -63,16 +64,17 @@ joining s t = scanned s (s.taken ++ t ∷ []) (command s.horizontal (s.taken ++ 
 abbrev pub taking : TexState → Token → Stepped Meaning
 taking s t = joining s (seen s.table.table (name_defined (command s.horizontal s.taken)) t)
 
--- what the line gives; a line with nothing left but dropped characters is used up
-abbrev pub line_read : TexState → Reading → Stepped Meaning
-line_read s (Read t rest state) = taking (record s { line = record { rest = rest; state = state } }) t
-line_read s Nothing_read = asks s Line
-line_read s Refused = fails InvalidCharacter
+-- what comes of what the input gives next. Where a line is used up the next one is asked for, or behind \endinput the file
+-- is closed; nothing puts a marker into the input, and one would be passed over
+abbrev pub read : TexState → Next → Stepped Meaning
+read s (Next_token t) = taking s t
+read s Marker = goes s []
+read s (Used false) = asks s Line
+read s (Used true) = asks s Close
+read s E1 = fails InvalidCharacter
 
--- tokens that were given back come before the line
-abbrev pub reads : TexState → List Token → Stepped Meaning
-reads s [] = line_read s (reading s.table.table.categories s.line.state s.line.rest)
-reads s (t ∷ back) = taking (record s { back = back }) t
+abbrev pub reads : TexState → Step → Stepped Meaning
+reads s step = read (record s { input = step.left }) step.next
 
 -- a page of a box, with the magnification
 abbrev pub ships_with : TexState → ℤ → Result Page ShipError → Stepped Meaning
@@ -85,7 +87,7 @@ ships s mag page = if may_be s.magnification mag then ships_with s mag page else
 
 -- due work comes first
 abbrev pub works : TexState → Due → Stepped Meaning
-works s Nothing = reads s s.back
+works s Nothing = reads s (next_of s.table.table.categories s.input)
 works s (OpenMain name) = asks (record s { due = Nothing }) (Open name)
 works s MainAbsent = fails FileAbsent
 works s FileEnded = asks (record s { due = Nothing }) Close
@@ -110,7 +112,7 @@ cost _ = 1
 -- what a reply brings: a line, or due work
 abbrev pub replied : TexState → AskKind → Reply → TexState
 replied s Opening Absent = record s { due = MainAbsent }
-replied s ReadingOn (ReplyLine bytes) = record s { line = record { rest = seen_line bytes (line_end s.table.table); state = N } }
+replied s ReadingOn (ReplyLine bytes) = record s { input = with_line s.input (seen_line bytes (line_end s.table.table)) }
 replied s ReadingOn Ended = record s { due = FileEnded }
 replied s Closing Closed = record s { due = MainClosed }
 replied s kind reply = s

@@ -1,6 +1,7 @@
 //! One turn: due work, the ask for a line, or one token (TeX: The Program, sections 1030, 343 and 360).
-ghost use Rattle.std.specs.Prelude.{◌≡◌, [], IfOk, OnOk};
+ghost use Rattle.std.specs.Prelude.{◌≡◌, map, IfOk, OnOk};
 ghost use Rattle.tx_machine.specs.Machine.{kind_of, Ready};
+ghost use Rattle.tx_pending.specs.Elements.{step as next_of, with_tokens};
 ghost use Rattle.tx_prim.specs.declared.integer.IntegerParameter.TheVariants.{Mag};
 ghost use Rattle.tx_ship.specs.Pages.{IsMag};
 ghost use Rattle.tx_main.specs.Pages.{integer as magnification_in, page_of};
@@ -9,17 +10,19 @@ ghost use Rattle.tx_main.specs.Turns as turns;
 ghost use Rattle.tx_main.specs.Meanings.{IsStepped, meaning_of, state_of};
 
 use crate::effects::{carry_out, fail};
-use crate::line::{Line, LineToken};
 use crate::page::{integer, line_end, may_be, ship_params};
 use crate::parts::{Due, Phase};
 use crate::scans::Taken;
 use crate::state::State;
+use crate::token_list::Tokens;
 use std::alloc::{AllocError, Global};
 use std::mem;
 use tx_assign::{TexError, see};
 use tx_char::Token;
+use tx_lex::line_text;
 use tx_machine::{Ask, AskKind, Event, Reply};
 use tx_node::BoxNode;
+use tx_pending::{Next, Pending};
 use tx_prim::IntegerParameter;
 use tx_ship::{ShipError, body};
 
@@ -32,6 +35,18 @@ fn ask(s: &mut State, kind: AskKind, ask: Ask) -> Event
     Event::Asks(ask)
 }
 
+/// Puts these tokens at the front of the input, in their order; what they meant is forgotten. Its only error is want of
+/// memory.
+fn give_back(input: &mut Pending, tokens: Tokens) -> Result<(), AllocError>
+    ensures { OnOk result (input.new ≡ with_tokens input.old (map (λ t. t.token) tokens)) }
+{
+    let mut tokens = tokens;
+    while let Some(seen) = tokens.pop() {
+        input.give_back(seen.token)?;
+    }
+    Ok(())
+}
+
 /// A token joins the open command.
 fn take(alloc: Global, s: &mut State, token: Token) -> Result<Event, AllocError>
     requires { s.old.phase ≡ Phase.Running }
@@ -42,32 +57,23 @@ fn take(alloc: Global, s: &mut State, token: Token) -> Result<Event, AllocError>
         Taken::More => Ok(Event::Went),
         Taken::Wrong(error) => Ok(fail(s, error)),
         Taken::Whole(command, behind) => {
-            s.back.give(behind)?;
+            give_back(&mut s.input, behind)?;
             carry_out(alloc, s, command)
         }
     }
 }
 
-/// Reads a token off the line, or asks for the next line.
-fn read_line(alloc: Global, s: &mut State) -> Result<Event, AllocError>
-    requires { s.old.phase ≡ Phase.Running }
-    ensures { IfOk result (λ event. IsStepped (turns.reads (state_of s.old) []) event (meaning_of s.new) s.old.said s.new.said) }
-{
-    match s.line.next(alloc, s.table.categories())? {
-        LineToken::Token(token) => take(alloc, s, token),
-        LineToken::UsedUp => Ok(ask(s, AskKind::Line, Ask::Line)),
-        LineToken::Invalid => Ok(fail(s, TexError::InvalidCharacter)),
-    }
-}
-
-/// Reads a token: one that was given back, or else one of the line.
+/// Reads the next token, or asks for the next line, or for the file to be closed.
 fn read(alloc: Global, s: &mut State) -> Result<Event, AllocError>
     requires { s.old.phase ≡ Phase.Running }
-    ensures { IfOk result (λ event. IsStepped (turns.reads (state_of s.old) s.old.back) event (meaning_of s.new) s.old.said s.new.said) }
+    ensures { IfOk result (λ event. IsStepped (turns.reads (state_of s.old) (next_of s.old.table.table.categories s.old.input)) event (meaning_of s.new) s.old.said s.new.said) }
 {
-    match s.back.next() {
-        Some(token) => take(alloc, s, token),
-        None => read_line(alloc, s),
+    match s.input.next(alloc, s.table.categories())? {
+        Next::Token(token) => take(alloc, s, token),
+        Next::Marker => Ok(Event::Went),
+        Next::Used { close: false } => Ok(ask(s, AskKind::Line, Ask::Line)),
+        Next::Used { close: true } => Ok(ask(s, AskKind::Close, Ask::Close)),
+        Next::E1 => Ok(fail(s, TexError::InvalidCharacter)),
     }
 }
 
@@ -150,7 +156,8 @@ fn hear(alloc: Global, s: &mut State, kind: AskKind, reply: &Reply) -> Result<()
     match (kind, reply) {
         (AskKind::Open, Reply::Absent) => s.due = Due::MainAbsent,
         (AskKind::Line, Reply::Line(bytes)) => {
-            s.line = Line::of_file(alloc, bytes.as_slice(), line_end(&s.table))?
+            let line = line_text(alloc, bytes.as_slice(), line_end(&s.table))?;
+            s.input.push_line(alloc, line)?;
         }
         (AskKind::Line, Reply::Ended) => s.due = Due::FileEnded,
         (AskKind::Close, Reply::Closed) => s.due = Due::MainClosed,
