@@ -2,8 +2,7 @@
 ghost use Rattle.std.specs.Prelude.{◌≡◌, ◌↔◌, ◌<◌, [], IsTrue, OnOk, OnErr, length};
 ghost use Rattle.tx_toklist.specs.Macros.{no_parameters, with_parameter, with_token};
 
-use crate::lists::Lists;
-use crate::toks::Toks;
+use crate::toks::{Lists, Toks};
 use std::alloc::{AllocError, Global};
 use std::marker::Model;
 use tx_char::Token;

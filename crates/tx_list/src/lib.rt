@@ -1,0 +1,11 @@
+//! Lists of values with one owner, for all crates above: what is asked of a value that can be kept, and the list that keeps
+//! any number of them. Contracts see the list of the values.
+//!
+//! Read `kept`, what is asked of a value; then `items`.
+#![tactic(auto)]
+
+mod items;
+mod kept;
+
+pub use items::{Items, same_items};
+pub use kept::Kept;
