@@ -6,11 +6,11 @@ ghost use Rattle.std.specs.Cmp.Lexicographic.{slice_cmp};
 ghost use Rattle.std.specs.FinMap.{empty, get, insert, remove};
 ghost use Rattle.tx_name.specs.Buckets.{IsRising, IsAt, IsGap};
 
-use crate::kept::Kept;
 use std::alloc::{AllocError, Global};
 use std::cmp::Ordering;
 use std::marker::Model;
 use tx_char::ControlName;
+use tx_list::Kept;
 
 /// Names that rise, with their values. Contracts see the finite map.
 #[derive(Drop)]

@@ -2,14 +2,12 @@
 //! map alone, so two maps are the same whatever was put in and taken out before. A look-up costs as much among ten
 //! thousand names as among ten: the names lie in 1024 buckets by their bytes, and each bucket is sorted.
 //!
-//! Read `kept`, what is asked of a value; then `bucket`, and then `name_map`.
+//! Read `bucket`, and then `name_map`.
 #![tactic(auto)]
 
 mod bucket;
-mod kept;
 mod name_map;
 #[cfg(test)]
 mod tests;
 
-pub use kept::Kept;
 pub use name_map::NameMap;

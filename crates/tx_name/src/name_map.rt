@@ -5,11 +5,11 @@ ghost use Rattle.std.specs.FinMap.{empty, get, insert, remove};
 ghost use Rattle.tx_name.specs.Buckets.{bucket_of, held};
 
 use crate::bucket::Bucket;
-use crate::kept::Kept;
 use std::alloc::{AllocError, Global};
 use std::marker::Model;
 use std::rc::Rc;
 use tx_char::ControlName;
+use tx_list::Kept;
 
 /// How many buckets there are.
 const BUCKETS: usize = 1024;

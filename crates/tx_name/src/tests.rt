@@ -1,10 +1,11 @@
 //! Maps of names in use.
 ghost use Rattle.std.specs.Prelude.{◌≡◌};
 
-use crate::{Kept, NameMap};
+use crate::NameMap;
 use std::alloc::AllocError;
 use std::test::Fail;
 use tx_char::ControlName;
+use tx_list::Kept;
 
 /// A value for the tests.
 #[derive(Debug, Drop)]
