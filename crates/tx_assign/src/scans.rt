@@ -1,8 +1,7 @@
 //! What a scan that is fed token by token still needs, and what it answers to a token.
-use crate::error::TexError;
 use crate::fraction::Digits;
-use crate::seen::Seen;
 use tx_num::PhysicalUnit;
+use tx_seen::{Seen, TexError};
 
 /// What a scan answers to a token.
 #[derive(Debug, Drop)]

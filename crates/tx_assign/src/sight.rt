@@ -1,139 +1,41 @@
-//! Tokens with what they mean, and what they are to the commands that read them (TeX: The Program, parts 15 and 24).
-ghost use Rattle.std.specs.Prelude.{◌≡◌, ◌↔◌, ◌<◌, ◌++◌, List, IsTrue, IfSome, option_copied, option_to_list};
-ghost use Rattle.tx_assign.specs.Seen as spec;
+//! What a token means while an assignment is read.
+ghost use Rattle.std.specs.Prelude.{◌≡◌, ◌++◌, List, IfOk, option_copied, option_to_list};
+ghost use Rattle.tx_seen.specs.declared.seen.Seen.{Seen};
+ghost use Rattle.tx_assign.specs.Sight as spec;
 ghost use Rattle.tx_assign.specs.Scans.{without_space};
 
 use std::alloc::AllocError;
 use tx_char::{Cat, Token};
-use tx_eqtb::{Eqtb, Meaning};
-use tx_name::Kept;
+use tx_eqtb::Eqtb;
 use tx_prim::Primitive;
+use tx_seen::{Meaning, Place, Seen};
 
-/// A token, with what it meant when it was read.
-#[derive(Debug, Drop)]
-pub struct Seen {
-    pub token: Token,
-    pub meaning: Meaning,
-}
-
-/// A clone is the same token with the same meaning. Its only error is that no more owners of a name can be counted.
-impl Clone for Seen {
-    ghost is_clone = { λ source copy. copy ≡ source };
-
-    fn clone(&self) -> Result<Self, AllocError> {
-        Ok(Seen {
-            token: self.token.clone()?,
-            meaning: self.meaning,
-        })
-    }
-}
-
-impl Seen {
-    /// Whether both are the same token with the same meaning.
-    pub fn same(&self, other: &Seen) -> bool
-        ensures { IsTrue result ↔ (self.now ≡ other.now) }
-    {
-        self.token.same(&other.token) && self.meaning.same(&other.meaning)
-    }
-
-    /// Whether expanding the token, or carrying it out, is an error: a name or an active character without a meaning.
-    pub fn is_undefined(&self) -> bool
-        ensures { result ≡ spec.is_undefined self.now }
-    {
-        matches!(self.meaning, Meaning::Undefined)
-    }
-
-    /// Whether it is a space, or a name that means one.
-    pub fn is_space(&self) -> bool
-        ensures { result ≡ spec.is_space self.now }
-    {
-        matches!(self.meaning, Meaning::Character(_, Cat::Space))
-    }
-
-    /// Whether it begins a group, or is a name that means this.
-    pub fn begins_group(&self) -> bool
-        ensures { result ≡ spec.is_begin_group self.now }
-    {
-        matches!(self.meaning, Meaning::Character(_, Cat::BeginGroup))
-    }
-
-    /// Whether it means \relax.
-    pub fn is_relax(&self) -> bool
-        ensures { result ≡ spec.is_relax self.now }
-    {
-        matches!(self.meaning, Meaning::Command(Primitive::Relax))
-    }
-
-    /// Whether it is this character with category 12.
-    pub fn is_other(&self, code: u8) -> bool
-        ensures { result ≡ spec.is_other code self.now }
-    {
-        match &self.token {
-            Token::Character(found, Cat::Other) => *found == code,
-            _ => false,
-        }
-    }
-
-    /// The value of a digit.
-    pub fn digit(&self) -> Option<u8>
-        ensures value { result ≡ spec.digit_value self.now }
-        ensures small { IfSome result (λ digit. digit < 10) }
-    {
-        match &self.token {
-            Token::Character(code, Cat::Other) if b'0' <= *code && *code <= b'9' => Some(
-                *code - b'0',
-            ),
-            _ => None,
-        }
-    }
-
-    /// Whether it is the point of a decimal fraction, `.` or `,`.
-    pub fn is_point(&self) -> bool
-        ensures { result ≡ spec.is_point self.now }
-    {
-        self.is_other(b'.') || self.is_other(b',')
-    }
-
-    /// Whether it is this small letter or its capital, of any category but active.
-    pub fn is_key(&self, letter: u8) -> bool
-        ensures { result ≡ spec.is_key letter self.now }
-    {
-        match &self.token {
-            Token::Character(_, Cat::Active) => false,
-            Token::Character(code, _) => *code == letter
-                || u16::from(*code) + 32 == u16::from(letter),
-            Token::Name(_) => false,
-        }
-    }
-
-    /// The token, unless it is a space: so one optional space is dropped.
-    pub(crate) fn unless_space(self) -> Option<Seen>
-        ensures { (rest : List Seen) → without_space self rest ≡ option_to_list result ++ rest }
-    {
-        if self.is_space() { None } else { Some(self) }
-    }
-}
-
-/// Whether both are the same name, or the same active character.
-fn is_same_name(name: &Token, token: &Token) -> bool
-    ensures { result ≡ spec.same_name name.now token.now }
+/// Whether a token is the name, or the active character, whose meaning stands at a place.
+fn is_named(place: &Place, token: &Token) -> bool
+    ensures { result ≡ spec.is_named place.now token.now }
 {
-    match (name, token) {
-        (Token::Name(name), Token::Name(other)) => name.as_slice() == other.as_slice(),
-        (Token::Character(code, Cat::Active), Token::Character(other, Cat::Active)) => code
-            == other,
+    match (place, token) {
+        (Place::Name(name), Token::Name(other)) => name.as_slice() == other.as_slice(),
+        (Place::Active(code), Token::Character(other, Cat::Active)) => code == other,
         _ => false,
     }
 }
 
 /// A token with what it means in this table. A name that is being defined means \relax until its value is read (TeX: The
-/// Program, section 1224).
-pub fn see(table: &Eqtb, defined: Option<&Token>, token: Token) -> Seen
-    ensures { result ≡ spec.seen table.now.table (option_copied defined.entry) token }
+/// Program, section 1224). Its only error is that no more owners of a meaning can be counted.
+pub fn see(table: &Eqtb, defined: Option<&Place>, token: Token) -> Result<Seen, AllocError>
+    ensures { IfOk result (λ seen. seen ≡ spec.seen table.now.table (option_copied defined.entry) token) }
 {
     let meaning = match defined {
-        Some(name) if is_same_name(name, &token) => Meaning::Command(Primitive::Relax),
-        _ => table.meaning(&token),
+        Some(place) if is_named(place, &token) => Meaning::Command(Primitive::Relax),
+        _ => table.meaning(&token)?,
     };
-    Seen { token, meaning }
+    Ok(Seen { token, meaning })
+}
+
+/// A token, unless it is a space: so one optional space is dropped.
+pub(crate) fn unless_space(token: Seen) -> Option<Seen>
+    ensures { (rest : List Seen) → without_space token rest ≡ option_to_list result ++ rest }
+{
+    if token.is_space() { None } else { Some(token) }
 }

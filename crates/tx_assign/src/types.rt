@@ -1,7 +1,6 @@
 //! What assignments are, once they are read whole.
-use crate::error::TexError;
-use tx_char::Token;
-use tx_eqtb::{CharacterCode, Entry, Place};
+use tx_eqtb::Entry;
+use tx_seen::{CharacterCode, Place, TexError};
 
 /// What \advance, \multiply and \divide do.
 #[derive(Clone, Copy, Debug, PartialEq, Eq)]
@@ -49,8 +48,8 @@ pub enum Shorthand {
 pub enum Target {
     /// This place.
     Variable(Place),
-    /// This name, which is to stand for a number.
-    Name(Token, Shorthand),
+    /// The name at this place, which is to stand for a number.
+    Name(Place, Shorthand),
     /// This place, by its own value and this operation.
     Changed(Place, Operation),
 }
@@ -63,7 +62,7 @@ pub struct Bounds {
 }
 
 /// What becomes of a place.
-#[derive(Clone, Copy, Debug)]
+#[derive(Debug, Drop)]
 pub enum Change {
     /// It has this entry.
     Set(Entry),
