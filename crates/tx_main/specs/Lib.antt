@@ -6,6 +6,7 @@ pub mod Begun
 pub mod Taken
 pub mod Pages
 pub mod State
+pub mod Outcomes
 pub mod Effects
 pub mod Turns
 pub mod Meanings

@@ -1,8 +1,8 @@
 -- What the code's state means.
 use Rattle.std.specs.Prelude.{◌≡◌, ℕ, List, ◌++◌}
 use Rattle.tx_machine.specs.declared.types.Event.{Event}
-use Rattle.tx_machine.specs.Machine.{Stepped}
 use Rattle.tx_main.specs.declared.state.State.{State}
+use Rattle.tx_main.specs.Outcomes.{Outcome, stepped}
 use Rattle.tx_main.specs.State.{TexState, Meaning, meaning_in}
 
 -- the parts of the state as they stand in the code
@@ -21,8 +21,8 @@ state_of s = record {
 abbrev pub meaning_of : State → Meaning
 meaning_of s = meaning_in s.phase (state_of s)
 
--- an event, the state after it and the transcript that waits are those of this turn
-pub record IsStepped (t : Stepped Meaning) (event : Event) (state : Meaning) (before after : List ℕ) : Type 0 where
-  pub event_is : event ≡ t.event
-  pub state_is : state ≡ t.next
-  pub said_is : after ≡ before ++ t.said
+-- an event and the state after it are what comes of a turn, and so is what the transcript that waits has got
+pub record IsStepped (outcome : Outcome) (before : State) (event : Event) (after : State) : Type 0 where
+  pub event_is : event ≡ (stepped outcome).event
+  pub state_is : meaning_of after ≡ (stepped outcome).next
+  pub said_is : after.said ≡ before.said ++ (stepped outcome).said

@@ -1,6 +1,6 @@
 -- What TeX's state means: plain data (TeX: The Program, parts 15, 19 and 22).
 use Rattle.std.specs.Prelude.{ℕ, ℤ, Bool, false, List, [], Option, None}
-use Rattle.tx_assign.specs.declared.seen.Seen.{Seen}
+use Rattle.tx_seen.specs.declared.seen.Seen.{Seen}
 use Rattle.tx_eqtb.specs.declared.eqtb.Eqtb.{Eqtb}
 use Rattle.tx_eqtb.specs.Initex.{initial_table}
 use Rattle.tx_machine.specs.declared.types.Date.{Date}

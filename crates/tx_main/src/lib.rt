@@ -18,10 +18,9 @@ mod scans;
 mod share;
 mod stage;
 mod state;
-mod token_list;
 mod turn;
 mod types;
 
 pub use machine::Tex;
 pub use state::State;
-pub use tx_assign::TexError;
+pub use tx_seen::TexError;
