@@ -77,11 +77,17 @@ impl<T: Kept> Bucket<T> {
             let _taken = self.entries.remove(place);
         }
     }
+}
 
-    /// Whether both are the same map.
-    pub fn same(&self, other: &Bucket<T>) -> bool
-        ensures { IsTrue result ↔ (self.now ≡ other.now) }
-    {
+impl<T: Kept> Kept for Bucket<T> {
+    fn share(&self) -> Result<Self, AllocError> {
+        let alloc = *self.entries.allocator();
+        Ok(Bucket {
+            entries: share_entries(alloc, self.entries.as_slice())?,
+        })
+    }
+
+    fn same(&self, other: &Self) -> bool {
         same_entries(self.entries.as_slice(), other.entries.as_slice())
     }
 }
@@ -91,10 +97,7 @@ impl<T: Kept> Clone for Bucket<T> {
     ghost is_clone = { λ source copy. copy ≡ source };
 
     fn clone(&self) -> Result<Self, AllocError> {
-        let alloc = *self.entries.allocator();
-        Ok(Bucket {
-            entries: share_entries(alloc, self.entries.as_slice())?,
-        })
+        self.share()
     }
 }
 

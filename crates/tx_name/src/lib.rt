@@ -1,12 +1,15 @@
 //! Finite maps from the names of control sequences to values, which TeX's table of meanings is one of. Contracts see the
 //! map alone, so two maps are the same whatever was put in and taken out before. A look-up costs as much among ten
-//! thousand names as among ten: the names lie in 1024 buckets by their bytes, and each bucket is sorted.
+//! thousand names as among ten: the names lie by their bytes in 1024 buckets, each of them sorted, on 32 shelves of 32
+//! buckets. So a map that shares all with another copies only a shelf's list and a bucket when a name is given a value.
 //!
-//! Read `bucket`, and then `name_map`.
+//! Read `bucket`; then `parts`, `shelf` and `name_map`.
 #![tactic(auto)]
 
 mod bucket;
 mod name_map;
+mod parts;
+mod shelf;
 #[cfg(test)]
 mod tests;
 

@@ -1,7 +1,7 @@
 use Rattle.std.proofs.Common.{sym, ap, ◌∙◌}
 use Rattle.tx_name.specs.Buckets.{map_of}
 use Rattle.tx_name.proofs.Places.{same-map_of}
-use Rattle.tx_name.proofs.bucket.Bucket.same.Goals as goal
+use Rattle.tx_name.proofs.bucket.BucketKept.same.Goals as goal
 
 pub returns : goal.returns
 returns g c = (
