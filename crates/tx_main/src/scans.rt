@@ -1,9 +1,13 @@
 //! What a scan that is fed token by token still needs, and what it answers to a token.
 use crate::keyword::Keyword;
-use crate::token_list::Tokens;
 use crate::types::{BoxContext, Command, Side};
-use tx_assign::{AssignScan, DimenScan, Fed, TexError};
+use tx_assign::{AssignScan, DimenScan, Fed};
+use tx_list::Items;
 use tx_node::Rule;
+use tx_seen::{Seen, TexError};
+
+/// Tokens with what they mean, in the order in which they are read.
+pub type Tokens = Items<Seen>;
 
 /// The name of a rule's side that is being read.
 #[derive(Debug, Drop)]
@@ -65,16 +69,21 @@ pub enum Stage {
     BoxBegin(BoxContext),
 }
 
-/// A command, and the tokens behind it that aren't part of it.
-pub type StageFed = Fed<Stage, Command, Tokens>;
+/// The tokens behind a command that were taken and aren't part of it, in their order.
+#[derive(Debug, Drop)]
+pub enum Back {
+    Nothing,
+    One(Seen),
+    Several(Tokens),
+}
 
 /// What taking a token to a command gives.
 #[derive(Debug, Drop)]
 pub enum Taken {
     /// The command isn't whole yet.
     More,
-    /// It is; these tokens are given back, to be read again in this order.
-    Whole(Command, Tokens),
+    /// It is; these tokens are given back, to be read again.
+    Whole(Command, Back),
     /// The tokens are no command.
     Wrong(TexError),
 }
