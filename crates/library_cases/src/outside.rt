@@ -3,9 +3,7 @@ use std::alloc::{AllocError, Global};
 use std::{fs, io};
 use tx_bytes::Bytes;
 use tx_cases::{answered, bytes_of, first_word, malformed, text_of};
-use tx_io::{
-    DirSink, DirSource, Fetched, FilesRead, MemorySink, MemorySource, Put, Sink, Source,
-};
+use tx_io::{DirSink, DirSource, Fetched, FilesRead, MemorySink, MemorySource, Put, Sink, Source};
 
 /// A source and a sink in memory.
 #[derive(Drop)]
