@@ -9,7 +9,7 @@ use tx_bytes::Bytes;
 use tx_dvi::PageBody;
 
 /// The files that are open, the innermost last.
-#[derive(Debug, Drop)]
+#[derive(Drop)]
 pub struct Opens {
     items: Vec<OpenFile>,
 }
@@ -85,7 +85,7 @@ impl Clone for Opens {
 }
 
 /// Page bodies in order.
-#[derive(Debug, Drop)]
+#[derive(Drop)]
 pub struct Pages {
     items: Vec<PageBody>,
 }
@@ -127,7 +127,7 @@ impl Pages {
 }
 
 /// Pieces of a transcript in order.
-#[derive(Debug, Drop)]
+#[derive(Drop)]
 pub struct Pieces {
     items: Vec<Bytes>,
 }

@@ -28,3 +28,8 @@ pub fn arguments<R: Env + AllocGlobal>(rt: &R) -> Result<Vec<String>, AllocError
         Err(error) => words_after(rt.alloc(), error),
     }
 }
+
+/// Whether no words stand for words that can't be read.
+pub fn are_text<R: Env + AllocGlobal>(rt: &R, words: &[String]) -> bool {
+    !words.is_empty() || read_arguments(rt).is_ok()
+}

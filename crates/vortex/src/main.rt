@@ -1,26 +1,41 @@
 //! The program `vortex`: it hands the words of the command line, the current folder and standard output to the top call
-//! of `vortex_cmd`, which does all the rest, and ends with its answer as status.
+//! of `vortex_cmd`, which does all the rest, and ends with its answer as status. Where not all went well it then tells
+//! why on standard error, by what was said and by a second look at the words, the script and the faults of the folder.
+//!
+//! Read `arguments`, then `look`, the second look, of which `tx_causes` makes words.
 #![tactic(auto)]
 
 mod arguments;
+mod look;
 
+use arguments::{are_text, arguments};
+use look::causes;
 use std::process::ExitCode;
-use tx_io::{DirSink, DirSource};
+use tx_causes::telling::{tell, tell_all};
+use tx_io::{DirSink, DirSource, FilesRead};
 use tx_machine::CountsTurns;
 use vortex_cmd::vortex::vortex;
 
 fn main(rt: HostRuntime) -> ExitCode {
-    let Ok(words) = arguments::arguments(&rt) else {
+    let alloc = rt.alloc();
+    let Ok(words) = arguments(&rt) else {
+        tell(&rt, alloc, "no memory is left to read the command line");
         return ExitCode::from(6);
     };
-    let mut source = DirSource::new(&rt);
-    let mut sink = DirSink::new(&rt);
+    let words = words.as_slice();
+    let read = FilesRead::new(alloc);
+    let mut source = DirSource::new(&rt, &read);
+    let mut sink = DirSink::new(&rt, alloc, &read);
     let mut steps = rt.steps();
-    ExitCode::from(vortex(
-        rt.alloc(),
-        words.as_slice(),
-        &mut source,
-        &mut sink,
-        &mut steps,
-    ))
+    let status = vortex(alloc, words, &mut source, &mut sink, &mut steps);
+    if are_text(&rt, words) {
+        tell_all(
+            &rt,
+            alloc,
+            causes(alloc, status, words, &mut source, &sink, &read),
+        );
+    } else {
+        tell(&rt, alloc, "a word of the command line isn't UTF-8");
+    }
+    ExitCode::from(status)
 }

@@ -6,9 +6,9 @@
 //! `outputs` (what is put out of a run), `tally` and `replay` (the commands of a script), `run`, and then `vortex`.
 #![tactic(auto)]
 
-mod command;
+pub mod command;
 mod fetching;
-mod given;
+pub mod given;
 mod lines;
 mod outputs;
 mod replay;
@@ -17,6 +17,6 @@ mod scripted;
 mod scripts;
 mod tally;
 mod trouble;
-mod values;
+pub mod values;
 pub mod vortex;
-mod words;
+pub mod words;

@@ -149,16 +149,30 @@ pub fn version_line() -> &'static [u8]
 pub fn help_text() -> &'static [u8]
     ensures { result.now ≡ help_text }
 {
-    b"vortex: TeX, written as DVI.\n
+    b"vortex: TeX, written as DVI, and kept ready for edits.\n
 Usage: vortex run --date Y-M-D-T --out NAME [OPTIONS] MAIN [FILE..]\n
-Runs TeX on MAIN, which may read the FILEs, and saves NAME.dvi and NAME.log.\n
-  --date Y-M-D-T  the date that TeX sees, T in minutes since midnight
+Formats MAIN, says how many pages it has and how it ended, carries out the edits
+of a script, and saves the pages as NAME.dvi, if there is one, and the transcript
+as NAME.log. Files are those of the folder in which it is called; a name has 1 to
+255 characters of ASCII and no space.\n
+  --date Y-M-D-T  the date that TeX sees, T in minutes since midnight, 0 to 1439
   --out NAME      the name of what is saved
   --script EDITS  a file of edits to make, and of saves between them
-  --budget N      what a page may cost, 1 to 1000000000 (1000000)
-  --pages N       the most pages, 1 to 10000 (1000)
-  --keep N        the most states that are kept, 1 to 10000 (10000)
+  --budget N      what a page may cost, in steps of TeX, 1 to 1000000000 (1000000)
+  --pages N       a run ends when it has N pages, 1 to 10000 (1000)
+  --keep N        1 to 10000 (10000); it has no effect, all states are kept
   -h, --help      says this
-  -V, --version   says the version
+  -V, --version   says the version\n
+For example, in the folder examples/edits:\n
+  vortex run --date 2024-5-17-570 --out a --script edits main.tex\n
+A script that takes 2 bytes out of main.tex behind the first 99, puts 3 others
+there, and saves what there is then as b.dvi and b.log:\n
+  edit 99 2 3 main.tex
+  100
+  save b\n
+Statuses: 0 all is done; 1 all is done, but a run ended by an error or a limit;
+2 the words or the script are refused; 3 a file can't be read; 4 something can't
+be said or saved; 5 an edit goes past the end of its file; 6 no memory is left.
+What went wrong, and what would mend it, is told on standard error.
 "
 }

@@ -1,0 +1,20 @@
+//! Why a call of `vortex` ended as it did, in words for its user: by what was said, by the faults that the real source and
+//! sink keep, and by a second look at words, script and files. Nothing here is part of what is proved of a call but that
+//! it is safe: the words are tested, by `tools/check-program`.
+//!
+//! Read `errors` and `ends` (how a run ended), `outside` (edits), `dates`, `names` and `refusals` (words), `scripts`,
+//! `faults` (the system's errors), `memory`, and then `causes` and `telling`.
+#![tactic(auto)]
+
+pub mod causes;
+mod dates;
+mod ends;
+mod errors;
+mod faults;
+mod memory;
+mod names;
+mod outside;
+pub mod refusals;
+pub mod run;
+mod scripts;
+pub mod telling;

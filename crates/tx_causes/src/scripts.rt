@@ -1,0 +1,80 @@
+use std::alloc::{AllocError, Global};
+
+/// A line and a column, both counted from 1.
+#[derive(Clone, Copy)]
+struct Spot {
+    line: u64,
+    column: u64,
+}
+
+fn after(spot: Spot, byte: u8) -> Spot {
+    if byte == b'\n' {
+        Spot {
+            line: spot.line.saturating_add(1),
+            column: 1,
+        }
+    } else {
+        Spot {
+            line: spot.line,
+            column: spot.column.saturating_add(1),
+        }
+    }
+}
+
+/// Where a place of some bytes lies, which is how many come before it.
+fn spot_of(bytes: &[u8], place: u64) -> Spot {
+    let mut spot = Spot { line: 1, column: 1 };
+    let mut left = place;
+    for byte in bytes {
+        if left == 0 {
+            return spot;
+        }
+        left -= 1;
+        spot = after(spot, *byte);
+    }
+    spot
+}
+
+/// What has to stand at the place of a refusal, by the number of its rule.
+fn wanted(rule: &str) -> &'static str {
+    match rule {
+        "2" => "'edit' or 'save' and one space",
+        "3" => "a number (0 to 4294967295, in digits alone, no zero in front) and one space",
+        "4" => "a file's name (1 to 255 characters of ASCII, no space) and the end of the line",
+        "5" => "more bytes, as many as the edit's line says: the script ends within them",
+        "6" =>
+            "the end of the line behind the bytes that are put in: are they as many as the edit's line says?",
+        _ => "something else",
+    }
+}
+
+/// Place and rule of the line that refuses a script.
+fn refusal(said: &str) -> Option<(&str, &str)> {
+    let behind = said.strip_prefix("script refused at ")?;
+    let (place, rule) = behind.split_once(", rule ")?;
+    Some((place, rule.strip_suffix("\n").unwrap_or(rule)))
+}
+
+/// Why a script was refused, by what was said of it and by its bytes, where they can be had.
+pub fn script_cause(
+    alloc: Global,
+    name: &str,
+    said: &str,
+    bytes: Option<&[u8]>,
+) -> Result<String, AllocError> {
+    let Some((place, rule)) = refusal(said) else {
+        return format!(in alloc; "{name}: it is no script");
+    };
+    if rule == "1" {
+        return format!(in alloc; "{name}: there is no such script");
+    }
+    let wanted = wanted(rule);
+    let (Some(bytes), Ok(number)) = (bytes, place.parse::<u64>()) else {
+        return format!(in alloc; "{name}: at byte {place} is wanted {wanted}");
+    };
+    let spot = spot_of(bytes, number);
+    format!(in alloc;
+        "{name}:{}:{}: here is wanted {wanted}",
+        spot.line, spot.column
+    )
+}

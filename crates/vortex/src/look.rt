@@ -1,0 +1,70 @@
+use std::alloc::{AllocError, Global};
+use std::rt::Files;
+use tx_causes::causes::{
+    end_causes, memory_causes, one, refused_script, unread_cause, unsaved_cause,
+};
+use tx_causes::refusals::words_cause;
+use tx_causes::run::Run;
+use tx_io::{DirSink, DirSource, FilesRead, Source};
+use vortex_cmd::command::command_line;
+use vortex_cmd::given::{Asked, Given};
+use vortex_cmd::words::read_words;
+
+fn run_of(given: &Given) -> Run<'_> {
+    Run {
+        main: &given.main,
+        files: given.files.as_slice(),
+        script: given.script.as_ref(),
+        budget: given.limits.budget,
+    }
+}
+
+/// Why nothing was run: the words of a run had a script that was refused, and any others are no words of a call.
+fn refusal_cause<S: Source>(
+    alloc: Global,
+    words: &[String],
+    said: &[u8],
+    source: &mut S,
+) -> Result<String, AllocError> {
+    if let Asked::Run(given) = read_words(alloc, words)? {
+        return refused_script(alloc, &run_of(&given), said, source);
+    }
+    match command_line(alloc)?.try_get_matches_from(words) {
+        Ok(matches) => words_cause(alloc, words, Ok(&matches)),
+        Err(error) => words_cause(alloc, words, Err(&error)),
+    }
+}
+
+/// What there is to tell of a run that is all done.
+fn done_causes<S: Source>(
+    alloc: Global,
+    words: &[String],
+    is_bad: bool,
+    said: &[u8],
+    source: &mut S,
+    read: &FilesRead,
+) -> Result<Vec<String>, AllocError> {
+    match read_words(alloc, words)? {
+        Asked::Run(given) => end_causes(alloc, &run_of(&given), is_bad, said, source, read),
+        _ => Ok(Vec::new(alloc)),
+    }
+}
+
+/// Why a call ended with this status, in lines; none where all went well.
+pub fn causes<R: Files + Print>(
+    alloc: Global,
+    status: u8,
+    words: &[String],
+    source: &mut DirSource<'_, R>,
+    sink: &DirSink<'_, R>,
+    read: &FilesRead,
+) -> Result<Vec<String>, AllocError> {
+    match status {
+        0 => Ok(Vec::new(alloc)),
+        1 | 5 => done_causes(alloc, words, status == 1, sink.said(), source, read),
+        2 => one(alloc, refusal_cause(alloc, words, sink.said(), source)?),
+        3 => unread_cause(alloc, source),
+        4 => unsaved_cause(alloc, sink),
+        _ => memory_causes(alloc, source, sink),
+    }
+}
