@@ -115,7 +115,11 @@ fn meet(
 }
 
 /// Skips up to the text that is read. The answer is an error of TeX's. Its only error of its own is want of memory.
-fn skip(alloc: Global, open: &mut CondStack, input: &mut Input) -> Result<Option<TexError>, AllocError> {
+fn skip(
+    alloc: Global,
+    open: &mut CondStack,
+    input: &mut Input,
+) -> Result<Option<TexError>, AllocError> {
     for _ in 0..u64::MAX {
         let word = match skipped(alloc, input)? {
             Fed::Done(word, _) => word,

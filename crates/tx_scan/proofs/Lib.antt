@@ -1,3 +1,6 @@
+pub mod Answering
+pub mod IntegerSteps
 pub mod Letters
-pub mod Extending
 pub mod ReadingOn
+pub mod Extending
+pub mod OneMore

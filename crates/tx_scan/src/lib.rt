@@ -1,17 +1,17 @@
 //! Scans: what is read off the tokens that TeX has expanded, here integers and keywords. A scan is fed token by token,
 //! asks for the values that only its caller knows, and gives back the tokens that aren't part of what it reads.
 //!
-//! Read `types`, `characters`, `scans`, then `integer` and `keyword`, and `laws`.
+//! Read `scans` and `beginnings`, then `integer` and `keyword`, and `laws`.
 #![tactic(auto)]
 
-mod characters;
+mod beginnings;
 mod integer;
 mod keyword;
 mod laws;
+mod outers;
 mod scans;
-mod types;
+mod supplying;
 
-pub use integer::{MISSING_NUMBER, TOO_LARGE};
 pub use laws::integers_are_read_from_the_left;
 pub use scans::{IntScan, KeyScan};
-pub use types::{Kind, Scanned, Value};
+pub use supplying::{Needs, Quantities, supply};
