@@ -51,8 +51,7 @@ impl<T: Kept> NameMap<T> {
     pub fn get(&self, name: &ControlName) -> Option<&T>
         ensures { option_copied result ≡ get self.now name.now }
     {
-        let name = name.as_slice();
-        let spot = spot_of(name);
+        let spot = spot_of(name.as_slice());
         self.shelves[spot.shelf].get(spot.bucket, name)
     }
 

@@ -48,7 +48,7 @@ impl<T: Kept> Shelf<T> {
     }
 
     /// The value of a name, lent, which is sought in the bucket of this number; None exactly where the name has none.
-    pub fn get(&self, at: usize, name: &[u8]) -> Option<&T>
+    pub fn get(&self, at: usize, name: &ControlName) -> Option<&T>
         requires own { at ≡ bucket_of name.now }
         requires within { at < 32 }
         ensures { option_copied result ≡ get self.now name.now }

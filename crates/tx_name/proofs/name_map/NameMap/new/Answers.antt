@@ -1,4 +1,4 @@
-use Rattle.std.proofs.Common.{ap, sym, ◌∙◌}
+use Rattle.std.proofs.Common.{◌∙◌}
 use Rattle.tx_name.specs.Buckets.{shelf_of}
 use Rattle.tx_name.proofs.Held.{empty-held}
 use Rattle.tx_name.proofs.name_map.NameMap.new.Goals as goal
