@@ -5,3 +5,5 @@ pub mod IntegerRests
 pub mod Keywords
 pub mod Laws
 pub mod Supplied
+pub mod Grammars
+pub mod GrammarRests

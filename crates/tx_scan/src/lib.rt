@@ -5,6 +5,7 @@
 #![tactic(auto)]
 
 mod beginnings;
+mod grammars;
 mod integer;
 mod keyword;
 mod laws;
@@ -13,5 +14,5 @@ mod scans;
 mod supplying;
 
 pub use laws::integers_are_read_from_the_left;
-pub use scans::{IntScan, KeyScan};
+pub use scans::{BraceScan, EqualsScan, IntScan, KeyScan};
 pub use supplying::{Needs, Quantities, supply};

@@ -100,3 +100,11 @@ pub struct KeyScan {
     /// How many of its letters are read.
     pub(crate) read: usize,
 }
+
+/// An optional `=` that is being scanned.
+#[derive(Clone, Copy, Debug)]
+pub struct EqualsScan {}
+
+/// A begin-group token that is being looked for.
+#[derive(Clone, Copy, Debug)]
+pub struct BraceScan {}
