@@ -105,11 +105,12 @@ fn told(alloc: Global, put: Put) -> Result<String, AllocError> {
 /// What comes of the current folder and standard output by lines of `fetch NAME`, `say TEXT` and `save NAME TEXT`, and of
 /// `write NAME TEXT`, `grow NAME SIZE`, `read NAME` and `remove NAME`, which are done by std's file calls.
 pub fn folder(rt: &HostRuntime, lines: &str) -> io::Result<String> {
+    let read = FilesRead::new(rt.alloc());
     let mut text = String::new(rt.alloc());
     for line in lines.split('\n') {
         let (word, rest) = first_word(line);
         let answer = match word {
-            "fetch" | "say" | "save" => in_outside(rt, word, rest)?,
+            "fetch" | "say" | "save" => in_outside(rt, &read, word, rest)?,
             _ => in_folder(rt, word, rest)?,
         };
         append(&mut text, answer)?;
@@ -117,10 +118,15 @@ pub fn folder(rt: &HostRuntime, lines: &str) -> io::Result<String> {
     Ok(text)
 }
 
-fn in_outside(rt: &HostRuntime, word: &str, rest: &str) -> Result<String, AllocError> {
-    let read = FilesRead::new(rt.alloc());
-    let mut source = DirSource::new(rt, &read);
-    let mut sink = DirSink::new(rt, rt.alloc(), &read);
+/// What comes of a call on the folder, of which these files were read before.
+fn in_outside(
+    rt: &HostRuntime,
+    read: &FilesRead,
+    word: &str,
+    rest: &str,
+) -> Result<String, AllocError> {
+    let mut source = DirSource::new(rt, read);
+    let mut sink = DirSink::new(rt, rt.alloc(), read);
     called(rt.alloc(), &mut source, &mut sink, word, rest)
 }
 
