@@ -5,11 +5,7 @@
 
 mod error;
 mod machine;
-#[cfg(test)]
-mod session_tests;
 mod state;
-#[cfg(test)]
-mod tests;
 mod turn;
 
 pub use error::LineError;

@@ -20,25 +20,14 @@
 //! `}`, which ends one, `#`, which stands before a parameter, and `~`, which is active. No name is a macro or a quantity;
 //! names that begin with `if` are conditionals, and \O stands for a macro that is \outer.
 //!
-//! Read `input`, then `scanning`, `skipping`, `expanding` and `macros`. The tests of tx_toklist, tx_pending, tx_cond, tx_scan
-//! and tx_macro stand here too, since a crate with tests of its own is proved twice.
+//! Read `input`, then `scanning`, `skipping`, `expanding` and `macros`. The worked cases of these crates are in mouth_cases.
 #![tactic(auto)]
 
-#[cfg(test)]
-mod conditional_tests;
 mod expanding;
 mod input;
-#[cfg(test)]
-mod macro_tests;
 mod macros;
-#[cfg(test)]
-mod pending_tests;
-#[cfg(test)]
-mod scan_tests;
 mod scanning;
 mod skipping;
-#[cfg(test)]
-mod token_list_tests;
 
 use input::{Before, Input, Kind};
 use std::alloc::{AllocError, Global};

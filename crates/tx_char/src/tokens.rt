@@ -100,22 +100,3 @@ impl Clone for Token {
         }
     }
 }
-
-#[cfg(test)]
-mod tests {
-    use super::*;
-    use std::test::Fail;
-
-    #[test]
-    fn a_name_is_no_character(rt: HostRuntime) -> Result<(), Fail> {
-        let name = Token::Name(ControlName::from_slice(rt.alloc(), b"a")?);
-        let twin = Token::Name(ControlName::new(rt.alloc(), Bytes::from_slice(rt.alloc(), b"a")?)?);
-        let letter = Token::Character(b'a', Cat::Letter);
-        assert!(rt; name.same(&twin));
-        assert!(rt; name.same(&name.clone()?));
-        assert!(rt; letter.same(&letter.clone()?));
-        assert!(rt; !letter.same(&name));
-        assert!(rt; !letter.same(&Token::Character(b'a', Cat::Other)));
-        Ok(())
-    }
-}

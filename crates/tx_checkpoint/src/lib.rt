@@ -11,8 +11,6 @@ pub mod laws;
 pub mod replace;
 pub mod row;
 pub mod rows;
-#[cfg(test)]
-mod tests;
 
 pub use behind::{format_behind, fresh_rows};
 pub use format::{format_row, format_rows};

@@ -9,6 +9,3 @@ pub mod page;
 
 pub use file::{assemble, four_bytes};
 pub use page::{DateParameters, PageBody};
-
-#[cfg(test)]
-mod tests;

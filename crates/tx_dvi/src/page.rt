@@ -5,7 +5,7 @@ use std::marker::Model;
 use tx_bytes::Bytes;
 
 /// The parameters \year, \month, \day and \time (minutes since midnight). A document may set them to anything.
-#[derive(Clone, Copy, Debug, PartialEq, Eq)]
+#[derive(Clone, Copy, PartialEq, Eq)]
 pub struct DateParameters {
     pub year: i32,
     pub month: i32,
@@ -15,7 +15,7 @@ pub struct DateParameters {
 
 /// A page as it stands in a DVI file, without the frame that depends on the pages before it. Contracts see it as the
 /// record `Page` of the same fields.
-#[derive(Debug, Drop)]
+#[derive(Drop)]
 pub struct PageBody {
     /// The commands between bop and eop, at most 200,000 bytes.
     pub body: Bytes,

@@ -8,7 +8,7 @@ use tx_bytes::Bytes;
 
 /// A change of one file: from `place` on, counted in bytes from the file's start, `removed` bytes are taken out, and
 /// `put` stands in their stead. The file may be absent; then it is made.
-#[derive(Debug, Drop)]
+#[derive(Drop)]
 pub struct Edit {
     pub name: Name,
     pub place: u64,

@@ -16,6 +16,3 @@ pub use line::{NextLine, line_count, next_line};
 pub use name::Name;
 pub use reads::{Extent, FileReads, Note, Sight};
 pub use seen::{Seen, untouched};
-
-#[cfg(test)]
-mod tests;

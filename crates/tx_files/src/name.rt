@@ -20,7 +20,7 @@ pub fn is_name(bytes: &[u8]) -> bool
 }
 
 /// The name of a file: 1 to 255 printable characters of ASCII, none of them a space.
-#[derive(Debug, Drop)]
+#[derive(Drop)]
 pub struct Name {
     bytes: Bytes,
 }

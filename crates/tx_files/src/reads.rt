@@ -2,7 +2,7 @@
 use tx_bytes::Bytes;
 
 /// What the reply to one ask shows of a file.
-#[derive(Clone, Copy, Debug, PartialEq, Eq)]
+#[derive(Clone, Copy, PartialEq, Eq)]
 pub enum Sight {
     /// There is no such file.
     Absent,
@@ -17,14 +17,14 @@ pub enum Sight {
 }
 
 /// One sight of the file of this name.
-#[derive(Debug, Drop)]
+#[derive(Drop)]
 pub struct Note {
     pub name: Bytes,
     pub sight: Sight,
 }
 
 /// How much of a file was read.
-#[derive(Clone, Copy, Debug, PartialEq, Eq)]
+#[derive(Clone, Copy, PartialEq, Eq)]
 pub enum Extent {
     /// It wasn't there.
     Absent,
@@ -35,7 +35,7 @@ pub enum Extent {
 }
 
 /// What was read of one file, and whether it was asked for by its name, to be opened or taken whole.
-#[derive(Clone, Copy, Debug, PartialEq, Eq)]
+#[derive(Clone, Copy, PartialEq, Eq)]
 pub struct FileReads {
     pub extent: Extent,
     pub asked: bool,

@@ -19,7 +19,7 @@ use std::rc::Rc;
 use tx_bytes::Bytes;
 
 /// What \patterns and \hyphenation have said.
-#[derive(Debug, Drop)]
+#[derive(Drop)]
 pub struct Hyphens {
     patterns: Rc<Lexicon>,
     exceptions: Rc<Lexicon>,

@@ -14,7 +14,7 @@ use std::marker::Model;
 use tx_bytes::Bytes;
 
 /// A list of spellings, no two of which have the same letters, and a tree that keeps the place of each in the list.
-#[derive(Debug, Drop)]
+#[derive(Drop)]
 pub struct Lexicon {
     spellings: Vec<Spelling>,
     trie: Trie,

@@ -7,7 +7,7 @@ use std::alloc::AllocError;
 use tx_bytes::Bytes;
 
 /// Which of TeX's two commands a text is given to.
-#[derive(Debug, Clone, Copy)]
+#[derive(Clone, Copy)]
 pub enum Kind {
     /// \patterns: digits are levels, `.` is the edge of a word.
     Pattern,
@@ -16,7 +16,7 @@ pub enum Kind {
 }
 
 /// What one character of a text says.
-#[derive(Debug, Clone, Copy)]
+#[derive(Clone, Copy)]
 pub enum Sign {
     /// This is the level of the place between the letters before and after.
     Level(u8),
@@ -48,7 +48,7 @@ impl Kind {
 }
 
 /// Letters, and `levels[k]` the level of the place after k of them, 0 where `levels` ends.
-#[derive(Debug, Drop)]
+#[derive(Drop)]
 pub struct Spelling {
     pub letters: Bytes,
     pub levels: Bytes,

@@ -8,7 +8,7 @@ use std::alloc::{AllocError, Global};
 use std::marker::Model;
 
 /// A node of the tree.
-#[derive(Debug, Clone, Copy)]
+#[derive(Clone, Copy)]
 pub struct Node {
     /// The letter that leads here from the parent.
     pub letter: u8,
@@ -22,7 +22,7 @@ pub struct Node {
 }
 
 /// A tree of letters.
-#[derive(Debug, Drop)]
+#[derive(Drop)]
 pub struct Trie {
     nodes: Vec<Node>,
 }

@@ -10,8 +10,6 @@ mod line;
 mod names;
 mod notation;
 mod rules;
-#[cfg(test)]
-mod tests;
 mod types;
 
 pub use lexer::{lex, lex_on};

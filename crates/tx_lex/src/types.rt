@@ -13,7 +13,7 @@ pub enum ReadState {
 }
 
 /// What the unread rest of a line gives.
-#[derive(Debug, Drop)]
+#[derive(Drop)]
 pub enum Lexed {
     /// A token. What is now unread is `front`, if there is one, and then the bytes from place `used` on. Only after a
     /// name of letters is there a `front`: the character for which a `^^` behind the name stood, and which ended it.
@@ -30,7 +30,7 @@ pub enum Lexed {
 }
 
 /// A character of a line as reading sees it, its `^^` replaced, and the place of what stands behind it.
-#[derive(Clone, Copy, Debug)]
+#[derive(Clone, Copy)]
 pub(crate) struct Character {
     pub code: u8,
     pub next: usize,

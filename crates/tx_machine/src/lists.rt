@@ -9,7 +9,7 @@ use tx_bytes::Bytes;
 use tx_dvi::PageBody;
 
 /// The files that are open, the innermost last.
-#[derive(Debug, Drop)]
+#[derive(Drop)]
 pub struct Opens {
     items: Vec<OpenFile>,
 }
@@ -93,7 +93,7 @@ impl Clone for Opens {
 }
 
 /// Page bodies in order.
-#[derive(Debug, Drop)]
+#[derive(Drop)]
 pub struct Pages {
     items: Vec<PageBody>,
 }
@@ -135,7 +135,7 @@ impl Pages {
 }
 
 /// Pieces of a transcript in order.
-#[derive(Debug, Drop)]
+#[derive(Drop)]
 pub struct Pieces {
     items: Vec<Bytes>,
 }

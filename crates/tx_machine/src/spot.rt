@@ -11,7 +11,7 @@ pub struct Spot<S> {
 }
 
 /// What ended the turns of a page, the piece of the transcript that they gave, and how many they were.
-#[derive(Debug, Drop)]
+#[derive(Drop)]
 pub struct Closed {
     pub close: Close,
     pub piece: Bytes,

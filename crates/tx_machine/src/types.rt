@@ -6,7 +6,7 @@ use tx_bytes::Bytes;
 use tx_dvi::PageBody;
 
 /// The moment of a run, as \year, \month, \day and \time tell it: the minutes are those since midnight.
-#[derive(Clone, Copy, Debug, PartialEq, Eq)]
+#[derive(Clone, Copy, PartialEq, Eq)]
 pub struct Date {
     pub year: u32,
     pub month: u32,
@@ -15,7 +15,7 @@ pub struct Date {
 }
 
 /// How far a run may go.
-#[derive(Clone, Copy, Debug, PartialEq, Eq)]
+#[derive(Clone, Copy, PartialEq, Eq)]
 pub struct Limits {
     /// What the turns of one page may cost together.
     pub budget: u64,
@@ -26,7 +26,7 @@ pub struct Limits {
 }
 
 /// What a machine asks of the files.
-#[derive(Debug, Drop)]
+#[derive(Drop)]
 pub enum Ask {
     /// To open the file of this name; a text that is no name is the name of no file.
     Open(Bytes),
@@ -48,7 +48,7 @@ pub enum AskKind {
 }
 
 /// What is replied to an ask.
-#[derive(Debug, Drop)]
+#[derive(Drop)]
 pub enum Reply {
     /// The file is open.
     Found,
@@ -65,14 +65,14 @@ pub enum Reply {
 }
 
 /// Why a machine stops: by the end of its text, or by an error with its number.
-#[derive(Clone, Copy, Debug, PartialEq, Eq)]
+#[derive(Clone, Copy, PartialEq, Eq)]
 pub enum Stop {
     End,
     Error(u8),
 }
 
 /// What came of a turn.
-#[derive(Debug, Drop)]
+#[derive(Drop)]
 pub enum Event {
     /// Nothing that the outside has to know.
     Went,
@@ -85,7 +85,7 @@ pub enum Event {
 }
 
 /// What ends the turns of a page: the page, the machine's stop, or a turn that the budget doesn't allow.
-#[derive(Debug, Drop)]
+#[derive(Drop)]
 pub enum Close {
     Page(PageBody),
     Halt(Stop),
@@ -93,7 +93,7 @@ pub enum Close {
 }
 
 /// A file that is open, and how many of its bytes were read.
-#[derive(Debug, Drop)]
+#[derive(Drop)]
 pub struct OpenFile {
     pub name: Bytes,
     pub offset: u64,
@@ -130,7 +130,7 @@ pub enum End {
 
 /// All that a run gives: its pages, the piece of the transcript that belongs to each of them, the piece after the last
 /// page, and how it ended.
-#[derive(Debug, Drop)]
+#[derive(Drop)]
 pub struct Ran {
     pub pages: Pages,
     pub pieces: Pieces,

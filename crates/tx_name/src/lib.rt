@@ -8,8 +8,6 @@
 mod bucket;
 mod kept;
 mod name_map;
-#[cfg(test)]
-mod tests;
 
 pub use kept::Kept;
 pub use name_map::NameMap;

@@ -10,8 +10,6 @@ mod nodes;
 mod pack;
 mod rule;
 mod same;
-#[cfg(test)]
-mod tests;
 
 pub use node::{BoxNode, Node};
 pub use nodes::Nodes;

@@ -1,5 +1,5 @@
 //! The natural sizes of a list, how deep its boxes nest, and how many nodes it holds.
-ghost use Rattle.std.specs.Prelude.{◌≡◌, ◌≤◌, pos};
+ghost use Rattle.std.specs.Prelude.{◌≡◌, ◌≤◌, ◌+ℤ◌, pos, unsigned_abs, nat_le, Some, None, if◌then◌else◌};
 ghost use Rattle.tx_node.specs.Nodes.{list_of};
 ghost use Rattle.tx_node.specs.Items.{items_of};
 ghost use Rattle.tx_node.specs.Counts.{nesting_of, count_of, ended};
@@ -8,7 +8,7 @@ ghost use Rattle.tx_node.specs.Packing.{sum_within, height_of, depth_of};
 use crate::node::Node;
 
 /// The largest dimension, in sp, either way.
-const MAX_DIMENSION: u64 = 1073741823;
+const MAX_DIMENSION: u32 = 1073741823;
 
 /// The widths together, None exactly where one of the partial sums is no dimension.
 pub fn natural_width(list: &[Node]) -> Option<i32>
@@ -16,13 +16,22 @@ pub fn natural_width(list: &[Node]) -> Option<i32>
 {
     let mut sum: i32 = 0;
     for node in list {
-        let next = i64::from(sum) + i64::from(node.width());
-        if next.unsigned_abs() > MAX_DIMENSION {
-            return None;
+        match wider(sum, node.width()) {
+            Some(wide) => sum = wide,
+            None => return None,
         }
-        sum = next as i32;
     }
     Some(sum)
+}
+
+/// A sum of widths with one more; None exactly where that is no dimension.
+fn wider(sum: i32, width: i32) -> Option<i32>
+    ensures { result ≡ (if nat_le (unsigned_abs (sum +ℤ width)) 1073741823 then Some (sum +ℤ width) else None) }
+{
+    match sum.checked_add(width) {
+        Some(wide) if wide.unsigned_abs() <= MAX_DIMENSION => Some(wide),
+        _ => None,
+    }
 }
 
 /// The greatest height in the list, at least 0.

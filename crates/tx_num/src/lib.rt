@@ -9,8 +9,6 @@ mod fractions;
 mod glue_spec;
 mod limits;
 mod stretching;
-#[cfg(test)]
-mod tests;
 mod units;
 
 pub use decimal::{decimals, scaled_text};

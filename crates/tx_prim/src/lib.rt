@@ -8,8 +8,6 @@ mod dimension;
 mod integer;
 mod modes;
 mod primitive;
-#[cfg(test)]
-mod tests;
 
 pub use dimension::DimensionParameter;
 pub use integer::{IntegerParameter, Moment};

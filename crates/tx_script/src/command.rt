@@ -5,7 +5,7 @@ use std::marker::Model;
 use tx_files::{Edit, Name};
 
 /// What a script asks for.
-#[derive(Debug, Drop)]
+#[derive(Drop)]
 pub enum Command {
     /// This edit is to be made.
     Edit(Edit),
@@ -14,7 +14,7 @@ pub enum Command {
 }
 
 /// A list of commands, in their order. Contracts see the list.
-#[derive(Debug, Drop)]
+#[derive(Drop)]
 pub struct Script {
     commands: Vec<Command>,
 }

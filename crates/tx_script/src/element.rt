@@ -9,7 +9,7 @@ use tx_bytes::Bytes;
 use tx_files::Name;
 
 /// The word that begins a command.
-#[derive(Clone, Copy, Debug, PartialEq, Eq)]
+#[derive(Clone, Copy, PartialEq, Eq)]
 pub(crate) enum CommandWord {
     Edit,
     Save,

@@ -60,14 +60,14 @@ impl From<AllocError> for ScriptError {
 }
 
 /// Where reading ended: before the last `left` bytes, at an element of this rule.
-#[derive(Clone, Copy, Debug, PartialEq, Eq)]
+#[derive(Clone, Copy, PartialEq, Eq)]
 pub(crate) struct Broken {
     pub left: usize,
     pub rule: Rule,
 }
 
 /// Why an element or a command was not read.
-#[derive(Clone, Copy, Debug, PartialEq, Eq)]
+#[derive(Clone, Copy, PartialEq, Eq)]
 pub(crate) enum Fault {
     Broken(Broken),
     OutOfMemory,

@@ -8,8 +8,6 @@ pub mod command;
 mod element;
 pub mod error;
 mod read;
-#[cfg(test)]
-mod tests;
 
 pub use command::{Command, Script};
 pub use error::{Rule, ScriptError};

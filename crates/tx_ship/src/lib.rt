@@ -12,8 +12,6 @@ mod list;
 mod params;
 mod places;
 mod ship;
-#[cfg(test)]
-mod tests;
 mod within;
 
 pub use error::ShipError;

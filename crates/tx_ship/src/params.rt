@@ -1,7 +1,7 @@
 //! What shipping takes from TeX's parameters and registers.
 
 /// The parameters of a \shipout.
-#[derive(Clone, Copy, Debug)]
+#[derive(Clone, Copy)]
 pub struct ShipParams {
     /// \count0 to \count9.
     pub counts: [i32; 10],

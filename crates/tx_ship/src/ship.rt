@@ -61,7 +61,7 @@ fn page_width(node: &BoxNode, params: &ShipParams) -> Option<i32>
 }
 
 /// The sizes of a page, each at least 0: its height, with its depth, and its width.
-#[derive(Clone, Copy, Debug)]
+#[derive(Clone, Copy)]
 struct PageSizes {
     height: i32,
     width: i32,

@@ -7,7 +7,7 @@ use std::alloc::{AllocError, Global};
 use tx_bytes::Bytes;
 
 /// Four bytes of a file.
-#[derive(Clone, Copy, Debug)]
+#[derive(Clone, Copy)]
 pub struct Word {
     pub a: u8,
     pub b: u8,
@@ -65,7 +65,7 @@ impl Word {
 }
 
 /// A file with its lengths. Bytes past the end count as 0.
-#[derive(Debug, Drop)]
+#[derive(Drop)]
 pub struct Tfm {
     pub bytes: Bytes,
     pub lengths: Lengths,

@@ -14,7 +14,7 @@ use std::alloc::Global;
 use std::marker::Model;
 
 /// A font at a size. Contracts see its file and its size in sp, and know that no rule is broken.
-#[derive(Debug, Drop)]
+#[derive(Drop)]
 pub struct Font {
     metrics: Metrics,
 }

@@ -5,7 +5,7 @@ ghost use Rattle.tx_tfm.specs.Format.{lengths_of, characters_at, character_count
 use byteorder::{BigEndian, ByteOrder};
 
 /// The twelve numbers that a file begins with: lengths in words, and the codes of the first and the last character.
-#[derive(Clone, Copy, Debug)]
+#[derive(Clone, Copy)]
 pub struct Lengths {
     pub file: u16,
     pub header: u16,

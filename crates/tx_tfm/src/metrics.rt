@@ -6,7 +6,7 @@ use super::file::{Tfm, Word};
 use super::scaling::scale;
 
 /// A file with the size at which it is used, in sp.
-#[derive(Debug, Drop)]
+#[derive(Drop)]
 pub struct Metrics {
     pub file: Tfm,
     pub size: u32,

@@ -6,7 +6,7 @@ use tx_files::Name;
 use tx_machine::{Date, Limits};
 
 /// Names of files, in order.
-#[derive(Debug, Drop)]
+#[derive(Drop)]
 pub struct Names {
     items: Vec<Name>,
 }
@@ -49,7 +49,7 @@ impl Names {
 /// What `run` is given: the moment that the document sees, the limits, the name of the files that are saved, the name
 /// of the script's file, if there is a script, the name of the main file, and the names of all files that the run may
 /// read, the main one first.
-#[derive(Debug, Drop)]
+#[derive(Drop)]
 pub struct Given {
     pub date: Date,
     pub limits: Limits,
@@ -60,7 +60,7 @@ pub struct Given {
 }
 
 /// What the words of a call ask for.
-#[derive(Debug, Drop)]
+#[derive(Drop)]
 pub enum Asked {
     /// A run.
     Run(Given),

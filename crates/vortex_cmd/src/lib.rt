@@ -13,15 +13,9 @@ mod lines;
 mod outputs;
 mod replay;
 mod run;
-#[cfg(test)]
-mod script_tests;
 mod scripted;
 mod scripts;
 mod tally;
-#[cfg(test)]
-mod tests;
-#[cfg(test)]
-mod trial;
 mod trouble;
 mod values;
 pub mod vortex;

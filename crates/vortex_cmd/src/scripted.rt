@@ -1,7 +1,7 @@
 use tx_script::{Rule, Script};
 
 /// What is read of a script's file.
-#[derive(Debug, Drop)]
+#[derive(Drop)]
 pub enum Scripted {
     /// These commands.
     Plays(Script),

@@ -1,5 +1,5 @@
 /// How many edits were read, and whether one of them went past the end of its file.
-#[derive(Clone, Copy, Debug, PartialEq, Eq)]
+#[derive(Clone, Copy, PartialEq, Eq)]
 pub struct Tally {
     pub edits: u64,
     pub outside: bool,

@@ -7,18 +7,12 @@
 //! - `word BOUNDARIES CODE ..` prints what the characters of these codes become in the font; BOUNDARIES is `none`, `left`,
 //!   `right` or `both`, the boundaries that count.
 //!
-//! The letters of patterns and words are those of plain TeX. Read `hyphenating`, then `composing`. The tests of tx_tfm,
-//! tx_ligkern and tx_hyphen stand here too, since a crate with tests of its own is proved twice.
+//! The letters of patterns and words are those of plain TeX. Read `hyphenating`, then `composing`. The worked cases of these
+//! crates are in word_cases.
 #![tactic(auto)]
 
 mod composing;
-#[cfg(test)]
-mod font_tests;
-#[cfg(test)]
-mod hyphen_tests;
 mod hyphenating;
-#[cfg(test)]
-mod ligature_tests;
 
 use std::io;
 use tx_hyphen::hyphens::Hyphens;

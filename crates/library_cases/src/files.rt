@@ -1,0 +1,187 @@
+//! Cases of tx_files.
+use std::alloc::{AllocError, Global};
+use tx_bytes::Bytes;
+use tx_cases::{answered, bytes_of, first_word, malformed, text_of};
+use tx_files::{
+    Edit, FileSet, Name, NextLine, Refusal, Seen, Sight, line_count, next_line, untouched,
+};
+
+/// Files, and what was seen of some.
+#[derive(Drop)]
+struct Desk {
+    files: FileSet,
+    seen: Seen,
+}
+
+/// `line FROM TEXT`, the line that begins there; `lines TEXT`, how many there are; `name TEXT`, whether it is one.
+pub fn answer(alloc: Global, word: &str, rest: &str) -> Result<String, AllocError> {
+    match word {
+        "line" => line_of(alloc, rest),
+        "lines" => {
+            let bytes = bytes_of(alloc, rest)?;
+            format!(in alloc; "{}", line_count(bytes.as_slice()))
+        }
+        "name" => match name_of(alloc, rest)? {
+            Some(_) => answered(alloc, "a name"),
+            None => answered(alloc, "no name"),
+        },
+        _ => malformed(alloc),
+    }
+}
+
+fn line_of(alloc: Global, rest: &str) -> Result<String, AllocError> {
+    let (from, text) = first_word(rest);
+    let Ok(from) = from.parse::<u64>() else {
+        return malformed(alloc);
+    };
+    let bytes = bytes_of(alloc, text)?;
+    match next_line(bytes.as_slice(), from) {
+        NextLine::Line { end, has_lf: true } => format!(in alloc; "to {end}"),
+        NextLine::Line { end, has_lf: false } => format!(in alloc; "to {end}, without line feed"),
+        NextLine::End => answered(alloc, "end"),
+    }
+}
+
+fn name_of(alloc: Global, text: &str) -> Result<Option<Name>, AllocError> {
+    Ok(Name::new(bytes_of(alloc, text)?))
+}
+
+/// What becomes of files by lines of
+///
+/// - `put NAME TEXT`, which puts a file in; `show NAME`, its bytes;
+/// - `edit NAME PLACE REMOVED TEXT`, which is made; `try NAME PLACE REMOVED TEXT`, which is made, shown and taken back;
+/// - `sees NAME SIGHT`, which notes that so much of it was seen: `opened`, `absent`, `end`, `whole`, or where a line ended;
+/// - `leaves NAME PLACE`, whether an edit there leaves what was seen; `asked NAME`, whether it was asked for by its name.
+pub fn play(alloc: Global, lines: &str) -> Result<String, AllocError> {
+    let mut desk = Desk {
+        files: FileSet::new(alloc),
+        seen: Seen::new(alloc),
+    };
+    let mut text = String::new(alloc);
+    for line in lines.split('\n') {
+        let answer = step(alloc, &mut desk, line)?;
+        text.push_str(answer.as_str())?;
+        text.push('\n')?;
+    }
+    Ok(text)
+}
+
+fn step(alloc: Global, desk: &mut Desk, line: &str) -> Result<String, AllocError> {
+    let (word, rest) = first_word(line);
+    let (name, rest) = first_word(rest);
+    let Some(name) = name_of(alloc, name)? else {
+        return malformed(alloc);
+    };
+    match word {
+        "put" => {
+            desk.files.put(name, bytes_of(alloc, rest)?)?;
+            answered(alloc, "put")
+        }
+        "show" => shown(alloc, desk.files.get(name.as_slice())),
+        "edit" => edit(alloc, &mut desk.files, name, rest),
+        "try" => try_edit(alloc, &mut desk.files, name, rest),
+        "sees" => note(alloc, &mut desk.seen, &name, rest),
+        "leaves" => leaves(alloc, &desk.seen, name, rest),
+        "asked" => asked(alloc, &desk.seen, &name),
+        _ => malformed(alloc),
+    }
+}
+
+fn shown(alloc: Global, file: Option<&Bytes>) -> Result<String, AllocError> {
+    match file {
+        Some(bytes) => text_of(alloc, bytes.as_slice()),
+        None => answered(alloc, "absent"),
+    }
+}
+
+/// The edit of this file that a text says.
+fn edit_of(alloc: Global, name: Name, rest: &str) -> Result<Option<Edit>, AllocError> {
+    let (place, rest) = first_word(rest);
+    let (removed, put) = first_word(rest);
+    let (Ok(place), Ok(removed)) = (place.parse::<u64>(), removed.parse::<u64>()) else {
+        return Ok(None);
+    };
+    let put = bytes_of(alloc, put)?;
+    Ok(Some(Edit {
+        name,
+        place,
+        removed,
+        put,
+    }))
+}
+
+fn edit(alloc: Global, files: &mut FileSet, name: Name, rest: &str) -> Result<String, AllocError> {
+    let Some(e) = edit_of(alloc, name, rest)? else {
+        return malformed(alloc);
+    };
+    match files.apply(&e) {
+        Ok(()) => answered(alloc, "made"),
+        Err(refusal) => refused(alloc, refusal),
+    }
+}
+
+fn refused(alloc: Global, refusal: Refusal) -> Result<String, AllocError> {
+    match refusal {
+        Refusal::Outside { len } => format!(in alloc; "outside {len}"),
+        Refusal::OutOfMemory => Err(AllocError),
+    }
+}
+
+fn try_edit(
+    alloc: Global,
+    files: &mut FileSet,
+    name: Name,
+    rest: &str,
+) -> Result<String, AllocError> {
+    let Some(e) = edit_of(alloc, name, rest)? else {
+        return malformed(alloc);
+    };
+    match files.change(&e) {
+        Ok(before) => {
+            let text = text_of(alloc, files.bytes_of(e.name.as_slice()));
+            files.restore(&e.name, before);
+            text
+        }
+        Err(refusal) => refused(alloc, refusal),
+    }
+}
+
+fn note(alloc: Global, seen: &mut Seen, name: &Name, rest: &str) -> Result<String, AllocError> {
+    let sight = match rest {
+        "opened" => Sight::Opened,
+        "absent" => Sight::Absent,
+        "end" => Sight::End,
+        "whole" => Sight::Whole,
+        _ => Sight::Line(rest.parse().unwrap_or(0)),
+    };
+    seen.note(alloc, name.as_slice(), sight)?;
+    answered(alloc, "seen")
+}
+
+fn leaves(alloc: Global, seen: &Seen, name: Name, rest: &str) -> Result<String, AllocError> {
+    let Ok(place) = rest.parse::<u64>() else {
+        return malformed(alloc);
+    };
+    let e = Edit {
+        name,
+        place,
+        removed: 0,
+        put: Bytes::new(alloc),
+    };
+    answered(
+        alloc,
+        if untouched(seen, &e) {
+            "left"
+        } else {
+            "touched"
+        },
+    )
+}
+
+fn asked(alloc: Global, seen: &Seen, name: &Name) -> Result<String, AllocError> {
+    match seen.get(name.as_slice()) {
+        Some(reads) if reads.asked => answered(alloc, "by its name"),
+        Some(_) => answered(alloc, "not by its name"),
+        None => answered(alloc, "not seen"),
+    }
+}

@@ -1,0 +1,143 @@
+//! Cases of tx_io.
+use std::alloc::{AllocError, Global};
+use std::{fs, io};
+use tx_bytes::Bytes;
+use tx_cases::{answered, bytes_of, first_word, malformed, text_of};
+use tx_io::{
+    DirSink, DirSource, Fetched, FilesRead, MemorySink, MemorySource, Put, Sink, Source,
+    SteadySink, SteadySource,
+};
+
+/// What comes of a steady source and sink by lines of
+///
+/// - `put NAME TEXT`, which gives the source a file, and `fetch NAME`;
+/// - `say TEXT` and `save NAME TEXT`, and `said` and `saved NAME`, what there is then.
+pub fn steady(alloc: Global, lines: &str) -> Result<String, AllocError> {
+    let mut source = SteadySource::new(alloc);
+    let mut sink = SteadySink::new(alloc);
+    let mut text = String::new(alloc);
+    for line in lines.split('\n') {
+        let (word, rest) = first_word(line);
+        let (name, bytes) = first_word(rest);
+        let answer = match word {
+            "put" => given(alloc, source.put(alloc, name.as_bytes(), bytes.as_bytes())),
+            "said" => text_of(alloc, sink.said()),
+            "saved" => shown(alloc, sink.saved(name.as_bytes())),
+            _ => called(alloc, &mut source, &mut sink, word, rest),
+        };
+        append(&mut text, answer?)?;
+    }
+    Ok(text)
+}
+
+/// The same of a source and a sink in memory, of which one fetch, one say and one save fail: those of these numbers.
+pub fn memory(alloc: Global, rest: &str, lines: &str) -> Result<String, AllocError> {
+    let (fetch, rest) = first_word(rest);
+    let (say, save) = first_word(rest);
+    let mut source = MemorySource::new(alloc, failing(alloc, fetch)?);
+    let mut sink = MemorySink::new(alloc, failing(alloc, say)?, failing(alloc, save)?);
+    let mut text = String::new(alloc);
+    for line in lines.split('\n') {
+        let (word, rest) = first_word(line);
+        let (name, bytes) = first_word(rest);
+        let answer = match word {
+            "put" => given(alloc, source.put(alloc, name.as_bytes(), bytes.as_bytes())),
+            "said" => text_of(alloc, sink.said()),
+            "saved" => shown(alloc, sink.saved(name.as_bytes())),
+            _ => called(alloc, &mut source, &mut sink, word, rest),
+        };
+        append(&mut text, answer?)?;
+    }
+    Ok(text)
+}
+
+/// Puts an answer at the end, in a line of its own.
+fn append(text: &mut String, answer: String) -> Result<(), AllocError> {
+    text.push_str(answer.as_str())?;
+    text.push('\n')
+}
+
+/// The number of the call that fails, if one does.
+fn failing(alloc: Global, number: &str) -> Result<Vec<u64>, AllocError> {
+    let mut numbers = Vec::new(alloc);
+    if let Ok(number) = number.parse() {
+        numbers.push(number)?;
+    }
+    Ok(numbers)
+}
+
+fn given(alloc: Global, answer: Result<(), AllocError>) -> Result<String, AllocError> {
+    answer?;
+    answered(alloc, "put")
+}
+
+fn shown(alloc: Global, file: Option<&Bytes>) -> Result<String, AllocError> {
+    match file {
+        Some(bytes) => text_of(alloc, bytes.as_slice()),
+        None => answered(alloc, "nothing"),
+    }
+}
+
+/// The answer to a call that each source or sink has.
+fn called<S: Source, K: Sink>(
+    alloc: Global,
+    source: &mut S,
+    sink: &mut K,
+    word: &str,
+    rest: &str,
+) -> Result<String, AllocError> {
+    let (name, bytes) = first_word(rest);
+    match word {
+        "fetch" => fetched(alloc, source.fetch(alloc, rest.as_bytes())),
+        "say" => told(alloc, sink.say(bytes_of(alloc, rest)?.as_slice())),
+        "save" => told(alloc, sink.save(name.as_bytes(), bytes.as_bytes())),
+        _ => malformed(alloc),
+    }
+}
+
+fn fetched(alloc: Global, answer: Fetched) -> Result<String, AllocError> {
+    match answer {
+        Fetched::Found(bytes) => text_of(alloc, bytes.as_slice()),
+        Fetched::Absent => answered(alloc, "absent"),
+        Fetched::Failed => answered(alloc, "failed"),
+        Fetched::OutOfMemory => Err(AllocError),
+    }
+}
+
+fn told(alloc: Global, put: Put) -> Result<String, AllocError> {
+    match put {
+        Put::Done => answered(alloc, "done"),
+        Put::Failed => answered(alloc, "failed"),
+        Put::OutOfMemory => Err(AllocError),
+    }
+}
+
+/// What comes of the current folder and standard output by lines of `fetch NAME`, `say TEXT` and `save NAME TEXT`, and of
+/// `write NAME TEXT`, `grow NAME SIZE`, `read NAME` and `remove NAME`, which are done by std's file calls.
+pub fn folder(rt: &HostRuntime, lines: &str) -> io::Result<String> {
+    let read = FilesRead::new(rt.alloc());
+    let mut source = DirSource::new(rt, &read);
+    let mut sink = DirSink::new(rt, rt.alloc(), &read);
+    let mut text = String::new(rt.alloc());
+    for line in lines.split('\n') {
+        let (word, rest) = first_word(line);
+        let answer = match word {
+            "fetch" | "say" | "save" => called(rt.alloc(), &mut source, &mut sink, word, rest)?,
+            _ => in_folder(rt, word, rest)?,
+        };
+        append(&mut text, answer)?;
+    }
+    Ok(text)
+}
+
+fn in_folder(rt: &HostRuntime, word: &str, rest: &str) -> io::Result<String> {
+    let (name, text) = first_word(rest);
+    match word {
+        "write" => fs::write(rt, name, text)?,
+        "grow" => fs::create(rt, name)?.set_len(text.parse().unwrap_or(0))?,
+        "read" => return fs::read_to_string(rt, name),
+        "remove" => fs::remove_file(rt, name)?,
+        _ => return Ok(malformed(rt.alloc())?),
+    }
+    Ok(answered(rt.alloc(), "done")?)
+}

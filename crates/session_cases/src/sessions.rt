@@ -1,0 +1,131 @@
+//! Cases of sessions over line_machine, worked out by hand: a run takes a turn to open its file, one for each line, one for
+//! each page and one to stop; an edit takes those of the pages behind its place alone.
+use crate::edits::edit_of;
+use line_machine::LineMachine;
+use std::alloc::{AllocError, Global};
+use tx_bytes::Bytes;
+use tx_cases::{bytes_of, first_line, first_word};
+use tx_files::{Edit, FileSet, Name};
+use tx_machine::{Date, Limits, Steps};
+use tx_session::{Refusal, Report, Session};
+
+const DATE: Date = Date {
+    year: 2026,
+    month: 2,
+    day: 28,
+    minutes: 1439,
+};
+
+const LIMITS: Limits = Limits {
+    budget: 100,
+    pages: 10,
+    keep: 1,
+};
+
+fn main_name(alloc: Global) -> Result<Name, AllocError> {
+    match Name::new(Bytes::from_slice(alloc, b"main")?) {
+        Some(name) => Ok(name),
+        None => Err(AllocError),
+    }
+}
+
+/// A document of one file, opened.
+fn opened(
+    alloc: Global,
+    bytes: &[u8],
+    steps: &mut Steps,
+) -> Result<Session<LineMachine>, AllocError> {
+    let mut files = FileSet::new(alloc);
+    files.put(main_name(alloc)?, Bytes::from_slice(alloc, bytes)?)?;
+    let main = main_name(alloc)?;
+    Session::open(alloc, LineMachine, files, main, DATE, LIMITS, steps)
+}
+
+fn append_bytes(text: &mut String, bytes: &[u8]) -> Result<(), AllocError> {
+    for byte in bytes {
+        text.push(char::from(*byte))?;
+    }
+    text.push(' ')
+}
+
+fn append_pages(text: &mut String, session: &Session<LineMachine>) -> Result<(), AllocError> {
+    for page in 0..session.pages() {
+        append_bytes(text, session.body(page + 1))?;
+    }
+    Ok(())
+}
+
+/// The pages, the transcript, the end, the size of the DVI file, and the turns so far.
+fn append_all(
+    text: &mut String,
+    session: &Session<LineMachine>,
+    steps: &Steps,
+) -> Result<(), AllocError> {
+    append_pages(text, session)?;
+    append_bytes(text, session.said())?;
+    let end = session.end();
+    let file = session.dvi()?;
+    let size = file.len();
+    write!(text, "{end:?} {size} {steps:?}\n")
+}
+
+/// What an edit is answered, and what there is then.
+fn append_edit(
+    text: &mut String,
+    session: &mut Session<LineMachine>,
+    e: &Edit,
+    steps: &mut Steps,
+) -> Result<(), AllocError> {
+    match session.edit(e, steps) {
+        Ok(
+            Report {
+                pages,
+                resumed,
+                formatted,
+                reused,
+            },
+        ) => { write!(text, "{pages} = {resumed} + {formatted} + {reused}: ")? }
+        Err(Refusal::Outside { len }) => write!(text, "outside {len}: ")?,
+        Err(Refusal::OutOfMemory) => return Err(AllocError),
+    }
+    append_all(text, session, steps)
+}
+
+/// The edit of `main` of a line with its place, how many bytes it takes out, and what it puts in.
+fn edit(alloc: Global, line: &str) -> Result<Edit, AllocError> {
+    let (place, rest) = first_word(line);
+    let (removed, put) = first_word(rest);
+    let (place, removed) = (place.parse().unwrap_or(0), removed.parse().unwrap_or(0));
+    match edit_of(alloc, "main", place, removed, put)? {
+        Some(e) => Ok(e),
+        None => Err(AllocError),
+    }
+}
+
+/// What there is of the document of the first line, and after each edit of the lines behind it: what the edit is answered,
+/// the pages, the transcript, the end, the size of the DVI file, and the turns so far.
+pub fn edited(alloc: Global, lines: &str, mut steps: Steps) -> Result<String, AllocError> {
+    let (document, edits) = first_line(lines);
+    let mut text = String::new(alloc);
+    let mut session = opened(alloc, bytes_of(alloc, document)?.as_slice(), &mut steps)?;
+    append_all(&mut text, &session, &steps)?;
+    for line in edits.split('\n') {
+        let e = edit(alloc, line)?;
+        append_edit(&mut text, &mut session, &e, &mut steps)?;
+    }
+    Ok(text)
+}
+
+/// What there is after all edits, which are made at once, those that fit.
+pub fn replayed(alloc: Global, lines: &str, mut steps: Steps) -> Result<String, AllocError> {
+    let (document, edits) = first_line(lines);
+    let mut session = opened(alloc, bytes_of(alloc, document)?.as_slice(), &mut steps)?;
+    let mut list = Vec::new(alloc);
+    for line in edits.split('\n') {
+        list.push(edit(alloc, line)?)?;
+    }
+    session.replay(list.as_slice(), &mut steps)?;
+    let mut text = String::new(alloc);
+    append_all(&mut text, &session, &steps)?;
+    Ok(text)
+}

@@ -1,0 +1,114 @@
+//! Running the cases of texts.
+use std::{env, fs, io};
+
+/// What a program answers.
+pub trait Answers {
+    /// What becomes of what is given in a case, as a text. An error ends the program.
+    fn answer(&mut self, rt: &HostRuntime, given: &str) -> io::Result<String>;
+}
+
+/// How many cases there were, and how many of them came out otherwise or were no cases.
+#[derive(Drop)]
+struct Tally {
+    cases: u64,
+    others: u64,
+}
+
+/// Runs the cases of each file that a word of the command line names.
+pub fn run_files<A: Answers>(rt: &HostRuntime, program: &mut A) -> io::Result<()> {
+    for name in env::args(rt)?.skip(1) {
+        let text = fs::read_to_string(rt, name.as_str())?;
+        run_text(rt, name.as_str(), text.as_str(), program)?;
+    }
+    Ok(())
+}
+
+/// Runs the cases of one text, and says how many there were.
+fn run_text<A: Answers>(
+    rt: &HostRuntime,
+    name: &str,
+    text: &str,
+    program: &mut A,
+) -> io::Result<()> {
+    let mut tally = Tally {
+        cases: 0,
+        others: 0,
+    };
+    for (number, block) in text.split("\n== ").enumerate() {
+        if number != 0 {
+            run_block(rt, block, program, &mut tally)?;
+        } else if !block.starts_with("##") {
+            println!(rt; "{name} begins without ##")?;
+        }
+    }
+    let (cases, others) = (tally.cases, tally.others);
+    match others {
+        0 => println!(rt; "{name}: {cases} cases"),
+        _ => println!(rt; "{name}: {cases} cases, {others} otherwise"),
+    }
+}
+
+/// Runs the cases of a block.
+fn run_block<A: Answers>(
+    rt: &HostRuntime,
+    block: &str,
+    program: &mut A,
+    tally: &mut Tally,
+) -> io::Result<()> {
+    match block.split_once("\n--\n") {
+        Some((front, expected)) => {
+            let (name, given) = front.split_once('\n').unwrap_or((front, ""));
+            run_case(rt, name, given, expected, program, tally)
+        }
+        None => {
+            let (name, lines) = block.split_once('\n').unwrap_or((block, ""));
+            run_lines(rt, name, lines, program, tally)
+        }
+    }
+}
+
+/// Runs the cases of a block with a case a line.
+fn run_lines<A: Answers>(
+    rt: &HostRuntime,
+    name: &str,
+    lines: &str,
+    program: &mut A,
+    tally: &mut Tally,
+) -> io::Result<()> {
+    for line in lines.split('\n') {
+        if line.is_empty() || line.starts_with("##") {
+            continue;
+        }
+        match line.split_once(" =>") {
+            Some((given, expected)) => {
+                let expected = expected.strip_prefix(' ').unwrap_or(expected);
+                run_case(rt, name, given, expected, program, tally)?;
+            }
+            None => {
+                tally.others = tally.others.saturating_add(1);
+                println!(rt; "{name}: no case in {line}")?;
+            }
+        }
+    }
+    Ok(())
+}
+
+/// Runs one case; where it comes out otherwise, shows it. Line feeds at the end of a text don't count.
+fn run_case<A: Answers>(
+    rt: &HostRuntime,
+    name: &str,
+    given: &str,
+    expected: &str,
+    program: &mut A,
+    tally: &mut Tally,
+) -> io::Result<()> {
+    tally.cases = tally.cases.saturating_add(1);
+    let found = program.answer(rt, given)?;
+    let found = found.as_str().trim_end_matches('\n');
+    let expected = expected.trim_end_matches('\n');
+    if found == expected {
+        return Ok(());
+    }
+    tally.others = tally.others.saturating_add(1);
+    println!(rt; "== {name}\n{given}\n-- is expected to give\n{expected}\n-- but gives\n{found}")
+}
