@@ -94,3 +94,10 @@ passed-answer rest held reading t count new (fed.More want) h k = (k.0, rw k.1 h
 passed-answer rest held reading t count new (fed.Need kind) h k = (k.0, rw k.1 h, rw k.1 k.2)
 passed-answer rest held reading t count new (fed.Done value back) h k = (rw k.0 h, rw k.0 k.1)
 passed-answer rest held reading t count new (fed.Wrong error) h k = k
+
+-- the answer to a token by what reads on alike
+pub same-answer : {S A : Type 0} (rest : S → List Item → Item → List Item → Reading A) (held : S → ℕ) (reading other : List Item → Reading A) (t : Seen) (new : S) (answer : Fed A) → ((more : List Item) → reading more ≡ other more) → IsAnswer rest held other t new answer → IsAnswer rest held reading t new answer
+same-answer rest held reading other t new (fed.More want) same k = (same [] ∙ k.0, k.1, λ item more. same (item ∷ more) ∙ k.2 item more)
+same-answer rest held reading other t new (fed.Need kind) same k = (same [] ∙ k.0, k.1, λ item more. same (item ∷ more) ∙ k.2 item more)
+same-answer rest held reading other t new (fed.Done value back) same k = (k.0, λ more. same more ∙ k.1 more)
+same-answer rest held reading other t new (fed.Wrong error) same k = λ more. same more ∙ k more

@@ -150,6 +150,7 @@ ends-begun outers negative rest want (begin.Digits radix) h later =
 ends-begun outers negative rest want begin.Character h later =
     whole-constant character_code outers negative rest (λ more items. on-code more items)
     (closes-code rest want (constant-more outers negative (character_code rest) want h))
+ends-begun outers negative rest want begin.Point h later = absurd (cc)
 ends-begun outers negative rest want (begin.Number n) h later = absurd (whole-more outers (with_sign negative (pos n)) [] rest want h)
 ends-begun outers negative rest want (begin.At place) h later =
     absurd (quantity-more place rest want (λ n rest. whole outers (with_sign negative n) [] rest) (λ n rest. whole-more outers (with_sign negative n) [] rest want) h)

@@ -4,3 +4,5 @@ pub mod Letters
 pub mod ReadingOn
 pub mod Extending
 pub mod OneMore
+pub mod KeptDigits
+pub mod UnitSpaces

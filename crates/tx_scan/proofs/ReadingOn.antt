@@ -89,6 +89,7 @@ on-begun more outers negative here there rest (begin.Digits radix) later =
     on-next more (first_digit radix rest) (first_digit radix (rest ++ more)) (signed_constant outers negative) (on-first more radix rest) (λ c rest. on-whole more outers (with_sign negative (pos c.number)) c.behind rest)
 on-begun more outers negative here there rest begin.Character later =
     on-next more (character_code rest) (character_code (rest ++ more)) (signed_constant outers negative) (on-code more rest) (λ c rest. on-whole more outers (with_sign negative (pos c.number)) c.behind rest)
+on-begun more outers negative here there rest begin.Point later = refl
 on-begun more outers negative here there rest (begin.Number n) later = on-whole more outers (with_sign negative (pos n)) [] rest
 on-begun more outers negative here there rest (begin.At place) later =
     on-next more (quantity place rest) (quantity place (rest ++ more)) (λ n rest. whole outers (with_sign negative n) [] rest) (on-quantity more place rest) (λ n rest. on-whole more outers (with_sign negative n) [] rest)

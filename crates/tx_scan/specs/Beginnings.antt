@@ -73,7 +73,7 @@ begun_by_meaning (meaning.MathNumber n) = begin.Number n
 begun_by_meaning (meaning.CountRegister n) = begin.At (place.Count n)
 begun_by_meaning (meaning.DimenRegister n) = begin.At (place.Dimen n)
 
--- a character of category 12 that is no digit: + - ' " ` begin something by themselves
+-- a character of category 12 that is no digit: + - ' " ` begin something by themselves, and a point does a size's fraction
 abbrev pub begun_by_sign : ℕ → Meaning → Beginning
 begun_by_sign code m =
     if code == character "+" then begin.Plus
@@ -81,6 +81,8 @@ begun_by_sign code m =
     else if code == character "'" then begin.Digits Octal
     else if code == character "\"" then begin.Digits Hexadecimal
     else if code == character "`" then begin.Character
+    else if code == character "." then begin.Point
+    else if code == character "," then begin.Point
     else begun_by_meaning m
 
 abbrev pub begun_by : Option ℕ → Token → Meaning → Beginning

@@ -3,7 +3,6 @@ use Rattle.std.specs.Prelude.{◌∷◌, [], ◌||◌, Bool, true, false, List, 
 use Rattle.tx_char.specs.Character.{character}
 use Rattle.tx_seen.specs.declared.error.TexError.TheVariants.{MissingBeginGroup}
 use Rattle.tx_seen.specs.declared.fed.Want.TheVariants.{Expanded}
-use Rattle.tx_seen.specs.declared.seen.Seen.{Seen}
 use Rattle.tx_seen.specs.Seen.{is_space, is_other, is_relax, is_begin_group}
 use Rattle.tx_seen.specs.Readings.{Item, Took, Gave, Reading, More, Done, Wrong}
 use Rattle.tx_scan.specs.Integers.{expanded}

@@ -126,6 +126,7 @@ begun outers negative on rest begin.Minus = on outers (not negative)
 begun outers negative on rest (begin.Digit d) = next (digits Decimal d rest) (signed_constant outers negative)
 begun outers negative on rest (begin.Digits radix) = next (first_digit radix rest) (signed_constant outers negative)
 begun outers negative on rest begin.Character = next (character_code rest) (signed_constant outers negative)
+begun outers negative on rest begin.Point = Wrong MissingNumber
 begun outers negative on rest (begin.Number n) = whole outers (with_sign negative (pos n)) [] rest
 begun outers negative on rest (begin.At place) = next (quantity place rest) (λ n rest. whole outers (with_sign negative n) [] rest)
 begun outers negative on rest (begin.Numbered family) = on (record { negative = negative; family = family } ∷ outers) false

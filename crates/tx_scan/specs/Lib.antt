@@ -7,3 +7,5 @@ pub mod Laws
 pub mod Supplied
 pub mod Grammars
 pub mod GrammarRests
+pub mod Dimensions
+pub mod DimensionRests

@@ -1,6 +1,7 @@
 //! What a token begins where a number is needed (TeX: The Program, sections 413 and 440 to 445).
 ghost use Rattle.std.specs.Prelude.{◌≡◌, ◌<◌, IfSome};
 ghost use Rattle.tx_scan.specs.Beginnings as spec;
+ghost use Rattle.tx_scan.specs.Dimensions.{is_decimal};
 
 use crate::scans::{Beginning, Family, Radix};
 use tx_char::{Cat, Token};
@@ -20,6 +21,15 @@ impl Radix {
     }
 }
 
+impl Radix {
+    /// Whether it is the decimal one.
+    pub(crate) fn is_decimal(self) -> bool
+        ensures { result ≡ is_decimal self }
+    {
+        matches!(self, Radix::Decimal)
+    }
+}
+
 /// The value of a hexadecimal digit.
 fn figure(token: &Token) -> Option<u8>
     ensures { result ≡ spec.figure token.now }
@@ -36,7 +46,7 @@ fn figure(token: &Token) -> Option<u8>
 /// The value of a digit.
 pub(crate) fn digit(radix: Radix, token: &Seen) -> Option<u8>
     ensures value { result ≡ spec.digit radix token.now }
-    ensures small { IfSome result (λ digit. digit < 16) }
+    ensures small { IfSome result (λ digit. digit < spec.base radix) }
 {
     let figure = figure(&token.token)?;
     if figure < radix.base() {
@@ -105,6 +115,7 @@ fn begun_by_sign(code: u8, meaning: &Meaning) -> Beginning
         b'\'' => Beginning::Digits(Radix::Octal),
         b'"' => Beginning::Digits(Radix::Hexadecimal),
         b'`' => Beginning::Character,
+        b'.' | b',' => Beginning::Point,
         _ => begun_by_meaning(meaning),
     }
 }

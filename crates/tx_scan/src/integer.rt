@@ -17,7 +17,7 @@ use tx_seen::{Fed, Kind, Seen, TexError, Value, Want};
 const GREATEST: u64 = 2_147_483_647;
 
 /// The constant of one digit.
-fn first(radix: Radix, digit: u8) -> Constant
+pub(crate) fn first(radix: Radix, digit: u8) -> Constant
     ensures radix { result.radix ≡ radix }
     ensures number { result.number ≡ digit }
 {
@@ -28,7 +28,7 @@ fn first(radix: Radix, digit: u8) -> Constant
 }
 
 /// The constant with one more digit, if it isn't too large.
-fn longer(constant: Constant, digit: u8) -> Option<Constant>
+pub(crate) fn longer(constant: Constant, digit: u8) -> Option<Constant>
     ensures radix { MatchOption result (2147483647 < base constant.radix * constant.number + digit) (λ longer. longer.radix ≡ constant.radix) }
     ensures number { MatchOption result (2147483647 < base constant.radix * constant.number + digit) (λ longer. longer.number ≡ base constant.radix * constant.number + digit) }
 {
@@ -224,6 +224,7 @@ impl IntScan {
                 Ok(Fed::Need(Kind::Quantity(place)))
             }
             Beginning::Numbered(family) => self.wait(family),
+            Beginning::Point => Ok(Fed::Wrong(TexError::MissingNumber)),
             Beginning::Nothing(error) => Ok(Fed::Wrong(error)),
         }
     }

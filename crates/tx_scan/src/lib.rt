@@ -5,6 +5,8 @@
 #![tactic(auto)]
 
 mod beginnings;
+mod dimension;
+mod fraction;
 mod grammars;
 mod integer;
 mod keyword;
@@ -14,5 +16,5 @@ mod scans;
 mod supplying;
 
 pub use laws::integers_are_read_from_the_left;
-pub use scans::{BraceScan, EqualsScan, IntScan, KeyScan};
+pub use scans::{BraceScan, DimenScan, EqualsScan, IntScan, KeyScan};
 pub use supplying::{Needs, Quantities, supply};

@@ -1,8 +1,10 @@
 //! How far a scan is.
 ghost use Rattle.std.specs.Prelude.{◌≤◌};
 
+use crate::fraction::Digits;
 use crate::outers::Outers;
 use tx_bytes::Bytes;
+use tx_num::PhysicalUnit;
 use tx_seen::{CharacterCode, Place, TexError};
 
 /// What the digits of a constant count in.
@@ -47,6 +49,8 @@ pub enum Beginning {
     Digits(Radix),
     /// The code of the character that follows.
     Character,
+    /// The fraction of a size, whose digits follow; no integer.
+    Point,
     /// This number, and nothing follows.
     Number(u16),
     /// The number that stands at this place, and nothing follows.
@@ -108,3 +112,36 @@ pub struct EqualsScan {}
 /// A begin-group token that is being looked for.
 #[derive(Clone, Copy, Debug)]
 pub struct BraceScan {}
+
+/// The part of a dimension that comes next.
+#[derive(Clone, Copy, Debug)]
+pub enum DimenStage {
+    /// Signs and spaces, then the factor.
+    Signs,
+    /// The first digit of an octal or hexadecimal factor.
+    FirstDigit(Radix),
+    /// Digits of whole units behind those of this constant, then perhaps a fraction, and an optional space.
+    Digits(Constant),
+    /// Digits of a fraction behind so many whole units, and an optional space.
+    Fraction(u32),
+    /// The character behind a backquote.
+    Character,
+    /// An optional space behind a character with this code.
+    AfterCharacter(u8),
+    /// Spaces, and the first letter of a unit behind so many whole ones.
+    Unit(u32),
+    /// This letter, the second of the unit.
+    SecondLetter(u32, PhysicalUnit, u8),
+    /// An optional space behind the unit.
+    AfterUnit(u32, PhysicalUnit),
+}
+
+/// A dimension that is being scanned.
+#[derive(Debug, Drop)]
+pub struct DimenScan {
+    /// Whether the signs so far make it negative.
+    pub(crate) negative: bool,
+    pub(crate) stage: DimenStage,
+    /// The digits of the fraction that are read and count.
+    pub(crate) digits: Digits,
+}
