@@ -7,7 +7,7 @@ use tx_prim::Primitive;
 use tx_seen::{CharacterCode, Meaning, Place};
 
 /// What a command is to assignments (TeX: The Program, section 1210).
-#[derive(Debug, Drop)]
+#[derive(Drop)]
 pub enum Beginning {
     /// \global.
     Prefix,

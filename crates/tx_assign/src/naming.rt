@@ -12,7 +12,7 @@ use tx_eqtb::Entry;
 use tx_seen::{Place, Seen, TexError};
 
 /// What a token is where a name is needed.
-#[derive(Debug, Drop)]
+#[derive(Drop)]
 pub enum NameRead {
     /// A space, which is skipped.
     Space,

@@ -16,7 +16,7 @@ use std::alloc::{AllocError, Global};
 use tx_seen::{Place, Seen, TexError};
 
 /// What of an assignment is still to be read. Each stage but the first two knows whether \global stands before it.
-#[derive(Debug, Drop)]
+#[derive(Drop)]
 pub enum AssignScan {
     /// Its first token.
     Start,

@@ -3,7 +3,7 @@ use tx_eqtb::Entry;
 use tx_seen::{CharacterCode, Place, TexError};
 
 /// What \advance, \multiply and \divide do.
-#[derive(Clone, Copy, Debug, PartialEq, Eq)]
+#[derive(Clone, Copy, PartialEq, Eq)]
 pub enum Operation {
     Advance,
     Multiply,
@@ -11,7 +11,7 @@ pub enum Operation {
 }
 
 /// What a command that is followed by a number tells apart by it.
-#[derive(Clone, Copy, Debug)]
+#[derive(Clone, Copy)]
 pub enum Numbered {
     /// Registers of \count and \dimen.
     CountRegister,
@@ -23,7 +23,7 @@ pub enum Numbered {
 }
 
 /// The left side of an assignment (The TeXbook, chapter 24).
-#[derive(Debug, Drop)]
+#[derive(Drop)]
 pub enum Variable {
     /// A number tells which.
     Numbered(Numbered),
@@ -32,7 +32,7 @@ pub enum Variable {
 }
 
 /// What a name is made to mean by a number (TeX: The Program, section 1222).
-#[derive(Clone, Copy, Debug, PartialEq, Eq)]
+#[derive(Clone, Copy, PartialEq, Eq)]
 pub enum Shorthand {
     /// \countdef and \dimendef: a register.
     CountRegister,
@@ -44,7 +44,7 @@ pub enum Shorthand {
 }
 
 /// What an assignment gives a value.
-#[derive(Debug, Drop)]
+#[derive(Drop)]
 pub enum Target {
     /// This place.
     Variable(Place),
@@ -55,14 +55,14 @@ pub enum Target {
 }
 
 /// The numbers from the least to the greatest.
-#[derive(Clone, Copy, Debug)]
+#[derive(Clone, Copy)]
 pub struct Bounds {
     pub least: i64,
     pub greatest: i64,
 }
 
 /// What becomes of a place.
-#[derive(Debug, Drop)]
+#[derive(Drop)]
 pub enum Change {
     /// It has this entry.
     Set(Entry),
@@ -71,7 +71,7 @@ pub enum Change {
 }
 
 /// What carrying an assignment out gives.
-#[derive(Clone, Copy, Debug)]
+#[derive(Clone, Copy)]
 pub enum Carried {
     /// It is done.
     Done,
@@ -80,7 +80,7 @@ pub enum Carried {
 }
 
 /// An assignment with all that belongs to it.
-#[derive(Debug, Drop)]
+#[derive(Drop)]
 pub struct Assignment {
     /// Whether \global stands before it.
     pub global: bool,

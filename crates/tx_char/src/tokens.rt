@@ -77,7 +77,7 @@ impl Kept for ControlName {
 }
 
 /// What reading makes of characters (The TeXbook, chapter 7), and the one token that reading makes of none.
-#[derive(Debug, Drop)]
+#[derive(Drop)]
 pub enum Token {
     /// A character code with the category that it had when it was read. An active character is one too.
     Character(u8, Cat),

@@ -10,7 +10,7 @@ use tx_seen::{Fed, TexError, Want};
 
 /// Text that is being skipped, token by token, to the first \else, \or or \fi that belongs to no conditional within it.
 /// Contracts see the number of conditionals within it that are open.
-#[derive(Debug, Drop)]
+#[derive(Drop)]
 pub struct Skipper {
     open: u64,
 }

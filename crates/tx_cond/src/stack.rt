@@ -10,7 +10,7 @@ use std::marker::Model;
 use tx_seen::TexError;
 
 /// The conditionals that are open. Contracts see the list of them, the innermost first.
-#[derive(Debug, Drop)]
+#[derive(Drop)]
 pub struct CondStack {
     open: VecDeque<Conditional>,
 }

@@ -6,7 +6,7 @@ use tx_char::Cat;
 use tx_seen::Meaning;
 
 /// What a place of the table is given: each place holds entries of one kind.
-#[derive(Debug, Drop)]
+#[derive(Drop)]
 pub enum Entry {
     /// At a name and an active character.
     Means(Meaning),

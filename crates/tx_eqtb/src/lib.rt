@@ -2,6 +2,9 @@
 //! the groups that are open. Contracts see the table as it stands and, for each open group, its kind and the table outside
 //! it: a group begins with a copy, and what was outside comes back when it ends.
 //!
+//! Proved: it is a stack of tables: assignments, groups, `same` and `share` are exactly as defined. Only tested: that it
+//! begins as INITEX's table does.
+//!
 //! Read `entry`, what stands at a place; `cells`, `table`, `reading` and `writing`; `initex`, the table at the beginning;
 //! `groups` and `nesting`; and then `eqtb` with `stack`. Places and meanings are tx_seen's.
 #![tactic(auto)]

@@ -6,7 +6,7 @@ use std::alloc::{AllocError, Global};
 use std::marker::Model;
 
 /// Values in their order. Contracts see an `Items` as the list of them.
-#[derive(Debug, Drop)]
+#[derive(Drop)]
 pub struct Items<T> {
     values: Vec<T>,
 }

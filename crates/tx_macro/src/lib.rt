@@ -1,6 +1,9 @@
 //! The arguments of macros (The TeXbook, chapter 20; TeX: The Program, sections 389 to 399): a matcher is fed the tokens
 //! behind a macro's name, one at a time, up to the last one that its parameter text takes.
 //!
+//! Proved: arguments are exactly those that the definition of a macro's use gives, whose answers are final. Only tested:
+//! that the definition is Knuth's, on uses that his program takes alike.
+//!
 //! Modules in reading order: `tokens`, `stage`, `borders`, `undelimited`, `delimited`, `advance`, `matcher`, `laws`.
 #![tactic(auto)]
 

@@ -13,7 +13,7 @@ use tx_toklist::{Item, Lists, Macro};
 
 /// The use of a macro, of which some tokens are taken. Contracts see the macro, these tokens, and whether it goes on: at
 /// first and after `More`. After any other answer and after want of memory it may only be dropped.
-#[derive(Debug, Drop)]
+#[derive(Drop)]
 pub struct Matcher {
     made: Macro,
     gathered: Gathered,

@@ -10,7 +10,7 @@ use tx_toklist::{Lists, Toks};
 pub(crate) type Table = Items<usize>;
 
 /// What the use of a macro waits for.
-#[derive(Clone, Copy, Debug, PartialEq, Eq)]
+#[derive(Clone, Copy, PartialEq, Eq)]
 pub(crate) enum Awaited {
     /// The tokens before the first parameter, of which so many are met.
     Before { met: usize },
@@ -21,7 +21,7 @@ pub(crate) enum Awaited {
 }
 
 /// What an argument is that is being taken.
-#[derive(Clone, Copy, Debug, PartialEq, Eq)]
+#[derive(Clone, Copy, PartialEq, Eq)]
 pub(crate) enum Kind {
     /// Undelimited; nothing but spaces was met.
     Undelimited,
@@ -32,7 +32,7 @@ pub(crate) enum Kind {
 }
 
 /// What the use of a macro has gathered.
-#[derive(Debug, Drop)]
+#[derive(Drop)]
 pub(crate) struct Gathered {
     /// The tokens taken.
     pub taken: Toks,
@@ -73,7 +73,7 @@ impl Clone for Gathered {
 }
 
 /// What a token makes of an argument.
-#[derive(Clone, Copy, Debug, PartialEq, Eq)]
+#[derive(Clone, Copy, PartialEq, Eq)]
 pub(crate) enum Move {
     /// It goes on so.
     On(Kind),
@@ -90,7 +90,7 @@ pub(crate) enum Move {
 }
 
 /// What a token makes of a use.
-#[derive(Debug, Drop)]
+#[derive(Drop)]
 pub(crate) enum Advance {
     /// It waits for this.
     On(Awaited),

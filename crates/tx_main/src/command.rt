@@ -10,7 +10,7 @@ use tx_seen::{Place, Seen};
 
 /// A command that is being taken off the input. Contracts see the tokens that were taken since it began, and whether it
 /// stands in a horizontal list.
-#[derive(Debug, Drop)]
+#[derive(Drop)]
 pub struct CommandScan {
     horizontal: bool,
     taken: Tokens,

@@ -7,7 +7,7 @@ use crate::types::Side;
 
 /// The name of a rule's side of which some letters are read, and not all. The letters are kept as they came, since they
 /// are given back where the name breaks off.
-#[derive(Debug, Drop)]
+#[derive(Drop)]
 pub struct Keyword {
     pub side: Side,
     pub letters: Tokens,

@@ -1,5 +1,8 @@
 //! TeX as a machine: a state, and turns that each do one piece of due work, ask for a line, or take one token.
 //!
+//! Proved: each turn is the defined step, `same` is exactly equality of meanings. Only tested: that the grammars, effects
+//! and the reading are TeX's, on documents that Knuth's TeX reads alike.
+//!
 //! Read `types`; how commands are taken off tokens: `scans`, `rule`, `stage` and `command`; then `parts`, `state`,
 //! `effects`, `page`, `turn` and `machine`; last `clones`, `share` and `same`.
 #![tactic(auto)]

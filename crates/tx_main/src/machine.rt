@@ -21,7 +21,7 @@ use tx_node::Nodes;
 use tx_pending::Pending;
 
 /// TeX, begun as INITEX.
-#[derive(Clone, Copy, Debug)]
+#[derive(Clone, Copy)]
 pub struct Tex;
 
 impl Machine for Tex {

@@ -10,7 +10,7 @@ use tx_seen::{Seen, TexError};
 pub type Tokens = Items<Seen>;
 
 /// The name of a rule's side that is being read.
-#[derive(Debug, Drop)]
+#[derive(Drop)]
 pub enum SideScan {
     /// Spaces, and the first letter of a name.
     Spaces,
@@ -19,7 +19,7 @@ pub enum SideScan {
 }
 
 /// What the scan of a side's name answers to a token.
-#[derive(Debug, Drop)]
+#[derive(Drop)]
 pub enum SideFed {
     /// The scan goes on.
     More(SideScan),
@@ -32,7 +32,7 @@ pub enum SideFed {
 }
 
 /// The sides and sizes of a rule that are being read.
-#[derive(Debug, Drop)]
+#[derive(Drop)]
 pub struct RuleScan {
     /// The rule as it is so far.
     pub rule: Rule,
@@ -40,7 +40,7 @@ pub struct RuleScan {
 }
 
 /// The part of a rule that comes next.
-#[derive(Debug, Drop)]
+#[derive(Drop)]
 pub enum RulePart {
     /// The name of a side, if there is one.
     Side(SideScan),
@@ -53,7 +53,7 @@ pub enum RulePart {
 pub type RuleFed = Fed<RuleScan, Rule, Tokens>;
 
 /// A command that is being read.
-#[derive(Debug, Drop)]
+#[derive(Drop)]
 pub enum Stage {
     /// Its first token.
     Start,
@@ -70,7 +70,7 @@ pub enum Stage {
 }
 
 /// The tokens behind a command that were taken and aren't part of it, in their order.
-#[derive(Debug, Drop)]
+#[derive(Drop)]
 pub enum Back {
     Nothing,
     One(Seen),
@@ -78,7 +78,7 @@ pub enum Back {
 }
 
 /// What taking a token to a command gives.
-#[derive(Debug, Drop)]
+#[derive(Drop)]
 pub enum Taken {
     /// The command isn't whole yet.
     More,

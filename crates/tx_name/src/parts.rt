@@ -13,7 +13,7 @@ pub const SHELVES: usize = 32;
 pub const BUCKETS: usize = 32;
 
 /// Where a name belongs.
-#[derive(Clone, Copy, Debug)]
+#[derive(Clone, Copy)]
 pub struct Spot {
     /// Its shelf.
     pub shelf: usize,

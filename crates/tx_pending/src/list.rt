@@ -12,7 +12,7 @@ use tx_toklist::TokList;
 
 /// A shared list, and how many of its tokens are read. Contracts see the tokens that are left, and whether a marker
 /// comes behind them.
-#[derive(Debug, Drop)]
+#[derive(Drop)]
 pub struct ListReading {
     list: TokList,
     read: usize,

@@ -18,7 +18,7 @@ use tx_toklist::TokList;
 
 /// What is read before another line is asked for. Contracts see one list of tokens, markers and lines, and whether
 /// \endinput came since a line was used up.
-#[derive(Debug, Drop)]
+#[derive(Drop)]
 pub struct Pending {
     /// The innermost source stands last.
     stack: Vec<Source>,

@@ -10,7 +10,7 @@ use std::alloc::{AllocError, Global};
 use tx_char::{Codes, Token};
 
 /// What is being read.
-#[derive(Debug, Drop)]
+#[derive(Drop)]
 pub enum Source {
     List(ListReading),
     Line(LineReading),

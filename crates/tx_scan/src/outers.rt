@@ -6,7 +6,7 @@ use std::alloc::{AllocError, Global};
 use std::marker::Model;
 
 /// Numbers that wait, each for the next one. Contracts see the list of them, the innermost first.
-#[derive(Debug, Drop)]
+#[derive(Drop)]
 pub struct Outers {
     outermost_first: Vec<Outer>,
 }

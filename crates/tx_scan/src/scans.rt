@@ -8,7 +8,7 @@ use tx_num::PhysicalUnit;
 use tx_seen::{CharacterCode, Place, TexError};
 
 /// What the digits of a constant count in.
-#[derive(Clone, Copy, Debug, PartialEq, Eq)]
+#[derive(Clone, Copy, PartialEq, Eq)]
 pub enum Radix {
     Octal,
     Decimal,
@@ -16,7 +16,7 @@ pub enum Radix {
 }
 
 /// What is numbered by an integer from 0 to 255 and stands for an integer itself.
-#[derive(Clone, Copy, Debug)]
+#[derive(Clone, Copy)]
 pub enum Family {
     /// \count.
     Count,
@@ -29,7 +29,7 @@ pub enum Family {
 }
 
 /// A number that waits for the number of what it stands for, as in `-\count` behind which this number comes.
-#[derive(Clone, Copy, Debug)]
+#[derive(Clone, Copy)]
 pub struct Outer {
     /// Whether its signs make it negative.
     pub negative: bool,
@@ -37,7 +37,7 @@ pub struct Outer {
 }
 
 /// What a token begins where a number is needed.
-#[derive(Debug, Drop)]
+#[derive(Drop)]
 pub enum Beginning {
     /// A space or `+`, behind which the number still begins.
     Plus,
@@ -62,7 +62,7 @@ pub enum Beginning {
 }
 
 /// The digits of a constant that are read, by the number for which they stand.
-#[derive(Clone, Copy, Debug)]
+#[derive(Clone, Copy)]
 pub struct Constant {
     pub(crate) radix: Radix,
     pub(crate) number: u32,
@@ -70,7 +70,7 @@ pub struct Constant {
 }
 
 /// The part of an integer that comes next.
-#[derive(Clone, Copy, Debug)]
+#[derive(Clone, Copy)]
 pub enum IntStage {
     /// Signs and spaces, then the number.
     Signs,
@@ -87,7 +87,7 @@ pub enum IntStage {
 }
 
 /// An integer that is being scanned.
-#[derive(Debug, Drop)]
+#[derive(Drop)]
 pub struct IntScan {
     /// The numbers that wait for this one.
     pub(crate) outers: Outers,
@@ -97,7 +97,7 @@ pub struct IntScan {
 }
 
 /// A keyword that is being scanned.
-#[derive(Debug, Drop)]
+#[derive(Drop)]
 pub struct KeyScan {
     /// The word, in small letters.
     pub(crate) word: Bytes,
@@ -106,15 +106,15 @@ pub struct KeyScan {
 }
 
 /// An optional `=` that is being scanned.
-#[derive(Clone, Copy, Debug)]
+#[derive(Clone, Copy)]
 pub struct EqualsScan {}
 
 /// A begin-group token that is being looked for.
-#[derive(Clone, Copy, Debug)]
+#[derive(Clone, Copy)]
 pub struct BraceScan {}
 
 /// The part of a dimension that comes next.
-#[derive(Clone, Copy, Debug)]
+#[derive(Clone, Copy)]
 pub enum DimenStage {
     /// Signs and spaces, then the factor.
     Signs,
@@ -137,7 +137,7 @@ pub enum DimenStage {
 }
 
 /// A dimension that is being scanned.
-#[derive(Debug, Drop)]
+#[derive(Drop)]
 pub struct DimenScan {
     /// Whether the signs so far make it negative.
     pub(crate) negative: bool,

@@ -4,7 +4,7 @@ use crate::error::TexError;
 use crate::place::Place;
 
 /// How the next token is wanted.
-#[derive(Clone, Copy, Debug, PartialEq, Eq)]
+#[derive(Clone, Copy, PartialEq, Eq)]
 pub enum Want {
     /// As it stands.
     Raw,
@@ -13,14 +13,14 @@ pub enum Want {
 }
 
 /// What a scan needs that only its caller knows.
-#[derive(Debug, Drop)]
+#[derive(Drop)]
 pub enum Kind {
     /// The number that stands at this place; a size counts in scaled points.
     Quantity(Place),
 }
 
 /// What a caller gives to a scan that needs it.
-#[derive(Clone, Copy, Debug, PartialEq, Eq)]
+#[derive(Clone, Copy, PartialEq, Eq)]
 pub enum Value {
     /// An integer.
     Int(i64),
@@ -31,7 +31,7 @@ pub enum Value {
 }
 
 /// The answer to one more token or value.
-#[derive(Debug, Drop)]
+#[derive(Drop)]
 pub enum Fed<T> {
     /// One more token is needed, so.
     More(Want),

@@ -7,7 +7,7 @@ use tx_list::Kept;
 use tx_prim::Primitive;
 
 /// The meaning of a name or an active character (TeX: The Program, part 15).
-#[derive(Debug, Drop)]
+#[derive(Drop)]
 pub enum Meaning {
     /// None.
     Undefined,

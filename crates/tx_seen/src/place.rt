@@ -6,7 +6,7 @@ use tx_char::ControlName;
 use tx_prim::{DimensionParameter, IntegerParameter};
 
 /// One of the codes that a character has beside its category (The TeXbook, chapters 7, 8, 12 and 17).
-#[derive(Clone, Copy, Debug)]
+#[derive(Clone, Copy)]
 pub enum CharacterCode {
     /// \lccode.
     LowerCase,
@@ -21,7 +21,7 @@ pub enum CharacterCode {
 }
 
 /// A place of the table (TeX: The Program, part 17).
-#[derive(Debug, Drop)]
+#[derive(Drop)]
 pub enum Place {
     /// The meaning of a control sequence.
     Name(ControlName),

@@ -9,7 +9,7 @@ use tx_list::Kept;
 use tx_prim::Primitive;
 
 /// A token, with what it meant when it was read.
-#[derive(Debug, Drop)]
+#[derive(Drop)]
 pub struct Seen {
     pub token: Token,
     pub meaning: Meaning,

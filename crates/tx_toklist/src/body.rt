@@ -6,7 +6,7 @@ use tx_char::Token;
 use tx_list::{Items, Kept};
 
 /// An element of a macro's body.
-#[derive(Debug, Drop)]
+#[derive(Drop)]
 pub enum BodyPart {
     /// This token.
     Token(Token),

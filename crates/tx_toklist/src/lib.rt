@@ -1,6 +1,9 @@
 //! Lists of tokens: those that one owner builds, those that many share, and the macros that are made of them (The
 //! TeXbook, chapter 20; TeX: The Program, parts 20 and 25).
 //!
+//! Proved: lists are the lists that they are said to be, `same` is exactly equality, and tokens are printed exactly as
+//! defined. Only tested: that this is how TeX prints them.
+//!
 //! Modules in reading order: `toks`, `tok_list`, `text`, `parameters`, `body`, `macros`; and `item`, what is fed where not
 //! every token may come.
 #![tactic(auto)]

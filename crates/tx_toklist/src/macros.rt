@@ -14,13 +14,13 @@ use tx_list::Kept;
 /// A macro that any number of owners hold at the cost of one. Contracts see its parameter text, its body, and whether it
 /// is \long and \outer. It has at most nine parameters, its parameter text has no group in it, and its body names only
 /// parameters that it has.
-#[derive(Debug, Drop)]
+#[derive(Drop)]
 pub struct Macro {
     made: Rc<Made>,
 }
 
 /// What a macro is made of, which `Macro` shares.
-#[derive(Debug, Drop)]
+#[derive(Drop)]
 struct Made {
     parameters: ParameterText,
     body: Body,

@@ -9,7 +9,7 @@ use tx_char::Token;
 
 /// The parameter text of a macro. Contracts see the tokens before the first parameter and, for each parameter, the
 /// tokens behind it, which delimit its argument. Where a text ended with `#{`, its last token is that begin-group token.
-#[derive(Debug, Drop)]
+#[derive(Drop)]
 pub struct ParameterText {
     before: Toks,
     delimiters: Lists,

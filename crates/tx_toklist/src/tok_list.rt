@@ -10,7 +10,7 @@ use tx_char::Token;
 use tx_list::{Kept, same_items};
 
 /// A list of tokens that any number of owners hold at the cost of one. Contracts see the list of the tokens.
-#[derive(Debug, Drop)]
+#[derive(Drop)]
 pub struct TokList {
     tokens: Rc<Toks>,
 }
