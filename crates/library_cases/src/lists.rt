@@ -5,7 +5,7 @@ use std::mem;
 use tx_node::{Node, Nodes, PackError, Rule, hbox};
 
 /// Why there is no list.
-#[derive(Debug, Drop)]
+#[derive(Drop)]
 pub enum Fault {
     /// The text isn't one's.
     Malformed,

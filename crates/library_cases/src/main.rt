@@ -34,7 +34,6 @@ impl Answers for Program {
             "script" | "front" => scripts::answer(rt.alloc(), word, rest)?,
             "pages" => pages::answer(rt.alloc(), rest, lines)?,
             "maps" => names::play(rt.alloc(), lines)?,
-            "steady" => outside::steady(rt.alloc(), lines)?,
             "memory" => outside::memory(rt.alloc(), rest, lines)?,
             "folder" => outside::folder(rt, lines)?,
             _ => row(rt.alloc(), word, rest)?,

@@ -79,8 +79,12 @@ fn found(alloc: Global, value: Option<&i32>) -> Result<String, AllocError> {
 }
 
 fn fill(alloc: Global, map: &mut NameMap<i32>, how: &str) -> Result<String, AllocError> {
-    for number in 0..600i32 {
-        let number = if how == "down" { 599 - number } else { number };
+    for place in 0..600i32 {
+        let number = if how == "down" {
+            599i32.saturating_sub(place)
+        } else {
+            place
+        };
         let name = format!(in alloc; "c{number:03}")?;
         let name = ControlName::from_slice(alloc, name.as_bytes())?;
         map.insert(name, how.parse().unwrap_or(number))?;

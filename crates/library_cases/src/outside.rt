@@ -3,52 +3,47 @@ use std::alloc::{AllocError, Global};
 use std::{fs, io};
 use tx_bytes::Bytes;
 use tx_cases::{answered, bytes_of, first_word, malformed, text_of};
-use tx_io::{
-    DirSink, DirSource, Fetched, FilesRead, MemorySink, MemorySource, Put, Sink, Source,
-    SteadySink, SteadySource,
-};
+use tx_io::{DirSink, DirSource, Fetched, FilesRead, MemorySink, MemorySource, Put, Sink, Source};
 
-/// What comes of a steady source and sink by lines of
+/// A source and a sink in memory.
+#[derive(Drop)]
+struct Desk {
+    source: MemorySource,
+    sink: MemorySink,
+}
+
+/// What comes of a source and a sink in memory, of which one fetch, one say and one save fail, those of these numbers, by
+/// lines of
 ///
 /// - `put NAME TEXT`, which gives the source a file, and `fetch NAME`;
 /// - `say TEXT` and `save NAME TEXT`, and `said` and `saved NAME`, what there is then.
-pub fn steady(alloc: Global, lines: &str) -> Result<String, AllocError> {
-    let mut source = SteadySource::new(alloc);
-    let mut sink = SteadySink::new(alloc);
+pub fn memory(alloc: Global, rest: &str, lines: &str) -> Result<String, AllocError> {
+    let (fetch, rest) = first_word(rest);
+    let (say, save) = first_word(rest);
+    let mut desk = Desk {
+        source: MemorySource::new(alloc, failing(alloc, fetch)?),
+        sink: MemorySink::new(alloc, failing(alloc, say)?, failing(alloc, save)?),
+    };
     let mut text = String::new(alloc);
     for line in lines.split('\n') {
-        let (word, rest) = first_word(line);
-        let (name, bytes) = first_word(rest);
-        let answer = match word {
-            "put" => given(alloc, source.put(alloc, name.as_bytes(), bytes.as_bytes())),
-            "said" => text_of(alloc, sink.said()),
-            "saved" => shown(alloc, sink.saved(name.as_bytes())),
-            _ => called(alloc, &mut source, &mut sink, word, rest),
-        };
-        append(&mut text, answer?)?;
+        let answer = step(alloc, &mut desk, line)?;
+        append(&mut text, answer)?;
     }
     Ok(text)
 }
 
-/// The same of a source and a sink in memory, of which one fetch, one say and one save fail: those of these numbers.
-pub fn memory(alloc: Global, rest: &str, lines: &str) -> Result<String, AllocError> {
-    let (fetch, rest) = first_word(rest);
-    let (say, save) = first_word(rest);
-    let mut source = MemorySource::new(alloc, failing(alloc, fetch)?);
-    let mut sink = MemorySink::new(alloc, failing(alloc, say)?, failing(alloc, save)?);
-    let mut text = String::new(alloc);
-    for line in lines.split('\n') {
-        let (word, rest) = first_word(line);
-        let (name, bytes) = first_word(rest);
-        let answer = match word {
-            "put" => given(alloc, source.put(alloc, name.as_bytes(), bytes.as_bytes())),
-            "said" => text_of(alloc, sink.said()),
-            "saved" => shown(alloc, sink.saved(name.as_bytes())),
-            _ => called(alloc, &mut source, &mut sink, word, rest),
-        };
-        append(&mut text, answer?)?;
+fn step(alloc: Global, desk: &mut Desk, line: &str) -> Result<String, AllocError> {
+    let (word, rest) = first_word(line);
+    let (name, bytes) = first_word(rest);
+    match word {
+        "put" => {
+            desk.source.put(alloc, name.as_bytes(), bytes.as_bytes())?;
+            answered(alloc, "put")
+        }
+        "said" => text_of(alloc, desk.sink.said()),
+        "saved" => shown(alloc, desk.sink.saved(name.as_bytes())),
+        _ => called(alloc, &mut desk.source, &mut desk.sink, word, rest),
     }
-    Ok(text)
 }
 
 /// Puts an answer at the end, in a line of its own.
@@ -64,11 +59,6 @@ fn failing(alloc: Global, number: &str) -> Result<Vec<u64>, AllocError> {
         numbers.push(number)?;
     }
     Ok(numbers)
-}
-
-fn given(alloc: Global, answer: Result<(), AllocError>) -> Result<String, AllocError> {
-    answer?;
-    answered(alloc, "put")
 }
 
 fn shown(alloc: Global, file: Option<&Bytes>) -> Result<String, AllocError> {
@@ -116,18 +106,28 @@ fn told(alloc: Global, put: Put) -> Result<String, AllocError> {
 /// `write NAME TEXT`, `grow NAME SIZE`, `read NAME` and `remove NAME`, which are done by std's file calls.
 pub fn folder(rt: &HostRuntime, lines: &str) -> io::Result<String> {
     let read = FilesRead::new(rt.alloc());
-    let mut source = DirSource::new(rt, &read);
-    let mut sink = DirSink::new(rt, rt.alloc(), &read);
     let mut text = String::new(rt.alloc());
     for line in lines.split('\n') {
         let (word, rest) = first_word(line);
         let answer = match word {
-            "fetch" | "say" | "save" => called(rt.alloc(), &mut source, &mut sink, word, rest)?,
+            "fetch" | "say" | "save" => in_outside(rt, &read, word, rest)?,
             _ => in_folder(rt, word, rest)?,
         };
         append(&mut text, answer)?;
     }
     Ok(text)
+}
+
+/// What comes of a call on the folder, of which these files were read before.
+fn in_outside(
+    rt: &HostRuntime,
+    read: &FilesRead,
+    word: &str,
+    rest: &str,
+) -> Result<String, AllocError> {
+    let mut source = DirSource::new(rt, read);
+    let mut sink = DirSink::new(rt, rt.alloc(), read);
+    called(rt.alloc(), &mut source, &mut sink, word, rest)
 }
 
 fn in_folder(rt: &HostRuntime, word: &str, rest: &str) -> io::Result<String> {

@@ -115,6 +115,7 @@ fn write_token(alloc: Global, text: &mut String, token: &Token) -> Result<(), Al
             text.push_str(" \\")?;
             text.push_str(text_of(alloc, name.as_slice())?.as_str())
         }
+        Token::FrozenRelax => text.push_str(" frozen"),
     }
 }
 

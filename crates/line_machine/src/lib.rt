@@ -1,5 +1,7 @@
 //! The smallest machine behind the seam: each line of its main file is a page. It shows that the seam isn't TeX's own.
 //!
+//! Proved: it meets the trait `Machine`, as TeX does. Only tested: its fresh runs and its sessions, worked out by hand.
+//!
 //! Read `error`, `state`, `turn` and `machine`; what it does is in specs/Turns.antt.
 #![tactic(auto)]
 

@@ -14,7 +14,7 @@ use tx_machine::{Date, Event, Machine, Reply, Steps};
 
 /// The machine of which each line is a page. It asks for the main file to be opened and for its lines; a line that has
 /// bytes before its LF is a page with these as its body, and its first byte is said; a line `.` ends the run.
-#[derive(Clone, Copy, Debug)]
+#[derive(Clone, Copy)]
 pub struct LineMachine;
 
 impl Machine for LineMachine {

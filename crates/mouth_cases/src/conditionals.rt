@@ -2,7 +2,7 @@
 use std::alloc::{AllocError, Global};
 use tx_cases::{answered, first_word, malformed};
 use tx_cond::{CondStack, CondWord, Meet, SkipItem, Skipper};
-use tx_toklist::Fed;
+use tx_seen::{Fed, Want};
 
 /// - `skip ITEM ..`, the word at which skipping these items ends, `more` or an error;
 /// - `if VALUE WORD ..` and `ifcase VALUE WORD ..`, the answers to these words behind a test of this value;
@@ -40,19 +40,19 @@ fn item_of(word: &str) -> Option<SkipItem> {
 /// The answer to the last of these items; those before it must be skipped.
 fn skipped(alloc: Global, items: &str) -> Result<String, AllocError> {
     let mut skipper = Skipper::new();
-    let mut answer = Fed::More;
+    let mut answer = Fed::More(Want::Raw);
     for word in items.split(' ') {
         match (item_of(word), answer) {
-            (Some(item), Fed::More) => answer = skipper.feed(item)?,
+            (Some(item), Fed::More(_)) => answer = skipper.feed(item)?,
             _ => return malformed(alloc),
         }
     }
     match answer {
-        Fed::More => answered(alloc, "more"),
-        Fed::Done(CondWord::Else) => answered(alloc, "else"),
-        Fed::Done(CondWord::Or) => answered(alloc, "or"),
-        Fed::Done(CondWord::Fi) => answered(alloc, "fi"),
-        Fed::E(number) => format!(in alloc; "error {number}"),
+        Fed::More(_) | Fed::Need(_) => answered(alloc, "more"),
+        Fed::Done(CondWord::Else, _) => answered(alloc, "else"),
+        Fed::Done(CondWord::Or, _) => answered(alloc, "or"),
+        Fed::Done(CondWord::Fi, _) => answered(alloc, "fi"),
+        Fed::Wrong(error) => format!(in alloc; "error {}", error.number()),
     }
 }
 

@@ -9,7 +9,8 @@ use tx_cases::{answered, malformed, text_of as shown};
 use tx_char::{Cat, Codes, Token};
 use tx_lex::{Lexed, ReadState, lex};
 use tx_macro::Matcher;
-use tx_toklist::{Body, Fed, Item, Lists, Macro, ParameterText, Toks, text_of};
+use tx_seen::Fed;
+use tx_toklist::{Body, Item, Lists, Macro, ParameterText, Toks, text_of};
 
 /// - `use TEXT;LINE`, what a macro with this parameter text, each # of which is a parameter, makes of a line: its arguments,
 ///   each with a bar behind it, and then how many tokens are left; or `E` and the last digit of an error's number; or `?`
@@ -164,18 +165,20 @@ fn used(alloc: Global, text: &[u8], line: &[u8], ends: bool) -> Result<Bytes, Al
     for token in toks.as_slice() {
         left = left.saturating_sub(1);
         match matcher.feed(alloc, Item::Token(token.clone()?))? {
-            Fed::More => {}
-            Fed::Done(arguments) => {
+            Fed::More(_) | Fed::Need(_) => {}
+            Fed::Done(arguments, _) => {
                 let mut answer = write_arguments(alloc, &arguments, &codes)?;
                 answer.push(b'0' + (left % 10) as u8)?;
                 return Ok(answer);
             }
-            Fed::E(number) => return Bytes::from_slice(alloc, &[b'E', b'0' + number % 10]),
+            Fed::Wrong(error) => {
+                return Bytes::from_slice(alloc, &[b'E', b'0' + error.number() % 10]);
+            }
         }
     }
     if ends {
-        if let Fed::E(number) = matcher.feed(alloc, Item::EndOfFile)? {
-            return Bytes::from_slice(alloc, &[b'E', b'0' + number % 10]);
+        if let Fed::Wrong(error) = matcher.feed(alloc, Item::EndOfFile)? {
+            return Bytes::from_slice(alloc, &[b'E', b'0' + error.number() % 10]);
         }
     }
     Bytes::from_slice(alloc, b"?")
@@ -200,7 +203,7 @@ fn shared_use(alloc: Global) -> Result<String, AllocError> {
     let other = one.share()?;
     let before = other.same(&one);
     let space = Item::Token(Token::Character(b' ', Cat::Space));
-    let more = matches!(one.feed(alloc, space)?, Fed::More);
+    let more = matches!(one.feed(alloc, space)?, Fed::More(_));
     let (goes_on, after) = (one.goes_on(), other.same(&one));
     format!(in alloc; "{before} {more} {goes_on} {after}")
 }

@@ -86,7 +86,7 @@ fn read(alloc: Global, pending: &mut Pending, codes: &Codes) -> Result<Bytes, Al
     for _ in 0..50 {
         let code = match pending.next(alloc, codes)? {
             Next::Token(Token::Character(code, _)) => code,
-            Next::Token(Token::Name(_)) => b'\\',
+            Next::Token(Token::Name(_) | Token::FrozenRelax) => b'\\',
             Next::Marker => b'|',
             Next::Used { close: false } => b'.',
             Next::Used { close: true } => b'!',

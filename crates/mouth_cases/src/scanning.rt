@@ -1,15 +1,17 @@
 //! Cases of tx_scan.
-ghost use Rattle.std.specs.Prelude.{◌≡◌, true, false};
+ghost use Rattle.std.specs.Prelude.{◌≡◌};
 ghost use Rattle.tx_scan.specs.Integers.{IsQuantity};
-ghost use Rattle.tx_scan.specs.Rests.{awaits_value};
 
 use std::alloc::{AllocError, Global};
+use std::fmt::Display;
 use tx_cases::{answered, first_word, malformed};
 use tx_char::{Cat, ControlName, Token};
-use tx_scan::{IntScan, KeyScan, Kind, Scanned, Value};
+use tx_prim::Primitive;
+use tx_scan::{IntScan, KeyScan};
+use tx_seen::{Fed, Kind, Meaning, Place, Seen, Value, Want};
 
 /// - `integer TEXT` and `keyword TEXT`, what the scan of an integer or of the keyword `pt` comes to;
-/// - `negative KIND VALUE`, with the kind `int`, `dimen` or `flag`, what the scan of `-\a` comes to, where \a has this value;
+/// - `negative KIND VALUE`, with the kind `int` or `dimen`, what the scan of `-\a` comes to, where \a has this value;
 /// - `unexpanded TEXT`, whether the scan takes a name behind this text as it is.
 pub fn answer(alloc: Global, word: &str, rest: &str) -> Result<String, AllocError> {
     match word {
@@ -36,18 +38,41 @@ fn token_of(alloc: Global, code: u8) -> Result<Token, AllocError> {
     Ok(Token::Character(code, category))
 }
 
-/// What the scan of an integer comes to: the value, with the numbers of tokens that were taken before the last one and
-/// that are given back; or `error` and its number; `need` where a value is asked for; or `more`.
+/// The token with what it means: \a and active characters are a register of \count, \aa is \relax, and each other
+/// character is itself.
+fn seen_of(alloc: Global, code: u8) -> Result<Seen, AllocError> {
+    let token = token_of(alloc, code)?;
+    let meaning = match &token {
+        Token::Character(_, Cat::Active) => Meaning::CountRegister(0),
+        Token::Character(code, category) => Meaning::Character(*code, *category),
+        _ if code == b'#' => Meaning::Command(Primitive::Relax),
+        _ => Meaning::CountRegister(0),
+    };
+    Ok(Seen { token, meaning })
+}
+
+/// What a scan came to behind so many tokens: the value, how many tokens were taken before the last one, and how many are
+/// given back; or `error` and its number; `need` where a value is asked for; None where it goes on.
+fn told<T: Display + Drop>(
+    alloc: Global,
+    fed: Fed<T>,
+    place: usize,
+) -> Result<Option<String>, AllocError> {
+    match fed {
+        Fed::More(_) => Ok(None),
+        Fed::Need(_) => Ok(Some(answered(alloc, "need")?)),
+        Fed::Done(value, back) => Ok(Some(format!(in alloc; "{value} {place} {back}")?)),
+        Fed::Wrong(error) => Ok(Some(format!(in alloc; "error {}", error.number())?)),
+    }
+}
+
+/// What the scan of an integer comes to; `more` where it wants more.
 fn integer(alloc: Global, text: &[u8]) -> Result<String, AllocError> {
-    let mut scan = IntScan::new();
+    let mut scan = IntScan::new(alloc);
     for place in 0..text.len() {
-        match scan.feed(alloc, token_of(alloc, text[place])?)? {
-            Scanned::More => {}
-            Scanned::Need(_) => return answered(alloc, "need"),
-            Scanned::Done(number, back) => {
-                return format!(in alloc; "{number} {place} {}", back.len());
-            }
-            Scanned::E(number) => return format!(in alloc; "error {number}"),
+        let fed = scan.feed(&seen_of(alloc, text[place])?)?;
+        if let Some(answer) = told(alloc, fed, place)? {
+            return Ok(answer);
         }
     }
     answered(alloc, "more")
@@ -57,34 +82,28 @@ fn integer(alloc: Global, text: &[u8]) -> Result<String, AllocError> {
 fn keyword(alloc: Global, text: &[u8]) -> Result<String, AllocError> {
     let mut scan = KeyScan::new(alloc, b"pt")?;
     for place in 0..text.len() {
-        match scan.feed(alloc, token_of(alloc, text[place])?)? {
-            Scanned::More => {}
-            Scanned::Need(_) => return answered(alloc, "need"),
-            Scanned::Done(found, back) => {
-                return format!(in alloc; "{found} {place} {}", back.len());
-            }
-            Scanned::E(number) => return format!(in alloc; "error {number}"),
+        let fed = scan.feed(&seen_of(alloc, text[place])?);
+        if let Some(answer) = told(alloc, fed, place)? {
+            return Ok(answer);
         }
     }
     answered(alloc, "more")
 }
 
 /// What the scan of `-\a` comes to, where \a has this value.
-fn negative_of(alloc: Global, value: Value) -> Result<String, AllocError>
-    requires { IsQuantity value }
+fn negative_of(alloc: Global, value: &Value) -> Result<String, AllocError>
+    requires { IsQuantity value.now }
 {
-    let mut scan = IntScan::new();
-    let Scanned::More = scan.feed(alloc, token_of(alloc, b'-')?)? else {
+    let mut scan = IntScan::new(alloc);
+    let Fed::More(_) = scan.feed(&seen_of(alloc, b'-')?)? else {
         return answered(alloc, "an end at the sign");
     };
-    let Scanned::Need(Kind::Quantity) = scan.feed(alloc, token_of(alloc, b'@')?)? else {
+    let Fed::Need(Kind::Quantity(Place::Count(0))) = scan.feed(&seen_of(alloc, b'@')?)? else {
         return answered(alloc, "no quantity is asked for");
     };
-    match scan.give(alloc, value) {
-        Scanned::Done(number, back) => format!(in alloc; "{number} 2 {}", back.len()),
-        Scanned::E(number) => format!(in alloc; "error {number}"),
-        Scanned::More => answered(alloc, "more"),
-        Scanned::Need(_) => answered(alloc, "need"),
+    match told(alloc, scan.give(value), 2)? {
+        Some(answer) => Ok(answer),
+        None => answered(alloc, "more"),
     }
 }
 
@@ -95,17 +114,18 @@ fn negative(alloc: Global, rest: &str) -> Result<String, AllocError> {
         return malformed(alloc);
     }
     match kind {
-        "int" => negative_of(alloc, Value::Int(number)),
-        "dimen" => negative_of(alloc, Value::Dimen(number)),
-        "flag" => negative_of(alloc, Value::Flag(false)),
+        "int" => negative_of(alloc, &Value::Int(number)),
+        "dimen" => negative_of(alloc, &Value::Dimen(number)),
         _ => malformed(alloc),
     }
 }
 
 fn unexpanded(alloc: Global, text: &[u8]) -> Result<String, AllocError> {
-    let mut scan = IntScan::new();
-    if let [code] = text {
-        let _ = scan.feed(alloc, token_of(alloc, *code)?)?;
-    }
-    format!(in alloc; "{}", scan.takes_unexpanded())
+    let mut scan = IntScan::new(alloc);
+    let [code] = text else {
+        return answered(alloc, "false");
+    };
+    let fed = scan.feed(&seen_of(alloc, *code)?)?;
+    let raw = matches!(fed, Fed::More(Want::Raw));
+    format!(in alloc; "{raw}")
 }

@@ -5,17 +5,17 @@ use crate::scanning::number;
 use crate::skipping::{kind, skipped};
 use std::alloc::{AllocError, Global};
 use std::io;
-use tx_char::{ControlName, Token};
-use tx_cond::{CondStack, CondWord, INCOMPLETE, Meet, SkipItem};
-use tx_scan::{MISSING_NUMBER, Scanned};
-use tx_toklist::{Fed, Toks};
+use tx_char::Token;
+use tx_cond::{CondStack, CondWord, Meet, SkipItem};
+use tx_seen::{Fed, TexError, Want};
+use tx_toklist::Toks;
 
 /// Prints what is read of a text whose conditionals are carried out.
 pub fn show(rt: &HostRuntime, input: &mut Input) -> io::Result<()> {
     match expanded(rt.alloc(), input)? {
-        Fed::Done(tokens) => input.show(rt, "text", tokens.as_slice()),
-        Fed::E(number) => println!(rt; "error {number}"),
-        Fed::More => println!(rt; "more"),
+        Fed::Done(tokens, _) => input.show(rt, "text", tokens.as_slice()),
+        Fed::Wrong(error) => println!(rt; "error {}", error.number()),
+        Fed::More(_) | Fed::Need(_) => println!(rt; "more"),
     }
 }
 
@@ -25,7 +25,7 @@ fn expanded(alloc: Global, input: &mut Input) -> Result<Fed<Toks>, AllocError> {
     let mut tokens = Toks::new(alloc);
     for _ in 0..u64::MAX {
         let Some(token) = input.next(alloc)? else {
-            return Ok(Fed::Done(tokens));
+            return Ok(Fed::Done(tokens, 0));
         };
         let broken = match kind(&token) {
             SkipItem::If => begin(alloc, &mut open, input, &token)?,
@@ -35,21 +35,21 @@ fn expanded(alloc: Global, input: &mut Input) -> Result<Fed<Toks>, AllocError> {
                 None
             }
         };
-        if let Some(number) = broken {
-            return Ok(Fed::E(number));
+        if let Some(error) = broken {
+            return Ok(Fed::Wrong(error));
         }
     }
-    Ok(Fed::More)
+    Ok(Fed::More(Want::Raw))
 }
 
 /// Begins a conditional and decides it: \ifcase by the integer behind it, \iftrue as true, and each other one as false.
-/// The answer is the number of an error. Its only error of its own is want of memory.
+/// The answer is an error of TeX's. Its only error of its own is want of memory.
 fn begin(
     alloc: Global,
     open: &mut CondStack,
     input: &mut Input,
     token: &Token,
-) -> Result<Option<u8>, AllocError> {
+) -> Result<Option<TexError>, AllocError> {
     let cases = is_name(token, b"ifcase");
     open.begin(cases)?;
     if !cases {
@@ -61,9 +61,11 @@ fn begin(
             skip(alloc, open, input)
         };
     }
-    match number(alloc, input)? {
-        Scanned::Done(branch, back) => {
-            input.give_back(alloc, behind_test(alloc, back)?)?;
+    let mut taken = Toks::new(alloc);
+    match number(alloc, input, &mut taken)? {
+        Fed::Done(branch, back) => {
+            let left = taken.len().saturating_sub(back);
+            input.give_back(alloc, behind_test(alloc, &taken.as_slice()[left..])?)?;
             open.decide(branch);
             if branch == 0 {
                 Ok(None)
@@ -71,8 +73,8 @@ fn begin(
                 skip(alloc, open, input)
             }
         }
-        Scanned::E(number) => Ok(Some(number)),
-        Scanned::More | Scanned::Need(_) => Ok(Some(MISSING_NUMBER)),
+        Fed::Wrong(error) => Ok(Some(error)),
+        Fed::More(_) | Fed::Need(_) => Ok(Some(TexError::MissingNumber)),
     }
 }
 
@@ -80,51 +82,55 @@ fn begin(
 fn is_name(token: &Token, wanted: &[u8]) -> bool {
     match token {
         Token::Name(name) => name.as_slice() == wanted,
-        Token::Character(_, _) => false,
+        Token::Character(_, _) | Token::FrozenRelax => false,
     }
 }
 
-/// What is read behind a test that gives these tokens back: a \relax before a word that ended it. Its only error is want
-/// of memory.
-fn behind_test(alloc: Global, back: Toks) -> Result<Toks, AllocError> {
+/// What is read behind a test that gives these tokens back: TeX's frozen \relax before a word that ended it. Its only
+/// error is want of memory.
+fn behind_test(alloc: Global, back: &[Token]) -> Result<Toks, AllocError> {
     let mut tokens = Toks::new(alloc);
-    for token in back.as_slice() {
+    for token in back {
         if matches!(kind(token), SkipItem::Word(_)) {
-            tokens.push(Token::Name(ControlName::from_slice(alloc, b"relax")?))?;
+            tokens.push(Token::FrozenRelax)?;
         }
         tokens.push(token.clone()?)?;
     }
     Ok(tokens)
 }
 
-/// Meets a word, and skips what no branch takes behind it. The answer is the number of an error. Its only error of its own
+/// Meets a word, and skips what no branch takes behind it. The answer is an error of TeX's. Its only error of its own
 /// is want of memory.
 fn meet(
     alloc: Global,
     open: &mut CondStack,
     input: &mut Input,
     word: CondWord,
-) -> Result<Option<u8>, AllocError> {
+) -> Result<Option<TexError>, AllocError> {
     match open.meet(word) {
         Ok(Meet::Skip) => skip(alloc, open, input),
         Ok(Meet::Closed | Meet::Relax) => Ok(None),
-        Err(extra) => Ok(Some(extra.number())),
+        Err(extra) => Ok(Some(extra)),
     }
 }
 
-/// Skips up to the text that is read. The answer is the number of an error. Its only error of its own is want of memory.
-fn skip(alloc: Global, open: &mut CondStack, input: &mut Input) -> Result<Option<u8>, AllocError> {
+/// Skips up to the text that is read. The answer is an error of TeX's. Its only error of its own is want of memory.
+fn skip(
+    alloc: Global,
+    open: &mut CondStack,
+    input: &mut Input,
+) -> Result<Option<TexError>, AllocError> {
     for _ in 0..u64::MAX {
         let word = match skipped(alloc, input)? {
-            Fed::Done(word) => word,
-            Fed::E(number) => return Ok(Some(number)),
-            Fed::More => return Ok(Some(INCOMPLETE)),
+            Fed::Done(word, _) => word,
+            Fed::Wrong(error) => return Ok(Some(error)),
+            Fed::More(_) | Fed::Need(_) => return Ok(Some(TexError::IncompleteConditional)),
         };
         match open.meet(word) {
             Ok(Meet::Skip) => {}
             Ok(Meet::Closed | Meet::Relax) => return Ok(None),
-            Err(extra) => return Ok(Some(extra.number())),
+            Err(extra) => return Ok(Some(extra)),
         }
     }
-    Ok(Some(INCOMPLETE))
+    Ok(Some(TexError::IncompleteConditional))
 }

@@ -10,7 +10,8 @@ use std::io;
 use tx_char::{Cat, Token};
 use tx_cond::SkipItem;
 use tx_macro::{Args, Matcher};
-use tx_toklist::{Body, Fed, Item, Macro, ParameterText, Toks};
+use tx_seen::{Fed, Want};
+use tx_toklist::{Body, Item, Macro, ParameterText, Toks};
 
 /// What a parameter text is behind one more token.
 #[derive(Clone, Copy)]
@@ -144,14 +145,14 @@ fn show_use(rt: &HostRuntime, made: &Macro, input: &mut Input) -> io::Result<()>
     requires { made.now.parameters ≢ no_parameters }
 {
     match arguments(rt.alloc(), made, input)? {
-        Fed::Done(arguments) => {
+        Fed::Done(arguments, _) => {
             for argument in arguments.as_slice() {
                 input.show(rt, "argument", argument.as_slice())?;
             }
             input.show_left(rt)
         }
-        Fed::E(number) => println!(rt; "error {number}"),
-        Fed::More => println!(rt; "more"),
+        Fed::Wrong(error) => println!(rt; "error {}", error.number()),
+        Fed::More(_) | Fed::Need(_) => println!(rt; "more"),
     }
 }
 
@@ -169,11 +170,11 @@ fn arguments(alloc: Global, made: &Macro, input: &mut Input) -> Result<Fed<Args>
     let mut matcher = Matcher::new(alloc, made)?;
     for _ in 0..u64::MAX {
         match matcher.feed(alloc, item(input.next(alloc)?))? {
-            Fed::More => {}
+            Fed::More(_) => {}
             answer => return Ok(answer),
         }
     }
-    Ok(Fed::More)
+    Ok(Fed::More(Want::Raw))
 }
 
 /// What is fed where this token comes, or none.

@@ -17,8 +17,10 @@
 //! how many tokens there are, and not which.
 //!
 //! A text is one line, whose end is a space as in TeX. Categories are those of INITEX but for `{`, which begins a group,
-//! `}`, which ends one, `#`, which stands before a parameter, and `~`, which is active. No name is a macro or a quantity;
-//! names that begin with `if` are conditionals, and \O stands for a macro that is \outer.
+//! `}`, which ends one, `#`, which stands before a parameter, and `~`, which is active. No name is a macro; to an integer those
+//! of primitives mean them, and all others mean \relax. \count N stands for 3N where N is even, else for -2N, \dimen N for
+//! 100N + 1 sp, and each other quantity for 12. Names that begin with `if` are conditionals, and \O stands for a macro that
+//! is \outer.
 //!
 //! Read `input`, then `scanning`, `skipping`, `expanding` and `macros`. The worked cases of these crates are in mouth_cases.
 #![tactic(auto)]

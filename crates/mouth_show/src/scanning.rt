@@ -1,64 +1,125 @@
 //! Commands that scan an integer or a keyword.
-ghost use Rattle.std.specs.Prelude.{◌≡◌, false, true};
+ghost use Rattle.mouth_show.specs.Registers.{register};
 
 use crate::input::Input;
 use std::alloc::{AllocError, Global};
 use std::io;
-use tx_scan::{IntScan, KeyScan, Scanned, Value};
+use tx_char::{Cat, Token};
+use tx_prim::Primitive;
+use tx_scan::{IntScan, KeyScan, Quantities, supply};
+use tx_seen::{Fed, Meaning, Place, Seen, Value, Want};
+use tx_toklist::Toks;
 
-/// Prints the integer with which a text begins.
-pub fn show_number(rt: &HostRuntime, input: &mut Input) -> io::Result<()> {
-    match number(rt.alloc(), input)? {
-        Scanned::Done(number, back) => {
-            println!(rt; "value {number}")?;
-            input.give_back(rt.alloc(), back)?;
-            input.show_left(rt)
+/// What stands for every text in the registers, to compare with: 3N in \count N where N is even, else -2N; 100N + 1 sp in
+/// \dimen N; and 12 everywhere else.
+struct Registers;
+
+impl Quantities for Registers {
+    ghost value_at = { λ registers place. register place };
+
+    fn quantity(&self, place: &Place) -> Value {
+        match place {
+            Place::Count(number) if *number % 2 == 0 => Value::Int(3 * i64::from(*number)),
+            Place::Count(number) => Value::Int(-2 * i64::from(*number)),
+            Place::Dimen(number) => Value::Dimen(100 * i64::from(*number) + 1),
+            _ => Value::Int(12),
         }
-        Scanned::E(number) => println!(rt; "error {number}"),
-        Scanned::More | Scanned::Need(_) => println!(rt; "more"),
     }
 }
 
-/// The integer with which a text begins; a name is no quantity. Its only error is want of memory.
-pub fn number(alloc: Global, input: &mut Input) -> Result<Scanned<i64>, AllocError> {
-    let mut scan = IntScan::new();
+/// A token with what it means: a name of a primitive means that one, and every other name and `~` mean \relax.
+fn seen(token: Token) -> Seen {
+    let meaning = match &token {
+        Token::Character(_, Cat::Active) | Token::FrozenRelax => Meaning::Command(Primitive::Relax),
+        Token::Character(code, category) => Meaning::Character(*code, *category),
+        Token::Name(name) => Meaning::Command(match Primitive::of_name(name.as_slice()) {
+            Some(primitive) => primitive,
+            None => Primitive::Relax,
+        }),
+    };
+    Seen { token, meaning }
+}
+
+/// Puts the last tokens that were taken, so many of them, at the front again. Its only error is want of memory.
+fn give_back(
+    alloc: Global,
+    input: &mut Input,
+    taken: &Toks,
+    back: usize,
+) -> Result<(), AllocError> {
+    let left = taken.len().saturating_sub(back);
+    let mut tokens = Toks::new(alloc);
+    for token in &taken.as_slice()[left..] {
+        tokens.push(token.clone()?)?;
+    }
+    input.give_back(alloc, tokens)
+}
+
+/// Prints the integer with which a text begins.
+pub fn show_number(rt: &HostRuntime, input: &mut Input) -> io::Result<()> {
+    let mut taken = Toks::new(rt.alloc());
+    match number(rt.alloc(), input, &mut taken)? {
+        Fed::Done(number, back) => {
+            println!(rt; "value {number}")?;
+            give_back(rt.alloc(), input, &taken, back)?;
+            input.show_left(rt)
+        }
+        Fed::Wrong(error) => println!(rt; "error {}", error.number()),
+        Fed::More(_) | Fed::Need(_) => println!(rt; "more"),
+    }
+}
+
+/// The integer with which a text begins, and the tokens that it took. Its only error is want of memory.
+pub fn number(alloc: Global, input: &mut Input, taken: &mut Toks) -> Result<Fed<i64>, AllocError> {
+    let mut scan = IntScan::new(alloc);
     for _ in 0..u64::MAX {
         let Some(token) = input.next(alloc)? else {
-            return Ok(Scanned::More);
+            return Ok(Fed::More(Want::Expanded));
         };
-        match scan.feed(alloc, token)? {
-            Scanned::More => {}
-            Scanned::Need(_) => return Ok(scan.give(alloc, Value::Flag(false))),
+        let seen = seen(token);
+        let answer = scan.feed(&seen)?;
+        taken.push(seen.token)?;
+        match supply(&mut scan, &Registers, answer) {
+            Fed::More(_) => {}
             answer => return Ok(answer),
         }
     }
-    Ok(Scanned::More)
+    Ok(Fed::More(Want::Expanded))
 }
 
 /// Prints whether a text begins with a keyword.
 pub fn show_keyword(rt: &HostRuntime, word: &str, input: &mut Input) -> io::Result<()> {
-    match keyword(rt.alloc(), word, input)? {
-        Scanned::Done(found, back) => {
+    let mut taken = Toks::new(rt.alloc());
+    match keyword(rt.alloc(), word, input, &mut taken)? {
+        Fed::Done(found, back) => {
             println!(rt; "{}", if found { "yes" } else { "no" })?;
-            input.give_back(rt.alloc(), back)?;
+            give_back(rt.alloc(), input, &taken, back)?;
             input.show_left(rt)
         }
-        Scanned::E(number) => println!(rt; "error {number}"),
-        Scanned::More | Scanned::Need(_) => println!(rt; "more"),
+        Fed::Wrong(error) => println!(rt; "error {}", error.number()),
+        Fed::More(_) | Fed::Need(_) => println!(rt; "more"),
     }
 }
 
-/// Whether a text begins with a keyword. Its only error is want of memory.
-fn keyword(alloc: Global, word: &str, input: &mut Input) -> Result<Scanned<bool>, AllocError> {
+/// Whether a text begins with a keyword, and the tokens that were taken. Its only error is want of memory.
+fn keyword(
+    alloc: Global,
+    word: &str,
+    input: &mut Input,
+    taken: &mut Toks,
+) -> Result<Fed<bool>, AllocError> {
     let mut scan = KeyScan::new(alloc, word.as_bytes())?;
     for _ in 0..u64::MAX {
         let Some(token) = input.next(alloc)? else {
-            return Ok(Scanned::More);
+            return Ok(Fed::More(Want::Expanded));
         };
-        match scan.feed(alloc, token)? {
-            Scanned::More => {}
+        let seen = seen(token);
+        let answer = scan.feed(&seen);
+        taken.push(seen.token)?;
+        match answer {
+            Fed::More(_) => {}
             answer => return Ok(answer),
         }
     }
-    Ok(Scanned::More)
+    Ok(Fed::More(Want::Expanded))
 }

@@ -5,17 +5,17 @@ use std::alloc::{AllocError, Global};
 use std::io;
 use tx_char::Token;
 use tx_cond::{CondWord, SkipItem, Skipper};
-use tx_toklist::Fed;
+use tx_seen::{Fed, Want};
 
 /// Prints the word that ends the skipping of a text.
 pub fn show(rt: &HostRuntime, input: &mut Input) -> io::Result<()> {
     match skipped(rt.alloc(), input)? {
-        Fed::Done(word) => {
+        Fed::Done(word, _) => {
             println!(rt; "{}", text_of_word(word))?;
             input.show_left(rt)
         }
-        Fed::E(number) => println!(rt; "error {number}"),
-        Fed::More => println!(rt; "more"),
+        Fed::Wrong(error) => println!(rt; "error {}", error.number()),
+        Fed::More(_) | Fed::Need(_) => println!(rt; "more"),
     }
 }
 
@@ -28,18 +28,18 @@ pub fn skipped(alloc: Global, input: &mut Input) -> Result<Fed<CondWord>, AllocE
             None => SkipItem::EndOfFile,
         };
         match skipper.feed(item)? {
-            Fed::More => {}
+            Fed::More(_) => {}
             answer => return Ok(answer),
         }
     }
-    Ok(Fed::More)
+    Ok(Fed::More(Want::Raw))
 }
 
 /// What a token is to skipped text.
 pub fn kind(token: &Token) -> SkipItem {
     match token {
         Token::Name(name) => kind_of_name(name.as_slice()),
-        Token::Character(_, _) => SkipItem::Other,
+        Token::Character(_, _) | Token::FrozenRelax => SkipItem::Other,
     }
 }
 

@@ -7,8 +7,8 @@ use Rattle.std.proofs.lemmas.Str.{digit_value_digit}
 use Rattle.tx_num.specs.Fractions.{nearest}
 use Rattle.tx_num.specs.Decimals.{fraction_of}
 use Rattle.tx_num.specs.Units.{size_of}
-use Rattle.tx_assign.specs.declared.seen.Seen.{Seen}
-use Rattle.tx_assign.specs.Seen.{is_undefined, digit_value}
+use Rattle.tx_seen.specs.declared.seen.Seen.{Seen}
+use Rattle.tx_seen.specs.Seen.{is_undefined, digit_value}
 use Rattle.tx_assign.specs.Scans.{next, without_space, space_after}
 use Rattle.tx_assign.specs.Dimensions.{fraction, unit_name, sized}
 use Rattle.tx_assign.specs.Rests.{factor_rest}

@@ -1,6 +1,6 @@
 -- Scans that read on alike answer alike.
 use Rattle.std.proofs.Common.{◌≡◌, Bool, List, ◌∷◌, ◌∙◌, option_to_list}
-use Rattle.tx_assign.specs.declared.seen.Seen.{Seen}
+use Rattle.tx_seen.specs.declared.seen.Seen.{Seen}
 use Rattle.tx_assign.specs.declared.scans.Fed.{Fed}
 use Rattle.tx_assign.specs.declared.scans.Fed.TheVariants as fed
 use Rattle.tx_assign.specs.declared.scans.DimenPart.{DimenPart}

@@ -1,7 +1,7 @@
 -- The token that ends a factor may as well be read with the unit, since spaces before a unit don't count.
 use Rattle.std.proofs.Common.{◌≡◌, ℕ, Bool, true, false, None, List, [], ◌∷◌, refl, ap, ◌∙◌}
-use Rattle.tx_assign.specs.declared.seen.Seen.{Seen}
-use Rattle.tx_assign.specs.Seen.{is_undefined, is_space, is_point, digit_value}
+use Rattle.tx_seen.specs.declared.seen.Seen.{Seen}
+use Rattle.tx_seen.specs.Seen.{is_undefined, is_space, is_point, digit_value}
 use Rattle.tx_assign.specs.Scans.{next, without_space, space_after}
 use Rattle.tx_assign.specs.Dimensions.{fraction, whole_units, unit_name}
 use Rattle.tx_assign.specs.Rests.{factor_rest, unit_rest, whole_factor}

@@ -1,8 +1,8 @@
 -- A value is read by the scan that its target wants.
-use Rattle.std.proofs.Common.{◌≡◌, Bool, true, false, List, ◌∷◌, refl, ap, sym, ◌∙◌}
+use Rattle.std.proofs.Common.{◌≡◌, Bool, true, false, List, refl, ap, sym, ◌∙◌}
 use Rattle.tx_assign.specs.declared.scans.IntScan.{IntScan}
 use Rattle.tx_assign.specs.declared.scans.DimenScan.{DimenScan}
-use Rattle.tx_assign.specs.declared.seen.Seen.{Seen}
+use Rattle.tx_seen.specs.declared.seen.Seen.{Seen}
 use Rattle.tx_assign.specs.declared.types.Target.{Target}
 use Rattle.tx_assign.specs.Scans.{next, defining}
 use Rattle.tx_assign.specs.Numbers.{integer}

@@ -1,34 +1,32 @@
 -- Assignments, as tokens at the front of a list (The TeXbook, chapter 24; TeX: The Program, part 49).
 use Rattle.std.specs.Prelude.{ℕ, ℤ, pos, negsuc, Bool, true, false, nat_lt, List, [], ◌∷◌, Option, Some, None, if◌then◌else◌}
-use Rattle.tx_char.specs.declared.category.Cat.{Cat}
 use Rattle.tx_char.specs.declared.category.Cat.TheVariants.{Active, Space}
 use Rattle.tx_char.specs.declared.tokens.Token.{Token}
 use Rattle.tx_char.specs.declared.tokens.Token.TheVariants as token
-use Rattle.tx_eqtb.specs.declared.place.Place.{Place}
-use Rattle.tx_eqtb.specs.declared.meaning.Meaning.{Meaning}
+use Rattle.tx_seen.specs.declared.place.Place.{Place}
+use Rattle.tx_seen.specs.declared.place.Place.TheVariants as place
 use Rattle.tx_eqtb.specs.declared.entry.Entry.TheVariants.{Means}
-use Rattle.tx_assign.specs.declared.error.TexError.TheVariants.{MissingNumber, MissingName, NumberOutOfRange, NoAssignment}
+use Rattle.tx_seen.specs.declared.error.TexError.TheVariants.{MissingNumber, MissingName, NumberOutOfRange, NoAssignment}
 use Rattle.tx_assign.specs.declared.begin.Beginning.{Beginning}
 use Rattle.tx_assign.specs.declared.begin.Beginning.TheVariants as begin
 use Rattle.tx_assign.specs.declared.naming.NameRead.{NameRead}
 use Rattle.tx_assign.specs.declared.naming.NameRead.TheVariants as read
-use Rattle.tx_assign.specs.declared.seen.Seen.{Seen}
+use Rattle.tx_seen.specs.declared.seen.Seen.{Seen}
 use Rattle.tx_assign.specs.declared.types.Assignment.{Assignment}
 use Rattle.tx_assign.specs.declared.types.Change.TheVariants.{Set}
 use Rattle.tx_assign.specs.declared.types.Numbered.{Numbered}
 use Rattle.tx_assign.specs.declared.types.Numbered.TheVariants as number
 use Rattle.tx_assign.specs.declared.types.Operation.{Operation}
-use Rattle.tx_assign.specs.declared.types.Shorthand.{Shorthand}
 use Rattle.tx_assign.specs.declared.types.Target.{Target}
 use Rattle.tx_assign.specs.declared.types.Target.TheVariants.{Variable, Name, Changed}
 use Rattle.tx_assign.specs.declared.types.Variable.{Variable as LeftSide}
 use Rattle.tx_assign.specs.declared.types.Variable.TheVariants.{Numbered as Left_numbered, Standing as Left_standing}
-use Rattle.tx_assign.specs.Seen.{is_space, is_relax, is_other, is_key}
-use Rattle.tx_assign.specs.Scans.{Scan, More, Done, Wrong, more, next, expanded, defining}
+use Rattle.tx_seen.specs.Seen.{is_space, is_relax, is_other, is_key}
+use Rattle.tx_assign.specs.Scans.{Scan, Done, Wrong, more, next, expanded, defining}
 use Rattle.tx_assign.specs.Numbers.{integer, equals}
 use Rattle.tx_assign.specs.Dimensions.{dimension}
 use Rattle.tx_assign.specs.Beginnings.{beginning}
-use Rattle.tx_assign.specs.Targets.{numbered_place, named_place, takes_size, target_bounds, is_within, place_of, change_by, change_by_size}
+use Rattle.tx_assign.specs.Targets.{numbered_place, takes_size, target_bounds, is_within, place_of, change_by, change_by_size}
 
 -- a number below a bound, for a use with that range
 abbrev pub below : ℕ → ℤ → List Seen → Scan ℕ
@@ -45,7 +43,7 @@ valued global target n behind =
     else Wrong NumberOutOfRange
 
 -- while its value is read, a name that is defined means \relax (TeX: The Program, section 1224)
-abbrev pub defined_by : Target → Option Token
+abbrev pub defined_by : Target → Option Place
 defined_by (Name name kind) = Some name
 defined_by (Variable place) = None
 defined_by (Changed place operation) = None
@@ -104,36 +102,37 @@ arithmetic global operation (t ∷ rest) = expanded t (operand_of global operati
 
 -- a token where a name is needed: a name or an active character, or a space, which is skipped; it isn't expanded
 abbrev pub name_or_space : Token → NameRead
-name_or_space (token.Name n) = read.Name (token.Name n)
+name_or_space (token.Name n) = read.Name (place.Name n)
 name_or_space (token.Character code Space) = read.Space
-name_or_space (token.Character code Active) = read.Name (token.Character code Active)
+name_or_space (token.Character code Active) = read.Name (place.Active code)
 name_or_space (token.Character code _) = read.Missing
+name_or_space token.FrozenRelax = read.Missing
 
-abbrev pub name_from : Scan Token → NameRead → List Seen → Scan Token
+abbrev pub name_from : Scan Place → NameRead → List Seen → Scan Place
 name_from later read.Space rest = later
 name_from later (read.Name n) rest = Done n rest
 name_from later read.Missing rest = Wrong MissingName
 
 -- a name, with spaces before it
-abbrev pub name : List Seen → Scan Token
+abbrev pub name : List Seen → Scan Place
 name [] = more
 name (t ∷ rest) = name_from (name rest) (name_or_space t.token) rest
 
 -- \let: a name is to mean what a token means
-abbrev pub let_to : Bool → Token → Seen → List Seen → Scan Assignment
-let_to global n t behind = Done (record { global = global; place = named_place n; change = Set (Means t.meaning) }) behind
+abbrev pub let_to : Bool → Place → Seen → List Seen → Scan Assignment
+let_to global n t behind = Done (record { global = global; place = n; change = Set (Means t.meaning) }) behind
 
-abbrev pub let_token : Bool → Token → List Seen → Scan Assignment
+abbrev pub let_token : Bool → Place → List Seen → Scan Assignment
 let_token global n [] = more
 let_token global n (t ∷ rest) = let_to global n t rest
 
 -- behind the `=` one space is skipped
-abbrev pub let_behind_equals : Bool → Token → List Seen → Scan Assignment
+abbrev pub let_behind_equals : Bool → Place → List Seen → Scan Assignment
 let_behind_equals global n [] = more
 let_behind_equals global n (t ∷ rest) = if is_space t then let_token global n rest else let_to global n t rest
 
 -- behind the name spaces are skipped, and there may be an `=`
-abbrev pub let_behind_name : Bool → Token → List Seen → Scan Assignment
+abbrev pub let_behind_name : Bool → Place → List Seen → Scan Assignment
 let_behind_name global n [] = more
 let_behind_name global n (t ∷ rest) =
     if is_space t then let_behind_name global n rest

@@ -1,11 +1,11 @@
 -- How assignments begin (The TeXbook, chapter 24; TeX: The Program, sections 1208 to 1211).
 use Rattle.tx_prim.specs.declared.primitive.Primitive.{Primitive}
 use Rattle.tx_prim.specs.declared.primitive.Primitive.TheVariants as primitive
-use Rattle.tx_eqtb.specs.declared.place.CharacterCode.TheVariants.{LowerCase, UpperCase, SpaceFactor, Math, Delimiter}
-use Rattle.tx_eqtb.specs.declared.place.Place.{Place}
-use Rattle.tx_eqtb.specs.declared.place.Place.TheVariants as place
-use Rattle.tx_eqtb.specs.declared.meaning.Meaning.{Meaning}
-use Rattle.tx_eqtb.specs.declared.meaning.Meaning.TheVariants.{Command, CountRegister, DimenRegister}
+use Rattle.tx_seen.specs.declared.place.CharacterCode.TheVariants.{LowerCase, UpperCase, SpaceFactor, Math, Delimiter}
+use Rattle.tx_seen.specs.declared.place.Place.{Place}
+use Rattle.tx_seen.specs.declared.place.Place.TheVariants as place
+use Rattle.tx_seen.specs.declared.meaning.Meaning.{Meaning}
+use Rattle.tx_seen.specs.declared.meaning.Meaning.TheVariants.{Command, CountRegister, DimenRegister}
 use Rattle.tx_assign.specs.declared.begin.Beginning.{Beginning}
 use Rattle.tx_assign.specs.declared.begin.Beginning.TheVariants.{Prefix, Let, Shorthand, Arithmetic, Variable, Nothing}
 use Rattle.tx_assign.specs.declared.types.Numbered.{Numbered}

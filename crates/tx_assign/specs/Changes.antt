@@ -5,15 +5,15 @@ use Rattle.tx_num.specs.declared.limits.Range.{Range}
 use Rattle.tx_num.specs.declared.limits.Range.TheVariants.{Integer as Range_integer, Dimen as Range_dimen}
 use Rattle.tx_prim.specs.declared.integer.IntegerParameter.TheVariants.{Globaldefs}
 use Rattle.tx_eqtb.specs.declared.entry.Entry.{Entry}
-use Rattle.tx_eqtb.specs.declared.entry.Entry.TheVariants.{Means, InCategory, Number}
+use Rattle.tx_eqtb.specs.declared.entry.Entry.TheVariants.{Number}
 use Rattle.tx_eqtb.specs.declared.eqtb.Eqtb.{Eqtb}
-use Rattle.tx_eqtb.specs.declared.place.Place.{Place}
-use Rattle.tx_eqtb.specs.declared.place.Place.TheVariants.{Integer}
+use Rattle.tx_seen.specs.declared.place.Place.{Place}
+use Rattle.tx_seen.specs.declared.place.Place.TheVariants.{Integer}
 use Rattle.tx_eqtb.specs.declared.table.Table.{Table}
-use Rattle.tx_eqtb.specs.Table.{entry}
+use Rattle.tx_eqtb.specs.Table.{number_at}
 use Rattle.tx_eqtb.specs.Stack.{assigned, assigned_everywhere}
-use Rattle.tx_assign.specs.declared.error.TexError.{TexError}
-use Rattle.tx_assign.specs.declared.error.TexError.TheVariants.{ArithmeticOverflow}
+use Rattle.tx_seen.specs.declared.error.TexError.{TexError}
+use Rattle.tx_seen.specs.declared.error.TexError.TheVariants.{ArithmeticOverflow}
 use Rattle.tx_assign.specs.declared.types.Assignment.{Assignment}
 use Rattle.tx_assign.specs.declared.types.Carried.{Carried}
 use Rattle.tx_assign.specs.declared.types.Carried.TheVariants.{Done as Carried_done, Refused}
@@ -22,16 +22,6 @@ use Rattle.tx_assign.specs.declared.types.Change.TheVariants.{Set, Compute}
 use Rattle.tx_assign.specs.declared.types.Operation.{Operation}
 use Rattle.tx_assign.specs.declared.types.Operation.TheVariants.{Advance, Multiply, Divide}
 use Rattle.tx_assign.specs.Targets.{is_size}
-
--- the number that is an entry
-abbrev pub number_in : Entry → ℤ
-number_in (Number n) = n
-number_in (Means meaning) = pos 0
-number_in (InCategory category) = pos 0
-
--- the number at a place
-abbrev pub number_at : Table → Place → ℤ
-number_at table place = number_in (entry table place)
 
 -- an assignment is global as its prefix says, unless \globaldefs isn't 0: then all are where it is positive, and none is
 -- where it is negative

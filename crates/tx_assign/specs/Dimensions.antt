@@ -5,9 +5,9 @@ use Rattle.tx_num.specs.Decimals.{fraction_of}
 use Rattle.tx_num.specs.Units.{size_of}
 use Rattle.tx_num.specs.declared.units.PhysicalUnit.{PhysicalUnit}
 use Rattle.tx_num.specs.declared.units.PhysicalUnit.TheVariants.{Point, ScaledPoint}
-use Rattle.tx_assign.specs.declared.seen.Seen.{Seen}
-use Rattle.tx_assign.specs.declared.error.TexError.TheVariants.{MissingNumber, MissingUnit, DimensionTooLarge}
-use Rattle.tx_assign.specs.Seen.{is_space, is_other, is_point, is_key, digit_value}
+use Rattle.tx_seen.specs.declared.seen.Seen.{Seen}
+use Rattle.tx_seen.specs.declared.error.TexError.TheVariants.{MissingNumber, MissingUnit, DimensionTooLarge}
+use Rattle.tx_seen.specs.Seen.{is_space, is_other, is_point, is_key, digit_value}
 use Rattle.tx_assign.specs.Scans.{Scan, more, Done, Wrong, next, expanded, without_space, space_after}
 use Rattle.tx_assign.specs.Numbers.{signs, character_code, with_digit}
 

@@ -1,5 +1,4 @@
-pub mod Errors
-pub mod Seen
+pub mod Sight
 pub mod Scans
 pub mod Numbers
 pub mod Dimensions

@@ -2,10 +2,10 @@
 use Rattle.std.specs.Prelude.{ℕ, ◌+◌, ◌*◌, Bool, true, false, not, nat_le, ℤ, List, [], ◌∷◌, Option, Some, None, if◌then◌else◌}
 use Rattle.tx_num.specs.Fractions.{signed}
 use Rattle.tx_char.specs.declared.tokens.Token.{Token}
-use Rattle.tx_char.specs.declared.tokens.Token.TheVariants.{Character, Name}
-use Rattle.tx_assign.specs.declared.error.TexError.TheVariants.{MissingNumber, IntegerTooLarge}
-use Rattle.tx_assign.specs.declared.seen.Seen.{Seen}
-use Rattle.tx_assign.specs.Seen.{is_space, is_other, digit_value}
+use Rattle.tx_char.specs.declared.tokens.Token.TheVariants.{Character, Name, FrozenRelax}
+use Rattle.tx_seen.specs.declared.error.TexError.TheVariants.{MissingNumber, IntegerTooLarge}
+use Rattle.tx_seen.specs.declared.seen.Seen.{Seen}
+use Rattle.tx_seen.specs.Seen.{is_space, is_other, digit_value}
 use Rattle.tx_assign.specs.Scans.{Scan, more, Done, Wrong, next, expanded, without_space, space_after}
 
 -- signs and spaces: whether an odd number of the signs are `-`
@@ -22,6 +22,7 @@ abbrev pub code_named : Token → List Seen → Scan ℕ
 code_named (Character code category) rest = Done code rest
 code_named (Name (code ∷ [])) rest = Done code rest
 code_named (Name _) rest = Wrong MissingNumber
+code_named FrozenRelax rest = Wrong MissingNumber
 
 abbrev pub character_code : List Seen → Scan ℕ
 character_code [] = more

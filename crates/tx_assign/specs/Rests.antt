@@ -4,7 +4,7 @@ use Rattle.tx_num.specs.Fractions.{signed}
 use Rattle.tx_num.specs.declared.units.PhysicalUnit.{PhysicalUnit}
 use Rattle.tx_num.specs.Units.{size_of}
 use Rattle.tx_num.specs.Decimals.{fraction_of}
-use Rattle.tx_assign.specs.declared.error.TexError.TheVariants.{MissingNumber, NumberOutOfRange}
+use Rattle.tx_seen.specs.declared.error.TexError.TheVariants.{MissingNumber, NumberOutOfRange}
 use Rattle.tx_assign.specs.declared.scans.Fed.{Fed}
 use Rattle.tx_assign.specs.declared.scans.Fed.TheVariants as fed
 use Rattle.tx_assign.specs.declared.scans.IntScan.{IntScan}
@@ -13,13 +13,13 @@ use Rattle.tx_assign.specs.declared.scans.IntPart.TheVariants as int
 use Rattle.tx_assign.specs.declared.scans.DimenScan.{DimenScan}
 use Rattle.tx_assign.specs.declared.scans.DimenPart.{DimenPart}
 use Rattle.tx_assign.specs.declared.scans.DimenPart.TheVariants as dimen
-use Rattle.tx_assign.specs.declared.seen.Seen.{Seen}
+use Rattle.tx_seen.specs.declared.seen.Seen.{Seen}
 use Rattle.tx_assign.specs.declared.stage.AssignScan.{AssignScan}
 use Rattle.tx_assign.specs.declared.stage.AssignScan.TheVariants as stage
 use Rattle.tx_assign.specs.declared.types.Assignment.{Assignment}
 use Rattle.tx_assign.specs.declared.types.Target.TheVariants.{Name}
 use Rattle.tx_assign.specs.Scans.{Scan, Done, Wrong, next, defining, space_after}
-use Rattle.tx_assign.specs.Numbers.{integer, equals, signs, unsigned, character_code, more_digits}
+use Rattle.tx_assign.specs.Numbers.{signs, unsigned, character_code, more_digits}
 use Rattle.tx_assign.specs.Dimensions.{Factor, factor, whole_units, fraction, unit_name, second_letter, sized as sized_dimension}
 use Rattle.tx_assign.specs.Assignments.{assignment, prefixed, name, given, value, valued, sized, changed, by_end, arithmetic, behind_number, defined_by, let_behind_name, let_behind_equals, let_token}
 

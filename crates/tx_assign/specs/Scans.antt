@@ -1,15 +1,15 @@
 -- Reading one thing off the tokens at the front of a list (TeX: The Program, part 26).
 use Rattle.std.specs.Prelude.{List, [], ◌∷◌, Option, None, if◌then◌else◌}
-use Rattle.tx_char.specs.declared.tokens.Token.{Token}
-use Rattle.tx_assign.specs.declared.error.TexError.{TexError}
-use Rattle.tx_assign.specs.declared.error.TexError.TheVariants.{Undefined}
-use Rattle.tx_assign.specs.declared.seen.Seen.{Seen}
-use Rattle.tx_assign.specs.Seen.{is_undefined, is_space}
+use Rattle.tx_seen.specs.declared.place.Place.{Place}
+use Rattle.tx_seen.specs.declared.error.TexError.{TexError}
+use Rattle.tx_seen.specs.declared.error.TexError.TheVariants.{Undefined}
+use Rattle.tx_seen.specs.declared.seen.Seen.{Seen}
+use Rattle.tx_seen.specs.Seen.{is_undefined, is_space}
 
--- the tokens are only a part of a thing, perhaps one that defines this name; or begin with a whole one, and these are
+-- the tokens are only a part of a thing, perhaps one that defines the name at this place; or begin with a whole one, and these are
 -- behind it; or begin none
 pub data Scan (A : Type 0) : Type 0 where
-  More : Option Token → Scan A
+  More : Option Place → Scan A
   Done : A → List Seen → Scan A
   Wrong : TexError → Scan A
 
@@ -17,8 +17,8 @@ pub data Scan (A : Type 0) : Type 0 where
 abbrev pub more : {A : Type 0} → Scan A
 more = More None
 
--- a thing that defines this name, if there is one
-abbrev pub defining : {A : Type 0} → Option Token → Scan A → Scan A
+-- a thing that defines the name at this place, if there is one
+abbrev pub defining : {A : Type 0} → Option Place → Scan A → Scan A
 defining name (More _) = More name
 defining name (Done a rest) = Done a rest
 defining name (Wrong e) = Wrong e

@@ -1,14 +1,12 @@
 -- What assignments give values, and in what ranges (The TeXbook, chapter 24; TeX: The Program, sections 1224 to 1240).
-use Rattle.std.specs.Prelude.{ℕ, ℤ, pos, negsuc, neg_ℤ, Bool, true, false, ◌&&◌, ◌∷◌, [], int_le, unsigned_abs, slice_index_or}
+use Rattle.std.specs.Prelude.{ℕ, ℤ, pos, neg_ℤ, Bool, true, false, ◌&&◌, ◌∷◌, [], int_le, unsigned_abs, slice_index_or}
 use Rattle.tx_char.specs.declared.category.Cat.{Cat}
 use Rattle.tx_char.specs.declared.category.Cat.TheVariants as category
-use Rattle.tx_char.specs.declared.tokens.Token.{Token}
-use Rattle.tx_char.specs.declared.tokens.Token.TheVariants as token
-use Rattle.tx_eqtb.specs.declared.place.CharacterCode.TheVariants.{LowerCase, UpperCase, SpaceFactor, Math, Delimiter}
-use Rattle.tx_eqtb.specs.declared.place.Place.{Place}
-use Rattle.tx_eqtb.specs.declared.place.Place.TheVariants as place
-use Rattle.tx_eqtb.specs.declared.meaning.Meaning.{Meaning}
-use Rattle.tx_eqtb.specs.declared.meaning.Meaning.TheVariants as meaning
+use Rattle.tx_seen.specs.declared.place.CharacterCode.TheVariants.{LowerCase, UpperCase, SpaceFactor, Math, Delimiter}
+use Rattle.tx_seen.specs.declared.place.Place.{Place}
+use Rattle.tx_seen.specs.declared.place.Place.TheVariants as place
+use Rattle.tx_seen.specs.declared.meaning.Meaning.{Meaning}
+use Rattle.tx_seen.specs.declared.meaning.Meaning.TheVariants as meaning
 use Rattle.tx_eqtb.specs.declared.entry.Entry.{Entry}
 use Rattle.tx_eqtb.specs.declared.entry.Entry.TheVariants.{Means, InCategory, Number}
 use Rattle.tx_assign.specs.declared.types.Bounds.{Bounds}
@@ -28,11 +26,6 @@ numbered_place number.CountRegister n = place.Count n
 numbered_place number.DimenRegister n = place.Dimen n
 numbered_place number.Category n = place.Category n
 numbered_place (number.Code kind) n = place.Code kind n
-
--- the place of a name or an active character
-abbrev pub named_place : Token → Place
-named_place (token.Name name) = place.Name name
-named_place (token.Character code category) = place.Active code
 
 -- whether a size stands at a place, and no number
 abbrev pub is_size : Place → Bool
@@ -102,7 +95,7 @@ meaning_by shorthand.MathCharacter n = meaning.MathNumber (unsigned_abs n)
 -- where the target is, and what becomes of it by a value
 abbrev pub place_of : Target → Place
 place_of (Variable place) = place
-place_of (Name name kind) = named_place name
+place_of (Name place kind) = place
 place_of (Changed place operation) = place
 
 abbrev pub change_by : Target → ℤ → Change

@@ -3,11 +3,11 @@ ghost use Rattle.std.specs.Prelude.{◌≡◌};
 ghost use Rattle.tx_assign.specs.Beginnings as spec;
 
 use crate::types::{Numbered, Operation, Shorthand, Variable};
-use tx_eqtb::{CharacterCode, Meaning, Place};
 use tx_prim::Primitive;
+use tx_seen::{CharacterCode, Meaning, Place};
 
 /// What a command is to assignments (TeX: The Program, section 1210).
-#[derive(Debug, Drop)]
+#[derive(Drop)]
 pub enum Beginning {
     /// \global.
     Prefix,
@@ -67,13 +67,13 @@ fn standing(place: Place) -> Beginning
 }
 
 /// What a command or a character is to assignments, by its meaning.
-pub fn begins_with(meaning: Meaning) -> Beginning
-    ensures { result ≡ spec.beginning meaning }
+pub fn begins_with(meaning: &Meaning) -> Beginning
+    ensures { result ≡ spec.beginning meaning.now }
 {
     match meaning {
-        Meaning::Command(primitive) => primitive_beginning(primitive),
-        Meaning::CountRegister(number) => standing(Place::Count(number)),
-        Meaning::DimenRegister(number) => standing(Place::Dimen(number)),
+        Meaning::Command(primitive) => primitive_beginning(*primitive),
+        Meaning::CountRegister(number) => standing(Place::Count(*number)),
+        Meaning::DimenRegister(number) => standing(Place::Dimen(*number)),
         _ => Beginning::Nothing,
     }
 }

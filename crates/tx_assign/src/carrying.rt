@@ -4,23 +4,13 @@ ghost use Rattle.tx_num.specs.Limits.{limit};
 ghost use Rattle.tx_assign.specs.Changes as spec;
 ghost use Rattle.tx_assign.specs.Changes.{IsCarried};
 
-use crate::error::TexError;
 use crate::target::is_size;
 use crate::types::{Assignment, Carried, Change, Operation};
 use std::alloc::AllocError;
-use tx_eqtb::{Entry, Eqtb, Place};
+use tx_eqtb::{Entry, Eqtb};
 use tx_num::{Range, x_over_n};
 use tx_prim::IntegerParameter;
-
-/// The number at a place; 0 where no number stands.
-pub fn number_at(table: &Eqtb, place: &Place) -> i32
-    ensures { result ≡ spec.number_at table.now.table place.now }
-{
-    match table.get(place) {
-        Entry::Number(number) => number,
-        _ => 0,
-    }
-}
+use tx_seen::{Place, TexError};
 
 /// Whether an assignment is global, with this value of \globaldefs.
 fn is_global(globaldefs: i32, prefixed: bool) -> bool
@@ -109,12 +99,12 @@ pub fn carry_out(table: &mut Eqtb, assignment: Assignment) -> Result<Carried, Al
         place,
         change,
     } = assignment;
-    let number = number_at(table, &place);
+    let number = table.number(&place);
     let entry = match changed_entry(range_of(&place), number, change) {
         Ok(entry) => entry,
         Err(error) => return Ok(Carried::Refused(error)),
     };
-    let globaldefs = number_at(table, &Place::Integer(IntegerParameter::Globaldefs));
+    let globaldefs = table.number(&Place::Integer(IntegerParameter::Globaldefs));
     if is_global(globaldefs, global) {
         table.assign_global(place, entry)?;
     } else {

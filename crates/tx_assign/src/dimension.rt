@@ -1,17 +1,17 @@
 //! Dimensions, token by token (TeX: The Program, sections 448 to 458).
 ghost use Rattle.std.specs.Prelude.{ℕ, pos, ◌≤ℤ◌, ◌≡◌, ◌<◌, ◌≤◌, List, option_to_list, IfOk};
-ghost use Rattle.tx_assign.specs.declared.seen.Seen.{Seen};
+ghost use Rattle.tx_seen.specs.declared.seen.Seen.{Seen};
 ghost use Rattle.tx_num.specs.Fractions.{signed};
 ghost use Rattle.tx_assign.specs.Dimensions.{dimension};
 ghost use Rattle.tx_assign.specs.Rests.{IsFed, dimen_rest};
 
-use crate::error::TexError;
 use crate::fraction::Digits;
 use crate::integer::{character_named, longer};
 use crate::scans::{DimenFed, DimenPart, DimenScan, Factor, Fed};
-use crate::seen::Seen;
+use crate::sight::unless_space;
 use std::alloc::{AllocError, Global};
 use tx_num::PhysicalUnit;
+use tx_seen::{Seen, TexError};
 
 /// The scan goes on with this part.
 fn more(negative: bool, part: DimenPart) -> DimenFed
@@ -211,7 +211,7 @@ fn feed_end(negative: bool, factor: Factor, unit: PhysicalUnit, token: Seen) -> 
         return Fed::Wrong(TexError::Undefined);
     }
     match unit.to_scaled(factor.whole, factor.digits.value()) {
-        Ok(size) => Fed::Done(with_sign(negative, size), token.unless_space()),
+        Ok(size) => Fed::Done(with_sign(negative, size), unless_space(token)),
         Err(_) => Fed::Wrong(TexError::DimensionTooLarge),
     }
 }

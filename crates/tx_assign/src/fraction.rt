@@ -12,7 +12,7 @@ const COUNTED_DIGITS: usize = 17;
 
 /// Digits behind a decimal point, as text. No more of them are kept than count, so they take little memory however many
 /// there are.
-#[derive(Debug, Drop)]
+#[derive(Drop)]
 pub struct Digits {
     text: Bytes,
 }

@@ -1,14 +1,14 @@
 //! Integers, token by token (TeX: The Program, sections 440 to 445).
 ghost use Rattle.std.specs.Prelude.{◌≡◌, ◌+◌, ◌*◌, ◌<◌, ◌≤◌, List, option_to_list, MatchOption};
-ghost use Rattle.tx_assign.specs.declared.seen.Seen.{Seen};
+ghost use Rattle.tx_seen.specs.declared.seen.Seen.{Seen};
 ghost use Rattle.tx_num.specs.Fractions.{signed};
 ghost use Rattle.tx_assign.specs.Numbers.{integer, code_named};
 ghost use Rattle.tx_assign.specs.Rests.{IsFed, int_rest, coded};
 
-use crate::error::TexError;
 use crate::scans::{Fed, IntFed, IntPart, IntScan};
-use crate::seen::Seen;
+use crate::sight::unless_space;
 use tx_char::Token;
+use tx_seen::{Seen, TexError};
 
 /// The greatest integer.
 const GREATEST: u64 = 2_147_483_647;
@@ -23,6 +23,7 @@ pub(crate) fn character_named(token: &Token) -> Option<u8>
             [code] => Some(*code),
             _ => None,
         },
+        Token::FrozenRelax => None,
     }
 }
 
@@ -123,7 +124,7 @@ fn feed_space(negative: bool, code: u8, token: Seen) -> IntFed
     }
     Fed::Done(
         number_with_sign(negative, u32::from(code)),
-        token.unless_space(),
+        unless_space(token),
     )
 }
 
@@ -135,7 +136,7 @@ fn feed_digit(negative: bool, number: u32, token: Seen) -> IntFed
         return Fed::Wrong(TexError::Undefined);
     }
     let Some(digit) = token.digit() else {
-        return Fed::Done(number_with_sign(negative, number), token.unless_space());
+        return Fed::Done(number_with_sign(negative, number), unless_space(token));
     };
     match longer(number, digit) {
         Some(number) => Fed::More(IntScan {

@@ -1,25 +1,23 @@
 //! Names that are given a meaning, token by token (TeX: The Program, sections 1215, 1221 and 1224).
 ghost use Rattle.std.specs.Prelude.{◌≡◌, ◌∷◌, List};
-ghost use Rattle.tx_assign.specs.declared.seen.Seen.{Seen};
+ghost use Rattle.tx_seen.specs.declared.seen.Seen.{Seen};
 ghost use Rattle.tx_assign.specs.Assignments.{let_to as spec_let_to, name as name_read, name_or_space};
 ghost use Rattle.tx_assign.specs.Rests.{IsAssigning, assign_rest};
 
-use crate::error::TexError;
 use crate::scans::Fed;
-use crate::seen::Seen;
 use crate::stage::{AssignFed, AssignScan};
-use crate::target::named_place;
 use crate::types::{Assignment, Change, Shorthand, Target};
 use tx_char::{Cat, Token};
 use tx_eqtb::Entry;
+use tx_seen::{Place, Seen, TexError};
 
 /// What a token is where a name is needed.
-#[derive(Debug, Drop)]
+#[derive(Drop)]
 pub enum NameRead {
     /// A space, which is skipped.
     Space,
-    /// A name or an active character.
-    Name(Token),
+    /// A name or an active character, whose meaning stands at this place.
+    Name(Place),
     /// Neither.
     Missing,
 }
@@ -29,10 +27,10 @@ fn read_name(token: Token) -> NameRead
     ensures { result ≡ name_or_space token }
 {
     match token {
-        Token::Name(name) => NameRead::Name(Token::Name(name)),
+        Token::Name(name) => NameRead::Name(Place::Name(name)),
         Token::Character(_, Cat::Space) => NameRead::Space,
-        Token::Character(code, Cat::Active) => NameRead::Name(Token::Character(code, Cat::Active)),
-        Token::Character(_, _) => NameRead::Missing,
+        Token::Character(code, Cat::Active) => NameRead::Name(Place::Active(code)),
+        Token::Character(_, _) | Token::FrozenRelax => NameRead::Missing,
     }
 }
 
@@ -59,7 +57,7 @@ pub(crate) fn feed_shorthand_name(global: bool, kind: Shorthand, token: Seen) ->
 }
 
 /// Spaces, an optional `=`, or the token that the name is to be like.
-pub(crate) fn feed_behind_name(global: bool, name: Token, token: Seen) -> AssignFed
+pub(crate) fn feed_behind_name(global: bool, name: Place, token: Seen) -> AssignFed
     ensures { IsAssigning (λ more. assign_rest (AssignScan.LetBehindName global name) (token ∷ more)) result }
 {
     if token.is_space() {
@@ -72,7 +70,7 @@ pub(crate) fn feed_behind_name(global: bool, name: Token, token: Seen) -> Assign
 }
 
 /// An optional space behind the `=`, or the token that the name is to be like.
-pub(crate) fn feed_behind_equals(global: bool, name: Token, token: Seen) -> AssignFed
+pub(crate) fn feed_behind_equals(global: bool, name: Place, token: Seen) -> AssignFed
     ensures { IsAssigning (λ more. assign_rest (AssignScan.LetBehindEquals global name) (token ∷ more)) result }
 {
     if token.is_space() {
@@ -82,13 +80,13 @@ pub(crate) fn feed_behind_equals(global: bool, name: Token, token: Seen) -> Assi
 }
 
 /// The name is to be like this token.
-pub(crate) fn let_to(global: bool, name: Token, token: Seen) -> AssignFed
+pub(crate) fn let_to(global: bool, name: Place, token: Seen) -> AssignFed
     ensures { IsAssigning (λ more. spec_let_to global name token more) result }
 {
     Fed::Done(
         Assignment {
             global,
-            place: named_place(name),
+            place: name,
             change: Change::Set(Entry::Means(token.meaning)),
         },
         None,

@@ -1,11 +1,10 @@
 //! What a scan that is fed token by token still needs, and what it answers to a token.
-use crate::error::TexError;
 use crate::fraction::Digits;
-use crate::seen::Seen;
 use tx_num::PhysicalUnit;
+use tx_seen::{Seen, TexError};
 
 /// What a scan answers to a token.
-#[derive(Debug, Drop)]
+#[derive(Drop)]
 pub enum Fed<A, T, B> {
     /// The scan goes on.
     More(A),
@@ -16,7 +15,7 @@ pub enum Fed<A, T, B> {
 }
 
 /// An integer that is being read.
-#[derive(Clone, Copy, Debug)]
+#[derive(Clone, Copy)]
 pub struct IntScan {
     /// Whether the signs so far make it negative.
     pub negative: bool,
@@ -24,7 +23,7 @@ pub struct IntScan {
 }
 
 /// The part of an integer that comes next.
-#[derive(Clone, Copy, Debug)]
+#[derive(Clone, Copy)]
 pub enum IntPart {
     /// Signs and spaces, then the number.
     Signs,
@@ -40,14 +39,14 @@ pub enum IntPart {
 pub type IntFed = Fed<IntScan, i64, Option<Seen>>;
 
 /// What stands before a unit: whole units, and the digits of a fraction.
-#[derive(Debug, Drop)]
+#[derive(Drop)]
 pub struct Factor {
     pub whole: u32,
     pub digits: Digits,
 }
 
 /// A dimension that is being read.
-#[derive(Debug, Drop)]
+#[derive(Drop)]
 pub struct DimenScan {
     /// Whether the signs so far make it negative.
     pub negative: bool,
@@ -55,7 +54,7 @@ pub struct DimenScan {
 }
 
 /// The part of a dimension that comes next.
-#[derive(Debug, Drop)]
+#[derive(Drop)]
 pub enum DimenPart {
     /// Signs and spaces, then the factor.
     Signs,

@@ -1,25 +1,22 @@
 //! Assignments, token by token (The TeXbook, chapter 24; TeX: The Program, part 49).
 ghost use Rattle.std.specs.Prelude.{◌≡◌, ◌∷◌, ◌++◌, [], List, Some, None, IfOk, IsTrue, option_to_list, option_copied};
-ghost use Rattle.tx_assign.specs.declared.seen.Seen.{Seen};
+ghost use Rattle.tx_seen.specs.declared.seen.Seen.{Seen};
 ghost use Rattle.tx_assign.specs.Scans.{More};
 ghost use Rattle.tx_assign.specs.Targets.{takes_size};
 ghost use Rattle.tx_assign.specs.Assignments.{behind_number, behind_place, begun, changed, given, left_side, prefixed as behind_prefix, value};
 ghost use Rattle.tx_assign.specs.Rests.{IsAssigning, assign_rest};
 
 use crate::begin::{Beginning, begins_with};
-use crate::error::TexError;
 use crate::naming;
 use crate::scans::{DimenScan, Fed, IntScan};
-use crate::seen::Seen;
 use crate::target::{eight_bits, numbered_place};
 use crate::types::{Assignment, Numbered, Operation, Shorthand, Target, Variable};
 use crate::values::{feed_integer, feed_size, feed_value};
 use std::alloc::{AllocError, Global};
-use tx_char::Token;
-use tx_eqtb::Place;
+use tx_seen::{Place, Seen, TexError};
 
 /// What of an assignment is still to be read. Each stage but the first two knows whether \global stands before it.
-#[derive(Debug, Drop)]
+#[derive(Drop)]
 pub enum AssignScan {
     /// Its first token.
     Start,
@@ -44,11 +41,11 @@ pub enum AssignScan {
     /// A size.
     Size(bool, Target, DimenScan),
     /// An optional `=` behind the name that \let defines, with spaces before it, or the token that it is to be like.
-    LetBehindName(bool, Token),
+    LetBehindName(bool, Place),
     /// An optional space behind that `=`, or the token.
-    LetBehindEquals(bool, Token),
+    LetBehindEquals(bool, Place),
     /// The token.
-    LetToken(bool, Token),
+    LetToken(bool, Place),
 }
 
 /// What an assignment's scan answers to a token; at most one token isn't part of it.
@@ -107,8 +104,8 @@ fn begin(global: bool, begins: Beginning) -> AssignFed
 }
 
 impl AssignScan {
-    /// The name that is being defined and means \relax until its value is read, if there is one.
-    pub fn defined(&self) -> Option<&Token>
+    /// The place of the name that is being defined and means \relax until its value is read, if there is one.
+    pub fn defined(&self) -> Option<&Place>
         ensures { assign_rest self.now [] ≡ More (option_copied result) }
     {
         match self {
@@ -158,7 +155,7 @@ fn feed_first(token: Seen) -> AssignFed
     if token.is_undefined() {
         return Fed::Wrong(TexError::Undefined);
     }
-    begin(false, begins_with(token.meaning))
+    begin(false, begins_with(&token.meaning))
 }
 
 /// Behind a prefix a space or \relax, or the command.
@@ -171,7 +168,7 @@ fn feed_prefixed(token: Seen) -> AssignFed
     if token.is_space() || token.is_relax() {
         return on(AssignScan::Prefixed);
     }
-    begin(true, begins_with(token.meaning))
+    begin(true, begins_with(&token.meaning))
 }
 
 /// The number of a left side. Its only error is want of memory.
@@ -236,7 +233,7 @@ fn feed_operand(global: bool, operation: Operation, token: Seen) -> AssignFed
     if token.is_undefined() {
         return Fed::Wrong(TexError::Undefined);
     }
-    match begins_with(token.meaning) {
+    match begins_with(&token.meaning) {
         Beginning::Variable(side) if side.is_changeable() => on(to_side(
             global,
             Some(operation),

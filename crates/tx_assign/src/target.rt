@@ -3,11 +3,12 @@ ghost use Rattle.std.specs.Prelude.{◌≡◌, ◌≤◌, ◌≤ℤ◌, ℕ, Lis
 ghost use Rattle.tx_assign.specs.Targets as spec;
 ghost use Rattle.tx_assign.specs.Assignments.{below, defined_by, is_changeable};
 ghost use Rattle.tx_assign.specs.Rests.{ranged};
-ghost use Rattle.tx_assign.specs.declared.seen.Seen.{Seen};
+ghost use Rattle.tx_seen.specs.declared.seen.Seen.{Seen};
 
 use crate::types::{Bounds, Change, Numbered, Operation, Shorthand, Target, Variable};
-use tx_char::{Cat, Token};
-use tx_eqtb::{CharacterCode, Entry, Meaning, Place};
+use tx_char::Cat;
+use tx_eqtb::Entry;
+use tx_seen::{CharacterCode, Meaning, Place};
 
 /// The greatest integer.
 const GREATEST: i64 = 2_147_483_647;
@@ -32,16 +33,6 @@ pub(crate) fn numbered_place(kind: Numbered, number: u8) -> Place
         Numbered::DimenRegister => Place::Dimen(number),
         Numbered::Category => Place::Category(number),
         Numbered::Code(code) => Place::Code(code, number),
-    }
-}
-
-/// The place of a name or an active character.
-pub(crate) fn named_place(name: Token) -> Place
-    ensures { result ≡ spec.named_place name }
-{
-    match name {
-        Token::Name(name) => Place::Name(name),
-        Token::Character(code, _) => Place::Active(code),
     }
 }
 
@@ -147,8 +138,8 @@ impl Target {
         }
     }
 
-    /// The name that is defined, if it is one.
-    pub(crate) fn defined(&self) -> Option<&Token>
+    /// The place of the name that is defined, if it is one.
+    pub(crate) fn defined(&self) -> Option<&Place>
         ensures { option_copied result ≡ defined_by self.now }
     {
         match self {
@@ -205,7 +196,7 @@ impl Target {
     {
         match self {
             Target::Variable(place) => place,
-            Target::Name(name, _) => named_place(name),
+            Target::Name(place, _) => place,
             Target::Changed(place, _) => place,
         }
     }

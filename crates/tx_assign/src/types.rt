@@ -1,10 +1,9 @@
 //! What assignments are, once they are read whole.
-use crate::error::TexError;
-use tx_char::Token;
-use tx_eqtb::{CharacterCode, Entry, Place};
+use tx_eqtb::Entry;
+use tx_seen::{CharacterCode, Place, TexError};
 
 /// What \advance, \multiply and \divide do.
-#[derive(Clone, Copy, Debug, PartialEq, Eq)]
+#[derive(Clone, Copy, PartialEq, Eq)]
 pub enum Operation {
     Advance,
     Multiply,
@@ -12,7 +11,7 @@ pub enum Operation {
 }
 
 /// What a command that is followed by a number tells apart by it.
-#[derive(Clone, Copy, Debug)]
+#[derive(Clone, Copy)]
 pub enum Numbered {
     /// Registers of \count and \dimen.
     CountRegister,
@@ -24,7 +23,7 @@ pub enum Numbered {
 }
 
 /// The left side of an assignment (The TeXbook, chapter 24).
-#[derive(Debug, Drop)]
+#[derive(Drop)]
 pub enum Variable {
     /// A number tells which.
     Numbered(Numbered),
@@ -33,7 +32,7 @@ pub enum Variable {
 }
 
 /// What a name is made to mean by a number (TeX: The Program, section 1222).
-#[derive(Clone, Copy, Debug, PartialEq, Eq)]
+#[derive(Clone, Copy, PartialEq, Eq)]
 pub enum Shorthand {
     /// \countdef and \dimendef: a register.
     CountRegister,
@@ -45,25 +44,25 @@ pub enum Shorthand {
 }
 
 /// What an assignment gives a value.
-#[derive(Debug, Drop)]
+#[derive(Drop)]
 pub enum Target {
     /// This place.
     Variable(Place),
-    /// This name, which is to stand for a number.
-    Name(Token, Shorthand),
+    /// The name at this place, which is to stand for a number.
+    Name(Place, Shorthand),
     /// This place, by its own value and this operation.
     Changed(Place, Operation),
 }
 
 /// The numbers from the least to the greatest.
-#[derive(Clone, Copy, Debug)]
+#[derive(Clone, Copy)]
 pub struct Bounds {
     pub least: i64,
     pub greatest: i64,
 }
 
 /// What becomes of a place.
-#[derive(Clone, Copy, Debug)]
+#[derive(Drop)]
 pub enum Change {
     /// It has this entry.
     Set(Entry),
@@ -72,7 +71,7 @@ pub enum Change {
 }
 
 /// What carrying an assignment out gives.
-#[derive(Clone, Copy, Debug)]
+#[derive(Clone, Copy)]
 pub enum Carried {
     /// It is done.
     Done,
@@ -81,7 +80,7 @@ pub enum Carried {
 }
 
 /// An assignment with all that belongs to it.
-#[derive(Debug, Drop)]
+#[derive(Drop)]
 pub struct Assignment {
     /// Whether \global stands before it.
     pub global: bool,

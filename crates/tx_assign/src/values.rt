@@ -1,16 +1,15 @@
 //! The values of assignments, token by token.
 ghost use Rattle.std.specs.Prelude.{◌≡◌, ◌∷◌, ◌++◌, List, IfOk, IsTrue, option_to_list};
-ghost use Rattle.tx_assign.specs.declared.seen.Seen.{Seen};
+ghost use Rattle.tx_seen.specs.declared.seen.Seen.{Seen};
 ghost use Rattle.tx_assign.specs.Targets.{is_within, takes_size, target_bounds};
 ghost use Rattle.tx_assign.specs.Assignments.{sized, value, valued};
 ghost use Rattle.tx_assign.specs.Rests.{IsAssigning, assign_rest};
 
-use crate::error::TexError;
 use crate::scans::{DimenScan, Fed, IntScan};
-use crate::seen::Seen;
 use crate::stage::{AssignFed, AssignScan};
 use crate::types::{Assignment, Target};
 use std::alloc::{AllocError, Global};
+use tx_seen::{Seen, TexError};
 
 /// The first token of a value. Its only error is want of memory.
 pub(crate) fn feed_value(

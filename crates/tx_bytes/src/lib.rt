@@ -1,6 +1,8 @@
 //! A list of bytes that owns its memory. Contracts see a `Bytes` as the list of its bytes: where they lie and how
 //! much room is reserved is nobody's concern. Every crate passes texts, names and file contents in this form.
 //!
+//! Proved: each call is its plain meaning on the list. Nothing is left to tests.
+//!
 //! One module, read from the top.
 #![tactic(auto)]
 

@@ -1,5 +1,6 @@
 -- Categories of characters (The TeXbook, chapter 7; TeX: The Program, parts 15 and 17).
 use Rattle.std.specs.Prelude.{ℕ, Bool, zero, suc, ◌++◌, ◌==◌, ◌&&◌, ◌||◌, nat_le, List, [], ◌∷◌, map, slice_index_or, if◌then◌else◌}
+use Rattle.tx_char.specs.Character.{character}
 use Rattle.tx_char.specs.declared.category.Cat.{Cat}
 use Rattle.tx_char.specs.declared.category.Cat.TheVariants.{Escape, BeginGroup, EndGroup, MathShift, AlignmentTab, EndOfLine, Parameter, Superscript, Subscript, Ignored, Space, Letter, Other, Active, Comment, Invalid}
 
@@ -28,16 +29,16 @@ category codes code = slice_index_or codes code Other
 
 -- whether a code is that of A to Z or a to z
 abbrev pub is_ascii_letter : ℕ → Bool
-is_ascii_letter code = (nat_le 65 code && nat_le code 90) || (nat_le 97 code && nat_le code 122)
+is_ascii_letter code =
+    (nat_le (character "A") code && nat_le code (character "Z")) || (nat_le (character "a") code && nat_le code (character "z"))
 
--- the category with which INITEX begins: \ escapes, % comments, a carriage return (13) ends a line, a blank (32) is a
--- space, a null (0) is ignored, a delete (127) is invalid
+-- the category with which INITEX begins: a null (0) is ignored, a delete (127) is invalid
 abbrev pub initial_category : ℕ → Cat
 initial_category code =
-    if code == 92 then Escape
-    else if code == 37 then Comment
-    else if code == 13 then EndOfLine
-    else if code == 32 then Space
+    if code == character "\\" then Escape
+    else if code == character "%" then Comment
+    else if code == character "\r" then EndOfLine
+    else if code == character " " then Space
     else if code == 0 then Ignored
     else if code == 127 then Invalid
     else if is_ascii_letter code then Letter

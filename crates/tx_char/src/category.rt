@@ -4,7 +4,7 @@ ghost use Rattle.tx_char.specs.Category.{number_of};
 
 /// The category of a character: what TeX takes it for when it reads (The TeXbook, chapter 7). In the order of their
 /// numbers, which \catcode assigns.
-#[derive(Clone, Copy, PartialEq, Eq, Debug)]
+#[derive(Clone, Copy, PartialEq, Eq)]
 pub enum Cat {
     Escape,
     BeginGroup,

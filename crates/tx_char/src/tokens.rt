@@ -6,6 +6,7 @@ use std::alloc::{AllocError, Global};
 use std::marker::Model;
 use std::rc::Rc;
 use tx_bytes::Bytes;
+use tx_list::Kept;
 
 /// The name of a control sequence, without its escape character; it may be empty. Contracts see the list of its bytes.
 /// Clones share the bytes.
@@ -65,17 +66,31 @@ impl Clone for ControlName {
     }
 }
 
-/// What reading makes of characters (The TeXbook, chapter 7).
-#[derive(Debug, Drop)]
+impl Kept for ControlName {
+    fn share(&self) -> Result<Self, AllocError> {
+        self.clone()
+    }
+
+    fn same(&self, other: &Self) -> bool {
+        ControlName::same(self, other)
+    }
+}
+
+/// What reading makes of characters (The TeXbook, chapter 7), and the one token that reading makes of none.
+#[derive(Drop)]
 pub enum Token {
     /// A character code with the category that it had when it was read. An active character is one too.
     Character(u8, Cat),
     /// A control sequence.
     Name(ControlName),
+    /// TeX's frozen \relax, which is put in before an \else, \or or \fi in a test, and before an \input in a file's name.
+    /// It isn't the control sequence `\relax`, but it means \relax whatever that has come to mean, and it is printed as
+    /// `\relax` is (TeX: The Program, sections 379 and 510).
+    FrozenRelax,
 }
 
 impl Token {
-    /// Whether both are the same token: the same code with the same category, or the same name.
+    /// Whether both are the same token: the same code with the same category, the same name, or both the frozen \relax.
     pub fn same(&self, other: &Token) -> bool
         ensures { IsTrue result ↔ (self.now ≡ other.now) }
     {
@@ -84,6 +99,7 @@ impl Token {
                 code == other_code && category == other_category
             }
             (Token::Name(name), Token::Name(other_name)) => name.same(other_name),
+            (Token::FrozenRelax, Token::FrozenRelax) => true,
             _ => false,
         }
     }
@@ -97,6 +113,17 @@ impl Clone for Token {
         match self {
             Token::Character(code, category) => Ok(Token::Character(*code, *category)),
             Token::Name(name) => Ok(Token::Name(name.clone()?)),
+            Token::FrozenRelax => Ok(Token::FrozenRelax),
         }
+    }
+}
+
+impl Kept for Token {
+    fn share(&self) -> Result<Self, AllocError> {
+        self.clone()
+    }
+
+    fn same(&self, other: &Self) -> bool {
+        Token::same(self, other)
     }
 }

@@ -1,7 +1,9 @@
 -- Skipping the text that no branch takes (The TeXbook, chapter 20; TeX: The Program, section 494).
 use Rattle.std.specs.Prelude.{◌≡◌, ℕ, ◌+◌, ◌-◌, ◌==◌, Bool, true, false, List, [], ◌∷◌, ◌++◌, count_by, if◌then◌else◌}
-use Rattle.tx_toklist.specs.declared.fed.Fed.{Fed}
-use Rattle.tx_toklist.specs.declared.fed.Fed.TheVariants.{More, Done, E}
+use Rattle.tx_seen.specs.declared.error.TexError.TheVariants.{IncompleteConditional}
+use Rattle.tx_seen.specs.declared.fed.Want.TheVariants.{Raw}
+use Rattle.tx_seen.specs.declared.fed.Fed.{Fed}
+use Rattle.tx_seen.specs.declared.fed.Fed.TheVariants.{More, Need, Done, Wrong}
 use Rattle.tx_cond.specs.declared.types.CondWord.{CondWord}
 use Rattle.tx_cond.specs.declared.types.CondWord.TheVariants.{Fi}
 use Rattle.tx_cond.specs.declared.types.SkipItem.{SkipItem}
@@ -21,24 +23,25 @@ ends _ = false
 abbrev pub depth : List SkipItem → ℕ
 depth items = count_by begins items - count_by ends items
 
--- what the item behind these is to skipping: a word at depth 0 ends it, and neither an \outer macro nor the end of a
--- file is skipped
+-- what the item behind these is to skipping, where nothing is expanded: a word at depth 0 ends it, and neither an \outer
+-- macro nor the end of a file is skipped
 abbrev pub answer : List SkipItem → SkipItem → Fed CondWord
-answer before If = More
-answer before (Word word) = if depth before == 0 then Done word else More
-answer before Other = More
-answer before Outer = E 16
-answer before EndOfFile = E 16
+answer before If = More Raw
+answer before (Word word) = if depth before == 0 then Done word 0 else More Raw
+answer before Other = More Raw
+answer before Outer = Wrong IncompleteConditional
+answer before EndOfFile = Wrong IncompleteConditional
 
 -- an answer but for More, which leaves it to the next one
 abbrev pub or_else : Fed CondWord → Fed CondWord → Fed CondWord
-or_else More later = later
-or_else (Done word) later = Done word
-or_else (E number) later = E number
+or_else (More want) later = later
+or_else (Need kind) later = Need kind
+or_else (Done word back) later = Done word back
+or_else (Wrong error) later = Wrong error
 
 -- the first answer to one of these items but for More, where others are before them
 abbrev pub first_answer : List SkipItem → List SkipItem → Fed CondWord
-first_answer before [] = More
+first_answer before [] = More Raw
 first_answer before (item ∷ rest) = or_else (answer before item) (first_answer (before ++ item ∷ []) rest)
 
 -- what skipping gives of a list of items: its first \else, \or or \fi at depth 0, or the error that comes before it, or
@@ -48,5 +51,5 @@ skip items = first_answer [] items
 
 -- these items are skipped, and so many conditionals are open behind them
 pub record HasSkipped (inside : ℕ) (taken : List SkipItem) : Type 0 where
-  pub skipped : skip taken ≡ More
+  pub skipped : skip taken ≡ More Raw
   pub counted : count_by begins taken ≡ inside + count_by ends taken

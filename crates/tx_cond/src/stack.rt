@@ -1,16 +1,16 @@
 //! The list of open conditionals.
-ghost use Rattle.std.specs.Prelude.{◌≡◌, ◌↔◌, ◌<◌, ◌∷◌, [], List, Some, None, take, drop, length, ℤ, IsTrue, IfOk, OnOk, OnErr};
+ghost use Rattle.std.specs.Prelude.{◌≡◌, ◌↔◌, ◌<◌, ◌∷◌, [], List, Some, None, take, drop, length, ℤ, IsTrue, IfOk, IfErr, OnOk, OnErr};
 ghost use Rattle.tx_cond.specs.declared.types.Conditional.{Conditional};
 ghost use Rattle.tx_cond.specs.Conditionals.{begins_with_test, decide, has_test, meeting, met, within_all};
 
-use crate::error::ExtraWord;
 use crate::types::{CondWord, Conditional, Meet};
 use std::alloc::{AllocError, Global};
 use std::collections::VecDeque;
 use std::marker::Model;
+use tx_seen::TexError;
 
 /// The conditionals that are open. Contracts see the list of them, the innermost first.
-#[derive(Debug, Drop)]
+#[derive(Drop)]
 pub struct CondStack {
     open: VecDeque<Conditional>,
 }
@@ -58,12 +58,13 @@ impl CondStack {
     }
 
     /// Meets a word that belongs to the innermost conditional, in text that is read or skipped.
-    pub fn meet(&mut self, word: CondWord) -> Result<Meet, ExtraWord>
+    pub fn meet(&mut self, word: CondWord) -> Result<Meet, TexError>
         ensures ok { IfOk result (λ answer. meeting self.old word ≡ Some (record { answer = answer; stack = self.new })) }
         ensures extra { OnErr result ((meeting self.old word ≡ None) × (self.new ≡ self.old)) }
+        ensures error { IfErr result (λ error. error ≡ TexError.ExtraConditionalWord) }
     {
         let Some(innermost) = self.open.front() else {
-            return Err(ExtraWord::Extra);
+            return Err(TexError::ExtraConditionalWord);
         };
         let innermost = *innermost;
         if innermost.is_tested() {

@@ -2,8 +2,8 @@
 ghost use Rattle.std.specs.Prelude.{◌≡◌, ◌↔◌, IsTrue, Some, None, IfOk, IfErr, option_to_list};
 ghost use Rattle.tx_cond.specs.Conditionals.{is_test, skips, decided, behind_word};
 
-use crate::error::ExtraWord;
 use crate::types::{CondWord, Conditional};
+use tx_seen::TexError;
 
 impl Conditional {
     /// Whether its test is being scanned.
@@ -57,14 +57,14 @@ impl Conditional {
     }
 
     /// What a word makes of it: what it waits for then, or nothing where it has ended.
-    pub(crate) fn behind(self, word: CondWord) -> Result<Option<Conditional>, ExtraWord>
+    pub(crate) fn behind(self, word: CondWord) -> Result<Option<Conditional>, TexError>
         ensures ok { IfOk result (λ next. behind_word self word ≡ Some (option_to_list next)) }
-        ensures extra { IfErr result (λ _. behind_word self word ≡ None) }
+        ensures extra { IfErr result (λ error. (behind_word self word ≡ None) × (error ≡ TexError.ExtraConditionalWord)) }
     {
         match (self, word) {
             (Conditional::Testing { .. }, _) => Ok(Some(self)),
             (_, CondWord::Fi) => Ok(None),
-            (Conditional::LastBranch, _) => Err(ExtraWord::Extra),
+            (Conditional::LastBranch, _) => Err(TexError::ExtraConditionalWord),
             (Conditional::Ending, _) => Ok(Some(Conditional::Ending)),
             (Conditional::AwaitingOr { .. } | Conditional::AwaitingElse { .. }, CondWord::Else) => {
                 Ok(Some(Conditional::LastBranch))
@@ -78,7 +78,7 @@ impl Conditional {
             }
             (Conditional::AwaitingElse { cases: true }, CondWord::Or) => Ok(Some(self)),
             (Conditional::Live { cases: true }, CondWord::Or) => Ok(Some(Conditional::Ending)),
-            (_, CondWord::Or) => Err(ExtraWord::Extra),
+            (_, CondWord::Or) => Err(TexError::ExtraConditionalWord),
         }
     }
 }

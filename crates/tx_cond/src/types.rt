@@ -1,7 +1,7 @@
 //! The words of conditionals, and the conditionals that are open.
 
 /// What may end a branch (The TeXbook, chapter 20).
-#[derive(Clone, Copy, Debug, PartialEq, Eq)]
+#[derive(Clone, Copy, PartialEq, Eq)]
 pub enum CondWord {
     Else,
     Or,
@@ -9,7 +9,7 @@ pub enum CondWord {
 }
 
 /// What a token is to text that is skipped.
-#[derive(Clone, Copy, Debug, PartialEq, Eq)]
+#[derive(Clone, Copy, PartialEq, Eq)]
 pub enum SkipItem {
     /// It begins a conditional, \ifcase among them.
     If,
@@ -22,7 +22,7 @@ pub enum SkipItem {
 }
 
 /// What the caller does behind a word.
-#[derive(Clone, Copy, Debug, PartialEq, Eq)]
+#[derive(Clone, Copy, PartialEq, Eq)]
 pub enum Meet {
     /// A \relax is inserted before the word, which is read again behind it.
     Relax,
@@ -33,7 +33,7 @@ pub enum Meet {
 }
 
 /// A conditional from its \if.. to its \fi, by what it waits for. `cases` says that it is an \ifcase.
-#[derive(Clone, Copy, Debug, PartialEq, Eq)]
+#[derive(Clone, Copy, PartialEq, Eq)]
 pub enum Conditional {
     /// Its test is being scanned.
     Testing { cases: bool },

@@ -1,6 +1,9 @@
 //! DVI files (TeX: The Program, parts 31 and 32): what a page brings to one, and the file of a list of pages. The
 //! commands within a page are its maker's own: here they are bytes, and `specs/Meaning.antt` says what they mean.
 //!
+//! Proved: the file is exactly the defined bytes, and each page's pointer names the place of the page before it. Only
+//! tested: the bytes against files worked out by hand and read by dvitype.
+//!
 //! Read `page`, then `file`.
 #![tactic(auto)]
 

@@ -1,6 +1,6 @@
 -- The table with its groups: a stack of tables.
 use Rattle.std.specs.Prelude.{◌-◌, List, [], ◌∷◌, ◌++◌, length, take, map, Option, None, Some, option_map, slice_get}
-use Rattle.tx_eqtb.specs.declared.place.Place.{Place}
+use Rattle.tx_seen.specs.declared.place.Place.{Place}
 use Rattle.tx_eqtb.specs.declared.entry.Entry.{Entry}
 use Rattle.tx_eqtb.specs.declared.groups.GroupKind.{GroupKind}
 use Rattle.tx_eqtb.specs.declared.groups.Group.{Group}

@@ -1,19 +1,19 @@
 -- What stands at the places of a table, and how that changes.
-use Rattle.std.specs.Prelude.{◌≡◌, ℕ, ℤ, pos, Bool, true, false, List, unwrap_or, slice_get, slice_set}
+use Rattle.std.specs.Prelude.{◌≡◌, ℕ, ℤ, pos, List, unwrap_or, slice_get, slice_set}
 use Rattle.std.specs.FinMap.{get, insert, remove}
 use Rattle.tx_char.specs.declared.category.Cat.{Cat}
 use Rattle.tx_char.specs.declared.category.Cat.TheVariants as category
 use Rattle.tx_char.specs.declared.tokens.Token.{Token}
 use Rattle.tx_char.specs.declared.tokens.Token.TheVariants as token
-use Rattle.tx_char.specs.Category.{category as category_at}
 use Rattle.tx_name.specs.Names.{Names}
+use Rattle.tx_prim.specs.declared.primitive.Primitive.TheVariants.{Relax}
 use Rattle.tx_prim.specs.Integers.{integer_number}
 use Rattle.tx_prim.specs.Dimensions.{dimension_number}
-use Rattle.tx_eqtb.specs.declared.place.CharacterCode.TheVariants.{LowerCase, UpperCase, SpaceFactor, Math, Delimiter}
-use Rattle.tx_eqtb.specs.declared.place.Place.{Place}
-use Rattle.tx_eqtb.specs.declared.place.Place.TheVariants.{Name, Active, Count, Dimen, Category, Code, Integer, Dimension}
-use Rattle.tx_eqtb.specs.declared.meaning.Meaning.{Meaning}
-use Rattle.tx_eqtb.specs.declared.meaning.Meaning.TheVariants.{Undefined, Character}
+use Rattle.tx_seen.specs.declared.place.CharacterCode.TheVariants.{LowerCase, UpperCase, SpaceFactor, Math, Delimiter}
+use Rattle.tx_seen.specs.declared.place.Place.{Place}
+use Rattle.tx_seen.specs.declared.place.Place.TheVariants.{Name, Active, Count, Dimen, Category, Code, Integer, Dimension}
+use Rattle.tx_seen.specs.declared.meaning.Meaning.{Meaning}
+use Rattle.tx_seen.specs.declared.meaning.Meaning.TheVariants.{Undefined, Command, Character}
 use Rattle.tx_eqtb.specs.declared.entry.Entry.{Entry}
 use Rattle.tx_eqtb.specs.declared.entry.Entry.TheVariants.{Means, InCategory, Number}
 use Rattle.tx_eqtb.specs.declared.table.Table.{Table}
@@ -32,42 +32,29 @@ abbrev pub active_meaning : List Meaning → ℕ → Meaning
 active_meaning active code = unwrap_or (slice_get active code) Undefined
 
 -- a number of a list of registers, codes or parameters
-abbrev pub number_at : List ℤ → ℕ → Entry
-number_at numbers at = Number (unwrap_or (slice_get numbers at) (pos 0))
+abbrev pub number_of : List ℤ → ℕ → ℤ
+number_of numbers at = unwrap_or (slice_get numbers at) (pos 0)
 
--- what stands at a place
-unfoldable pub entry : Table → Place → Entry
-entry table (Name name) = Means (meaning_of table.names name)
-entry table (Active code) = Means (active_meaning table.active code)
-entry table (Count number) = number_at table.counts number
-entry table (Dimen number) = number_at table.dimens number
-entry table (Category code) = InCategory (category_at table.categories code)
-entry table (Code LowerCase code) = number_at table.lower_case code
-entry table (Code UpperCase code) = number_at table.upper_case code
-entry table (Code SpaceFactor code) = number_at table.space_factors code
-entry table (Code Math code) = number_at table.math code
-entry table (Code Delimiter code) = number_at table.delimiters code
-entry table (Integer parameter) = number_at table.integers (integer_number parameter)
-entry table (Dimension parameter) = number_at table.dimensions (dimension_number parameter)
+-- the number that stands at a place, in scaled points where it is a size; 0 where no number stands
+unfoldable pub number_at : Table → Place → ℤ
+number_at table (Count number) = number_of table.counts number
+number_at table (Dimen number) = number_of table.dimens number
+number_at table (Code LowerCase code) = number_of table.lower_case code
+number_at table (Code UpperCase code) = number_of table.upper_case code
+number_at table (Code SpaceFactor code) = number_of table.space_factors code
+number_at table (Code Math code) = number_of table.math code
+number_at table (Code Delimiter code) = number_of table.delimiters code
+number_at table (Integer parameter) = number_of table.integers (integer_number parameter)
+number_at table (Dimension parameter) = number_of table.dimensions (dimension_number parameter)
+number_at table other = pos 0
 
 -- what a token means (TeX: The Program, part 20): a name and an active character what the table says, any other character
--- itself
+-- itself, and the frozen \relax what \relax means at the beginning
 abbrev pub token_meaning : Table → Token → Meaning
 token_meaning table (token.Name name) = meaning_of table.names name
 token_meaning table (token.Character code category.Active) = active_meaning table.active code
 token_meaning table (token.Character code other) = Character code other
-
--- whether an entry is of the kind that stands at a place
-abbrev pub fits : Place → Entry → Bool
-fits (Name name) (Means meaning) = true
-fits (Active code) (Means meaning) = true
-fits (Category code) (InCategory category) = true
-fits (Count number) (Number value) = true
-fits (Dimen number) (Number value) = true
-fits (Code kind code) (Number value) = true
-fits (Integer parameter) (Number value) = true
-fits (Dimension parameter) (Number value) = true
-fits place other = false
+token_meaning table token.FrozenRelax = Command Relax
 
 -- the table with a meaning, a category or a number at a place, all else as it was
 abbrev pub with_meaning_at : Table → Place → Meaning → Table

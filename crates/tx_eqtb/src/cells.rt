@@ -2,10 +2,10 @@
 ghost use Rattle.std.specs.Prelude.{◌≡◌, ◌↔◌, slice_get, slice_set, IsTrue, IfOk, OnOk};
 ghost use Rattle.std.specs.Option.{option_copied};
 
-use std::alloc::AllocError;
+use std::alloc::{AllocError, Global};
 use std::marker::Model;
 use std::rc::Rc;
-use tx_name::Kept;
+use tx_list::{Kept, same_items};
 
 /// As many values as there are registers, codes or parameters of a kind. Contracts see their list. Shared lists take one
 /// block of memory between them until one of them changes.
@@ -28,18 +28,18 @@ impl<T> Model for Cells<T> {
     ghost view = { λ c. c.values.value.by_number.items };
 }
 
-impl<T: Copy> Clone for Values<T> {
+impl<T: Kept> Clone for Values<T> {
     ghost is_clone = { λ source copy. copy.by_number.items ≡ source.by_number.items };
 
     fn clone(&self) -> Result<Self, AllocError> {
         let alloc = *self.by_number.allocator();
         Ok(Values {
-            by_number: Vec::from_slice(alloc, self.by_number.as_slice())?,
+            by_number: share_values(alloc, self.by_number.as_slice())?,
         })
     }
 }
 
-impl<T: Kept + Copy> Cells<T> {
+impl<T: Kept> Cells<T> {
     /// These values. Its only error is want of memory.
     pub fn from_vec(values: Vec<T>) -> Result<Cells<T>, AllocError>
         ensures { IfOk result (λ cells. cells ≡ values.items) }
@@ -69,7 +69,7 @@ impl<T: Kept + Copy> Cells<T> {
     pub fn same(&self, other: &Cells<T>) -> bool
         ensures { IsTrue result ↔ (self.now ≡ other.now) }
     {
-        same_values(
+        same_items(
             self.values.by_number.as_slice(),
             other.values.by_number.as_slice(),
         )
@@ -86,7 +86,7 @@ impl<T: Kept + Copy> Cells<T> {
 }
 
 /// Changes one of the values that may be shared; only this owner sees the change.
-fn set_in<T: Copy>(values: &mut Rc<Values<T>>, number: usize, value: T) -> Result<(), AllocError>
+fn set_in<T: Kept>(values: &mut Rc<Values<T>>, number: usize, value: T) -> Result<(), AllocError>
     ensures { OnOk result (values.new.value.by_number.items ≡ slice_set values.old.value.by_number.items number value) }
 {
     let own = Rc::make_mut(values)?;
@@ -96,17 +96,13 @@ fn set_in<T: Copy>(values: &mut Rc<Values<T>>, number: usize, value: T) -> Resul
     Ok(())
 }
 
-/// Whether both lists hold the same values in the same order.
-fn same_values<T: Kept>(some: &[T], others: &[T]) -> bool
-    ensures { IsTrue result ↔ (some.now ≡ others.now) }
+/// Second values, equal to these.
+fn share_values<T: Kept>(alloc: Global, values: &[T]) -> Result<Vec<T>, AllocError>
+    ensures { IfOk result (λ twins. twins.items ≡ values.now) }
 {
-    if some.len() != others.len() {
-        return false;
+    let mut twins = Vec::with_capacity(alloc, values.len())?;
+    for value in values {
+        twins.push(value.share()?)?;
     }
-    for k in 0..some.len() {
-        if !some[k].same(&others[k]) {
-            return false;
-        }
-    }
-    true
+    Ok(twins)
 }

@@ -1,10 +1,12 @@
 //! What stands at a place.
+ghost use Rattle.std.specs.Prelude.{◌≡◌};
 
-use crate::meaning::Meaning;
+use std::alloc::AllocError;
 use tx_char::Cat;
+use tx_seen::Meaning;
 
-/// What stands at a place of the table: each place holds entries of one kind.
-#[derive(Clone, Copy, Debug)]
+/// What a place of the table is given: each place holds entries of one kind.
+#[derive(Drop)]
 pub enum Entry {
     /// At a name and an active character.
     Means(Meaning),
@@ -12,4 +14,17 @@ pub enum Entry {
     InCategory(Cat),
     /// At a register, a code and a parameter: an integer, or a dimension in scaled points.
     Number(i32),
+}
+
+/// A clone is the same entry. Its only error is that no more owners of a meaning can be counted.
+impl Clone for Entry {
+    ghost is_clone = { λ source copy. copy ≡ source };
+
+    fn clone(&self) -> Result<Self, AllocError> {
+        match self {
+            Entry::Means(meaning) => Ok(Entry::Means(meaning.clone()?)),
+            Entry::InCategory(category) => Ok(Entry::InCategory(*category)),
+            Entry::Number(number) => Ok(Entry::Number(*number)),
+        }
+    }
 }

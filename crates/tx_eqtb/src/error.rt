@@ -5,12 +5,6 @@ ghost use Rattle.tx_eqtb.specs.declared.error.OpenError.TheVariants.{OutOfMemory
 use std::alloc::AllocError;
 use thiserror::Error;
 
-/// TeX's number, among the errors of a run, of a group that is one too many.
-pub const TOO_MANY_GROUPS: u8 = 26;
-
-/// TeX's number, among the errors of a run, of a group that is closed by another kind than it was opened by.
-pub const NOT_THAT_GROUP: u8 = 11;
-
 /// Why a group can't be opened.
 #[derive(Debug, Clone, Copy, PartialEq, Eq, Error)]
 pub enum OpenError {

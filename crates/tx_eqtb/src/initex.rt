@@ -1,17 +1,16 @@
 //! The table with which INITEX begins.
 ghost use Rattle.std.specs.Prelude.{◌≡◌, pos, map, replicate, IfOk};
-ghost use Rattle.tx_eqtb.specs.declared.meaning.Meaning.TheVariants.{Undefined};
+ghost use Rattle.tx_seen.specs.declared.meaning.Meaning.TheVariants.{Undefined};
 ghost use Rattle.tx_prim.specs.Integers.{initial_integer, all_integers};
 ghost use Rattle.tx_eqtb.specs.Initex as spec;
 
 use crate::cells::Cells;
-use crate::meaning::Meaning;
-use crate::place::CharacterCode;
 use crate::table::Table;
 use std::alloc::{AllocError, Global};
 use tx_char::{Codes, ControlName};
 use tx_name::NameMap;
 use tx_prim::{DimensionParameter, IntegerParameter, Moment, Primitive};
+use tx_seen::{CharacterCode, Meaning};
 
 /// How many registers of a kind, and how many characters there are.
 const ALL: usize = 256;

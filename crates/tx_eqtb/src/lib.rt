@@ -2,8 +2,11 @@
 //! the groups that are open. Contracts see the table as it stands and, for each open group, its kind and the table outside
 //! it: a group begins with a copy, and what was outside comes back when it ends.
 //!
-//! Read `place`, where something can stand, and `meaning` and `entry`, what stands there; `cells`, `table`, `reading` and
-//! `writing`; `initex`, the table at the beginning; `groups` and `nesting`; and then `eqtb` with `stack`.
+//! Proved: it is a stack of tables: assignments, groups, `same` and `share` are exactly as defined. Only tested: that it
+//! begins as INITEX's table does.
+//!
+//! Read `entry`, what stands at a place; `cells`, `table`, `reading` and `writing`; `initex`, the table at the beginning;
+//! `groups` and `nesting`; and then `eqtb` with `stack`. Places and meanings are tx_seen's.
 #![tactic(auto)]
 
 mod cells;
@@ -12,9 +15,7 @@ mod eqtb;
 mod error;
 mod groups;
 mod initex;
-mod meaning;
 mod nesting;
-mod place;
 mod reading;
 mod stack;
 mod table;
@@ -24,5 +25,3 @@ pub use entry::Entry;
 pub use eqtb::Eqtb;
 pub use error::{CloseError, OpenError};
 pub use groups::GroupKind;
-pub use meaning::Meaning;
-pub use place::{CharacterCode, Place};

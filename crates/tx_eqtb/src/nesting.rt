@@ -5,10 +5,10 @@ ghost use Rattle.tx_eqtb.specs.Stack.{assigned_outside, innermost};
 
 use crate::entry::Entry;
 use crate::groups::{Group, GroupKind};
-use crate::place::Place;
 use crate::table::Table;
 use std::alloc::{AllocError, Global};
 use std::marker::Model;
+use tx_seen::Place;
 
 /// The open groups, innermost last. Contracts see their list.
 #[derive(Drop)]
@@ -77,8 +77,8 @@ impl Nesting {
     }
 
     /// Gives a place an entry outside each group. After want of memory, its only error, the groups may only be dropped.
-    pub fn assign_outside(&mut self, place: &Place, value: Entry) -> Result<(), AllocError>
-        ensures { OnOk result (self.new ≡ map (assigned_outside place.now value) self.old) }
+    pub fn assign_outside(&mut self, place: &Place, value: &Entry) -> Result<(), AllocError>
+        ensures { OnOk result (self.new ≡ map (assigned_outside place.now value.now) self.old) }
     {
         assign_each(self.groups.as_mut_slice(), place, value)
     }
@@ -102,11 +102,12 @@ impl Nesting {
 }
 
 /// Gives a place an entry outside each of these groups.
-fn assign_each(groups: &mut [Group], place: &Place, value: Entry) -> Result<(), AllocError>
-    ensures { OnOk result (groups.new ≡ map (assigned_outside place.now value) groups.old) }
+fn assign_each(groups: &mut [Group], place: &Place, value: &Entry) -> Result<(), AllocError>
+    ensures { OnOk result (groups.new ≡ map (assigned_outside place.now value.now) groups.old) }
 {
     for k in 0..groups.len() {
-        groups[k].outside.set(place, value)?;
+        let entry = value.clone()?;
+        groups[k].outside.set(place, entry)?;
     }
     Ok(())
 }

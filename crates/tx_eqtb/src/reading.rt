@@ -1,74 +1,34 @@
 //! Reading the table, comparing two, and making a second one.
 ghost use Rattle.std.specs.Prelude.{◌≡◌, ◌↔◌, IsTrue, IfOk};
-ghost use Rattle.tx_eqtb.specs.Table.{active_meaning, entry, fits, meaning_of, number_at, token_meaning, HasSameCodes};
+ghost use Rattle.tx_eqtb.specs.Table as spec;
+ghost use Rattle.tx_eqtb.specs.Table.{HasSameCodes};
 
 use crate::cells::Cells;
-use crate::entry::Entry;
-use crate::meaning::Meaning;
-use crate::place::{CharacterCode, Place};
 use crate::table::Table;
 use std::alloc::AllocError;
 use tx_char::{Cat, ControlName, Token};
-use tx_name::NameMap;
-
-/// The meaning of a name.
-fn name_meaning(names: &NameMap<Meaning>, name: &ControlName) -> Meaning
-    ensures { result ≡ meaning_of names.now name.now }
-{
-    match names.get(name) {
-        Some(meaning) => *meaning,
-        None => Meaning::Undefined,
-    }
-}
-
-/// The meaning of an active character.
-fn meaning_at(active: &Cells<Meaning>, code: u8) -> Meaning
-    ensures { result ≡ active_meaning active.now code }
-{
-    match active.get(code as usize) {
-        Some(meaning) => *meaning,
-        None => Meaning::Undefined,
-    }
-}
+use tx_prim::Primitive;
+use tx_seen::{CharacterCode, Meaning, Place};
 
 /// A register, a code or a parameter.
-fn number_of(numbers: &Cells<i32>, at: usize) -> Entry
-    ensures { result ≡ number_at numbers.now at }
+fn number_of(numbers: &Cells<i32>, at: usize) -> i32
+    ensures { result ≡ spec.number_of numbers.now at }
 {
     match numbers.get(at) {
-        Some(number) => Entry::Number(*number),
-        None => Entry::Number(0),
-    }
-}
-
-impl Place {
-    /// Whether an entry is of the kind that stands there.
-    pub fn takes(&self, value: Entry) -> bool
-        ensures { result ≡ fits self.now value }
-    {
-        match value {
-            Entry::Means(_) => matches!(self, Place::Name(_) | Place::Active(_)),
-            Entry::InCategory(_) => matches!(self, Place::Category(_)),
-            Entry::Number(_) => !matches!(
-                self,
-                Place::Name(_) | Place::Active(_) | Place::Category(_)
-            ),
-        }
+        Some(number) => *number,
+        None => 0,
     }
 }
 
 impl Table {
-    /// What stands at a place.
-    #[tactic(auto, unfolding(crate::specs::Table::entry))]
-    pub fn entry(&self, place: &Place) -> Entry
-        ensures { result ≡ entry self.now place.now }
+    /// The number that stands at a place, and 0 where none does.
+    #[tactic(auto, unfolding(crate::specs::Table::number_at))]
+    pub fn number(&self, place: &Place) -> i32
+        ensures { result ≡ spec.number_at self.now place.now }
     {
         match place {
-            Place::Name(name) => Entry::Means(name_meaning(&self.names, name)),
-            Place::Active(code) => Entry::Means(meaning_at(&self.active, *code)),
             Place::Count(number) => number_of(&self.counts, *number as usize),
             Place::Dimen(number) => number_of(&self.dimens, *number as usize),
-            Place::Category(code) => Entry::InCategory(self.categories.get(*code)),
             Place::Code(CharacterCode::LowerCase, code) => number_of(
                 &self.lower_case,
                 *code as usize,
@@ -87,17 +47,39 @@ impl Table {
             ),
             Place::Integer(parameter) => number_of(&self.integers, parameter.number()),
             Place::Dimension(parameter) => number_of(&self.dimensions, parameter.number()),
+            Place::Name(_) | Place::Active(_) | Place::Category(_) => 0,
         }
     }
 
-    /// What a token means.
-    pub fn meaning(&self, token: &Token) -> Meaning
-        ensures { result ≡ token_meaning self.now token.now }
+    /// The meaning of a name, lent.
+    pub fn name_meaning(&self, name: &ControlName) -> &Meaning
+        ensures { result.now ≡ spec.meaning_of self.now.names name.now }
+    {
+        match self.names.get(name) {
+            Some(meaning) => meaning,
+            None => &Meaning::Undefined,
+        }
+    }
+
+    /// The meaning of an active character, lent.
+    pub fn active_meaning(&self, code: u8) -> &Meaning
+        ensures { result.now ≡ spec.active_meaning self.now.active code }
+    {
+        match self.active.get(code as usize) {
+            Some(meaning) => meaning,
+            None => &Meaning::Undefined,
+        }
+    }
+
+    /// What a token means. Its only error is that no more owners of a meaning can be counted.
+    pub fn meaning(&self, token: &Token) -> Result<Meaning, AllocError>
+        ensures { IfOk result (λ meaning. meaning ≡ spec.token_meaning self.now token.now) }
     {
         match token {
-            Token::Name(name) => name_meaning(&self.names, name),
-            Token::Character(code, Cat::Active) => meaning_at(&self.active, *code),
-            Token::Character(code, category) => Meaning::Character(*code, *category),
+            Token::Name(name) => self.name_meaning(name).clone(),
+            Token::Character(code, Cat::Active) => self.active_meaning(*code).clone(),
+            Token::Character(code, category) => Ok(Meaning::Character(*code, *category)),
+            Token::FrozenRelax => Ok(Meaning::Command(Primitive::Relax)),
         }
     }
 

@@ -2,19 +2,19 @@
 ghost use Rattle.std.specs.Prelude.{◌≡◌, ◌↔◌, ◌≤◌, [], length, Some, Ok, Err, IsOk, IsTrue, IfOk, IfErr, OnOk, OnErr};
 ghost use Rattle.tx_eqtb.specs.Initex.{initial_table};
 ghost use Rattle.tx_eqtb.specs.Stack.{assigned, assigned_everywhere, closed, kind_of, opened};
-ghost use Rattle.tx_eqtb.specs.Table.{entry, token_meaning};
+ghost use Rattle.tx_eqtb.specs.Table.{active_meaning, meaning_of, number_at, token_meaning};
+ghost use Rattle.tx_char.specs.Category.{category};
 
 use crate::entry::Entry;
 use crate::eqtb::Eqtb;
 use crate::error::{CloseError, OpenError};
 use crate::groups::GroupKind;
 use crate::initex;
-use crate::meaning::Meaning;
 use crate::nesting::Nesting;
-use crate::place::Place;
 use std::alloc::{AllocError, Global};
-use tx_char::{Codes, Token};
+use tx_char::{Cat, Codes, ControlName, Token};
 use tx_prim::Moment;
+use tx_seen::{Meaning, Place};
 
 /// How many groups can be open.
 const MOST_GROUPS: usize = 255;
@@ -31,16 +31,39 @@ impl Eqtb {
         })
     }
 
-    /// What stands at a place.
-    pub fn get(&self, place: &Place) -> Entry
-        ensures { result ≡ entry self.now.table place.now }
+    /// The number that stands at a place: a register, a code or a parameter, in scaled points where it is a size; 0 where no
+    /// number stands.
+    pub fn number(&self, place: &Place) -> i32
+        ensures { result ≡ number_at self.now.table place.now }
     {
-        self.table.entry(place)
+        self.table.number(place)
     }
 
-    /// What a token means: a name and an active character what the table says, any other character itself.
-    pub fn meaning(&self, token: &Token) -> Meaning
-        ensures { result ≡ token_meaning self.now.table token.now }
+    /// The category of a character.
+    pub fn category(&self, code: u8) -> Cat
+        ensures { result ≡ category self.now.table.categories code }
+    {
+        self.table.categories.get(code)
+    }
+
+    /// The meaning of a name, lent.
+    pub fn name_meaning(&self, name: &ControlName) -> &Meaning
+        ensures { result.now ≡ meaning_of self.now.table.names name.now }
+    {
+        self.table.name_meaning(name)
+    }
+
+    /// The meaning of an active character, lent.
+    pub fn active_meaning(&self, code: u8) -> &Meaning
+        ensures { result.now ≡ active_meaning self.now.table.active code }
+    {
+        self.table.active_meaning(code)
+    }
+
+    /// What a token means: a name and an active character what the table says, any other character itself, and the frozen
+    /// \relax what \relax means at the beginning. Its only error is that no more owners of a meaning can be counted.
+    pub fn meaning(&self, token: &Token) -> Result<Meaning, AllocError>
+        ensures { IfOk result (λ meaning. meaning ≡ token_meaning self.now.table token.now) }
     {
         self.table.meaning(token)
     }
@@ -65,8 +88,8 @@ impl Eqtb {
     pub fn assign_global(&mut self, place: Place, value: Entry) -> Result<(), AllocError>
         ensures ok { OnOk result (self.new ≡ assigned_everywhere self.old place value) }
     {
-        self.table.set(&place, value)?;
-        self.groups.assign_outside(&place, value)
+        self.groups.assign_outside(&place, &value)?;
+        self.table.set(&place, value)
     }
 
     /// Opens a group. `TooMany` comes exactly where 255 are open. After an error nothing has changed.

@@ -1,9 +1,9 @@
 //! The table itself.
 
 use crate::cells::Cells;
-use crate::meaning::Meaning;
 use tx_char::Codes;
 use tx_name::NameMap;
+use tx_seen::Meaning;
 
 /// What stands at each place. A name that has no entry is undefined.
 #[derive(Drop)]

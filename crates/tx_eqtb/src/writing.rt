@@ -3,12 +3,11 @@ ghost use Rattle.std.specs.Prelude.{◌≡◌, OnOk};
 ghost use Rattle.tx_eqtb.specs.Table.{with_category_at, with_entry, with_meaning, with_meaning_at, with_number_at};
 
 use crate::entry::Entry;
-use crate::meaning::Meaning;
-use crate::place::{CharacterCode, Place};
 use crate::table::Table;
 use std::alloc::AllocError;
 use tx_char::{Cat, ControlName};
 use tx_name::NameMap;
+use tx_seen::{CharacterCode, Meaning, Place};
 
 /// Gives a name a meaning. After want of memory, its only error, the names may only be dropped.
 fn set_name(
@@ -20,7 +19,7 @@ fn set_name(
 {
     match meaning {
         Meaning::Undefined => names.remove(name),
-        _ => names.insert(name.clone()?, meaning),
+        meaning => names.insert(name.clone()?, meaning),
     }
 }
 

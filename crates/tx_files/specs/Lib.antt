@@ -3,3 +3,4 @@ pub mod Lines
 pub mod Entries
 pub mod Edits
 pub mod Reads
+pub mod Shift

@@ -1,5 +1,8 @@
 //! Files as a run sees them: their names, a set of them in memory, how they are edited, and their lines.
 //!
+//! Proved: names, the map of files, lines and edits are exactly as defined, and which reads of a run an edit leaves.
+//! Nothing is left to tests.
+//!
 //! Read `name`, then `edit`, `file_set` and `line`, and then `reads` and `seen`: what a run saw of the files.
 #![tactic(auto)]
 

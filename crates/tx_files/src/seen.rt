@@ -2,6 +2,8 @@ ghost use Rattle.std.specs.Prelude.{◌≡◌, OnOk, OnErr};
 ghost use Rattle.std.specs.FinMap.{empty, get};
 ghost use Rattle.tx_files.specs.Reads as reads;
 ghost use Rattle.tx_files.specs.Reads.{noted, seen_more, lies_before};
+ghost use Rattle.tx_files.specs.Shift.{CanShiftExtent, CanShiftReads, shifted_extent};
+ghost use Rattle.tx_files.specs.Shift as shift;
 
 use crate::edit::Edit;
 use crate::reads::{Extent, FileReads, Sight};
@@ -92,6 +94,28 @@ fn lies_before(extent: Extent, place: u64) -> bool
     }
 }
 
+/// How much was read of the edited file, up to a place behind the edit, by its bytes as they are after it.
+fn shifted_extent(extent: Extent, e: &Edit) -> Extent
+    requires { CanShiftExtent e.now extent }
+    ensures { result ≡ shifted_extent e.now extent }
+{
+    match extent {
+        Extent::Upto(n) => Extent::Upto(n - e.removed + e.put.len() as u64),
+        Extent::Absent | Extent::Whole => extent,
+    }
+}
+
+/// What was read of the edited file, by its bytes as they are after the edit.
+fn shifted_reads(reads: FileReads, e: &Edit) -> FileReads
+    requires { CanShiftExtent e.now reads.extent }
+    ensures { result ≡ record reads { extent = shifted_extent e.now reads.extent } }
+{
+    FileReads {
+        extent: shifted_extent(reads.extent, e),
+        asked: reads.asked,
+    }
+}
+
 impl Seen {
     /// Nothing was read; takes no memory.
     pub fn new(alloc: Global) -> Seen
@@ -121,6 +145,18 @@ impl Seen {
         ensures { result ≡ get self.now name.now }
     {
         self.files.get(name).copied()
+    }
+
+    /// Moves what was read of the edited file, up to a place behind the edit, with the bytes behind it; takes no memory.
+    pub fn shift(&mut self, e: &Edit)
+        requires { CanShiftReads e.now (get self.old e.now.name) }
+        ensures { self.new ≡ shift.shifted_reads e.now self.old }
+    {
+        let name = e.name.as_slice();
+        if let Some(reads) = self.files.get_mut(name) {
+            *reads = shifted_reads(*reads, e);
+            return;
+        }
     }
 }
 

@@ -6,7 +6,7 @@ use std::alloc::Global;
 use tx_bytes::Bytes;
 
 /// What a source answers when it is asked for a file.
-#[derive(Debug, Drop)]
+#[derive(Drop)]
 pub enum Fetched {
     /// The file's bytes, all of them.
     Found(Bytes),

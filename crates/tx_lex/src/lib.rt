@@ -1,6 +1,9 @@
 //! TeX's eyes: the line that TeX sees of the bytes of a file, and one line to tokens (TeX: The Program, part 24; The
 //! TeXbook, chapters 7 and 8).
 //!
+//! Proved: the token, rest and state are exactly the defined ones, and follow the rules of reading, which allow no other.
+//! Only tested: that the rules are Knuth's.
+//!
 //! Read `line`, `types`, `notation`, `characters`, `names`, `lexer`, then `rules`.
 #![tactic(auto)]
 

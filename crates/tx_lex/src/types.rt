@@ -2,7 +2,7 @@
 use tx_char::Token;
 
 /// Where in a line reading stands (TeX: The Program, section 303).
-#[derive(Clone, Copy, PartialEq, Eq, Debug)]
+#[derive(Clone, Copy, PartialEq, Eq)]
 pub enum ReadState {
     /// At the line's start, where an end of line is \par.
     N,

@@ -7,7 +7,7 @@ use std::marker::Model;
 use tx_bytes::Bytes;
 
 /// A character, a ligature or a kern of a composed word.
-#[derive(Debug, Drop)]
+#[derive(Drop)]
 pub enum LigItem {
     /// A character of the word, as it stands there.
     Char(u8),
@@ -19,7 +19,7 @@ pub enum LigItem {
 }
 
 /// A list of these.
-#[derive(Debug, Drop)]
+#[derive(Drop)]
 pub struct Items {
     items: Vec<LigItem>,
 }

@@ -8,7 +8,7 @@ use std::alloc::{AllocError, Global};
 use tx_bytes::Bytes;
 
 /// A character of the word, a ligature that has been made, or the boundary before or behind the word.
-#[derive(Debug, Drop)]
+#[derive(Drop)]
 pub(crate) enum Piece {
     Boundary,
     Char(u8),

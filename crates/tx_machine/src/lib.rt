@@ -1,6 +1,9 @@
 //! The seam between TeX and everything that knows of files and edits: a machine takes turns, asks for files and lines,
 //! ships pages and stops. Below it stands TeX, above it the increments, and neither knows the other.
 //!
+//! Proved: a fresh run is the defined one, over any machine, `steps` rises by exactly its turns, and it ends within its
+//! budget. Nothing is left to tests.
+//!
 //! Read `types` (what passes over the seam), `machine` (the trait), `steps` (the count of turns), `opens` (how asks are
 //! answered), then `turn` and `run`: the fresh run, to which everything above is held.
 #![tactic(auto)]

@@ -1,4 +1,4 @@
-ghost use Rattle.std.specs.Prelude.{◌≡◌, ◌-◌, ◌∷◌, ◌++◌, [], OnOk, OnErr, IfSome, ◌<◌, length, take};
+ghost use Rattle.std.specs.Prelude.{◌≡◌, ◌-◌, ◌∷◌, ◌++◌, [], OnOk, OnErr, IfSome, ◌<◌, length, take, slice_get, slice_set};
 ghost use Rattle.std.specs.Option.{option_copied};
 ghost use Rattle.tx_machine.specs.Opens.{innermost, moved_to};
 
@@ -63,6 +63,14 @@ impl Opens {
     {
         let last = self.items.len() - 1;
         self.items[last].offset = offset;
+    }
+
+    /// Moves the offset of the file at a place of the list.
+    pub fn move_at(&mut self, place: usize, offset: u64)
+        requires { place < length self.old }
+        ensures { IfSome (slice_get self.old place) (λ file. self.new ≡ slice_set self.old place (record file { offset = offset })) }
+    {
+        self.items[place].offset = offset;
     }
 
     /// Closes the innermost one, if there is one.

@@ -54,24 +54,22 @@ fn run_pages<M: Machine>(
     alloc: Global,
     machine: &M,
     files: &FileSet,
-    mut spot: Spot<M::State>,
+    spot: &mut Spot<M::State>,
+    seen: &mut Seen,
     limits: &Limits,
     steps: &mut Steps,
 ) -> Result<Ran, AllocError>
-    requires ready { M.formatter.mode (M.meaning spot.state) ≡ Ready }
-    requires taken { M.pending spot.state ≡ [] }
-    ensures ran { IfOk result (λ ran. ran ≡ (run_from M.formatter files.now limits.now.budget limits.now.pages (M.meaning spot.state) spot.opens).ran) }
-    ensures counted { OnOk result (steps.new ≡ raised steps.old (run_from M.formatter files.now limits.now.budget limits.now.pages (M.meaning spot.state) spot.opens).turns) }
-    ensures bound { steps.new ≤ raised steps.old (run_from M.formatter files.now limits.now.budget limits.now.pages (M.meaning spot.state) spot.opens).turns }
+    requires ready { M.formatter.mode (M.meaning spot.old.state) ≡ Ready }
+    requires taken { M.pending spot.old.state ≡ [] }
+    ensures ran { IfOk result (λ ran. ran ≡ (run_from M.formatter files.now limits.now.budget limits.now.pages (M.meaning spot.old.state) spot.old.opens).ran) }
+    ensures counted { OnOk result (steps.new ≡ raised steps.old (run_from M.formatter files.now limits.now.budget limits.now.pages (M.meaning spot.old.state) spot.old.opens).turns) }
+    ensures bound { steps.new ≤ raised steps.old (run_from M.formatter files.now limits.now.budget limits.now.pages (M.meaning spot.old.state) spot.old.opens).turns }
 {
     let mut pages = Pages::new(alloc);
     let mut pieces = Pieces::new(alloc);
-    let mut seen = Seen::new(alloc);
     for _page in 0..limits.pages {
         spot.left = limits.budget;
-        let Closed { close, piece, .. } = format_page(
-            alloc, machine, files, &mut spot, &mut seen, steps,
-        )?;
+        let Closed { close, piece, .. } = format_page(alloc, machine, files, spot, seen, steps)?;
         match close {
             Close::Page(body) => {
                 pages.push(body)?;
@@ -124,10 +122,11 @@ pub fn fresh_run<M: Machine>(
     ensures most { steps.new ≤ raised steps.old (run M.formatter files.now main.now date.now limits.now).turns }
     ensures bound { steps.new ≤ steps.old + (length (run M.formatter files.now main.now date.now limits.now).ran.pages + 1) * limits.now.budget }
 {
-    let spot = Spot {
+    let mut spot = Spot {
         state: machine.start(alloc, date, main)?,
         opens: Opens::new(alloc),
         left: limits.budget,
     };
-    run_pages(alloc, machine, files, spot, limits, steps)
+    let mut seen = Seen::new(alloc);
+    run_pages(alloc, machine, files, &mut spot, &mut seen, limits, steps)
 }

@@ -39,7 +39,7 @@ pub enum Ask {
 }
 
 /// Which of its kinds an ask is.
-#[derive(Clone, Copy, Debug, PartialEq, Eq)]
+#[derive(Clone, Copy, PartialEq, Eq)]
 pub enum AskKind {
     Open,
     Line,

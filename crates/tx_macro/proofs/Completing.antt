@@ -6,6 +6,7 @@ use Rattle.tx_char.specs.declared.category.Cat.TheVariants.{EndGroup, Other}
 use Rattle.tx_char.specs.declared.tokens.Token.{Token}
 use Rattle.tx_char.specs.declared.tokens.Token.TheVariants.{Character}
 use Rattle.tx_toklist.specs.Macros.{Definition, is_begin, is_end}
+use Rattle.tx_seen.specs.declared.error.TexError.TheVariants.{ParagraphInArgument, GroupEndInArgument, UseDiffers}
 use Rattle.tx_macro.specs.Tokens.{is_space}
 use Rattle.tx_macro.specs.Arguments.{Taken, Unfinished, Argument, Broken, argument, common, delimited, group, is_refused, level, undelimited, without_braces}
 use Rattle.tx_macro.specs.Matching.{Use, Open, Fits, Fails, behind, arguments, use_of}
@@ -51,16 +52,16 @@ delimited-part long d before agreed depth [] some h = delimited-closes long d be
 delimited-part long d before agreed (suc depth) (t ∷ tokens) some h =
     let on = λ (u : List Token). delimited long d (before ++ t ∷ []) 0 (level (suc depth) t) u in
     elim (bool-cases (is_refused long t)) [
-      | inl p ↦ absurd (let r : Broken 13 ≡ Unfinished = sym (ap (λ b. cond b (Broken 13) (on tokens)) p) ∙ h in cc)
+      | inl p ↦ absurd (let r : Broken ParagraphInArgument ≡ Unfinished = sym (ap (λ b. cond b (Broken ParagraphInArgument) (on tokens)) p) ∙ h in cc)
       | inr p ↦
-          let r : on tokens ≡ Unfinished = sym (ap (λ b. cond b (Broken 13) (on tokens)) p) ∙ h in
+          let r : on tokens ≡ Unfinished = sym (ap (λ b. cond b (Broken ParagraphInArgument) (on tokens)) p) ∙ h in
           let s : Completes (λ more. on (tokens ++ more)) = delimited-part long d (before ++ t ∷ []) 0 (level (suc depth) t) tokens some r in
-          (s.0, s.1, ap (λ b. cond b (Broken 13) (on (tokens ++ s.0))) p ∙ s.2)
+          (s.0, s.1, ap (λ b. cond b (Broken ParagraphInArgument) (on (tokens ++ s.0))) p ∙ s.2)
     ]
 delimited-part long d before agreed zero (t ∷ tokens) some h =
     let n = common d (t ∷ tokens) in
     let on = λ (u : List Token). delimited long d (before ++ t ∷ []) (max agreed n - 1) (level 0 t) u in
-    let third = λ (u : List Token). cond (is_end t) (Broken 14) (on u) in
+    let third = λ (u : List Token). cond (is_end t) (Broken GroupEndInArgument) (on u) in
     let first = cond (n == length (t ∷ tokens)) Unfinished (onward long d before agreed n t tokens) in
     elim (bool-cases (n == length d)) [
       | inl p ↦ absurd (let r : Argument (without_braces before) (drop (length d) (t ∷ tokens)) ≡ Unfinished = sym (ap (λ b. cond b (Argument (without_braces before) (drop (length d) (t ∷ tokens))) first) p) ∙ h in cc)
@@ -73,19 +74,19 @@ delimited-part long d before agreed zero (t ∷ tokens) some h =
             let nor : n ≢ length (t ∷ tokens) = unalike n (length (t ∷ tokens)) q in
             let r : onward long d before agreed n t tokens ≡ Unfinished = sym (goes-onward long d before agreed t tokens n refl no nor) ∙ h in
             elim (bool-cases (is_refused long t && (max agreed n == 0))) [
-              | inl u ↦ absurd (let r1 : Broken 13 ≡ Unfinished = sym (ap (λ b. cond b (Broken 13) (third tokens)) u) ∙ r in cc)
+              | inl u ↦ absurd (let r1 : Broken ParagraphInArgument ≡ Unfinished = sym (ap (λ b. cond b (Broken ParagraphInArgument) (third tokens)) u) ∙ r in cc)
               | inr u ↦
-                  let r1 : third tokens ≡ Unfinished = sym (ap (λ b. cond b (Broken 13) (third tokens)) u) ∙ r in
+                  let r1 : third tokens ≡ Unfinished = sym (ap (λ b. cond b (Broken ParagraphInArgument) (third tokens)) u) ∙ r in
                   elim (bool-cases (is_end t)) [
-                    | inl v ↦ absurd (let r2 : Broken 14 ≡ Unfinished = sym (ap (λ b. cond b (Broken 14) (on tokens)) v) ∙ r1 in cc)
+                    | inl v ↦ absurd (let r2 : Broken GroupEndInArgument ≡ Unfinished = sym (ap (λ b. cond b (Broken GroupEndInArgument) (on tokens)) v) ∙ r1 in cc)
                     | inr v ↦
-                        let r2 : on tokens ≡ Unfinished = sym (ap (λ b. cond b (Broken 14) (on tokens)) v) ∙ r1 in
+                        let r2 : on tokens ≡ Unfinished = sym (ap (λ b. cond b (Broken GroupEndInArgument) (on tokens)) v) ∙ r1 in
                         let s : Completes (λ more. on (tokens ++ more)) = delimited-part long d (before ++ t ∷ []) (max agreed n - 1) (level 0 t) tokens some r2 in (
                           s.0,
                           s.1,
                           goes-onward long d before agreed t (tokens ++ s.0) n (common-settled d (t ∷ tokens) s.0 nor) no (longer-unlike d t tokens s.0 nor)
-                              ∙ ap (λ b. cond b (Broken 13) (third (tokens ++ s.0))) u
-                              ∙ ap (λ b. cond b (Broken 14) (on (tokens ++ s.0))) v
+                              ∙ ap (λ b. cond b (Broken ParagraphInArgument) (third (tokens ++ s.0))) u
+                              ∙ ap (λ b. cond b (Broken GroupEndInArgument) (on (tokens ++ s.0))) v
                               ∙ s.2,
                         )
                   ]
@@ -107,23 +108,23 @@ group-part long depth inside (t ∷ tokens) h =
     let on = λ (u : List Token). group long (level depth t) (inside ++ t ∷ []) u in
     let first = λ (u : List Token). cond (is_end t && depth == 0) (Argument inside u) (on u) in
     elim (bool-cases (is_refused long t)) [
-      | inl p ↦ absurd (let r : Broken 13 ≡ Unfinished = sym (ap (λ b. cond b (Broken 13) (first tokens)) p) ∙ h in cc)
+      | inl p ↦ absurd (let r : Broken ParagraphInArgument ≡ Unfinished = sym (ap (λ b. cond b (Broken ParagraphInArgument) (first tokens)) p) ∙ h in cc)
       | inr p ↦
-          let r : first tokens ≡ Unfinished = sym (ap (λ b. cond b (Broken 13) (first tokens)) p) ∙ h in
+          let r : first tokens ≡ Unfinished = sym (ap (λ b. cond b (Broken ParagraphInArgument) (first tokens)) p) ∙ h in
           elim (bool-cases (is_end t && depth == 0)) [
             | inl q ↦ absurd (let r1 : Argument inside tokens ≡ Unfinished = sym (ap (λ b. cond b (Argument inside tokens) (on tokens)) q) ∙ r in cc)
             | inr q ↦
                 let r1 : on tokens ≡ Unfinished = sym (ap (λ b. cond b (Argument inside tokens) (on tokens)) q) ∙ r in
                 let s : Completes (λ more. on (tokens ++ more)) = group-part long (level depth t) (inside ++ t ∷ []) tokens r1 in
-                (s.0, s.1, ap (λ b. cond b (Broken 13) (first (tokens ++ s.0))) p ∙ ap (λ b. cond b (Argument inside (tokens ++ s.0)) (on (tokens ++ s.0))) q ∙ s.2)
+                (s.0, s.1, ap (λ b. cond b (Broken ParagraphInArgument) (first (tokens ++ s.0))) p ∙ ap (λ b. cond b (Argument inside (tokens ++ s.0)) (on (tokens ++ s.0))) q ∙ s.2)
           ]
     ]
 
 undelimited-part : (long : Bool) (tokens : List Token) → undelimited long tokens ≡ Unfinished → Completes (λ more. undelimited long (tokens ++ more))
 undelimited-part long [] h = (letter ∷ [], letter ∷ [], refl)
 undelimited-part long (t ∷ tokens) h =
-    let fourth = λ (u : List Token). cond (is_refused long t) (Broken 13) (Argument (t ∷ []) u) in
-    let third = λ (u : List Token). cond (is_end t) (Broken 14) (fourth u) in
+    let fourth = λ (u : List Token). cond (is_refused long t) (Broken ParagraphInArgument) (Argument (t ∷ []) u) in
+    let third = λ (u : List Token). cond (is_end t) (Broken GroupEndInArgument) (fourth u) in
     let second = λ (u : List Token). cond (is_begin t) (group long 0 [] u) (third u) in
     elim (bool-cases (is_space t)) [
       | inl p ↦
@@ -138,12 +139,12 @@ undelimited-part long (t ∷ tokens) h =
             | inr q ↦
                 let r1 : third tokens ≡ Unfinished = sym (ap (λ b. cond b (group long 0 [] tokens) (third tokens)) q) ∙ r in
                 elim (bool-cases (is_end t)) [
-                  | inl u ↦ absurd (let r2 : Broken 14 ≡ Unfinished = sym (ap (λ b. cond b (Broken 14) (fourth tokens)) u) ∙ r1 in cc)
+                  | inl u ↦ absurd (let r2 : Broken GroupEndInArgument ≡ Unfinished = sym (ap (λ b. cond b (Broken GroupEndInArgument) (fourth tokens)) u) ∙ r1 in cc)
                   | inr u ↦
-                      let r2 : fourth tokens ≡ Unfinished = sym (ap (λ b. cond b (Broken 14) (fourth tokens)) u) ∙ r1 in
+                      let r2 : fourth tokens ≡ Unfinished = sym (ap (λ b. cond b (Broken GroupEndInArgument) (fourth tokens)) u) ∙ r1 in
                       elim (bool-cases (is_refused long t)) [
-                        | inl v ↦ absurd (let r3 : Broken 13 ≡ Unfinished = sym (ap (λ b. cond b (Broken 13) (Argument (t ∷ []) tokens)) v) ∙ r2 in cc)
-                        | inr v ↦ absurd (let r3 : Argument (t ∷ []) tokens ≡ Unfinished = sym (ap (λ b. cond b (Broken 13) (Argument (t ∷ []) tokens)) v) ∙ r2 in cc)
+                        | inl v ↦ absurd (let r3 : Broken ParagraphInArgument ≡ Unfinished = sym (ap (λ b. cond b (Broken ParagraphInArgument) (Argument (t ∷ []) tokens)) v) ∙ r2 in cc)
+                        | inr v ↦ absurd (let r3 : Argument (t ∷ []) tokens ≡ Unfinished = sym (ap (λ b. cond b (Broken ParagraphInArgument) (Argument (t ∷ []) tokens)) v) ∙ r2 in cc)
                       ]
                 ]
           ]
@@ -190,7 +191,7 @@ use-behind : (m : Definition) (more : List Token) → use_of m (m.parameters.bef
 use-behind m more =
     let d = m.parameters.before in
     let yes : (common d (d ++ more) == length d) ≡ true = eqb-same (common d (d ++ more)) (length d) (common-whole d more) in
-    ap (λ b. cond b (arguments m.long [] m.parameters.delimiters (drop (length d) (d ++ more))) (cond (common d (d ++ more) == length (d ++ more)) Open (Fails 12))) yes
+    ap (λ b. cond b (arguments m.long [] m.parameters.delimiters (drop (length d) (d ++ more))) (cond (common d (d ++ more) == length (d ++ more)) Open (Fails UseDiffers))) yes
     ∙ ap (arguments m.long [] m.parameters.delimiters) (drop-append_seam d more)
 
 begun : (m : Definition) → Fitting (λ more. arguments m.long [] m.parameters.delimiters more)
@@ -208,17 +209,17 @@ a-part-begins m tokens h =
       | inl p ↦
           let whole : n ≡ length d = alike n (length d) p in
           let l : n ≤ length tokens = common-le d tokens in
-          let r : all tokens ≡ Open = sym (ap (λ b. cond b (all tokens) (cond (n == length tokens) Open (Fails 12))) p) ∙ h in
+          let r : all tokens ≡ Open = sym (ap (λ b. cond b (all tokens) (cond (n == length tokens) Open (Fails UseDiffers))) p) ∙ h in
           let s : Fitting (λ more. arguments m.long [] m.parameters.delimiters (drop (length d) tokens ++ more)) = arguments-part m.long [] m.parameters.delimiters (drop (length d) tokens) r in
           let q : (common d (tokens ++ s.0) == length d) ≡ true = eqb-same (common d (tokens ++ s.0)) (length d) (common-done d tokens s.0 whole) in (
             s.0,
             s.1,
-            ap (λ b. cond b (all (tokens ++ s.0)) (cond (common d (tokens ++ s.0) == length (tokens ++ s.0)) Open (Fails 12))) q
+            ap (λ b. cond b (all (tokens ++ s.0)) (cond (common d (tokens ++ s.0) == length (tokens ++ s.0)) Open (Fails UseDiffers))) q
                 ∙ ap (arguments m.long [] m.parameters.delimiters) (drop-append-le (length d) tokens s.0 (omega arith))
                 ∙ s.2,
           )
       | inr p ↦
-          let r : cond (n == length tokens) Open (Fails 12) ≡ Open = sym (ap (λ b. cond b (all tokens) (cond (n == length tokens) Open (Fails 12))) p) ∙ h in
+          let r : cond (n == length tokens) Open (Fails UseDiffers) ≡ Open = sym (ap (λ b. cond b (all tokens) (cond (n == length tokens) Open (Fails UseDiffers))) p) ∙ h in
           elim (bool-cases (n == length tokens)) [
             | inl q ↦
                 let s : Fitting (λ more. arguments m.long [] m.parameters.delimiters more) = begun m in
@@ -229,6 +230,6 @@ a-part-begins m tokens h =
                       ∙ use-behind m s.0
                       ∙ s.2,
                 )
-            | inr q ↦ absurd (let r1 : Fails 12 ≡ Open = sym (ap (λ b. cond b Open (Fails 12)) q) ∙ r in cc)
+            | inr q ↦ absurd (let r1 : Fails UseDiffers ≡ Open = sym (ap (λ b. cond b Open (Fails UseDiffers)) q) ∙ r in cc)
           ]
     ]

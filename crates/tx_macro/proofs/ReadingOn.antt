@@ -3,6 +3,8 @@ use Rattle.std.proofs.Common.{◌≡◌, ◌≢◌, ℕ, zero, suc, ◌+◌, ◌
 use Rattle.std.proofs.lemmas.List.{length-append, drop-append-le}
 use Rattle.tx_char.specs.declared.tokens.Token.{Token}
 use Rattle.tx_toklist.specs.Macros.{Definition, is_begin, is_end}
+use Rattle.tx_seen.specs.declared.error.TexError.{TexError}
+use Rattle.tx_seen.specs.declared.error.TexError.TheVariants.{ParagraphInArgument, GroupEndInArgument, UseDiffers}
 use Rattle.tx_macro.specs.Tokens.{is_space}
 use Rattle.tx_macro.specs.Arguments.{Taken, Unfinished, Argument, Broken, argument, common, delimited, group, is_refused, level, undelimited, without_braces}
 use Rattle.tx_macro.specs.Matching.{Use, Open, Fails, ReadsOn, behind, arguments, use_of}
@@ -15,7 +17,7 @@ use Rattle.tx_macro.proofs.Standings.{alike, unalike, taken-cases}
 abbrev TakesOn : List Token → Taken → Taken → Type 0
 TakesOn more Unfinished longer = Unit {0}
 TakesOn more (Argument text rest) longer = longer ≡ Argument text (rest ++ more)
-TakesOn more (Broken number) longer = longer ≡ Broken number
+TakesOn more (Broken error) longer = longer ≡ Broken error
 
 along : (more : List Token) (x x' y y' : Taken) → x ≡ x' → y ≡ y' → TakesOn more x' y' → TakesOn more x y
 along more x x' y y' p q s = subst (λ v. TakesOn more v y) (sym p) (subst (λ v. TakesOn more x' v) (sym q) s)
@@ -63,7 +65,7 @@ common-le (y ∷ d) (t ∷ tokens) = elim (token-tells y t) [
 
 -- a token outside of groups at which no delimiter stands nor may stand
 abbrev pub onward : Bool → List Token → List Token → ℕ → ℕ → Token → List Token → Taken
-onward long d before agreed n t tokens = cond (is_refused long t && (max agreed n == 0)) (Broken 13) (cond (is_end t) (Broken 14) (delimited long d (before ++ t ∷ []) (max agreed n - 1) (level 0 t) tokens))
+onward long d before agreed n t tokens = cond (is_refused long t && (max agreed n == 0)) (Broken ParagraphInArgument) (cond (is_end t) (Broken GroupEndInArgument) (delimited long d (before ++ t ∷ []) (max agreed n - 1) (level 0 t) tokens))
 
 pub goes-onward : (long : Bool) (d before : List Token) (agreed : ℕ) (t : Token) (tokens : List Token) (n : ℕ) → common d (t ∷ tokens) ≡ n → n ≢ length d → n ≢ length (t ∷ tokens) → delimited long d before agreed 0 (t ∷ tokens) ≡ onward long d before agreed n t tokens
 goes-onward long d before agreed t tokens n is p q =
@@ -82,7 +84,7 @@ longer-unlike d t tokens more h =
 delimited-on : (long : Bool) (d before : List Token) (agreed depth : ℕ) (tokens more : List Token) → TakesOn more (delimited long d before agreed depth tokens) (delimited long d before agreed depth (tokens ++ more))
 delimited-on long d before agreed depth [] more = record {}
 delimited-on long d before agreed (suc depth) (t ∷ tokens) more =
-    either more (is_refused long t) (Broken 13) _ (Broken 13) _ refl (delimited-on long d (before ++ t ∷ []) 0 (level (suc depth) t) tokens more)
+    either more (is_refused long t) (Broken ParagraphInArgument) _ (Broken ParagraphInArgument) _ refl (delimited-on long d (before ++ t ∷ []) 0 (level (suc depth) t) tokens more)
 delimited-on long d before agreed zero (t ∷ tokens) more =
     let n = common d (t ∷ tokens) in
     let x = delimited long d before agreed 0 (t ∷ tokens) in
@@ -105,19 +107,19 @@ delimited-on long d before agreed zero (t ∷ tokens) more =
             along more x (onward long d before agreed n t tokens) y (onward long d before agreed n t (tokens ++ more))
             (goes-onward long d before agreed t tokens n refl no nor)
             (goes-onward long d before agreed t (tokens ++ more) n (common-settled d (t ∷ tokens) more nor) no (longer-unlike d t tokens more nor))
-            (either more (is_refused long t && (max agreed n == 0)) (Broken 13) _ (Broken 13) _ refl (either more (is_end t) (Broken 14) _ (Broken 14) _ refl (delimited-on long d (before ++ t ∷ []) (max agreed n - 1) (level 0 t) tokens more)))
+            (either more (is_refused long t && (max agreed n == 0)) (Broken ParagraphInArgument) _ (Broken ParagraphInArgument) _ refl (either more (is_end t) (Broken GroupEndInArgument) _ (Broken GroupEndInArgument) _ refl (delimited-on long d (before ++ t ∷ []) (max agreed n - 1) (level 0 t) tokens more)))
       ]
     ]
 
 group-on : (long : Bool) (depth : ℕ) (inside tokens more : List Token) → TakesOn more (group long depth inside tokens) (group long depth inside (tokens ++ more))
 group-on long depth inside [] more = record {}
 group-on long depth inside (t ∷ tokens) more =
-    either more (is_refused long t) (Broken 13) _ (Broken 13) _ refl (either more (is_end t && depth == 0) (Argument inside tokens) _ (Argument inside (tokens ++ more)) _ refl (group-on long (level depth t) (inside ++ t ∷ []) tokens more))
+    either more (is_refused long t) (Broken ParagraphInArgument) _ (Broken ParagraphInArgument) _ refl (either more (is_end t && depth == 0) (Argument inside tokens) _ (Argument inside (tokens ++ more)) _ refl (group-on long (level depth t) (inside ++ t ∷ []) tokens more))
 
 undelimited-on : (long : Bool) (tokens more : List Token) → TakesOn more (undelimited long tokens) (undelimited long (tokens ++ more))
 undelimited-on long [] more = record {}
 undelimited-on long (t ∷ tokens) more =
-    either more (is_space t) _ _ _ _ (undelimited-on long tokens more) (either more (is_begin t) _ _ _ _ (group-on long 0 [] tokens more) (either more (is_end t) (Broken 14) _ (Broken 14) _ refl (either more (is_refused long t) (Broken 13) (Argument (t ∷ []) tokens) (Broken 13) (Argument (t ∷ []) (tokens ++ more)) refl refl)))
+    either more (is_space t) _ _ _ _ (undelimited-on long tokens more) (either more (is_begin t) _ _ _ _ (group-on long 0 [] tokens more) (either more (is_end t) (Broken GroupEndInArgument) _ (Broken GroupEndInArgument) _ refl (either more (is_refused long t) (Broken ParagraphInArgument) (Argument (t ∷ []) tokens) (Broken ParagraphInArgument) (Argument (t ∷ []) (tokens ++ more)) refl refl)))
 
 argument-on : (long : Bool) (delimiter tokens more : List Token) → TakesOn more (argument long delimiter tokens) (argument long delimiter (tokens ++ more))
 argument-on long [] tokens more = undelimited-on long tokens more
@@ -126,8 +128,8 @@ argument-on long (d ∷ delimiter) tokens more = delimited-on long (d ∷ delimi
 pub taken-on : (long : Bool) (delimiter tokens more text rest : List Token) → argument long delimiter tokens ≡ Argument text rest → argument long delimiter (tokens ++ more) ≡ Argument text (rest ++ more)
 taken-on long delimiter tokens more text rest h = subst (λ (x : Taken). TakesOn more x (argument long delimiter (tokens ++ more))) h (argument-on long delimiter tokens more)
 
-broken-on : (long : Bool) (delimiter tokens more : List Token) (number : ℕ) → argument long delimiter tokens ≡ Broken number → argument long delimiter (tokens ++ more) ≡ Broken number
-broken-on long delimiter tokens more number h = subst (λ (x : Taken). TakesOn more x (argument long delimiter (tokens ++ more))) h (argument-on long delimiter tokens more)
+broken-on : (long : Bool) (delimiter tokens more : List Token) (error : TexError) → argument long delimiter tokens ≡ Broken error → argument long delimiter (tokens ++ more) ≡ Broken error
+broken-on long delimiter tokens more error h = subst (λ (x : Taken). TakesOn more x (argument long delimiter (tokens ++ more))) h (argument-on long delimiter tokens more)
 
 reads-along : (x x' y y' : Use) → x ≡ x' → y ≡ y' → ReadsOn x' y' → ReadsOn x y
 reads-along x x' y y' p q s = subst (λ v. ReadsOn v y) (sym p) (subst (λ v. ReadsOn x' v) (sym q) s)
@@ -157,11 +159,11 @@ reads-on m tokens more =
           let l : n ≤ length tokens = common-le d tokens in
           let q : (common d (tokens ++ more) == length d) ≡ true = eqb-same (common d (tokens ++ more)) (length d) (common-done d tokens more whole) in
           reads-along x (all tokens) y (arguments m.long [] m.parameters.delimiters (drop (length d) tokens ++ more))
-          (ap (λ b. cond b (all tokens) (cond (n == length tokens) Open (Fails 12))) p)
-          (ap (λ b. cond b (all (tokens ++ more)) (cond (common d (tokens ++ more) == length (tokens ++ more)) Open (Fails 12))) q ∙ ap (arguments m.long [] m.parameters.delimiters) (drop-append-le (length d) tokens more (omega arith)))
+          (ap (λ b. cond b (all tokens) (cond (n == length tokens) Open (Fails UseDiffers))) p)
+          (ap (λ b. cond b (all (tokens ++ more)) (cond (common d (tokens ++ more) == length (tokens ++ more)) Open (Fails UseDiffers))) q ∙ ap (arguments m.long [] m.parameters.delimiters) (drop-append-le (length d) tokens more (omega arith)))
           (arguments-on m.long [] m.parameters.delimiters (drop (length d) tokens) more)
       | inr p ↦ elim (bool-cases (n == length tokens)) [
-        | inl q ↦ reads-along x Open y y (ap (λ b. cond b (all tokens) (cond (n == length tokens) Open (Fails 12))) p ∙ ap (λ b. cond b Open (Fails 12)) q) refl (record {})
+        | inl q ↦ reads-along x Open y y (ap (λ b. cond b (all tokens) (cond (n == length tokens) Open (Fails UseDiffers))) p ∙ ap (λ b. cond b Open (Fails UseDiffers)) q) refl (record {})
         | inr q ↦
             let nor : n ≢ length tokens = unalike n (length tokens) q in
             let same : common d (tokens ++ more) ≡ n = common-settled d tokens more nor in
@@ -169,9 +171,9 @@ reads-on m tokens more =
             let m : length (tokens ++ more) ≡ length tokens + length more = length-append tokens more in
             let r : (common d (tokens ++ more) == length d) ≡ false = ap (λ k. k == length d) same ∙ p in
             let s : (common d (tokens ++ more) == length (tokens ++ more)) ≡ false = unlike (common d (tokens ++ more)) (length (tokens ++ more)) (λ (e : common d (tokens ++ more) ≡ length (tokens ++ more)). omega arith) in
-            reads-along x (Fails 12) y (Fails 12)
-            (ap (λ b. cond b (all tokens) (cond (n == length tokens) Open (Fails 12))) p ∙ ap (λ b. cond b Open (Fails 12)) q)
-            (ap (λ b. cond b (all (tokens ++ more)) (cond (common d (tokens ++ more) == length (tokens ++ more)) Open (Fails 12))) r ∙ ap (λ b. cond b Open (Fails 12)) s)
+            reads-along x (Fails UseDiffers) y (Fails UseDiffers)
+            (ap (λ b. cond b (all tokens) (cond (n == length tokens) Open (Fails UseDiffers))) p ∙ ap (λ b. cond b Open (Fails UseDiffers)) q)
+            (ap (λ b. cond b (all (tokens ++ more)) (cond (common d (tokens ++ more) == length (tokens ++ more)) Open (Fails UseDiffers))) r ∙ ap (λ b. cond b Open (Fails UseDiffers)) s)
             refl
       ]
     ]

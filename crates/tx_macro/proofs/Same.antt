@@ -1,10 +1,11 @@
 -- Tokens are the same exactly where they are equal.
+use Rattle.std.specs.Prelude.{codes}
 use Rattle.std.proofs.Common.{◌≡◌, ℕ, Bool, true, false, ◌&&◌, List, [], ◌∷◌, refl, ap, sym, ◌∙◌, ◌⊎◌, inl, inr, if◌then◌else◌, ◌==◌, IsTrue, length}
 use Rattle.std.proofs.lemmas.Bool.Decides.{eqb_tells}
 use Rattle.tx_char.specs.declared.category.Cat.{Cat}
 use Rattle.tx_char.specs.declared.category.Cat.TheVariants.{Escape, BeginGroup, EndGroup, MathShift, AlignmentTab, EndOfLine, Parameter, Superscript, Subscript, Ignored, Space, Letter, Other, Active, Comment, Invalid}
 use Rattle.tx_char.specs.declared.tokens.Token.{Token}
-use Rattle.tx_char.specs.declared.tokens.Token.TheVariants.{Character, Name}
+use Rattle.tx_char.specs.declared.tokens.Token.TheVariants.{Character, Name, FrozenRelax}
 use Rattle.tx_char.specs.Category.{number_of}
 use Rattle.tx_macro.specs.Tokens.{is_par, same_bytes, same_token}
 
@@ -84,6 +85,11 @@ token-tells (Character x k) (Character y l) = elim (eqb_tells x y) [
 ]
 token-tells (Character x k) (Name n) = inr (refl, (λ h. cc))
 token-tells (Name n) (Character x k) = inr (refl, (λ h. cc))
+token-tells (Character x k) FrozenRelax = inr (refl, (λ h. cc))
+token-tells FrozenRelax (Character x k) = inr (refl, (λ h. cc))
+token-tells (Name n) FrozenRelax = inr (refl, (λ h. cc))
+token-tells FrozenRelax (Name n) = inr (refl, (λ h. cc))
+token-tells FrozenRelax FrozenRelax = inl (refl, refl)
 token-tells (Name n) (Name m) = elim (bytes-tell n m) [
   | inl p ↦ inl (p.0, ap Name p.1)
   | inr p ↦ inr (p.0, (λ h. p.1 (cc h)))
@@ -99,7 +105,7 @@ never f t = cc
 
 -- a name of another length isn't \par
 pub not-par : (t : Token) (name seen : List ℕ) → t ≡ Name name → seen ≡ name → (length seen ≡ 3 → ⊥) → false ≡ is_par t
-not-par t name seen is same other = elim (bytes-tell name (112 ∷ 97 ∷ 114 ∷ [])) [
+not-par t name seen is same other = elim (bytes-tell name (codes "par")) [
   | inl p ↦ absurd (other (ap length (same ∙ p.1)))
   | inr p ↦ sym (ap is_par is ∙ p.0)
 ]

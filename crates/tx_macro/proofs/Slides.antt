@@ -4,6 +4,7 @@ use Rattle.std.proofs.lemmas.List.{append_assoc, append-nil, length-append}
 use Rattle.std.proofs.lemmas.Bool.Decides.{eqb_tells}
 use Rattle.tx_toklist.specs.Macros.{is_begin, is_end}
 use Rattle.tx_char.specs.declared.tokens.Token.{Token}
+use Rattle.tx_seen.specs.declared.error.TexError.TheVariants.{ParagraphInArgument, GroupEndInArgument}
 use Rattle.tx_macro.specs.Arguments.{Unfinished, Argument, Broken, common, delimited, is_refused, level, without_braces}
 use Rattle.tx_macro.specs.Agreement.{is_beginning, agreement}
 use Rattle.tx_macro.proofs.Same.{token-tells, token-same}
@@ -114,10 +115,10 @@ AllPlain (x ∷ w) = (is_end x ≡ false) × ((is_begin x ≡ false) × AllPlain
 -- a token outside of groups, at which no delimiter stands and nothing is refused, belongs to the argument
 step-on : (long : Bool) (d front : List Token) (a : ℕ) (x : Token) (rest : List Token) → (common d (x ∷ rest) == length d) ≡ false → (common d (x ∷ rest) == length (x ∷ rest)) ≡ false → (is_refused long x && (max a (common d (x ∷ rest)) == 0)) ≡ false → is_end x ≡ false → is_begin x ≡ false → delimited long d front a 0 (x ∷ rest) ≡ delimited long d (front ++ x ∷ []) (max a (common d (x ∷ rest)) - 1) 0 rest
 step-on long d front a x rest h1 h2 h3 h4 h5 =
-    ap (λ b. cond b (Argument (without_braces front) (drop (length d) (x ∷ rest))) (cond (common d (x ∷ rest) == length (x ∷ rest)) Unfinished (cond (is_refused long x && (max a (common d (x ∷ rest)) == 0)) (Broken 13) (cond (is_end x) (Broken 14) (delimited long d (front ++ x ∷ []) (max a (common d (x ∷ rest)) - 1) (level 0 x) rest))))) h1
-    ∙ ap (λ b. cond b Unfinished (cond (is_refused long x && (max a (common d (x ∷ rest)) == 0)) (Broken 13) (cond (is_end x) (Broken 14) (delimited long d (front ++ x ∷ []) (max a (common d (x ∷ rest)) - 1) (level 0 x) rest)))) h2
-    ∙ ap (λ b. cond b (Broken 13) (cond (is_end x) (Broken 14) (delimited long d (front ++ x ∷ []) (max a (common d (x ∷ rest)) - 1) (level 0 x) rest))) h3
-    ∙ ap (λ b. cond b (Broken 14) (delimited long d (front ++ x ∷ []) (max a (common d (x ∷ rest)) - 1) (level 0 x) rest)) h4
+    ap (λ b. cond b (Argument (without_braces front) (drop (length d) (x ∷ rest))) (cond (common d (x ∷ rest) == length (x ∷ rest)) Unfinished (cond (is_refused long x && (max a (common d (x ∷ rest)) == 0)) (Broken ParagraphInArgument) (cond (is_end x) (Broken GroupEndInArgument) (delimited long d (front ++ x ∷ []) (max a (common d (x ∷ rest)) - 1) (level 0 x) rest))))) h1
+    ∙ ap (λ b. cond b Unfinished (cond (is_refused long x && (max a (common d (x ∷ rest)) == 0)) (Broken ParagraphInArgument) (cond (is_end x) (Broken GroupEndInArgument) (delimited long d (front ++ x ∷ []) (max a (common d (x ∷ rest)) - 1) (level 0 x) rest)))) h2
+    ∙ ap (λ b. cond b (Broken ParagraphInArgument) (cond (is_end x) (Broken GroupEndInArgument) (delimited long d (front ++ x ∷ []) (max a (common d (x ∷ rest)) - 1) (level 0 x) rest))) h3
+    ∙ ap (λ b. cond b (Broken GroupEndInArgument) (delimited long d (front ++ x ∷ []) (max a (common d (x ∷ rest)) - 1) (level 0 x) rest)) h4
     ∙ ap (λ n. delimited long d (front ++ x ∷ []) (max a (common d (x ∷ rest)) - 1) n rest)
     (ap (λ b. cond b 1 (cond (is_end x) (0 - 1) 0)) h5 ∙ ap (λ b. cond b (0 - 1) 0) h4)
 

@@ -5,6 +5,8 @@ use Rattle.std.proofs.lemmas.List.{append_assoc, append-nil}
 use Rattle.std.proofs.lemmas.Bool.Decides.{eqb_tells}
 use Rattle.tx_char.specs.declared.tokens.Token.{Token}
 use Rattle.tx_toklist.specs.Macros.{Definition, is_begin, is_end}
+use Rattle.tx_seen.specs.declared.error.TexError.{TexError}
+use Rattle.tx_seen.specs.declared.error.TexError.TheVariants.{ParagraphInArgument, GroupEndInArgument, UseDiffers}
 use Rattle.tx_macro.specs.Tokens.{is_space}
 use Rattle.tx_macro.specs.Arguments.{Taken, Unfinished, Argument, Broken, argument, common, delimited, depth_after, group, is_balanced, is_refused, level, stays_open, undelimited, without_braces}
 use Rattle.tx_macro.specs.Matching.{Open, Fits, Fails, behind, arguments, use_of}
@@ -76,16 +78,16 @@ delimited-stands long d before agreed depth [] text rest h = absurd (let r : Unf
 delimited-stands long d before agreed (suc depth) (t ∷ tokens) text rest h =
     let on = delimited long d (before ++ t ∷ []) 0 (level (suc depth) t) tokens in
     elim (bool-cases (is_refused long t)) [
-      | inl p ↦ absurd (let r : Broken 13 ≡ Argument text rest = sym (ap (λ b. cond b (Broken 13) on) p) ∙ h in cc)
+      | inl p ↦ absurd (let r : Broken ParagraphInArgument ≡ Argument text rest = sym (ap (λ b. cond b (Broken ParagraphInArgument) on) p) ∙ h in cc)
       | inr p ↦
-          let r : on ≡ Argument text rest = sym (ap (λ b. cond b (Broken 13) on) p) ∙ h in
+          let r : on ≡ Argument text rest = sym (ap (λ b. cond b (Broken ParagraphInArgument) on) p) ∙ h in
           extended long d tokens (suc depth) before text rest t (delimited-stands long d (before ++ t ∷ []) 0 (level (suc depth) t) tokens text rest r) (λ z. absurd (omega arith)) (second-no (is_end t) (suc depth == 0) (unlike (suc depth) 0 (λ (q : suc depth ≡ 0). omega arith))) (first-no (is_refused long t) (not (suc depth == 0)) p)
     ]
 delimited-stands long d before agreed zero (t ∷ tokens) text rest h =
     let n = common d (t ∷ tokens) in
     let on = delimited long d (before ++ t ∷ []) (max agreed n - 1) (level 0 t) tokens in
-    let third = cond (is_end t) (Broken 14) on in
-    let second = cond (is_refused long t && (max agreed n == 0)) (Broken 13) third in
+    let third = cond (is_end t) (Broken GroupEndInArgument) on in
+    let second = cond (is_refused long t && (max agreed n == 0)) (Broken ParagraphInArgument) third in
     let first = cond (n == length (t ∷ tokens)) Unfinished second in
     elim (bool-cases (n == length d)) [
       | inl p ↦
@@ -108,13 +110,13 @@ delimited-stands long d before agreed zero (t ∷ tokens) text rest h =
             | inr q ↦
                 let r2 : second ≡ Argument text rest = sym (ap (λ b. cond b Unfinished second) q) ∙ r1 in
                 elim (bool-cases (is_refused long t && (max agreed n == 0))) [
-                  | inl u ↦ absurd (let r : Broken 13 ≡ Argument text rest = sym (ap (λ b. cond b (Broken 13) third) u) ∙ r2 in cc)
+                  | inl u ↦ absurd (let r : Broken ParagraphInArgument ≡ Argument text rest = sym (ap (λ b. cond b (Broken ParagraphInArgument) third) u) ∙ r2 in cc)
                   | inr u ↦
-                      let r3 : third ≡ Argument text rest = sym (ap (λ b. cond b (Broken 13) third) u) ∙ r2 in
+                      let r3 : third ≡ Argument text rest = sym (ap (λ b. cond b (Broken ParagraphInArgument) third) u) ∙ r2 in
                       elim (bool-cases (is_end t)) [
-                        | inl v ↦ absurd (let r : Broken 14 ≡ Argument text rest = sym (ap (λ b. cond b (Broken 14) on) v) ∙ r3 in cc)
+                        | inl v ↦ absurd (let r : Broken GroupEndInArgument ≡ Argument text rest = sym (ap (λ b. cond b (Broken GroupEndInArgument) on) v) ∙ r3 in cc)
                         | inr v ↦
-                            let r4 : on ≡ Argument text rest = sym (ap (λ b. cond b (Broken 14) on) v) ∙ r3 in
+                            let r4 : on ≡ Argument text rest = sym (ap (λ b. cond b (Broken GroupEndInArgument) on) v) ∙ r3 in
                             extended long d tokens 0 before text rest t (delimited-stands long d (before ++ t ∷ []) (max agreed n - 1) (level 0 t) tokens text rest r4) (λ _. unalike n (length d) p) (first-no (is_end t) true v) (second-no (is_refused long t) false refl)
                       ]
                 ]
@@ -138,9 +140,9 @@ group-stands long depth before (t ∷ tokens) text rest h =
     let on = group long (level depth t) (before ++ t ∷ []) tokens in
     let first = cond (is_end t && depth == 0) (Argument before tokens) on in
     elim (bool-cases (is_refused long t)) [
-      | inl p ↦ absurd (let r : Broken 13 ≡ Argument text rest = sym (ap (λ b. cond b (Broken 13) first) p) ∙ h in cc)
+      | inl p ↦ absurd (let r : Broken ParagraphInArgument ≡ Argument text rest = sym (ap (λ b. cond b (Broken ParagraphInArgument) first) p) ∙ h in cc)
       | inr p ↦
-          let r1 : first ≡ Argument text rest = sym (ap (λ b. cond b (Broken 13) first) p) ∙ h in
+          let r1 : first ≡ Argument text rest = sym (ap (λ b. cond b (Broken ParagraphInArgument) first) p) ∙ h in
           elim (bool-cases (is_end t && depth == 0)) [
             | inl q ↦
                 let r2 : Argument before tokens ≡ Argument text rest = sym (ap (λ b. cond b (Argument before tokens) on) q) ∙ r1 in
@@ -187,7 +189,7 @@ spaced : (long : Bool) (tokens text rest : List Token) → undelimited long toke
 spaced long [] text rest h = absurd (let r : Unfinished ≡ Argument text rest = h in cc)
 spaced long (t ∷ tokens) text rest h = elim (bool-cases (is_space t)) [
   | inl p ↦
-      let r : undelimited long tokens ≡ Argument text rest = sym (ap (λ b. cond b (undelimited long tokens) (cond (is_begin t) (group long 0 [] tokens) (cond (is_end t) (Broken 14) (cond (is_refused long t) (Broken 13) (Argument (t ∷ []) tokens))))) p) ∙ h in
+      let r : undelimited long tokens ≡ Argument text rest = sym (ap (λ b. cond b (undelimited long tokens) (cond (is_begin t) (group long 0 [] tokens) (cond (is_end t) (Broken GroupEndInArgument) (cond (is_refused long t) (Broken ParagraphInArgument) (Argument (t ∷ []) tokens))))) p) ∙ h in
       let s : Spaced long tokens text rest = spaced long tokens text rest r in
       record {
         spaces = t ∷ s.spaces;
@@ -205,8 +207,8 @@ undelimited-stands : (long : Bool) (tokens text rest : List Token) → undelimit
 undelimited-stands long tokens text rest h =
     let s : Spaced long tokens text rest = spaced long tokens text rest h in
     let t = s.t in
-    let last = cond (is_refused long t) (Broken 13) (Argument (t ∷ []) s.beyond) in
-    let third = cond (is_end t) (Broken 14) last in
+    let last = cond (is_refused long t) (Broken ParagraphInArgument) (Argument (t ∷ []) s.beyond) in
+    let third = cond (is_end t) (Broken GroupEndInArgument) last in
     let second = cond (is_begin t) (group long 0 [] s.beyond) third in
     let r : second ≡ Argument text rest = sym (ap (λ b. cond b (undelimited long s.beyond) second) s.other) ∙ s.same in
     elim (bool-cases (is_begin t)) [
@@ -220,13 +222,13 @@ undelimited-stands long tokens text rest h =
       | inr p ↦
           let r1 : third ≡ Argument text rest = sym (ap (λ b. cond b (group long 0 [] s.beyond) third) p) ∙ r in
           elim (bool-cases (is_end t)) [
-            | inl q ↦ absurd (let r2 : Broken 14 ≡ Argument text rest = sym (ap (λ b. cond b (Broken 14) last) q) ∙ r1 in cc)
+            | inl q ↦ absurd (let r2 : Broken GroupEndInArgument ≡ Argument text rest = sym (ap (λ b. cond b (Broken GroupEndInArgument) last) q) ∙ r1 in cc)
             | inr q ↦
-                let r2 : last ≡ Argument text rest = sym (ap (λ b. cond b (Broken 14) last) q) ∙ r1 in
+                let r2 : last ≡ Argument text rest = sym (ap (λ b. cond b (Broken GroupEndInArgument) last) q) ∙ r1 in
                 elim (bool-cases (is_refused long t)) [
-                  | inl u ↦ absurd (let r3 : Broken 13 ≡ Argument text rest = sym (ap (λ b. cond b (Broken 13) (Argument (t ∷ []) s.beyond)) u) ∙ r2 in cc)
+                  | inl u ↦ absurd (let r3 : Broken ParagraphInArgument ≡ Argument text rest = sym (ap (λ b. cond b (Broken ParagraphInArgument) (Argument (t ∷ []) s.beyond)) u) ∙ r2 in cc)
                   | inr u ↦
-                      let r3 : Argument (t ∷ []) s.beyond ≡ Argument text rest = sym (ap (λ b. cond b (Broken 13) (Argument (t ∷ []) s.beyond)) u) ∙ r2 in
+                      let r3 : Argument (t ∷ []) s.beyond ≡ Argument text rest = sym (ap (λ b. cond b (Broken ParagraphInArgument) (Argument (t ∷ []) s.beyond)) u) ∙ r2 in
                       let same : t ∷ [] ≡ text = cc in
                       let left : s.beyond ≡ rest = cc in
                       let single : is_single long t ≡ true = both (not (is_space t)) (not (is_begin t) && (not (is_end t) && not (is_refused long t))) (ap not s.other) (both (not (is_begin t)) (not (is_end t) && not (is_refused long t)) (ap not p) (both (not (is_end t)) (not (is_refused long t)) (ap not q) (ap not u))) in
@@ -247,9 +249,9 @@ argument-stands long (d ∷ delimiter) tokens text rest h =
     subst (λ (u : List Token). IsArgument long (d ∷ delimiter) u text rest) (sym s.tokens_are) (subst (λ (u : List Token). IsArgument long (d ∷ delimiter) whole u rest) (sym s.text_is) is)
 
 -- what may come of an argument
-pub taken-cases : (x : Taken) → (x ≡ Unfinished) ⊎ (((number : ℕ) × (x ≡ Broken number)) ⊎ ((text : List Token) × (rest : List Token) × (x ≡ Argument text rest)))
+pub taken-cases : (x : Taken) → (x ≡ Unfinished) ⊎ (((error : TexError) × (x ≡ Broken error)) ⊎ ((text : List Token) × (rest : List Token) × (x ≡ Argument text rest)))
 taken-cases Unfinished = inl refl
-taken-cases (Broken number) = inr (inl (number, refl))
+taken-cases (Broken error) = inr (inl (error, refl))
 taken-cases (Argument text rest) = inr (inr (text, rest, refl))
 
 arguments-stand : (long : Bool) (taken : List (List Token)) (delimiters : List (List Token)) (tokens : List Token) (texts : List (List Token)) → arguments long taken delimiters tokens ≡ Fits texts → (rest : List Token) × (mine : List (List Token)) × ((texts ≡ taken ++ mine) × AreArguments long delimiters tokens mine rest)
@@ -274,7 +276,7 @@ use-stands m tokens texts h =
     let d = m.parameters.before in
     let beyond = drop (length d) tokens in
     let whole = arguments m.long [] m.parameters.delimiters beyond in
-    let other = cond (common d tokens == length tokens) Open (Fails 12) in
+    let other = cond (common d tokens == length tokens) Open (Fails UseDiffers) in
     elim (bool-cases (common d tokens == length d)) [
       | inl p ↦
           let r : whole ≡ Fits texts = sym (ap (λ b. cond b whole other) p) ∙ h in
@@ -283,7 +285,7 @@ use-stands m tokens texts h =
       | inr p ↦
           let r : other ≡ Fits texts = sym (ap (λ b. cond b whole other) p) ∙ h in
           elim (bool-cases (common d tokens == length tokens)) [
-            | inl q ↦ absurd (let r1 : Open ≡ Fits texts = sym (ap (λ b. cond b Open (Fails 12)) q) ∙ r in cc)
-            | inr q ↦ absurd (let r1 : Fails 12 ≡ Fits texts = sym (ap (λ b. cond b Open (Fails 12)) q) ∙ r in cc)
+            | inl q ↦ absurd (let r1 : Open ≡ Fits texts = sym (ap (λ b. cond b Open (Fails UseDiffers)) q) ∙ r in cc)
+            | inr q ↦ absurd (let r1 : Fails UseDiffers ≡ Fits texts = sym (ap (λ b. cond b Open (Fails UseDiffers)) q) ∙ r in cc)
           ]
     ]

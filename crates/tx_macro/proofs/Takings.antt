@@ -5,6 +5,7 @@ use Rattle.std.proofs.Math.Seq.{take-append-add, drop-append-add, drop-append_se
 use Rattle.std.proofs.lemmas.Bool.Decides.{eqb_tells}
 use Rattle.tx_char.specs.declared.tokens.Token.{Token}
 use Rattle.tx_toklist.specs.Macros.{is_begin, is_end, is_delimiter}
+use Rattle.tx_seen.specs.declared.error.TexError.TheVariants.{ParagraphInArgument, GroupEndInArgument}
 use Rattle.tx_macro.specs.Arguments.{Unfinished, Argument, Broken, common, delimited, is_refused, level, without_braces}
 use Rattle.tx_macro.specs.Agreement.{is_beginning, agreement}
 use Rattle.tx_macro.proofs.Same.{token-same}
@@ -94,7 +95,7 @@ pub at-delimiter : (long : Bool) (d front : List Token) (a : ℕ) (more : List T
 at-delimiter long [] front a more some = absurd (omega arith)
 at-delimiter long (y ∷ d) front a more some =
     let t : (common (y ∷ d) (y ∷ (d ++ more)) == length (y ∷ d)) ≡ true = eqb-same (common (y ∷ d) (y ∷ (d ++ more))) (length (y ∷ d)) (common-whole (y ∷ d) more) in
-    ap (λ b. cond b (Argument (without_braces front) (drop (length (y ∷ d)) (y ∷ (d ++ more)))) (cond (common (y ∷ d) (y ∷ (d ++ more)) == length (y ∷ (d ++ more))) Unfinished (cond (is_refused long y && (max a (common (y ∷ d) (y ∷ (d ++ more))) == 0)) (Broken 13) (cond (is_end y) (Broken 14) (delimited long (y ∷ d) (front ++ y ∷ []) (max a (common (y ∷ d) (y ∷ (d ++ more))) - 1) (level 0 y) (d ++ more)))))) t
+    ap (λ b. cond b (Argument (without_braces front) (drop (length (y ∷ d)) (y ∷ (d ++ more)))) (cond (common (y ∷ d) (y ∷ (d ++ more)) == length (y ∷ (d ++ more))) Unfinished (cond (is_refused long y && (max a (common (y ∷ d) (y ∷ (d ++ more))) == 0)) (Broken ParagraphInArgument) (cond (is_end y) (Broken GroupEndInArgument) (delimited long (y ∷ d) (front ++ y ∷ []) (max a (common (y ∷ d) (y ∷ (d ++ more))) - 1) (level 0 y) (d ++ more)))))) t
     ∙ ap (Argument (without_braces front)) (drop-append_seam d more)
 
 -- the token is the last one of the delimiter
@@ -141,7 +142,7 @@ known-again long (y ∷ d) front c (suc n) more h k =
     let e : common (y ∷ d) (take (suc n) (y ∷ d) ++ more) ≡ suc n + common (drop (suc n) (y ∷ d)) more = common-take (suc n) (y ∷ d) more k in
     let s : max c (common (y ∷ d) (y ∷ (take n d ++ more))) ≡ max (suc n) (common (y ∷ d) (y ∷ (take n d ++ more))) = omega arith in
     let rest = take n d ++ more in
-    ap (λ m. cond (common (y ∷ d) (y ∷ rest) == length (y ∷ d)) (Argument (without_braces front) (drop (length (y ∷ d)) (y ∷ rest))) (cond (common (y ∷ d) (y ∷ rest) == length (y ∷ rest)) Unfinished (cond (is_refused long y && (m == 0)) (Broken 13) (cond (is_end y) (Broken 14) (delimited long (y ∷ d) (front ++ y ∷ []) (m - 1) (level 0 y) rest))))) s
+    ap (λ m. cond (common (y ∷ d) (y ∷ rest) == length (y ∷ d)) (Argument (without_braces front) (drop (length (y ∷ d)) (y ∷ rest))) (cond (common (y ∷ d) (y ∷ rest) == length (y ∷ rest)) Unfinished (cond (is_refused long y && (m == 0)) (Broken ParagraphInArgument) (cond (is_end y) (Broken GroupEndInArgument) (delimited long (y ∷ d) (front ++ y ∷ []) (m - 1) (level 0 y) rest))))) s
 
 -- some of the last tokens agree: what is before them belongs to the argument
 pub taking-some : (long : Bool) (d front : List Token) (a n : ℕ) (t : Token) (more : List Token) → a < length d → IsTrue (is_delimiter d) → n ≡ agreement d (take a d ++ t ∷ []) → n ≢ 0 → delimited long d front a 0 (take a d ++ t ∷ more) ≡ delimited long d (take (length ((front ++ take a d) ++ t ∷ []) - n) ((front ++ take a d) ++ t ∷ [])) n 0 (take n d ++ more)

@@ -1,20 +1,24 @@
 -- Uses before their first parameter, and where they stop.
-use Rattle.std.proofs.Common.{◌≡◌, ◌≢◌, ℕ, zero, suc, ◌+◌, ◌-◌, ◌<◌, max, Bool, true, false, cond, ◌&&◌, ◌==◌, List, [], ◌∷◌, ◌++◌, length, take, drop, get_or, refl, ap, sym, subst, ◌∙◌, arith, inl, inr}
+use Rattle.std.proofs.Common.{◌≡◌, ◌≢◌, ℕ, zero, suc, ◌+◌, ◌-◌, ◌≤◌, ◌<◌, max, Bool, true, false, cond, ◌&&◌, ◌==◌, List, [], ◌∷◌, ◌++◌, length, take, drop, get_or, refl, ap, sym, subst, ◌∙◌, arith, inl, inr}
 use Rattle.std.proofs.lemmas.List.{append_assoc, length-append, length-take-le, take_all, take_more}
 use Rattle.std.proofs.Math.Seq.{drop-append_seam}
 use Rattle.tx_char.specs.declared.tokens.Token.{Token}
 use Rattle.tx_toklist.specs.Macros.{Definition, Parameters, is_end, no_parameters}
-use Rattle.tx_macro.specs.declared.stage.Stage.{Stage}
-use Rattle.tx_macro.specs.declared.stage.Stage.TheVariants.{Before, Within, Over}
-use Rattle.tx_macro.specs.declared.stage.Part.TheVariants.{Undelimited, Group, Delimited}
-use Rattle.tx_macro.specs.declared.stage.Next.{Next}
-use Rattle.tx_macro.specs.declared.stage.Next.TheVariants as next
-use Rattle.tx_toklist.specs.declared.fed.Fed.TheVariants.{More}
+use Rattle.tx_seen.specs.declared.fed.Want.TheVariants.{Raw}
+use Rattle.tx_seen.specs.declared.fed.Fed.TheVariants.{More}
 use Rattle.tx_toklist.specs.declared.item.Item.{Item}
 use Rattle.tx_toklist.specs.declared.item.Item.TheVariants as item
-use Rattle.tx_macro.specs.Matchers.{Matching, answer, answer_to}
+use Rattle.tx_seen.specs.declared.error.TexError.{TexError}
+use Rattle.tx_seen.specs.declared.error.TexError.TheVariants.{ParagraphInArgument, GroupEndInArgument, UseDiffers}
+use Rattle.tx_macro.specs.declared.stage.Awaited.{Awaited}
+use Rattle.tx_macro.specs.declared.stage.Awaited.TheVariants as awaited
+use Rattle.tx_macro.specs.declared.stage.Advance.{Advance}
+use Rattle.tx_macro.specs.declared.stage.Advance.TheVariants as advance
+use Rattle.tx_macro.specs.declared.stage.Gathered.{Gathered}
+use Rattle.tx_macro.specs.Matchers.{HasGathered, Matching, answer, answer_to, goes_on}
 use Rattle.tx_macro.specs.Arguments.{Unfinished, Argument, Broken, common, delimited, is_refused, level, without_braces}
 use Rattle.tx_macro.specs.Matching.{Open, Fits, Fails, behind, arguments, use_of}
+use Rattle.tx_macro.specs.Stages.{Undelimited, Group, Delimited, Stage, Before, Within, Over, Next, Continues, Ends, Stops, next_of, stage_of}
 use Rattle.tx_macro.specs.Rests.{IsNext, IsStage, delimiter_behind, next_rest, others, use_rest}
 use Rattle.tx_macro.proofs.Same.{token-tells}
 use Rattle.tx_macro.proofs.Slides.{common-take, unlike}
@@ -34,7 +38,7 @@ common-here (y ∷ d) zero x t ys short is other = elim (token-tells y t) [
 common-here (y ∷ d) (suc k) x t ys short is other = common-here d k x t ys (omega arith) is other
 
 -- another token than the wanted one before the first parameter
-pub before-fails : (m : Definition) (met : ℕ) (x t : Token) (more : List Token) → met < length m.parameters.before → x ≡ get_or m.parameters.before met x → (x ≡ t → ⊥) → use_of m (take met m.parameters.before ++ t ∷ more) ≡ Fails 12
+pub before-fails : (m : Definition) (met : ℕ) (x t : Token) (more : List Token) → met < length m.parameters.before → x ≡ get_or m.parameters.before met x → (x ≡ t → ⊥) → use_of m (take met m.parameters.before ++ t ∷ more) ≡ Fails UseDiffers
 before-fails m met x t more short is other =
     let d = m.parameters.before in
     let tokens = take met d ++ t ∷ more in
@@ -44,8 +48,8 @@ before-fails m met x t more short is other =
     let k : length (take met d) ≡ met = length-take-le met d (omega arith) in
     let no : (common d tokens == length d) ≡ false = unlike (common d tokens) (length d) (λ (q : common d tokens ≡ length d). omega arith) in
     let nor : (common d tokens == length tokens) ≡ false = unlike (common d tokens) (length tokens) (λ (q : common d tokens ≡ length tokens). omega arith) in
-    ap (λ b. cond b (arguments m.long [] m.parameters.delimiters (drop (length d) tokens)) (cond (common d tokens == length tokens) Open (Fails 12))) no
-    ∙ ap (λ b. cond b Open (Fails 12)) nor
+    ap (λ b. cond b (arguments m.long [] m.parameters.delimiters (drop (length d) tokens)) (cond (common d tokens == length tokens) Open (Fails UseDiffers))) no
+    ∙ ap (λ b. cond b Open (Fails UseDiffers)) nor
 
 -- the tokens before the first parameter are met
 pub before-over : (m : Definition) (met : ℕ) (x t : Token) (more : List Token) → met + 1 ≡ length m.parameters.before → x ≡ get_or m.parameters.before met x → x ≡ t → use_of m (take met m.parameters.before ++ t ∷ more) ≡ others m [] more
@@ -57,7 +61,7 @@ before-over m met x t more last is same =
     let whole : take met d ++ t ∷ more ≡ d ++ more = sym (append_assoc (take met d) (t ∷ []) more) ∙ ap (λ u. u ++ more) (sym e ∙ all) in
     let yes : (common d (d ++ more) == length d) ≡ true = eqb-same (common d (d ++ more)) (length d) (common-whole d more) in
     ap (use_of m) whole
-    ∙ ap (λ b. cond b (arguments m.long [] m.parameters.delimiters (drop (length d) (d ++ more))) (cond (common d (d ++ more) == length (d ++ more)) Open (Fails 12))) yes
+    ∙ ap (λ b. cond b (arguments m.long [] m.parameters.delimiters (drop (length d) (d ++ more))) (cond (common d (d ++ more) == length (d ++ more)) Open (Fails UseDiffers))) yes
     ∙ ap (arguments m.long [] m.parameters.delimiters) (drop-append_seam d more)
 
 -- without a token no argument is whole
@@ -73,14 +77,14 @@ others-none m bare some = arguments-none m.long m.parameters.delimiters (λ none
     parameters-same p b d = ap (λ (x : List Token). record { before = x; delimiters = p.delimiters }) b ∙ ap (λ (y : List (List Token)). record { before = []; delimiters = y }) d
 
 -- a use that has something to take is neither whole at its beginning nor wrong
-pub not-whole : (m : Definition) (now : Next) (from taken : List (List Token)) → m.parameters.before ≡ [] → m.parameters ≢ no_parameters → from ≡ [] → others m from [] ≡ next_rest m now [] → now ≡ next.Fits taken → ⊥
+pub not-whole : (m : Definition) (now : Next) (from taken : List (List Token)) → m.parameters.before ≡ [] → m.parameters ≢ no_parameters → from ≡ [] → others m from [] ≡ next_rest m now [] → now ≡ Ends taken → ⊥
 not-whole m now from taken bare some none is fits =
     let e : Open ≡ Fits taken = sym (others-none m bare some) ∙ ap (λ (x : List (List Token)). others m x []) (sym none) ∙ is ∙ ap (λ (n : Next). next_rest m n []) fits in
     cc
 
-pub not-wrong : (m : Definition) (now : Next) (from : List (List Token)) (number : ℕ) → m.parameters.before ≡ [] → m.parameters ≢ no_parameters → from ≡ [] → others m from [] ≡ next_rest m now [] → now ≡ next.Fails number → ⊥
-not-wrong m now from number bare some none is fails =
-    let e : Open ≡ Fails number = sym (others-none m bare some) ∙ ap (λ (x : List (List Token)). others m x []) (sym none) ∙ is ∙ ap (λ (n : Next). next_rest m n []) fails in
+pub not-wrong : (m : Definition) (now : Next) (from : List (List Token)) (error : TexError) → m.parameters.before ≡ [] → m.parameters ≢ no_parameters → from ≡ [] → others m from [] ≡ next_rest m now [] → now ≡ Stops error → ⊥
+not-wrong m now from error bare some none is fails =
+    let e : Open ≡ Fails error = sym (others-none m bare some) ∙ ap (λ (x : List (List Token)). others m x []) (sym none) ∙ is ∙ ap (λ (n : Next). next_rest m n []) fails in
     cc
 
 -- a delimited argument isn't whole before its delimiter is
@@ -97,7 +101,7 @@ taking-open long (y ∷ d) front (suc a) zero fewer outside =
     let c : common (y ∷ d) (y ∷ rest) ≡ suc a = omega arith in
     let no : (common (y ∷ d) (y ∷ rest) == length (y ∷ d)) ≡ false = unlike (common (y ∷ d) (y ∷ rest)) (length (y ∷ d)) (λ (q : common (y ∷ d) (y ∷ rest) ≡ length (y ∷ d)). omega arith) in
     let yes : (common (y ∷ d) (y ∷ rest) == length (y ∷ rest)) ≡ true = eqb-same (common (y ∷ d) (y ∷ rest)) (length (y ∷ rest)) (omega arith) in
-    let on = cond (is_refused long y && (max (suc a) (common (y ∷ d) (y ∷ rest)) == 0)) (Broken 13) (cond (is_end y) (Broken 14) (delimited long (y ∷ d) (front ++ y ∷ []) (max (suc a) (common (y ∷ d) (y ∷ rest)) - 1) (level 0 y) rest)) in
+    let on = cond (is_refused long y && (max (suc a) (common (y ∷ d) (y ∷ rest)) == 0)) (Broken ParagraphInArgument) (cond (is_end y) (Broken GroupEndInArgument) (delimited long (y ∷ d) (front ++ y ∷ []) (max (suc a) (common (y ∷ d) (y ∷ rest)) - 1) (level 0 y) rest)) in
     ap (λ b. cond b (Argument (without_braces front) (drop (length (y ∷ d)) (y ∷ rest))) (cond (common (y ∷ d) (y ∷ rest) == length (y ∷ rest)) Unfinished on)) no
     ∙ ap (λ b. cond b Unfinished on) yes
 
@@ -112,8 +116,8 @@ use-open m (Before met) short =
     let k : length (take met d) ≡ met = length-take-le met d (omega arith) in
     let no : (common d tokens == length d) ≡ false = unlike (common d tokens) (length d) (λ (q : common d tokens ≡ length d). omega arith) in
     let yes : (common d tokens == length tokens) ≡ true = eqb-same (common d tokens) (length tokens) (omega arith) in
-    ap (λ b. cond b (arguments m.long [] m.parameters.delimiters (drop (length d) tokens)) (cond (common d tokens == length tokens) Open (Fails 12))) no
-    ∙ ap (λ b. cond b Open (Fails 12)) yes
+    ap (λ b. cond b (arguments m.long [] m.parameters.delimiters (drop (length d) tokens)) (cond (common d tokens == length tokens) Open (Fails UseDiffers))) no
+    ∙ ap (λ b. cond b Open (Fails UseDiffers)) yes
 use-open m (Within taken Undelimited) is = refl
 use-open m (Within taken (Group g)) is = refl
 use-open m (Within taken (Delimited s)) is =
@@ -121,12 +125,12 @@ use-open m (Within taken (Delimited s)) is =
 use-open m Over is = absurd is
 
 -- what is answered where the use goes on behind a token
-pub goes-on-open : (m : Definition) (taken : List Token) (t : Token) (stage stage' : Stage) (now : Next) → ((more : List Token) → use_of m (taken ++ more) ≡ use_rest m stage more) → ((more : List Token) → use_rest m stage (t ∷ more) ≡ next_rest m now more) → IsNext m now → now ≡ next.On stage' → use_of m (taken ++ t ∷ []) ≡ Open
+pub goes-on-open : (m : Definition) (taken : List Token) (t : Token) (stage stage' : Stage) (now : Next) → ((more : List Token) → use_of m (taken ++ more) ≡ use_rest m stage more) → ((more : List Token) → use_rest m stage (t ∷ more) ≡ next_rest m now more) → IsNext m now → now ≡ Continues stage' → use_of m (taken ++ t ∷ []) ≡ Open
 goes-on-open m taken t stage stage' now rest steps is on =
     let there : IsStage m stage' = subst (λ (n : Next). IsNext m n) on is in
     rest (t ∷ []) ∙ steps [] ∙ ap (λ (n : Next). next_rest m n []) on ∙ use-open m stage' there
 
-pub answer-more : (self : Matching) (it : Item) (m : Definition) (taken : List Token) (t : Token) → m ≡ self.definition → taken ≡ self.taken → it ≡ item.Token t → use_of m (taken ++ t ∷ []) ≡ Open → More ≡ answer self it
+pub answer-more : (self : Matching) (it : Item) (m : Definition) (taken : List Token) (t : Token) → m ≡ self.definition → taken ≡ self.taken → it ≡ item.Token t → use_of m (taken ++ t ∷ []) ≡ Open → More Raw ≡ answer self it
 answer-more self it m taken t d k is goes =
     sym (ap (answer self) is
     ∙ ap (λ (x : Definition). answer_to (use_of x (self.taken ++ t ∷ []))) (sym d)
@@ -138,3 +142,28 @@ empty-is [] ys same h = sym same
 empty-is (x ∷ xs) ys same h =
     let some : length (x ∷ xs) ≡ 0 → ⊥ = λ (q : length (x ∷ xs) ≡ 0). omega arith in
     absurd (let e : true ≡ false = h ∙ unlike (length (x ∷ xs)) 0 some in cc)
+
+-- without tokens before the first parameter a use begins with its arguments
+use-bare : (m : Definition) (taken more : List Token) → m.parameters.before ≡ [] → taken ≡ [] → use_of m (taken ++ more) ≡ others m [] more
+use-bare m taken more bare nothing =
+    ap (λ (x : List Token). use_of m (x ++ more)) nothing
+    ∙ ap (λ (b : List Token). cond (common b more == length b) (arguments m.long [] m.parameters.delimiters (drop (length b) more)) (cond (common b more == length more) Open (Fails UseDiffers))) bare
+
+goes-on-stage : (m : Definition) (g : Gathered) (awaited : Awaited) → IsStage m (stage_of awaited g) → goes_on awaited ≡ true
+goes-on-stage m g (awaited.Before met) is = refl
+goes-on-stage m g (awaited.Argument kind) is = refl
+goes-on-stage m g awaited.Over is = absurd is
+
+-- a use of which nothing is taken, and which begins with an argument
+pub first-gathered : (m : Definition) (g g' : Gathered) (now : Advance) (awaited : Awaited) → m.parameters.before ≡ [] → m.parameters ≢ no_parameters → g.arguments ≡ [] → g'.taken ≡ [] → g'.from ≤ length g'.taken → ((more : List Token) → others m g.arguments more ≡ next_rest m (next_of now g') more) → IsNext m (next_of now g') → ((a : Awaited) → now ≡ advance.On a → a ≡ awaited) → HasGathered m g' awaited × (goes_on awaited ≡ true)
+first-gathered m g g' (advance.On a) awaited bare some none nothing within rest is same =
+    subst (λ (b : Awaited). HasGathered m g' b × (goes_on b ≡ true)) (same a refl) (
+      record {
+        stage_is = is;
+        within = within;
+        rest = λ more. use-bare m g'.taken more bare nothing ∙ ap (λ (x : List (List Token)). others m x more) (sym none) ∙ rest more;
+      },
+      goes-on-stage m g' a is,
+    )
+first-gathered m g g' (advance.Fits taken) awaited bare some none nothing within rest is same = absurd (not-whole m (Ends taken) g.arguments taken bare some none (rest []) refl)
+first-gathered m g g' (advance.Fails error) awaited bare some none nothing within rest is same = absurd (not-wrong m (Stops error) g.arguments error bare some none (rest []) refl)

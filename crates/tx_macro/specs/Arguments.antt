@@ -2,6 +2,8 @@
 use Rattle.std.specs.Prelude.{ℕ, zero, suc, Bool, true, false, List, [], ◌∷◌, ◌++◌, ◌-◌, ◌&&◌, ◌==◌, max, not, length, drop, take, if◌then◌else◌}
 use Rattle.tx_char.specs.declared.tokens.Token.{Token}
 use Rattle.tx_toklist.specs.Macros.{is_begin, is_end}
+use Rattle.tx_seen.specs.declared.error.TexError.{TexError}
+use Rattle.tx_seen.specs.declared.error.TexError.TheVariants.{ParagraphInArgument, GroupEndInArgument}
 use Rattle.tx_macro.specs.Tokens.{same_token, is_space, is_par}
 
 -- how many groups are open behind a token, by how many are before it
@@ -48,7 +50,7 @@ common (d ∷ delimiter) (t ∷ rest) = if same_token d t then suc (common delim
 pub data Taken : Type 0 where
   Unfinished : Taken
   Argument : List Token → List Token → Taken
-  Broken : ℕ → Taken
+  Broken : TexError → Taken
 
 -- \par may stand in the arguments of a \long macro alone
 abbrev pub is_refused : Bool → Token → Bool
@@ -58,7 +60,7 @@ is_refused long t = is_par t && not long
 abbrev pub group : Bool → ℕ → List Token → List Token → Taken
 group long depth inside [] = Unfinished
 group long depth inside (t ∷ rest) =
-    if is_refused long t then Broken 13
+    if is_refused long t then Broken ParagraphInArgument
     else if is_end t && depth == 0 then Argument inside rest
     else group long (level depth t) (inside ++ t ∷ []) rest
 
@@ -68,8 +70,8 @@ undelimited long [] = Unfinished
 undelimited long (t ∷ rest) =
     if is_space t then undelimited long rest
     else if is_begin t then group long 0 [] rest
-    else if is_end t then Broken 14
-    else if is_refused long t then Broken 13
+    else if is_end t then Broken GroupEndInArgument
+    else if is_refused long t then Broken ParagraphInArgument
     else Argument (t ∷ []) rest
 
 -- a delimited argument, of which this text is taken, and in which this many groups are open: outside of groups the
@@ -78,13 +80,13 @@ undelimited long (t ∷ rest) =
 abbrev pub delimited : Bool → List Token → List Token → ℕ → ℕ → List Token → Taken
 delimited long delimiter text agreed depth [] = Unfinished
 delimited long delimiter text agreed (suc depth) (t ∷ rest) =
-    if is_refused long t then Broken 13
+    if is_refused long t then Broken ParagraphInArgument
     else delimited long delimiter (text ++ t ∷ []) 0 (level (suc depth) t) rest
 delimited long delimiter text agreed zero (t ∷ rest) =
     if common delimiter (t ∷ rest) == length delimiter then Argument (without_braces text) (drop (length delimiter) (t ∷ rest))
     else if common delimiter (t ∷ rest) == length (t ∷ rest) then Unfinished
-    else if is_refused long t && max agreed (common delimiter (t ∷ rest)) == 0 then Broken 13
-    else if is_end t then Broken 14
+    else if is_refused long t && max agreed (common delimiter (t ∷ rest)) == 0 then Broken ParagraphInArgument
+    else if is_end t then Broken GroupEndInArgument
     else delimited long delimiter (text ++ t ∷ []) (max agreed (common delimiter (t ∷ rest)) - 1) (level 0 t) rest
 
 -- the argument of a parameter with these tokens behind it

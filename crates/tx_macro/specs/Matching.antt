@@ -1,7 +1,9 @@
 -- The use of a macro (The TeXbook, chapter 20; TeX: The Program, sections 389 to 399).
-use Rattle.std.specs.Prelude.{◌≡◌, ℕ, Bool, List, [], ◌∷◌, ◌++◌, ◌==◌, length, drop, if◌then◌else◌}
+use Rattle.std.specs.Prelude.{◌≡◌, Bool, List, [], ◌∷◌, ◌++◌, ◌==◌, length, drop, if◌then◌else◌}
 use Rattle.tx_char.specs.declared.tokens.Token.{Token}
 use Rattle.tx_toklist.specs.Macros.{Definition}
+use Rattle.tx_seen.specs.declared.error.TexError.{TexError}
+use Rattle.tx_seen.specs.declared.error.TexError.TheVariants.{UseDiffers}
 use Rattle.tx_macro.specs.Arguments.{Taken, Unfinished, Argument, Broken, argument, common}
 
 -- the tokens behind a macro's name: they may go on to fit its parameter text; or they fit, with these arguments; or they
@@ -9,12 +11,12 @@ use Rattle.tx_macro.specs.Arguments.{Taken, Unfinished, Argument, Broken, argume
 pub data Use : Type 0 where
   Open : Use
   Fits : List (List Token) → Use
-  Fails : ℕ → Use
+  Fails : TexError → Use
 
 -- what comes of one argument: where it is taken, the others are read from the rest
 abbrev pub behind : (List Token → List Token → Use) → Taken → Use
 behind others Unfinished = Open
-behind others (Broken number) = Fails number
+behind others (Broken error) = Fails error
 behind others (Argument text rest) = others text rest
 
 -- the arguments of the parameters with these delimiters, behind those that are taken
@@ -28,10 +30,10 @@ abbrev pub use_of : Definition → List Token → Use
 use_of m tokens =
     if common m.parameters.before tokens == length m.parameters.before then arguments m.long [] m.parameters.delimiters (drop (length m.parameters.before) tokens)
     else if common m.parameters.before tokens == length tokens then Open
-    else Fails 12
+    else Fails UseDiffers
 
 -- what fits does so with more tokens behind it, and what fails does
 abbrev pub ReadsOn : Use → Use → Type 0
 ReadsOn Open longer = Unit {0}
 ReadsOn (Fits taken) longer = longer ≡ Fits taken
-ReadsOn (Fails number) longer = longer ≡ Fails number
+ReadsOn (Fails error) longer = longer ≡ Fails error

@@ -2,15 +2,7 @@
 use Rattle.std.specs.Prelude.{◌≡◌, ℕ, Bool, List, [], ◌∷◌, ◌++◌, ◌-◌, ◌<◌, length, take, drop, slice_index_or}
 use Rattle.tx_char.specs.declared.tokens.Token.{Token}
 use Rattle.tx_toklist.specs.Macros.{Definition}
-use Rattle.tx_macro.specs.declared.stage.Stage.{Stage}
-use Rattle.tx_macro.specs.declared.stage.Stage.TheVariants.{Before, Within, Over}
-use Rattle.tx_macro.specs.declared.stage.Part.{Part}
-use Rattle.tx_macro.specs.declared.stage.Part.TheVariants.{Undelimited, Group, Delimited}
-use Rattle.tx_macro.specs.declared.stage.Delimited.{Delimited as Taking}
-use Rattle.tx_macro.specs.declared.stage.Step.{Step}
-use Rattle.tx_macro.specs.declared.stage.Step.TheVariants as step
-use Rattle.tx_macro.specs.declared.stage.Next.{Next}
-use Rattle.tx_macro.specs.declared.stage.Next.TheVariants as next
+use Rattle.tx_macro.specs.Stages.{Taking, Part, Undelimited, Group, Delimited, Stage, Before, Within, Over, Step, Goes, Takes, Breaks, Next, Continues, Ends, Stops}
 use Rattle.tx_macro.specs.Agreement.{IsTable}
 use Rattle.tx_macro.specs.Arguments.{Taken, Argument, Broken, undelimited, group, delimited}
 use Rattle.tx_macro.specs.Matching.{Use, Open, Fits, Fails, behind, arguments, use_of}
@@ -23,9 +15,9 @@ part_rest long delimiter (Delimited s) tokens = delimited long delimiter (take (
 
 -- the rest of an argument behind a step
 abbrev pub step_rest : Bool → List Token → Step → List Token → Taken
-step_rest long delimiter (step.On part) tokens = part_rest long delimiter part tokens
-step_rest long delimiter (step.Argument text) tokens = Argument text tokens
-step_rest long delimiter (step.Broken number) tokens = Broken number
+step_rest long delimiter (Goes part) tokens = part_rest long delimiter part tokens
+step_rest long delimiter (Takes text) tokens = Argument text tokens
+step_rest long delimiter (Breaks error) tokens = Broken error
 
 -- the last tokens of a delimited argument that was met agree with the first ones of its delimiter, fewer than all,
 -- and none do in a group; and the table is the delimiter's
@@ -41,7 +33,7 @@ IsPart delimiter (Group g) = delimiter ≡ []
 IsPart delimiter (Delimited s) = IsTaking delimiter s
 
 abbrev pub IsStep : List Token → Step → Type 0
-IsStep delimiter (step.On part) = IsPart delimiter part
+IsStep delimiter (Goes part) = IsPart delimiter part
 IsStep delimiter _ = Unit {0}
 
 -- the delimiter behind the parameter that comes behind so many others
@@ -60,9 +52,9 @@ use_rest m Over tokens = Open
 
 -- the rest of a use behind one more token
 abbrev pub next_rest : Definition → Next → List Token → Use
-next_rest m (next.On stage) tokens = use_rest m stage tokens
-next_rest m (next.Fits taken) tokens = Fits taken
-next_rest m (next.Fails number) tokens = Fails number
+next_rest m (Continues stage) tokens = use_rest m stage tokens
+next_rest m (Ends taken) tokens = Fits taken
+next_rest m (Stops error) tokens = Fails error
 
 -- something more is to come
 abbrev pub IsStage : Definition → Stage → Type 0
@@ -71,5 +63,5 @@ IsStage m (Within taken part) = (length taken < length m.parameters.delimiters) 
 IsStage m Over = ⊥
 
 abbrev pub IsNext : Definition → Next → Type 0
-IsNext m (next.On stage) = IsStage m stage
+IsNext m (Continues stage) = IsStage m stage
 IsNext m _ = Unit {0}

@@ -1,9 +1,9 @@
 -- Tokens in the arguments of macros (TeX: The Program, sections 289, 333 and 392).
-use Rattle.std.specs.Prelude.{ℕ, Bool, true, false, List, [], ◌∷◌, ◌&&◌, ◌==◌}
+use Rattle.std.specs.Prelude.{ℕ, Bool, true, false, List, [], ◌∷◌, ◌&&◌, ◌==◌, codes}
 use Rattle.tx_char.specs.declared.category.Cat.{Cat}
 use Rattle.tx_char.specs.declared.category.Cat.TheVariants.{Space}
 use Rattle.tx_char.specs.declared.tokens.Token.{Token}
-use Rattle.tx_char.specs.declared.tokens.Token.TheVariants.{Character, Name}
+use Rattle.tx_char.specs.declared.tokens.Token.TheVariants.{Character, Name, FrozenRelax}
 use Rattle.tx_char.specs.Category.{number_of}
 
 -- whether two lists of bytes are the same
@@ -16,6 +16,7 @@ same_bytes _ _ = false
 abbrev pub same_token : Token → Token → Bool
 same_token (Character code kind) (Character other other_kind) = (code == other) && (number_of kind == number_of other_kind)
 same_token (Name name) (Name other) = same_bytes name other
+same_token FrozenRelax FrozenRelax = true
 same_token _ _ = false
 
 abbrev pub is_space_category : Cat → Bool
@@ -25,9 +26,9 @@ is_space_category _ = false
 -- a space token is a character of category 10
 abbrev pub is_space : Token → Bool
 is_space (Character code kind) = is_space_category kind
-is_space (Name name) = false
+is_space _ = false
 
 -- the token \par, whatever it means
 abbrev pub is_par : Token → Bool
-is_par (Character code kind) = false
-is_par (Name name) = same_bytes name (112 ∷ 97 ∷ 114 ∷ [])
+is_par (Name name) = same_bytes name (codes "par")
+is_par _ = false

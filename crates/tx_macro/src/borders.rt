@@ -19,7 +19,7 @@ pub(crate) fn borders_of(alloc: Global, delimiter: &[Token]) -> Result<Table, Al
         border = next_border(delimiter, borders.as_slice(), border, k);
         borders.push(border)?;
     }
-    Ok(Table::new(borders))
+    Ok(Table::from_vec(borders))
 }
 
 /// The border of one token more than this many, whose own border is known.

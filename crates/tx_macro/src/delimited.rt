@@ -1,128 +1,98 @@
 //! Delimited arguments.
-ghost use Rattle.std.specs.Prelude.{◌≡◌, ◌≤◌, ◌<◌, ◌-◌, ◌∷◌, ◌++◌, [], Bool, List, IfOk, IsTrue, length, take};
+ghost use Rattle.std.specs.Prelude.{◌≡◌, ◌≤◌, ◌<◌, ◌-◌, ◌∷◌, ◌++◌, [], List, ℕ, IfOk, IsTrue, length, take};
 ghost use Rattle.tx_char.specs.declared.tokens.Token.{Token};
 ghost use Rattle.tx_toklist.specs.Macros.{is_delimiter};
+ghost use Rattle.tx_macro.specs.Agreement.{IsTable};
 ghost use Rattle.tx_macro.specs.Arguments.{closes_last, common, delimited, is_one_group, level, without_braces};
-ghost use Rattle.tx_macro.specs.Rests.{IsPart, IsStep, IsTaking, part_rest, step_rest};
+ghost use Rattle.tx_macro.specs.Rests.{IsStep, IsTaking, part_rest, step_rest};
+ghost use Rattle.tx_macro.specs.Stages.{Delimited, step_of};
 
-use crate::borders::{agreed, borders_of};
-use crate::stage::{Delimited, Part, Step};
+use crate::borders::agreed;
+use crate::stage::{Kind, Move};
 use crate::tokens::{begins_group, ends_group, is_paragraph};
 use crate::undelimited::{level_behind, level_of};
 use std::alloc::{AllocError, Global};
 use tx_char::Token;
+use tx_list::Items;
+use tx_seen::TexError;
 use tx_toklist::Toks;
 
-/// Nothing of a delimited argument is met. Its only error is want of memory.
-pub(crate) fn begin(alloc: Global, delimiter: &[Token]) -> Result<Part, AllocError>
-    requires { 0 < length delimiter.now }
-    ensures rest { IfOk result (λ part. (long : Bool) (more : List Token) → delimited long delimiter.now [] 0 0 more ≡ part_rest long delimiter.now part more) }
-    ensures part { IfOk result (IsPart delimiter.now) }
+/// Takes a token of a delimited argument or of its delimiter. Its only error is that no more groups can be counted.
+pub(crate) fn take(
+    delimiter: &[Token],
+    borders: &[usize],
+    before: usize,
+    depth: usize,
+    long: bool,
+    token: &Token,
+) -> Result<Move, AllocError>
+    requires delimiter { IsTrue (is_delimiter delimiter.now) }
+    requires table { IsTable delimiter.now borders.now (length delimiter.now) }
+    requires fewer { before < length delimiter.now }
+    ensures rest { IfOk result (λ step. (met more : List Token) → IsTaking delimiter.now (record { met = met; agreed = before; depth = depth; borders = borders.now }) → part_rest long delimiter.now (Delimited (record { met = met; agreed = before; depth = depth; borders = borders.now })) (token.now ∷ more) ≡ step_rest long delimiter.now (step_of borders.now step met token.now) more) }
+    ensures part { IfOk result (λ step. (met : List Token) → IsTaking delimiter.now (record { met = met; agreed = before; depth = depth; borders = borders.now }) → IsStep delimiter.now (step_of borders.now step met token.now)) }
 {
-    Ok(Part::Delimited(Delimited {
-        met: Toks::new(alloc),
-        agreed: 0,
+    if depth > 0 {
+        return take_inside(depth, long, token);
+    }
+    let now = agreed(delimiter, borders, before, token);
+    if now == delimiter.len() {
+        return Ok(Move::Delimits { agreed: before });
+    }
+    if now == 0 {
+        return take_outside(long, token);
+    }
+    Ok(Move::On(Kind::Delimited {
+        agreed: now,
         depth: 0,
-        borders: borders_of(alloc, delimiter)?,
     }))
 }
 
-/// Takes a token of a delimited argument or of its delimiter. Its only error is want of memory.
-pub(crate) fn take(
-    delimiter: &[Token],
-    taken: Delimited,
-    long: bool,
-    token: Token,
-) -> Result<Step, AllocError>
-    requires delimiter { IsTrue (is_delimiter delimiter.now) }
-    requires taken { IsTaking delimiter.now taken }
-    ensures rest { IfOk result (λ step. (more : List Token) → part_rest long delimiter.now (Part.Delimited taken) (token ∷ more) ≡ step_rest long delimiter.now step more) }
-    ensures part { IfOk result (IsStep delimiter.now) }
+/// Takes a token outside of groups with which nothing of the delimiter agrees. Its only error is that no more groups can be
+/// counted.
+fn take_outside(long: bool, token: &Token) -> Result<Move, AllocError>
+    ensures rest { IfOk result (λ step. (borders : List ℕ) (delimiter met more : List Token) → 0 < length delimiter → common delimiter (token.now ∷ more) ≡ 0 → delimited long delimiter met 0 0 (token.now ∷ more) ≡ step_rest long delimiter (step_of borders step met token.now) more) }
+    ensures part { IfOk result (λ step. (borders : List ℕ) (delimiter met : List Token) → IsTable delimiter borders (length delimiter) → 0 < length delimiter → IsStep delimiter (step_of borders step met token.now)) }
 {
-    if taken.depth > 0 {
-        return take_inside(taken, long, token);
+    if is_paragraph(token) && !long {
+        return Ok(Move::Broken(TexError::ParagraphInArgument));
     }
-    let now = agreed(delimiter, taken.borders.as_slice(), taken.agreed, &token);
-    if now == delimiter.len() {
-        return Ok(Step::Argument(argument(taken.met, taken.agreed)));
+    if ends_group(token) {
+        return Ok(Move::Broken(TexError::GroupEndInArgument));
     }
-    if now == 0 {
-        return take_outside(taken, long, token);
-    }
-    let Delimited {
-        mut met,
-        borders,
-        ..
-    } = taken;
-    met.push(token)?;
-    Ok(Step::On(Part::Delimited(Delimited {
-        met,
-        agreed: now,
-        depth: 0,
-        borders,
-    })))
+    go_on(0, token)
 }
 
-/// Takes a token outside of groups with which nothing of the delimiter agrees. Its only error is want of memory.
-fn take_outside(taken: Delimited, long: bool, token: Token) -> Result<Step, AllocError>
-    requires { taken.depth ≡ 0 }
-    ensures rest { IfOk result (λ step. (delimiter more : List Token) → 0 < length delimiter → common delimiter (token ∷ more) ≡ 0 → delimited long delimiter taken.met 0 0 (token ∷ more) ≡ step_rest long delimiter step more) }
-    ensures part { IfOk result (λ step. (delimiter : List Token) → IsTaking delimiter taken → IsStep delimiter step) }
+/// Takes a token within a group, where no delimiter counts. Its only error is that no more groups can be counted.
+fn take_inside(depth: usize, long: bool, token: &Token) -> Result<Move, AllocError>
+    requires { 0 < depth }
+    ensures rest { IfOk result (λ step. (borders : List ℕ) (delimiter met more : List Token) → delimited long delimiter met 0 depth (token.now ∷ more) ≡ step_rest long delimiter (step_of borders step met token.now) more) }
+    ensures part { IfOk result (λ step. (borders : List ℕ) (delimiter met : List Token) → IsTable delimiter borders (length delimiter) → 0 < length delimiter → IsStep delimiter (step_of borders step met token.now)) }
 {
-    if is_paragraph(&token) && !long {
-        return Ok(Step::Broken(13));
+    if is_paragraph(token) && !long {
+        return Ok(Move::Broken(TexError::ParagraphInArgument));
     }
-    if ends_group(&token) {
-        return Ok(Step::Broken(14));
-    }
-    go_on(taken, token)
+    go_on(depth, token)
 }
 
-/// Takes a token within a group, where no delimiter counts. Its only error is want of memory.
-fn take_inside(taken: Delimited, long: bool, token: Token) -> Result<Step, AllocError>
-    requires { 0 < taken.depth }
-    ensures rest { IfOk result (λ step. (delimiter more : List Token) → delimited long delimiter taken.met 0 taken.depth (token ∷ more) ≡ step_rest long delimiter step more) }
-    ensures part { IfOk result (λ step. (delimiter : List Token) → IsTaking delimiter taken → IsStep delimiter step) }
+/// The token belongs to the argument, and not to a delimiter. Its only error is that no more groups can be counted.
+fn go_on(depth: usize, token: &Token) -> Result<Move, AllocError>
+    ensures { IfOk result (λ step. step ≡ Move.On (Kind.Delimited 0 (level depth token.now))) }
 {
-    if is_paragraph(&token) && !long {
-        return Ok(Step::Broken(13));
-    }
-    go_on(taken, token)
-}
-
-/// The token belongs to the argument, and not to a delimiter. Its only error is want of memory.
-fn go_on(taken: Delimited, token: Token) -> Result<Step, AllocError>
-    ensures { IfOk result (λ step. step ≡ Step.On (Part.Delimited (record { met = taken.met ++ token ∷ []; agreed = 0; depth = level taken.depth token; borders = taken.borders }))) }
-{
-    let depth = level_behind(taken.depth, &token)?;
-    let Delimited {
-        mut met,
-        borders,
-        ..
-    } = taken;
-    met.push(token)?;
-    Ok(Step::On(Part::Delimited(Delimited {
-        met,
-        agreed: 0,
-        depth,
-        borders,
-    })))
+    let depth = level_behind(depth, token)?;
+    Ok(Move::On(Kind::Delimited { agreed: 0, depth }))
 }
 
 /// What was met before the last tokens, so many of which belong to the delimiter, without the braces of a group that it
-/// is.
-fn argument(met: Toks, delimiting: usize) -> Toks
-    requires { delimiting ≤ length met }
-    ensures { result ≡ without_braces (take (length met - delimiting) met) }
+/// is. Its only error is want of memory.
+pub(crate) fn argument(alloc: Global, met: &[Token], delimiting: usize) -> Result<Toks, AllocError>
+    ensures { IfOk result (λ text. text ≡ without_braces (take (length met.now - delimiting) met.now)) }
 {
-    let mut tokens = met.into_vec();
-    let end = tokens.len() - delimiting;
-    tokens.truncate(end);
-    if is_group(tokens.as_slice()) {
-        tokens.pop();
-        tokens.remove(0);
+    let text = &met[..met.len().saturating_sub(delimiting)];
+    if !is_group(text) {
+        return Items::from_slice(alloc, text);
     }
-    Toks::from_vec(tokens)
+    Items::from_slice(alloc, &text[1..text.len() - 1])
 }
 
 /// Whether the first token begins a group that the last one ends.

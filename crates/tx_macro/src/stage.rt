@@ -1,113 +1,101 @@
 //! How far the use of a macro has come.
-ghost use Rattle.std.specs.Prelude.{◌≡◌};
+ghost use Rattle.std.specs.Prelude.{◌≡◌, []};
 
-use std::alloc::AllocError;
-use std::marker::Model;
+use std::alloc::{AllocError, Global};
+use tx_list::Items;
+use tx_seen::TexError;
 use tx_toklist::{Lists, Toks};
 
 /// The table of a delimiter. Contracts see the list of its numbers.
-#[derive(Debug, Drop)]
-pub(crate) struct Table {
-    borders: Vec<usize>,
-}
-
-impl Model for Table {
-    ghost use Rattle.std.specs.Prelude.{List, ℕ};
-
-    ghost Value = { List ℕ };
-
-    ghost view = { λ t. t.borders.items };
-}
-
-impl Table {
-    /// These numbers; takes no memory.
-    pub(crate) fn new(borders: Vec<usize>) -> Table
-        ensures { result ≡ borders.items }
-    {
-        Table { borders }
-    }
-
-    /// The numbers, lent.
-    pub(crate) fn as_slice(&self) -> &[usize]
-        ensures { result.now ≡ self.now }
-    {
-        self.borders.as_slice()
-    }
-}
-
-/// A clone has the same numbers. Its only error is want of memory.
-impl Clone for Table {
-    ghost is_clone = { λ source copy. copy ≡ source };
-
-    fn clone(&self) -> Result<Self, AllocError> {
-        Ok(Table {
-            borders: self.borders.clone()?,
-        })
-    }
-}
+pub(crate) type Table = Items<usize>;
 
 /// What the use of a macro waits for.
-#[derive(Clone, Debug, Drop)]
-pub(crate) enum Stage {
+#[derive(Clone, Copy, PartialEq, Eq)]
+pub(crate) enum Awaited {
     /// The tokens before the first parameter, of which so many are met.
     Before { met: usize },
-    /// The rest of the argument behind these ones.
-    Within { arguments: Lists, part: Part },
+    /// The rest of an argument.
+    Argument(Kind),
     /// Nothing more.
     Over,
 }
 
-/// The part of an argument that is to come.
-#[derive(Clone, Debug, Drop)]
-pub(crate) enum Part {
-    /// An undelimited argument; nothing but spaces was met.
+/// What an argument is that is being taken.
+#[derive(Clone, Copy, PartialEq, Eq)]
+pub(crate) enum Kind {
+    /// Undelimited; nothing but spaces was met.
     Undelimited,
-    /// The rest of a group that is an undelimited argument.
-    Group(Group),
-    /// A delimited argument.
-    Delimited(Delimited),
+    /// Undelimited and a group, in which so many further groups are open.
+    Group { depth: usize },
+    /// Delimited: so many of the last tokens agree with the first ones of the delimiter, and so many groups are open.
+    Delimited { agreed: usize, depth: usize },
 }
 
-/// A group that is being taken.
-#[derive(Clone, Debug, Drop)]
-pub(crate) struct Group {
-    /// What stands behind its begin.
-    pub inside: Toks,
-    /// How many further groups are open in it.
-    pub depth: usize,
-}
-
-/// A delimited argument that is being taken.
-#[derive(Clone, Debug, Drop)]
-pub(crate) struct Delimited {
-    /// What was met.
-    pub met: Toks,
-    /// How many of its last tokens agree with the first ones of the delimiter.
-    pub agreed: usize,
-    /// How many groups are open.
-    pub depth: usize,
-    /// The table of the delimiter.
+/// What the use of a macro has gathered.
+#[derive(Drop)]
+pub(crate) struct Gathered {
+    /// The tokens taken.
+    pub taken: Toks,
+    /// How many of them stand before the argument that is being taken.
+    pub from: usize,
+    /// The arguments that are whole.
+    pub arguments: Lists,
+    /// The table of the delimiter of the argument that is being taken.
     pub borders: Table,
 }
 
+impl Gathered {
+    /// Nothing; takes no memory.
+    pub(crate) fn new(alloc: Global) -> Gathered
+        ensures { result ≡ record { taken = []; from = 0; arguments = []; borders = [] } }
+    {
+        Gathered {
+            taken: Toks::new(alloc),
+            from: 0,
+            arguments: Lists::new(alloc),
+            borders: Table::new(alloc),
+        }
+    }
+}
+
+/// A clone has gathered the same. Its only error is want of memory.
+impl Clone for Gathered {
+    ghost is_clone = { λ source copy. copy ≡ source };
+
+    fn clone(&self) -> Result<Self, AllocError> {
+        Ok(Gathered {
+            taken: self.taken.share()?,
+            from: self.from,
+            arguments: self.arguments.share()?,
+            borders: self.borders.share()?,
+        })
+    }
+}
+
 /// What a token makes of an argument.
-#[derive(Debug, Drop)]
-pub(crate) enum Step {
+#[derive(Clone, Copy, PartialEq, Eq)]
+pub(crate) enum Move {
     /// It goes on so.
-    On(Part),
-    /// This argument is taken.
-    Argument(Toks),
-    /// The error of this number.
-    Broken(u8),
+    On(Kind),
+    /// The token begins the group that the argument is.
+    Opens,
+    /// The token is the argument.
+    Single,
+    /// The argument is what was met.
+    Closes,
+    /// The argument is what was met but for the last tokens, so many, which are of the delimiter.
+    Delimits { agreed: usize },
+    /// This error comes.
+    Broken(TexError),
 }
 
 /// What a token makes of a use.
-#[derive(Debug, Drop)]
-pub(crate) enum Next {
-    /// It goes on so.
-    On(Stage),
+#[derive(Drop)]
+pub(crate) enum Advance {
+    /// It waits for this.
+    On(Awaited),
     /// It is whole, with these arguments.
     Fits(Lists),
-    /// The error of this number.
-    Fails(u8),
+    /// This error comes.
+    Fails(TexError),
 }

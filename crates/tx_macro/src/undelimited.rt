@@ -1,55 +1,49 @@
 //! Undelimited arguments.
-ghost use Rattle.std.specs.Prelude.{◌≡◌, ◌<◌, ◌-◌, ◌^◌, ◌∷◌, [], List, IfOk};
+ghost use Rattle.std.specs.Prelude.{◌≡◌, ◌<◌, ◌-◌, ◌^◌, ◌∷◌, ◌++◌, [], List, ℕ, IfOk};
 ghost use Rattle.tx_char.specs.declared.tokens.Token.{Token};
 ghost use Rattle.tx_macro.specs.Arguments.{group, level, undelimited};
 ghost use Rattle.tx_macro.specs.Rests.{IsStep, step_rest};
+ghost use Rattle.tx_macro.specs.Stages.{step_of};
 
-use crate::stage::{Group, Part, Step};
+use crate::stage::{Kind, Move};
 use crate::tokens::{begins_group, ends_group, is_paragraph, is_space_token};
-use std::alloc::{AllocError, Global};
+use std::alloc::AllocError;
 use tx_char::Token;
-use tx_toklist::Toks;
+use tx_seen::TexError;
 
-/// Takes the first token of an undelimited argument, or a space before it. Its only error is want of memory.
-pub(crate) fn begin(alloc: Global, long: bool, token: Token) -> Result<Step, AllocError>
-    ensures rest { IfOk result (λ step. (more : List Token) → undelimited long (token ∷ more) ≡ step_rest long [] step more) }
-    ensures part { IfOk result (IsStep []) }
+/// Takes the first token of an undelimited argument, or a space before it.
+pub(crate) fn begin(long: bool, token: &Token) -> Move
+    ensures rest { (borders : List ℕ) (met more : List Token) → undelimited long (token.now ∷ more) ≡ step_rest long [] (step_of borders result met token.now) more }
+    ensures part { (borders : List ℕ) (met : List Token) → IsStep [] (step_of borders result met token.now) }
 {
-    if is_space_token(&token) {
-        return Ok(Step::On(Part::Undelimited));
+    if is_space_token(token) {
+        return Move::On(Kind::Undelimited);
     }
-    if begins_group(&token) {
-        return Ok(Step::On(Part::Group(Group {
-            inside: Toks::new(alloc),
-            depth: 0,
-        })));
+    if begins_group(token) {
+        return Move::Opens;
     }
-    if ends_group(&token) {
-        return Ok(Step::Broken(14));
+    if ends_group(token) {
+        return Move::Broken(TexError::GroupEndInArgument);
     }
-    if is_paragraph(&token) && !long {
-        return Ok(Step::Broken(13));
+    if is_paragraph(token) && !long {
+        return Move::Broken(TexError::ParagraphInArgument);
     }
-    let mut argument = Toks::new(alloc);
-    argument.push(token)?;
-    Ok(Step::Argument(argument))
+    Move::Single
 }
 
-/// Takes a token of a group. Its only error is want of memory.
-pub(crate) fn go_on(taken: Group, long: bool, token: Token) -> Result<Step, AllocError>
-    ensures rest { IfOk result (λ step. (more : List Token) → group long taken.depth taken.inside (token ∷ more) ≡ step_rest long [] step more) }
-    ensures part { IfOk result (IsStep []) }
+/// Takes a token of a group in which so many further groups are open. Its only error is that no more can be counted.
+pub(crate) fn go_on(depth: usize, long: bool, token: &Token) -> Result<Move, AllocError>
+    ensures rest { IfOk result (λ step. (borders : List ℕ) (met more : List Token) → group long depth met (token.now ∷ more) ≡ step_rest long [] (step_of borders step met token.now) more) }
+    ensures part { IfOk result (λ step. (borders : List ℕ) (met : List Token) → IsStep [] (step_of borders step met token.now)) }
 {
-    let Group { mut inside, depth } = taken;
-    if is_paragraph(&token) && !long {
-        return Ok(Step::Broken(13));
+    if is_paragraph(token) && !long {
+        return Ok(Move::Broken(TexError::ParagraphInArgument));
     }
-    if ends_group(&token) && depth == 0 {
-        return Ok(Step::Argument(inside));
+    if ends_group(token) && depth == 0 {
+        return Ok(Move::Closes);
     }
-    let depth = level_behind(depth, &token)?;
-    inside.push(token)?;
-    Ok(Step::On(Part::Group(Group { inside, depth })))
+    let depth = level_behind(depth, token)?;
+    Ok(Move::On(Kind::Group { depth }))
 }
 
 /// How many groups are open behind a token, by how many are before it. Its only error is that no more can be counted.

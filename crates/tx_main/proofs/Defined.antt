@@ -1,7 +1,7 @@
 -- What a command defines is what its stage does.
 use Rattle.std.proofs.Common.{◌≡◌, Bool, None, Option, List, [], ◌∷◌, ◌++◌, refl, ap, sym, ◌∙◌}
-use Rattle.tx_char.specs.declared.tokens.Token.{Token}
-use Rattle.tx_assign.specs.declared.seen.Seen.{Seen}
+use Rattle.tx_seen.specs.declared.place.Place.{Place}
+use Rattle.tx_seen.specs.declared.seen.Seen.{Seen}
 use Rattle.tx_assign.specs.declared.stage.AssignScan.{AssignScan}
 use Rattle.tx_assign.specs.Rests.{assign_rest}
 use Rattle.tx_assign.specs.Scans.{More, Done, more, next}
@@ -17,12 +17,12 @@ append-none : {A : Type 0} (xs : List A) → xs ++ [] ≡ xs
 append-none [] = refl
 append-none (x ∷ xs) = ap (λ ys. x ∷ ys) (append-none xs)
 
-stage-defined : (horizontal : Bool) (taken : List Seen) (s : Stage) (name : Option Token) → ((more : List Seen) → command horizontal (taken ++ more) ≡ command_rest horizontal s more) → name_defined (command_rest horizontal s []) ≡ name → name ≡ name_defined (command horizontal taken)
+stage-defined : (horizontal : Bool) (taken : List Seen) (s : Stage) (name : Option Place) → ((more : List Seen) → command horizontal (taken ++ more) ≡ command_rest horizontal s more) → name_defined (command_rest horizontal s []) ≡ name → name ≡ name_defined (command horizontal taken)
 stage-defined horizontal taken s name so_far is =
     sym (ap (λ ts. name_defined (command horizontal ts)) (sym (append-none taken)) ∙ (ap name_defined (so_far []) ∙ is))
 
 -- an assignment defines what its own scan says
-pub assign-defined : (horizontal : Bool) (taken : List Seen) (s : Stage) (scan : AssignScan) (name : Option Token) → ((more : List Seen) → command horizontal (taken ++ more) ≡ command_rest horizontal s more) → s ≡ stage.Assign scan → assign_rest scan [] ≡ More name → name ≡ name_defined (command horizontal taken)
+pub assign-defined : (horizontal : Bool) (taken : List Seen) (s : Stage) (scan : AssignScan) (name : Option Place) → ((more : List Seen) → command horizontal (taken ++ more) ≡ command_rest horizontal s more) → s ≡ stage.Assign scan → assign_rest scan [] ≡ More name → name ≡ name_defined (command horizontal taken)
 assign-defined horizontal taken s scan name so_far is rest =
     let own : name_defined (command_rest horizontal (stage.Assign scan) []) ≡ name = ap (λ a. name_defined (next a (λ x behind. Done (Assign x) behind))) rest in
     stage-defined horizontal taken s name so_far (rw is own)

@@ -4,9 +4,9 @@ use Rattle.std.specs.Prelude.{nat_le}
 use Rattle.tx_num.specs.declared.units.PhysicalUnit.{PhysicalUnit}
 use Rattle.tx_num.specs.declared.units.PhysicalUnit.TheVariants.{Point, ScaledPoint}
 use Rattle.tx_char.specs.declared.tokens.Token.{Token}
-use Rattle.tx_assign.specs.declared.seen.Seen.{Seen}
-use Rattle.tx_char.specs.declared.tokens.Token.TheVariants.{Character, Name}
-use Rattle.tx_assign.specs.Seen.{digit_value, is_undefined, is_space, is_other, is_point, is_key}
+use Rattle.tx_seen.specs.declared.seen.Seen.{Seen}
+use Rattle.tx_char.specs.declared.tokens.Token.TheVariants.{Character, Name, FrozenRelax}
+use Rattle.tx_seen.specs.Seen.{digit_value, is_undefined, is_space, is_other, is_point, is_key}
 use Rattle.tx_num.specs.Units.{size_of}
 use Rattle.tx_num.specs.Decimals.{fraction_of}
 use Rattle.tx_assign.specs.Rests.{unit_rest, factor_rest}
@@ -60,6 +60,7 @@ leaves-named (Character code category) rest = let h : length rest ≤ length res
 leaves-named (Name []) rest = tt
 leaves-named (Name (code ∷ [])) rest = let h : length rest ≤ length rest = omega arith in h
 leaves-named (Name (code ∷ c ∷ more)) rest = tt
+leaves-named FrozenRelax rest = tt
 
 leaves-code : (tokens : List Seen) → Leaves (length tokens) (character_code tokens)
 leaves-code [] = tt

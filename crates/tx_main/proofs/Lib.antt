@@ -2,7 +2,6 @@ pub mod Leaves
 pub mod Prefixes
 pub mod SideNames
 pub mod Sides
-pub mod Reversed
 pub mod Defined
 pub mod Ships
 mod Worked

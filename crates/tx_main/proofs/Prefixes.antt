@@ -1,16 +1,14 @@
 -- What a scan was fed so far is only a part of what it reads.
 use Rattle.std.proofs.Common.{◌≡◌, Bool, List, [], ◌∷◌, ◌++◌, Option, length, refl, ap, sym, ◌∙◌}
 use Rattle.std.proofs.Math.Seq.{drop-cons}
-use Rattle.tx_char.specs.declared.tokens.Token.{Token}
 use Rattle.tx_node.specs.declared.rule.Rule.{Rule}
-use Rattle.tx_assign.specs.declared.error.TexError.{TexError}
-use Rattle.tx_assign.specs.declared.scans.Fed.{Fed}
-use Rattle.tx_assign.specs.declared.scans.Fed.TheVariants as fed
+use Rattle.tx_seen.specs.declared.error.TexError.{TexError}
 use Rattle.tx_assign.specs.declared.scans.IntPart.{IntPart}
 use Rattle.tx_assign.specs.declared.scans.IntPart.TheVariants as int
 use Rattle.tx_assign.specs.declared.scans.DimenPart.{DimenPart}
 use Rattle.tx_assign.specs.declared.scans.DimenPart.TheVariants as dimen
-use Rattle.tx_assign.specs.declared.seen.Seen.{Seen}
+use Rattle.tx_seen.specs.declared.place.Place.{Place}
+use Rattle.tx_seen.specs.declared.seen.Seen.{Seen}
 use Rattle.tx_assign.specs.declared.stage.AssignScan.{AssignScan}
 use Rattle.tx_assign.specs.declared.stage.AssignScan.TheVariants as assign
 use Rattle.tx_assign.specs.Assignments.{behind_number, defined_by, sized, valued}
@@ -20,6 +18,8 @@ use Rattle.tx_main.specs.declared.scans.SideScan.{SideScan}
 use Rattle.tx_main.specs.declared.scans.SideScan.TheVariants as side
 use Rattle.tx_main.specs.declared.scans.RulePart.{RulePart}
 use Rattle.tx_main.specs.declared.scans.RulePart.TheVariants as rule
+use Rattle.tx_main.specs.declared.scans.Taken.{Taken}
+use Rattle.tx_main.specs.declared.scans.Taken.TheVariants as told
 use Rattle.tx_main.specs.declared.scans.Stage.{Stage}
 use Rattle.tx_main.specs.declared.scans.Stage.TheVariants as stage
 use Rattle.tx_main.specs.declared.types.Command.{Command}
@@ -27,11 +27,11 @@ use Rattle.tx_main.specs.declared.types.Command.TheVariants.{Assign, Kern, Vrule
 use Rattle.tx_main.specs.Commands.{command}
 use Rattle.tx_main.specs.Keywords.{letters_of}
 use Rattle.tx_main.specs.Rules.{keyword, with_side, rule_sides, side_or_end}
-use Rattle.tx_main.specs.Rests.{IsCommand, side_rest, rule_part_rest, command_rest}
+use Rattle.tx_main.specs.Rests.{IsCommand, given_back, side_rest, rule_part_rest, command_rest}
 use Rattle.tx_main.specs.Taken.{name_defined}
 
 -- a part says itself what it defines
-more-again : {A : Type 0} (scan : Scan A) (name : Option Token) → scan ≡ More name → scan ≡ More (name_defined scan)
+more-again : {A : Type 0} (scan : Scan A) (name : Option Place) → scan ≡ More name → scan ≡ More (name_defined scan)
 more-again scan name is = is ∙ ap More (sym (ap name_defined is))
 
 int-more : (negative : Bool) (part : IntPart) → int_part_rest negative part [] ≡ more
@@ -108,7 +108,7 @@ append-one [] y more = refl
 append-one (x ∷ xs) y more = ap (λ zs. x ∷ zs) (append-one xs y more)
 
 -- what the last token gives
-pub taken-fits : (horizontal : Bool) (taken pushed : List Seen) (s : Stage) (t : Seen) (answer : Fed Stage Command (List Seen)) → pushed ≡ taken ++ t ∷ [] → ((more : List Seen) → command horizontal (taken ++ more) ≡ command_rest horizontal s more) → IsCommand horizontal (λ more. command_rest horizontal s (t ∷ more)) answer → IsCommand horizontal (λ more. command horizontal (pushed ++ more)) answer
-taken-fits horizontal taken pushed s t (fed.More new) p so_far fits = λ more. rw p (ap (λ ts. command horizontal ts) (append-one taken t more) ∙ (so_far (t ∷ more) ∙ fits more))
-taken-fits horizontal taken pushed s t (fed.Done value back) p so_far fits = λ more. rw p (ap (λ ts. command horizontal ts) (append-one taken t more) ∙ (so_far (t ∷ more) ∙ fits more))
-taken-fits horizontal taken pushed s t (fed.Wrong e) p so_far fits = λ more. rw p (ap (λ ts. command horizontal ts) (append-one taken t more) ∙ (so_far (t ∷ more) ∙ fits more))
+pub taken-fits : (horizontal : Bool) (taken : List Seen) (s new : Stage) (t : Seen) (answer : Taken) → ((more : List Seen) → command horizontal (taken ++ more) ≡ command_rest horizontal s more) → IsCommand horizontal (λ more. command_rest horizontal s (t ∷ more)) new answer → IsCommand horizontal (λ more. command horizontal ((taken ++ t ∷ []) ++ more)) new answer
+taken-fits horizontal taken s new t told.More so_far fits = λ more. ap (λ ts. command horizontal ts) (append-one taken t more) ∙ (so_far (t ∷ more) ∙ fits more)
+taken-fits horizontal taken s new t (told.Whole c back) so_far fits = λ more. ap (λ ts. command horizontal ts) (append-one taken t more) ∙ (so_far (t ∷ more) ∙ fits more)
+taken-fits horizontal taken s new t (told.Wrong e) so_far fits = λ more. ap (λ ts. command horizontal ts) (append-one taken t more) ∙ (so_far (t ∷ more) ∙ fits more)

@@ -2,11 +2,11 @@
 use Rattle.std.proofs.Common.{◌≡◌, ◌<◌, Bool, true, false, Some, List, ◌∷◌, [], ◌++◌, length, refl, ap, ◌∙◌}
 use Rattle.std.proofs.Math.Seq.{drop-cons}
 use Rattle.tx_char.specs.declared.tokens.Token.{Token}
-use Rattle.tx_assign.specs.declared.seen.Seen.{Seen}
-use Rattle.tx_assign.specs.declared.error.TexError.TheVariants.{Undefined}
+use Rattle.tx_seen.specs.declared.seen.Seen.{Seen}
+use Rattle.tx_seen.specs.declared.error.TexError.TheVariants.{Undefined}
 use Rattle.tx_main.specs.declared.types.Side.{Side}
 use Rattle.tx_main.specs.declared.types.Side.TheVariants.{Width, Height, Depth}
-use Rattle.tx_assign.specs.Seen.{is_undefined, is_space, is_key}
+use Rattle.tx_seen.specs.Seen.{is_undefined, is_space, is_key}
 use Rattle.tx_assign.specs.Scans.{Wrong}
 use Rattle.tx_main.specs.Keywords.{letters_of, begun_by}
 use Rattle.tx_main.specs.Rules.{keyword, side_named}

@@ -1,7 +1,7 @@
 -- A rule's sides and sizes, one after another: the steps that the definition allows are never too few.
 use Rattle.std.proofs.Common.{◌≡◌, ℕ, zero, suc, ◌<◌, ◌≤◌, Bool, true, false, cond, ℤ, Option, Some, None, List, [], ◌∷◌, ◌++◌, length, option_to_list, refl, ap, sym, ◌∙◌, arith}
 use Rattle.tx_char.specs.declared.tokens.Token.{Token}
-use Rattle.tx_assign.specs.declared.seen.Seen.{Seen}
+use Rattle.tx_seen.specs.declared.seen.Seen.{Seen}
 use Rattle.tx_node.specs.declared.rule.Rule.{Rule}
 use Rattle.tx_main.specs.declared.types.Side.{Side}
 use Rattle.tx_main.specs.declared.types.Side.TheVariants.{Width, Height, Depth}
@@ -9,7 +9,7 @@ use Rattle.tx_assign.specs.declared.scans.Fed.{Fed}
 use Rattle.tx_assign.specs.declared.scans.Fed.TheVariants as fed
 use Rattle.tx_assign.specs.declared.scans.DimenScan.{DimenScan}
 use Rattle.tx_assign.specs.Rests.{IsFed, dimen_rest}
-use Rattle.tx_assign.specs.Seen.{is_undefined, is_space, is_key}
+use Rattle.tx_seen.specs.Seen.{is_undefined, is_space, is_key}
 use Rattle.tx_assign.specs.Scans.{Scan, More, Done, Wrong, next}
 use Rattle.tx_assign.specs.Dimensions.{dimension}
 use Rattle.tx_main.specs.Rules.{keyword, side_named, side_or_end, sides_by, with_side, rule_sides}

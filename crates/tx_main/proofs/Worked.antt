@@ -4,11 +4,11 @@ use Rattle.tx_char.specs.declared.tokens.Token.TheVariants as token
 use Rattle.tx_char.specs.Category.{initial_category}
 use Rattle.tx_prim.specs.declared.primitive.Primitive.{Primitive}
 use Rattle.tx_prim.specs.declared.primitive.Primitive.TheVariants as primitive
-use Rattle.tx_eqtb.specs.declared.meaning.Meaning.TheVariants as meaning
-use Rattle.tx_eqtb.specs.declared.place.Place.TheVariants.{Count, Dimen, Name}
+use Rattle.tx_seen.specs.declared.meaning.Meaning.TheVariants as meaning
+use Rattle.tx_seen.specs.declared.place.Place.TheVariants.{Count, Dimen, Name}
 use Rattle.tx_eqtb.specs.declared.entry.Entry.TheVariants.{Number, Means}
-use Rattle.tx_assign.specs.declared.error.TexError.TheVariants.{NumberOutOfRange, NoAssignment, NotAllowed}
-use Rattle.tx_assign.specs.declared.seen.Seen.{Seen}
+use Rattle.tx_seen.specs.declared.error.TexError.TheVariants.{NumberOutOfRange, NoAssignment, NotAllowed}
+use Rattle.tx_seen.specs.declared.seen.Seen.{Seen}
 use Rattle.tx_assign.specs.declared.types.Change.TheVariants.{Set, Compute}
 use Rattle.tx_assign.specs.declared.types.Operation.TheVariants.{Advance}
 use Rattle.tx_assign.specs.Beginnings.{primitive_beginning}
@@ -43,7 +43,7 @@ unfolding primitive_beginning
 a_dimension = refl
 
 -- while its number is read, a name that is defined means \relax
-a_name_that_is_defined : command false (named (codes "chardef") primitive.Chardef ∷ named (codes "a") primitive.Relax ∷ plain (codes "=6")) ≡ More (Some (token.Name (codes "a")))
+a_name_that_is_defined : command false (named (codes "chardef") primitive.Chardef ∷ named (codes "a") primitive.Relax ∷ plain (codes "=6")) ≡ More (Some (Name (codes "a")))
 unfolding primitive_beginning
 a_name_that_is_defined = refl
 

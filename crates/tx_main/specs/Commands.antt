@@ -4,11 +4,11 @@ use Rattle.tx_char.specs.declared.category.Cat.{Cat}
 use Rattle.tx_char.specs.declared.category.Cat.TheVariants.{BeginGroup as Cat_begin, EndGroup as Cat_end, AlignmentTab, Space as Cat_space, Letter, Other}
 use Rattle.tx_prim.specs.declared.primitive.Primitive.{Primitive}
 use Rattle.tx_prim.specs.declared.primitive.Primitive.TheVariants as primitive
-use Rattle.tx_eqtb.specs.declared.meaning.Meaning.{Meaning}
-use Rattle.tx_eqtb.specs.declared.meaning.Meaning.TheVariants as meaning
-use Rattle.tx_assign.specs.declared.error.TexError.TheVariants.{Undefined, MissingBeginGroup, NotAllowed, MisplacedAlignment, MissingBox}
-use Rattle.tx_assign.specs.declared.seen.Seen.{Seen}
-use Rattle.tx_assign.specs.Seen.{is_space, is_relax, is_begin_group}
+use Rattle.tx_seen.specs.declared.meaning.Meaning.{Meaning}
+use Rattle.tx_seen.specs.declared.meaning.Meaning.TheVariants as meaning
+use Rattle.tx_seen.specs.declared.error.TexError.TheVariants.{Undefined, MissingBeginGroup, NotAllowed, MisplacedAlignment, MissingBox}
+use Rattle.tx_seen.specs.declared.seen.Seen.{Seen}
+use Rattle.tx_seen.specs.Seen.{is_space, is_relax, is_begin_group}
 use Rattle.tx_assign.specs.Scans.{Scan, Done, Wrong, more, next, expanded}
 use Rattle.tx_assign.specs.Assignments.{assignment}
 use Rattle.tx_assign.specs.Dimensions.{dimension}

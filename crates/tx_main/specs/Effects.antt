@@ -8,8 +8,8 @@ use Rattle.tx_eqtb.specs.declared.eqtb.Eqtb.{Eqtb}
 use Rattle.tx_eqtb.specs.declared.groups.GroupKind.{GroupKind}
 use Rattle.tx_eqtb.specs.declared.groups.GroupKind.TheVariants as kind
 use Rattle.tx_eqtb.specs.Stack.{opened, closed, kind_of}
-use Rattle.tx_assign.specs.declared.error.TexError.{TexError}
-use Rattle.tx_assign.specs.declared.error.TexError.TheVariants.{SizeOutOfRange, TooDeep, ExtraGroupEnd, TooManyGroups}
+use Rattle.tx_seen.specs.declared.error.TexError.{TexError}
+use Rattle.tx_seen.specs.declared.error.TexError.TheVariants.{SizeOutOfRange, TooDeep, ExtraGroupEnd, TooManyGroups}
 use Rattle.tx_assign.specs.Changes.{carried_out}
 use Rattle.tx_main.specs.declared.types.BoxContext.{BoxContext}
 use Rattle.tx_main.specs.declared.types.BoxContext.TheVariants.{Append, Ship as Ship_context}
@@ -18,23 +18,14 @@ use Rattle.tx_main.specs.declared.types.Command.TheVariants.{Nothing, Space, Cha
 use Rattle.tx_main.specs.declared.parts.Due.TheVariants.{Ship}
 use Rattle.tx_main.specs.declared.parts.OpenBox.{OpenBox}
 use Rattle.tx_main.specs.State.{TexState}
-
--- what a command does: it leaves a state and adds to the transcript, or stops the run by an error or as \end does
-pub data Effect : Type 0 where
-  Leaves : TexState → List ℕ → Effect
-  Fails : TexError → Effect
-  Ends : Effect
-
--- nothing is said
-abbrev pub leaves : TexState → Effect
-leaves s = Leaves s []
+use Rattle.tx_main.specs.Outcomes.{Outcome, Leaves, Fails, Ends, leaves}
 
 -- one more node in a horizontal list
-abbrev pub adding : TexState → Item → Effect
+abbrev pub adding : TexState → Item → Outcome
 adding s item = leaves (record s { list = s.list ++ item ∷ [] })
 
 -- a space is nothing in a vertical list
-abbrev pub spacing : Bool → TexState → Effect
+abbrev pub spacing : Bool → TexState → Outcome
 spacing true s = adding s space
 spacing false s = leaves s
 
@@ -43,7 +34,7 @@ unfoldable pub missing : ℕ → List ℕ
 missing code = codes "missing character " ++ (decimal code ++ (codes " in nullfont" ++ 10 ∷ []))
 
 -- a group, if fewer than 255 are open
-abbrev pub opening : TexState → GroupKind → TexState → Effect
+abbrev pub opening : TexState → GroupKind → TexState → Outcome
 opening s kind inside =
     if nat_lt (length s.table.groups) 255 then leaves (record inside { table = opened s.table kind }) else Fails TooManyGroups
 
@@ -58,7 +49,7 @@ using_box Append box s = record s { list = s.list ++ box_item box ∷ [] }
 using_box Ship_context box s = record s { due = Ship box }
 
 -- what becomes of a list that was packed, in the list around it
-abbrev pub boxing : BoxContext → TexState → Result HBox PackError → Effect
+abbrev pub boxing : BoxContext → TexState → Result HBox PackError → Outcome
 boxing context s (Err e) = Fails (pack_error e)
 boxing context s (Ok box) = leaves (using_box context box s)
 
@@ -67,7 +58,7 @@ abbrev pub closing : TexState → TexState
 closing s = record s { table = closed s.table }
 
 -- of a box's list the box is made, in the list around it
-abbrev pub closing_box : TexState → Option OpenBox → Effect
+abbrev pub closing_box : TexState → Option OpenBox → Outcome
 closing_box s None = Fails ExtraGroupEnd
 closing_box s (Some outer) =
     boxing outer.context (record s { boxes = take (length s.boxes - 1) s.boxes; list = outer.list; horizontal = outer.horizontal }) (natural s.list)
@@ -76,21 +67,21 @@ abbrev pub innermost : List OpenBox → Option OpenBox
 innermost boxes = slice_get boxes (length boxes - 1)
 
 -- what an end-group token does, by the kind of the innermost group
-abbrev pub ending : TexState → Option GroupKind → Effect
+abbrev pub ending : TexState → Option GroupKind → Outcome
 ending s None = Fails ExtraGroupEnd
 ending s (Some kind.SemiSimple) = Fails ExtraGroupEnd
 ending s (Some kind.Simple) = leaves (closing s)
 ending s (Some kind.HorizontalBox) = closing_box (closing s) (innermost s.boxes)
 
 -- what \endgroup does
-abbrev pub ending_semi_simple : TexState → Option GroupKind → Effect
+abbrev pub ending_semi_simple : TexState → Option GroupKind → Outcome
 ending_semi_simple s None = Fails ExtraGroupEnd
 ending_semi_simple s (Some kind.SemiSimple) = leaves (closing s)
 ending_semi_simple s (Some kind.Simple) = Fails ExtraGroupEnd
 ending_semi_simple s (Some kind.HorizontalBox) = Fails ExtraGroupEnd
 
 -- an assignment changes the table, if it can be carried out
-abbrev pub assigning : TexState → Result Eqtb TexError → Effect
+abbrev pub assigning : TexState → Result Eqtb TexError → Outcome
 assigning s (Err e) = Fails e
 assigning s (Ok table) = leaves (record s { table = table })
 
@@ -103,7 +94,7 @@ abbrev pub in_box : BoxContext → TexState → TexState
 in_box context s = record s { boxes = s.boxes ++ begun_box context s ∷ []; list = []; horizontal = true }
 
 -- the effect of each command
-abbrev pub effect : TexState → Command → Effect
+abbrev pub effect : TexState → Command → Outcome
 effect s Nothing = leaves s
 effect s Space = spacing s.horizontal s
 effect s (Character code) = Leaves s (missing code)

@@ -1,9 +1,9 @@
 -- The names of a rule's sides (The TeXbook, chapter 21).
 use Rattle.std.specs.Prelude.{ℕ, List, codes, Option, Some, None, if◌then◌else◌}
-use Rattle.tx_assign.specs.declared.seen.Seen.{Seen}
+use Rattle.tx_seen.specs.declared.seen.Seen.{Seen}
 use Rattle.tx_main.specs.declared.types.Side.{Side}
 use Rattle.tx_main.specs.declared.types.Side.TheVariants.{Width, Height, Depth}
-use Rattle.tx_assign.specs.Seen.{is_key}
+use Rattle.tx_seen.specs.Seen.{is_key}
 
 -- by small letters
 abbrev pub letters_of : Side → List ℕ

@@ -1,79 +1,25 @@
 -- TeX keeps the laws of every machine.
-use Rattle.std.specs.Prelude.{◌≡◌, ◌≤◌, ℤ, Bool, true, false, cond, ◌&&◌, List, [], ◌∷◌, ◌++◌, map, Result, Ok, Err, refl}
+use Rattle.std.specs.Prelude.{◌≡◌, ◌≤◌, refl}
 use Rattle.std.proofs.Common.{arith}
-use Rattle.tx_char.specs.declared.tokens.Token.{Token}
-use Rattle.tx_assign.specs.declared.seen.Seen.{Seen}
-use Rattle.tx_dvi.specs.Page.{Page}
-use Rattle.tx_lex.specs.Reading.{Reading, Read, Nothing as Nothing_read, Refused, reading}
 use Rattle.tx_machine.specs.declared.types.AskKind.{AskKind}
 use Rattle.tx_machine.specs.declared.types.Reply.{Reply}
 use Rattle.tx_machine.specs.Machine.{Stepped, IsLawful, Ready, Awaits, mode_after}
 use Rattle.tx_main.specs.declared.parts.Due.{Due}
 use Rattle.tx_main.specs.declared.parts.Due.TheVariants.{Nothing, OpenMain, MainAbsent, FileEnded, MainClosed, Ship}
-use Rattle.tx_main.specs.declared.types.Command.{Command}
-use Rattle.tx_ship.specs.declared.error.ShipError.{ShipError}
-use Rattle.tx_prim.specs.declared.integer.IntegerParameter.TheVariants.{Mag}
-use Rattle.tx_assign.specs.Seen.{seen}
-use Rattle.tx_main.specs.Pages.{integer, page_of, may_be}
-use Rattle.tx_main.specs.Taken.{name_defined}
-use Rattle.tx_main.specs.Commands.{command}
-use Rattle.tx_main.specs.Effects.{Effect, Leaves, Fails, Ends, effect}
-use Rattle.tx_assign.specs.Scans.{Scan, More, Done, Wrong}
-use Rattle.tx_main.specs.State.{TexState, Meaning, Runs, Waits, Stops, mode_of}
-use Rattle.tx_main.specs.Turns.{tex, cost, due_cost, step, works, reads, line_read, joining, taking, scanned, effected, ships_with, ships, takes}
+use Rattle.tx_main.specs.Outcomes.{Outcome, Leaves, Asks, Ships, Fails, Ends, stepped}
+use Rattle.tx_main.specs.State.{Meaning, Runs, Waits, Stops, mode_of}
+use Rattle.tx_main.specs.Turns.{tex, cost, due_cost, outcome, takes}
 
 -- the mode after a turn is that of its event
 abbrev Leads : Stepped Meaning → Type 0
 Leads t = mode_of t.next ≡ mode_after t.event
 
-effect-leads : (e : Effect) → Leads (effected e)
-effect-leads (Leaves s said) = refl
-effect-leads (Fails error) = refl
-effect-leads Ends = refl
-
-scan-leads : (s : TexState) (tokens : List Seen) (scan : Scan Command) → Leads (scanned s tokens scan)
-scan-leads s tokens (More name) = refl
-scan-leads s tokens (Wrong error) = refl
-scan-leads s tokens (Done c behind) = effect-leads (effect (record s { taken = []; back = map (λ t. t.token) behind ++ s.back }) c)
-
-joining-leads : (s : TexState) (t : Seen) → Leads (joining s t)
-joining-leads s t = scan-leads s (s.taken ++ t ∷ []) (command s.horizontal (s.taken ++ t ∷ []))
-
-taking-leads : (s : TexState) (t : Token) → Leads (taking s t)
-taking-leads s t = joining-leads s (seen s.table.table (name_defined (command s.horizontal s.taken)) t)
-
-line-leads : (s : TexState) (r : Reading) → Leads (line_read s r)
-line-leads s (Read t rest state) = taking-leads (record s { line = record { rest = rest; state = state } }) t
-line-leads s Nothing_read = refl
-line-leads s Refused = refl
-
-reads-leads : (s : TexState) (back : List Token) → Leads (reads s back)
-reads-leads s [] = line-leads s (reading s.table.table.categories s.line.state s.line.rest)
-reads-leads s (t ∷ back) = taking-leads (record s { back = back }) t
-
-page-leads : (s : TexState) (mag : ℤ) (page : Result Page ShipError) → Leads (ships_with s mag page)
-page-leads s mag (Err e) = refl
-page-leads s mag (Ok page) = refl
-
-if-leads : (b : Bool) (x y : Stepped Meaning) → Leads x → Leads y → Leads (cond b x y)
-if-leads true x y p q = p
-if-leads false x y p q = q
-
-ships-leads : (s : TexState) (mag : ℤ) (page : Result Page ShipError) → Leads (ships s mag page)
-ships-leads s mag page = if-leads (may_be s.magnification mag) _ _ (page-leads s mag page) refl
-
-works-leads : (s : TexState) (due : Due) → Leads (works s due)
-works-leads s Nothing = reads-leads s s.back
-works-leads s (OpenMain name) = refl
-works-leads s MainAbsent = refl
-works-leads s FileEnded = refl
-works-leads s MainClosed = refl
-works-leads s (Ship box) = ships-leads (record s { due = Nothing }) (integer s.table.table Mag) (page_of s.table.table box)
-
-step-leads : (m : Meaning) → Leads (step m)
-step-leads (Runs s) = works-leads s s.due
-step-leads (Waits kind s) = refl
-step-leads Stops = refl
+stepped-leads : (o : Outcome) → Leads (stepped o)
+stepped-leads (Leaves s said) = refl
+stepped-leads (Asks ask s) = refl
+stepped-leads (Ships page s) = refl
+stepped-leads (Fails error) = refl
+stepped-leads Ends = refl
 
 due-costs : (due : Due) → 1 ≤ due_cost due
 due-costs Nothing = omega arith
@@ -98,6 +44,6 @@ unfolding tex
 tex-lawful = record {
   begins = λ date name. refl;
   costs = turn-costs;
-  turns = λ m ready. step-leads m;
+  turns = λ m ready. stepped-leads (outcome m);
   takes = λ m kind reply waits fit. reply-leads m kind reply waits;
 }

@@ -5,8 +5,8 @@ pub mod Rests
 pub mod Begun
 pub mod Taken
 pub mod Pages
-pub mod Lines
 pub mod State
+pub mod Outcomes
 pub mod Effects
 pub mod Turns
 pub mod Meanings

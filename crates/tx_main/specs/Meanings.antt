@@ -1,27 +1,15 @@
 -- What the code's state means.
 use Rattle.std.specs.Prelude.{◌≡◌, ℕ, List, ◌++◌}
-use Rattle.tx_char.specs.declared.category.Cat.{Cat}
-use Rattle.tx_lex.specs.Reading.{Read, Nothing as Nothing_read, Refused, reading}
 use Rattle.tx_machine.specs.declared.types.Event.{Event}
-use Rattle.tx_machine.specs.Machine.{Stepped}
-use Rattle.tx_main.specs.declared.line.LineToken.{LineToken}
-use Rattle.tx_main.specs.declared.line.LineToken.TheVariants as next
 use Rattle.tx_main.specs.declared.state.State.{State}
-use Rattle.tx_main.specs.Lines.{Line}
+use Rattle.tx_main.specs.Outcomes.{Outcome, stepped}
 use Rattle.tx_main.specs.State.{TexState, Meaning, meaning_in}
-
--- what a line gave next, and the line behind it
-abbrev pub IsNext : List Cat → Line → LineToken → Line → Type 0
-IsNext codes old (next.Token t) new = reading codes old.state old.rest ≡ Read t new.rest new.state
-IsNext codes old next.UsedUp new = (reading codes old.state old.rest ≡ Nothing_read) × (new ≡ old)
-IsNext codes old next.Invalid new = reading codes old.state old.rest ≡ Refused
 
 -- the parts of the state as they stand in the code
 abbrev pub state_of : State → TexState
 state_of s = record {
   due = s.due;
-  line = s.line;
-  back = s.back;
+  input = s.input;
   taken = s.scan.taken;
   horizontal = s.scan.horizontal;
   list = s.list;
@@ -33,8 +21,8 @@ state_of s = record {
 abbrev pub meaning_of : State → Meaning
 meaning_of s = meaning_in s.phase (state_of s)
 
--- an event, the state after it and the transcript that waits are those of this turn
-pub record IsStepped (t : Stepped Meaning) (event : Event) (state : Meaning) (before after : List ℕ) : Type 0 where
-  pub event_is : event ≡ t.event
-  pub state_is : state ≡ t.next
-  pub said_is : after ≡ before ++ t.said
+-- an event and the state after it are what comes of a turn, and so is what the transcript that waits has got
+pub record IsStepped (outcome : Outcome) (before : State) (event : Event) (after : State) : Type 0 where
+  pub event_is : event ≡ (stepped outcome).event
+  pub state_is : meaning_of after ≡ (stepped outcome).next
+  pub said_is : after.said ≡ before.said ++ (stepped outcome).said

@@ -8,9 +8,9 @@ use Rattle.tx_prim.specs.declared.integer.IntegerParameter.{IntegerParameter}
 use Rattle.tx_prim.specs.declared.integer.IntegerParameter.TheVariants.{Endlinechar, Mag, Year, Month, Day, Time}
 use Rattle.tx_prim.specs.declared.dimension.DimensionParameter.{DimensionParameter}
 use Rattle.tx_prim.specs.declared.dimension.DimensionParameter.TheVariants.{Hoffset, Voffset}
-use Rattle.tx_eqtb.specs.declared.place.Place.TheVariants.{Count, Integer, Dimension}
+use Rattle.tx_seen.specs.declared.place.Place.TheVariants.{Count, Integer, Dimension}
 use Rattle.tx_eqtb.specs.declared.table.Table.{Table}
-use Rattle.tx_assign.specs.Changes.{number_at}
+use Rattle.tx_eqtb.specs.Table.{number_at}
 use Rattle.tx_ship.specs.declared.error.ShipError.{ShipError}
 use Rattle.tx_ship.specs.declared.params.ShipParams.{ShipParams}
 use Rattle.tx_ship.specs.Pages as ship

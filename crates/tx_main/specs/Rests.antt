@@ -1,9 +1,8 @@
 -- What reading on gives, by what a scan still needs: a scan that is fed token by token means the rest of what it reads.
-use Rattle.std.specs.Prelude.{◌≡◌, Bool, List, ◌∷◌, ◌++◌, Option, Some, None, length, drop}
+use Rattle.std.specs.Prelude.{◌≡◌, Bool, List, [], ◌∷◌, ◌++◌, Option, Some, None, length, drop}
 use Rattle.tx_node.specs.declared.rule.Rule.{Rule}
-use Rattle.tx_assign.specs.declared.scans.Fed.{Fed}
-use Rattle.tx_assign.specs.declared.seen.Seen.{Seen}
-use Rattle.tx_assign.specs.Rests.{IsReading, assign_rest, dimen_rest}
+use Rattle.tx_seen.specs.declared.seen.Seen.{Seen}
+use Rattle.tx_assign.specs.Rests.{assign_rest, dimen_rest}
 use Rattle.tx_assign.specs.Scans.{Scan, Done, Wrong, next}
 use Rattle.tx_main.specs.declared.types.Command.{Command}
 use Rattle.tx_main.specs.declared.types.Command.TheVariants.{Assign, Kern, Vrule}
@@ -15,6 +14,10 @@ use Rattle.tx_main.specs.declared.scans.SideFed.TheVariants as side_fed
 use Rattle.tx_main.specs.declared.scans.RuleScan.{RuleScan}
 use Rattle.tx_main.specs.declared.scans.RulePart.{RulePart}
 use Rattle.tx_main.specs.declared.scans.RulePart.TheVariants as rule
+use Rattle.tx_main.specs.declared.scans.Back.{Back}
+use Rattle.tx_main.specs.declared.scans.Back.TheVariants as back
+use Rattle.tx_main.specs.declared.scans.Taken.{Taken}
+use Rattle.tx_main.specs.declared.scans.Taken.TheVariants as taken
 use Rattle.tx_main.specs.declared.scans.Stage.{Stage}
 use Rattle.tx_main.specs.declared.scans.Stage.TheVariants as stage
 use Rattle.tx_main.specs.Keywords.{letters_of}
@@ -54,6 +57,14 @@ command_rest horizontal (stage.Vrule scan) tokens = next (rule_rest scan tokens)
 command_rest horizontal stage.ShippedBox tokens = shipped_box tokens
 command_rest horizontal (stage.BoxBegin context) tokens = box_begin context tokens
 
--- an answer says what reading a command gives
-abbrev pub IsCommand : Bool → (List Seen → Scan Command) → Fed Stage Command (List Seen) → Type 0
-IsCommand horizontal reading answer = IsReading (command_rest horizontal) (λ tokens. tokens) reading answer
+-- the tokens that are given back
+abbrev pub given_back : Back → List Seen
+given_back back.Nothing = []
+given_back (back.One t) = t ∷ []
+given_back (back.Several tokens) = tokens
+
+-- an answer, and the stage behind it where the command goes on, say what reading a command gives, whatever tokens are behind
+abbrev pub IsCommand : Bool → (List Seen → Scan Command) → Stage → Taken → Type 0
+IsCommand horizontal reading new taken.More = (more : List Seen) → reading more ≡ command_rest horizontal new more
+IsCommand horizontal reading new (taken.Whole c back) = (more : List Seen) → reading more ≡ Done c (given_back back ++ more)
+IsCommand horizontal reading new (taken.Wrong e) = (more : List Seen) → reading more ≡ Wrong e

@@ -1,11 +1,11 @@
 -- The sizes of a rule (The TeXbook, chapter 21; TeX: The Program, section 463).
 use Rattle.std.specs.Prelude.{ℕ, zero, suc, ℤ, pos, List, [], ◌∷◌, length, Option, Some, None, if◌then◌else◌}
 use Rattle.tx_char.specs.declared.tokens.Token.{Token}
-use Rattle.tx_assign.specs.declared.seen.Seen.{Seen}
+use Rattle.tx_seen.specs.declared.seen.Seen.{Seen}
 use Rattle.tx_node.specs.declared.rule.Rule.{Rule}
 use Rattle.tx_main.specs.declared.types.Side.{Side}
 use Rattle.tx_main.specs.declared.types.Side.TheVariants.{Width, Height, Depth}
-use Rattle.tx_assign.specs.Seen.{is_space, is_key}
+use Rattle.tx_seen.specs.Seen.{is_space, is_key}
 use Rattle.tx_assign.specs.Scans.{Scan, more, Done, next, expanded}
 use Rattle.tx_assign.specs.Dimensions.{dimension}
 

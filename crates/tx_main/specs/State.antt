@@ -1,8 +1,6 @@
 -- What TeX's state means: plain data (TeX: The Program, parts 15, 19 and 22).
 use Rattle.std.specs.Prelude.{ℕ, ℤ, Bool, false, List, [], Option, None}
-use Rattle.tx_char.specs.declared.tokens.Token.{Token}
-use Rattle.tx_assign.specs.declared.seen.Seen.{Seen}
-use Rattle.tx_lex.specs.declared.types.ReadState.TheVariants.{N}
+use Rattle.tx_seen.specs.declared.seen.Seen.{Seen}
 use Rattle.tx_eqtb.specs.declared.eqtb.Eqtb.{Eqtb}
 use Rattle.tx_eqtb.specs.Initex.{initial_table}
 use Rattle.tx_machine.specs.declared.types.Date.{Date}
@@ -10,7 +8,7 @@ use Rattle.tx_machine.specs.declared.types.AskKind.{AskKind}
 use Rattle.tx_machine.specs.Machine.{Mode, Ready, Awaits, Halted as Mode_halted}
 use Rattle.tx_main.specs.Pages.{moment_of}
 use Rattle.tx_node.specs.Items.{Item}
-use Rattle.tx_main.specs.Lines.{Line}
+use Rattle.tx_pending.specs.Elements.{Input, no_input}
 use Rattle.tx_main.specs.declared.parts.Due.{Due}
 use Rattle.tx_main.specs.declared.parts.Due.TheVariants.{OpenMain}
 use Rattle.tx_main.specs.declared.parts.OpenBox.{OpenBox}
@@ -21,9 +19,8 @@ use Rattle.tx_main.specs.declared.parts.Phase.TheVariants.{Running, Waiting, Hal
 pub record TexState : Type 0 where
   -- the piece of work that comes first
   pub due : Due
-  -- the line, and the tokens that were given back and are read before it
-  pub line : Line
-  pub back : List Token
+  -- what is read before another line is asked for
+  pub input : Input
   -- the tokens that the open command has taken, with what they mean
   pub taken : List Seen
   -- whether the list that is being built is horizontal, and the list
@@ -52,12 +49,11 @@ mode_of (Runs s) = Ready
 mode_of (Waits kind s) = Awaits kind
 mode_of Stops = Mode_halted
 
--- the first state of a run: the main file is to be asked for, and there is no line yet
+-- the first state of a run: the main file is to be asked for, and nothing is to be read yet
 abbrev pub first_state : Date → List ℕ → TexState
 first_state date main = record {
   due = OpenMain main;
-  line = record { rest = []; state = N };
-  back = [];
+  input = no_input;
   taken = [];
   horizontal = false;
   list = [];

@@ -1,102 +1,87 @@
 -- One turn of TeX: due work, the ask for a line, or one token (TeX: The Program, sections 1030, 343 and 360).
-use Rattle.std.specs.Prelude.{ℕ, ℤ, ◌&&◌, List, [], ◌∷◌, ◌++◌, map, Some, Result, Ok, Err, if◌then◌else◌}
+use Rattle.std.specs.Prelude.{ℕ, ℤ, true, false, List, [], ◌∷◌, ◌++◌, map, Some, Result, Ok, Err, if◌then◌else◌}
 use Rattle.tx_char.specs.declared.tokens.Token.{Token}
-use Rattle.tx_assign.specs.declared.seen.Seen.{Seen}
+use Rattle.tx_seen.specs.declared.seen.Seen.{Seen}
 use Rattle.tx_dvi.specs.Page.{Page}
-use Rattle.tx_lex.specs.declared.types.ReadState.TheVariants.{N}
 use Rattle.tx_lex.specs.Line.{seen_line}
-use Rattle.tx_lex.specs.Reading.{Reading, Read, Nothing as Nothing_read, Refused, reading}
 use Rattle.tx_machine.specs.declared.types.AskKind.{AskKind}
 use Rattle.tx_machine.specs.declared.types.AskKind.TheVariants.{Open as Opening, Line as ReadingOn, Close as Closing}
 use Rattle.tx_machine.specs.declared.types.Ask.{Ask}
 use Rattle.tx_machine.specs.declared.types.Ask.TheVariants.{Open, Line, Close}
 use Rattle.tx_machine.specs.declared.types.Reply.{Reply}
 use Rattle.tx_machine.specs.declared.types.Reply.TheVariants.{Absent, Line as ReplyLine, Ended, Closed}
-use Rattle.tx_machine.specs.declared.types.Event.TheVariants.{Went, Asks, Shipped, Stopped}
-use Rattle.tx_machine.specs.declared.types.Stop.TheVariants.{End, Error}
-use Rattle.tx_machine.specs.Machine.{Formatter, Stepped, kind_of}
-use Rattle.tx_assign.specs.declared.error.TexError.{TexError}
-use Rattle.tx_assign.specs.declared.error.TexError.TheVariants.{InvalidCharacter, SizeOutOfRange, FileAbsent, BadMagnification, NoEnd}
+use Rattle.tx_machine.specs.Machine.{Formatter, Stepped}
+use Rattle.tx_seen.specs.declared.error.TexError.TheVariants.{InvalidCharacter, SizeOutOfRange, FileAbsent, BadMagnification, NoEnd}
 use Rattle.tx_main.specs.declared.parts.Due.{Due}
 use Rattle.tx_main.specs.declared.parts.Due.TheVariants.{Nothing, OpenMain, MainAbsent, FileEnded, MainClosed, Ship}
 use Rattle.tx_main.specs.declared.types.Command.{Command}
 use Rattle.tx_node.specs.Counts.{box_count, ended}
 use Rattle.tx_ship.specs.declared.error.ShipError.{ShipError}
+use Rattle.tx_pending.specs.declared.next.Next.{Next}
+use Rattle.tx_pending.specs.declared.next.Next.TheVariants.{Token as Next_token, Marker, Used, E1}
+use Rattle.tx_pending.specs.Elements.{Step, with_line, with_tokens, step as next_of}
 use Rattle.tx_prim.specs.declared.integer.IntegerParameter.TheVariants.{Mag}
-use Rattle.tx_assign.specs.Seen.{seen}
+use Rattle.tx_assign.specs.Sight.{seen}
 use Rattle.tx_main.specs.Pages.{integer, line_end, page_of, may_be}
 use Rattle.tx_main.specs.Taken.{name_defined}
 use Rattle.tx_main.specs.Commands.{command}
-use Rattle.tx_main.specs.Effects.{Effect, Leaves, Fails, Ends, effect}
-use Rattle.tx_assign.specs.Errors.{number_of}
+use Rattle.tx_main.specs.Effects.{effect}
 use Rattle.tx_assign.specs.Scans.{Scan, More, Done, Wrong}
+use Rattle.tx_main.specs.Outcomes.{Outcome, Asks, Ships, Fails, Ends, leaves, stepped}
 use Rattle.tx_main.specs.State.{TexState, Meaning, Runs, Waits, Stops, mode_of, first_state}
 
--- the turn goes on, with these bytes for the transcript
-abbrev pub goes : TexState → List ℕ → Stepped Meaning
-goes s said = record { event = Went; next = Runs s; said = said }
-
--- the turn ends with an ask
-abbrev pub asks : TexState → Ask → Stepped Meaning
-asks s ask = record { event = Asks ask; next = Waits (kind_of ask) s; said = [] }
-
--- the turn ends the run by an error
-abbrev pub fails : TexError → Stepped Meaning
-fails error = record { event = Stopped (Error (number_of error)); next = Stops; said = [] }
-
--- what comes of a command's effect
-abbrev pub effected : Effect → Stepped Meaning
-effected (Leaves s said) = goes s said
-effected (Fails error) = fails error
-effected Ends = record { event = Stopped End; next = Stops; said = [] }
-
 -- what comes of these tokens: the command goes on, or is wrong, or takes effect, and what it didn't need is read again
-abbrev pub scanned : TexState → List Seen → Scan Command → Stepped Meaning
-scanned s tokens (More name) = goes (record s { taken = tokens }) []
-scanned s tokens (Wrong error) = fails error
-scanned s tokens (Done c behind) = effected (effect (record s { taken = []; back = map (λ t. t.token) behind ++ s.back }) c)
+abbrev pub scanned : TexState → List Seen → Scan Command → Outcome
+scanned s tokens (More name) = leaves (record s { taken = tokens })
+scanned s tokens (Wrong error) = Fails error
+scanned s tokens (Done c behind) = effect (record s { taken = []; input = with_tokens s.input (map (λ t. t.token) behind) }) c
 
 -- a token, with what it means, joins those that the open command has taken
-abbrev pub joining : TexState → Seen → Stepped Meaning
+abbrev pub joining : TexState → Seen → Outcome
 joining s t = scanned s (s.taken ++ t ∷ []) (command s.horizontal (s.taken ++ t ∷ []))
 
-abbrev pub taking : TexState → Token → Stepped Meaning
+abbrev pub taking : TexState → Token → Outcome
 taking s t = joining s (seen s.table.table (name_defined (command s.horizontal s.taken)) t)
 
--- what the line gives; a line with nothing left but dropped characters is used up
-abbrev pub line_read : TexState → Reading → Stepped Meaning
-line_read s (Read t rest state) = taking (record s { line = record { rest = rest; state = state } }) t
-line_read s Nothing_read = asks s Line
-line_read s Refused = fails InvalidCharacter
+-- what comes of what the input gives next. Where a line is used up the next one is asked for, or behind \endinput the file
+-- is closed; nothing puts a marker into the input, and one would be passed over
+abbrev pub read : TexState → Next → Outcome
+read s (Next_token t) = taking s t
+read s Marker = leaves s
+read s (Used false) = Asks Line s
+read s (Used true) = Asks Close s
+read s E1 = Fails InvalidCharacter
 
--- tokens that were given back come before the line
-abbrev pub reads : TexState → List Token → Stepped Meaning
-reads s [] = line_read s (reading s.table.table.categories s.line.state s.line.rest)
-reads s (t ∷ back) = taking (record s { back = back }) t
+abbrev pub reads : TexState → Step → Outcome
+reads s step = read (record s { input = step.left }) step.next
 
 -- a page of a box, with the magnification
-abbrev pub ships_with : TexState → ℤ → Result Page ShipError → Stepped Meaning
-ships_with s mag (Err e) = fails SizeOutOfRange
-ships_with s mag (Ok page) = record { event = Shipped page; next = Runs (record s { magnification = Some mag }); said = [] }
+abbrev pub ships_with : TexState → ℤ → Result Page ShipError → Outcome
+ships_with s mag (Err e) = Fails SizeOutOfRange
+ships_with s mag (Ok page) = Ships page (record s { magnification = Some mag })
 
 -- shipping a box: the magnification has to be one, and that of the first page
-abbrev pub ships : TexState → ℤ → Result Page ShipError → Stepped Meaning
-ships s mag page = if may_be s.magnification mag then ships_with s mag page else fails BadMagnification
+abbrev pub ships : TexState → ℤ → Result Page ShipError → Outcome
+ships s mag page = if may_be s.magnification mag then ships_with s mag page else Fails BadMagnification
 
 -- due work comes first
-abbrev pub works : TexState → Due → Stepped Meaning
-works s Nothing = reads s s.back
-works s (OpenMain name) = asks (record s { due = Nothing }) (Open name)
-works s MainAbsent = fails FileAbsent
-works s FileEnded = asks (record s { due = Nothing }) Close
-works s MainClosed = fails NoEnd
+abbrev pub works : TexState → Due → Outcome
+works s Nothing = reads s (next_of s.table.table.categories s.input)
+works s (OpenMain name) = Asks (Open name) (record s { due = Nothing })
+works s MainAbsent = Fails FileAbsent
+works s FileEnded = Asks Close (record s { due = Nothing })
+works s MainClosed = Fails NoEnd
 works s (Ship box) = ships (record s { due = Nothing }) (integer s.table.table Mag) (page_of s.table.table box)
+
+-- what comes of a turn; a run that isn't ready for one has ended
+abbrev pub outcome : Meaning → Outcome
+outcome (Runs s) = works s s.due
+outcome (Waits kind s) = Ends
+outcome Stops = Ends
 
 -- one turn
 abbrev pub step : Meaning → Stepped Meaning
-step (Runs s) = works s s.due
-step (Waits kind s) = fails NoEnd
-step Stops = fails NoEnd
+step m = stepped (outcome m)
 
 -- shipping costs the box and all nodes that it holds; all else costs 1
 abbrev pub due_cost : Due → ℕ
@@ -110,7 +95,7 @@ cost _ = 1
 -- what a reply brings: a line, or due work
 abbrev pub replied : TexState → AskKind → Reply → TexState
 replied s Opening Absent = record s { due = MainAbsent }
-replied s ReadingOn (ReplyLine bytes) = record s { line = record { rest = seen_line bytes (line_end s.table.table); state = N } }
+replied s ReadingOn (ReplyLine bytes) = record s { input = with_line s.input (seen_line bytes (line_end s.table.table)) }
 replied s ReadingOn Ended = record s { due = FileEnded }
 replied s Closing Closed = record s { due = MainClosed }
 replied s kind reply = s

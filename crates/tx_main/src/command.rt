@@ -1,20 +1,16 @@
 //! Commands, taken off the input token by token (TeX: The Program, part 46).
-ghost use Rattle.std.specs.Prelude.{◌≡◌, ◌↔◌, [], ◌∷◌, ◌++◌, IfOk, IsTrue, option_copied};
+ghost use Rattle.std.specs.Prelude.{◌≡◌, ◌↔◌, [], ◌∷◌, IfOk, IsTrue, option_copied};
 ghost use Rattle.tx_main.specs.Commands.{command};
-ghost use Rattle.tx_main.specs.Rests.{IsCommand};
-ghost use Rattle.tx_main.specs.Taken.{IsTaken, IsTakenAll, name_defined};
+ghost use Rattle.tx_main.specs.Taken.{IsTaken, name_defined};
 
-use crate::scans::{Stage, StageFed, Taken};
-use crate::token_list::Tokens;
+use crate::scans::{Stage, Taken, Tokens};
 use std::alloc::{AllocError, Global};
 use std::marker::Model;
-use std::mem;
-use tx_assign::{Fed, Seen};
-use tx_char::Token;
+use tx_seen::{Place, Seen};
 
 /// A command that is being taken off the input. Contracts see the tokens that were taken since it began, and whether it
 /// stands in a horizontal list.
-#[derive(Debug, Drop)]
+#[derive(Drop)]
 pub struct CommandScan {
     horizontal: bool,
     taken: Tokens,
@@ -23,7 +19,7 @@ pub struct CommandScan {
 
 impl Model for CommandScan {
     ghost use Rattle.std.specs.Prelude.{◌≡◌, List, ◌++◌};
-    ghost use Rattle.tx_assign.specs.declared.seen.Seen.{Seen};
+    ghost use Rattle.tx_seen.specs.declared.seen.Seen.{Seen};
     ghost use Rattle.tx_main.specs.Begun.{Begun};
     ghost use Rattle.tx_main.specs.Commands.{command};
     ghost use Rattle.tx_main.specs.Rests.{command_rest};
@@ -47,6 +43,14 @@ impl CommandScan {
         }
     }
 
+    /// Begins a command, in a horizontal or a vertical list; the memory of the one before is used again.
+    pub fn begin(&mut self, horizontal: bool)
+        ensures { self.new ≡ record { horizontal = horizontal; taken = [] } }
+    {
+        self.horizontal = horizontal;
+        restart(&mut self.taken, &mut self.stage);
+    }
+
     /// Whether the command stands in a horizontal list.
     pub fn is_horizontal(&self) -> bool
         ensures { result ≡ self.now.horizontal }
@@ -61,8 +65,8 @@ impl CommandScan {
         self.horizontal == other.horizontal && self.taken.same(&other.taken)
     }
 
-    /// The name that the command is defining, if there is one: it means \relax until the command is whole.
-    pub fn defined(&self) -> Option<&Token>
+    /// The place of the name that the command is defining, if there is one: it means \relax until the command is whole.
+    pub fn defined(&self) -> Option<&Place>
         ensures { option_copied result ≡ name_defined (command self.now.horizontal self.now.taken) }
     {
         match &self.stage {
@@ -76,57 +80,39 @@ impl CommandScan {
     pub fn feed(&mut self, alloc: Global, token: Seen) -> Result<Taken, AllocError>
         ensures { IfOk result (IsTaken self.old token self.new) }
     {
-        let horizontal = self.horizontal;
-        let old = mem::replace(self, CommandScan::new(alloc, horizontal));
-        let (scan, taken) = old.fed(alloc, token)?;
-        *self = scan;
-        Ok(taken)
-    }
-
-    /// What it is behind one token more, and what that gives. Its only error is want of memory.
-    fn fed(self, alloc: Global, token: Seen) -> Result<(CommandScan, Taken), AllocError>
-        ensures { IfOk result (λ behind. IsTaken self token behind.0 behind.1) }
-    {
-        let CommandScan {
-            horizontal,
-            taken,
-            stage,
-        } = self;
-        let taken = with_token(taken, &token)?;
-        let fed = stage.feed(alloc, horizontal, token)?;
-        Ok(behind(alloc, horizontal, taken, fed))
+        let fed = self.stage.feed(alloc, self.horizontal, &token);
+        match fed {
+            Ok(Taken::More) => {
+                let pushed = self.taken.push(token);
+                if pushed.is_err() {
+                    restart(&mut self.taken, &mut self.stage);
+                    return Err(AllocError);
+                }
+                Ok(Taken::More)
+            }
+            Ok(Taken::Whole(command, back)) => {
+                restart(&mut self.taken, &mut self.stage);
+                Ok(Taken::Whole(command, back))
+            }
+            Ok(Taken::Wrong(error)) => {
+                restart(&mut self.taken, &mut self.stage);
+                Ok(Taken::Wrong(error))
+            }
+            Err(error) => {
+                restart(&mut self.taken, &mut self.stage);
+                Err(error)
+            }
+        }
     }
 }
 
-/// The tokens with one more. Its only error is want of memory.
-fn with_token(taken: Tokens, token: &Seen) -> Result<Tokens, AllocError>
-    ensures { IfOk result (λ tokens. tokens ≡ taken ++ token.now ∷ []) }
+/// Nothing is taken of the next command.
+fn restart(taken: &mut Tokens, stage: &mut Stage)
+    ensures taken { taken.new ≡ [] }
+    ensures stage { stage.new ≡ Stage.Start }
 {
-    let mut tokens = taken;
-    tokens.push(token.clone()?)?;
-    Ok(tokens)
-}
-
-/// What a command is of which these tokens were taken, and what the last one gave.
-fn behind(alloc: Global, horizontal: bool, taken: Tokens, fed: StageFed) -> (CommandScan, Taken)
-    requires { IsCommand horizontal (λ more. command horizontal (taken ++ more)) fed }
-    ensures { IsTakenAll horizontal taken result.0 result.1 }
-{
-    match fed {
-        Fed::More(stage) => (
-            CommandScan {
-                horizontal,
-                taken,
-                stage,
-            },
-            Taken::More,
-        ),
-        Fed::Done(command, back) => (
-            CommandScan::new(alloc, horizontal),
-            Taken::Whole(command, back),
-        ),
-        Fed::Wrong(error) => (CommandScan::new(alloc, horizontal), Taken::Wrong(error)),
-    }
+    taken.clear();
+    *stage = Stage::Start;
 }
 
 /// A clone has taken the same tokens. Its only error is want of memory.

@@ -5,25 +5,25 @@ ghost use Rattle.tx_node.specs.Packing.{natural};
 ghost use Rattle.tx_eqtb.specs.Stack.{kind_of};
 ghost use Rattle.tx_main.specs.Effects as effects;
 ghost use Rattle.tx_main.specs.Effects.{innermost};
-ghost use Rattle.tx_main.specs.Turns as turns;
+ghost use Rattle.tx_main.specs.Outcomes.{Fails, Ends, leaves};
 ghost use Rattle.tx_main.specs.Meanings.{IsStepped, meaning_of, state_of};
 
-use crate::command::CommandScan;
 use crate::parts::{Due, OpenBox, Phase};
 use crate::state::State;
 use crate::types::{BoxContext, Command};
 use itoa::Buffer;
 use std::alloc::{AllocError, Global};
 use std::mem;
-use tx_assign::{Assignment, Carried, TexError};
+use tx_assign::{Assignment, Carried};
 use tx_bytes::Bytes;
 use tx_eqtb::{GroupKind, OpenError};
 use tx_machine::{Event, Stop};
 use tx_node::{BoxNode, Node, Nodes, PackError, hbox};
+use tx_seen::TexError;
 
 /// The run ends by an error.
 pub fn fail(s: &mut State, error: TexError) -> Event
-    ensures { IsStepped (turns.fails error) result (meaning_of s.new) s.old.said s.new.said }
+    ensures { IsStepped (Fails error) s.old result s.new }
 {
     s.phase = Phase::Halted;
     Event::Stopped(Stop::Error(error.number()))
@@ -32,7 +32,7 @@ pub fn fail(s: &mut State, error: TexError) -> Event
 /// Appends one more node.
 fn add(s: &mut State, node: Node) -> Result<Event, AllocError>
     requires { s.old.phase ≡ Phase.Running }
-    ensures { IfOk result (λ event. IsStepped (turns.effected (effects.adding (state_of s.old) (item_of node))) event (meaning_of s.new) s.old.said s.new.said) }
+    ensures { IfOk result (λ event. IsStepped (effects.adding (state_of s.old) (item_of node)) s.old event s.new) }
 {
     s.list.push(node)?;
     Ok(Event::Went)
@@ -53,7 +53,7 @@ fn report_missing(said: &mut Bytes, code: u8) -> Result<(), AllocError>
 /// Opens a group of this kind.
 fn open(s: &mut State, kind: GroupKind) -> Result<Event, AllocError>
     requires { s.old.phase ≡ Phase.Running }
-    ensures { IfOk result (λ event. IsStepped (turns.effected (effects.opening (state_of s.old) kind (state_of s.old))) event (meaning_of s.new) s.old.said s.new.said) }
+    ensures { IfOk result (λ event. IsStepped (effects.opening (state_of s.old) kind (state_of s.old)) s.old event s.new) }
 {
     match s.table.open_group(kind) {
         Ok(()) => Ok(Event::Went),
@@ -66,7 +66,7 @@ fn open(s: &mut State, kind: GroupKind) -> Result<Event, AllocError>
 fn open_box(alloc: Global, s: &mut State, context: BoxContext) -> Result<Event, AllocError>
     requires running { s.old.phase ≡ Phase.Running }
     requires between { s.old.scan.taken ≡ [] }
-    ensures { IfOk result (λ event. IsStepped (turns.effected (effects.effect (state_of s.old) (Command.BeginBox context))) event (meaning_of s.new) s.old.said s.new.said) }
+    ensures { IfOk result (λ event. IsStepped (effects.effect (state_of s.old) (Command.BeginBox context)) s.old event s.new) }
 {
     match s.table.open_group(GroupKind::HorizontalBox) {
         Ok(()) => {}
@@ -91,7 +91,7 @@ fn enter_box(alloc: Global, s: &mut State, context: BoxContext) -> Result<(), Al
         list,
         horizontal,
     })?;
-    s.scan = CommandScan::new(alloc, true);
+    s.scan.begin(true);
     Ok(())
 }
 
@@ -99,7 +99,7 @@ fn enter_box(alloc: Global, s: &mut State, context: BoxContext) -> Result<(), Al
 fn close_group(s: &mut State, kind: GroupKind) -> Event
     requires running { s.old.phase ≡ Phase.Running }
     requires kind { kind_of s.old.table ≡ Some kind }
-    ensures { IsStepped (turns.effected (effects.leaves (effects.closing (state_of s.old)))) result (meaning_of s.new) s.old.said s.new.said }
+    ensures { IsStepped (leaves (effects.closing (state_of s.old))) s.old result s.new }
 {
     match s.table.close_group(kind) {
         Ok(()) => Event::Went,
@@ -111,7 +111,7 @@ fn close_group(s: &mut State, kind: GroupKind) -> Event
 fn end_group(alloc: Global, s: &mut State) -> Result<Event, AllocError>
     requires running { s.old.phase ≡ Phase.Running }
     requires between { s.old.scan.taken ≡ [] }
-    ensures { IfOk result (λ event. IsStepped (turns.effected (effects.effect (state_of s.old) Command.EndGroup)) event (meaning_of s.new) s.old.said s.new.said) }
+    ensures { IfOk result (λ event. IsStepped (effects.effect (state_of s.old) Command.EndGroup) s.old event s.new) }
 {
     match s.table.kind() {
         Some(GroupKind::Simple) => Ok(close_group(s, GroupKind::Simple)),
@@ -123,7 +123,7 @@ fn end_group(alloc: Global, s: &mut State) -> Result<Event, AllocError>
 /// \endgroup.
 fn end_semi_simple(s: &mut State) -> Event
     requires running { s.old.phase ≡ Phase.Running }
-    ensures { IsStepped (turns.effected (effects.effect (state_of s.old) Command.EndSemiSimple)) result (meaning_of s.new) s.old.said s.new.said }
+    ensures { IsStepped (effects.effect (state_of s.old) Command.EndSemiSimple) s.old result s.new }
 {
     match s.table.kind() {
         Some(GroupKind::SemiSimple) => close_group(s, GroupKind::SemiSimple),
@@ -136,7 +136,7 @@ fn end_box(alloc: Global, s: &mut State) -> Result<Event, AllocError>
     requires running { s.old.phase ≡ Phase.Running }
     requires between { s.old.scan.taken ≡ [] }
     requires kind { kind_of s.old.table ≡ Some GroupKind.HorizontalBox }
-    ensures { IfOk result (λ event. IsStepped (turns.effected (effects.closing_box (effects.closing (state_of s.old)) (innermost s.old.boxes))) event (meaning_of s.new) s.old.said s.new.said) }
+    ensures { IfOk result (λ event. IsStepped (effects.closing_box (effects.closing (state_of s.old)) (innermost s.old.boxes)) s.old event s.new) }
 {
     if s.table.close_group(GroupKind::HorizontalBox).is_err() {
         return Ok(fail(s, TexError::ExtraGroupEnd));
@@ -151,7 +151,7 @@ fn end_box(alloc: Global, s: &mut State) -> Result<Event, AllocError>
             },
         ) => {
             let inner = mem::replace(&mut s.list, list);
-            s.scan = CommandScan::new(alloc, horizontal);
+            s.scan.begin(horizontal);
             close_box(alloc, s, context, inner)
         }
     }
@@ -175,7 +175,7 @@ fn close_box(
     inner: Nodes,
 ) -> Result<Event, AllocError>
     requires running { s.old.phase ≡ Phase.Running }
-    ensures { IfOk result (λ event. IsStepped (turns.effected (effects.boxing context (state_of s.old) (natural inner))) event (meaning_of s.new) s.old.said s.new.said) }
+    ensures { IfOk result (λ event. IsStepped (effects.boxing context (state_of s.old) (natural inner)) s.old event s.new) }
 {
     match hbox(inner) {
         Err(error) => Ok(fail(s, pack_error(error))),
@@ -191,7 +191,7 @@ fn use_box(
     made: BoxNode,
 ) -> Result<Event, AllocError>
     requires running { s.old.phase ≡ Phase.Running }
-    ensures { IfOk result (λ event. IsStepped (turns.goes (effects.using_box context made (state_of s.old)) []) event (meaning_of s.new) s.old.said s.new.said) }
+    ensures { IfOk result (λ event. IsStepped (leaves (effects.using_box context made (state_of s.old))) s.old event s.new) }
 {
     match context {
         BoxContext::Append => s.list.push(Node::from_box(alloc, made)?)?,
@@ -203,7 +203,7 @@ fn use_box(
 /// An assignment.
 fn assign(s: &mut State, assignment: Assignment) -> Result<Event, AllocError>
     requires { s.old.phase ≡ Phase.Running }
-    ensures { IfOk result (λ event. IsStepped (turns.effected (effects.effect (state_of s.old) (Command.Assign assignment))) event (meaning_of s.new) s.old.said s.new.said) }
+    ensures { IfOk result (λ event. IsStepped (effects.effect (state_of s.old) (Command.Assign assignment)) s.old event s.new) }
 {
     match tx_assign::carry_out(&mut s.table, assignment)? {
         Carried::Done => Ok(Event::Went),
@@ -214,7 +214,7 @@ fn assign(s: &mut State, assignment: Assignment) -> Result<Event, AllocError>
 /// A space token.
 fn space(s: &mut State) -> Result<Event, AllocError>
     requires { s.old.phase ≡ Phase.Running }
-    ensures { IfOk result (λ event. IsStepped (turns.effected (effects.effect (state_of s.old) Command.Space)) event (meaning_of s.new) s.old.said s.new.said) }
+    ensures { IfOk result (λ event. IsStepped (effects.effect (state_of s.old) Command.Space) s.old event s.new) }
 {
     if s.scan.is_horizontal() {
         add(s, Node::Space)
@@ -225,7 +225,7 @@ fn space(s: &mut State) -> Result<Event, AllocError>
 
 /// The run ends as \end does it.
 fn finish(s: &mut State) -> Event
-    ensures { IsStepped (turns.effected effects.Ends) result (meaning_of s.new) s.old.said s.new.said }
+    ensures { IsStepped Ends s.old result s.new }
 {
     s.phase = Phase::Halted;
     Event::Stopped(Stop::End)
@@ -234,7 +234,7 @@ fn finish(s: &mut State) -> Event
 /// A character, which \nullfont lacks.
 fn report(s: &mut State, code: u8) -> Result<Event, AllocError>
     requires { s.old.phase ≡ Phase.Running }
-    ensures { IfOk result (λ event. IsStepped (turns.effected (effects.effect (state_of s.old) (Command.Character code))) event (meaning_of s.new) s.old.said s.new.said) }
+    ensures { IfOk result (λ event. IsStepped (effects.effect (state_of s.old) (Command.Character code)) s.old event s.new) }
 {
     report_missing(&mut s.said, code)?;
     Ok(Event::Went)
@@ -244,7 +244,7 @@ fn report(s: &mut State, code: u8) -> Result<Event, AllocError>
 pub fn carry_out(alloc: Global, s: &mut State, command: Command) -> Result<Event, AllocError>
     requires running { s.old.phase ≡ Phase.Running }
     requires between { s.old.scan.taken ≡ [] }
-    ensures { IfOk result (λ event. IsStepped (turns.effected (effects.effect (state_of s.old) command)) event (meaning_of s.new) s.old.said s.new.said) }
+    ensures { IfOk result (λ event. IsStepped (effects.effect (state_of s.old) command) s.old event s.new) }
 {
     match command {
         Command::Nothing => Ok(Event::Went),

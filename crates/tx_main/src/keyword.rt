@@ -2,12 +2,12 @@
 ghost use Rattle.std.specs.Prelude.{◌<◌, length};
 ghost use Rattle.tx_main.specs.Keywords.{letters_of};
 
-use crate::token_list::Tokens;
+use crate::scans::Tokens;
 use crate::types::Side;
 
 /// The name of a rule's side of which some letters are read, and not all. The letters are kept as they came, since they
 /// are given back where the name breaks off.
-#[derive(Debug, Drop)]
+#[derive(Drop)]
 pub struct Keyword {
     pub side: Side,
     pub letters: Tokens,

@@ -1,16 +1,17 @@
 //! TeX as a machine: a state, and turns that each do one piece of due work, ask for a line, or take one token.
 //!
-//! Read `types`; how commands are taken off tokens: `scans`, `rule`, `stage` and `command`; then `parts`, `line`, `state`,
+//! Proved: each turn is the defined step, `same` is exactly equality of meanings. Only tested: that the grammars, effects
+//! and the reading are TeX's, on documents that Knuth's TeX reads alike.
+//!
+//! Read `types`; how commands are taken off tokens: `scans`, `rule`, `stage` and `command`; then `parts`, `state`,
 //! `effects`, `page`, `turn` and `machine`; last `clones`, `share` and `same`.
 #![tactic(auto)]
 
-mod back;
 mod boxes;
 mod clones;
 mod command;
 mod effects;
 mod keyword;
-mod line;
 mod machine;
 mod page;
 mod parts;
@@ -20,10 +21,9 @@ mod scans;
 mod share;
 mod stage;
 mod state;
-mod token_list;
 mod turn;
 mod types;
 
 pub use machine::Tex;
 pub use state::State;
-pub use tx_assign::TexError;
+pub use tx_seen::TexError;

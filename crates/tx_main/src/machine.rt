@@ -5,10 +5,8 @@ ghost use Rattle.tx_main.specs.Meanings.{meaning_of};
 ghost use Rattle.tx_main.specs.Turns.{tex};
 ghost use Rattle.tx_main.specs.Lawful.{tex-lawful};
 
-use crate::back::GivenBack;
 use crate::boxes::Boxes;
 use crate::command::CommandScan;
-use crate::line::Line;
 use crate::page::moment_of;
 use crate::parts::{Due, Phase};
 use crate::state::State;
@@ -20,9 +18,10 @@ use tx_eqtb::Eqtb;
 use tx_files::Name;
 use tx_machine::{Date, Event, Machine, Reply, Steps};
 use tx_node::Nodes;
+use tx_pending::Pending;
 
 /// TeX, begun as INITEX.
-#[derive(Clone, Copy, Debug)]
+#[derive(Clone, Copy)]
 pub struct Tex;
 
 impl Machine for Tex {
@@ -43,8 +42,7 @@ impl Machine for Tex {
         Ok(State {
             phase: Phase::Running,
             due: Due::OpenMain(main.clone()?),
-            line: Line::none(alloc),
-            back: GivenBack::new(alloc),
+            input: Pending::new(alloc),
             scan: CommandScan::new(alloc, false),
             list: Nodes::new(alloc),
             boxes: Boxes::new(alloc),
@@ -79,7 +77,7 @@ impl Machine for Tex {
         same::same(a, b)
     }
 
-    fn share(&self, _alloc: Global, s: &State) -> Result<State, AllocError> {
-        share::share(s)
+    fn share(&self, alloc: Global, s: &State) -> Result<State, AllocError> {
+        share::share(alloc, s)
     }
 }

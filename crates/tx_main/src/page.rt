@@ -4,10 +4,10 @@ ghost use Rattle.tx_ship.specs.Pages.{IsMag};
 ghost use Rattle.tx_machine.specs.Ranges.{IsDate};
 ghost use Rattle.tx_main.specs.Pages as spec;
 
-use tx_assign::number_at;
-use tx_eqtb::{Eqtb, Place};
+use tx_eqtb::Eqtb;
 use tx_machine::Date;
 use tx_prim::{DimensionParameter, IntegerParameter, Moment};
+use tx_seen::Place;
 use tx_ship::ShipParams;
 
 /// When a run began, as the date parameters say it.
@@ -27,21 +27,21 @@ pub fn moment_of(date: &Date) -> Moment
 pub fn integer(table: &Eqtb, parameter: IntegerParameter) -> i32
     ensures { result ≡ spec.integer table.now.table parameter }
 {
-    number_at(table, &Place::Integer(parameter))
+    table.number(&Place::Integer(parameter))
 }
 
 /// A dimension parameter, in sp.
 fn dimension(table: &Eqtb, parameter: DimensionParameter) -> i64
     ensures { result ≡ spec.dimension table.now.table parameter }
 {
-    i64::from(number_at(table, &Place::Dimension(parameter)))
+    i64::from(table.number(&Place::Dimension(parameter)))
 }
 
 /// A register of \count.
 fn count(table: &Eqtb, number: u8) -> i32
     ensures { result ≡ spec.count table.now.table number }
 {
-    number_at(table, &Place::Count(number))
+    table.number(&Place::Count(number))
 }
 
 /// \count0 to \count9.

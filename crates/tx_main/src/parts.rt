@@ -33,7 +33,7 @@ pub struct OpenBox {
 }
 
 /// What a state is ready for.
-#[derive(Clone, Copy, Debug, PartialEq, Eq)]
+#[derive(Clone, Copy, PartialEq, Eq)]
 pub enum Phase {
     Running,
     Waiting(AskKind),

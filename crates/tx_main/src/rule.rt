@@ -1,18 +1,18 @@
 //! The sides and sizes of a rule, token by token (TeX: The Program, section 463).
 ghost use Rattle.std.specs.Prelude.{◌≡◌, ◌<◌, ◌++◌, ◌∷◌, [], List, IfOk, length};
-ghost use Rattle.tx_assign.specs.declared.seen.Seen.{Seen};
+ghost use Rattle.tx_seen.specs.declared.seen.Seen.{Seen};
 ghost use Rattle.tx_main.specs.Keywords.{letters_of, begun_by};
 ghost use Rattle.tx_main.specs.Rules.{with_side, plain_vrule, rule_sides};
 ghost use Rattle.tx_assign.specs.Rests.{IsFed};
 ghost use Rattle.tx_main.specs.Rests.{IsSideFed, rule_rest};
 
 use crate::keyword::Keyword;
-use crate::scans::{RuleFed, RulePart, RuleScan, SideFed, SideScan};
-use crate::token_list::Tokens;
+use crate::scans::{RuleFed, RulePart, RuleScan, SideFed, SideScan, Tokens};
 use crate::types::Side;
 use std::alloc::{AllocError, Global};
-use tx_assign::{DimenScan, Fed, Seen, TexError};
+use tx_assign::{DimenScan, Fed};
 use tx_node::Rule;
+use tx_seen::{Seen, TexError};
 
 /// 0.4pt, the width of a \vrule where nothing else is said.
 const PLAIN_WIDTH: i32 = 26_214;

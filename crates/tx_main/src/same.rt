@@ -35,10 +35,9 @@ fn same_parts(one: &State, other: &State) -> bool
     ensures { IsTrue result ↔ (state_of one.now ≡ state_of other.now) }
 {
     same_due(&one.due, &other.due)
-        && one.line.same(&other.line)
-        && one.back.same(&other.back)
         && one.scan.same(&other.scan)
         && one.list.same(&other.list)
+        && one.input.same(&other.input)
         && one.boxes.same(&other.boxes)
         && one.magnification == other.magnification
         && one.table.same(&other.table)

@@ -1,12 +1,16 @@
 //! What a scan that is fed token by token still needs, and what it answers to a token.
 use crate::keyword::Keyword;
-use crate::token_list::Tokens;
 use crate::types::{BoxContext, Command, Side};
-use tx_assign::{AssignScan, DimenScan, Fed, TexError};
+use tx_assign::{AssignScan, DimenScan, Fed};
+use tx_list::Items;
 use tx_node::Rule;
+use tx_seen::{Seen, TexError};
+
+/// Tokens with what they mean, in the order in which they are read.
+pub type Tokens = Items<Seen>;
 
 /// The name of a rule's side that is being read.
-#[derive(Debug, Drop)]
+#[derive(Drop)]
 pub enum SideScan {
     /// Spaces, and the first letter of a name.
     Spaces,
@@ -15,7 +19,7 @@ pub enum SideScan {
 }
 
 /// What the scan of a side's name answers to a token.
-#[derive(Debug, Drop)]
+#[derive(Drop)]
 pub enum SideFed {
     /// The scan goes on.
     More(SideScan),
@@ -28,7 +32,7 @@ pub enum SideFed {
 }
 
 /// The sides and sizes of a rule that are being read.
-#[derive(Debug, Drop)]
+#[derive(Drop)]
 pub struct RuleScan {
     /// The rule as it is so far.
     pub rule: Rule,
@@ -36,7 +40,7 @@ pub struct RuleScan {
 }
 
 /// The part of a rule that comes next.
-#[derive(Debug, Drop)]
+#[derive(Drop)]
 pub enum RulePart {
     /// The name of a side, if there is one.
     Side(SideScan),
@@ -49,7 +53,7 @@ pub enum RulePart {
 pub type RuleFed = Fed<RuleScan, Rule, Tokens>;
 
 /// A command that is being read.
-#[derive(Debug, Drop)]
+#[derive(Drop)]
 pub enum Stage {
     /// Its first token.
     Start,
@@ -65,16 +69,21 @@ pub enum Stage {
     BoxBegin(BoxContext),
 }
 
-/// A command, and the tokens behind it that aren't part of it.
-pub type StageFed = Fed<Stage, Command, Tokens>;
+/// The tokens behind a command that were taken and aren't part of it, in their order.
+#[derive(Drop)]
+pub enum Back {
+    Nothing,
+    One(Seen),
+    Several(Tokens),
+}
 
 /// What taking a token to a command gives.
-#[derive(Debug, Drop)]
+#[derive(Drop)]
 pub enum Taken {
     /// The command isn't whole yet.
     More,
-    /// It is; these tokens are given back, to be read again in this order.
-    Whole(Command, Tokens),
+    /// It is; these tokens are given back, to be read again.
+    Whole(Command, Back),
     /// The tokens are no command.
     Wrong(TexError),
 }

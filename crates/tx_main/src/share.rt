@@ -2,15 +2,14 @@
 ghost use Rattle.std.specs.Prelude.{◌≡◌, IfOk};
 ghost use Rattle.tx_main.specs.Meanings.{meaning_of};
 
-use crate::back::GivenBack;
 use crate::boxes::Boxes;
 use crate::command::CommandScan;
-use crate::line::Line;
 use crate::parts::{Due, OpenBox};
 use crate::state::State;
 use std::alloc::{AllocError, Global};
 use tx_eqtb::Eqtb;
 use tx_node::Nodes;
+use tx_pending::Pending;
 
 /// A clone is the same work. Its only error is want of memory.
 impl Clone for Due {
@@ -42,18 +41,12 @@ impl Clone for OpenBox {
 }
 
 /// Copies of what is read next. Its only error is want of memory.
-fn share_input(s: &State) -> Result<(Due, Line, GivenBack, CommandScan), AllocError>
+fn share_input(alloc: Global, s: &State) -> Result<(Due, Pending, CommandScan), AllocError>
     ensures due { IfOk result (λ t. t.0 ≡ s.now.due) }
-    ensures line { IfOk result (λ t. t.1 ≡ s.now.line) }
-    ensures back { IfOk result (λ t. t.2 ≡ s.now.back) }
-    ensures scan { IfOk result (λ t. t.3 ≡ s.now.scan) }
+    ensures input { IfOk result (λ t. t.1 ≡ s.now.input) }
+    ensures scan { IfOk result (λ t. t.2 ≡ s.now.scan) }
 {
-    Ok((
-        s.due.clone()?,
-        s.line.clone()?,
-        s.back.clone()?,
-        s.scan.clone()?,
-    ))
+    Ok((s.due.clone()?, s.input.share(alloc)?, s.scan.clone()?))
 }
 
 /// Copies of the lists that are built, and of the table. Its only error is want of memory.
@@ -67,18 +60,17 @@ fn share_lists(s: &State) -> Result<(Nodes, Boxes, Eqtb), AllocError>
 
 /// A state that means the same, with the same bytes of the transcript that are still to be taken. Its only error is want of
 /// memory.
-pub fn share(s: &State) -> Result<State, AllocError>
+pub fn share(alloc: Global, s: &State) -> Result<State, AllocError>
     ensures meaning { IfOk result (λ t. meaning_of t ≡ meaning_of s.now) }
     ensures said { IfOk result (λ t. t.said ≡ s.now.said) }
 {
     let said = s.said.clone()?;
-    let (due, line, back, scan) = share_input(s)?;
+    let (due, input, scan) = share_input(alloc, s)?;
     let (list, boxes, table) = share_lists(s)?;
     Ok(State {
         phase: s.phase,
         due,
-        line,
-        back,
+        input,
         scan,
         list,
         boxes,

@@ -1,20 +1,18 @@
 //! TeX's state, in code.
-use crate::back::GivenBack;
 use crate::boxes::Boxes;
 use crate::command::CommandScan;
-use crate::line::Line;
 use crate::parts::{Due, Phase};
 use tx_bytes::Bytes;
 use tx_eqtb::Eqtb;
 use tx_node::Nodes;
+use tx_pending::Pending;
 
 /// All that the next turns depend on, and the bytes of the transcript that are still to be taken.
 #[derive(Drop)]
 pub struct State {
     pub(crate) phase: Phase,
     pub(crate) due: Due,
-    pub(crate) line: Line,
-    pub(crate) back: GivenBack,
+    pub(crate) input: Pending,
     pub(crate) scan: CommandScan,
     pub(crate) list: Nodes,
     pub(crate) boxes: Boxes,

@@ -1,73 +1,92 @@
 //! One turn: due work, the ask for a line, or one token (TeX: The Program, sections 1030, 343 and 360).
-ghost use Rattle.std.specs.Prelude.{◌≡◌, [], IfOk, OnOk};
+ghost use Rattle.std.specs.Prelude.{◌≡◌, map, IfOk, OnOk};
 ghost use Rattle.tx_machine.specs.Machine.{kind_of, Ready};
+ghost use Rattle.tx_pending.specs.Elements.{step as next_of, with_tokens};
 ghost use Rattle.tx_prim.specs.declared.integer.IntegerParameter.TheVariants.{Mag};
 ghost use Rattle.tx_ship.specs.Pages.{IsMag};
 ghost use Rattle.tx_main.specs.Pages.{integer as magnification_in, page_of};
 ghost use Rattle.tx_main.specs.State.{Runs, mode_of};
+ghost use Rattle.tx_main.specs.Outcomes.{Asks};
 ghost use Rattle.tx_main.specs.Turns as turns;
 ghost use Rattle.tx_main.specs.Meanings.{IsStepped, meaning_of, state_of};
+ghost use Rattle.tx_main.specs.Rests.{given_back};
 
 use crate::effects::{carry_out, fail};
-use crate::line::{Line, LineToken};
 use crate::page::{integer, line_end, may_be, ship_params};
 use crate::parts::{Due, Phase};
-use crate::scans::Taken;
+use crate::scans::{Back, Taken, Tokens};
 use crate::state::State;
 use std::alloc::{AllocError, Global};
 use std::mem;
-use tx_assign::{TexError, see};
+use tx_assign::see;
 use tx_char::Token;
+use tx_lex::line_text;
 use tx_machine::{Ask, AskKind, Event, Reply};
 use tx_node::BoxNode;
+use tx_pending::{Next, Pending};
 use tx_prim::IntegerParameter;
+use tx_seen::TexError;
 use tx_ship::{ShipError, body};
 
 /// The turn ends with an ask.
 fn ask(s: &mut State, kind: AskKind, ask: Ask) -> Event
     requires { kind ≡ kind_of ask }
-    ensures { IsStepped (turns.asks (state_of s.old) ask) result (meaning_of s.new) s.old.said s.new.said }
+    ensures { IsStepped (Asks ask (state_of s.old)) s.old result s.new }
 {
     s.phase = Phase::Waiting(kind);
     Event::Asks(ask)
 }
 
+/// Puts these tokens at the front of the input, in their order; what they meant is forgotten. Its only error is want of
+/// memory.
+fn give_back_several(input: &mut Pending, tokens: Tokens) -> Result<(), AllocError>
+    ensures { OnOk result (input.new ≡ with_tokens input.old (map (λ t. t.token) tokens)) }
+{
+    let mut tokens = tokens;
+    while let Some(seen) = tokens.pop() {
+        input.give_back(seen.token)?;
+    }
+    Ok(())
+}
+
+/// Puts what stands behind a command at the front of the input. Its only error is want of memory.
+fn give_back(input: &mut Pending, back: Back) -> Result<(), AllocError>
+    ensures { OnOk result (input.new ≡ with_tokens input.old (map (λ t. t.token) (given_back back))) }
+{
+    match back {
+        Back::Nothing => Ok(()),
+        Back::One(seen) => input.give_back(seen.token),
+        Back::Several(tokens) => give_back_several(input, tokens),
+    }
+}
+
 /// A token joins the open command.
 fn take(alloc: Global, s: &mut State, token: Token) -> Result<Event, AllocError>
     requires { s.old.phase ≡ Phase.Running }
-    ensures { IfOk result (λ event. IsStepped (turns.taking (state_of s.old) token) event (meaning_of s.new) s.old.said s.new.said) }
+    ensures { IfOk result (λ event. IsStepped (turns.taking (state_of s.old) token) s.old event s.new) }
 {
-    let seen = see(&s.table, s.scan.defined(), token);
+    let seen = see(&s.table, s.scan.defined(), token)?;
     match s.scan.feed(alloc, seen)? {
         Taken::More => Ok(Event::Went),
         Taken::Wrong(error) => Ok(fail(s, error)),
-        Taken::Whole(command, behind) => {
-            s.back.give(behind)?;
+        Taken::Whole(command, back) => {
+            give_back(&mut s.input, back)?;
             carry_out(alloc, s, command)
         }
     }
 }
 
-/// Reads a token off the line, or asks for the next line.
-fn read_line(alloc: Global, s: &mut State) -> Result<Event, AllocError>
-    requires { s.old.phase ≡ Phase.Running }
-    ensures { IfOk result (λ event. IsStepped (turns.reads (state_of s.old) []) event (meaning_of s.new) s.old.said s.new.said) }
-{
-    match s.line.next(alloc, s.table.categories())? {
-        LineToken::Token(token) => take(alloc, s, token),
-        LineToken::UsedUp => Ok(ask(s, AskKind::Line, Ask::Line)),
-        LineToken::Invalid => Ok(fail(s, TexError::InvalidCharacter)),
-    }
-}
-
-/// Reads a token: one that was given back, or else one of the line.
+/// Reads the next token, or asks for the next line, or for the file to be closed.
 fn read(alloc: Global, s: &mut State) -> Result<Event, AllocError>
     requires { s.old.phase ≡ Phase.Running }
-    ensures { IfOk result (λ event. IsStepped (turns.reads (state_of s.old) s.old.back) event (meaning_of s.new) s.old.said s.new.said) }
+    ensures { IfOk result (λ event. IsStepped (turns.reads (state_of s.old) (next_of s.old.table.table.categories s.old.input)) s.old event s.new) }
 {
-    match s.back.next() {
-        Some(token) => take(alloc, s, token),
-        None => read_line(alloc, s),
+    match s.input.next(alloc, s.table.categories())? {
+        Next::Token(token) => take(alloc, s, token),
+        Next::Marker => Ok(Event::Went),
+        Next::Used { close: false } => Ok(ask(s, AskKind::Line, Ask::Line)),
+        Next::Used { close: true } => Ok(ask(s, AskKind::Close, Ask::Close)),
+        Next::E1 => Ok(fail(s, TexError::InvalidCharacter)),
     }
 }
 
@@ -81,7 +100,7 @@ fn ship_with(
     requires running { s.old.phase ≡ Phase.Running }
     requires fits { IsMag magnification }
     requires own { magnification ≡ magnification_in s.old.table.table Mag }
-    ensures { IfOk result (λ event. IsStepped (turns.ships_with (state_of s.old) magnification (page_of s.old.table.table shipped.now)) event (meaning_of s.new) s.old.said s.new.said) }
+    ensures { IfOk result (λ event. IsStepped (turns.ships_with (state_of s.old) magnification (page_of s.old.table.table shipped.now)) s.old event s.new) }
 {
     match body(alloc, shipped, &ship_params(&s.table)) {
         Ok(page) => {
@@ -96,7 +115,7 @@ fn ship_with(
 /// Ships a box: the magnification has to be one, and that of the first page.
 fn ship_box(alloc: Global, s: &mut State, shipped: &BoxNode) -> Result<Event, AllocError>
     requires { s.old.phase ≡ Phase.Running }
-    ensures { IfOk result (λ event. IsStepped (turns.ships (state_of s.old) (magnification_in s.old.table.table Mag) (page_of s.old.table.table shipped.now)) event (meaning_of s.new) s.old.said s.new.said) }
+    ensures { IfOk result (λ event. IsStepped (turns.ships (state_of s.old) (magnification_in s.old.table.table Mag) (page_of s.old.table.table shipped.now)) s.old event s.new) }
 {
     let magnification = integer(&s.table, IntegerParameter::Mag);
     if !may_be(s.magnification, magnification) {
@@ -118,8 +137,11 @@ pub fn cost(s: &State) -> u64
 /// Does the work that is due, or reads.
 fn work(alloc: Global, s: &mut State) -> Result<Event, AllocError>
     requires { s.old.phase ≡ Phase.Running }
-    ensures { IfOk result (λ event. IsStepped (turns.works (state_of s.old) s.old.due) event (meaning_of s.new) s.old.said s.new.said) }
+    ensures { IfOk result (λ event. IsStepped (turns.works (state_of s.old) s.old.due) s.old event s.new) }
 {
+    if let Due::Nothing = &s.due {
+        return read(alloc, s);
+    }
     match mem::replace(&mut s.due, Due::Nothing) {
         Due::Nothing => read(alloc, s),
         Due::OpenMain(name) => Ok(ask(s, AskKind::Open, Ask::Open(name.into_bytes()))),
@@ -133,7 +155,7 @@ fn work(alloc: Global, s: &mut State) -> Result<Event, AllocError>
 /// Takes one turn. Its only error is want of memory.
 pub fn turn(alloc: Global, s: &mut State) -> Result<Event, AllocError>
     requires { mode_of (meaning_of s.old) ≡ Ready }
-    ensures { IfOk result (λ event. IsStepped (turns.step (meaning_of s.old)) event (meaning_of s.new) s.old.said s.new.said) }
+    ensures { IfOk result (λ event. IsStepped (turns.outcome (meaning_of s.old)) s.old event s.new) }
 {
     match s.phase {
         Phase::Running => work(alloc, s),
@@ -150,7 +172,8 @@ fn hear(alloc: Global, s: &mut State, kind: AskKind, reply: &Reply) -> Result<()
     match (kind, reply) {
         (AskKind::Open, Reply::Absent) => s.due = Due::MainAbsent,
         (AskKind::Line, Reply::Line(bytes)) => {
-            s.line = Line::of_file(alloc, bytes.as_slice(), line_end(&s.table))?
+            let line = line_text(alloc, bytes.as_slice(), line_end(&s.table))?;
+            s.input.push_line(alloc, line)?;
         }
         (AskKind::Line, Reply::Ended) => s.due = Due::FileEnded,
         (AskKind::Close, Reply::Closed) => s.due = Due::MainClosed,

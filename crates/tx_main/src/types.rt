@@ -3,7 +3,7 @@ use tx_assign::Assignment;
 use tx_node::Rule;
 
 /// A side of a rule.
-#[derive(Clone, Copy, Debug, PartialEq, Eq)]
+#[derive(Clone, Copy, PartialEq, Eq)]
 pub enum Side {
     Width,
     Height,
@@ -11,7 +11,7 @@ pub enum Side {
 }
 
 /// What becomes of a box (TeX: The Program, section 1071).
-#[derive(Clone, Copy, Debug, PartialEq, Eq)]
+#[derive(Clone, Copy, PartialEq, Eq)]
 pub enum BoxContext {
     /// It is appended to the list that it stands in.
     Append,
@@ -20,7 +20,7 @@ pub enum BoxContext {
 }
 
 /// A command with all that belongs to it.
-#[derive(Debug, Drop)]
+#[derive(Drop)]
 pub enum Command {
     /// `\relax`, and `\par` outside of a paragraph.
     Nothing,

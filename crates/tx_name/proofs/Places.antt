@@ -1,5 +1,5 @@
 -- What stands at a place of entries whose names rise, and what a change there makes of the map.
-use Rattle.std.proofs.Common.{◌≡◌, ℕ, zero, suc, ◌<◌, ◌≤◌, Bool, true, false, cond, not, ◌&&◌, List, [], ◌∷◌, length, get_or, set, Option, Some, None, Result, Ok, Err, IfOk, IfErr, refl, sym, ap, subst, ◌∙◌, arith}
+use Rattle.std.proofs.Common.{◌≡◌, ◌≢◌, drop, ℕ, zero, suc, ◌<◌, ◌≤◌, Bool, true, false, cond, not, ◌&&◌, List, [], ◌∷◌, length, get_or, set, Option, Some, None, Result, Ok, Err, IfOk, IfErr, refl, sym, ap, subst, ◌∙◌, arith}
 use Rattle.std.specs.Prelude.{T, insert, remove, IsSome, is_some}
 use mathlib.Core.Bool.{false≢true}
 use Rattle.std.proofs.Common.{◌⊎◌, inl, inr}
@@ -138,12 +138,22 @@ module _ {X : Type 0} where
     after = λ j d after inside. is.after (suc j) d (omega arith) (omega (arith, inside));
   }
 
-  -- what is found
-  pub find-at : (es : List (List ℕ × X)) (name : List ℕ) (at : ℕ) (d : List ℕ × X) → IsAt es name at → find by_bytes name es ≡ Some (get_or es at d).1
-  find-at [] name at d is = absurd (omega (arith, is.inside))
-  find-at (e ∷ es) name zero d is = ap (λ o. cond (is_eq o) (Some e.1) (find by_bytes name es)) (is.here d)
-  find-at (e ∷ es) name (suc at) d is = ap (λ o. cond (is_eq o) (Some e.1) (find by_bytes name es)) (is.before 0 d (omega arith)) ∙ find-at es name at d (at-tail e es name at is)
+  -- what is found from a place on: the entry there, if it has the name, or what is found behind it
+  pub find-here : (es : List (List ℕ × X)) (k : ℕ) (name : List ℕ) (d : List ℕ × X) → k < length es → (get_or es k d).0 ≡ name → find by_bytes name (drop k es) ≡ Some (get_or es k d).1
+  find-here [] k name d within same = absurd (omega (arith, within))
+  find-here (e ∷ es) zero name d within same = ap (λ b. cond b (Some e.1) (find by_bytes name es)) (ap (same_name name) same ∙ (eq_by_cmp_equiv nat_list_cmp_total).refl name)
+  find-here (e ∷ es) (suc k) name d within same = find-here es k name d (omega (arith, within)) same
 
+  pub find-on : (es : List (List ℕ × X)) (k : ℕ) (name : List ℕ) (d : List ℕ × X) → k < length es → (get_or es k d).0 ≢ name → find by_bytes name (drop k es) ≡ find by_bytes name (drop (suc k) es)
+  find-on [] k name d within apart = absurd (omega (arith, within))
+  find-on (e ∷ es) zero name d within apart =
+      elim (same_name name e.0) as (λ b. same_name name e.0 ≡ b → cond b (Some e.1) (find by_bytes name es) ≡ find by_bytes name es) [
+        | true ↦ λ same. absurd (apart (sym (named_same name e.0 same)))
+        | false ↦ λ same. refl
+      ] refl
+  find-on (e ∷ es) (suc k) name d within apart = find-on es k name d (omega (arith, within)) apart
+
+  -- what is found at a gap
   pub find-gap : (es : List (List ℕ × X)) (name : List ℕ) (at : ℕ) → IsGap es name at → find by_bytes name es ≡ None
   find-gap [] name at is = refl
   find-gap (e ∷ es) name zero is = ap (λ o. cond (is_eq o) (Some e.1) (find by_bytes name es)) (is.after 0 e (omega arith) (omega arith)) ∙ find-gap es name 0 (first-gap-tail e es name is)

@@ -1,12 +1,12 @@
--- The map that buckets make up together answers as the bucket of a name does.
-use Rattle.std.proofs.Common.{◌≡◌, ◌≢◌, ℕ, zero, suc, ◌<◌, Bool, true, false, cond, List, [], ◌∷◌, ◌++◌, length, get_or, set, Option, Some, None, refl, sym, ap, ◌∙◌, ◌⊎◌, inl, inr, arith}
+-- The map that parts make up together answers as the part of a name does.
+use Rattle.std.proofs.Common.{◌≡◌, ◌≢◌, ℕ, zero, suc, ◌<◌, Bool, true, false, cond, List, [], ◌∷◌, ◌++◌, length, set, Option, Some, None, refl, sym, ap, ◌∙◌, ◌⊎◌, inl, inr, arith}
 use Rattle.std.proofs.lemmas.Bool.{cases_lt}
-use Rattle.std.proofs.lemmas.List.{get_or_default, length-set, get_or-set_same, set-get_or, get_or-set_other, ext_get_or}
+use Rattle.std.proofs.lemmas.List.{length-set, get_or-set_same, get_or-set_other, ext_get_or}
 use Rattle.std.specs.Cmp.Lexicographic.{nat_list_cmp_total}
 use Rattle.std.specs.FinMap.{empty, entries, get, insert, remove, same_map, get-empty, get-entries, get-insert, get-remove, get-from_entries, slice_cmp-IsAntisymmetric, nat_cmp-IsAntisymmetric}
 use Rattle.std.specs.FinMap.Entries.{find}
 use Rattle.tx_name.specs.Names.{Names}
-use Rattle.tx_name.specs.Buckets.{IsPlaced, bucket_at, bucket_of, entries_in, together}
+use Rattle.tx_name.specs.Buckets.{IsPlaced, part_at, entries_in, together}
 use Rattle.tx_name.proofs.Places.{by_bytes, same_name, named_same}
 
 -- two numbers are equal or not
@@ -32,27 +32,23 @@ module _ {X : Type 0} where
     | false ↦ find-join q xs ys
   ]
 
-  -- what is found behind a bucket that lacks the name
-  find-behind : (q : List ℕ) (bucket : Names X) (buckets : List (Names X)) → get bucket q ≡ None → find by_bytes q (entries_in (bucket ∷ buckets)) ≡ find by_bytes q (entries_in buckets)
-  find-behind q bucket buckets none = find-join q (entries bucket) (entries_in buckets)
-      ∙ ap (λ o. first_found o (find by_bytes q (entries_in buckets))) (sym (get-entries bucket q) ∙ none)
+  -- what is found behind a part that lacks the name
+  find-behind : (q : List ℕ) (part : Names X) (parts : List (Names X)) → get part q ≡ None → find by_bytes q (entries_in (part ∷ parts)) ≡ find by_bytes q (entries_in parts)
+  find-behind q part parts none = find-join q (entries part) (entries_in parts)
+      ∙ ap (λ o. first_found o (find by_bytes q (entries_in parts))) (sym (get-entries part q) ∙ none)
 
-  find-none : (q : List ℕ) (buckets : List (Names X)) → ((i : ℕ) → get (bucket_at buckets i) q ≡ None) → find by_bytes q (entries_in buckets) ≡ None
+  find-none : (q : List ℕ) (parts : List (Names X)) → ((i : ℕ) → get (part_at parts i) q ≡ None) → find by_bytes q (entries_in parts) ≡ None
   find-none q [] none = refl
-  find-none q (bucket ∷ buckets) none = find-behind q bucket buckets (none 0) ∙ find-none q buckets (λ i. none (suc i))
+  find-none q (part ∷ parts) none = find-behind q part parts (none 0) ∙ find-none q parts (λ i. none (suc i))
 
-  find-in : (q : List ℕ) (buckets : List (Names X)) (at : ℕ) → ((i : ℕ) → i ≢ at → get (bucket_at buckets i) q ≡ None) → find by_bytes q (entries_in buckets) ≡ get (bucket_at buckets at) q
+  find-in : (q : List ℕ) (parts : List (Names X)) (at : ℕ) → ((i : ℕ) → i ≢ at → get (part_at parts i) q ≡ None) → find by_bytes q (entries_in parts) ≡ get (part_at parts at) q
   find-in q [] at others = sym (get-empty by_bytes q)
-  find-in q (bucket ∷ buckets) zero others = find-join q (entries bucket) (entries_in buckets)
-      ∙ ap (λ o. first_found (find by_bytes q (entries bucket)) o) (find-none q buckets (λ i. others (suc i) (λ e. omega (arith, e))))
-      ∙ found-or-none (find by_bytes q (entries bucket))
-      ∙ sym (get-entries bucket q)
-  find-in q (bucket ∷ buckets) (suc at) others = find-behind q bucket buckets (others 0 (λ e. omega (arith, e)))
-      ∙ find-in q buckets at (λ i apart. others (suc i) (λ e. apart (omega (arith, e))))
-
-  -- a name's value is the one in its bucket
-  pub get-together : (buckets : List (Names X)) → IsPlaced buckets → (q : List ℕ) → get (together buckets) q ≡ get (bucket_at buckets (bucket_of q)) q
-  get-together buckets is q = get-from_entries nat_list_cmp_total _ q ∙ find-in q buckets (bucket_of q) (λ i apart. is.placed i q (λ e. apart (sym e)))
+  find-in q (part ∷ parts) zero others = find-join q (entries part) (entries_in parts)
+      ∙ ap (λ o. first_found (find by_bytes q (entries part)) o) (find-none q parts (λ i. others (suc i) (λ e. omega (arith, e))))
+      ∙ found-or-none (find by_bytes q (entries part))
+      ∙ sym (get-entries part q)
+  find-in q (part ∷ parts) (suc at) others = find-behind q part parts (others 0 (λ e. omega (arith, e)))
+      ∙ find-in q parts at (λ i apart. others (suc i) (λ e. apart (omega (arith, e))))
 
   -- a map has changed at one name alone
   abbrev pub Changes : Names X → Names X → List ℕ → Option X → Type 0
@@ -66,34 +62,6 @@ module _ {X : Type 0} where
   old-kept true now old apart = absurd (apart refl)
   old-kept false now old apart = refl
 
-  module _ (buckets : List (Names X)) (is : IsPlaced buckets) (name : List ℕ) (within : bucket_of name < 1024) (new : Names X) (now : Option X) (changes : Changes (bucket_at buckets (bucket_of name)) new name now) where
-    inside : bucket_of name < length buckets
-    inside = omega (arith, within, is.count)
-
-    pub placed-changed : IsPlaced (set buckets (bucket_of name) new)
-    placed-changed = record {
-      count = length-set buckets (bucket_of name) new ∙ is.count;
-      placed = λ at q apart. elim (equal-or-not at (bucket_of name)) [
-        | inl same ↦ ap (λ k. get (bucket_at (set buckets (bucket_of name) new) k) q) same
-            ∙ ap (λ m. get m q) (get_or-set_same buckets (bucket_of name) new empty inside)
-            ∙ changes q
-            ∙ none-kept (same_name q name) now _ (λ e. apart (ap bucket_of (named_same q name e) ∙ sym same)) (is.placed (bucket_of name) q (λ e. apart (e ∙ sym same)))
-        | inr other ↦ ap (λ m. get m q) (get_or-set_other buckets (bucket_of name) at new empty other) ∙ is.placed at q apart
-      ];
-    }
-
-    pub together-changed : Changes (together buckets) (together (set buckets (bucket_of name) new)) name now
-    together-changed q = get-together _ placed-changed q ∙ elim (equal-or-not (bucket_of q) (bucket_of name)) [
-      | inl same ↦ ap (λ k. get (bucket_at (set buckets (bucket_of name) new) k) q) same
-          ∙ ap (λ m. get m q) (get_or-set_same buckets (bucket_of name) new empty inside)
-          ∙ changes q
-          ∙ ap (λ k. cond (same_name q name) now (get (bucket_at buckets k) q)) (sym same)
-          ∙ ap (cond (same_name q name) now) (sym (get-together buckets is q))
-      | inr other ↦ ap (λ m. get m q) (get_or-set_other buckets (bucket_of name) (bucket_of q) new empty other)
-          ∙ sym (get-together buckets is q)
-          ∙ old-kept (same_name q name) now _ (λ e. other (ap bucket_of (named_same q name e)))
-    ]
-
   -- a value put in, and a value taken away
   changes-insert : (m : Names X) (name : List ℕ) (v : X) → Changes m (insert m name v) name (Some v)
   changes-insert m name v q = get-insert nat_list_cmp_total m name v q
@@ -105,32 +73,66 @@ module _ {X : Type 0} where
   alike : (old some other : Names X) (name : List ℕ) (now : Option X) → Changes old some name now → Changes old other name now → some ≡ other
   alike old some other name now first second = same_map nat_list_cmp_total (slice_cmp-IsAntisymmetric nat_cmp-IsAntisymmetric) some other (λ q. first q ∙ sym (second q))
 
-  pub together-insert : (buckets : List (Names X)) → IsPlaced buckets → (name : List ℕ) → bucket_of name < 1024 → (v : X) (new : Names X) → new ≡ insert (bucket_at buckets (bucket_of name)) name v → together (set buckets (bucket_of name) new) ≡ insert (together buckets) name v
-  together-insert buckets is name within v new e = alike (together buckets) _ _ name (Some v)
-      (together-changed buckets is name within new (Some v) (λ q. ap (λ m. get m q) e ∙ changes-insert _ name v q)) (changes-insert _ name v)
+  pub empty-together : (parts : List (Names X)) → ((i : ℕ) → part_at parts i ≡ empty) → together parts ≡ empty
+  empty-together parts all = same_map nat_list_cmp_total (slice_cmp-IsAntisymmetric nat_cmp-IsAntisymmetric) _ _ (λ q.
+      get-from_entries nat_list_cmp_total _ q ∙ find-none q parts (λ i. ap (λ m. get m q) (all i) ∙ get-empty by_bytes q) ∙ sym (get-empty by_bytes q))
 
-  pub placed-insert : (buckets : List (Names X)) → IsPlaced buckets → (name : List ℕ) → bucket_of name < 1024 → (v : X) (new : Names X) → new ≡ insert (bucket_at buckets (bucket_of name)) name v → IsPlaced (set buckets (bucket_of name) new)
-  placed-insert buckets is name within v new e = placed-changed buckets is name within new (Some v) (λ q. ap (λ m. get m q) e ∙ changes-insert _ name v q)
+-- each name has its own of the parts
+module _ {X : Type 0} {part_of : List ℕ → ℕ} where
+  -- a name's value is the one in its part
+  pub get-together : (parts : List (Names X)) → IsPlaced part_of parts → (q : List ℕ) → get (together parts) q ≡ get (part_at parts (part_of q)) q
+  get-together parts is q = get-from_entries nat_list_cmp_total _ q ∙ find-in q parts (part_of q) (λ i apart. is.placed i q (λ e. apart (sym e)))
 
-  pub together-remove : (buckets : List (Names X)) → IsPlaced buckets → (name : List ℕ) → bucket_of name < 1024 → (new : Names X) → new ≡ remove (bucket_at buckets (bucket_of name)) name → together (set buckets (bucket_of name) new) ≡ remove (together buckets) name
-  together-remove buckets is name within new e = alike (together buckets) _ _ name None
-      (together-changed buckets is name within new None (λ q. ap (λ m. get m q) e ∙ changes-remove _ name q)) (changes-remove _ name)
+  module _ (parts : List (Names X)) (is : IsPlaced part_of parts) (name : List ℕ) (within : part_of name < 32) (new : Names X) (now : Option X) (changes : Changes (part_at parts (part_of name)) new name now) where
+    inside : part_of name < length parts
+    inside = omega (arith, within, is.count)
 
-  pub placed-remove : (buckets : List (Names X)) → IsPlaced buckets → (name : List ℕ) → bucket_of name < 1024 → (new : Names X) → new ≡ remove (bucket_at buckets (bucket_of name)) name → IsPlaced (set buckets (bucket_of name) new)
-  placed-remove buckets is name within new e = placed-changed buckets is name within new None (λ q. ap (λ m. get m q) e ∙ changes-remove _ name q)
+    pub placed-changed : IsPlaced part_of (set parts (part_of name) new)
+    placed-changed = record {
+      count = length-set parts (part_of name) new ∙ is.count;
+      placed = λ at q apart. elim (equal-or-not at (part_of name)) [
+        | inl same ↦ ap (λ k. get (part_at (set parts (part_of name) new) k) q) same
+            ∙ ap (λ m. get m q) (get_or-set_same parts (part_of name) new empty inside)
+            ∙ changes q
+            ∙ none-kept (same_name q name) now _ (λ e. apart (ap part_of (named_same q name e) ∙ sym same)) (is.placed (part_of name) q (λ e. apart (e ∙ sym same)))
+        | inr other ↦ ap (λ m. get m q) (get_or-set_other parts (part_of name) at new empty other) ∙ is.placed at q apart
+      ];
+    }
 
-  -- equal maps have equal buckets
-  pub same-together : (some other : List (Names X)) → IsPlaced some → IsPlaced other → together some ≡ together other → some ≡ other
+    pub together-changed : Changes (together parts) (together (set parts (part_of name) new)) name now
+    together-changed q = get-together _ placed-changed q ∙ elim (equal-or-not (part_of q) (part_of name)) [
+      | inl same ↦ ap (λ k. get (part_at (set parts (part_of name) new) k) q) same
+          ∙ ap (λ m. get m q) (get_or-set_same parts (part_of name) new empty inside)
+          ∙ changes q
+          ∙ ap (λ k. cond (same_name q name) now (get (part_at parts k) q)) (sym same)
+          ∙ ap (cond (same_name q name) now) (sym (get-together parts is q))
+      | inr other ↦ ap (λ m. get m q) (get_or-set_other parts (part_of name) (part_of q) new empty other)
+          ∙ sym (get-together parts is q)
+          ∙ old-kept (same_name q name) now _ (λ e. other (ap part_of (named_same q name e)))
+    ]
+
+  pub together-insert : (parts : List (Names X)) → IsPlaced part_of parts → (name : List ℕ) → part_of name < 32 → (v : X) (new : Names X) → new ≡ insert (part_at parts (part_of name)) name v → together (set parts (part_of name) new) ≡ insert (together parts) name v
+  together-insert parts is name within v new e = alike (together parts) _ _ name (Some v)
+      (together-changed parts is name within new (Some v) (λ q. ap (λ m. get m q) e ∙ changes-insert _ name v q)) (changes-insert _ name v)
+
+  pub placed-insert : (parts : List (Names X)) → IsPlaced part_of parts → (name : List ℕ) → part_of name < 32 → (v : X) (new : Names X) → new ≡ insert (part_at parts (part_of name)) name v → IsPlaced part_of (set parts (part_of name) new)
+  placed-insert parts is name within v new e = placed-changed parts is name within new (Some v) (λ q. ap (λ m. get m q) e ∙ changes-insert _ name v q)
+
+  pub together-remove : (parts : List (Names X)) → IsPlaced part_of parts → (name : List ℕ) → part_of name < 32 → (new : Names X) → new ≡ remove (part_at parts (part_of name)) name → together (set parts (part_of name) new) ≡ remove (together parts) name
+  together-remove parts is name within new e = alike (together parts) _ _ name None
+      (together-changed parts is name within new None (λ q. ap (λ m. get m q) e ∙ changes-remove _ name q)) (changes-remove _ name)
+
+  pub placed-remove : (parts : List (Names X)) → IsPlaced part_of parts → (name : List ℕ) → part_of name < 32 → (new : Names X) → new ≡ remove (part_at parts (part_of name)) name → IsPlaced part_of (set parts (part_of name) new)
+  placed-remove parts is name within new e = placed-changed parts is name within new None (λ q. ap (λ m. get m q) e ∙ changes-remove _ name q)
+
+  -- equal maps have equal parts
+  pub same-together : (some other : List (Names X)) → IsPlaced part_of some → IsPlaced part_of other → together some ≡ together other → some ≡ other
   same-together some other is also same = ext_get_or empty some other (is.count ∙ sym also.count) (λ i within.
-      same_map nat_list_cmp_total (slice_cmp-IsAntisymmetric nat_cmp-IsAntisymmetric) _ _ (λ q. elim (equal-or-not (bucket_of q) i) [
-        | inl here ↦ ap (λ k. get (bucket_at some k) q) (sym here) ∙ sym (get-together some is q) ∙ ap (λ m. get m q) same ∙ get-together other also q ∙ ap (λ k. get (bucket_at other k) q) here
+      same_map nat_list_cmp_total (slice_cmp-IsAntisymmetric nat_cmp-IsAntisymmetric) _ _ (λ q. elim (equal-or-not (part_of q) i) [
+        | inl here ↦ ap (λ k. get (part_at some k) q) (sym here) ∙ sym (get-together some is q) ∙ ap (λ m. get m q) same ∙ get-together other also q ∙ ap (λ k. get (part_at other k) q) here
         | inr apart ↦ is.placed i q apart ∙ sym (also.placed i q apart)
       ]))
 
-  -- buckets that are all empty
-  pub empty-placed : (buckets : List (Names X)) → length buckets ≡ 1024 → ((i : ℕ) → bucket_at buckets i ≡ empty) → IsPlaced buckets
-  empty-placed buckets count all = record { count = count; placed = λ at q apart. ap (λ m. get m q) (all at) ∙ get-empty by_bytes q }
-
-  pub empty-together : (buckets : List (Names X)) → ((i : ℕ) → bucket_at buckets i ≡ empty) → together buckets ≡ empty
-  empty-together buckets all = same_map nat_list_cmp_total (slice_cmp-IsAntisymmetric nat_cmp-IsAntisymmetric) _ _ (λ q.
-      get-from_entries nat_list_cmp_total _ q ∙ find-none q buckets (λ i. ap (λ m. get m q) (all i) ∙ get-empty by_bytes q) ∙ sym (get-empty by_bytes q))
+  -- parts that are all empty
+  pub empty-placed : (parts : List (Names X)) → length parts ≡ 32 → ((i : ℕ) → part_at parts i ≡ empty) → IsPlaced part_of parts
+  empty-placed parts count all = record { count = count; placed = λ at q apart. ap (λ m. get m q) (all at) ∙ get-empty by_bytes q }

@@ -1,6 +1,6 @@
--- How a map is laid out: which bucket a name belongs to, and where it stands there. For the look-up alone, no public
--- clause says it.
-use Rattle.std.specs.Prelude.{◌≡◌, ◌≢◌, ◌<◌, ◌≤◌, ◌+◌, ◌*◌, ◌%◌, ℕ, T, List, [], ◌∷◌, ◌++◌, length, map, slice_index_or, None}
+-- How a map is laid out: on which shelf and in which bucket a name stands, and where there. For the look-up alone, no
+-- public clause says it.
+use Rattle.std.specs.Prelude.{◌≡◌, ◌≢◌, ◌<◌, ◌≤◌, ◌+◌, ◌*◌, ◌/◌, ◌%◌, ℕ, T, List, [], ◌∷◌, ◌++◌, length, map, slice_index_or, None}
 use Rattle.std.specs.declared.cmp.Ordering.TheVariants.{Less, Equal, Greater}
 use Rattle.std.specs.Ordering.{nat_cmp}
 use Rattle.std.specs.Cmp.Lexicographic.{slice_cmp}
@@ -42,27 +42,30 @@ abbrev pub mixed : ℕ → List ℕ → ℕ
 mixed number [] = number
 mixed number (byte ∷ bytes) = mixed ((number * 31 + byte) % 1024) bytes
 
--- which of the 1024 buckets a name belongs to
-abbrev pub bucket_of : List ℕ → ℕ
-bucket_of name = mixed 0 name
+-- on which of the 32 shelves a name stands, and in which of the 32 buckets there
+abbrev pub shelf_of : List ℕ → ℕ
+shelf_of name = mixed 0 name / 32
 
--- the map that buckets make up together
+abbrev pub bucket_of : List ℕ → ℕ
+bucket_of name = mixed 0 name % 32
+
+-- the map that parts make up together
 abbrev pub entries_in : {X : Type 0} → List (Names X) → List (List ℕ × X)
 entries_in [] = []
-entries_in (bucket ∷ buckets) = entries bucket ++ entries_in buckets
+entries_in (part ∷ parts) = entries part ++ entries_in parts
 
 abbrev pub together : {X : Type 0} → List (Names X) → Names X
-together buckets = from_entries (entries_in buckets)
+together parts = from_entries (entries_in parts)
 
--- what buckets hold that may be shared
+-- what parts hold that may be shared
 abbrev pub held : {X Z : Type 0} → List (Rc (Names X) Z) → List (Names X)
-held buckets = map rc_value buckets
+held parts = map rc_value parts
 
--- what the bucket of a number holds
-abbrev pub bucket_at : {X : Type 0} → List (Names X) → ℕ → Names X
-bucket_at buckets at = slice_index_or buckets at empty
+-- what the part of a number holds
+abbrev pub part_at : {X : Type 0} → List (Names X) → ℕ → Names X
+part_at parts at = slice_index_or parts at empty
 
--- there are 1024 buckets, and each name stands in its own alone
-pub record IsPlaced {X : Type 0} (buckets : List (Names X)) : Type 0 where
-  pub count : length buckets ≡ 1024
-  pub placed : (at : ℕ) (name : List ℕ) → bucket_of name ≢ at → get (bucket_at buckets at) name ≡ None
+-- there are 32 parts, and each name stands in its own alone
+pub record IsPlaced {X : Type 0} (part_of : List ℕ → ℕ) (parts : List (Names X)) : Type 0 where
+  pub count : length parts ≡ 32
+  pub placed : (at : ℕ) (name : List ℕ) → part_of name ≢ at → get (part_at parts at) name ≡ None

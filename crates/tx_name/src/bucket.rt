@@ -4,13 +4,14 @@ ghost use Rattle.std.specs.Option.{option_copied};
 ghost use Rattle.std.specs.Ordering.{nat_cmp};
 ghost use Rattle.std.specs.Cmp.Lexicographic.{slice_cmp};
 ghost use Rattle.std.specs.FinMap.{empty, get, insert, remove};
+ghost use Rattle.std.specs.FinMap.Entries.{find};
 ghost use Rattle.tx_name.specs.Buckets.{IsRising, IsAt, IsGap};
 
-use crate::kept::Kept;
 use std::alloc::{AllocError, Global};
 use std::cmp::Ordering;
 use std::marker::Model;
 use tx_char::ControlName;
+use tx_list::Kept;
 
 /// Names that rise, with their values. Contracts see the finite map.
 #[derive(Drop)]
@@ -46,13 +47,10 @@ impl<T: Kept> Bucket<T> {
     }
 
     /// The value of a name, lent; None exactly where the name has none.
-    pub fn get(&self, name: &[u8]) -> Option<&T>
+    pub fn get(&self, name: &ControlName) -> Option<&T>
         ensures { option_copied result ≡ get self.now name.now }
     {
-        match search(self.entries.as_slice(), name) {
-            Ok(place) => Some(&self.entries[place].1),
-            Err(_) => None,
-        }
+        value_of(self.entries.as_slice(), name)
     }
 
     /// Gives a name a value, in the place of the one that it has. After want of memory nothing has changed.
@@ -77,11 +75,17 @@ impl<T: Kept> Bucket<T> {
             let _taken = self.entries.remove(place);
         }
     }
+}
 
-    /// Whether both are the same map.
-    pub fn same(&self, other: &Bucket<T>) -> bool
-        ensures { IsTrue result ↔ (self.now ≡ other.now) }
-    {
+impl<T: Kept> Kept for Bucket<T> {
+    fn share(&self) -> Result<Self, AllocError> {
+        let alloc = *self.entries.allocator();
+        Ok(Bucket {
+            entries: share_entries(alloc, self.entries.as_slice())?,
+        })
+    }
+
+    fn same(&self, other: &Self) -> bool {
         same_entries(self.entries.as_slice(), other.entries.as_slice())
     }
 }
@@ -91,11 +95,20 @@ impl<T: Kept> Clone for Bucket<T> {
     ghost is_clone = { λ source copy. copy ≡ source };
 
     fn clone(&self) -> Result<Self, AllocError> {
-        let alloc = *self.entries.allocator();
-        Ok(Bucket {
-            entries: share_entries(alloc, self.entries.as_slice())?,
-        })
+        self.share()
     }
+}
+
+/// The value of the first entry with this name, lent. A bucket holds few entries, so that this is quicker than a search.
+fn value_of<'a, T>(entries: &'a [(ControlName, T)], name: &ControlName) -> Option<&'a T>
+    ensures { option_copied result ≡ find (slice_cmp nat_cmp) name.now entries.now }
+{
+    for entry in entries {
+        if entry.0.same(name) {
+            return Some(&entry.1);
+        }
+    }
+    None
 }
 
 /// Where a name stands among entries whose names rise, or else where it would go.

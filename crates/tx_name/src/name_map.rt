@@ -1,24 +1,22 @@
-//! The map: a name's bytes say in which bucket it lies.
+//! The map: a name's bytes say on which shelf it stands, and in which bucket there.
 ghost use Rattle.std.specs.Prelude.{◌≡◌, ◌↔◌, ◌<◌, IsTrue, IfOk, OnOk, OnErr};
 ghost use Rattle.std.specs.Option.{option_copied};
 ghost use Rattle.std.specs.FinMap.{empty, get, insert, remove};
-ghost use Rattle.tx_name.specs.Buckets.{bucket_of, held};
+ghost use Rattle.tx_name.specs.Buckets.{bucket_of};
 
-use crate::bucket::Bucket;
-use crate::kept::Kept;
+use crate::parts::{SHELVES, same_parts, spot_of};
+use crate::shelf::Shelf;
 use std::alloc::{AllocError, Global};
 use std::marker::Model;
 use std::rc::Rc;
 use tx_char::ControlName;
+use tx_list::Kept;
 
-/// How many buckets there are.
-const BUCKETS: usize = 1024;
-
-/// A finite map from names to values. Contracts see the map. Shared maps have one list of buckets between them until one
-/// of them changes, and then each bucket that neither has changed.
+/// A finite map from names to values. Contracts see the map. Shared maps have one list of shelves between them until one
+/// of them changes, and then each shelf, and each bucket of a shelf, that neither has changed.
 #[derive(Drop)]
 pub struct NameMap<T> {
-    buckets: Rc<Vec<Rc<Bucket<T>>>>,
+    shelves: Rc<Vec<Rc<Shelf<T>>>>,
 }
 
 impl<T> Model for NameMap<T> {
@@ -31,11 +29,11 @@ impl<T> Model for NameMap<T> {
 
     ghost coded = { map.code (coded_list coded_ℕ) T.code };
 
-    ghost use Rattle.tx_name.specs.Buckets.{IsPlaced, held, together};
+    ghost use Rattle.tx_name.specs.Buckets.{IsPlaced, held, shelf_of, together};
 
-    ghost view = { λ m. together (held m.buckets.value.items) };
+    ghost view = { λ m. together (held m.shelves.value.items) };
 
-    ghost invariant = { λ m. IsPlaced (held m.buckets.value.items) };
+    ghost invariant = { λ m. IsPlaced shelf_of (held m.shelves.value.items) };
 }
 
 impl<T: Kept> NameMap<T> {
@@ -43,9 +41,9 @@ impl<T: Kept> NameMap<T> {
     pub fn new(alloc: Global) -> Result<NameMap<T>, AllocError>
         ensures { IfOk result (λ m. m ≡ empty) }
     {
-        let bucket = Rc::new(alloc, Bucket::new(alloc))?;
+        let shelf = Rc::new(alloc, Shelf::new(alloc)?)?;
         Ok(NameMap {
-            buckets: Rc::new(alloc, vec![in alloc; bucket; BUCKETS]?)?,
+            shelves: Rc::new(alloc, vec![in alloc; shelf; SHELVES]?)?,
         })
     }
 
@@ -53,8 +51,8 @@ impl<T: Kept> NameMap<T> {
     pub fn get(&self, name: &ControlName) -> Option<&T>
         ensures { option_copied result ≡ get self.now name.now }
     {
-        let name = name.as_slice();
-        self.buckets[bucket_number(name)].get(name)
+        let spot = spot_of(name.as_slice());
+        self.shelves[spot.shelf].get(spot.bucket, name)
     }
 
     /// Gives a name a value, in the place of the one that it has. After want of memory, its only error, the map may only be
@@ -62,9 +60,9 @@ impl<T: Kept> NameMap<T> {
     pub fn insert(&mut self, name: ControlName, value: T) -> Result<(), AllocError>
         ensures { OnOk result (self.new ≡ insert self.old name value) }
     {
-        let at = bucket_number(name.as_slice());
-        let own = Rc::make_mut(&mut self.buckets)?;
-        insert_in(&mut own[at], name, value)?;
+        let spot = spot_of(name.as_slice());
+        let own = Rc::make_mut(&mut self.shelves)?;
+        insert_in(&mut own[spot.shelf], spot.bucket, name, value)?;
         Ok(())
     }
 
@@ -72,10 +70,13 @@ impl<T: Kept> NameMap<T> {
     pub fn remove(&mut self, name: &ControlName) -> Result<(), AllocError>
         ensures { OnOk result (self.new ≡ remove self.old name.now) }
     {
+        let Some(_value) = self.get(name) else {
+            return Ok(());
+        };
         let name = name.as_slice();
-        let at = bucket_number(name);
-        let own = Rc::make_mut(&mut self.buckets)?;
-        remove_in(&mut own[at], name)?;
+        let spot = spot_of(name);
+        let own = Rc::make_mut(&mut self.shelves)?;
+        remove_in(&mut own[spot.shelf], spot.bucket, name)?;
         Ok(())
     }
 
@@ -83,7 +84,7 @@ impl<T: Kept> NameMap<T> {
     pub fn same(&self, other: &NameMap<T>) -> bool
         ensures { IsTrue result ↔ (self.now ≡ other.now) }
     {
-        same_buckets(self.buckets.as_slice(), other.buckets.as_slice())
+        same_parts(self.shelves.as_slice(), other.shelves.as_slice())
     }
 
     /// A second map, equal to this one, which changes alone from then on. Nothing is copied until then. Its only error is
@@ -92,58 +93,36 @@ impl<T: Kept> NameMap<T> {
         ensures { IfOk result (λ twin. twin ≡ self.now) }
     {
         Ok(NameMap {
-            buckets: self.buckets.clone()?,
+            shelves: self.shelves.clone()?,
         })
     }
 }
 
-/// The number of the bucket of a name.
-fn bucket_number(name: &[u8]) -> usize
-    ensures value { result ≡ bucket_of name.now }
-    ensures within { result < 1024 }
-{
-    let mut number: usize = 0;
-    for byte in name {
-        number = (number * 31 + *byte as usize) % BUCKETS;
-    }
-    number
-}
-
-/// Gives a name a value in a bucket that maps may share; only this owner sees it. After want of memory nothing has changed.
+/// Gives a name a value on a shelf that maps may share, in the bucket of this number; only this owner sees it. After want of
+/// memory nothing has changed.
 fn insert_in<T: Kept>(
-    bucket: &mut Rc<Bucket<T>>,
+    shelf: &mut Rc<Shelf<T>>,
+    at: usize,
     name: ControlName,
     value: T,
 ) -> Result<(), AllocError>
-    ensures ok { OnOk result (bucket.new.value ≡ insert bucket.old.value name value) }
-    ensures err { OnErr result (bucket.new.value ≡ bucket.old.value) }
+    requires own { at ≡ bucket_of name }
+    requires within { at < 32 }
+    ensures ok { OnOk result (shelf.new.value ≡ insert shelf.old.value name value) }
+    ensures err { OnErr result (shelf.new.value ≡ shelf.old.value) }
 {
-    let own = Rc::make_mut(bucket)?;
-    own.insert(name, value)
+    let own = Rc::make_mut(shelf)?;
+    own.insert(at, name, value)
 }
 
-/// Takes a name's value away in a bucket that maps may share; only this owner sees it. After want of memory nothing has
-/// changed.
-fn remove_in<T: Kept>(bucket: &mut Rc<Bucket<T>>, name: &[u8]) -> Result<(), AllocError>
-    ensures ok { OnOk result (bucket.new.value ≡ remove bucket.old.value name.now) }
-    ensures err { OnErr result (bucket.new.value ≡ bucket.old.value) }
+/// Takes a name's value away on a shelf that maps may share, in the bucket of this number; only this owner sees it. After
+/// want of memory nothing has changed.
+fn remove_in<T: Kept>(shelf: &mut Rc<Shelf<T>>, at: usize, name: &[u8]) -> Result<(), AllocError>
+    requires own { at ≡ bucket_of name.now }
+    requires within { at < 32 }
+    ensures ok { OnOk result (shelf.new.value ≡ remove shelf.old.value name.now) }
+    ensures err { OnErr result (shelf.new.value ≡ shelf.old.value) }
 {
-    let own = Rc::make_mut(bucket)?;
-    own.remove(name);
-    Ok(())
-}
-
-/// Whether both lists hold the same buckets in the same order.
-fn same_buckets<T: Kept>(some: &[Rc<Bucket<T>>], others: &[Rc<Bucket<T>>]) -> bool
-    ensures { IsTrue result ↔ (held some.now ≡ held others.now) }
-{
-    if some.len() != others.len() {
-        return false;
-    }
-    for k in 0..some.len() {
-        if !some[k].same(&others[k]) {
-            return false;
-        }
-    }
-    true
+    let own = Rc::make_mut(shelf)?;
+    own.remove(at, name)
 }

@@ -7,7 +7,7 @@ use std::marker::Model;
 
 /// Glue: a natural width, how far it stretches and how far it shrinks, in sp, the last two each of an order 0 to 3: normal,
 /// fil, fill, filll (TeX: The Program, section 150). Its three sizes are dimensions.
-#[derive(Clone, Copy, Debug, PartialEq, Eq)]
+#[derive(Clone, Copy, PartialEq, Eq)]
 pub struct Glue {
     width: i64,
     stretch: i64,

@@ -1,6 +1,9 @@
 //! TeX's arithmetic: dimensions in scaled points, glue, badness, and fractions that round as TeX does. It stands on no
 //! other part of the engine. Definitions are whole numbers without bound; the code says where a number leaves its range.
 //!
+//! Proved: each call is its formula on unbounded numbers, Overflow exactly past the range. Only tested: values that Knuth's
+//! TeX prints.
+//!
 //! Modules in reading order: `limits`, `fractions`, `stretching`, `decimal`, `units`, `glue_spec`.
 #![tactic(auto)]
 

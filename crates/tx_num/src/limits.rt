@@ -10,7 +10,7 @@ use thiserror::Error;
 pub struct Overflow;
 
 /// What a number is used as, which says how large it may be, either way.
-#[derive(Clone, Copy, Debug, PartialEq, Eq)]
+#[derive(Clone, Copy, PartialEq, Eq)]
 pub enum Range {
     /// An integer, at most 2^31 - 1.
     Integer,

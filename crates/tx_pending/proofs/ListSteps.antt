@@ -1,11 +1,11 @@
 -- Reading a list.
-use Rattle.std.proofs.Common.{◌≡◌, ◌≢◌, ℕ, ◌-◌, ◌≤◌, ◌<◌, Bool, true, false, List, [], ◌∷◌, length, take, drop, refl, ap, sym, ◌∙◌, arith, leb, leb-true, le-leb, IsTrue, ◌↔◌, get_or, slice_get, subst, zero, suc}
+use Rattle.std.proofs.Common.{◌≡◌, ◌≢◌, ℕ, ◌-◌, ◌≤◌, ◌<◌, Bool, true, false, List, [], ◌∷◌, length, take, drop, refl, ap, sym, ◌∙◌, arith, leb, leb-true, le-leb, IsTrue, ◌↔◌, Some, None, get_or, slice_get, subst, zero, suc}
 use Rattle.std.proofs.lemmas.List.{drop_all, length-drop, take_rest}
 use Rattle.tx_char.specs.declared.tokens.Token.{Token}
 use Rattle.tx_lex.specs.declared.types.ReadState.{ReadState}
 use Rattle.tx_pending.specs.declared.source.Source.{Source}
-use Rattle.tx_pending.specs.declared.source.Source.TheVariants.{List as Source_list, Line as Source_line}
-use Rattle.tx_pending.specs.Elements.{Unread, list_elements}
+use Rattle.tx_pending.specs.declared.source.Source.TheVariants.{List as Source_list, Line as Source_line, Token as Source_token}
+use Rattle.tx_pending.specs.Elements.{Given, Unread, list_elements}
 use Rattle.tx_pending.specs.Sources.{elements_of}
 use Rattle.tx_pending.specs.Tails.{ListTail, LineTail}
 
@@ -52,11 +52,22 @@ list-no-line [] false unread state i zero l m h = absurd (omega arith)
 list-no-line (t ∷ left) marked unread state zero zero l m h = cc
 list-no-line (t ∷ left) marked unread state (suc i) zero l m h = list-no-line left marked unread state i zero (omega arith) m h
 
--- no element of a list is a line
-pub no-line : (a b : Source) (l : ListTail) (m : LineTail) (i j : ℕ) → a ≡ Source_list l → b ≡ Source_line m → i < length (elements_of a) → j < length (elements_of b) → slice_get (elements_of a) i ≡ slice_get (elements_of b) j → ⊥
-no-line a b l m i j e f =
-    let P : Source → Source → Type 0 = λ s t. i < length (elements_of s) → j < length (elements_of t) → slice_get (elements_of s) i ≡ slice_get (elements_of t) j → ⊥ in
-    subst (λ s. P s b) (sym e) (subst (λ t. P (Source_list l) t) (sym f) (list-no-line l.left l.marked m.unread m.state i j))
+token-no-line : (token : Token) (unread : List ℕ) (state : ReadState) (i j : ℕ) → i < 1 → j < 1 → slice_get (Given token ∷ []) i ≡ slice_get (Unread unread state ∷ []) j → ⊥
+token-no-line token unread state zero zero l m h = cc
+token-no-line token unread state (suc i) j l m h = absurd (omega arith)
+token-no-line token unread state zero (suc j) l m h = absurd (omega arith)
+
+other-no-line : (a : Source) (m : LineTail) (i j : ℕ) → ((l : LineTail) → a ≡ Source_line l → ⊥) → i < length (elements_of a) → j < 1 → slice_get (elements_of a) i ≡ slice_get (Unread m.unread m.state ∷ []) j → ⊥
+other-no-line (Source_list l) m i j other = list-no-line l.left l.marked m.unread m.state i j
+other-no-line (Source_line l) m i j other = absurd (other l refl)
+other-no-line (Source_token (Some token)) m i j other = token-no-line token m.unread m.state i j
+other-no-line (Source_token None) m i j other = λ l. absurd (omega arith)
+
+-- no element of what is no line is a line
+pub no-line : (a b : Source) (m : LineTail) (i j : ℕ) → ((l : LineTail) → a ≡ Source_line l → ⊥) → b ≡ Source_line m → i < length (elements_of a) → j < length (elements_of b) → slice_get (elements_of a) i ≡ slice_get (elements_of b) j → ⊥
+no-line a b m i j other f =
+    let P : Source → Type 0 = λ t. i < length (elements_of a) → j < length (elements_of t) → slice_get (elements_of a) i ≡ slice_get (elements_of t) j → ⊥ in
+    subst P (sym f) (other-no-line a m i j other)
 
 -- a text that begins with this character
 pub begins : (text rest : List ℕ) (code : ℕ) (b : Bool) → 1 ≤ length text → get_or text 0 0 ≡ code → (IsTrue b ↔ (take (length text - 1) (drop 1 text) ≡ rest)) → IsTrue b ↔ (code ∷ rest ≡ text)

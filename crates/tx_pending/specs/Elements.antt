@@ -36,6 +36,14 @@ list_elements tokens marked = map Given tokens ++ (if marked then Mark ∷ [] el
 abbrev pub with_list : Input → List Token → Bool → Input
 with_list input tokens marked = record { elements = list_elements tokens marked ++ input.elements; closing = input.closing }
 
+-- a token that is given back is put at the front, to be read again (TeX: The Program, section 325)
+abbrev pub with_token : Input → Token → Input
+with_token input token = record { elements = Given token ∷ input.elements; closing = input.closing }
+
+-- so are several, in their order
+abbrev pub with_tokens : Input → List Token → Input
+with_tokens input tokens = record { elements = map Given tokens ++ input.elements; closing = input.closing }
+
 -- a new line is put at the front; it is read from the state at a line's start on
 abbrev pub with_line : Input → List ℕ → Input
 with_line input line = record { elements = Unread line N ∷ input.elements; closing = input.closing }

@@ -5,7 +5,7 @@ ghost use Rattle.tx_pending.specs.declared.given.Given.TheVariants.{Used};
 use tx_char::Token;
 
 /// What reading a list or a line gives.
-#[derive(Debug, Drop)]
+#[derive(Drop)]
 pub enum Given {
     /// A token.
     Token(Token),

@@ -13,7 +13,7 @@ use tx_char::Codes;
 use tx_lex::{Lexed, ReadState, lex_on};
 
 /// A shared line, and how much of it is read. Contracts see its unread rest and the state in which that is read.
-#[derive(Debug, Drop)]
+#[derive(Drop)]
 pub struct LineReading {
     line: Rc<Bytes>,
     used: usize,

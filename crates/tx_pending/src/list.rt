@@ -1,7 +1,7 @@
 //! A list of tokens that is being read.
-ghost use Rattle.std.specs.Prelude.{◌≡◌, ◌≢◌, ◌↔◌, ◌<◌, [], length, slice_get, IsTrue, IfOk};
+ghost use Rattle.std.specs.Prelude.{◌≡◌, ◌≢◌, ◌↔◌, ◌<◌, [], length, slice_get, Some, IsTrue, IfOk};
 ghost use Rattle.std.specs.Option.{option_copied};
-ghost use Rattle.tx_pending.specs.Elements.{list_elements};
+ghost use Rattle.tx_pending.specs.Elements.{Given as Element_given, list_elements};
 ghost use Rattle.tx_pending.specs.Steps.{IsListStep};
 
 use crate::given::Given;
@@ -12,7 +12,7 @@ use tx_toklist::TokList;
 
 /// A shared list, and how many of its tokens are read. Contracts see the tokens that are left, and whether a marker
 /// comes behind them.
-#[derive(Debug, Drop)]
+#[derive(Drop)]
 pub struct ListReading {
     list: TokList,
     read: usize,
@@ -90,6 +90,17 @@ impl ListReading {
             (Some(token), Some(other_token)) => token.same(other_token),
             (None, None) => true,
             _ => false,
+        }
+    }
+
+    /// Whether the element at this place is this token.
+    pub fn has_token(&self, place: usize, token: &Token) -> bool
+        requires { place < length (list_elements self.now.left self.now.marked) }
+        ensures { IsTrue result ↔ (slice_get (list_elements self.now.left self.now.marked) place ≡ Some (Element_given token.now)) }
+    {
+        match self.get(place) {
+            Some(found) => found.same(token),
+            None => false,
         }
     }
 

@@ -2,7 +2,7 @@
 use tx_char::Token;
 
 /// What comes next.
-#[derive(Debug, Drop)]
+#[derive(Drop)]
 pub enum Next {
     /// A token.
     Token(Token),

@@ -1,6 +1,6 @@
 //! The pending input.
 ghost use Rattle.std.specs.Prelude.{◌≡◌, ◌↔◌, ◌++◌, IsTrue, IfOk, OnOk, OnErr};
-ghost use Rattle.tx_pending.specs.Elements.{no_input, step, with_close, with_line, with_list};
+ghost use Rattle.tx_pending.specs.Elements.{no_input, step, with_close, with_line, with_list, with_token};
 ghost use Rattle.tx_pending.specs.Sources.{IsReady, elements_of, stack_elements};
 ghost use Rattle.tx_pending.specs.Steps.{Takes};
 
@@ -13,12 +13,12 @@ use crate::source::Source;
 use std::alloc::{AllocError, Global};
 use std::marker::Model;
 use tx_bytes::Bytes;
-use tx_char::Codes;
+use tx_char::{Codes, Token};
 use tx_toklist::TokList;
 
 /// What is read before another line is asked for. Contracts see one list of tokens, markers and lines, and whether
 /// \endinput came since a line was used up.
-#[derive(Debug, Drop)]
+#[derive(Drop)]
 pub struct Pending {
     /// The innermost source stands last.
     stack: Vec<Source>,
@@ -57,6 +57,14 @@ impl Pending {
             &mut self.stack,
             Source::List(ListReading::new(list, marked)),
         )
+    }
+
+    /// Puts a token that was read at the front, to be read again. After want of memory nothing has changed.
+    pub fn give_back(&mut self, token: Token) -> Result<(), AllocError>
+        ensures ok { OnOk result (self.new ≡ with_token self.old token) }
+        ensures err { OnErr result (self.new ≡ self.old) }
+    {
+        put(&mut self.stack, Source::Token(Some(token)))
     }
 
     /// Puts a new line at the front, which is read from the state at a line's start on. After want of memory nothing has

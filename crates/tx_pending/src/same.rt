@@ -5,7 +5,7 @@ ghost use Rattle.tx_pending.specs.Sources.{IsPlace, IsSettled, ahead, stack_elem
 use crate::source::Source;
 
 /// A place on a stack: how many of its sources are ahead, and how many elements of the innermost one are passed.
-#[derive(Clone, Copy, Debug)]
+#[derive(Clone, Copy)]
 pub struct Place {
     pub sources: usize,
     pub passed: usize,

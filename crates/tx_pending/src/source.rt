@@ -1,5 +1,5 @@
 //! The sources of pending input.
-ghost use Rattle.std.specs.Prelude.{◌≡◌, ◌≢◌, ◌↔◌, ◌<◌, [], length, slice_get, IsTrue, IfOk};
+ghost use Rattle.std.specs.Prelude.{◌≡◌, ◌≢◌, ◌↔◌, ◌<◌, [], None, length, slice_get, IsTrue, IfOk, IfSome};
 ghost use Rattle.tx_pending.specs.Sources.{elements_of};
 ghost use Rattle.tx_pending.specs.Steps.{Gives};
 
@@ -7,13 +7,15 @@ use crate::given::Given;
 use crate::line::LineReading;
 use crate::list::ListReading;
 use std::alloc::{AllocError, Global};
-use tx_char::Codes;
+use tx_char::{Codes, Token};
 
-/// A list or a line that is being read.
-#[derive(Debug, Drop)]
+/// What is being read.
+#[derive(Drop)]
 pub enum Source {
     List(ListReading),
     Line(LineReading),
+    /// A token that was given back, until it is read again.
+    Token(Option<Token>),
 }
 
 impl Source {
@@ -24,6 +26,7 @@ impl Source {
         match self {
             Source::List(list) => list.is_spent(),
             Source::Line(_) => false,
+            Source::Token(token) => token.is_none(),
         }
     }
 
@@ -35,6 +38,7 @@ impl Source {
         match self {
             Source::List(list) => list.next(),
             Source::Line(line) => line.next(alloc, codes),
+            Source::Token(token) => Ok(read_again(token)),
         }
     }
 
@@ -45,6 +49,8 @@ impl Source {
         match self {
             Source::List(list) => list.count(),
             Source::Line(_) => 1,
+            Source::Token(Some(_)) => 1,
+            Source::Token(None) => 0,
         }
     }
 
@@ -57,6 +63,11 @@ impl Source {
         match (self, other) {
             (Source::List(list), Source::List(other_list)) => {
                 list.same_at(place, other_list, other_place)
+            }
+            (Source::List(list), Source::Token(Some(token))) => list.has_token(place, token),
+            (Source::Token(Some(token)), Source::List(list)) => list.has_token(other_place, token),
+            (Source::Token(Some(token)), Source::Token(Some(other_token))) => {
+                token.same(other_token)
             }
             (Source::Line(line), Source::Line(other_line)) => line.same(other_line),
             _ => false,
@@ -71,6 +82,19 @@ impl Source {
         match self {
             Source::List(list) => Ok(Source::List(list.share()?)),
             Source::Line(line) => Ok(Source::Line(line.share()?)),
+            Source::Token(token) => Ok(Source::Token(token.clone()?)),
         }
+    }
+}
+
+/// Reads a token that was given back.
+fn read_again(token: &mut Option<Token>) -> Given
+    requires { token.old ≢ None }
+    ensures given { IfSome token.old (λ t. result ≡ Given.Token t) }
+    ensures spent { token.new ≡ None }
+{
+    match token.take() {
+        Some(token) => Given::Token(token),
+        None => unreachable!(),
     }
 }

@@ -3,7 +3,7 @@ ghost use Rattle.std.specs.Prelude.{◌≡◌, ◌<◌};
 ghost use Rattle.tx_prim.specs.Dimensions.{dimension_name, dimension_number};
 
 /// A dimension parameter.
-#[derive(Clone, Copy, PartialEq, Eq, Debug)]
+#[derive(Clone, Copy, PartialEq, Eq)]
 pub enum DimensionParameter {
     Hfuzz,
     Vfuzz,

@@ -1,6 +1,9 @@
 //! TeX's primitives: the commands and parameters with which INITEX begins. One table says what each is called and in which
 //! modes it may stand; the parameters stand in the order of The TeXbook, with the values that they begin with.
 //!
+//! Proved: each primitive's name and modes are those of one table, and the name leads back to it. Only tested: that the
+//! table is Knuth's, against `tex -ini`.
+//!
 //! Read `modes`, `integer` and `dimension`, and then `primitive`.
 #![tactic(auto)]
 

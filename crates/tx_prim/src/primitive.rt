@@ -9,7 +9,7 @@ use crate::modes::Modes;
 
 /// A primitive of TeX: a command that isn't defined by others, and with which INITEX begins (The TeXbook, chapters 24 to
 /// 26).
-#[derive(Clone, Copy, PartialEq, Eq, Debug)]
+#[derive(Clone, Copy, PartialEq, Eq)]
 pub enum Primitive {
     Relax,
     BeginGroup,

@@ -1,164 +1,169 @@
 -- What is a part of an integer can be made whole.
-use Rattle.std.proofs.Common.{◌≡◌, ℕ, ◌+◌, ◌*◌, Bool, true, false, cond, not, ℤ, pos, neg_ℤ, Option, Some, None, List, [], ◌∷◌, ◌++◌, refl, sym, ◌∙◌}
+use Rattle.std.proofs.Common.{◌≡◌, ℕ, ◌+◌, ◌*◌, Bool, true, false, not, ℤ, pos, Option, Some, None, List, [], ◌∷◌, ◌++◌, inl, inr, refl, sym, append_assoc}
 use Rattle.std.specs.Prelude.{nat_le}
 use Rattle.tx_char.specs.declared.category.Cat.TheVariants as cat
-use Rattle.tx_char.specs.declared.tokens.Token.{Token}
-use Rattle.tx_char.specs.declared.tokens.Token.TheVariants.{Character}
+use Rattle.tx_char.specs.declared.tokens.Token.TheVariants as token
+use Rattle.tx_seen.specs.declared.seen.Seen.{Seen}
+use Rattle.tx_seen.specs.declared.meaning.Meaning.TheVariants as meaning
+use Rattle.tx_seen.specs.declared.place.Place.{Place}
+use Rattle.tx_seen.specs.declared.fed.Want.{Want}
+use Rattle.tx_seen.specs.declared.fed.Value.TheVariants.{Int, Dimen, Flag}
+use Rattle.tx_seen.specs.Seen.{is_undefined}
+use Rattle.tx_seen.specs.Readings.{Item, Took, Gave, Reading, More, Need, Done, Wrong, next, ReadsOn}
 use Rattle.tx_scan.specs.declared.scans.Radix.{Radix}
 use Rattle.tx_scan.specs.declared.scans.Radix.TheVariants.{Octal, Decimal, Hexadecimal}
-use Rattle.tx_scan.specs.declared.types.Value.TheVariants.{Int, Dimen, Flag}
-use Rattle.tx_scan.specs.Tokens.{is_space, is_other, is_command, base, digit}
-use Rattle.tx_scan.specs.Readings.{Item, Fed, Given, Reading, More, Need, Done, Wrong, next}
-use Rattle.tx_scan.specs.Integers.{signs, without_space, space_after, code_named, character_code, digits, first_digit, quantity, other_number, unsigned, with_sign, integer}
+use Rattle.tx_scan.specs.declared.scans.Family.{Family}
+use Rattle.tx_scan.specs.declared.scans.Outer.{Outer}
+use Rattle.tx_scan.specs.declared.scans.Beginning.{Beginning}
+use Rattle.tx_scan.specs.declared.scans.Beginning.TheVariants as begin
+use Rattle.tx_scan.specs.Beginnings.{base, digit, place_of, beginning}
+use Rattle.tx_scan.specs.Integers.{Ended, ended_by, space_after, code_named, character_code, digits, first_digit, given, quantity, byte_of, numbered, with_sign, whole, signed_constant, begun, signs, integer}
+use Rattle.tx_scan.specs.Laws.{HasEnded}
+use Rattle.tx_scan.proofs.ReadingOn.{on-code, on-digits, on-first}
 
--- some items make a reading whole
-abbrev pub Ends : {A : Type 0} → (List Item → Reading A) → List Item → Type 0
-Ends {A} reading items = (more : List Item) × (a : A) × (reading (items ++ more) ≡ Done a [])
+-- a character with its category
+abbrev seen_character : ℕ → Item
+seen_character code = Took (record { token = token.Character code cat.Other; meaning = meaning.Character code cat.Other })
 
 abbrev space : Item
-space = Fed (Character 32 cat.Space)
+space = Took (record { token = token.Character 32 cat.Space; meaning = meaning.Character 32 cat.Space })
 
 abbrev zero_digit : Item
-zero_digit = Fed (Character 48 cat.Other)
+zero_digit = seen_character 48
 
-wrong-more : (r : Reading ℤ) (number : ℕ) → r ≡ Wrong number → r ≡ More → ⊥
-wrong-more r number e h = cc
+-- some items make a constant whole, with nothing behind it
+abbrev Closes : (List Item → Reading Ended) → List Item → Type 0
+Closes reading items = (more : List Item) × (n : ℕ) × (reading (items ++ more) ≡ Done (record { number = n; behind = [] }) [])
 
-done-more : (r : Reading ℤ) (n : ℤ) (rest : List Item) → r ≡ Done n rest → r ≡ More → ⊥
-done-more r n rest e h = cc
+ended-by : (n : ℕ) (t : Seen) (rest : List Item) (want : Want) (b : Bool) → is_undefined t ≡ b → ended_by n t rest ≡ More want → ⊥
+ended-by n t rest want true u h = let e = rw u at h in cc
+ended-by n t rest want false u h = let e = rw u at h in cc
 
-ends-digits-some : (radix : Radix) (n d : ℕ) (t : Token) (rest : List Item) → digit radix t ≡ Some d → (b : Bool) → nat_le (base radix * n + d) 2147483647 ≡ b → digits radix n (Fed t ∷ rest) ≡ More → ((m : ℕ) → digits radix m rest ≡ More → Ends (digits radix m) rest) → Ends (digits radix n) (Fed t ∷ rest)
-ends-digits-some radix n d t rest e false l h later = absurd (wrong-more (digits radix n (Fed t ∷ rest)) 7 (rw (e, l) refl) h)
-ends-digits-some radix n d t rest e true l h later =
+closes-digits-some : (radix : Radix) (n d : ℕ) (t : Seen) (rest : List Item) (want : Want) → digit radix t ≡ Some d → (b : Bool) → nat_le (base radix * n + d) 2147483647 ≡ b → digits radix n (Took t ∷ rest) ≡ More want → ((m : ℕ) → digits radix m rest ≡ More want → Closes (digits radix m) rest) → Closes (digits radix n) (Took t ∷ rest)
+closes-digits-some radix n d t rest want e false l h later = absurd (let wrong = rw (e, l) at h in cc)
+closes-digits-some radix n d t rest want e true l h later =
     let found = later (base radix * n + d) (rw (e, l) at h) in
     (found.0, found.1, rw (e, l) found.2)
 
-ends-digits-by : (radix : Radix) (n : ℕ) (t : Token) (rest : List Item) (o : Option ℕ) → digit radix t ≡ o → digits radix n (Fed t ∷ rest) ≡ More → ((m : ℕ) → digits radix m rest ≡ More → Ends (digits radix m) rest) → Ends (digits radix n) (Fed t ∷ rest)
-ends-digits-by radix n t rest None e h later = absurd (done-more (digits radix n (Fed t ∷ rest)) (pos n) (without_space t rest) (rw e refl) h)
-ends-digits-by radix n t rest (Some d) e h later = ends-digits-some radix n d t rest e (nat_le (base radix * n + d) 2147483647) refl h later
+closes-digits-by : (radix : Radix) (n : ℕ) (t : Seen) (rest : List Item) (want : Want) (o : Option ℕ) → digit radix t ≡ o → digits radix n (Took t ∷ rest) ≡ More want → ((m : ℕ) → digits radix m rest ≡ More want → Closes (digits radix m) rest) → Closes (digits radix n) (Took t ∷ rest)
+closes-digits-by radix n t rest want None e h later = absurd (ended-by n t rest want (is_undefined t) refl (rw e at h))
+closes-digits-by radix n t rest want (Some d) e h later = closes-digits-some radix n d t rest want e (nat_le (base radix * n + d) 2147483647) refl h later
 
-ends-digits : (radix : Radix) (n : ℕ) (items : List Item) → digits radix n items ≡ More → Ends (digits radix n) items
-ends-digits radix n [] h = (space ∷ [], pos n, refl)
-ends-digits radix n (Given v ∷ rest) h = absurd (cc)
-ends-digits radix n (Fed t ∷ rest) h = ends-digits-by radix n t rest (digit radix t) refl h (λ m. ends-digits radix m rest)
+closes-digits-nil : (radix : Radix) (n : ℕ) → Closes (digits radix n) []
+closes-digits-nil Octal n = (space ∷ [], n, refl)
+closes-digits-nil Decimal n = (space ∷ [], n, refl)
+closes-digits-nil Hexadecimal n = (space ∷ [], n, refl)
 
-ends-space : (n : ℤ) (items : List Item) → space_after n items ≡ More → Ends (space_after n) items
-ends-space n [] h = (space ∷ [], n, refl)
-ends-space n (Given v ∷ rest) h = absurd (cc)
-ends-space n (Fed t ∷ rest) h = absurd (cc)
+closes-digits : (radix : Radix) (n : ℕ) (items : List Item) (want : Want) → digits radix n items ≡ More want → Closes (digits radix n) items
+closes-digits radix n [] want h = closes-digits-nil radix n
+closes-digits radix n (Gave v ∷ rest) want h = absurd (cc)
+closes-digits radix n (Took t ∷ rest) want h = closes-digits-by radix n t rest want (digit radix t) refl h (λ m. closes-digits radix m rest want)
 
-ends-coded : (o : Option ℕ) (t : Token) (rest : List Item) → code_named t ≡ o → character_code (Fed t ∷ rest) ≡ More → Ends character_code (Fed t ∷ rest)
-ends-coded None t rest e h = absurd (wrong-more (character_code (Fed t ∷ rest)) 3 (rw e refl) h)
-ends-coded (Some code) t rest e h =
-    let found = ends-space (pos code) rest (rw e at h) in
+closes-space : (n : ℕ) (items : List Item) (want : Want) → space_after n items ≡ More want → Closes (space_after n) items
+closes-space n [] want h = (space ∷ [], n, refl)
+closes-space n (Gave v ∷ rest) want h = absurd (cc)
+closes-space n (Took t ∷ rest) want h = absurd (ended-by n t rest want (is_undefined t) refl h)
+
+closes-coded : (o : Option ℕ) (t : Seen) (rest : List Item) (want : Want) → code_named t.token ≡ o → character_code (Took t ∷ rest) ≡ More want → Closes character_code (Took t ∷ rest)
+closes-coded None t rest want e h = absurd (let wrong = rw e at h in cc)
+closes-coded (Some code) t rest want e h =
+    let found = closes-space code rest want (rw e at h) in
     (found.0, found.1, rw e found.2)
 
-ends-code : (items : List Item) → character_code items ≡ More → Ends character_code items
-ends-code [] h = (Fed (Character 97 cat.Letter) ∷ space ∷ [], pos 97, refl)
-ends-code (Given v ∷ rest) h = absurd (cc)
-ends-code (Fed t ∷ rest) h = ends-coded (code_named t) t rest refl h
+closes-code : (items : List Item) (want : Want) → character_code items ≡ More want → Closes character_code items
+closes-code [] want h = (seen_character 97 ∷ space ∷ [], 97, refl)
+closes-code (Gave v ∷ rest) want h = absurd (cc)
+closes-code (Took t ∷ rest) want h = closes-coded (code_named t.token) t rest want refl h
 
-ends-first-by : (o : Option ℕ) (radix : Radix) (t : Token) (rest : List Item) → digit radix t ≡ o → first_digit radix (Fed t ∷ rest) ≡ More → Ends (first_digit radix) (Fed t ∷ rest)
-ends-first-by None radix t rest e h = absurd (wrong-more (first_digit radix (Fed t ∷ rest)) 3 (rw e refl) h)
-ends-first-by (Some d) radix t rest e h =
-    let found = ends-digits radix d rest (rw e at h) in
+closes-first-wrong : (radix : Radix) (t : Seen) (rest : List Item) (want : Want) (b : Bool) → is_undefined t ≡ b → digit radix t ≡ None → first_digit radix (Took t ∷ rest) ≡ More want → ⊥
+closes-first-wrong radix t rest want true u e h = let wrong = rw (e, u) at h in cc
+closes-first-wrong radix t rest want false u e h = let wrong = rw (e, u) at h in cc
+
+closes-first-by : (o : Option ℕ) (radix : Radix) (t : Seen) (rest : List Item) (want : Want) → digit radix t ≡ o → first_digit radix (Took t ∷ rest) ≡ More want → Closes (first_digit radix) (Took t ∷ rest)
+closes-first-by None radix t rest want e h = absurd (closes-first-wrong radix t rest want (is_undefined t) refl e h)
+closes-first-by (Some d) radix t rest want e h =
+    let found = closes-digits radix d rest want (rw e at h) in
     (found.0, found.1, rw e found.2)
 
-ends-first-nil : (radix : Radix) → Ends (first_digit radix) []
-ends-first-nil Octal = (zero_digit ∷ space ∷ [], pos 0, refl)
-ends-first-nil Decimal = (zero_digit ∷ space ∷ [], pos 0, refl)
-ends-first-nil Hexadecimal = (zero_digit ∷ space ∷ [], pos 0, refl)
+closes-first-nil : (radix : Radix) → Closes (first_digit radix) []
+closes-first-nil Octal = (zero_digit ∷ space ∷ [], 0, refl)
+closes-first-nil Decimal = (zero_digit ∷ space ∷ [], 0, refl)
+closes-first-nil Hexadecimal = (zero_digit ∷ space ∷ [], 0, refl)
 
-ends-first : (radix : Radix) (items : List Item) → first_digit radix items ≡ More → Ends (first_digit radix) items
-ends-first radix [] h = ends-first-nil radix
-ends-first radix (Given v ∷ rest) h = absurd (cc)
-ends-first radix (Fed t ∷ rest) h = ends-first-by (digit radix t) radix t rest refl h
+closes-first : (radix : Radix) (items : List Item) (want : Want) → first_digit radix items ≡ More want → Closes (first_digit radix) items
+closes-first radix [] want h = closes-first-nil radix
+closes-first radix (Gave v ∷ rest) want h = absurd (cc)
+closes-first radix (Took t ∷ rest) want h = closes-first-by (digit radix t) radix t rest want refl h
 
-no-quantity : (items : List Item) → quantity items ≡ More → Ends quantity items
-no-quantity [] h = absurd (cc)
-no-quantity (Given (Int n) ∷ rest) h = absurd (cc)
-no-quantity (Given (Dimen n) ∷ rest) h = absurd (cc)
-no-quantity (Given (Flag b) ∷ rest) h = absurd (cc)
-no-quantity (Fed t ∷ rest) h = absurd (cc)
+-- values make a whole number an integer
+ends-byte : (outer : Outer) (outers : List Outer) (n : ℤ) (o : Option ℕ) → byte_of n ≡ o → ((m : ℤ) → (more : List Item) × HasEnded (whole outers m [] more)) → (more : List Item) × HasEnded (whole (outer ∷ outers) n [] more)
+ends-byte outer outers n None e later = ([], inr (rw e refl))
+ends-byte outer outers n (Some code) e later =
+    let found = later (with_sign outer.negative (pos 0)) in
+    (Gave (Int (pos 0)) ∷ found.0, rw e found.1)
 
-ends-if : (b : Bool) (f g : List Item → Reading ℤ) (items : List Item) → cond b (f items) (g items) ≡ More → (f items ≡ More → Ends f items) → (g items ≡ More → Ends g items) → Ends (λ (items : List Item). cond b (f items) (g items)) items
-ends-if true f g items h p q = p h
-ends-if false f g items h p q = q h
+ends-whole : (outers : List Outer) (n : ℤ) → (more : List Item) × HasEnded (whole outers n [] more)
+ends-whole [] n = ([], inl (n, refl))
+ends-whole (outer ∷ outers) n = ends-byte outer outers n (byte_of n) refl (ends-whole outers)
 
-abbrev none : List Item → Reading ℤ
-none items = Wrong 3
+whole-constant : (reading : List Item → Reading Ended) (outers : List Outer) (negative : Bool) (items : List Item) → ((more items : List Item) → ReadsOn more (reading items) (reading (items ++ more))) → Closes reading items → (more : List Item) × HasEnded (next (reading (items ++ more)) (signed_constant outers negative))
+whole-constant reading outers negative items on closed =
+    let found = ends-whole outers (with_sign negative (pos closed.1)) in
+    let stands : reading ((items ++ closed.0) ++ found.0) ≡ Done (record { number = closed.1; behind = [] }) found.0 = rw closed.2 at (on found.0 (items ++ closed.0)) in
+    (closed.0 ++ found.0, rw (sym (append_assoc items closed.0 found.0), stands) found.1)
 
-no-number : (items : List Item) → none items ≡ More → Ends none items
-no-number items h = absurd (wrong-more (none items) 3 refl h)
+given-more : (item : Item) (rest : List Item) (want : Want) (k : ℤ → List Item → Reading ℤ) → ((n : ℤ) (rest : List Item) → k n rest ≡ More want → ⊥) → next (given item rest) k ≡ More want → ⊥
+given-more (Gave (Int n)) rest want k never h = never n rest h
+given-more (Gave (Dimen n)) rest want k never h = never n rest h
+given-more (Gave (Flag b)) rest want k never h = cc
+given-more (Took t) rest want k never h = cc
 
-ends-other : (t : Token) (items : List Item) → other_number t items ≡ More → Ends (other_number t) items
-ends-other t items h =
-    ends-if (is_other 39 t) (first_digit Octal) (λ (items : List Item). cond (is_other 34 t) (first_digit Hexadecimal items) (cond (is_other 96 t) (character_code items) (cond (is_command t) (quantity items) (Wrong 3)))) items h (ends-first Octal items)
-    (λ h. ends-if (is_other 34 t) (first_digit Hexadecimal) (λ (items : List Item). cond (is_other 96 t) (character_code items) (cond (is_command t) (quantity items) (Wrong 3))) items h (ends-first Hexadecimal items)
-    (λ h. ends-if (is_other 96 t) character_code (λ (items : List Item). cond (is_command t) (quantity items) (Wrong 3)) items h (ends-code items)
-    (λ h. ends-if (is_command t) quantity none items h (no-quantity items) (no-number items))))
+quantity-more : (place : Place) (items : List Item) (want : Want) (k : ℤ → List Item → Reading ℤ) → ((n : ℤ) (rest : List Item) → k n rest ≡ More want → ⊥) → next (quantity place items) k ≡ More want → ⊥
+quantity-more place [] want k never h = cc
+quantity-more place (item ∷ rest) want k never h = given-more item rest want k never h
 
-ends-unsigned-by : (o : Option ℕ) (t : Token) (rest : List Item) → digit Decimal t ≡ o → unsigned (Fed t ∷ rest) ≡ More → Ends unsigned (Fed t ∷ rest)
-ends-unsigned-by None t rest e h =
-    let found = ends-other t rest (rw e at h) in
-    (found.0, found.1, rw e found.2)
-ends-unsigned-by (Some d) t rest e h =
-    let found = ends-digits Decimal d rest (rw e at h) in
-    (found.0, found.1, rw e found.2)
+numbered-more : (family : Family) (o : Option ℕ) (items : List Item) (want : Want) (k : ℤ → List Item → Reading ℤ) → ((n : ℤ) (rest : List Item) → k n rest ≡ More want → ⊥) → next (numbered family o items) k ≡ More want → ⊥
+numbered-more family None items want k never h = cc
+numbered-more family (Some n) items want k never h = quantity-more (place_of family n) items want k never h
 
-ends-unsigned : (items : List Item) → unsigned items ≡ More → Ends unsigned items
-ends-unsigned [] h = (zero_digit ∷ space ∷ [], pos 0, refl)
-ends-unsigned (Given v ∷ rest) h = absurd (cc)
-ends-unsigned (Fed t ∷ rest) h = ends-unsigned-by (digit Decimal t) t rest refl h
+whole-more : (outers : List Outer) (n : ℤ) (behind items : List Item) (want : Want) → whole outers n behind items ≡ More want → ⊥
+whole-more [] n behind items want h = cc
+whole-more (outer ∷ outers) n behind items want h =
+    numbered-more outer.family (byte_of n) items want (λ value rest. whole outers (with_sign outer.negative value) behind rest)
+    (λ value rest. whole-more outers (with_sign outer.negative value) behind rest want) h
 
-next-more : (negative : Bool) (r : Reading ℤ) → next r (with_sign negative) ≡ More → r ≡ More
-next-more negative More h = refl
-next-more negative (Need kind) h = absurd (cc)
-next-more negative (Done n rest) h = absurd (cc)
-next-more negative (Wrong e) h = absurd (cc)
+constant-more : (outers : List Outer) (negative : Bool) (r : Reading Ended) (want : Want) → next r (signed_constant outers negative) ≡ More want → r ≡ More want
+constant-more outers negative (More other) want h = cc
+constant-more outers negative (Need kind) want h = absurd (cc)
+constant-more outers negative (Done c rest) want h = absurd (whole-more outers (with_sign negative (pos c.number)) c.behind rest want h)
+constant-more outers negative (Wrong e) want h = absurd (cc)
 
-abbrev signed_from : Bool → List Item → Reading ℤ
-signed_from negative items = next (signs negative items) (λ negative rest. next (unsigned rest) (with_sign negative))
+ends-begun : (outers : List Outer) (negative : Bool) (rest : List Item) (want : Want) (b : Beginning) → begun outers negative (λ outers negative. signs outers negative rest) rest b ≡ More want → ((outers : List Outer) (negative : Bool) → signs outers negative rest ≡ More want → (more : List Item) × HasEnded (signs outers negative (rest ++ more))) → (more : List Item) × HasEnded (begun outers negative (λ outers negative. signs outers negative (rest ++ more)) (rest ++ more) b)
+ends-begun outers negative rest want begin.Plus h later = later outers negative h
+ends-begun outers negative rest want begin.Minus h later = later outers (not negative) h
+ends-begun outers negative rest want (begin.Digit d) h later =
+    whole-constant (digits Decimal d) outers negative rest (λ more items. on-digits more Decimal d items)
+    (closes-digits Decimal d rest want (constant-more outers negative (digits Decimal d rest) want h))
+ends-begun outers negative rest want (begin.Digits radix) h later =
+    whole-constant (first_digit radix) outers negative rest (λ more items. on-first more radix items)
+    (closes-first radix rest want (constant-more outers negative (first_digit radix rest) want h))
+ends-begun outers negative rest want begin.Character h later =
+    whole-constant character_code outers negative rest (λ more items. on-code more items)
+    (closes-code rest want (constant-more outers negative (character_code rest) want h))
+ends-begun outers negative rest want begin.Point h later = absurd (cc)
+ends-begun outers negative rest want (begin.Number n) h later = absurd (whole-more outers (with_sign negative (pos n)) [] rest want h)
+ends-begun outers negative rest want (begin.At place) h later =
+    absurd (quantity-more place rest want (λ n rest. whole outers (with_sign negative n) [] rest) (λ n rest. whole-more outers (with_sign negative n) [] rest want) h)
+ends-begun outers negative rest want (begin.Numbered family) h later = later (record { negative = negative; family = family } ∷ outers) false h
+ends-begun outers negative rest want (begin.Nothing error) h later = absurd (cc)
 
-ends-number : (negative : Bool) (items : List Item) → next (unsigned items) (with_sign negative) ≡ More → Ends (λ (items : List Item). next (unsigned items) (with_sign negative)) items
-ends-number negative items h =
-    let found = ends-unsigned items (next-more negative (unsigned items) h) in
-    (found.0, cond negative (neg_ℤ found.1) found.1, rw found.2 refl)
+ends-signs : (outers : List Outer) (negative : Bool) (items : List Item) (want : Want) → signs outers negative items ≡ More want → (more : List Item) × HasEnded (signs outers negative (items ++ more))
+ends-signs outers negative [] want h =
+    let found = ends-whole outers (with_sign negative (pos 0)) in
+    (zero_digit ∷ space ∷ found.0, found.1)
+ends-signs outers negative (Gave v ∷ rest) want h = absurd (cc)
+ends-signs outers negative (Took t ∷ rest) want h =
+    ends-begun outers negative rest want (beginning t) h (λ outers negative. ends-signs outers negative rest want)
 
-signed-end : (negative : Bool) (t : Token) (rest : List Item) → is_space t ≡ false → is_other 43 t ≡ false → is_other 45 t ≡ false → signed_from negative (Fed t ∷ rest) ≡ next (unsigned (Fed t ∷ rest)) (with_sign negative)
-signed-end negative t rest es ep em = rw (es, ep, em) refl
-
-signed-space : (negative : Bool) (t : Token) (rest : List Item) → is_space t ≡ true → signed_from negative (Fed t ∷ rest) ≡ signed_from negative rest
-signed-space negative t rest es = rw es refl
-
-signed-plus : (negative : Bool) (t : Token) (rest : List Item) → is_space t ≡ false → is_other 43 t ≡ true → signed_from negative (Fed t ∷ rest) ≡ signed_from negative rest
-signed-plus negative t rest es ep = rw (es, ep) refl
-
-signed-minus : (negative : Bool) (t : Token) (rest : List Item) → is_space t ≡ false → is_other 43 t ≡ false → is_other 45 t ≡ true → signed_from negative (Fed t ∷ rest) ≡ signed_from (not negative) rest
-signed-minus negative t rest es ep em = rw (es, ep, em) refl
-
--- a part that goes on as another reading of what is behind its first token
-passes : (negative : Bool) (t : Token) (rest : List Item) (on : List Item → Reading ℤ) → ((rest : List Item) → signed_from negative (Fed t ∷ rest) ≡ on rest) → signed_from negative (Fed t ∷ rest) ≡ More → (on rest ≡ More → Ends on rest) → Ends (signed_from negative) (Fed t ∷ rest)
-passes negative t rest on e h later =
-    let found : Ends on rest = later (sym (e rest) ∙ h) in
-    (found.0, found.1, e (rest ++ found.0) ∙ found.2)
-
-ends-signs-by : (negative s p m : Bool) (t : Token) (rest : List Item) → is_space t ≡ s → is_other 43 t ≡ p → is_other 45 t ≡ m → signed_from negative (Fed t ∷ rest) ≡ More → ((negative : Bool) → signed_from negative rest ≡ More → Ends (signed_from negative) rest) → Ends (signed_from negative) (Fed t ∷ rest)
-ends-signs-by negative true p m t rest es ep em h later =
-    passes negative t rest (signed_from negative) (λ rest. signed-space negative t rest es) h (later negative)
-ends-signs-by negative false true m t rest es ep em h later =
-    passes negative t rest (signed_from negative) (λ rest. signed-plus negative t rest es ep) h (later negative)
-ends-signs-by negative false false true t rest es ep em h later =
-    passes negative t rest (signed_from (not negative)) (λ rest. signed-minus negative t rest es ep em) h (later (not negative))
-ends-signs-by negative false false false t rest es ep em h later =
-    let found : Ends (λ (items : List Item). next (unsigned items) (with_sign negative)) (Fed t ∷ rest) = ends-number negative (Fed t ∷ rest) (sym (signed-end negative t rest es ep em) ∙ h) in
-    (found.0, found.1, signed-end negative t (rest ++ found.0) es ep em ∙ found.2)
-
-ends-signed : (negative : Bool) (items : List Item) → signed_from negative items ≡ More → Ends (signed_from negative) items
-ends-signed negative [] h = (zero_digit ∷ space ∷ [], cond negative (neg_ℤ (pos 0)) (pos 0), refl)
-ends-signed negative (Given v ∷ rest) h = absurd (cc)
-ends-signed negative (Fed t ∷ rest) h =
-    ends-signs-by negative (is_space t) (is_other 43 t) (is_other 45 t) t rest refl refl refl h (λ negative. ends-signed negative rest)
-
-pub a-part-begins : (items : List Item) → integer items ≡ More → Ends integer items
-a-part-begins items h = ends-signed false items h
+pub a-part-ends : (items : List Item) (want : Want) → integer items ≡ More want → (more : List Item) × HasEnded (integer (items ++ more))
+a-part-ends items want h = ends-signs [] false items want h

@@ -1,60 +1,98 @@
 -- One more token behind the letters of a word.
-use Rattle.std.proofs.Common.{◌≡◌, ℕ, suc, ◌+◌, ◌<◌, Bool, true, false, ◌&&◌, List, [], ◌∷◌, ◌++◌, map, length, drop, get_or, refl, sym, ◌∙◌, ap, append_assoc, append-nil, add-one, drop-cons, length-append, ◌≢◌, arith}
-use Rattle.std.proofs.Math.Seq.{drop-length}
-use Rattle.tx_char.specs.declared.tokens.Token.{Token}
+use Rattle.std.proofs.Common.{◌≡◌, ℕ, zero, suc, ◌+◌, ◌-◌, ◌≤◌, Bool, true, false, ◌&&◌, not, List, [], ◌∷◌, ◌++◌, length, drop, refl, ap, sym, ◌∙◌, append_assoc, append-nil, add-one, arith, length-append, lit≤}
+use Rattle.std.proofs.lemmas.List.{drop-append-le}
+use Rattle.tx_seen.specs.declared.fed.Want.TheVariants.{Expanded}
+use Rattle.tx_seen.specs.declared.error.TexError.TheVariants.{Undefined}
+use Rattle.tx_seen.specs.declared.seen.Seen.{Seen}
+use Rattle.tx_seen.specs.Seen.{is_space, is_key, is_undefined}
+use Rattle.tx_seen.specs.Readings.{Item, Took, More, Done, Wrong, tokens, last}
 use Rattle.tx_scan.specs.declared.scans.KeyScan.{KeyScan}
-use Rattle.tx_scan.specs.Tokens.{is_space, is_key}
-use Rattle.tx_scan.specs.Readings.{Item, Fed, More, Done}
-use Rattle.tx_scan.specs.Keywords.{keyword, letters, word_rest, HasTaken}
+use Rattle.tx_scan.specs.Keywords.{keyword, letters, begins_with, skips, word_rest, rest, held, HasTaken}
+use Rattle.tx_scan.proofs.Answering.{taken-on, taken-now, last-none, last-kept, tokens-append}
 
-and-false : (b : Bool) → (b && false) ≡ false
-and-false true = refl
-and-false false = refl
+drop-push : (ts : List Item) (i : Item) (n : ℕ) → drop (length (ts ++ i ∷ []) - (n + 1)) (ts ++ i ∷ []) ≡ drop (length ts - n) ts ++ i ∷ []
+drop-push ts i n =
+    let e : length (ts ++ i ∷ []) - (n + 1) ≡ length ts - n = grind (arith, length-append) in
+    let small : length ts - n ≤ length ts = omega arith in
+    rw e (drop-append-le (length ts - n) ts (i ∷ []) small)
 
-whole-push : (read : List Token) (t : Token) (more : List Item) → map Fed (read ++ t ∷ []) ++ more ≡ map Fed read ++ Fed t ∷ more
-whole-push [] t more = refl
-whole-push (x ∷ read) t more = ap (λ (items : List Item). Fed x ∷ items) (whole-push read t more)
+-- one more token is held
+pub last-push : (n : ℕ) (taken : List Item) (t : Seen) → last (n + 1) (taken ++ Took t ∷ []) ≡ last n taken ++ Took t ∷ []
+last-push n taken t = rw (tokens-append taken (Took t ∷ [])) (drop-push (tokens taken) (Took t) n)
 
-letter-fits : (word : List ℕ) (read : List Token) (t : Token) (c : ℕ) (left : List ℕ) (more : List Item) → drop (length read) word ≡ c ∷ left → is_key c t ≡ true → word_rest word read (Fed t ∷ more) ≡ letters left (map Fed (read ++ t ∷ []) ++ more) more
-letter-fits word [] t c left more e h = rw e (simp (h, and-false (is_space t)) refl)
-letter-fits word (x ∷ read) t c left more e h = rw e (simp (h, whole-push read t more) refl)
+-- a token that is no space before the word is read with its letters
+reads-letter : (word : List ℕ) (read : ℕ) (taken : List Item) (t : Seen) (more : List Item) → skips word read t ≡ false → word_rest word read (last read taken) (Took t) more ≡ letters (drop read word) (last read taken ++ Took t ∷ more) (Took t ∷ more)
+reads-letter word zero taken t more s = rw (s, last-none taken) refl
+reads-letter word (suc read) taken t more s = refl
 
-rest-push : (word : List ℕ) (read : List Token) (t : Token) (more : List Item) → word_rest word (read ++ t ∷ []) more ≡ letters (drop (length read + 1) word) (map Fed (read ++ t ∷ []) ++ more) more
-rest-push word [] t more = refl
-rest-push word (x ∷ read) t more =
-    let e : suc (length (read ++ t ∷ [])) ≡ suc (length read) + 1 = grind (arith, length-append) in
-    ap (λ (n : ℕ). letters (drop n word) (map Fed ((x ∷ read) ++ t ∷ []) ++ more) more) e
+read-on : (w : List ℕ) (scan : KeyScan) (taken : List Item) (t : Seen) (more : List Item) → HasTaken w scan taken → skips scan.word scan.read t ≡ false → keyword w ((taken ++ Took t ∷ []) ++ more) ≡ letters (drop scan.read scan.word) (last scan.read taken ++ Took t ∷ more) (Took t ∷ more)
+read-on w scan taken t more h s = taken-on rest held (keyword w) scan taken (Took t) more h ∙ reads-letter scan.word scan.read taken t more s
 
-taken-on : (w : List ℕ) (scan : KeyScan) (taken : List Item) (item : Item) (more : List Item) → HasTaken w scan taken → keyword w ((taken ++ item ∷ []) ++ more) ≡ word_rest scan.word scan.letters (item ∷ more)
-taken-on w scan taken item more h = ap (keyword w) (append_assoc taken (item ∷ []) more) ∙ sym (h (item ∷ more))
+-- the word was over before
+pub no-letter : (w : List ℕ) (scan : KeyScan) (taken : List Item) (t : Seen) → HasTaken w scan taken → skips scan.word scan.read t ≡ false → drop scan.read scan.word ≡ [] → (more : List Item) → keyword w ((taken ++ Took t ∷ []) ++ more) ≡ Done true (last 1 (taken ++ Took t ∷ []) ++ more)
+no-letter w scan taken t h s e = λ more. read-on w scan taken t more h s ∙ rw (e, last-kept 1 taken t (lit≤ tt)) refl
 
-reads-letter : (w : List ℕ) (scan : KeyScan) (taken : List Item) (t : Token) (more : List Item) → HasTaken w scan taken → length scan.letters < length scan.word → is_key (get_or scan.word (length scan.letters) 0) t ≡ true → keyword w ((taken ++ Fed t ∷ []) ++ more) ≡ letters (drop (length scan.letters + 1) scan.word) (map Fed (scan.letters ++ t ∷ []) ++ more) more
-reads-letter w scan taken t more h l k =
-    taken-on w scan taken (Fed t) more h
-    ∙ letter-fits scan.word scan.letters t (get_or scan.word (length scan.letters) 0) (drop (length scan.letters + 1) scan.word) more (rw (add-one, drop-cons scan.word (length scan.letters) 0) refl) k
+-- a name without a meaning
+pub undefined-letter : (w : List ℕ) (scan : KeyScan) (taken : List Item) (t : Seen) (c : ℕ) → HasTaken w scan taken → skips scan.word scan.read t ≡ false → drop scan.read scan.word ≡ c ∷ drop (scan.read + 1) scan.word → is_undefined t ≡ true → (more : List Item) → keyword w ((taken ++ Took t ∷ []) ++ more) ≡ Wrong Undefined
+undefined-letter w scan taken t c h s e u = λ more. read-on w scan taken t more h s ∙ rw (e, u) refl
+
+-- another letter
+pub other-letter : (w : List ℕ) (scan : KeyScan) (taken : List Item) (t : Seen) (c : ℕ) → HasTaken w scan taken → skips scan.word scan.read t ≡ false → drop scan.read scan.word ≡ c ∷ drop (scan.read + 1) scan.word → is_undefined t ≡ false → is_key c t ≡ false → (more : List Item) → keyword w ((taken ++ Took t ∷ []) ++ more) ≡ Done false (last (scan.read + 1) (taken ++ Took t ∷ []) ++ more)
+other-letter w scan taken t c h s e u k = λ more. read-on w scan taken t more h s ∙ rw (e, u, k, last-push scan.read taken t) (ap (λ (items : List Item). Done false items) (sym (append_assoc (last scan.read taken) (Took t ∷ []) more)))
+
+right-letter : (w : List ℕ) (scan : KeyScan) (taken : List Item) (t : Seen) (c : ℕ) (more : List Item) → HasTaken w scan taken → skips scan.word scan.read t ≡ false → drop scan.read scan.word ≡ c ∷ drop (scan.read + 1) scan.word → is_undefined t ≡ false → is_key c t ≡ true → keyword w ((taken ++ Took t ∷ []) ++ more) ≡ letters (drop (scan.read + 1) scan.word) (last scan.read taken ++ Took t ∷ more) more
+right-letter w scan taken t c more h s e u k = read-on w scan taken t more h s ∙ rw (e, u, k) refl
 
 -- the last letter of the word
-pub last-letter : (w : List ℕ) (scan : KeyScan) (taken : List Item) (t : Token) → HasTaken w scan taken → length scan.letters < length scan.word → is_key (get_or scan.word (length scan.letters) 0) t ≡ true → length scan.letters + 1 ≡ length scan.word → (more : List Item) → keyword w ((taken ++ Fed t ∷ []) ++ more) ≡ Done true more
-last-letter w scan taken t h l k e = λ more. reads-letter w scan taken t more h l k ∙ rw (e, drop-length scan.word) refl
-
-letters-nil : (word : List ℕ) (n : ℕ) (whole : List Item) → n < length word → letters (drop n word) whole [] ≡ More
-letters-nil word n whole l = rw (drop-cons word n 0) refl
+pub last-letter : (w : List ℕ) (scan : KeyScan) (taken : List Item) (t : Seen) (c : ℕ) → HasTaken w scan taken → skips scan.word scan.read t ≡ false → drop scan.read scan.word ≡ c ∷ drop (scan.read + 1) scan.word → is_undefined t ≡ false → is_key c t ≡ true → drop (scan.read + 1) scan.word ≡ [] → (more : List Item) → keyword w ((taken ++ Took t ∷ []) ++ more) ≡ Done true (last 0 (taken ++ Took t ∷ []) ++ more)
+last-letter w scan taken t c h s e u k f = λ more. right-letter w scan taken t c more h s e u k ∙ rw (f, last-none (taken ++ Took t ∷ [])) refl
 
 -- a letter before it
-pub early-letter : (w : List ℕ) (scan : KeyScan) (taken : List Item) (t : Token) → HasTaken w scan taken → length scan.letters < length scan.word → is_key (get_or scan.word (length scan.letters) 0) t ≡ true → length scan.letters + 1 < length scan.word → keyword w (taken ++ Fed t ∷ []) ≡ More
-early-letter w scan taken t h l k e =
-    ap (keyword w) (sym (append-nil (taken ++ Fed t ∷ [])))
-    ∙ reads-letter w scan taken t [] h l k
-    ∙ letters-nil scan.word (length scan.letters + 1) (map Fed (scan.letters ++ t ∷ []) ++ []) e
+pub early-letter : (w : List ℕ) (scan : KeyScan) (taken : List Item) (t : Seen) (c d : ℕ) (left : List ℕ) → HasTaken w scan taken → skips scan.word scan.read t ≡ false → drop scan.read scan.word ≡ c ∷ drop (scan.read + 1) scan.word → is_undefined t ≡ false → is_key c t ≡ true → drop (scan.read + 1) scan.word ≡ d ∷ left → keyword w (taken ++ Took t ∷ []) ≡ More Expanded
+early-letter w scan taken t c d left h s e u k f =
+    ap (keyword w) (sym (append-nil (taken ++ Took t ∷ [])))
+    ∙ right-letter w scan taken t c [] h s e u k
+    ∙ rw f refl
 
-pub has-letter : (w : List ℕ) (scan : KeyScan) (taken : List Item) (t : Token) (more : List Item) → HasTaken w scan taken → length scan.letters < length scan.word → is_key (get_or scan.word (length scan.letters) 0) t ≡ true → word_rest scan.word (scan.letters ++ t ∷ []) more ≡ keyword w ((taken ++ Fed t ∷ []) ++ more)
-has-letter w scan taken t more h l k = rest-push scan.word scan.letters t more ∙ sym (reads-letter w scan taken t more h l k)
+rest-push : (word : List ℕ) (read : ℕ) (behind : List Item) (item : Item) (more : List Item) → word_rest word (read + 1) behind item more ≡ letters (drop (read + 1) word) (behind ++ item ∷ more) (item ∷ more)
+rest-push word read behind item more = rw add-one refl
 
-length-push : (read new : List Token) (t : Token) → new ≡ read ++ t ∷ [] → length new ≡ length read + 1
-length-push read new t e = rw e (grind (arith, length-append))
+pub has-letter : (w : List ℕ) (scan : KeyScan) (taken : List Item) (t : Seen) (c : ℕ) → HasTaken w scan taken → skips scan.word scan.read t ≡ false → drop scan.read scan.word ≡ c ∷ drop (scan.read + 1) scan.word → is_undefined t ≡ false → is_key c t ≡ true → (item : Item) (more : List Item) → word_rest scan.word (scan.read + 1) (last (scan.read + 1) (taken ++ Took t ∷ [])) item more ≡ keyword w ((taken ++ Took t ∷ []) ++ item ∷ more)
+has-letter w scan taken t c h s e u k = λ item more.
+    rest-push scan.word scan.read (last (scan.read + 1) (taken ++ Took t ∷ [])) item more
+    ∙ rw (last-push scan.read taken t) (ap (λ (whole : List Item). letters (drop (scan.read + 1) scan.word) whole (item ∷ more)) (append_assoc (last scan.read taken) (Took t ∷ []) (item ∷ more)))
+    ∙ sym (right-letter w scan taken t c (item ∷ more) h s e u k)
 
-pub last-length : (word : List ℕ) (read new : List Token) (t : Token) (a b : ℕ) → new ≡ read ++ t ∷ [] → a ≡ length new → b ≡ length word → a ≡ b → length read + 1 ≡ length word
-last-length word read new t a b e f g h = omega (arith, length-push read new t e)
+-- a space before the word
+space-first : (word : List ℕ) (t : Seen) (b s : Bool) → begins_with word t ≡ b → (s && not b) ≡ true → b ≡ false
+space-first word t false s e h = refl
+space-first word t true true e h = absurd (cc)
+space-first word t true false e h = absurd (cc)
 
-pub early-length : (word : List ℕ) (read new : List Token) (t : Token) (a b : ℕ) → new ≡ read ++ t ∷ [] → a ≡ length new → b ≡ length word → a ≢ b → length read < length word → length read + 1 < length word
-early-length word read new t a b e f g h l = omega (arith, length-push read new t e)
+word-more : (word : List ℕ) (t : Seen) → begins_with word t ≡ false → letters word [] [] ≡ More Expanded
+word-more [] t h = absurd (cc)
+word-more (c ∷ word) t h = refl
+
+skipped-by : (word : List ℕ) (read : ℕ) (behind : List Item) (t : Seen) (more : List Item) → skips word read t ≡ true → word_rest word read behind (Took t) more ≡ keyword word more
+skipped-by word zero behind t more s = rw s refl
+skipped-by word (suc read) behind t more s = absurd (cc)
+
+skipped-more : (word : List ℕ) (read : ℕ) (t : Seen) → skips word read t ≡ true → keyword word [] ≡ More Expanded
+skipped-more word zero t s = word-more word t (space-first word t (begins_with word t) (is_space t) refl s)
+skipped-more word (suc read) t s = absurd (cc)
+
+skipped-none : (word : List ℕ) (read : ℕ) (t : Seen) → skips word read t ≡ true → read ≡ 0
+skipped-none word zero t s = refl
+skipped-none word (suc read) t s = absurd (cc)
+
+pub skipped-space : (w : List ℕ) (scan : KeyScan) (taken : List Item) (t : Seen) → HasTaken w scan taken → skips scan.word scan.read t ≡ true → keyword w (taken ++ Took t ∷ []) ≡ More Expanded
+skipped-space w scan taken t h s =
+    taken-now rest held (keyword w) scan taken (Took t) h
+    ∙ skipped-by scan.word scan.read (last scan.read taken) t [] s
+    ∙ skipped-more scan.word scan.read t s
+
+pub has-skipped : (w : List ℕ) (scan : KeyScan) (taken : List Item) (t : Seen) → HasTaken w scan taken → skips scan.word scan.read t ≡ true → (item : Item) (more : List Item) → word_rest scan.word scan.read (last scan.read (taken ++ Took t ∷ [])) item more ≡ keyword w ((taken ++ Took t ∷ []) ++ item ∷ more)
+has-skipped w scan taken t h s = λ item more.
+    ap (λ (read : ℕ). word_rest scan.word read (last scan.read (taken ++ Took t ∷ [])) item more) (skipped-none scan.word scan.read t s)
+    ∙ sym (skipped-by scan.word scan.read (last scan.read taken) t (item ∷ more) s)
+    ∙ sym (taken-on rest held (keyword w) scan taken (Took t) (item ∷ more) h)

@@ -1,3 +1,8 @@
+pub mod Answering
+pub mod IntegerSteps
 pub mod Letters
-pub mod Extending
 pub mod ReadingOn
+pub mod Extending
+pub mod OneMore
+pub mod KeptDigits
+pub mod UnitSpaces

@@ -1,93 +1,107 @@
 -- What is read of some items stands with more items behind them.
-use Rattle.std.proofs.Common.{◌≡◌, ℕ, ◌+◌, ◌*◌, Bool, true, false, cond, not, ℤ, pos, Option, Some, None, List, [], ◌∷◌, ◌++◌, refl, ap}
+use Rattle.std.proofs.Common.{◌≡◌, ℕ, ◌+◌, ◌*◌, Bool, true, false, cond, not, ℤ, pos, Option, Some, None, List, [], ◌∷◌, ◌++◌, refl, sym, ap, append_assoc}
 use Rattle.std.specs.Prelude.{nat_le}
-use Rattle.tx_char.specs.declared.tokens.Token.{Token}
+use Rattle.tx_seen.specs.declared.seen.Seen.{Seen}
+use Rattle.tx_seen.specs.declared.place.Place.{Place}
+use Rattle.tx_seen.specs.declared.fed.Value.TheVariants.{Int, Dimen, Flag}
+use Rattle.tx_seen.specs.Seen.{is_undefined}
+use Rattle.tx_seen.specs.declared.error.TexError.TheVariants.{Undefined, MissingNumber, IntegerTooLarge}
+use Rattle.tx_seen.specs.Readings.{Item, Took, Gave, Reading, More, Need, Done, Wrong, next, ReadsOn}
 use Rattle.tx_scan.specs.declared.scans.Radix.{Radix}
-use Rattle.tx_scan.specs.declared.scans.Radix.TheVariants.{Octal, Decimal, Hexadecimal}
-use Rattle.tx_scan.specs.declared.types.Value.TheVariants.{Int, Dimen, Flag}
-use Rattle.tx_scan.specs.Tokens.{is_space, is_other, is_command, base, digit}
-use Rattle.tx_scan.specs.Readings.{Item, Fed, Given, Reading, More, Need, Done, Wrong, next, ReadsOn}
-use Rattle.tx_scan.specs.Integers.{signs, space_after, code_named, coded, character_code, digits, first_digit, quantity, other_number, unsigned, with_sign, integer}
+use Rattle.tx_scan.specs.declared.scans.Radix.TheVariants.{Decimal}
+use Rattle.tx_scan.specs.declared.scans.Family.{Family}
+use Rattle.tx_scan.specs.declared.scans.Outer.{Outer}
+use Rattle.tx_scan.specs.declared.scans.Beginning.{Beginning}
+use Rattle.tx_scan.specs.declared.scans.Beginning.TheVariants as begin
+use Rattle.tx_scan.specs.Beginnings.{base, digit, place_of, beginning}
+use Rattle.tx_scan.specs.Integers.{Ended, ended_by, space_after, code_named, coded, character_code, digits, first_digit, quantity, byte_of, numbered, with_sign, whole, signed_constant, begun, signs, integer}
 
-on-if : {A : Type 0} (more : List Item) (b : Bool) (x y u v : Reading A) → ReadsOn more x u → ReadsOn more y v → ReadsOn more (cond b x y) (cond b u v)
+pub on-if : {A : Type 0} (more : List Item) (b : Bool) (x y u v : Reading A) → ReadsOn more x u → ReadsOn more y v → ReadsOn more (cond b x y) (cond b u v)
 on-if more true x y u v p q = p
 on-if more false x y u v p q = q
 
-on-next : {A B : Type 0} (more : List Item) (r s : Reading A) (on : A → List Item → Reading B) → ReadsOn more r s → ((a : A) (rest : List Item) → ReadsOn more (on a rest) (on a (rest ++ more))) → ReadsOn more (next r on) (next s on)
-on-next more More s on h k = tt
+pub on-next : {A B : Type 0} (more : List Item) (r s : Reading A) (on : A → List Item → Reading B) → ReadsOn more r s → ((a : A) (rest : List Item) → ReadsOn more (on a rest) (on a (rest ++ more))) → ReadsOn more (next r on) (next s on)
+on-next more (More want) s on h k = tt
 on-next more (Need kind) s on h k = tt
 on-next more (Done a rest) s on h k = rw h (k a rest)
 on-next more (Wrong e) s on h k = rw h refl
 
-without-more : (more : List Item) (t : Token) (rest : List Item) (b : Bool) → cond b (rest ++ more) (Fed t ∷ rest ++ more) ≡ cond b rest (Fed t ∷ rest) ++ more
-without-more more t rest true = refl
-without-more more t rest false = refl
+on-ended : (more : List Item) (n : ℕ) (t : Seen) (rest : List Item) → ReadsOn more (ended_by n t rest) (ended_by n t (rest ++ more))
+on-ended more n t rest = on-if more (is_undefined t) _ _ _ _ refl refl
 
-on-space : (more : List Item) (n : ℤ) (items : List Item) → ReadsOn more (space_after n items) (space_after n (items ++ more))
+pub on-space : (more : List Item) (n : ℕ) (items : List Item) → ReadsOn more (space_after n items) (space_after n (items ++ more))
 on-space more n [] = tt
-on-space more n (Given v ∷ rest) = refl
-on-space more n (Fed t ∷ rest) = ap (λ (behind : List Item). Done n behind) (without-more more t rest (is_space t))
+on-space more n (Gave v ∷ rest) = refl
+on-space more n (Took t ∷ rest) = on-ended more n t rest
 
 on-coded : (more : List Item) (o : Option ℕ) (rest : List Item) → ReadsOn more (coded o rest) (coded o (rest ++ more))
 on-coded more None rest = refl
-on-coded more (Some code) rest = on-space more (pos code) rest
+on-coded more (Some code) rest = on-space more code rest
 
-on-code : (more : List Item) (items : List Item) → ReadsOn more (character_code items) (character_code (items ++ more))
+pub on-code : (more : List Item) (items : List Item) → ReadsOn more (character_code items) (character_code (items ++ more))
 on-code more [] = tt
-on-code more (Given v ∷ rest) = refl
-on-code more (Fed t ∷ rest) = on-coded more (code_named t) rest
+on-code more (Gave v ∷ rest) = refl
+on-code more (Took t ∷ rest) = on-coded more (code_named t.token) rest
 
-on-digits-by : (more : List Item) (radix : Radix) (n : ℕ) (t : Token) (rest : List Item) (o : Option ℕ) → digit radix t ≡ o → ((m : ℕ) → ReadsOn more (digits radix m rest) (digits radix m (rest ++ more))) → ReadsOn more (digits radix n (Fed t ∷ rest)) (digits radix n (Fed t ∷ rest ++ more))
-on-digits-by more radix n t rest None e later = rw e (ap (λ (behind : List Item). Done (pos n) behind) (without-more more t rest (is_space t)))
+on-digits-by : (more : List Item) (radix : Radix) (n : ℕ) (t : Seen) (rest : List Item) (o : Option ℕ) → digit radix t ≡ o → ((m : ℕ) → ReadsOn more (digits radix m rest) (digits radix m (rest ++ more))) → ReadsOn more (digits radix n (Took t ∷ rest)) (digits radix n (Took t ∷ rest ++ more))
+on-digits-by more radix n t rest None e later = rw e (on-ended more n t rest)
 on-digits-by more radix n t rest (Some d) e later =
-    rw e (on-if more (nat_le (base radix * n + d) 2147483647) (digits radix (base radix * n + d) rest) (Wrong 7) (digits radix (base radix * n + d) (rest ++ more)) (Wrong 7) (later (base radix * n + d)) refl)
+    rw e (on-if more (nat_le (base radix * n + d) 2147483647) (digits radix (base radix * n + d) rest) (Wrong IntegerTooLarge) (digits radix (base radix * n + d) (rest ++ more)) (Wrong IntegerTooLarge) (later (base radix * n + d)) refl)
 
-on-digits : (more : List Item) (radix : Radix) (n : ℕ) (items : List Item) → ReadsOn more (digits radix n items) (digits radix n (items ++ more))
+pub on-digits : (more : List Item) (radix : Radix) (n : ℕ) (items : List Item) → ReadsOn more (digits radix n items) (digits radix n (items ++ more))
 on-digits more radix n [] = tt
-on-digits more radix n (Given v ∷ rest) = refl
-on-digits more radix n (Fed t ∷ rest) = on-digits-by more radix n t rest (digit radix t) refl (λ m. on-digits more radix m rest)
+on-digits more radix n (Gave v ∷ rest) = refl
+on-digits more radix n (Took t ∷ rest) = on-digits-by more radix n t rest (digit radix t) refl (λ m. on-digits more radix m rest)
 
-on-first-by : (more : List Item) (o : Option ℕ) (radix : Radix) (t : Token) (rest : List Item) → digit radix t ≡ o → ReadsOn more (first_digit radix (Fed t ∷ rest)) (first_digit radix (Fed t ∷ rest ++ more))
-on-first-by more None radix t rest e = rw e refl
+on-first-by : (more : List Item) (o : Option ℕ) (radix : Radix) (t : Seen) (rest : List Item) → digit radix t ≡ o → ReadsOn more (first_digit radix (Took t ∷ rest)) (first_digit radix (Took t ∷ rest ++ more))
+on-first-by more None radix t rest e = rw e (on-if {A = Ended} more (is_undefined t) (Wrong Undefined) (Wrong MissingNumber) (Wrong Undefined) (Wrong MissingNumber) refl refl)
 on-first-by more (Some d) radix t rest e = rw e (on-digits more radix d rest)
 
-on-first : (more : List Item) (radix : Radix) (items : List Item) → ReadsOn more (first_digit radix items) (first_digit radix (items ++ more))
+pub on-first : (more : List Item) (radix : Radix) (items : List Item) → ReadsOn more (first_digit radix items) (first_digit radix (items ++ more))
 on-first more radix [] = tt
-on-first more radix (Given v ∷ rest) = refl
-on-first more radix (Fed t ∷ rest) = on-first-by more (digit radix t) radix t rest refl
+on-first more radix (Gave v ∷ rest) = refl
+on-first more radix (Took t ∷ rest) = on-first-by more (digit radix t) radix t rest refl
 
-on-quantity : (more : List Item) (items : List Item) → ReadsOn more (quantity items) (quantity (items ++ more))
-on-quantity more [] = tt
-on-quantity more (Given (Int n) ∷ rest) = refl
-on-quantity more (Given (Dimen n) ∷ rest) = refl
-on-quantity more (Given (Flag b) ∷ rest) = refl
-on-quantity more (Fed t ∷ rest) = refl
+on-quantity : (more : List Item) (place : Place) (items : List Item) → ReadsOn more (quantity place items) (quantity place (items ++ more))
+on-quantity more place [] = tt
+on-quantity more place (Gave (Int n) ∷ rest) = refl
+on-quantity more place (Gave (Dimen n) ∷ rest) = refl
+on-quantity more place (Gave (Flag b) ∷ rest) = refl
+on-quantity more place (Took t ∷ rest) = refl
 
-on-other : (more : List Item) (t : Token) (rest : List Item) → ReadsOn more (other_number t rest) (other_number t (rest ++ more))
-on-other more t rest =
-    on-if more (is_other 39 t) _ _ _ _ (on-first more Octal rest)
-    (on-if more (is_other 34 t) _ _ _ _ (on-first more Hexadecimal rest)
-    (on-if more (is_other 96 t) _ _ _ _ (on-code more rest)
-    (on-if more (is_command t) _ _ _ _ (on-quantity more rest) refl)))
+on-numbered : (more : List Item) (family : Family) (o : Option ℕ) (items : List Item) → ReadsOn more (numbered family o items) (numbered family o (items ++ more))
+on-numbered more family None items = refl
+on-numbered more family (Some n) items = on-quantity more (place_of family n) items
 
-on-unsigned-by : (more : List Item) (o : Option ℕ) (t : Token) (rest : List Item) → digit Decimal t ≡ o → ReadsOn more (unsigned (Fed t ∷ rest)) (unsigned (Fed t ∷ rest ++ more))
-on-unsigned-by more None t rest e = rw e (on-other more t rest)
-on-unsigned-by more (Some d) t rest e = rw e (on-digits more Decimal d rest)
+on-whole : (more : List Item) (outers : List Outer) (n : ℤ) (behind items : List Item) → ReadsOn more (whole outers n behind items) (whole outers n behind (items ++ more))
+on-whole more [] n behind items = ap (λ (rest : List Item). Done n rest) (sym (append_assoc behind items more))
+on-whole more (outer ∷ outers) n behind items =
+    on-next more (numbered outer.family (byte_of n) items) (numbered outer.family (byte_of n) (items ++ more)) (λ value rest. whole outers (with_sign outer.negative value) behind rest)
+    (on-numbered more outer.family (byte_of n) items)
+    (λ value rest. on-whole more outers (with_sign outer.negative value) behind rest)
 
-on-unsigned : (more : List Item) (items : List Item) → ReadsOn more (unsigned items) (unsigned (items ++ more))
-on-unsigned more [] = tt
-on-unsigned more (Given v ∷ rest) = refl
-on-unsigned more (Fed t ∷ rest) = on-unsigned-by more (digit Decimal t) t rest refl
+on-begun : (more : List Item) (outers : List Outer) (negative : Bool) (here there : List Outer → Bool → Reading ℤ) (rest : List Item) (b : Beginning) → ((outers : List Outer) (negative : Bool) → ReadsOn more (here outers negative) (there outers negative)) → ReadsOn more (begun outers negative here rest b) (begun outers negative there (rest ++ more) b)
+on-begun more outers negative here there rest begin.Plus later = later outers negative
+on-begun more outers negative here there rest begin.Minus later = later outers (not negative)
+on-begun more outers negative here there rest (begin.Digit d) later =
+    on-next more (digits Decimal d rest) (digits Decimal d (rest ++ more)) (signed_constant outers negative) (on-digits more Decimal d rest) (λ c rest. on-whole more outers (with_sign negative (pos c.number)) c.behind rest)
+on-begun more outers negative here there rest (begin.Digits radix) later =
+    on-next more (first_digit radix rest) (first_digit radix (rest ++ more)) (signed_constant outers negative) (on-first more radix rest) (λ c rest. on-whole more outers (with_sign negative (pos c.number)) c.behind rest)
+on-begun more outers negative here there rest begin.Character later =
+    on-next more (character_code rest) (character_code (rest ++ more)) (signed_constant outers negative) (on-code more rest) (λ c rest. on-whole more outers (with_sign negative (pos c.number)) c.behind rest)
+on-begun more outers negative here there rest begin.Point later = refl
+on-begun more outers negative here there rest (begin.Number n) later = on-whole more outers (with_sign negative (pos n)) [] rest
+on-begun more outers negative here there rest (begin.At place) later =
+    on-next more (quantity place rest) (quantity place (rest ++ more)) (λ n rest. whole outers (with_sign negative n) [] rest) (on-quantity more place rest) (λ n rest. on-whole more outers (with_sign negative n) [] rest)
+on-begun more outers negative here there rest (begin.Numbered family) later = later (record { negative = negative; family = family } ∷ outers) false
+on-begun more outers negative here there rest (begin.Nothing error) later = refl
 
-on-signs : (more : List Item) (negative : Bool) (items : List Item) → ReadsOn more (signs negative items) (signs negative (items ++ more))
-on-signs more negative [] = tt
-on-signs more negative (Given v ∷ rest) = refl
-on-signs more negative (Fed t ∷ rest) =
-    on-if more (is_space t) _ _ _ _ (on-signs more negative rest)
-    (on-if more (is_other 43 t) _ _ _ _ (on-signs more negative rest)
-    (on-if more (is_other 45 t) _ _ _ _ (on-signs more (not negative) rest) refl))
+on-signs : (more : List Item) (outers : List Outer) (negative : Bool) (items : List Item) → ReadsOn more (signs outers negative items) (signs outers negative (items ++ more))
+on-signs more outers negative [] = tt
+on-signs more outers negative (Gave v ∷ rest) = refl
+on-signs more outers negative (Took t ∷ rest) =
+    on-begun more outers negative (λ outers negative. signs outers negative rest) (λ outers negative. signs outers negative (rest ++ more)) rest (beginning t)
+    (λ outers negative. on-signs more outers negative rest)
 
 pub reads-on : (more : List Item) (items : List Item) → ReadsOn more (integer items) (integer (items ++ more))
-reads-on more items =
-    on-next more (signs false items) (signs false (items ++ more)) (λ negative rest. next (unsigned rest) (with_sign negative)) (on-signs more false items)
-    (λ negative rest. on-next more (unsigned rest) (unsigned (rest ++ more)) (with_sign negative) (on-unsigned more rest) (λ n behind. refl))
+reads-on more items = on-signs more [] false items

@@ -1,113 +1,153 @@
--- Integers (The TeXbook, chapter 24; TeX: The Program, sections 440 to 445).
-use Rattle.std.specs.Prelude.{◌≡◌, ℕ, ◌+◌, ◌*◌, ◌∷◌, [], Bool, false, not, nat_le, ℤ, pos, neg_ℤ, ◌≤ℤ◌, List, Option, Some, None, if◌then◌else◌}
+-- Integers (The TeXbook, chapter 24; TeX: The Program, sections 413 and 440 to 445).
+use Rattle.std.specs.Prelude.{ℕ, ◌+◌, ◌*◌, ◌∷◌, [], ◌++◌, Bool, false, not, nat_le, ℤ, pos, negsuc, neg_ℤ, ◌≤ℤ◌, List, Option, Some, None, if◌then◌else◌}
 use Rattle.tx_char.specs.declared.tokens.Token.{Token}
-use Rattle.tx_char.specs.declared.tokens.Token.TheVariants.{Character, Name}
+use Rattle.tx_char.specs.declared.tokens.Token.TheVariants as token
+use Rattle.tx_seen.specs.declared.error.TexError.TheVariants.{Undefined, MissingNumber, NumberOutOfRange, IntegerTooLarge}
+use Rattle.tx_seen.specs.declared.fed.Want.TheVariants.{Raw, Expanded}
+use Rattle.tx_seen.specs.declared.fed.Kind.TheVariants.{Quantity}
+use Rattle.tx_seen.specs.declared.fed.Value.{Value}
+use Rattle.tx_seen.specs.declared.fed.Value.TheVariants.{Int, Dimen, Flag}
+use Rattle.tx_seen.specs.declared.place.Place.{Place}
+use Rattle.tx_seen.specs.declared.seen.Seen.{Seen}
+use Rattle.tx_seen.specs.Seen.{is_space, is_undefined}
+use Rattle.tx_seen.specs.Readings.{Item, Took, Gave, Reading, More, Need, Done, Wrong, next}
 use Rattle.tx_scan.specs.declared.scans.Radix.{Radix}
-use Rattle.tx_scan.specs.declared.scans.Radix.TheVariants.{Octal, Decimal, Hexadecimal}
-use Rattle.tx_scan.specs.declared.types.Kind.TheVariants.{Quantity}
-use Rattle.tx_scan.specs.declared.types.Value.{Value}
-use Rattle.tx_scan.specs.declared.types.Value.TheVariants.{Int, Dimen, Flag}
-use Rattle.tx_scan.specs.Tokens.{is_space, is_other, is_command, base, digit}
-use Rattle.tx_scan.specs.Readings.{Item, Fed, Given, Reading, More, Need, Done, Wrong, next}
+use Rattle.tx_scan.specs.declared.scans.Radix.TheVariants.{Decimal}
+use Rattle.tx_scan.specs.declared.scans.Family.{Family}
+use Rattle.tx_scan.specs.declared.scans.Outer.{Outer}
+use Rattle.tx_scan.specs.declared.scans.Beginning.{Beginning}
+use Rattle.tx_scan.specs.declared.scans.Beginning.TheVariants as begin
+use Rattle.tx_scan.specs.Beginnings.{base, digit, place_of, beginning}
 
--- signs and spaces: whether an odd number of the signs are `-`
-abbrev pub signs : Bool → List Item → Reading Bool
-signs negative [] = More
-signs negative (Given v ∷ rest) = Done negative (Given v ∷ rest)
-signs negative (Fed t ∷ rest) =
-    if is_space t then signs negative rest
-    else if is_other 43 t then signs negative rest
-    else if is_other 45 t then signs (not negative) rest
-    else Done negative (Fed t ∷ rest)
+-- a constant, and the token behind it that is read and isn't part of it, if there is one
+pub record Ended : Type 0 where
+  pub number : ℕ
+  pub behind : List Item
 
--- without a space at the front
-abbrev pub without_space : Token → List Item → List Item
-without_space t rest = if is_space t then rest else Fed t ∷ rest
+-- a token behind a thing belongs to it if it means a space
+abbrev pub unless_space : Seen → List Item
+unless_space t = if is_space t then [] else Took t ∷ []
 
--- one optional space behind a constant
-abbrev pub space_after : ℤ → List Item → Reading ℤ
-space_after n [] = More
-space_after n (Given v ∷ rest) = Done n (Given v ∷ rest)
-space_after n (Fed t ∷ rest) = Done n (without_space t rest)
+-- a token that was to be expanded, and has no meaning, is an error
+abbrev pub expanded : {A : Type 0} → Seen → Reading A → Reading A
+expanded t reading = if is_undefined t then Wrong Undefined else reading
+
+-- a constant that this token ends
+abbrev pub ended_by : ℕ → Seen → List Item → Reading Ended
+ended_by n t rest = expanded t (Done (record { number = n; behind = unless_space t }) rest)
+
+-- one optional space behind a character's code
+abbrev pub space_after : ℕ → List Item → Reading Ended
+space_after n [] = More Expanded
+space_after n (Gave v ∷ rest) = Wrong MissingNumber
+space_after n (Took t ∷ rest) = ended_by n t rest
 
 -- the code that stands behind a backquote: a character's, of any category, or that of a name of one character
 abbrev pub code_named : Token → Option ℕ
-code_named (Character code category) = Some code
-code_named (Name (code ∷ [])) = Some code
-code_named (Name _) = None
+code_named (token.Character code category) = Some code
+code_named (token.Name (code ∷ [])) = Some code
+code_named (token.Name _) = None
+code_named token.FrozenRelax = None
 
--- a code, or error 3 where there is none, and an optional space
-abbrev pub coded : Option ℕ → List Item → Reading ℤ
-coded None rest = Wrong 3
-coded (Some code) rest = space_after (pos code) rest
+-- a code, if there is one, and an optional space
+abbrev pub coded : Option ℕ → List Item → Reading Ended
+coded None rest = Wrong MissingNumber
+coded (Some code) rest = space_after code rest
 
--- behind a backquote
-abbrev pub character_code : List Item → Reading ℤ
-character_code [] = More
-character_code (Given v ∷ rest) = Wrong 3
-character_code (Fed t ∷ rest) = coded (code_named t) rest
+-- behind a backquote; the token there isn't expanded
+abbrev pub character_code : List Item → Reading Ended
+character_code [] = More Raw
+character_code (Gave v ∷ rest) = Wrong MissingNumber
+character_code (Took t ∷ rest) = coded (code_named t.token) rest
 
--- the digits behind those that stand for n, and an optional space; error 7 where the number is too large
-abbrev pub digits : Radix → ℕ → List Item → Reading ℤ
-digits radix n [] = More
-digits radix n (Given v ∷ rest) = Done (pos n) (Given v ∷ rest)
-digits radix n (Fed t ∷ rest) = digit_or_end (digit radix t) (base radix * n) (λ m. digits radix m rest) (Done (pos n) (without_space t rest))
+-- one more digit, if the number isn't too large
+abbrev pub with_digit : {A : Type 0} → ℕ → ℕ → (ℕ → Reading A) → Reading A
+with_digit n d on = if nat_le (n + d) 2147483647 then on (n + d) else Wrong IntegerTooLarge
+
+-- the digits behind those that stand for n, and an optional space
+abbrev pub digits : Radix → ℕ → List Item → Reading Ended
+digits radix n [] = More Expanded
+digits radix n (Gave v ∷ rest) = Wrong MissingNumber
+digits radix n (Took t ∷ rest) = digit_or_end (digit radix t) (base radix * n) (λ m. digits radix m rest) (ended_by n t rest)
   where
-    digit_or_end : Option ℕ → ℕ → (ℕ → Reading ℤ) → Reading ℤ → Reading ℤ
+    digit_or_end : Option ℕ → ℕ → (ℕ → Reading Ended) → Reading Ended → Reading Ended
     digit_or_end None n on end = end
-    digit_or_end (Some d) n on end = if nat_le (n + d) 2147483647 then on (n + d) else Wrong 7
+    digit_or_end (Some d) n on end = with_digit n d on
 
--- the first digit must be there
-abbrev pub first_digit : Radix → List Item → Reading ℤ
-first_digit radix [] = More
-first_digit radix (Given v ∷ rest) = Wrong 3
-first_digit radix (Fed t ∷ rest) = digits_from (digit radix t) radix rest
+-- the first digit of an octal or hexadecimal constant must be there
+abbrev pub first_digit : Radix → List Item → Reading Ended
+first_digit radix [] = More Expanded
+first_digit radix (Gave v ∷ rest) = Wrong MissingNumber
+first_digit radix (Took t ∷ rest) = digits_from (digit radix t) t rest
   where
-    digits_from : Option ℕ → Radix → List Item → Reading ℤ
-    digits_from None radix rest = Wrong 3
-    digits_from (Some d) radix rest = digits radix d rest
+    digits_from : Option ℕ → Seen → List Item → Reading Ended
+    digits_from None t rest = expanded t (Wrong MissingNumber)
+    digits_from (Some d) t rest = digits radix d rest
 
--- an internal quantity, which the caller knows; a dimension counts in scaled points
-abbrev pub quantity : List Item → Reading ℤ
-quantity [] = Need Quantity
-quantity (Given (Int n) ∷ rest) = Done n rest
-quantity (Given (Dimen n) ∷ rest) = Done n rest
-quantity (Given (Flag _) ∷ rest) = Wrong 3
-quantity (Fed t ∷ rest) = Wrong 3
+-- a value that was asked for; a size counts in scaled points
+abbrev pub given : Item → List Item → Reading ℤ
+given (Gave (Int n)) rest = Done n rest
+given (Gave (Dimen n)) rest = Done n rest
+given (Gave (Flag _)) rest = Wrong MissingNumber
+given (Took t) rest = Wrong MissingNumber
 
--- a number that begins with a token that is no digit
-abbrev pub other_number : Token → List Item → Reading ℤ
-other_number t rest =
-    if is_other 39 t then first_digit Octal rest
-    else if is_other 34 t then first_digit Hexadecimal rest
-    else if is_other 96 t then character_code rest
-    else if is_command t then quantity rest
-    else Wrong 3
+-- the number that stands at a place
+abbrev pub quantity : Place → List Item → Reading ℤ
+quantity place [] = Need (Quantity place)
+quantity place (item ∷ rest) = given item rest
 
--- a number without signs
-abbrev pub unsigned : List Item → Reading ℤ
-unsigned [] = More
-unsigned (Given v ∷ rest) = Wrong 3
-unsigned (Fed t ∷ rest) = number_from (digit Decimal t) t rest
-  where
-    number_from : Option ℕ → Token → List Item → Reading ℤ
-    number_from (Some d) t rest = digits Decimal d rest
-    number_from None t rest = other_number t rest
+-- the number of a register or a character
+abbrev pub byte_of : ℤ → Option ℕ
+byte_of (pos n) = if nat_le n 255 then Some n else None
+byte_of (negsuc n) = None
 
--- a number with its sign
-abbrev pub with_sign : Bool → ℤ → List Item → Reading ℤ
-with_sign negative n behind = Done (if negative then neg_ℤ n else n) behind
+-- what stands at a number of a family
+abbrev pub numbered : Family → Option ℕ → List Item → Reading ℤ
+numbered family None rest = Wrong NumberOutOfRange
+numbered family (Some n) rest = quantity (place_of family n) rest
 
--- an integer with its signs
+abbrev pub with_sign : Bool → ℤ → ℤ
+with_sign negative n = if negative then neg_ℤ n else n
+
+-- a number is whole, and so is the integer unless another number waits for this one, which is then what stands there; the
+-- token behind it stays behind
+abbrev pub whole : List Outer → ℤ → List Item → List Item → Reading ℤ
+whole [] n behind rest = Done n (behind ++ rest)
+whole (outer ∷ outers) n behind rest = next (numbered outer.family (byte_of n) rest) (λ value rest. whole outers (with_sign outer.negative value) behind rest)
+
+-- a constant with its sign is a whole number
+abbrev pub signed_constant : List Outer → Bool → Ended → List Item → Reading ℤ
+signed_constant outers negative c rest = whole outers (with_sign negative (pos c.number)) c.behind rest
+
+-- what a token begins, with its sign, where these numbers wait for it, or how reading goes on
+abbrev pub begun : List Outer → Bool → (List Outer → Bool → Reading ℤ) → List Item → Beginning → Reading ℤ
+begun outers negative on rest begin.Plus = on outers negative
+begun outers negative on rest begin.Minus = on outers (not negative)
+begun outers negative on rest (begin.Digit d) = next (digits Decimal d rest) (signed_constant outers negative)
+begun outers negative on rest (begin.Digits radix) = next (first_digit radix rest) (signed_constant outers negative)
+begun outers negative on rest begin.Character = next (character_code rest) (signed_constant outers negative)
+begun outers negative on rest begin.Point = Wrong MissingNumber
+begun outers negative on rest (begin.Number n) = whole outers (with_sign negative (pos n)) [] rest
+begun outers negative on rest (begin.At place) = next (quantity place rest) (λ n rest. whole outers (with_sign negative n) [] rest)
+begun outers negative on rest (begin.Numbered family) = on (record { negative = negative; family = family } ∷ outers) false
+begun outers negative on rest (begin.Nothing error) = Wrong error
+
+-- a number with its signs, whose sign so far is this, where these numbers wait for it, the innermost first
+abbrev pub signs : List Outer → Bool → List Item → Reading ℤ
+signs outers negative [] = More Expanded
+signs outers negative (Gave v ∷ rest) = Wrong MissingNumber
+signs outers negative (Took t ∷ rest) = begun outers negative (λ outers negative. signs outers negative rest) rest (beginning t)
+
+-- an integer
 abbrev pub integer : List Item → Reading ℤ
-integer items = next (signs false items) (λ negative rest. next (unsigned rest) (with_sign negative))
+integer items = signs [] false items
 
 -- the range of integers
 abbrev pub IsInRange : ℤ → Type 0
 IsInRange n = (neg_ℤ (pos 2147483647) ≤ℤ n) × (n ≤ℤ pos 2147483647)
 
--- an answer to the question for a quantity: within the range of integers, or no
+-- a number that is given is within that range
 abbrev pub IsQuantity : Value → Type 0
 IsQuantity (Int n) = IsInRange n
 IsQuantity (Dimen n) = IsInRange n
-IsQuantity (Flag b) = b ≡ false
+IsQuantity (Flag b) = Unit {0}

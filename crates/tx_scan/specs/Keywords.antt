@@ -1,19 +1,22 @@
 -- Keywords (The TeXbook, chapter 24; TeX: The Program, section 407).
-use Rattle.std.specs.Prelude.{◌≡◌, ℕ, ◌++◌, ◌∷◌, [], ◌&&◌, Bool, true, false, not, List, map, length, drop, if◌then◌else◌}
-use Rattle.tx_char.specs.declared.tokens.Token.{Token}
-use Rattle.tx_scan.specs.Tokens.{is_space, is_key}
+use Rattle.std.specs.Prelude.{ℕ, zero, suc, ◌++◌, ◌∷◌, [], ◌&&◌, Bool, true, false, not, List, drop, if◌then◌else◌}
+use Rattle.tx_seen.specs.declared.fed.Want.TheVariants.{Expanded}
+use Rattle.tx_seen.specs.declared.seen.Seen.{Seen}
+use Rattle.tx_seen.specs.Seen.{is_space, is_key}
+use Rattle.tx_seen.specs.Readings.{Item, Took, Gave, Reading, More, Done}
 use Rattle.tx_scan.specs.declared.scans.KeyScan.{KeyScan}
-use Rattle.tx_scan.specs.Readings.{Item, Fed, Given, Reading, More, Done}
+use Rattle.tx_scan.specs.Integers.{expanded}
+use Rattle.tx_scan.specs.Rests.{HasTakenBy}
 
 -- these letters one by one; where they break off, the tokens from the first letter on are given back
 abbrev pub letters : List ℕ → List Item → List Item → Reading Bool
 letters [] whole items = Done true items
-letters (c ∷ word) whole [] = More
-letters (c ∷ word) whole (Given v ∷ rest) = Done false whole
-letters (c ∷ word) whole (Fed t ∷ rest) = if is_key c t then letters word whole rest else Done false whole
+letters (c ∷ word) whole [] = More Expanded
+letters (c ∷ word) whole (Gave v ∷ rest) = Done false whole
+letters (c ∷ word) whole (Took t ∷ rest) = expanded t (if is_key c t then letters word whole rest else Done false whole)
 
 -- whether a word begins with this token
-abbrev pub begins_with : List ℕ → Token → Bool
+abbrev pub begins_with : List ℕ → Seen → Bool
 begins_with [] t = true
 begins_with (c ∷ word) t = is_key c t
 
@@ -21,15 +24,27 @@ begins_with (c ∷ word) t = is_key c t
 -- is none
 abbrev pub keyword : List ℕ → List Item → Reading Bool
 keyword word [] = letters word [] []
-keyword word (Given v ∷ rest) = letters word (Given v ∷ rest) (Given v ∷ rest)
-keyword word (Fed t ∷ rest) =
-    if is_space t && not (begins_with word t) then keyword word rest else letters word (Fed t ∷ rest) (Fed t ∷ rest)
+keyword word (Gave v ∷ rest) = letters word (Gave v ∷ rest) (Gave v ∷ rest)
+keyword word (Took t ∷ rest) =
+    if is_space t && not (begins_with word t) then keyword word rest else letters word (Took t ∷ rest) (Took t ∷ rest)
 
--- the rest of a word of which these letters are read
-abbrev pub word_rest : List ℕ → List Token → List Item → Reading Bool
-word_rest word [] items = keyword word items
-word_rest word (t ∷ read) items = letters (drop (length (t ∷ read)) word) (map Fed (t ∷ read) ++ items) items
+-- whether a token is a space before a word of which so many letters are read
+abbrev pub skips : List ℕ → ℕ → Seen → Bool
+skips word zero t = is_space t && not (begins_with word t)
+skips word (suc read) t = false
+
+-- the rest of a word of which so many letters are read, which are these tokens
+abbrev pub word_rest : List ℕ → ℕ → List Item → Item → List Item → Reading Bool
+word_rest word zero behind item more = keyword word (item ∷ more)
+word_rest word (suc read) behind item more = letters (drop (suc read) word) (behind ++ item ∷ more) (item ∷ more)
+
+abbrev pub rest : KeyScan → List Item → Item → List Item → Reading Bool
+rest scan behind item more = word_rest scan.word scan.read behind item more
+
+-- the letters that are read may be given back
+abbrev pub held : KeyScan → ℕ
+held scan = scan.read
 
 -- the scan that has taken these items reads on as the word that begins with them
 abbrev pub HasTaken : List ℕ → KeyScan → List Item → Type 0
-HasTaken word scan taken = (more : List Item) → word_rest scan.word scan.letters more ≡ keyword word (taken ++ more)
+HasTaken word scan taken = HasTakenBy rest held (keyword word) scan taken

@@ -1,5 +1,11 @@
-pub mod Tokens
-pub mod Readings
+pub mod Beginnings
 pub mod Integers
 pub mod Rests
+pub mod IntegerRests
 pub mod Keywords
+pub mod Laws
+pub mod Supplied
+pub mod Grammars
+pub mod GrammarRests
+pub mod Dimensions
+pub mod DimensionRests

@@ -1,65 +1,29 @@
--- The scan of an integer means what reading on gives.
-use Rattle.std.specs.Prelude.{◌≡◌, ◌++◌, ◌∷◌, [], Bool, true, false, ℤ, pos, List, map, option_to_list}
-use Rattle.tx_char.specs.declared.tokens.Token.TheVariants.{Name}
-use Rattle.tx_scan.specs.declared.scans.IntScan.{IntScan}
-use Rattle.tx_scan.specs.declared.scans.IntPart.{IntPart}
-use Rattle.tx_scan.specs.declared.scans.IntPart.TheVariants.{Signs, FirstDigit, Digits, Character, AfterCharacter, Quantity}
-use Rattle.tx_scan.specs.declared.scans.IntFed.{IntFed}
-use Rattle.tx_scan.specs.declared.scans.IntFed.TheVariants as int_fed
-use Rattle.tx_scan.specs.declared.types.Scanned.{Scanned}
-use Rattle.tx_scan.specs.declared.types.Scanned.TheVariants as scanned
-use Rattle.tx_scan.specs.Readings.{Item, Fed, Reading, More, Done, Wrong, next}
-use Rattle.tx_scan.specs.Integers.{signs, unsigned, first_digit, digits, character_code, space_after, quantity, with_sign, integer, IsInRange}
+-- What a scan means that is fed item by item: the rest of what it reads.
+use Rattle.std.specs.Prelude.{◌≡◌, ◌≤◌, ℕ, zero, suc, ◌++◌, ◌∷◌, [], List}
+use Rattle.tx_seen.specs.declared.seen.Seen.{Seen}
+use Rattle.tx_seen.specs.declared.fed.Fed.{Fed}
+use Rattle.tx_seen.specs.declared.fed.Fed.TheVariants as fed
+use Rattle.tx_seen.specs.Readings.{Item, Took, Reading, More, Need, Done, Wrong, last}
 
-abbrev pub part_rest : Bool → IntPart → List Item → Reading ℤ
-part_rest negative Signs items = next (signs negative items) (λ negative rest. next (unsigned rest) (with_sign negative))
-part_rest negative (FirstDigit radix) items = next (first_digit radix items) (with_sign negative)
-part_rest negative (Digits constant) items = next (digits constant.radix constant.number items) (with_sign negative)
-part_rest negative Character items = next (character_code items) (with_sign negative)
-part_rest negative (AfterCharacter code) items = next (space_after (pos code) items) (with_sign negative)
-part_rest negative Quantity items = next (quantity items) (with_sign negative)
+-- the scan that has taken these items, and holds so many of its tokens, reads on as the thing that begins with them
+abbrev pub HasTakenBy : {S A : Type 0} → (S → List Item → Item → List Item → Reading A) → (S → ℕ) → (List Item → Reading A) → S → List Item → Type 0
+HasTakenBy rest held reading scan taken = (item : Item) (more : List Item) → rest scan (last (held scan) taken) item more ≡ reading (taken ++ item ∷ more)
 
--- the rest of an integer
-abbrev pub rest : IntScan → List Item → Reading ℤ
-rest scan items = part_rest scan.negative scan.part items
+-- none or one
+abbrev pub kept : ℕ → Seen → List Item
+kept zero t = []
+kept (suc n) t = Took t ∷ []
 
--- an answer to one more item says what reading on gives, whatever is behind it
-abbrev pub IsFed : IntScan → Item → IntFed → Type 0
-IsFed scan item (int_fed.More new) = (more : List Item) → rest scan (item ∷ more) ≡ rest new more
-IsFed scan item (int_fed.Done value back) = (more : List Item) → rest scan (item ∷ more) ≡ Done value (map Fed (option_to_list back) ++ more)
-IsFed scan item (int_fed.Wrong number) = (more : List Item) → rest scan (item ∷ more) ≡ Wrong number
+-- an answer to this token says what reading gives of the items behind it; at most this token is held, or given back
+abbrev pub IsAnswer : {S A : Type 0} → (S → List Item → Item → List Item → Reading A) → (S → ℕ) → (List Item → Reading A) → Seen → S → Fed A → Type 0
+IsAnswer rest held reading t scan (fed.More want) = (reading [] ≡ More want) × (held scan ≤ 1) × ((item : Item) (more : List Item) → reading (item ∷ more) ≡ rest scan (kept (held scan) t) item more)
+IsAnswer rest held reading t scan (fed.Need kind) = (reading [] ≡ Need kind) × (held scan ≤ 1) × ((item : Item) (more : List Item) → reading (item ∷ more) ≡ rest scan (kept (held scan) t) item more)
+IsAnswer rest held reading t scan (fed.Done value back) = (back ≤ 1) × ((more : List Item) → reading more ≡ Done value (kept back t ++ more))
+IsAnswer rest held reading t scan (fed.Wrong error) = (more : List Item) → reading more ≡ Wrong error
 
--- the scan that has taken these items reads on as the integer that begins with them
-abbrev pub HasTaken : IntScan → List Item → Type 0
-HasTaken scan taken = (more : List Item) → rest scan more ≡ integer (taken ++ more)
-
--- a scan is given a value of a quantity, and a token else
-abbrev pub awaits_value : IntScan → Bool
-awaits_value scan = is_quantity scan.part
-  where
-    is_quantity : IntPart → Bool
-    is_quantity Quantity = true
-    is_quantity _ = false
-
--- behind these items a token goes into the number as it is, and isn't expanded: the name \a is no end of it
-abbrev pub TakesName : List Item → Type 0
-TakesName taken = integer (taken ++ Fed (Name (97 ∷ [])) ∷ []) ≡ More
-
--- behind More a token comes next, and behind Need a value
-abbrev pub Awaits : IntScan → Scanned ℤ → Type 0
-Awaits scan scanned.More = awaits_value scan ≡ false
-Awaits scan (scanned.Need kind) = awaits_value scan ≡ true
-Awaits scan (scanned.Done value back) = Unit {0}
-Awaits scan (scanned.E number) = Unit {0}
-
--- an integer that is done is in the range of integers
-abbrev pub IsWithin : IntFed → Type 0
-IsWithin (int_fed.More new) = Unit {0}
-IsWithin (int_fed.Done value back) = IsInRange value
-IsWithin (int_fed.Wrong number) = Unit {0}
-
-abbrev pub IsInteger : Scanned ℤ → Type 0
-IsInteger scanned.More = Unit {0}
-IsInteger (scanned.Need kind) = Unit {0}
-IsInteger (scanned.Done value back) = IsInRange value
-IsInteger (scanned.E number) = Unit {0}
+-- the same where so many tokens, these, are held or given back
+abbrev pub IsPassed : {S A : Type 0} → (S → List Item → Item → List Item → Reading A) → (S → ℕ) → (List Item → Reading A) → List Item → ℕ → S → Fed A → Type 0
+IsPassed rest held reading behind count scan (fed.More want) = (reading [] ≡ More want) × (held scan ≡ count) × ((item : Item) (more : List Item) → reading (item ∷ more) ≡ rest scan behind item more)
+IsPassed rest held reading behind count scan (fed.Need kind) = (reading [] ≡ Need kind) × (held scan ≡ count) × ((item : Item) (more : List Item) → reading (item ∷ more) ≡ rest scan behind item more)
+IsPassed rest held reading behind count scan (fed.Done value back) = (back ≡ count) × ((more : List Item) → reading more ≡ Done value (behind ++ more))
+IsPassed rest held reading behind count scan (fed.Wrong error) = (more : List Item) → reading more ≡ Wrong error

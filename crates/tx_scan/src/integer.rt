@@ -1,30 +1,23 @@
-//! Integers, token by token (TeX: The Program, sections 440 to 445).
-ghost use Rattle.std.specs.Prelude.{◌≡◌, ◌↔◌, ◌+◌, ◌*◌, ◌<◌, ◌≤◌, ◌∷◌, ◌++◌, [], true, false, pos, neg_ℤ, ◌≤ℤ◌, List, IsTrue, IfOk, IfSome, MatchOption, option_to_list, if◌then◌else◌};
-ghost use Rattle.tx_scan.specs.Readings.{Item, Fed, Given, Answers};
-ghost use Rattle.tx_scan.specs.Tokens.{base};
-ghost use Rattle.tx_scan.specs.Integers.{integer, IsInRange, IsQuantity};
-ghost use Rattle.tx_scan.specs.Rests.{IsFed, HasTaken, Awaits, TakesName, IsWithin, IsInteger, awaits_value};
+//! Integers, token by token (TeX: The Program, sections 413 and 440 to 445).
+ghost use Rattle.std.specs.Prelude.{◌≡◌, ◌+◌, ◌*◌, ◌<◌, ◌≤◌, ◌∷◌, ◌++◌, [], pos, List, Some, IfOk, MatchOption};
+ghost use Rattle.tx_seen.specs.Readings.{Item, Took, Gave, Answers};
+ghost use Rattle.tx_scan.specs.Beginnings.{base};
+ghost use Rattle.tx_scan.specs.Integers.{integer, with_sign, byte_of, code_named, IsInRange, IsQuantity};
+ghost use Rattle.tx_scan.specs.IntegerRests.{HasTaken, IsFed, IsGiven, IsWhole, IsEnded, IsWaiting, IsInteger, waiting};
+ghost use Rattle.tx_scan.specs.Supplied.{NeedsFewer};
 
-use crate::characters::{
-    character_named, not_space, token_digit, token_is_command, token_is_other, token_is_space,
-};
-use crate::scans::{Constant, IntFed, IntPart, IntScan, Radix};
-use crate::types::{Kind, Scanned, Value};
+use crate::beginnings::{beginning, digit};
+use crate::outers::Outers;
+use crate::scans::{Beginning, Constant, Family, IntScan, IntStage, Outer, Radix};
 use std::alloc::{AllocError, Global};
 use tx_char::Token;
-use tx_toklist::Toks;
-
-/// TeX's number of a missing number, among the errors of a run.
-pub const MISSING_NUMBER: u8 = 3;
-
-/// TeX's number of an integer past 2^31-1.
-pub const TOO_LARGE: u8 = 7;
+use tx_seen::{Fed, Kind, Seen, TexError, Value, Want};
 
 /// The greatest integer.
 const GREATEST: u64 = 2_147_483_647;
 
 /// The constant of one digit.
-fn first(radix: Radix, digit: u8) -> Constant
+pub(crate) fn first(radix: Radix, digit: u8) -> Constant
     ensures radix { result.radix ≡ radix }
     ensures number { result.number ≡ digit }
 {
@@ -35,8 +28,8 @@ fn first(radix: Radix, digit: u8) -> Constant
 }
 
 /// The constant with one more digit, if it isn't too large.
-fn longer(constant: Constant, digit: u8) -> Option<Constant>
-    ensures radix { IfSome result (λ longer. longer.radix ≡ constant.radix) }
+pub(crate) fn longer(constant: Constant, digit: u8) -> Option<Constant>
+    ensures radix { MatchOption result (2147483647 < base constant.radix * constant.number + digit) (λ longer. longer.radix ≡ constant.radix) }
     ensures number { MatchOption result (2147483647 < base constant.radix * constant.number + digit) (λ longer. longer.number ≡ base constant.radix * constant.number + digit) }
 {
     let radix = constant.radix;
@@ -52,180 +45,230 @@ fn longer(constant: Constant, digit: u8) -> Option<Constant>
 }
 
 /// The number with its sign.
-fn with_its_sign(negative: bool, number: i64) -> i64
+fn signed(negative: bool, number: i64) -> i64
     requires { IsInRange number }
-    ensures value { result ≡ (if negative then neg_ℤ number else number) }
+    ensures value { result ≡ with_sign negative number }
     ensures within { IsInRange result }
 {
     if negative { -number } else { number }
 }
 
-/// The scan with its next part.
-fn on(negative: bool, part: IntPart) -> IntFed
-    ensures { result ≡ IntFed.More (record { negative = negative; part = part }) }
+/// The number of a register or a character.
+fn byte(number: i64) -> Option<u8>
+    ensures { result ≡ byte_of number }
 {
-    IntFed::More(IntScan { negative, part })
-}
-
-/// Signs and spaces, or what begins the number.
-fn feed_sign(negative: bool, token: Token) -> IntFed
-    ensures fed { IsFed (record { negative = negative; part = IntPart.Signs }) (Fed token) result }
-    ensures within { IsWithin result }
-{
-    if token_is_space(&token) || token_is_other(&token, b'+') {
-        return on(negative, IntPart::Signs);
-    }
-    if token_is_other(&token, b'-') {
-        return on(!negative, IntPart::Signs);
-    }
-    if let Some(digit) = token_digit(Radix::Decimal, &token) {
-        return on(negative, IntPart::Digits(first(Radix::Decimal, digit)));
-    }
-    if token_is_other(&token, b'\'') {
-        return on(negative, IntPart::FirstDigit(Radix::Octal));
-    }
-    if token_is_other(&token, b'"') {
-        return on(negative, IntPart::FirstDigit(Radix::Hexadecimal));
-    }
-    if token_is_other(&token, b'`') {
-        return on(negative, IntPart::Character);
-    }
-    if token_is_command(&token) {
-        return on(negative, IntPart::Quantity);
-    }
-    IntFed::Wrong(MISSING_NUMBER)
-}
-
-/// The first digit of an octal or hexadecimal constant.
-fn feed_first_digit(negative: bool, radix: Radix, token: Token) -> IntFed
-    ensures fed { IsFed (record { negative = negative; part = IntPart.FirstDigit radix }) (Fed token) result }
-    ensures within { IsWithin result }
-{
-    match token_digit(radix, &token) {
-        Some(digit) => on(negative, IntPart::Digits(first(radix, digit))),
-        None => IntFed::Wrong(MISSING_NUMBER),
+    if 0 <= number && number <= 255 {
+        Some(number as u8)
+    } else {
+        None
     }
 }
 
-/// One more digit, or what ends the number.
-fn feed_digit(negative: bool, constant: Constant, token: Token) -> IntFed
-    ensures fed { IsFed (record { negative = negative; part = IntPart.Digits constant }) (Fed token) result }
-    ensures within { IsWithin result }
+/// The code that stands behind a backquote: a character's, or that of a name of one character.
+pub(crate) fn character_named(token: &Token) -> Option<u8>
+    ensures { result ≡ code_named token.now }
 {
-    let Some(digit) = token_digit(constant.radix, &token) else {
-        return IntFed::Done(
-            with_its_sign(negative, i64::from(constant.number)),
-            not_space(token),
-        );
-    };
-    match longer(constant, digit) {
-        Some(constant) => on(negative, IntPart::Digits(constant)),
-        None => IntFed::Wrong(TOO_LARGE),
-    }
-}
-
-/// The character behind a backquote.
-fn feed_character(negative: bool, token: Token) -> IntFed
-    ensures fed { IsFed (record { negative = negative; part = IntPart.Character }) (Fed token) result }
-    ensures within { IsWithin result }
-{
-    match character_named(&token) {
-        Some(code) => on(negative, IntPart::AfterCharacter(code)),
-        None => IntFed::Wrong(MISSING_NUMBER),
+    match token {
+        Token::Character(code, _) => Some(*code),
+        Token::Name(name) => match name.as_slice() {
+            [code] => Some(*code),
+            _ => None,
+        },
+        Token::FrozenRelax => None,
     }
 }
 
 impl IntScan {
-    /// The scan of an integer of which nothing is read.
-    pub fn new() -> IntScan
-        ensures taken { HasTaken result [] }
-        ensures next { awaits_value result ≡ false }
+    /// The scan of an integer of which nothing is read. It takes no memory.
+    pub fn new(alloc: Global) -> IntScan
+        ensures { HasTaken result [] }
     {
         IntScan {
+            outers: Outers::new(alloc),
             negative: false,
-            part: IntPart::Signs,
+            stage: IntStage::Signs,
         }
-    }
-
-    /// Whether the next token is taken as it is, behind a backquote, and the caller doesn't expand it.
-    pub fn takes_unexpanded(&self) -> bool
-        ensures { (taken : List Item) → HasTaken self.now taken → IsTrue result ↔ TakesName taken }
-    {
-        matches!(self.part, IntPart::Character)
     }
 
     /// Takes one token, at first and after More. The answer is what reading gives of all that was taken. Its only error
     /// is want of memory.
-    pub fn feed(&mut self, alloc: Global, token: Token) -> Result<Scanned<i64>, AllocError>
-        requires { awaits_value self.old ≡ false }
-        ensures answer { (taken : List Item) → HasTaken self.old taken → IfOk result (Answers integer HasTaken (taken ++ Fed token ∷ []) self.new) }
-        ensures next { IfOk result (Awaits self.new) }
+    pub fn feed(&mut self, token: &Seen) -> Result<Fed<i64>, AllocError>
+        ensures answer { (taken : List Item) → HasTaken self.old taken → IfOk result (Answers integer HasTaken (taken ++ Took token.now ∷ []) self.new) }
         ensures within { IfOk result IsInteger }
     {
-        match self.behind(token) {
-            IntFed::More(scan) => {
-                *self = scan;
-                Ok(self.asks())
-            }
-            IntFed::Done(number, back) => Ok(Scanned::Done(number, given_back(alloc, back)?)),
-            IntFed::Wrong(number) => Ok(Scanned::E(number)),
+        self.behind(token)
+    }
+
+    /// Takes the value that it needs, within 2^31-1 either way. The answer is what reading gives of all that was taken.
+    pub fn give(&mut self, value: &Value) -> Fed<i64>
+        requires { IsQuantity value.now }
+        ensures answer { (taken : List Item) → HasTaken self.old taken → Answers integer HasTaken (taken ++ Gave value.now ∷ []) self.new result }
+        ensures within { IsInteger result }
+        ensures fewer { NeedsFewer (waiting self.old) (waiting self.new) result }
+    {
+        self.answered(value)
+    }
+
+    /// What it is behind a value.
+    fn answered(&mut self, value: &Value) -> Fed<i64>
+        requires { IsQuantity value.now }
+        ensures given { IsGiven self.old value.now self.new result }
+        ensures within { IsInteger result }
+        ensures fewer { NeedsFewer (waiting self.old) (waiting self.new) result }
+    {
+        let IntStage::Given(held) = self.stage else {
+            return Fed::Wrong(TexError::MissingNumber);
+        };
+        match value {
+            Value::Int(number) => self.whole(signed(self.negative, *number), held),
+            Value::Dimen(size) => self.whole(signed(self.negative, *size), held),
+            Value::Flag(_) => Fed::Wrong(TexError::MissingNumber),
         }
     }
 
-    /// Takes the value that it needs: an Int or Dimen within 2^31-1 either way, or no. The answer is what reading gives
-    /// of all that was taken.
-    pub fn give(&mut self, alloc: Global, value: Value) -> Scanned<i64>
-        requires asked { awaits_value self.old ≡ true }
-        requires kind { IsQuantity value }
-        ensures answer { (taken : List Item) → HasTaken self.old taken → Answers integer HasTaken (taken ++ Given value ∷ []) self.new result }
-        ensures next { Awaits self.new result }
+    /// What it is behind one more token. Its only error is want of memory.
+    fn behind(&mut self, token: &Seen) -> Result<Fed<i64>, AllocError>
+        ensures fed { IfOk result (IsFed self.old token.now self.new) }
+        ensures within { IfOk result IsInteger }
+    {
+        match self.stage {
+            IntStage::Signs => self.feed_sign(token),
+            IntStage::FirstDigit(radix) => Ok(self.feed_first_digit(radix, token)),
+            IntStage::Digits(constant) => Ok(self.feed_digit(constant, token)),
+            IntStage::Character => Ok(self.feed_character(token)),
+            IntStage::AfterCharacter(code) => Ok(self.end(u32::from(code), token)),
+            IntStage::Given(_) => Ok(Fed::Wrong(TexError::MissingNumber)),
+        }
+    }
+
+    /// A number is whole, behind which so many tokens are held: it is the integer, or the number of what waits for it.
+    fn whole(&mut self, number: i64, held: usize) -> Fed<i64>
+        requires { IsInRange number }
+        ensures whole { IsWhole self.old.outers number held self.new result }
+        ensures within { IsInteger result }
+        ensures fewer { NeedsFewer (waiting self.old) (waiting self.new) result }
+    {
+        let Some(outer) = self.outers.pop() else {
+            return Fed::Done(number, held);
+        };
+        let Some(byte) = byte(number) else {
+            return Fed::Wrong(TexError::NumberOutOfRange);
+        };
+        self.negative = outer.negative;
+        self.stage = IntStage::Given(held);
+        Fed::Need(Kind::Quantity(outer.family.place(byte)))
+    }
+
+    /// The number that ends at this token.
+    fn end(&mut self, number: u32, token: &Seen) -> Fed<i64>
+        requires { number ≤ 2147483647 }
+        ensures fed { IsEnded self.old.outers self.old.negative number token.now self.new result }
         ensures within { IsInteger result }
     {
-        let number = match value {
-            Value::Int(number) => number,
-            Value::Dimen(size) => size,
-            Value::Flag(_) => return Scanned::E(MISSING_NUMBER),
-        };
-        Scanned::Done(with_its_sign(self.negative, number), Toks::new(alloc))
+        if token.is_undefined() {
+            return Fed::Wrong(TexError::Undefined);
+        }
+        let number = signed(self.negative, i64::from(number));
+        if token.is_space() {
+            self.whole(number, 0)
+        } else {
+            self.whole(number, 1)
+        }
     }
 
-    /// What it is behind one more token.
-    fn behind(&self, token: Token) -> IntFed
-        requires { awaits_value self.now ≡ false }
-        ensures fed { IsFed self.now (Fed token) result }
-        ensures within { IsWithin result }
+    /// The number of what stands at a number of this family comes next, and this one waits. Its only error is want of
+    /// memory.
+    fn wait(&mut self, family: Family) -> Result<Fed<i64>, AllocError>
+        requires { self.old.stage ≡ IntStage.Signs }
+        ensures { IfOk result (IsWaiting self.old family self.new) }
     {
         let negative = self.negative;
-        match self.part {
-            IntPart::Signs => feed_sign(negative, token),
-            IntPart::FirstDigit(radix) => feed_first_digit(negative, radix, token),
-            IntPart::Digits(constant) => feed_digit(negative, constant, token),
-            IntPart::Character => feed_character(negative, token),
-            IntPart::AfterCharacter(code) => {
-                IntFed::Done(with_its_sign(negative, i64::from(code)), not_space(token))
-            }
-            IntPart::Quantity => unreachable!(),
-        }
+        self.outers.push(Outer { negative, family })?;
+        self.negative = false;
+        Ok(Fed::More(Want::Expanded))
     }
 
-    /// What it asks for.
-    fn asks(&self) -> Scanned<i64>
-        ensures { result ≡ (if awaits_value self.now then Scanned.Need Kind.Quantity else Scanned.More) }
+    /// The scan goes on with this stage, for which the next token is expanded.
+    fn on(&mut self, stage: IntStage) -> Fed<i64>
+        ensures scan { self.new ≡ record self.old { stage = stage } }
+        ensures answer { result ≡ Fed.More Want.Expanded }
     {
-        match self.part {
-            IntPart::Quantity => Scanned::Need(Kind::Quantity),
-            _ => Scanned::More,
+        self.stage = stage;
+        Fed::More(Want::Expanded)
+    }
+
+    /// Signs and spaces, or what begins the number. Its only error is want of memory.
+    fn feed_sign(&mut self, token: &Seen) -> Result<Fed<i64>, AllocError>
+        requires { self.old.stage ≡ IntStage.Signs }
+        ensures fed { IfOk result (IsFed self.old token.now self.new) }
+        ensures within { IfOk result IsInteger }
+    {
+        match beginning(token) {
+            Beginning::Plus => Ok(Fed::More(Want::Expanded)),
+            Beginning::Minus => {
+                self.negative = !self.negative;
+                Ok(Fed::More(Want::Expanded))
+            }
+            Beginning::Digit(digit) => Ok(self.on(IntStage::Digits(first(Radix::Decimal, digit)))),
+            Beginning::Digits(radix) => Ok(self.on(IntStage::FirstDigit(radix))),
+            Beginning::Character => {
+                self.stage = IntStage::Character;
+                Ok(Fed::More(Want::Raw))
+            }
+            Beginning::Number(number) => Ok(self.whole(
+                signed(self.negative, i64::from(number)),
+                0,
+            )),
+            Beginning::At(place) => {
+                self.stage = IntStage::Given(0);
+                Ok(Fed::Need(Kind::Quantity(place)))
+            }
+            Beginning::Numbered(family) => self.wait(family),
+            Beginning::Point => Ok(Fed::Wrong(TexError::MissingNumber)),
+            Beginning::Nothing(error) => Ok(Fed::Wrong(error)),
         }
     }
-}
 
-/// The token that is given back, if there is one. Its only error is want of memory.
-fn given_back(alloc: Global, token: Option<Token>) -> Result<Toks, AllocError>
-    ensures { IfOk result (λ back. back ≡ option_to_list token) }
-{
-    let mut back = Toks::new(alloc);
-    if let Some(token) = token {
-        back.push(token)?;
+    /// The first digit of an octal or hexadecimal constant.
+    fn feed_first_digit(&mut self, radix: Radix, token: &Seen) -> Fed<i64>
+        requires { self.old.stage ≡ IntStage.FirstDigit radix }
+        ensures fed { IsFed self.old token.now self.new result }
+        ensures within { IsInteger result }
+    {
+        match digit(radix, token) {
+            Some(digit) => self.on(IntStage::Digits(first(radix, digit))),
+            None => Fed::Wrong(if token.is_undefined() {
+                TexError::Undefined
+            } else {
+                TexError::MissingNumber
+            }),
+        }
     }
-    Ok(back)
+
+    /// One more digit, or what ends the number.
+    fn feed_digit(&mut self, constant: Constant, token: &Seen) -> Fed<i64>
+        requires { self.old.stage ≡ IntStage.Digits constant }
+        ensures fed { IsFed self.old token.now self.new result }
+        ensures within { IsInteger result }
+    {
+        let Some(digit) = digit(constant.radix, token) else {
+            return self.end(constant.number, token);
+        };
+        match longer(constant, digit) {
+            Some(constant) => self.on(IntStage::Digits(constant)),
+            None => Fed::Wrong(TexError::IntegerTooLarge),
+        }
+    }
+
+    /// The character behind a backquote.
+    fn feed_character(&mut self, token: &Seen) -> Fed<i64>
+        requires { self.old.stage ≡ IntStage.Character }
+        ensures fed { IsFed self.old token.now self.new result }
+        ensures within { IsInteger result }
+    {
+        match character_named(&token.token) {
+            Some(code) => self.on(IntStage::AfterCharacter(code)),
+            None => Fed::Wrong(TexError::MissingNumber),
+        }
+    }
 }

@@ -1,16 +1,12 @@
 //! Keywords, token by token (TeX: The Program, section 407).
-ghost use Rattle.std.specs.Prelude.{◌≡◌, ◌∷◌, ◌++◌, [], ℕ, List, IfOk};
-ghost use Rattle.tx_scan.specs.Readings.{Item, Fed, Answers};
-ghost use Rattle.tx_scan.specs.Keywords.{keyword, HasTaken};
+ghost use Rattle.std.specs.Prelude.{◌≡◌, ◌<◌, ◌+◌, ◌^◌, ◌∷◌, ◌++◌, [], ℕ, List, drop, IfOk, IfSome, MatchOption};
+ghost use Rattle.tx_seen.specs.Readings.{Item, Took, Answers};
+ghost use Rattle.tx_scan.specs.Keywords.{keyword, begins_with, skips, HasTaken};
 
-use crate::characters::{token_is_key, token_is_space};
 use crate::scans::KeyScan;
-use crate::types::Scanned;
 use std::alloc::{AllocError, Global};
-use std::mem;
 use tx_bytes::Bytes;
-use tx_char::Token;
-use tx_toklist::Toks;
+use tx_seen::{Fed, Seen, TexError, Want};
 
 impl KeyScan {
     /// The scan of a word of small letters, of which nothing is read. Its only error is want of memory.
@@ -19,41 +15,60 @@ impl KeyScan {
     {
         Ok(KeyScan {
             word: Bytes::from_slice(alloc, word)?,
-            letters: Toks::new(alloc),
+            read: 0,
         })
     }
 
-    /// Takes one token, at first and after More; a word asks for no value. The answer is what reading gives of all that
-    /// was taken. Its only error is want of memory.
-    pub fn feed(&mut self, alloc: Global, token: Token) -> Result<Scanned<bool>, AllocError>
-        ensures { (word : List ℕ) → (taken : List Item) → HasTaken word self.old taken → IfOk result (Answers (keyword word) (HasTaken word) (taken ++ Fed token ∷ []) self.new) }
+    /// Takes one token, at first and after More; a word needs no value, and no memory. The answer is what reading gives
+    /// of all that was taken.
+    pub fn feed(&mut self, token: &Seen) -> Fed<bool>
+        ensures { (word : List ℕ) → (taken : List Item) → HasTaken word self.old taken → Answers (keyword word) (HasTaken word) (taken ++ Took token.now ∷ []) self.new result }
     {
-        let read = self.letters.len();
-        if read >= self.word.len() {
-            return Ok(Scanned::Done(true, one(alloc, token)?));
+        if self.skips(token) {
+            return Fed::More(Want::Expanded);
         }
-        let letter = self.word.as_slice()[read];
-        if token_is_key(&token, letter) {
-            self.letters.push(token)?;
-            if self.letters.len() == self.word.len() {
-                return Ok(Scanned::Done(true, Toks::new(alloc)));
-            }
-            return Ok(Scanned::More);
+        let Some(letter) = self.expected() else {
+            return Fed::Done(true, 1);
+        };
+        if token.is_undefined() {
+            return Fed::Wrong(TexError::Undefined);
         }
-        if read == 0 && token_is_space(&token) {
-            return Ok(Scanned::More);
+        if !token.is_key(letter) {
+            return Fed::Done(false, self.read + 1);
         }
-        self.letters.push(token)?;
-        let back = mem::replace(&mut self.letters, Toks::new(alloc));
-        Ok(Scanned::Done(false, back))
+        self.read += 1;
+        match self.expected() {
+            Some(_) => Fed::More(Want::Expanded),
+            None => Fed::Done(true, 0),
+        }
     }
-}
 
-/// One token. Its only error is want of memory.
-fn one(alloc: Global, token: Token) -> Result<Toks, AllocError>
-    ensures { IfOk result (λ tokens. tokens ≡ token ∷ []) }
-{
-    let mut tokens = Toks::new(alloc);
-    tokens.push(token)?;
-    Ok(tokens)
+    /// The letter that comes next, if the word isn't over.
+    fn expected(&self) -> Option<u8>
+        ensures letter { MatchOption result (drop self.now.read self.now.word ≡ []) (λ c. drop self.now.read self.now.word ≡ c ∷ drop (self.now.read + 1) self.now.word) }
+        ensures within { IfSome result (λ c. self.now.read + 1 < 2 ^ 64) }
+    {
+        if self.read < self.word.len() {
+            Some(self.word.as_slice()[self.read])
+        } else {
+            None
+        }
+    }
+
+    /// Whether the token is a space before the word.
+    fn skips(&self, token: &Seen) -> bool
+        ensures { result ≡ skips self.now.word self.now.read token.now }
+    {
+        self.read == 0 && token.is_space() && !self.begins_with(token)
+    }
+
+    /// Whether the word begins with this token.
+    fn begins_with(&self, token: &Seen) -> bool
+        ensures { result ≡ begins_with self.now.word token.now }
+    {
+        match self.word.as_slice() {
+            [] => true,
+            [letter, ..] => token.is_key(*letter),
+        }
+    }
 }

@@ -1,20 +1,68 @@
 //! How far a scan is.
 ghost use Rattle.std.specs.Prelude.{◌≤◌};
 
+use crate::fraction::Digits;
+use crate::outers::Outers;
 use tx_bytes::Bytes;
-use tx_char::Token;
-use tx_toklist::Toks;
+use tx_num::PhysicalUnit;
+use tx_seen::{CharacterCode, Place, TexError};
 
 /// What the digits of a constant count in.
-#[derive(Clone, Copy, Debug, PartialEq, Eq)]
+#[derive(Clone, Copy, PartialEq, Eq)]
 pub enum Radix {
     Octal,
     Decimal,
     Hexadecimal,
 }
 
+/// What is numbered by an integer from 0 to 255 and stands for an integer itself.
+#[derive(Clone, Copy)]
+pub enum Family {
+    /// \count.
+    Count,
+    /// \dimen, whose sizes count in scaled points.
+    Dimen,
+    /// \catcode.
+    Category,
+    /// The other codes of characters, as \lccode.
+    Code(CharacterCode),
+}
+
+/// A number that waits for the number of what it stands for, as in `-\count` behind which this number comes.
+#[derive(Clone, Copy)]
+pub struct Outer {
+    /// Whether its signs make it negative.
+    pub negative: bool,
+    pub family: Family,
+}
+
+/// What a token begins where a number is needed.
+#[derive(Drop)]
+pub enum Beginning {
+    /// A space or `+`, behind which the number still begins.
+    Plus,
+    /// `-`, behind which the number still begins.
+    Minus,
+    /// A decimal constant with this first digit.
+    Digit(u8),
+    /// An octal or hexadecimal constant, whose digits follow.
+    Digits(Radix),
+    /// The code of the character that follows.
+    Character,
+    /// The fraction of a size, whose digits follow; no integer.
+    Point,
+    /// This number, and nothing follows.
+    Number(u16),
+    /// The number that stands at this place, and nothing follows.
+    At(Place),
+    /// What stands at a number of this family, which follows.
+    Numbered(Family),
+    /// No number.
+    Nothing(TexError),
+}
+
 /// The digits of a constant that are read, by the number for which they stand.
-#[derive(Clone, Copy, Debug)]
+#[derive(Clone, Copy)]
 pub struct Constant {
     pub(crate) radix: Radix,
     pub(crate) number: u32,
@@ -22,8 +70,8 @@ pub struct Constant {
 }
 
 /// The part of an integer that comes next.
-#[derive(Clone, Copy, Debug)]
-pub enum IntPart {
+#[derive(Clone, Copy)]
+pub enum IntStage {
     /// Signs and spaces, then the number.
     Signs,
     /// The first digit of an octal or hexadecimal constant.
@@ -34,34 +82,66 @@ pub enum IntPart {
     Character,
     /// An optional space behind a character with this code.
     AfterCharacter(u8),
-    /// The value of an internal quantity.
-    Quantity,
+    /// The value that is needed. So many tokens, at most one, were taken behind the number, and aren't part of it.
+    Given(usize),
 }
 
 /// An integer that is being scanned.
-#[derive(Clone, Copy, Debug)]
+#[derive(Drop)]
 pub struct IntScan {
-    /// Whether the signs so far make it negative.
+    /// The numbers that wait for this one.
+    pub(crate) outers: Outers,
+    /// Whether the signs of this number so far make it negative.
     pub(crate) negative: bool,
-    pub(crate) part: IntPart,
-}
-
-/// What an integer's scan is behind one more token or value.
-#[derive(Debug, Drop)]
-pub enum IntFed {
-    /// It goes on from here.
-    More(IntScan),
-    /// It has this value; the token isn't part of it.
-    Done(i64, Option<Token>),
-    /// The error of this number.
-    Wrong(u8),
+    pub(crate) stage: IntStage,
 }
 
 /// A keyword that is being scanned.
-#[derive(Debug, Drop)]
+#[derive(Drop)]
 pub struct KeyScan {
     /// The word, in small letters.
     pub(crate) word: Bytes,
-    /// The tokens taken, from the first letter on.
-    pub(crate) letters: Toks,
+    /// How many of its letters are read.
+    pub(crate) read: usize,
+}
+
+/// An optional `=` that is being scanned.
+#[derive(Clone, Copy)]
+pub struct EqualsScan {}
+
+/// A begin-group token that is being looked for.
+#[derive(Clone, Copy)]
+pub struct BraceScan {}
+
+/// The part of a dimension that comes next.
+#[derive(Clone, Copy)]
+pub enum DimenStage {
+    /// Signs and spaces, then the factor.
+    Signs,
+    /// The first digit of an octal or hexadecimal factor.
+    FirstDigit(Radix),
+    /// Digits of whole units behind those of this constant, then perhaps a fraction, and an optional space.
+    Digits(Constant),
+    /// Digits of a fraction behind so many whole units, and an optional space.
+    Fraction(u32),
+    /// The character behind a backquote.
+    Character,
+    /// An optional space behind a character with this code.
+    AfterCharacter(u8),
+    /// Spaces, and the first letter of a unit behind so many whole ones.
+    Unit(u32),
+    /// This letter, the second of the unit.
+    SecondLetter(u32, PhysicalUnit, u8),
+    /// An optional space behind the unit.
+    AfterUnit(u32, PhysicalUnit),
+}
+
+/// A dimension that is being scanned.
+#[derive(Drop)]
+pub struct DimenScan {
+    /// Whether the signs so far make it negative.
+    pub(crate) negative: bool,
+    pub(crate) stage: DimenStage,
+    /// The digits of the fraction that are read and count.
+    pub(crate) digits: Digits,
 }

@@ -1,6 +1,9 @@
 //! Scripts of edits: lists of commands, each of which edits a file or saves what there is, read from their texts.
 //! `specs/Text.antt` says which bytes are the text of a script, and what the refusal of any others names.
 //!
+//! Proved: exactly the texts of scripts are read, each in the only way there is, and a refusal names the furthest place
+//! that the bytes reach. Only tested: places and rules against a table made by hand.
+//!
 //! Read `command`, then `error`, `element`, `read`.
 #![tactic(auto)]
 

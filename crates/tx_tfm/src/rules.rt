@@ -13,7 +13,7 @@ use std::alloc::{AllocError, Global};
 use tx_num::{Range, xn_over_d};
 
 /// The size at which a font is used.
-#[derive(Clone, Copy, Debug)]
+#[derive(Clone, Copy)]
 pub enum Size {
     /// Its design size.
     Design,

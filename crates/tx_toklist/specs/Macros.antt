@@ -4,7 +4,7 @@ use Rattle.std.specs.List.{list_all}
 use Rattle.tx_char.specs.declared.category.Cat.{Cat}
 use Rattle.tx_char.specs.declared.category.Cat.TheVariants.{BeginGroup, EndGroup}
 use Rattle.tx_char.specs.declared.tokens.Token.{Token}
-use Rattle.tx_char.specs.declared.tokens.Token.TheVariants.{Character, Name}
+use Rattle.tx_char.specs.declared.tokens.Token.TheVariants.{Character}
 use Rattle.tx_toklist.specs.declared.body.BodyPart.{BodyPart}
 use Rattle.tx_toklist.specs.declared.body.BodyPart.TheVariants.{Argument}
 
@@ -28,7 +28,7 @@ is_begin_category _ = false
 
 abbrev pub is_begin : Token → Bool
 is_begin (Character code kind) = is_begin_category kind
-is_begin (Name name) = false
+is_begin _ = false
 
 -- an end-group token is a character of category 2
 abbrev pub is_end_category : Cat → Bool
@@ -37,7 +37,7 @@ is_end_category _ = false
 
 abbrev pub is_end : Token → Bool
 is_end (Character code kind) = is_end_category kind
-is_end (Name name) = false
+is_end _ = false
 
 -- a parameter text without anything
 abbrev pub no_parameters : Parameters

@@ -2,7 +2,7 @@
 use tx_char::Token;
 
 /// A token, or what may not stand in its place (TeX: The Program, section 336).
-#[derive(Debug, Drop)]
+#[derive(Drop)]
 pub enum Item {
     /// A token, whatever it means.
     Token(Token),

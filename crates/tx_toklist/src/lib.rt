@@ -1,13 +1,15 @@
 //! Lists of tokens: those that one owner builds, those that many share, and the macros that are made of them (The
-//! TeXbook, chapter 20; TeX: The Program, parts 20 and 25). Besides, what an automaton that is fed tokens answers.
+//! TeXbook, chapter 20; TeX: The Program, parts 20 and 25).
 //!
-//! Modules in reading order: `fed`, `item`, `toks`, `lists`, `tok_list`, `text`, `parameters`, `body`, `macros`.
+//! Proved: lists are the lists that they are said to be, `same` is exactly equality, and tokens are printed exactly as
+//! defined. Only tested: that this is how TeX prints them.
+//!
+//! Modules in reading order: `toks`, `tok_list`, `text`, `parameters`, `body`, `macros`; and `item`, what is fed where not
+//! every token may come.
 #![tactic(auto)]
 
 mod body;
-mod fed;
 mod item;
-mod lists;
 mod macros;
 mod parameters;
 mod text;
@@ -15,11 +17,9 @@ mod tok_list;
 mod toks;
 
 pub use body::{Body, BodyPart};
-pub use fed::Fed;
 pub use item::Item;
-pub use lists::Lists;
 pub use macros::Macro;
 pub use parameters::ParameterText;
 pub use text::text_of;
 pub use tok_list::TokList;
-pub use toks::{Toks, same_tokens};
+pub use toks::{Lists, Toks};

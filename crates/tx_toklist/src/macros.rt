@@ -9,17 +9,18 @@ use std::alloc::{AllocError, Global};
 use std::marker::Model;
 use std::rc::Rc;
 use tx_char::Token;
+use tx_list::Kept;
 
 /// A macro that any number of owners hold at the cost of one. Contracts see its parameter text, its body, and whether it
-/// is \long and \outer. It has at
-/// most nine parameters, its parameter text has no group in it, and its body names only parameters that it has.
-#[derive(Debug, Drop)]
+/// is \long and \outer. It has at most nine parameters, its parameter text has no group in it, and its body names only
+/// parameters that it has.
+#[derive(Drop)]
 pub struct Macro {
     made: Rc<Made>,
 }
 
 /// What a macro is made of, which `Macro` shares.
-#[derive(Debug, Drop)]
+#[derive(Drop)]
 struct Made {
     parameters: ParameterText,
     body: Body,
@@ -126,5 +127,15 @@ impl Clone for Macro {
 
     fn clone(&self) -> Result<Self, AllocError> {
         self.share()
+    }
+}
+
+impl Kept for Macro {
+    fn share(&self) -> Result<Self, AllocError> {
+        Macro::share(self)
+    }
+
+    fn same(&self, other: &Self) -> bool {
+        Macro::same(self, other)
     }
 }

@@ -2,15 +2,14 @@
 ghost use Rattle.std.specs.Prelude.{◌≡◌, ◌↔◌, ◌<◌, [], IsTrue, OnOk, OnErr, length};
 ghost use Rattle.tx_toklist.specs.Macros.{no_parameters, with_parameter, with_token};
 
-use crate::lists::Lists;
-use crate::toks::Toks;
+use crate::toks::{Lists, Toks};
 use std::alloc::{AllocError, Global};
 use std::marker::Model;
 use tx_char::Token;
 
 /// The parameter text of a macro. Contracts see the tokens before the first parameter and, for each parameter, the
 /// tokens behind it, which delimit its argument. Where a text ended with `#{`, its last token is that begin-group token.
-#[derive(Debug, Drop)]
+#[derive(Drop)]
 pub struct ParameterText {
     before: Toks,
     delimiters: Lists,

@@ -5,7 +5,7 @@ ghost use Rattle.tx_toklist.specs.Text.{is_letter_code, is_word, name_text, prin
 
 use std::alloc::{AllocError, Global};
 use tx_bytes::Bytes;
-use tx_char::{Cat, Codes, ControlName, Token};
+use tx_char::{Cat, Codes, Token};
 
 /// The text of these tokens as a message prints it: each character is its byte; a name has the escape character before
 /// it, if there is one, and a blank behind it, if it is a word, that is, if all its characters are letters at this
@@ -36,14 +36,15 @@ fn print_token(
 {
     match token {
         Token::Character(code, _) => text.push(*code),
-        Token::Name(name) => print_name(text, name, escape, codes),
+        Token::Name(name) => print_name(text, name.as_slice(), escape, codes),
+        Token::FrozenRelax => print_name(text, b"relax", escape, codes),
     }
 }
 
 /// Puts the text of a name at the end. Its only error is want of memory.
 fn print_name(
     text: &mut Bytes,
-    name: &ControlName,
+    name: &[u8],
     escape: Option<u8>,
     codes: &Codes,
 ) -> Result<(), AllocError>
@@ -52,8 +53,8 @@ fn print_name(
     if let Some(code) = escape {
         text.push(code)?;
     }
-    text.append(name.as_slice())?;
-    if is_word_of_letters(name.as_slice(), codes) {
+    text.append(name)?;
+    if is_word_of_letters(name, codes) {
         text.push(b' ')?;
     }
     Ok(())

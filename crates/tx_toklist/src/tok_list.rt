@@ -2,14 +2,15 @@
 ghost use Rattle.std.specs.Prelude.{◌≡◌, ◌↔◌, [], length, slice_get, IsTrue, IfOk};
 ghost use Rattle.std.specs.Option.{option_copied};
 
-use crate::toks::{Toks, same_tokens};
+use crate::toks::Toks;
 use std::alloc::{AllocError, Global};
 use std::marker::Model;
 use std::rc::Rc;
 use tx_char::Token;
+use tx_list::{Kept, same_items};
 
 /// A list of tokens that any number of owners hold at the cost of one. Contracts see the list of the tokens.
-#[derive(Debug, Drop)]
+#[derive(Drop)]
 pub struct TokList {
     tokens: Rc<Toks>,
 }
@@ -74,7 +75,7 @@ impl TokList {
     pub fn same(&self, other: &TokList) -> bool
         ensures { IsTrue result ↔ (self.now ≡ other.now) }
     {
-        same_tokens(self.as_slice(), other.as_slice())
+        same_items(self.as_slice(), other.as_slice())
     }
 }
 
@@ -84,5 +85,15 @@ impl Clone for TokList {
 
     fn clone(&self) -> Result<Self, AllocError> {
         self.share()
+    }
+}
+
+impl Kept for TokList {
+    fn share(&self) -> Result<Self, AllocError> {
+        TokList::share(self)
+    }
+
+    fn same(&self, other: &Self) -> bool {
+        TokList::same(self, other)
     }
 }

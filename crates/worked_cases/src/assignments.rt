@@ -1,12 +1,13 @@
 //! Cases of tx_assign, and of what the table begins with.
 use crate::tables::BEGUN;
 use std::alloc::{AllocError, Global};
-use tx_assign::{AssignScan, Carried, Fed, Seen, carry_out, number_at, see};
+use tx_assign::{AssignScan, Carried, Fed, carry_out, see};
 use tx_cases::{answered, first_word, malformed};
 use tx_char::{Cat, Token};
-use tx_eqtb::{CharacterCode, Eqtb, Place};
+use tx_eqtb::Eqtb;
 use tx_lex::{Lexed, ReadState, lex_on};
 use tx_prim::Primitive;
+use tx_seen::{CharacterCode, Place, Seen};
 
 /// - `at PLACE TEXT`, the number that the assignments of a text leave at a place of the table of INITEX: `count`, `dimen`,
 ///   `lccode`, `uccode`, `sfcode`, `mathcode` or `delcode` with a number, or a parameter;
@@ -38,7 +39,7 @@ fn taken(
     scan: AssignScan,
     token: Token,
 ) -> Result<Result<AssignScan, u8>, AllocError> {
-    let token = see(table, scan.defined(), token);
+    let token = see(table, scan.defined(), token)?;
     match scan.feed(alloc, token)? {
         Fed::More(scan) => Ok(Ok(scan)),
         Fed::Wrong(error) => Ok(Err(error.number())),
@@ -58,7 +59,7 @@ fn again(
     let Some(seen) = back else {
         return Ok(Ok(AssignScan::Start));
     };
-    match AssignScan::Start.feed(alloc, see(table, None, seen.token))? {
+    match AssignScan::Start.feed(alloc, see(table, None, seen.token)?)? {
         Fed::More(scan) => Ok(Ok(scan)),
         Fed::Wrong(error) => Ok(Err(error.number())),
         Fed::Done(_, _) => Ok(Err(0)),
@@ -133,7 +134,7 @@ fn number_after(alloc: Global, rest: &str) -> Result<String, AllocError> {
     };
     let mut table = Eqtb::new(alloc, &BEGUN)?;
     error_after(alloc, &mut table, text)?;
-    format!(in alloc; "{}", number_at(&table, &place))
+    format!(in alloc; "{}", table.number(&place))
 }
 
 fn category_after(alloc: Global, rest: &str) -> Result<String, AllocError> {
@@ -159,7 +160,7 @@ fn leave_the_same(alloc: Global, text: &str, plain: &str) -> Result<String, Allo
 fn have_copies(alloc: Global) -> Result<String, AllocError> {
     let table = Eqtb::new(alloc, &BEGUN)?;
     let scan = AssignScan::Start.clone()?;
-    let space = see(&table, None, Token::Character(b' ', Cat::Space));
+    let space = see(&table, None, Token::Character(b' ', Cat::Space))?;
     let copied = scan.defined().is_none() && space.same(&space.clone()?);
     answered(alloc, if copied { "true" } else { "false" })
 }

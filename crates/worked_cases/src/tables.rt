@@ -2,8 +2,9 @@
 use std::alloc::{AllocError, Global};
 use tx_cases::{answered, first_word, malformed};
 use tx_char::{Cat, ControlName};
-use tx_eqtb::{Entry, Eqtb, GroupKind, Meaning, Place};
+use tx_eqtb::{Entry, Eqtb, GroupKind};
 use tx_prim::{Moment, Primitive};
+use tx_seen::{Meaning, Place};
 
 /// When runs begin.
 pub const BEGUN: Moment = Moment {
@@ -77,13 +78,14 @@ fn open(alloc: Global, table: &mut Eqtb, kind: GroupKind) -> Result<String, Allo
 }
 
 fn name(alloc: Global, table: &mut Eqtb, word: &str, name: &str) -> Result<String, AllocError> {
-    let place = Place::Name(ControlName::from_slice(alloc, name.as_bytes())?);
+    let name = ControlName::from_slice(alloc, name.as_bytes())?;
     if word == "relax" {
-        let means = table.get(&place);
-        let relax = matches!(means, Entry::Means(Meaning::Command(Primitive::Relax)));
+        let means = table.name_meaning(&name);
+        let relax = matches!(means, Meaning::Command(Primitive::Relax));
         return format!(in alloc; "{relax}");
     }
-    table.assign(place, Entry::Means(Meaning::Command(Primitive::Relax)))?;
+    let relax = Entry::Means(Meaning::Command(Primitive::Relax));
+    table.assign(Place::Name(name), relax)?;
     answered(alloc, "assigned")
 }
 
@@ -97,15 +99,8 @@ fn assign(alloc: Global, table: &mut Eqtb, word: &str, rest: &str) -> Result<Str
         "local" => table.assign(Place::Count(place), Entry::Number(value))?,
         "global" => table.assign_global(Place::Count(place), Entry::Number(value))?,
         "begins" => table.assign(Place::Category(place), Entry::InCategory(Cat::BeginGroup))?,
-        "sees" => return number(alloc, table.get(&Place::Count(place))),
+        "sees" => return format!(in alloc; "{}", table.number(&Place::Count(place))),
         _ => return malformed(alloc),
     }
     answered(alloc, "assigned")
-}
-
-fn number(alloc: Global, entry: Entry) -> Result<String, AllocError> {
-    match entry {
-        Entry::Number(number) => format!(in alloc; "{number}"),
-        _ => answered(alloc, "no number"),
-    }
 }

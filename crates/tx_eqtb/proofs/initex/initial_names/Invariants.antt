@@ -1,7 +1,7 @@
 use Rattle.std.proofs.Common.{◌≡◌, ◌≤◌, drop, map, length}
 use Rattle.std.specs.FinMap.{from_entries}
 use Rattle.tx_prim.specs.Table.{name_of}
-use Rattle.tx_eqtb.specs.declared.meaning.Meaning.TheVariants.{Command}
+use Rattle.tx_seen.specs.declared.meaning.Meaning.TheVariants.{Command}
 use Rattle.tx_eqtb.proofs.initex.initial_names.Given as goal
 
 -- the primitives from this one on have their names

@@ -1,0 +1,4 @@
+pub mod Shift
+pub mod Meeting
+pub mod Limits
+pub mod Laws

@@ -1,0 +1,40 @@
+-- One value more from a table.
+use Rattle.std.proofs.Common.{◌≡◌, ◌<◌, ℕ, suc, List, [], ◌∷◌, ◌++◌, map, refl, sym, ap, ◌∙◌, append_assoc, append-nil, arith}
+use Rattle.tx_seen.specs.declared.fed.Kind.{Kind}
+use Rattle.tx_seen.specs.declared.fed.Value.{Value}
+use Rattle.tx_seen.specs.declared.fed.Fed.{Fed}
+use Rattle.tx_seen.specs.declared.fed.Fed.TheVariants as fed
+use Rattle.tx_seen.specs.declared.place.Place.{Place}
+use Rattle.tx_seen.specs.Readings.{Item, Gave, Reading, Need, Answers}
+use Rattle.tx_scan.specs.Supplied.{value_for, IsSupplied, AnswersSupplied, NeedsFewer, needed}
+
+pub supplied-none : {S A : Type 0} (at : Place → Value) (reading : List Item → Reading A) (HasTaken : S → List Item → Type 0) (items : List Item) (scan : S) (answer : Fed A) → Answers reading HasTaken items scan answer → AnswersSupplied at reading HasTaken items scan answer
+supplied-none at reading HasTaken items scan answer h = ([], (tt, rw append-nil h))
+
+supplied-push : {A : Type 0} (at : Place → Value) (reading : List Item → Reading A) (kind : Kind) (values : List Value) (items : List Item) → IsSupplied at reading items values → reading (items ++ map Gave values) ≡ Need kind → IsSupplied at reading items (values ++ value_for at kind ∷ [])
+supplied-push at reading kind [] items s h = (kind, (rw append-nil at h, (refl, tt)))
+supplied-push at reading kind (value ∷ values) items s h =
+    (s.0, (s.1.0, (s.1.1.0, supplied-push at reading kind values (items ++ Gave value ∷ []) s.1.1.1 (ap reading (append_assoc items (Gave value ∷ []) (map Gave values)) ∙ h))))
+
+given-push : (values : List Value) (value : Value) (items : List Item) → items ++ map Gave (values ++ value ∷ []) ≡ (items ++ map Gave values) ++ Gave value ∷ []
+given-push [] value items = ap (λ (some : List Item). some ++ Gave value ∷ []) (sym (append-nil items))
+given-push (first ∷ values) value items =
+    sym (append_assoc items (Gave first ∷ []) (map Gave (values ++ value ∷ [])))
+    ∙ given-push values value (items ++ Gave first ∷ [])
+    ∙ ap (λ (some : List Item). some ++ Gave value ∷ []) (append_assoc items (Gave first ∷ []) (map Gave values))
+
+pub supplied-more : {S A : Type 0} (at : Place → Value) (reading : List Item → Reading A) (HasTaken : S → List Item → Type 0) (items : List Item) (old new : S) (kind : Kind) (answer : Fed A) → AnswersSupplied at reading HasTaken items old (fed.Need kind) → ((taken : List Item) → HasTaken old taken → Answers reading HasTaken (taken ++ Gave (value_for at kind) ∷ []) new answer) → AnswersSupplied at reading HasTaken items new answer
+supplied-more at reading HasTaken items old new kind answer h k = (
+  h.0 ++ value_for at kind ∷ [],
+  (
+    supplied-push at reading kind h.0 items h.1.0 h.1.1.0,
+    rw (given-push h.0 (value_for at kind) items) (k (items ++ map Gave h.0) h.1.1.1),
+  ),
+)
+
+-- fewer values are needed then
+pub needed-fewer : {A : Type 0} (answer : Fed A) (old new : ℕ) → NeedsFewer old new answer → needed answer new < suc old
+needed-fewer (fed.More want) old new h = omega arith
+needed-fewer (fed.Need kind) old new h = omega arith
+needed-fewer (fed.Done value back) old new h = omega arith
+needed-fewer (fed.Wrong error) old new h = omega arith

@@ -1,0 +1,95 @@
+-- What a token begins where a number is needed (The TeXbook, chapter 24; TeX: The Program, sections 413 and 440 to 445).
+use Rattle.std.specs.Prelude.{ℕ, ◌+◌, ◌-◌, ◌==◌, ◌&&◌, nat_le, nat_lt, Option, Some, None, if◌then◌else◌}
+use Rattle.tx_char.specs.Character.{character}
+use Rattle.tx_char.specs.declared.category.Cat.TheVariants.{Space, Letter, Other}
+use Rattle.tx_char.specs.declared.tokens.Token.{Token}
+use Rattle.tx_char.specs.declared.tokens.Token.TheVariants as token
+use Rattle.tx_prim.specs.declared.primitive.Primitive.{Primitive}
+use Rattle.tx_prim.specs.declared.primitive.Primitive.TheVariants as primitive
+use Rattle.tx_seen.specs.declared.error.TexError.TheVariants.{MissingNumber, Undefined}
+use Rattle.tx_seen.specs.declared.meaning.Meaning.{Meaning}
+use Rattle.tx_seen.specs.declared.meaning.Meaning.TheVariants as meaning
+use Rattle.tx_seen.specs.declared.place.CharacterCode.TheVariants.{LowerCase, UpperCase, SpaceFactor, Math, Delimiter}
+use Rattle.tx_seen.specs.declared.place.Place.{Place}
+use Rattle.tx_seen.specs.declared.place.Place.TheVariants as place
+use Rattle.tx_seen.specs.declared.seen.Seen.{Seen}
+use Rattle.tx_scan.specs.declared.scans.Radix.{Radix}
+use Rattle.tx_scan.specs.declared.scans.Radix.TheVariants.{Octal, Decimal, Hexadecimal}
+use Rattle.tx_scan.specs.declared.scans.Family.{Family}
+use Rattle.tx_scan.specs.declared.scans.Family.TheVariants as family
+use Rattle.tx_scan.specs.declared.scans.Beginning.{Beginning}
+use Rattle.tx_scan.specs.declared.scans.Beginning.TheVariants as begin
+
+-- how many digits there are
+abbrev pub base : Radix → ℕ
+base Octal = 8
+base Decimal = 10
+base Hexadecimal = 16
+
+-- 0 to 9 of category 12, and A to F of category 11 or 12, with their values
+abbrev pub figure : Token → Option ℕ
+figure (token.Character code Other) = if nat_le (character "0") code && nat_le code (character "9") then Some (code - character "0") else if nat_le (character "A") code && nat_le code (character "F") then Some (code - character "A" + 10) else None
+figure (token.Character code Letter) = if nat_le (character "A") code && nat_le code (character "F") then Some (code - character "A" + 10) else None
+figure _ = None
+
+-- the value of a token as a digit
+abbrev pub digit : Radix → Seen → Option ℕ
+digit radix t = below (base radix) (figure t.token)
+  where
+    below : ℕ → Option ℕ → Option ℕ
+    below n None = None
+    below n (Some d) = if nat_lt d n then Some d else None
+
+-- what stands at a number of a family
+abbrev pub place_of : Family → ℕ → Place
+place_of family.Count n = place.Count n
+place_of family.Dimen n = place.Dimen n
+place_of family.Category n = place.Category n
+place_of (family.Code code) n = place.Code code n
+
+-- a primitive stands for a parameter's value, or for what stands at the number behind it
+abbrev pub begun_by_command : Primitive → Beginning
+begun_by_command (primitive.Integer parameter) = begin.At (place.Integer parameter)
+begun_by_command (primitive.Dimension parameter) = begin.At (place.Dimension parameter)
+begun_by_command primitive.Count = begin.Numbered family.Count
+begun_by_command primitive.Dimen = begin.Numbered family.Dimen
+begun_by_command primitive.Catcode = begin.Numbered family.Category
+begun_by_command primitive.Lccode = begin.Numbered (family.Code LowerCase)
+begun_by_command primitive.Uccode = begin.Numbered (family.Code UpperCase)
+begun_by_command primitive.Sfcode = begin.Numbered (family.Code SpaceFactor)
+begun_by_command primitive.Mathcode = begin.Numbered (family.Code Math)
+begun_by_command primitive.Delcode = begin.Numbered (family.Code Delimiter)
+begun_by_command _ = begin.Nothing MissingNumber
+
+-- a name that \chardef or \mathchardef defined is its number, and that of a register stands for its value; what means a
+-- space is one
+abbrev pub begun_by_meaning : Meaning → Beginning
+begun_by_meaning meaning.Undefined = begin.Nothing Undefined
+begun_by_meaning (meaning.Command command) = begun_by_command command
+begun_by_meaning (meaning.Character code Space) = begin.Plus
+begun_by_meaning (meaning.Character code _) = begin.Nothing MissingNumber
+begun_by_meaning (meaning.CharacterNumber n) = begin.Number n
+begun_by_meaning (meaning.MathNumber n) = begin.Number n
+begun_by_meaning (meaning.CountRegister n) = begin.At (place.Count n)
+begun_by_meaning (meaning.DimenRegister n) = begin.At (place.Dimen n)
+
+-- a character of category 12 that is no digit: + - ' " ` begin something by themselves, and a point does a size's fraction
+abbrev pub begun_by_sign : ℕ → Meaning → Beginning
+begun_by_sign code m =
+    if code == character "+" then begin.Plus
+    else if code == character "-" then begin.Minus
+    else if code == character "'" then begin.Digits Octal
+    else if code == character "\"" then begin.Digits Hexadecimal
+    else if code == character "`" then begin.Character
+    else if code == character "." then begin.Point
+    else if code == character "," then begin.Point
+    else begun_by_meaning m
+
+abbrev pub begun_by : Option ℕ → Token → Meaning → Beginning
+begun_by (Some d) t m = begin.Digit d
+begun_by None (token.Character code Other) m = begun_by_sign code m
+begun_by None t m = begun_by_meaning m
+
+-- what a token begins
+abbrev pub beginning : Seen → Beginning
+beginning t = begun_by (digit Decimal t) t.token t.meaning

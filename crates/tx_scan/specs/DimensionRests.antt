@@ -1,0 +1,40 @@
+-- The scan of a dimension means the rest of the dimension.
+use Rattle.std.specs.Prelude.{ℕ, ◌∷◌, Bool, ℤ, List}
+use Rattle.tx_num.specs.Decimals.{fraction_of}
+use Rattle.tx_seen.specs.declared.fed.Fed.{Fed}
+use Rattle.tx_seen.specs.declared.seen.Seen.{Seen}
+use Rattle.tx_seen.specs.Readings.{Item, Took, Reading, next}
+use Rattle.tx_scan.specs.declared.scans.DimenScan.{DimenScan}
+use Rattle.tx_scan.specs.declared.scans.DimenStage.{DimenStage}
+use Rattle.tx_scan.specs.declared.scans.DimenStage.TheVariants as stage
+use Rattle.tx_scan.specs.Integers.{character_code, space_after}
+use Rattle.tx_scan.specs.Dimensions.{fraction, whole_units, first_unit, second_letter, unit_name, unit_rest, factored, counted, size_signs, dimension}
+use Rattle.tx_scan.specs.GrammarRests.{held_none}
+use Rattle.tx_scan.specs.Rests.{HasTakenBy, IsAnswer}
+
+-- the rest of a dimension by its sign, the stage, and the digits of its fraction
+abbrev pub size_rest : Bool → DimenStage → List ℕ → Item → List Item → Reading ℤ
+size_rest negative stage.Signs digits item more = size_signs negative (item ∷ more)
+size_rest negative (stage.FirstDigit radix) digits item more = next (first_unit radix (item ∷ more)) (factored negative)
+size_rest negative (stage.Digits constant) digits item more = next (whole_units constant.radix constant.number (item ∷ more)) (factored negative)
+size_rest negative (stage.Fraction whole) digits item more = next (fraction whole digits (item ∷ more)) (factored negative)
+size_rest negative stage.Character digits item more = next (character_code (item ∷ more)) (counted negative)
+size_rest negative (stage.AfterCharacter code) digits item more = next (space_after code (item ∷ more)) (counted negative)
+size_rest negative (stage.Unit whole) digits item more = next (unit_name (item ∷ more)) (unit_rest negative whole (fraction_of digits))
+size_rest negative (stage.SecondLetter whole unit c) digits item more = next (second_letter c unit (item ∷ more)) (unit_rest negative whole (fraction_of digits))
+size_rest negative (stage.AfterUnit whole unit) digits item more = unit_rest negative whole (fraction_of digits) unit (item ∷ more)
+
+abbrev pub rest : DimenScan → List Item → Item → List Item → Reading ℤ
+rest scan behind item more = size_rest scan.negative scan.stage scan.digits item more
+
+-- the scan that has taken these items reads on as the dimension that begins with them
+abbrev pub HasTaken : DimenScan → List Item → Type 0
+HasTaken scan taken = HasTakenBy rest held_none dimension scan taken
+
+-- an answer to one more token says what reading on gives
+abbrev pub IsFed : DimenScan → Seen → DimenScan → Fed ℤ → Type 0
+IsFed old t new answer = (behind : List Item) → IsAnswer rest held_none (λ more. rest old behind (Took t) more) t new answer
+
+-- an answer to the first token of a unit, or to a space before it
+abbrev pub IsUnit : Bool → ℕ → List ℕ → Seen → DimenScan → Fed ℤ → Type 0
+IsUnit negative whole digits t new answer = IsAnswer rest held_none (λ more. next (unit_name (Took t ∷ more)) (unit_rest negative whole (fraction_of digits))) t new answer

@@ -1,0 +1,43 @@
+-- Values from a table, as often as a scan needs one.
+use Rattle.std.specs.Prelude.{◌≡◌, ◌<◌, ℕ, zero, suc, ◌++◌, ◌∷◌, [], List, map}
+use Rattle.tx_seen.specs.declared.fed.Kind.{Kind}
+use Rattle.tx_seen.specs.declared.fed.Kind.TheVariants.{Quantity}
+use Rattle.tx_seen.specs.declared.fed.Value.{Value}
+use Rattle.tx_seen.specs.declared.fed.Fed.{Fed}
+use Rattle.tx_seen.specs.declared.fed.Fed.TheVariants as fed
+use Rattle.tx_seen.specs.declared.place.Place.{Place}
+use Rattle.tx_seen.specs.Readings.{Item, Gave, Reading, Need, Answers}
+
+-- the value that is needed
+abbrev pub value_for : (Place → Value) → Kind → Value
+value_for at (Quantity place) = at place
+
+-- each of these values is the one that reading the items and the values before it needs
+abbrev pub IsSupplied : {A : Type 0} → (Place → Value) → (List Item → Reading A) → List Item → List Value → Type 0
+IsSupplied at reading items [] = Unit {0}
+IsSupplied at reading items (value ∷ values) =
+    (kind : Kind) × ((reading items ≡ Need kind) × ((value ≡ value_for at kind) × IsSupplied at reading (items ++ Gave value ∷ []) values))
+
+-- an answer is what reading gives of the items and of the values that it needs behind them
+abbrev pub AnswersSupplied : {S A : Type 0} → (Place → Value) → (List Item → Reading A) → (S → List Item → Type 0) → List Item → S → Fed A → Type 0
+AnswersSupplied at reading HasTaken items scan answer =
+    (values : List Value) × (IsSupplied at reading items values × Answers reading HasTaken (items ++ map Gave values) scan answer)
+
+-- an answer that needs no value
+abbrev pub NeedsNothing : {A : Type 0} → Fed A → Type 0
+NeedsNothing (fed.More want) = Unit {0}
+NeedsNothing (fed.Need kind) = ⊥
+NeedsNothing (fed.Done value back) = Unit {0}
+NeedsNothing (fed.Wrong error) = Unit {0}
+
+-- where one more value is needed, fewer are needed from then on
+abbrev pub NeedsFewer : {A : Type 0} → ℕ → ℕ → Fed A → Type 0
+NeedsFewer old new (fed.More want) = Unit {0}
+NeedsFewer old new (fed.Need kind) = new < old
+NeedsFewer old new (fed.Done value back) = Unit {0}
+NeedsFewer old new (fed.Wrong error) = Unit {0}
+
+-- how many values may be needed, by the answer and by how many are needed behind one more
+abbrev pub needed : {A : Type 0} → Fed A → ℕ → ℕ
+needed (fed.Need kind) more = suc more
+needed _ more = zero

@@ -1,0 +1,134 @@
+//! What a token begins where a number is needed (TeX: The Program, sections 413 and 440 to 445).
+ghost use Rattle.std.specs.Prelude.{◌≡◌, ◌<◌, IfSome};
+ghost use Rattle.tx_scan.specs.Beginnings as spec;
+ghost use Rattle.tx_scan.specs.Dimensions.{is_decimal};
+
+use crate::scans::{Beginning, Family, Radix};
+use tx_char::{Cat, Token};
+use tx_prim::Primitive;
+use tx_seen::{CharacterCode, Meaning, Place, Seen, TexError};
+
+impl Radix {
+    /// How many digits there are.
+    pub(crate) fn base(self) -> u8
+        ensures { result ≡ spec.base self }
+    {
+        match self {
+            Radix::Octal => 8,
+            Radix::Decimal => 10,
+            Radix::Hexadecimal => 16,
+        }
+    }
+}
+
+impl Radix {
+    /// Whether it is the decimal one.
+    pub(crate) fn is_decimal(self) -> bool
+        ensures { result ≡ is_decimal self }
+    {
+        matches!(self, Radix::Decimal)
+    }
+}
+
+/// The value of a hexadecimal digit.
+fn figure(token: &Token) -> Option<u8>
+    ensures { result ≡ spec.figure token.now }
+{
+    match token {
+        Token::Character(code, Cat::Other) if b'0' <= *code && *code <= b'9' => Some(*code - b'0'),
+        Token::Character(code, Cat::Other | Cat::Letter) if b'A' <= *code && *code <= b'F' => {
+            Some(*code - b'A' + 10)
+        }
+        _ => None,
+    }
+}
+
+/// The value of a digit.
+pub(crate) fn digit(radix: Radix, token: &Seen) -> Option<u8>
+    ensures value { result ≡ spec.digit radix token.now }
+    ensures small { IfSome result (λ digit. digit < spec.base radix) }
+{
+    let figure = figure(&token.token)?;
+    if figure < radix.base() {
+        Some(figure)
+    } else {
+        None
+    }
+}
+
+impl Family {
+    /// What stands at this number.
+    pub(crate) fn place(self, number: u8) -> Place
+        ensures { result ≡ spec.place_of self number }
+    {
+        match self {
+            Family::Count => Place::Count(number),
+            Family::Dimen => Place::Dimen(number),
+            Family::Category => Place::Category(number),
+            Family::Code(code) => Place::Code(code, number),
+        }
+    }
+}
+
+/// What a primitive begins.
+fn begun_by_command(command: Primitive) -> Beginning
+    ensures { result ≡ spec.begun_by_command command }
+{
+    match command {
+        Primitive::Integer(parameter) => Beginning::At(Place::Integer(parameter)),
+        Primitive::Dimension(parameter) => Beginning::At(Place::Dimension(parameter)),
+        Primitive::Count => Beginning::Numbered(Family::Count),
+        Primitive::Dimen => Beginning::Numbered(Family::Dimen),
+        Primitive::Catcode => Beginning::Numbered(Family::Category),
+        Primitive::Lccode => Beginning::Numbered(Family::Code(CharacterCode::LowerCase)),
+        Primitive::Uccode => Beginning::Numbered(Family::Code(CharacterCode::UpperCase)),
+        Primitive::Sfcode => Beginning::Numbered(Family::Code(CharacterCode::SpaceFactor)),
+        Primitive::Mathcode => Beginning::Numbered(Family::Code(CharacterCode::Math)),
+        Primitive::Delcode => Beginning::Numbered(Family::Code(CharacterCode::Delimiter)),
+        _ => Beginning::Nothing(TexError::MissingNumber),
+    }
+}
+
+/// What a token begins by what it means.
+fn begun_by_meaning(meaning: &Meaning) -> Beginning
+    ensures { result ≡ spec.begun_by_meaning meaning.now }
+{
+    match meaning {
+        Meaning::Undefined => Beginning::Nothing(TexError::Undefined),
+        Meaning::Command(command) => begun_by_command(*command),
+        Meaning::Character(_, Cat::Space) => Beginning::Plus,
+        Meaning::Character(_, _) => Beginning::Nothing(TexError::MissingNumber),
+        Meaning::CharacterNumber(number) => Beginning::Number(u16::from(*number)),
+        Meaning::MathNumber(number) => Beginning::Number(*number),
+        Meaning::CountRegister(number) => Beginning::At(Place::Count(*number)),
+        Meaning::DimenRegister(number) => Beginning::At(Place::Dimen(*number)),
+    }
+}
+
+/// What a character of category 12 begins that is no digit.
+fn begun_by_sign(code: u8, meaning: &Meaning) -> Beginning
+    ensures { result ≡ spec.begun_by_sign code meaning.now }
+{
+    match code {
+        b'+' => Beginning::Plus,
+        b'-' => Beginning::Minus,
+        b'\'' => Beginning::Digits(Radix::Octal),
+        b'"' => Beginning::Digits(Radix::Hexadecimal),
+        b'`' => Beginning::Character,
+        b'.' | b',' => Beginning::Point,
+        _ => begun_by_meaning(meaning),
+    }
+}
+
+/// What a token begins.
+pub(crate) fn beginning(token: &Seen) -> Beginning
+    ensures { result ≡ spec.beginning token.now }
+{
+    if let Some(digit) = digit(Radix::Decimal, token) {
+        return Beginning::Digit(digit);
+    }
+    match &token.token {
+        Token::Character(code, Cat::Other) => begun_by_sign(*code, &token.meaning),
+        _ => begun_by_meaning(&token.meaning),
+    }
+}

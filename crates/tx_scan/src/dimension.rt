@@ -1,0 +1,234 @@
+//! Dimensions, token by token (TeX: The Program, sections 448 to 458).
+ghost use Rattle.std.specs.Prelude.{◌≡◌, ◌≤◌, ◌≤ℤ◌, ◌∷◌, ◌++◌, ◌&&◌, [], ℕ, pos, List, IfOk};
+ghost use Rattle.tx_num.specs.Fractions.{signed};
+ghost use Rattle.tx_seen.specs.Seen.{is_point};
+ghost use Rattle.tx_seen.specs.Readings.{Item, Took, Answers};
+ghost use Rattle.tx_scan.specs.Dimensions.{dimension, is_decimal};
+ghost use Rattle.tx_scan.specs.DimensionRests.{HasTaken, IsFed, IsUnit};
+
+use crate::beginnings::{beginning, digit};
+use crate::fraction::Digits;
+use crate::integer::{character_named, first, longer};
+use crate::scans::{Beginning, Constant, DimenScan, DimenStage, Radix};
+use std::alloc::{AllocError, Global};
+use tx_num::PhysicalUnit;
+use tx_seen::{Fed, Seen, TexError, Want};
+
+impl DimenScan {
+    /// The scan of a dimension of which nothing is read. It takes no memory.
+    pub fn new(alloc: Global) -> DimenScan
+        ensures { HasTaken result [] }
+    {
+        DimenScan {
+            negative: false,
+            stage: DimenStage::Signs,
+            digits: Digits::new(alloc),
+        }
+    }
+
+    /// Takes one token, at first and after More. The answer is what reading gives of all that was taken. Its only error
+    /// is want of memory.
+    pub fn feed(&mut self, token: &Seen) -> Result<Fed<i64>, AllocError>
+        ensures { (taken : List Item) → HasTaken self.old taken → IfOk result (Answers dimension HasTaken (taken ++ Took token.now ∷ []) self.new) }
+    {
+        self.behind(token)
+    }
+
+    /// What it is behind one more token. Its only error is want of memory.
+    fn behind(&mut self, token: &Seen) -> Result<Fed<i64>, AllocError>
+        ensures { IfOk result (IsFed self.old token.now self.new) }
+    {
+        match self.stage {
+            DimenStage::Signs => Ok(self.feed_sign(token)),
+            DimenStage::FirstDigit(radix) => Ok(self.feed_first_digit(radix, token)),
+            DimenStage::Digits(constant) => Ok(self.feed_digit(constant, token)),
+            DimenStage::Fraction(whole) => self.feed_fraction(whole, token),
+            DimenStage::Character => Ok(self.feed_character(token)),
+            DimenStage::AfterCharacter(code) => Ok(self.feed_after_character(code, token)),
+            DimenStage::Unit(whole) => Ok(self.feed_unit(whole, token)),
+            DimenStage::SecondLetter(whole, unit, letter) => {
+                Ok(self.feed_second_letter(whole, unit, letter, token))
+            }
+            DimenStage::AfterUnit(whole, unit) => Ok(self.feed_end(whole, unit, token)),
+        }
+    }
+
+    /// The scan goes on with this stage, for which the next token is expanded.
+    fn on(&mut self, stage: DimenStage) -> Fed<i64>
+        ensures scan { self.new ≡ record self.old { stage = stage } }
+        ensures answer { result ≡ Fed.More Want.Expanded }
+    {
+        self.stage = stage;
+        Fed::More(Want::Expanded)
+    }
+
+    /// Signs and spaces, or what begins the factor.
+    fn feed_sign(&mut self, token: &Seen) -> Fed<i64>
+        requires { self.old.stage ≡ DimenStage.Signs }
+        ensures { IsFed self.old token.now self.new result }
+    {
+        match beginning(token) {
+            Beginning::Plus => Fed::More(Want::Expanded),
+            Beginning::Minus => {
+                self.negative = !self.negative;
+                Fed::More(Want::Expanded)
+            }
+            Beginning::Digit(digit) => self.on(DimenStage::Digits(first(Radix::Decimal, digit))),
+            Beginning::Digits(radix) => self.on(DimenStage::FirstDigit(radix)),
+            Beginning::Point => {
+                self.digits.clear();
+                self.on(DimenStage::Fraction(0))
+            }
+            Beginning::Character => {
+                self.stage = DimenStage::Character;
+                Fed::More(Want::Raw)
+            }
+            Beginning::Number(_) | Beginning::At(_) | Beginning::Numbered(_) => {
+                Fed::Wrong(TexError::MissingNumber)
+            }
+            Beginning::Nothing(error) => Fed::Wrong(error),
+        }
+    }
+
+    /// The first digit of an octal or hexadecimal factor.
+    fn feed_first_digit(&mut self, radix: Radix, token: &Seen) -> Fed<i64>
+        requires { self.old.stage ≡ DimenStage.FirstDigit radix }
+        ensures { IsFed self.old token.now self.new result }
+    {
+        match digit(radix, token) {
+            Some(digit) => self.on(DimenStage::Digits(first(radix, digit))),
+            None => Fed::Wrong(if token.is_undefined() {
+                TexError::Undefined
+            } else {
+                TexError::MissingNumber
+            }),
+        }
+    }
+
+    /// One more digit of whole units, or what ends them.
+    fn feed_digit(&mut self, constant: Constant, token: &Seen) -> Fed<i64>
+        requires { self.old.stage ≡ DimenStage.Digits constant }
+        ensures { IsFed self.old token.now self.new result }
+    {
+        if let Some(digit) = digit(constant.radix, token) {
+            return match longer(constant, digit) {
+                Some(constant) => self.on(DimenStage::Digits(constant)),
+                None => Fed::Wrong(TexError::IntegerTooLarge),
+            };
+        }
+        self.digits.clear();
+        if begins_fraction(constant.radix, token) {
+            return self.on(DimenStage::Fraction(constant.number));
+        }
+        self.feed_unit(constant.number, token)
+    }
+
+    /// One more digit of a fraction, or what ends it.
+    fn feed_fraction(&mut self, whole: u32, token: &Seen) -> Result<Fed<i64>, AllocError>
+        requires { self.old.stage ≡ DimenStage.Fraction whole }
+        ensures { IfOk result (IsFed self.old token.now self.new) }
+    {
+        let Some(digit) = digit(Radix::Decimal, token) else {
+            return Ok(self.feed_unit(whole, token));
+        };
+        self.digits.push(digit)?;
+        Ok(Fed::More(Want::Expanded))
+    }
+
+    /// The character behind a backquote.
+    fn feed_character(&mut self, token: &Seen) -> Fed<i64>
+        requires { self.old.stage ≡ DimenStage.Character }
+        ensures { IsFed self.old token.now self.new result }
+    {
+        match character_named(&token.token) {
+            Some(code) => self.on(DimenStage::AfterCharacter(code)),
+            None => Fed::Wrong(TexError::MissingNumber),
+        }
+    }
+
+    /// An optional space behind a character's code.
+    fn feed_after_character(&mut self, code: u8, token: &Seen) -> Fed<i64>
+        requires { self.old.stage ≡ DimenStage.AfterCharacter code }
+        ensures { IsFed self.old token.now self.new result }
+    {
+        self.digits.clear();
+        self.feed_unit(u32::from(code), token)
+    }
+
+    /// Spaces, or the first letter of a unit.
+    fn feed_unit(&mut self, whole: u32, token: &Seen) -> Fed<i64>
+        ensures { IsUnit self.old.negative whole self.old.digits token.now self.new result }
+    {
+        if token.is_undefined() {
+            return Fed::Wrong(TexError::Undefined);
+        }
+        if token.is_space() {
+            return self.on(DimenStage::Unit(whole));
+        }
+        if token.is_key(b'p') {
+            return self.on(DimenStage::SecondLetter(whole, PhysicalUnit::Point, b't'));
+        }
+        if token.is_key(b's') {
+            return self.on(DimenStage::SecondLetter(whole, PhysicalUnit::ScaledPoint, b'p'));
+        }
+        Fed::Wrong(TexError::MissingUnit)
+    }
+
+    /// The second letter of a unit.
+    fn feed_second_letter(
+        &mut self,
+        whole: u32,
+        unit: PhysicalUnit,
+        letter: u8,
+        token: &Seen,
+    ) -> Fed<i64>
+        requires { self.old.stage ≡ DimenStage.SecondLetter whole unit letter }
+        ensures { IsFed self.old token.now self.new result }
+    {
+        if token.is_undefined() {
+            return Fed::Wrong(TexError::Undefined);
+        }
+        if token.is_key(letter) {
+            self.on(DimenStage::AfterUnit(whole, unit))
+        } else {
+            Fed::Wrong(TexError::MissingUnit)
+        }
+    }
+
+    /// An optional space behind the unit; the dimension is whole.
+    fn feed_end(&mut self, whole: u32, unit: PhysicalUnit, token: &Seen) -> Fed<i64>
+        requires { self.old.stage ≡ DimenStage.AfterUnit whole unit }
+        ensures { IsFed self.old token.now self.new result }
+    {
+        if token.is_undefined() {
+            return Fed::Wrong(TexError::Undefined);
+        }
+        match unit.to_scaled(whole, self.digits.value()) {
+            Ok(size) => {
+                let size = signed_size(self.negative, size);
+                if token.is_space() {
+                    Fed::Done(size, 0)
+                } else {
+                    Fed::Done(size, 1)
+                }
+            }
+            Err(_) => Fed::Wrong(TexError::DimensionTooLarge),
+        }
+    }
+}
+
+/// Whether the token is the point behind the whole units of a decimal factor.
+fn begins_fraction(radix: Radix, token: &Seen) -> bool
+    ensures { result ≡ (is_decimal radix && is_point token.now) }
+{
+    radix.is_decimal() && token.is_point()
+}
+
+/// A size with its sign.
+fn signed_size(negative: bool, size: i64) -> i64
+    requires low { pos 0 ≤ℤ size }
+    requires high { size ≤ℤ pos 1073741823 }
+    ensures { (n : ℕ) → size ≡ pos n → result ≡ signed negative n }
+{
+    if negative { -size } else { size }
+}

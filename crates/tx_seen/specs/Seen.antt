@@ -1,0 +1,73 @@
+-- Tokens with what they mean, and what they are to the commands that read them.
+use Rattle.std.specs.Prelude.{ℕ, ◌+◌, ◌-◌, ◌==◌, ◌&&◌, ◌||◌, Bool, true, false, nat_le, Option, Some, None, if◌then◌else◌}
+use Rattle.tx_char.specs.Character.{character}
+use Rattle.tx_char.specs.declared.category.Cat.TheVariants.{BeginGroup, Space, Other, Active}
+use Rattle.tx_char.specs.declared.tokens.Token.{Token}
+use Rattle.tx_char.specs.declared.tokens.Token.TheVariants as token
+use Rattle.tx_prim.specs.declared.primitive.Primitive.TheVariants.{Relax}
+use Rattle.tx_seen.specs.declared.meaning.Meaning.{Meaning}
+use Rattle.tx_seen.specs.declared.meaning.Meaning.TheVariants.{Undefined, Command, Character}
+use Rattle.tx_seen.specs.declared.seen.Seen.{Seen}
+
+-- a name without a meaning, or an active character without one
+abbrev pub is_undefined : Seen → Bool
+is_undefined t = is_nothing t.meaning
+  where
+    is_nothing : Meaning → Bool
+    is_nothing Undefined = true
+    is_nothing _ = false
+
+-- a space, or a name that means one
+abbrev pub is_space : Seen → Bool
+is_space t = is_blank t.meaning
+  where
+    is_blank : Meaning → Bool
+    is_blank (Character code Space) = true
+    is_blank _ = false
+
+-- a begin-group token, or a name that means one
+abbrev pub is_begin_group : Seen → Bool
+is_begin_group t = is_begin t.meaning
+  where
+    is_begin : Meaning → Bool
+    is_begin (Character code BeginGroup) = true
+    is_begin _ = false
+
+-- what means \relax
+abbrev pub is_relax : Seen → Bool
+is_relax t = is_nothing_done t.meaning
+  where
+    is_nothing_done : Meaning → Bool
+    is_nothing_done (Command Relax) = true
+    is_nothing_done _ = false
+
+-- a character of category 12 with this code
+abbrev pub is_other : ℕ → Seen → Bool
+is_other c t = is_that t.token
+  where
+    is_that : Token → Bool
+    is_that (token.Character code Other) = code == c
+    is_that _ = false
+
+-- a digit, and its value
+abbrev pub digit_value : Seen → Option ℕ
+digit_value t = value t.token
+  where
+    value : Token → Option ℕ
+    value (token.Character code Other) =
+        if nat_le (character "0") code && nat_le code (character "9") then Some (code - character "0") else None
+    value _ = None
+
+-- the point of a decimal fraction, `.` or `,`
+abbrev pub is_point : Seen → Bool
+is_point t = is_other (character ".") t || is_other (character ",") t
+
+-- a character, of any category but active, that is this small letter or its capital: so keywords are told
+abbrev pub is_key : ℕ → Seen → Bool
+is_key c t = is_letter t.token
+  where
+    is_letter : Token → Bool
+    is_letter (token.Character code Active) = false
+    is_letter (token.Character code _) = (code == c) || (code + (character "a" - character "A") == c)
+    is_letter (token.Name name) = false
+    is_letter token.FrozenRelax = false
