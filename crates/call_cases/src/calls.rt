@@ -56,20 +56,20 @@ fn failing(alloc: Global, begin: &str, lines: &str) -> Result<Vec<u64>, AllocErr
 
 fn put_files(rt: &HostRuntime, source: &mut MemorySource, lines: &str) -> io::Result<()> {
     let alloc = rt.alloc();
-    let mut name = "";
+    let mut name = String::new(alloc);
     let mut bytes = Bytes::new(alloc);
     for line in lines.split('\n') {
         if let Some(begun) = line.strip_prefix("file ") {
-            name = begun;
+            name = String::from_str(alloc, begun)?;
             bytes = Bytes::new(alloc);
         } else if let Some((taken, file)) = taken_from(line) {
-            name = taken;
+            name = String::from_str(alloc, taken)?;
             bytes = Bytes::from_vec(fs::read(rt, file)?);
         } else {
             append(alloc, &mut bytes, line)?;
         }
         if !name.is_empty() {
-            source.put(alloc, name.as_bytes(), bytes.as_slice())?;
+            source.put(alloc, name.as_str().as_bytes(), bytes.as_slice())?;
         }
     }
     Ok(())

@@ -1,16 +1,13 @@
 //! Runs the worked cases of TeX in the files that the words of its command line name, and prints how many there are in
-//! each, or those that come out otherwise. Each module says what its cases are given.
+//! each, or those that come out otherwise. `documents` says what its cases are given.
 //!
-//! Read `tables`, `assignments`, `states` and `documents`.
+//! Read `documents`.
 #![tactic(auto)]
 
-mod assignments;
 mod documents;
-mod states;
-mod tables;
 
 use std::io;
-use tx_cases::{Answers, first_line, first_word, run_files};
+use tx_cases::{Answers, first_line, first_word, malformed, run_files};
 use tx_machine::CountsTurns;
 
 /// The program, which keeps nothing from case to case.
@@ -24,9 +21,7 @@ impl Answers for Program {
         Ok(match word {
             "document" => documents::shown(rt.alloc(), rest, lines, &mut rt.steps())?,
             "ends" => documents::end_of(rt.alloc(), rest, &mut rt.steps())?,
-            "table" => tables::play(rt.alloc(), lines)?,
-            "begun" => states::answer(rt.alloc(), rest)?,
-            _ => assignments::answer(rt.alloc(), word, rest)?,
+            _ => malformed(rt.alloc())?,
         })
     }
 }
