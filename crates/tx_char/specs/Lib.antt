@@ -1,2 +1,3 @@
 pub mod Character
 pub mod Category
+pub mod Letters

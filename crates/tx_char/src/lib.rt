@@ -4,13 +4,17 @@
 //! Proved: the table begins as stated and changes only where it is changed, and shared copies don't see it. Only tested:
 //! that it begins as INITEX's does.
 //!
-//! Read `category`, then `table`, then `tokens`.
+//! Read `category` and `table`, then `short`, `letters` and `name`, the names of control sequences, then `tokens`.
 #![tactic(auto)]
 
 mod category;
+mod letters;
+mod name;
+mod short;
 mod table;
 mod tokens;
 
 pub use category::Cat;
+pub use name::ControlName;
 pub use table::Codes;
-pub use tokens::{ControlName, Token};
+pub use tokens::Token;

@@ -1,80 +1,10 @@
-//! Tokens, and the names of control sequences.
-ghost use Rattle.std.specs.Prelude.{◌≡◌, ◌↔◌, IsTrue, IfOk};
+//! Tokens.
+ghost use Rattle.std.specs.Prelude.{◌≡◌, ◌↔◌, IsTrue};
 
 use crate::category::Cat;
-use std::alloc::{AllocError, Global};
-use std::marker::Model;
-use std::rc::Rc;
-use tx_bytes::Bytes;
+use crate::name::ControlName;
+use std::alloc::AllocError;
 use tx_list::Kept;
-
-/// The name of a control sequence, without its escape character; it may be empty. Contracts see the list of its bytes.
-/// Clones share the bytes.
-#[derive(Debug, Drop)]
-pub struct ControlName {
-    bytes: Rc<Bytes>,
-}
-
-impl Model for ControlName {
-    ghost use Rattle.std.specs.Prelude.{List, ℕ};
-
-    ghost Value = { List ℕ };
-
-    ghost view = { λ n. n.bytes.value };
-}
-
-impl ControlName {
-    /// The name of these bytes. Its only error is want of memory.
-    pub fn new(alloc: Global, bytes: Bytes) -> Result<ControlName, AllocError>
-        ensures { IfOk result (λ name. name ≡ bytes) }
-    {
-        Ok(ControlName {
-            bytes: Rc::new(alloc, bytes)?,
-        })
-    }
-
-    /// The name with a copy of these bytes. Its only error is want of memory.
-    pub fn from_slice(alloc: Global, bytes: &[u8]) -> Result<ControlName, AllocError>
-        ensures { IfOk result (λ name. name ≡ bytes.now) }
-    {
-        ControlName::new(alloc, Bytes::from_slice(alloc, bytes)?)
-    }
-
-    /// The bytes of the name, lent.
-    pub fn as_slice(&self) -> &[u8]
-        ensures { result.now ≡ self.now }
-    {
-        self.bytes.as_ref().as_slice()
-    }
-
-    /// Whether both have the same bytes.
-    pub fn same(&self, other: &ControlName) -> bool
-        ensures { IsTrue result ↔ (self.now ≡ other.now) }
-    {
-        self.as_slice() == other.as_slice()
-    }
-}
-
-/// A clone shares the bytes. Its only error is that no more owners can be counted.
-impl Clone for ControlName {
-    ghost is_clone = { λ source copy. copy ≡ source };
-
-    fn clone(&self) -> Result<Self, AllocError> {
-        Ok(ControlName {
-            bytes: self.bytes.clone()?,
-        })
-    }
-}
-
-impl Kept for ControlName {
-    fn share(&self) -> Result<Self, AllocError> {
-        self.clone()
-    }
-
-    fn same(&self, other: &Self) -> bool {
-        ControlName::same(self, other)
-    }
-}
 
 /// What reading makes of characters (The TeXbook, chapter 7), and the one token that reading makes of none.
 #[derive(Drop)]

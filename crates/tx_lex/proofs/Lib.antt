@@ -3,3 +3,4 @@ mod LineLaws
 mod Loops
 mod Readings
 mod RuleLaws
+mod Words

@@ -30,6 +30,7 @@ fn reduced(codes: &Codes, line: &[u8], code: u8, next: usize) -> Character
 /// The character that is read at this place of a line; None exactly at its end.
 pub(crate) fn character_at(codes: &Codes, line: &[u8], place: usize) -> Option<Character>
     ensures read { MatchOption result (length line.now ≤ place) (IsReadFrom codes.now (drop place line.now) line.now) }
+    ensures inside { IfSome result (λ c. place < length line.now) }
     ensures onward { IfSome result (λ c. place < c.next) }
     ensures plain { IfSome result (λ c. c.next ≡ place + 1 → drop place line.now ≡ c.code ∷ drop c.next line.now) }
 {

@@ -1,5 +1,5 @@
 //! The names of control sequences.
-ghost use Rattle.std.specs.Prelude.{◌≡◌, drop, IfOk};
+ghost use Rattle.std.specs.Prelude.{◌≡◌, ◌≤◌, drop, length, IfOk};
 ghost use Rattle.tx_char.specs.declared.tokens.Token.TheVariants.{Name};
 ghost use Rattle.tx_lex.specs.declared.types.Lexed.TheVariants.{Token as Lexed_token};
 ghost use Rattle.tx_lex.specs.Characters.{characters};
@@ -35,8 +35,35 @@ pub(crate) fn read_name(
     Ok(named(name, first.next, None, state_behind(category)))
 }
 
-/// Reads the name of letters that begins at this place: as many as there are. Its only error is want of memory.
+/// Reads the name of letters that begins at this place: as many as there are. A name that stands in the line as it is read
+/// is taken from there whole. Its only error is want of memory.
 fn read_word(alloc: Global, codes: &Codes, line: &[u8], begin: usize) -> Result<Lexed, AllocError>
+    requires { begin ≤ length line.now }
+    ensures reading { IfOk result (λ lexed. meant line.now lexed ≡ word_reading codes.now (characters codes.now (drop begin line.now))) }
+    ensures within { IfOk result (λ lexed. IsWithin line.now lexed) }
+{
+    let mut place = begin;
+    while let Some(found) = character_at(codes, line, place) {
+        if found.next != place + 1 {
+            return read_spelled_word(alloc, codes, line, begin);
+        }
+        if !is_letter_category(codes.get(found.code)) {
+            let name = ControlName::from_slice(alloc, &line[begin..place])?;
+            return Ok(word(name, place, None));
+        }
+        place = found.next;
+    }
+    let name = ControlName::from_slice(alloc, &line[begin..])?;
+    Ok(word(name, line.len(), None))
+}
+
+/// Does the same character by character, where some are spelled by `^^`. Its only error is want of memory.
+fn read_spelled_word(
+    alloc: Global,
+    codes: &Codes,
+    line: &[u8],
+    begin: usize,
+) -> Result<Lexed, AllocError>
     ensures reading { IfOk result (λ lexed. meant line.now lexed ≡ word_reading codes.now (characters codes.now (drop begin line.now))) }
     ensures within { IfOk result (λ lexed. IsWithin line.now lexed) }
 {
@@ -47,15 +74,22 @@ fn read_word(alloc: Global, codes: &Codes, line: &[u8], begin: usize) -> Result<
             let name = ControlName::new(alloc, name)?;
             // A character that stands in the line as it was read is left there.
             if found.next == place + 1 {
-                return Ok(named(name, place, None, ReadState::S));
+                return Ok(word(name, place, None));
             }
-            return Ok(named(name, found.next, Some(found.code), ReadState::S));
+            return Ok(word(name, found.next, Some(found.code)));
         }
         name.push(found.code)?;
         place = found.next;
     }
     let name = ControlName::new(alloc, name)?;
-    Ok(named(name, line.len(), None, ReadState::S))
+    Ok(word(name, line.len(), None))
+}
+
+/// The answer that this name of letters was read; blanks are skipped behind it.
+fn word(name: ControlName, used: usize, front: Option<u8>) -> Lexed
+    ensures { result ≡ Lexed_token (Name name) used front ReadState.S }
+{
+    named(name, used, front, ReadState::S)
 }
 
 /// The answer that this name was read.

@@ -1,13 +1,16 @@
-//! Lists of values with one owner, for all crates above: what is asked of a value that can be kept, and the list that keeps
-//! any number of them. Contracts see the list of the values.
+//! Lists of values with one owner, for all crates above: what is asked of a value that can be kept, and the list and the stack
+//! that keep any number of them. Contracts see the list of the values.
 //!
-//! Proved: a list is the list of its values, and `same` is exactly equality. Nothing is left to tests.
+//! Proved: a list is the list of its values, a stack that of its values with the newest first, and `same` is exactly equality.
+//! Nothing is left to tests.
 //!
-//! Read `kept`, what is asked of a value; then `items`.
+//! Read `kept`, what is asked of a value; then `items` and `stack`.
 #![tactic(auto)]
 
 mod items;
 mod kept;
+mod stack;
 
 pub use items::{Items, same_items};
 pub use kept::Kept;
+pub use stack::Stack;

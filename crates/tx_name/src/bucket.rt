@@ -60,6 +60,7 @@ impl<T: Kept> Bucket<T> {
     {
         match search(self.entries.as_slice(), name.as_slice()) {
             Ok(place) => {
+                drop(name);
                 self.entries[place].1 = value;
                 Ok(())
             }
