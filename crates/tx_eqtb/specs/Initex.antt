@@ -7,8 +7,8 @@ use Rattle.tx_name.specs.Names.{Names}
 use Rattle.tx_prim.specs.declared.integer.Moment.{Moment}
 use Rattle.tx_prim.specs.Integers.{initial_integer, all_integers}
 use Rattle.tx_prim.specs.Table.{all, name_of}
-use Rattle.tx_seen.specs.declared.place.CharacterCode.{CharacterCode}
-use Rattle.tx_seen.specs.declared.place.CharacterCode.TheVariants.{LowerCase, UpperCase, SpaceFactor, Math, Delimiter}
+use Rattle.tx_prim.specs.declared.family.CharacterCode.{CharacterCode}
+use Rattle.tx_prim.specs.declared.family.CharacterCode.TheVariants.{LowerCase, UpperCase, SpaceFactor, Math, Delimiter}
 use Rattle.tx_seen.specs.declared.meaning.Meaning.{Meaning}
 use Rattle.tx_seen.specs.declared.meaning.Meaning.TheVariants.{Undefined, Command}
 use Rattle.tx_eqtb.specs.declared.table.Table.{Table}

@@ -1,3 +1,4 @@
 pub mod Table
 pub mod Initex
 pub mod Stack
+pub mod Quantities

@@ -9,7 +9,7 @@ use Rattle.tx_name.specs.Names.{Names}
 use Rattle.tx_prim.specs.declared.primitive.Primitive.TheVariants.{Relax}
 use Rattle.tx_prim.specs.Integers.{integer_number}
 use Rattle.tx_prim.specs.Dimensions.{dimension_number}
-use Rattle.tx_seen.specs.declared.place.CharacterCode.TheVariants.{LowerCase, UpperCase, SpaceFactor, Math, Delimiter}
+use Rattle.tx_prim.specs.declared.family.CharacterCode.TheVariants.{LowerCase, UpperCase, SpaceFactor, Math, Delimiter}
 use Rattle.tx_seen.specs.declared.place.Place.{Place}
 use Rattle.tx_seen.specs.declared.place.Place.TheVariants.{Name, Active, Count, Dimen, Category, Code, Integer, Dimension}
 use Rattle.tx_seen.specs.declared.meaning.Meaning.{Meaning}

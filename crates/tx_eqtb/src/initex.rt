@@ -9,8 +9,8 @@ use crate::table::Table;
 use std::alloc::{AllocError, Global};
 use tx_char::{Codes, ControlName};
 use tx_name::NameMap;
-use tx_prim::{DimensionParameter, IntegerParameter, Moment, Primitive};
-use tx_seen::{CharacterCode, Meaning};
+use tx_prim::{CharacterCode, DimensionParameter, IntegerParameter, Moment, Primitive};
+use tx_seen::Meaning;
 
 /// How many registers of a kind, and how many characters there are.
 const ALL: usize = 256;

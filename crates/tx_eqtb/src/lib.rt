@@ -2,11 +2,12 @@
 //! the groups that are open. Contracts see the table as it stands and, for each open group, its kind and the table outside
 //! it: a group begins with a copy, and what was outside comes back when it ends.
 //!
-//! Proved: it is a stack of tables: assignments, groups, `same` and `share` are exactly as defined. Only tested: that it
-//! begins as INITEX's table does.
+//! Proved: it is a stack of tables: assignments, groups, `same` and `share` are exactly as defined, and so are the values that
+//! scans find in it. Only tested: that it begins as INITEX's table does: of its categories the borders of each kind in library_cases, of all
+//! else what documents show that Knuth's TeX reads alike (tools/check-tex).
 //!
 //! Read `entry`, what stands at a place; `cells`, `table`, `reading` and `writing`; `initex`, the table at the beginning;
-//! `groups` and `nesting`; and then `eqtb` with `stack`. Places and meanings are tx_seen's.
+//! `groups` and `nesting`; and then `eqtb` with `stack` and `values`. Places and meanings are tx_seen's.
 #![tactic(auto)]
 
 mod cells;
@@ -19,6 +20,7 @@ mod nesting;
 mod reading;
 mod stack;
 mod table;
+mod values;
 mod writing;
 
 pub use entry::Entry;

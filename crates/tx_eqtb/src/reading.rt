@@ -7,8 +7,8 @@ use crate::cells::Cells;
 use crate::table::Table;
 use std::alloc::AllocError;
 use tx_char::{Cat, ControlName, Token};
-use tx_prim::Primitive;
-use tx_seen::{CharacterCode, Meaning, Place};
+use tx_prim::{CharacterCode, Primitive};
+use tx_seen::{Meaning, Place};
 
 /// A register, a code or a parameter.
 fn number_of(numbers: &Cells<i32>, at: usize) -> i32

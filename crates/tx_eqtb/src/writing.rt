@@ -7,7 +7,8 @@ use crate::table::Table;
 use std::alloc::AllocError;
 use tx_char::{Cat, ControlName};
 use tx_name::NameMap;
-use tx_seen::{CharacterCode, Meaning, Place};
+use tx_prim::CharacterCode;
+use tx_seen::{Meaning, Place};
 
 /// Gives a name a meaning. After want of memory, its only error, the names may only be dropped.
 fn set_name(

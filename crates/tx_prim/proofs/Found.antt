@@ -1,7 +1,15 @@
 -- Each primitive is the first of all that has its name.
 use Rattle.std.proofs.Common.{◌≡◌, ℕ, List, [], ◌∷◌, Some, IfSome, cond, true, false, refl}
 use Rattle.tx_prim.specs.declared.primitive.Primitive.{Primitive}
-use Rattle.tx_prim.specs.declared.primitive.Primitive.TheVariants.{Relax, BeginGroup, EndGroup, Global, Let, Advance, Multiply, Divide, Count, Dimen, Countdef, Dimendef, Chardef, Mathchardef, Catcode, Lccode, Uccode, Sfcode, Mathcode, Delcode, Hbox, Shipout, Kern, Par, End, Vrule, Integer, Dimension}
+use Rattle.tx_prim.specs.declared.primitive.Primitive.TheVariants.{Relax, Par, BeginGroup, EndGroup, Prefix, Let, Shorthand, Arithmetic, Numbered, Integer, Dimension, Sized, Rule, Box, Shipout, End}
+use Rattle.tx_prim.specs.declared.family.Prefix.TheVariants.{Global}
+use Rattle.tx_prim.specs.declared.family.Operation.TheVariants.{Advance, Multiply, Divide}
+use Rattle.tx_prim.specs.declared.family.Shorthand.TheVariants.{CountRegister, DimenRegister, Character, MathCharacter}
+use Rattle.tx_prim.specs.declared.family.CharacterCode.TheVariants.{LowerCase, UpperCase, SpaceFactor, Math, Delimiter}
+use Rattle.tx_prim.specs.declared.family.Numbered.TheVariants.{Count, Dimen, Category, Code}
+use Rattle.tx_prim.specs.declared.family.SizeKind.TheVariants.{Kern}
+use Rattle.tx_prim.specs.declared.family.RuleKind.TheVariants.{Vertical}
+use Rattle.tx_prim.specs.declared.family.BoxKind.TheVariants.{Horizontal}
 use Rattle.tx_prim.specs.declared.integer.IntegerParameter.{IntegerParameter}
 use Rattle.tx_prim.specs.declared.integer.IntegerParameter.TheVariants.{Pretolerance, Tolerance, Hbadness, Vbadness, Linepenalty, Hyphenpenalty, Exhyphenpenalty, Binoppenalty, Relpenalty, Clubpenalty, Widowpenalty, Displaywidowpenalty, Brokenpenalty, Predisplaypenalty, Postdisplaypenalty, Interlinepenalty, Floatingpenalty, Outputpenalty, Doublehyphendemerits, Finalhyphendemerits, Adjdemerits, Looseness, Pausing, Holdinginserts, Tracingonline, Tracingmacros, Tracingstats, Tracingparagraphs, Tracingpages, Tracingoutput, Tracinglostchars, Tracingcommands, Tracingrestores, Language, Uchyph, Lefthyphenmin, Righthyphenmin, Globaldefs, Defaulthyphenchar, Defaultskewchar, Escapechar, Endlinechar, Newlinechar, Maxdeadcycles, Hangafter, Fam, Mag, Delimiterfactor, Time, Day, Month, Year, Showboxbreadth, Showboxdepth, Errorcontextlines}
 use Rattle.tx_prim.specs.declared.dimension.DimensionParameter.{DimensionParameter}
@@ -99,29 +107,29 @@ unfolding all line_of integer_name dimension_name
 found Relax = refl
 found BeginGroup = refl
 found EndGroup = refl
-found Global = refl
+found (Prefix Global) = refl
 found Let = refl
-found Advance = refl
-found Multiply = refl
-found Divide = refl
-found Count = refl
-found Dimen = refl
-found Countdef = refl
-found Dimendef = refl
-found Chardef = refl
-found Mathchardef = refl
-found Catcode = refl
-found Lccode = refl
-found Uccode = refl
-found Sfcode = refl
-found Mathcode = refl
-found Delcode = refl
-found Hbox = refl
+found (Arithmetic Advance) = refl
+found (Arithmetic Multiply) = refl
+found (Arithmetic Divide) = refl
+found (Numbered Count) = refl
+found (Numbered Dimen) = refl
+found (Shorthand CountRegister) = refl
+found (Shorthand DimenRegister) = refl
+found (Shorthand Character) = refl
+found (Shorthand MathCharacter) = refl
+found (Numbered Category) = refl
+found (Numbered (Code LowerCase)) = refl
+found (Numbered (Code UpperCase)) = refl
+found (Numbered (Code SpaceFactor)) = refl
+found (Numbered (Code Math)) = refl
+found (Numbered (Code Delimiter)) = refl
+found (Box Horizontal) = refl
 found Shipout = refl
-found Kern = refl
+found (Sized Kern) = refl
 found Par = refl
 found End = refl
-found Vrule = refl
+found (Rule Vertical) = refl
 found (Integer p) = integer-found p
 found (Dimension p) = dimension-found p
 

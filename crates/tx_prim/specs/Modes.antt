@@ -2,13 +2,13 @@
 use Rattle.tx_prim.specs.declared.modes.Mode.{Mode}
 use Rattle.tx_prim.specs.declared.modes.Mode.TheVariants.{Vertical, InternalVertical, Horizontal, Math, DisplayMath}
 use Rattle.tx_prim.specs.declared.modes.Modes.{Modes}
-use Rattle.tx_prim.specs.declared.modes.Modes.TheVariants.{All, NotMath, NotVertical, Pages}
+use Rattle.tx_prim.specs.declared.modes.Modes.TheVariants.{All, NotMath, NotVertical, Pages, Math as Math_only, Nowhere}
 use Rattle.tx_prim.specs.declared.modes.Standing.{Standing}
 use Rattle.tx_prim.specs.declared.modes.Standing.TheVariants.{Stands, BeginsParagraph, EndsParagraph, Refused}
 
 -- a command of all modes stands in each; \par isn't for formulas; \vrule begins a paragraph in vertical modes; \end
--- stands on the pages' list and ends a paragraph, but may stand in no box and no formula (TeX: The Program, sections
--- 1045 to 1056, 1090 to 1096)
+-- stands on the pages' list and ends a paragraph, but may stand in no box and no formula; a subscript stands in formulas
+-- alone, and a parameter character in no mode (TeX: The Program, sections 1045 to 1056, 1090 to 1096)
 abbrev pub standing : Modes → Mode → Standing
 standing All mode = Stands
 standing NotMath Math = Refused
@@ -20,3 +20,7 @@ standing NotVertical mode = Stands
 standing Pages Vertical = Stands
 standing Pages Horizontal = EndsParagraph
 standing Pages mode = Refused
+standing Math_only Math = Stands
+standing Math_only DisplayMath = Stands
+standing Math_only mode = Refused
+standing Nowhere mode = Refused

@@ -1,7 +1,15 @@
 -- The table of the primitives.
 use Rattle.std.specs.Prelude.{ℕ, List, [], ◌∷◌, Option, None, Some, codes, cond, bytes_eq}
 use Rattle.tx_prim.specs.declared.primitive.Primitive.{Primitive}
-use Rattle.tx_prim.specs.declared.primitive.Primitive.TheVariants.{Relax, BeginGroup, EndGroup, Global, Let, Advance, Multiply, Divide, Count, Dimen, Countdef, Dimendef, Chardef, Mathchardef, Catcode, Lccode, Uccode, Sfcode, Mathcode, Delcode, Hbox, Shipout, Kern, Par, End, Vrule, Integer, Dimension}
+use Rattle.tx_prim.specs.declared.primitive.Primitive.TheVariants.{Relax, Par, BeginGroup, EndGroup, Prefix, Let, Shorthand, Arithmetic, Numbered, Integer, Dimension, Sized, Rule, Box, Shipout, End}
+use Rattle.tx_prim.specs.declared.family.Prefix.TheVariants.{Global}
+use Rattle.tx_prim.specs.declared.family.Operation.TheVariants.{Advance, Multiply, Divide}
+use Rattle.tx_prim.specs.declared.family.Shorthand.TheVariants.{CountRegister, DimenRegister, Character, MathCharacter}
+use Rattle.tx_prim.specs.declared.family.CharacterCode.TheVariants.{LowerCase, UpperCase, SpaceFactor, Math, Delimiter}
+use Rattle.tx_prim.specs.declared.family.Numbered.TheVariants.{Count, Dimen, Category, Code}
+use Rattle.tx_prim.specs.declared.family.SizeKind.TheVariants.{Kern}
+use Rattle.tx_prim.specs.declared.family.RuleKind.TheVariants.{Vertical}
+use Rattle.tx_prim.specs.declared.family.BoxKind.TheVariants.{Horizontal}
 use Rattle.tx_prim.specs.declared.integer.IntegerParameter.TheVariants.{Pretolerance, Tolerance, Hbadness, Vbadness, Linepenalty, Hyphenpenalty, Exhyphenpenalty, Binoppenalty, Relpenalty, Clubpenalty, Widowpenalty, Displaywidowpenalty, Brokenpenalty, Predisplaypenalty, Postdisplaypenalty, Interlinepenalty, Floatingpenalty, Outputpenalty, Doublehyphendemerits, Finalhyphendemerits, Adjdemerits, Looseness, Pausing, Holdinginserts, Tracingonline, Tracingmacros, Tracingstats, Tracingparagraphs, Tracingpages, Tracingoutput, Tracinglostchars, Tracingcommands, Tracingrestores, Language, Uchyph, Lefthyphenmin, Righthyphenmin, Globaldefs, Defaulthyphenchar, Defaultskewchar, Escapechar, Endlinechar, Newlinechar, Maxdeadcycles, Hangafter, Fam, Mag, Delimiterfactor, Time, Day, Month, Year, Showboxbreadth, Showboxdepth, Errorcontextlines}
 use Rattle.tx_prim.specs.declared.dimension.DimensionParameter.TheVariants.{Hfuzz, Vfuzz, Overfullrule, Emergencystretch, Hsize, Vsize, Maxdepth, Splitmaxdepth, Boxmaxdepth, Lineskiplimit, Delimitershortfall, Nulldelimiterspace, Scriptspace, Mathsurround, Predisplaysize, Displaywidth, Displayindent, Parindent, Hangindent, Hoffset, Voffset}
 use Rattle.tx_prim.specs.declared.modes.Modes.{Modes}
@@ -22,29 +30,29 @@ unfoldable pub line_of : Primitive → Line
 line_of Relax = line (codes "relax") All
 line_of BeginGroup = line (codes "begingroup") All
 line_of EndGroup = line (codes "endgroup") All
-line_of Global = line (codes "global") All
+line_of (Prefix Global) = line (codes "global") All
 line_of Let = line (codes "let") All
-line_of Advance = line (codes "advance") All
-line_of Multiply = line (codes "multiply") All
-line_of Divide = line (codes "divide") All
-line_of Count = line (codes "count") All
-line_of Dimen = line (codes "dimen") All
-line_of Countdef = line (codes "countdef") All
-line_of Dimendef = line (codes "dimendef") All
-line_of Chardef = line (codes "chardef") All
-line_of Mathchardef = line (codes "mathchardef") All
-line_of Catcode = line (codes "catcode") All
-line_of Lccode = line (codes "lccode") All
-line_of Uccode = line (codes "uccode") All
-line_of Sfcode = line (codes "sfcode") All
-line_of Mathcode = line (codes "mathcode") All
-line_of Delcode = line (codes "delcode") All
-line_of Hbox = line (codes "hbox") All
+line_of (Arithmetic Advance) = line (codes "advance") All
+line_of (Arithmetic Multiply) = line (codes "multiply") All
+line_of (Arithmetic Divide) = line (codes "divide") All
+line_of (Numbered Count) = line (codes "count") All
+line_of (Numbered Dimen) = line (codes "dimen") All
+line_of (Shorthand CountRegister) = line (codes "countdef") All
+line_of (Shorthand DimenRegister) = line (codes "dimendef") All
+line_of (Shorthand Character) = line (codes "chardef") All
+line_of (Shorthand MathCharacter) = line (codes "mathchardef") All
+line_of (Numbered Category) = line (codes "catcode") All
+line_of (Numbered (Code LowerCase)) = line (codes "lccode") All
+line_of (Numbered (Code UpperCase)) = line (codes "uccode") All
+line_of (Numbered (Code SpaceFactor)) = line (codes "sfcode") All
+line_of (Numbered (Code Math)) = line (codes "mathcode") All
+line_of (Numbered (Code Delimiter)) = line (codes "delcode") All
+line_of (Box Horizontal) = line (codes "hbox") All
 line_of Shipout = line (codes "shipout") All
-line_of Kern = line (codes "kern") All
+line_of (Sized Kern) = line (codes "kern") All
 line_of Par = line (codes "par") NotMath
 line_of End = line (codes "end") Pages
-line_of Vrule = line (codes "vrule") NotVertical
+line_of (Rule Vertical) = line (codes "vrule") NotVertical
 line_of (Integer parameter) = line (integer_name parameter) All
 line_of (Dimension parameter) = line (dimension_name parameter) All
 
@@ -58,7 +66,7 @@ modes_of primitive = (line_of primitive).modes
 
 -- all primitives
 unfoldable pub all : List Primitive
-all = Relax ∷ BeginGroup ∷ EndGroup ∷ Global ∷ Let ∷ Advance ∷ Multiply ∷ Divide ∷ Count ∷ Dimen ∷ Countdef ∷ Dimendef ∷ Chardef ∷ Mathchardef ∷ Catcode ∷ Lccode ∷ Uccode ∷ Sfcode ∷ Mathcode ∷ Delcode ∷ Hbox ∷ Shipout ∷ Kern ∷ Par ∷ End ∷ Vrule ∷ Integer Pretolerance ∷ Integer Tolerance ∷ Integer Hbadness ∷ Integer Vbadness ∷ Integer Linepenalty ∷ Integer Hyphenpenalty ∷ Integer Exhyphenpenalty ∷ Integer Binoppenalty ∷ Integer Relpenalty ∷ Integer Clubpenalty ∷ Integer Widowpenalty ∷ Integer Displaywidowpenalty ∷ Integer Brokenpenalty ∷ Integer Predisplaypenalty ∷ Integer Postdisplaypenalty ∷ Integer Interlinepenalty ∷ Integer Floatingpenalty ∷ Integer Outputpenalty ∷ Integer Doublehyphendemerits ∷ Integer Finalhyphendemerits ∷ Integer Adjdemerits ∷ Integer Looseness ∷ Integer Pausing ∷ Integer Holdinginserts ∷ Integer Tracingonline ∷ Integer Tracingmacros ∷ Integer Tracingstats ∷ Integer Tracingparagraphs ∷ Integer Tracingpages ∷ Integer Tracingoutput ∷ Integer Tracinglostchars ∷ Integer Tracingcommands ∷ Integer Tracingrestores ∷ Integer Language ∷ Integer Uchyph ∷ Integer Lefthyphenmin ∷ Integer Righthyphenmin ∷ Integer Globaldefs ∷ Integer Defaulthyphenchar ∷ Integer Defaultskewchar ∷ Integer Escapechar ∷ Integer Endlinechar ∷ Integer Newlinechar ∷ Integer Maxdeadcycles ∷ Integer Hangafter ∷ Integer Fam ∷ Integer Mag ∷ Integer Delimiterfactor ∷ Integer Time ∷ Integer Day ∷ Integer Month ∷ Integer Year ∷ Integer Showboxbreadth ∷ Integer Showboxdepth ∷ Integer Errorcontextlines ∷ Dimension Hfuzz ∷ Dimension Vfuzz ∷ Dimension Overfullrule ∷ Dimension Emergencystretch ∷ Dimension Hsize ∷ Dimension Vsize ∷ Dimension Maxdepth ∷ Dimension Splitmaxdepth ∷ Dimension Boxmaxdepth ∷ Dimension Lineskiplimit ∷ Dimension Delimitershortfall ∷ Dimension Nulldelimiterspace ∷ Dimension Scriptspace ∷ Dimension Mathsurround ∷ Dimension Predisplaysize ∷ Dimension Displaywidth ∷ Dimension Displayindent ∷ Dimension Parindent ∷ Dimension Hangindent ∷ Dimension Hoffset ∷ Dimension Voffset ∷ []
+all = Relax ∷ BeginGroup ∷ EndGroup ∷ Prefix Global ∷ Let ∷ Arithmetic Advance ∷ Arithmetic Multiply ∷ Arithmetic Divide ∷ Numbered Count ∷ Numbered Dimen ∷ Shorthand CountRegister ∷ Shorthand DimenRegister ∷ Shorthand Character ∷ Shorthand MathCharacter ∷ Numbered Category ∷ Numbered (Code LowerCase) ∷ Numbered (Code UpperCase) ∷ Numbered (Code SpaceFactor) ∷ Numbered (Code Math) ∷ Numbered (Code Delimiter) ∷ Box Horizontal ∷ Shipout ∷ Sized Kern ∷ Par ∷ End ∷ Rule Vertical ∷ Integer Pretolerance ∷ Integer Tolerance ∷ Integer Hbadness ∷ Integer Vbadness ∷ Integer Linepenalty ∷ Integer Hyphenpenalty ∷ Integer Exhyphenpenalty ∷ Integer Binoppenalty ∷ Integer Relpenalty ∷ Integer Clubpenalty ∷ Integer Widowpenalty ∷ Integer Displaywidowpenalty ∷ Integer Brokenpenalty ∷ Integer Predisplaypenalty ∷ Integer Postdisplaypenalty ∷ Integer Interlinepenalty ∷ Integer Floatingpenalty ∷ Integer Outputpenalty ∷ Integer Doublehyphendemerits ∷ Integer Finalhyphendemerits ∷ Integer Adjdemerits ∷ Integer Looseness ∷ Integer Pausing ∷ Integer Holdinginserts ∷ Integer Tracingonline ∷ Integer Tracingmacros ∷ Integer Tracingstats ∷ Integer Tracingparagraphs ∷ Integer Tracingpages ∷ Integer Tracingoutput ∷ Integer Tracinglostchars ∷ Integer Tracingcommands ∷ Integer Tracingrestores ∷ Integer Language ∷ Integer Uchyph ∷ Integer Lefthyphenmin ∷ Integer Righthyphenmin ∷ Integer Globaldefs ∷ Integer Defaulthyphenchar ∷ Integer Defaultskewchar ∷ Integer Escapechar ∷ Integer Endlinechar ∷ Integer Newlinechar ∷ Integer Maxdeadcycles ∷ Integer Hangafter ∷ Integer Fam ∷ Integer Mag ∷ Integer Delimiterfactor ∷ Integer Time ∷ Integer Day ∷ Integer Month ∷ Integer Year ∷ Integer Showboxbreadth ∷ Integer Showboxdepth ∷ Integer Errorcontextlines ∷ Dimension Hfuzz ∷ Dimension Vfuzz ∷ Dimension Overfullrule ∷ Dimension Emergencystretch ∷ Dimension Hsize ∷ Dimension Vsize ∷ Dimension Maxdepth ∷ Dimension Splitmaxdepth ∷ Dimension Boxmaxdepth ∷ Dimension Lineskiplimit ∷ Dimension Delimitershortfall ∷ Dimension Nulldelimiterspace ∷ Dimension Scriptspace ∷ Dimension Mathsurround ∷ Dimension Predisplaysize ∷ Dimension Displaywidth ∷ Dimension Displayindent ∷ Dimension Parindent ∷ Dimension Hangindent ∷ Dimension Hoffset ∷ Dimension Voffset ∷ []
 
 -- the first primitive of a list that has a name
 abbrev pub named : List Primitive → List ℕ → Option Primitive

@@ -30,6 +30,10 @@ pub enum Modes {
     NotVertical,
     /// On the pages' list alone; in a paragraph it ends that first.
     Pages,
+    /// In formulas alone.
+    Math,
+    /// In none.
+    Nowhere,
 }
 
 /// What becomes of a command in a mode.
@@ -59,6 +63,8 @@ impl Modes {
             (Modes::All | Modes::NotMath | Modes::NotVertical, _) => Standing::Stands,
             (Modes::Pages, Mode::Vertical) => Standing::Stands,
             (Modes::Pages, _) => Standing::Refused,
+            (Modes::Math, Mode::Math | Mode::DisplayMath) => Standing::Stands,
+            (Modes::Math, _) | (Modes::Nowhere, _) => Standing::Refused,
         }
     }
 }

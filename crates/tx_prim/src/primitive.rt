@@ -4,41 +4,46 @@ ghost use Rattle.tx_prim.specs.declared.primitive.Primitive.{Primitive};
 ghost use Rattle.tx_prim.specs.Table.{all, modes_of, name_of, named};
 
 use crate::dimension::DimensionParameter;
+use crate::family::{
+    BoxKind, CharacterCode, Numbered, Operation, Prefix, RuleKind, Shorthand, SizeKind,
+};
 use crate::integer::IntegerParameter;
 use crate::modes::Modes;
 
 /// A primitive of TeX: a command that isn't defined by others, and with which INITEX begins (The TeXbook, chapters 24 to
-/// 26).
+/// 26). The primitives of one family are one variant.
 #[derive(Clone, Copy, PartialEq, Eq)]
 pub enum Primitive {
+    /// \relax.
     Relax,
+    /// \par.
+    Par,
+    /// \begingroup and \endgroup.
     BeginGroup,
     EndGroup,
-    Global,
+    /// A prefix, as \global.
+    Prefix(Prefix),
+    /// \let.
     Let,
-    Advance,
-    Multiply,
-    Divide,
-    Count,
-    Dimen,
-    Countdef,
-    Dimendef,
-    Chardef,
-    Mathchardef,
-    Catcode,
-    Lccode,
-    Uccode,
-    Sfcode,
-    Mathcode,
-    Delcode,
-    Hbox,
-    Shipout,
-    Kern,
-    Par,
-    End,
-    Vrule,
+    /// \countdef and its kin.
+    Shorthand(Shorthand),
+    /// \advance and its kin.
+    Arithmetic(Operation),
+    /// Registers, and codes of characters, as \count and \catcode.
+    Numbered(Numbered),
+    /// A parameter.
     Integer(IntegerParameter),
     Dimension(DimensionParameter),
+    /// What takes a dimension, as \kern.
+    Sized(SizeKind),
+    /// A rule, as \vrule.
+    Rule(RuleKind),
+    /// What begins a box, as \hbox.
+    Box(BoxKind),
+    /// \shipout.
+    Shipout,
+    /// \end.
+    End,
 }
 
 /// All primitives, in the order of their table.
@@ -46,29 +51,29 @@ const ALL: [Primitive; 102] = [
     Primitive::Relax,
     Primitive::BeginGroup,
     Primitive::EndGroup,
-    Primitive::Global,
+    Primitive::Prefix(Prefix::Global),
     Primitive::Let,
-    Primitive::Advance,
-    Primitive::Multiply,
-    Primitive::Divide,
-    Primitive::Count,
-    Primitive::Dimen,
-    Primitive::Countdef,
-    Primitive::Dimendef,
-    Primitive::Chardef,
-    Primitive::Mathchardef,
-    Primitive::Catcode,
-    Primitive::Lccode,
-    Primitive::Uccode,
-    Primitive::Sfcode,
-    Primitive::Mathcode,
-    Primitive::Delcode,
-    Primitive::Hbox,
+    Primitive::Arithmetic(Operation::Advance),
+    Primitive::Arithmetic(Operation::Multiply),
+    Primitive::Arithmetic(Operation::Divide),
+    Primitive::Numbered(Numbered::Count),
+    Primitive::Numbered(Numbered::Dimen),
+    Primitive::Shorthand(Shorthand::CountRegister),
+    Primitive::Shorthand(Shorthand::DimenRegister),
+    Primitive::Shorthand(Shorthand::Character),
+    Primitive::Shorthand(Shorthand::MathCharacter),
+    Primitive::Numbered(Numbered::Category),
+    Primitive::Numbered(Numbered::Code(CharacterCode::LowerCase)),
+    Primitive::Numbered(Numbered::Code(CharacterCode::UpperCase)),
+    Primitive::Numbered(Numbered::Code(CharacterCode::SpaceFactor)),
+    Primitive::Numbered(Numbered::Code(CharacterCode::Math)),
+    Primitive::Numbered(Numbered::Code(CharacterCode::Delimiter)),
+    Primitive::Box(BoxKind::Horizontal),
     Primitive::Shipout,
-    Primitive::Kern,
+    Primitive::Sized(SizeKind::Kern),
     Primitive::Par,
     Primitive::End,
-    Primitive::Vrule,
+    Primitive::Rule(RuleKind::Vertical),
     Primitive::Integer(IntegerParameter::Pretolerance),
     Primitive::Integer(IntegerParameter::Tolerance),
     Primitive::Integer(IntegerParameter::Hbadness),
@@ -165,29 +170,29 @@ impl Primitive {
             Primitive::Relax => b"relax",
             Primitive::BeginGroup => b"begingroup",
             Primitive::EndGroup => b"endgroup",
-            Primitive::Global => b"global",
+            Primitive::Prefix(Prefix::Global) => b"global",
             Primitive::Let => b"let",
-            Primitive::Advance => b"advance",
-            Primitive::Multiply => b"multiply",
-            Primitive::Divide => b"divide",
-            Primitive::Count => b"count",
-            Primitive::Dimen => b"dimen",
-            Primitive::Countdef => b"countdef",
-            Primitive::Dimendef => b"dimendef",
-            Primitive::Chardef => b"chardef",
-            Primitive::Mathchardef => b"mathchardef",
-            Primitive::Catcode => b"catcode",
-            Primitive::Lccode => b"lccode",
-            Primitive::Uccode => b"uccode",
-            Primitive::Sfcode => b"sfcode",
-            Primitive::Mathcode => b"mathcode",
-            Primitive::Delcode => b"delcode",
-            Primitive::Hbox => b"hbox",
+            Primitive::Arithmetic(Operation::Advance) => b"advance",
+            Primitive::Arithmetic(Operation::Multiply) => b"multiply",
+            Primitive::Arithmetic(Operation::Divide) => b"divide",
+            Primitive::Numbered(Numbered::Count) => b"count",
+            Primitive::Numbered(Numbered::Dimen) => b"dimen",
+            Primitive::Shorthand(Shorthand::CountRegister) => b"countdef",
+            Primitive::Shorthand(Shorthand::DimenRegister) => b"dimendef",
+            Primitive::Shorthand(Shorthand::Character) => b"chardef",
+            Primitive::Shorthand(Shorthand::MathCharacter) => b"mathchardef",
+            Primitive::Numbered(Numbered::Category) => b"catcode",
+            Primitive::Numbered(Numbered::Code(CharacterCode::LowerCase)) => b"lccode",
+            Primitive::Numbered(Numbered::Code(CharacterCode::UpperCase)) => b"uccode",
+            Primitive::Numbered(Numbered::Code(CharacterCode::SpaceFactor)) => b"sfcode",
+            Primitive::Numbered(Numbered::Code(CharacterCode::Math)) => b"mathcode",
+            Primitive::Numbered(Numbered::Code(CharacterCode::Delimiter)) => b"delcode",
+            Primitive::Box(BoxKind::Horizontal) => b"hbox",
             Primitive::Shipout => b"shipout",
-            Primitive::Kern => b"kern",
+            Primitive::Sized(SizeKind::Kern) => b"kern",
             Primitive::Par => b"par",
             Primitive::End => b"end",
-            Primitive::Vrule => b"vrule",
+            Primitive::Rule(RuleKind::Vertical) => b"vrule",
             Primitive::Integer(parameter) => parameter.name(),
             Primitive::Dimension(parameter) => parameter.name(),
         }
@@ -199,10 +204,14 @@ impl Primitive {
         ensures { result ≡ modes_of self }
     {
         match self {
+            Primitive::Relax | Primitive::BeginGroup | Primitive::EndGroup => Modes::All,
+            Primitive::Prefix(_) | Primitive::Let | Primitive::Shorthand(_) => Modes::All,
+            Primitive::Arithmetic(_) | Primitive::Numbered(_) => Modes::All,
+            Primitive::Integer(_) | Primitive::Dimension(_) => Modes::All,
+            Primitive::Sized(_) | Primitive::Box(_) | Primitive::Shipout => Modes::All,
+            Primitive::Rule(RuleKind::Vertical) => Modes::NotVertical,
             Primitive::Par => Modes::NotMath,
             Primitive::End => Modes::Pages,
-            Primitive::Vrule => Modes::NotVertical,
-            _ => Modes::All,
         }
     }
 

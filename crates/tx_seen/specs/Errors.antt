@@ -1,5 +1,5 @@
 -- The numbers of the errors, as a run prints them.
-use Rattle.std.specs.Prelude.{ℕ}
+use Rattle.std.specs.Prelude.{ℕ, List, [], ◌∷◌, Option, None, Some, ◌==◌, if◌then◌else◌}
 use Rattle.tx_seen.specs.declared.error.TexError.{TexError}
 use Rattle.tx_seen.specs.declared.error.TexError.TheVariants.{InvalidCharacter, Undefined, MissingNumber, MissingUnit, NumberOutOfRange, DimensionTooLarge, IntegerTooLarge, SizeOutOfRange, ArithmeticOverflow, ErrorMessage, NoAssignment, ExtraGroupEnd, UseDiffers, ParagraphInArgument, GroupEndInArgument, ExtraConditionalWord, IncompleteConditional, IncompleteText, MissingBeginGroup, MissingName, FileAbsent, BadFont, BadParameter, BadName, NotAllowed, TooDeep, TooManyGroups, OccupiedPageBox, UnbalancedOutput, TooManyDeadCycles, InfiniteShrink, BadFormula, MisplacedAlignment, BadHyphenation, MissingBox, BadMagnification, NoEnd}
 
@@ -41,3 +41,12 @@ number_of BadHyphenation = 33
 number_of MissingBox = 34
 number_of BadMagnification = 35
 number_of NoEnd = 36
+
+-- all errors, in the order of their numbers
+unfoldable pub all : List TexError
+all = InvalidCharacter ∷ Undefined ∷ MissingNumber ∷ MissingUnit ∷ NumberOutOfRange ∷ DimensionTooLarge ∷ IntegerTooLarge ∷ SizeOutOfRange ∷ ArithmeticOverflow ∷ ErrorMessage ∷ NoAssignment ∷ ExtraGroupEnd ∷ UseDiffers ∷ ParagraphInArgument ∷ GroupEndInArgument ∷ ExtraConditionalWord ∷ IncompleteConditional ∷ IncompleteText ∷ MissingBeginGroup ∷ MissingName ∷ FileAbsent ∷ BadFont ∷ BadParameter ∷ BadName ∷ NotAllowed ∷ TooDeep ∷ TooManyGroups ∷ OccupiedPageBox ∷ UnbalancedOutput ∷ TooManyDeadCycles ∷ InfiniteShrink ∷ BadFormula ∷ MisplacedAlignment ∷ BadHyphenation ∷ MissingBox ∷ BadMagnification ∷ NoEnd ∷ []
+
+-- the first error of a list that has a number
+abbrev pub numbered : List TexError → ℕ → Option TexError
+numbered [] number = None
+numbered (error ∷ errors) number = if number_of error == number then Some error else numbered errors number

@@ -1,3 +1,4 @@
 pub mod Errors
+pub mod Places
 pub mod Seen
 pub mod Readings

@@ -1,17 +1,12 @@
 -- Reading one thing off the items at the front of a list: this is what every scan's definition gives.
 use Rattle.std.specs.Prelude.{◌≡◌, ℕ, ◌-◌, ◌++◌, ◌∷◌, [], List, length, drop}
-use Rattle.tx_seen.specs.declared.seen.Seen.{Seen}
 use Rattle.tx_seen.specs.declared.error.TexError.{TexError}
 use Rattle.tx_seen.specs.declared.fed.Want.{Want}
 use Rattle.tx_seen.specs.declared.fed.Kind.{Kind}
-use Rattle.tx_seen.specs.declared.fed.Value.{Value}
+use Rattle.tx_seen.specs.declared.item.Item.{Item}
+use Rattle.tx_seen.specs.declared.item.Item.TheVariants.{Took, Gave}
 use Rattle.tx_seen.specs.declared.fed.Fed.{Fed}
 use Rattle.tx_seen.specs.declared.fed.Fed.TheVariants as fed
-
--- what a scan takes: tokens with what they mean, and the values that it asked for
-pub data Item : Type 0 where
-  Took : Seen → Item
-  Gave : Value → Item
 
 -- the items are a proper part of a thing, where one more token comes next, or a value of this kind; or begin with a
 -- whole one, and these are behind it; or begin none, which is this error
@@ -34,9 +29,13 @@ tokens [] = []
 tokens (Took t ∷ rest) = Took t ∷ tokens rest
 tokens (Gave v ∷ rest) = tokens rest
 
+-- the last ones of a list, so many
+abbrev pub ending : {A : Type 0} → ℕ → List A → List A
+ending count xs = drop (length xs - count) xs
+
 -- the last tokens, so many of them: a value can be given after a token that goes back, as in \count1x
 abbrev pub last : ℕ → List Item → List Item
-last count items = drop (length (tokens items) - count) (tokens items)
+last count items = ending count (tokens items)
 
 -- an answer is what reading gives of the items taken, whatever comes behind them where the thing ends or goes wrong: the
 -- last of them, so many, stand behind a thing that has ended. Before that the scan is the one that has taken them.

@@ -1,87 +1,150 @@
 //! What stops a run for good.
-ghost use Rattle.std.specs.Prelude.{◌≡◌};
-ghost use Rattle.tx_seen.specs.Errors.{number_of};
+ghost use Rattle.std.specs.Prelude.{◌≡◌, ◌⊎◌, Some, IfSome};
+ghost use Rattle.tx_seen.specs.declared.error.TexError.{TexError};
+ghost use Rattle.tx_seen.specs.declared.error.TexError.TheVariants.{ArithmeticOverflow};
+ghost use Rattle.tx_seen.specs.Errors.{all, number_of, numbered};
 
 use thiserror::Error;
 
-/// The error that ends a run; the first one always does. Each comes exactly where its text says.
+/// The error that ends a run; the first one always does. Its text tells the user what it means, and stands in
+/// docs/FORMATS.md too; where it says less than when exactly the error comes, that stands above it.
 #[derive(Clone, Copy, Debug, PartialEq, Eq, Error)]
 pub enum TexError {
-    #[error("a character of category 15 is read")]
+    #[error("a character that no text may have (category 15)")]
     InvalidCharacter,
-    #[error("an undefined name or active character is to be expanded or carried out")]
+    /// Where it is to be expanded or carried out.
+    #[error("a name or an active character without a meaning")]
     Undefined,
-    #[error("a number is needed and the token begins none")]
+    /// The token begins none.
+    #[error("a number is missing")]
     MissingNumber,
-    #[error("a unit, a word or a relation is needed and none follows")]
+    #[error("a unit is missing, or a word or relation that has to stand here")]
     MissingUnit,
-    #[error("a number is outside the range of its use")]
+    #[error("a number that is out of the range of its use")]
     NumberOutOfRange,
-    #[error("a scanned dimension is past 2^30-1 sp")]
+    /// A scanned one is past 2^30-1 sp.
+    #[error("a dimension of 16384pt or more")]
     DimensionTooLarge,
-    #[error("a scanned integer is past 2^31-1")]
+    /// A scanned one is past 2^31-1.
+    #[error("an integer above 2147483647")]
     IntegerTooLarge,
-    #[error("a size or a page leaves its range")]
+    /// A size or a page leaves its range.
+    #[error("a result, a size or a place out of its range, or a division by 0")]
     SizeOutOfRange,
-    #[error("a sum, a product or a quotient leaves its range, or the divisor is 0")]
+    /// A sum, a product or a quotient leaves its range, or the divisor is 0. It has the number of the one before.
+    #[error("a result, a size or a place out of its range, or a division by 0")]
     ArithmeticOverflow,
-    #[error("the document itself tells of an error, by \\errmessage")]
+    /// By \errmessage.
+    #[error("the document itself reports an error")]
     ErrorMessage,
-    #[error("a prefix stands before no assignment, or a thing that can't be there follows \\the, \\advance and its kin")]
+    #[error("a prefix, \\advance, \\the or the like before what it can't be applied to")]
     NoAssignment,
-    #[error("a group is closed by another kind than it was opened by, or none is open")]
+    #[error("the end of a group that wasn't begun, or was begun in another way")]
     ExtraGroupEnd,
-    #[error("a macro's use doesn't match its parameter text")]
+    #[error("a macro's use that doesn't fit its definition")]
     UseDiffers,
-    #[error("\\par stands in an argument of a macro that isn't \\long")]
+    /// \par in an argument of a macro that isn't \long.
+    #[error("the end of a paragraph in a macro's argument")]
     ParagraphInArgument,
-    #[error("an argument has an end-group token without its begin")]
+    #[error("the end of a group in a macro's argument, without its begin")]
     GroupEndInArgument,
-    #[error("\\else, \\or or \\fi stands without its conditional")]
+    #[error("\\else, \\or or \\fi without its conditional")]
     ExtraConditionalWord,
-    #[error("an \\outer macro or the end of a file comes in text that is skipped")]
+    #[error("the end of a file, or an \\outer macro, in text that is skipped")]
     IncompleteConditional,
-    #[error("an \\outer macro or the end of a file comes in an argument, a definition, a text or a preamble")]
+    /// Also in a preamble.
+    #[error("the end of a file, or an \\outer macro, in an argument, a definition or the like")]
     IncompleteText,
-    #[error("a begin-group token is needed and isn't there")]
+    #[error("the begin of a group is missing")]
     MissingBeginGroup,
-    #[error("a name is needed and isn't there")]
+    #[error("a name is missing")]
     MissingName,
-    #[error("a file that is to be read is absent")]
+    #[error("there is no such file")]
     FileAbsent,
-    #[error("a font's file is absent or broken, its size is out of range, or it would be the 256th font")]
+    /// It is absent or broken, its size is out of range, or it would be the 256th font.
+    #[error("a font that can't be loaded")]
     BadFont,
-    #[error("the parameters of a definition don't count up from #1, or its body names one that it hasn't")]
+    /// Those of a definition don't count up from #1, or its body names one that it hasn't.
+    #[error("parameters that aren't #1, #2 and so on, or one that isn't there")]
     BadParameter,
-    #[error("something other than characters stands between \\csname and \\endcsname, or \\endcsname stands alone")]
+    /// Also where \endcsname stands alone.
+    #[error("\\csname and \\endcsname don't enclose characters alone")]
     BadName,
-    #[error("a command isn't allowed in the mode")]
+    /// In this mode.
+    #[error("a command or character that may not stand here")]
     NotAllowed,
-    #[error("a box would nest more than 500 deep")]
+    #[error("boxes that nest more than 500 deep")]
     TooDeep,
-    #[error("a 256th group would be open")]
+    /// A 256th would be.
+    #[error("more than 255 groups are open")]
     TooManyGroups,
-    #[error("a page is finished while \\box255 holds something")]
+    #[error("a page is complete while \\box255 is in use")]
     OccupiedPageBox,
-    #[error("the group of \\output doesn't end where its tokens do, or leaves something in \\box255")]
+    #[error("\\output doesn't end with its group, or leaves \\box255 in use")]
     UnbalancedOutput,
-    #[error("\\output was carried out too often without a page")]
+    #[error("\\output ran too often without shipping a page")]
     TooManyDeadCycles,
-    #[error("glue shrinks infinitely where it may not")]
+    #[error("shrinking without limit where it may not be")]
     InfiniteShrink,
-    #[error("a part of a formula can't stand where it does, or lacks its font")]
+    /// A part of it can't stand where it does, or lacks its font.
+    #[error("a formula that isn't one")]
     BadFormula,
-    #[error("an alignment character is out of place, or a preamble is wrong")]
+    /// An alignment character is out of place, or a preamble is wrong.
+    #[error("an alignment whose columns, cells or rows don't fit together")]
     MisplacedAlignment,
-    #[error("\\patterns or \\hyphenation holds what it may not, or comes too late")]
+    /// \patterns or \hyphenation holds what it may not, or comes too late.
+    #[error("patterns or exceptions of hyphenation that aren't ones")]
     BadHyphenation,
-    #[error("a box is needed and isn't there, or is of the wrong kind")]
+    #[error("a box is missing, or is of another kind than is wanted")]
     MissingBox,
-    #[error("the magnification is outside 1 to 32768, or changed after its first use")]
+    /// Or it changed after its first use.
+    #[error("a magnification that isn't 1 to 32768, or isn't that of the first page")]
     BadMagnification,
-    #[error("the main file has ended and no \\end was carried out")]
+    /// The main file has ended and no \end was carried out.
+    #[error("the document ended without \\end")]
     NoEnd,
 }
+
+/// All errors, in the order of their numbers.
+const ALL: [TexError; 37] = [
+    TexError::InvalidCharacter,
+    TexError::Undefined,
+    TexError::MissingNumber,
+    TexError::MissingUnit,
+    TexError::NumberOutOfRange,
+    TexError::DimensionTooLarge,
+    TexError::IntegerTooLarge,
+    TexError::SizeOutOfRange,
+    TexError::ArithmeticOverflow,
+    TexError::ErrorMessage,
+    TexError::NoAssignment,
+    TexError::ExtraGroupEnd,
+    TexError::UseDiffers,
+    TexError::ParagraphInArgument,
+    TexError::GroupEndInArgument,
+    TexError::ExtraConditionalWord,
+    TexError::IncompleteConditional,
+    TexError::IncompleteText,
+    TexError::MissingBeginGroup,
+    TexError::MissingName,
+    TexError::FileAbsent,
+    TexError::BadFont,
+    TexError::BadParameter,
+    TexError::BadName,
+    TexError::NotAllowed,
+    TexError::TooDeep,
+    TexError::TooManyGroups,
+    TexError::OccupiedPageBox,
+    TexError::UnbalancedOutput,
+    TexError::TooManyDeadCycles,
+    TexError::InfiniteShrink,
+    TexError::BadFormula,
+    TexError::MisplacedAlignment,
+    TexError::BadHyphenation,
+    TexError::MissingBox,
+    TexError::BadMagnification,
+    TexError::NoEnd,
+];
 
 impl TexError {
     /// The error's number, as a run prints it.
@@ -128,4 +191,31 @@ impl TexError {
             TexError::NoEnd => 36,
         }
     }
+    /// All errors, each once.
+    #[tactic(auto, unfolding(crate::specs::Errors::all))]
+    pub fn all() -> &'static [TexError]
+        ensures { result.now ≡ all }
+    {
+        &ALL
+    }
+
+    /// The error of this number, and None exactly where there is none. Of the two that have the number 8 it is the first.
+    pub fn of_number(number: u8) -> Option<TexError>
+        ensures numbered { IfSome result (λ e. number_of e ≡ number) }
+        ensures each { (e : TexError) → number_of e ≡ number → (result ≡ Some e) ⊎ (e ≡ ArithmeticOverflow) }
+    {
+        first_numbered(TexError::all(), number)
+    }
+}
+
+/// The first of these errors that has this number.
+fn first_numbered(errors: &[TexError], number: u8) -> Option<TexError>
+    ensures { result ≡ numbered errors.now number }
+{
+    for error in errors {
+        if error.number() == number {
+            return Some(*error);
+        }
+    }
+    None
 }

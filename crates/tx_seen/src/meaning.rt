@@ -64,7 +64,7 @@ impl Kept for Meaning {
 }
 
 /// Whether both are the same primitive. No two have the same name.
-fn same_primitive(one: Primitive, other: Primitive) -> bool
+pub(crate) fn same_primitive(one: Primitive, other: Primitive) -> bool
     ensures { IsTrue result ↔ (one ≡ other) }
 {
     one.name() == other.name()

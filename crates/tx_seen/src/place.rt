@@ -1,24 +1,12 @@
 //! Places of the table.
 ghost use Rattle.std.specs.Prelude.{◌≡◌};
+ghost use Rattle.tx_seen.specs.Places.{is_size, place_of};
 
+use crate::meaning::same_primitive;
 use std::alloc::AllocError;
 use tx_char::ControlName;
-use tx_prim::{DimensionParameter, IntegerParameter};
-
-/// One of the codes that a character has beside its category (The TeXbook, chapters 7, 8, 12 and 17).
-#[derive(Clone, Copy)]
-pub enum CharacterCode {
-    /// \lccode.
-    LowerCase,
-    /// \uccode.
-    UpperCase,
-    /// \sfcode.
-    SpaceFactor,
-    /// \mathcode.
-    Math,
-    /// \delcode.
-    Delimiter,
-}
+use tx_list::Kept;
+use tx_prim::{CharacterCode, DimensionParameter, IntegerParameter, Numbered, Primitive};
 
 /// A place of the table (TeX: The Program, part 17).
 #[derive(Drop)]
@@ -56,5 +44,49 @@ impl Clone for Place {
             Place::Integer(parameter) => Ok(Place::Integer(*parameter)),
             Place::Dimension(parameter) => Ok(Place::Dimension(*parameter)),
         }
+    }
+}
+
+impl Kept for Place {
+    fn share(&self) -> Result<Self, AllocError> {
+        self.clone()
+    }
+
+    fn same(&self, other: &Self) -> bool {
+        match (self, other) {
+            (Place::Name(one), Place::Name(other)) => one.as_slice() == other.as_slice(),
+            (Place::Active(one), Place::Active(other)) => one == other,
+            (Place::Count(one), Place::Count(other)) => one == other,
+            (Place::Dimen(one), Place::Dimen(other)) => one == other,
+            (Place::Category(one), Place::Category(other)) => one == other,
+            (Place::Code(kind, one), Place::Code(also, other)) => kind == also && one == other,
+            (Place::Integer(one), Place::Integer(other)) => same_primitive(
+                Primitive::Integer(*one),
+                Primitive::Integer(*other),
+            ),
+            (Place::Dimension(one), Place::Dimension(other)) => one == other,
+            _ => false,
+        }
+    }
+}
+
+impl Place {
+    /// The place of the register or the code with this number.
+    pub fn numbered(kind: Numbered, number: u8) -> Place
+        ensures { result ≡ place_of kind number }
+    {
+        match kind {
+            Numbered::Count => Place::Count(number),
+            Numbered::Dimen => Place::Dimen(number),
+            Numbered::Category => Place::Category(number),
+            Numbered::Code(code) => Place::Code(code, number),
+        }
+    }
+
+    /// Whether a size stands there, and no number.
+    pub fn is_size(&self) -> bool
+        ensures { result ≡ is_size self.now }
+    {
+        matches!(self, Place::Dimen(_) | Place::Dimension(_))
     }
 }

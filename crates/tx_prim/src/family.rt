@@ -1,0 +1,78 @@
+//! The families of primitives: those of one family take the same behind them, and differ by one word (The TeXbook, chapters 24 to
+//! 26).
+
+/// A prefix of assignments (The TeXbook, chapter 24).
+#[derive(Clone, Copy, PartialEq, Eq)]
+pub enum Prefix {
+    /// \global.
+    Global,
+}
+
+/// What \advance, \multiply and \divide do.
+#[derive(Clone, Copy, PartialEq, Eq)]
+pub enum Operation {
+    Advance,
+    Multiply,
+    Divide,
+}
+
+/// What a name is made to mean by a number (TeX: The Program, section 1222).
+#[derive(Clone, Copy, PartialEq, Eq)]
+pub enum Shorthand {
+    /// \countdef and \dimendef: a register.
+    CountRegister,
+    DimenRegister,
+    /// \chardef: a character.
+    Character,
+    /// \mathchardef: a character of mathematics.
+    MathCharacter,
+}
+
+/// One of the codes that a character has beside its category (The TeXbook, chapters 7, 8, 12 and 17).
+#[derive(Clone, Copy, PartialEq, Eq)]
+pub enum CharacterCode {
+    /// \lccode.
+    LowerCase,
+    /// \uccode.
+    UpperCase,
+    /// \sfcode.
+    SpaceFactor,
+    /// \mathcode.
+    Math,
+    /// \delcode.
+    Delimiter,
+}
+
+/// What a number from 0 to 255 tells apart.
+#[derive(Clone, Copy, PartialEq, Eq)]
+pub enum Numbered {
+    /// The registers of \count.
+    Count,
+    /// The registers of \dimen.
+    Dimen,
+    /// \catcode of a character.
+    Category,
+    /// Another code of a character.
+    Code(CharacterCode),
+}
+
+/// What is made of a dimension.
+#[derive(Clone, Copy, PartialEq, Eq)]
+pub enum SizeKind {
+    /// \kern.
+    Kern,
+}
+
+/// In which lists a rule stands (The TeXbook, chapter 21).
+#[derive(Clone, Copy, PartialEq, Eq)]
+pub enum RuleKind {
+    /// \vrule, in horizontal ones.
+    Vertical,
+}
+
+/// Which list makes a box (The TeXbook, chapter 12).
+#[derive(Clone, Copy, PartialEq, Eq)]
+pub enum BoxKind {
+    /// \hbox: a horizontal one.
+    Horizontal,
+}
