@@ -1,5 +1,4 @@
-pub mod KeptDigits
-pub mod SameRest
-pub mod UnitSpaces
-pub mod Lets
-pub mod ValueScans
+pub mod Steps
+pub mod Numbers
+pub mod Givens
+pub mod Parts

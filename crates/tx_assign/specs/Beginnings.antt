@@ -1,51 +1,47 @@
--- How assignments begin (The TeXbook, chapter 24; TeX: The Program, sections 1208 to 1211).
+-- Left sides of assignments (The TeXbook, chapter 24; TeX: The Program, sections 1208 to 1211 and 1237).
+use Rattle.std.specs.Prelude.{Bool, true, false, Option, Some, None}
 use Rattle.tx_prim.specs.declared.primitive.Primitive.{Primitive}
 use Rattle.tx_prim.specs.declared.primitive.Primitive.TheVariants as primitive
-use Rattle.tx_seen.specs.declared.place.CharacterCode.TheVariants.{LowerCase, UpperCase, SpaceFactor, Math, Delimiter}
-use Rattle.tx_seen.specs.declared.place.Place.{Place}
+use Rattle.tx_prim.specs.declared.family.Numbered.TheVariants as number
 use Rattle.tx_seen.specs.declared.place.Place.TheVariants as place
 use Rattle.tx_seen.specs.declared.meaning.Meaning.{Meaning}
-use Rattle.tx_seen.specs.declared.meaning.Meaning.TheVariants.{Command, CountRegister, DimenRegister}
-use Rattle.tx_assign.specs.declared.begin.Beginning.{Beginning}
-use Rattle.tx_assign.specs.declared.begin.Beginning.TheVariants.{Prefix, Let, Shorthand, Arithmetic, Variable, Nothing}
-use Rattle.tx_assign.specs.declared.types.Numbered.{Numbered}
-use Rattle.tx_assign.specs.declared.types.Numbered.TheVariants as number
-use Rattle.tx_assign.specs.declared.types.Operation.TheVariants.{Advance, Multiply, Divide}
-use Rattle.tx_assign.specs.declared.types.Shorthand.TheVariants as shorthand
-use Rattle.tx_assign.specs.declared.types.Variable.TheVariants as variable
+use Rattle.tx_seen.specs.declared.meaning.Meaning.TheVariants.{Undefined, Command, Character, CharacterNumber, MathNumber, CountRegister, DimenRegister}
+use Rattle.tx_assign.specs.declared.types.Variable.{Variable}
+use Rattle.tx_assign.specs.declared.types.Variable.TheVariants.{Numbered, Standing}
 
-abbrev pub numbered : Numbered → Beginning
-numbered kind = Variable (variable.Numbered kind)
+-- a register or a code, of which a number tells which, and a parameter
+abbrev pub primitive_variable : Primitive → Option Variable
+primitive_variable (primitive.Numbered kind) = Some (Numbered kind)
+primitive_variable (primitive.Integer parameter) = Some (Standing (place.Integer parameter))
+primitive_variable (primitive.Dimension parameter) = Some (Standing (place.Dimension parameter))
+primitive_variable primitive.Relax = None
+primitive_variable primitive.Par = None
+primitive_variable primitive.End = None
+primitive_variable primitive.BeginGroup = None
+primitive_variable primitive.EndGroup = None
+primitive_variable (primitive.Prefix prefix) = None
+primitive_variable primitive.Let = None
+primitive_variable (primitive.Shorthand kind) = None
+primitive_variable (primitive.Arithmetic operation) = None
+primitive_variable (primitive.Sized kind) = None
+primitive_variable (primitive.Rule kind) = None
+primitive_variable (primitive.Box kind) = None
+primitive_variable primitive.Shipout = None
 
-abbrev pub standing : Place → Beginning
-standing place = Variable (variable.Standing place)
+-- a register's name of its own is a left side too
+abbrev pub variable_of : Meaning → Option Variable
+variable_of (Command primitive) = primitive_variable primitive
+variable_of (CountRegister number) = Some (Standing (place.Count number))
+variable_of (DimenRegister number) = Some (Standing (place.Dimen number))
+variable_of Undefined = None
+variable_of (Character code category) = None
+variable_of (CharacterNumber number) = None
+variable_of (MathNumber number) = None
 
--- what each primitive is to assignments
-unfoldable pub primitive_beginning : Primitive → Beginning
-primitive_beginning primitive.Global = Prefix
-primitive_beginning primitive.Let = Let
-primitive_beginning primitive.Countdef = Shorthand shorthand.CountRegister
-primitive_beginning primitive.Dimendef = Shorthand shorthand.DimenRegister
-primitive_beginning primitive.Chardef = Shorthand shorthand.Character
-primitive_beginning primitive.Mathchardef = Shorthand shorthand.MathCharacter
-primitive_beginning primitive.Advance = Arithmetic Advance
-primitive_beginning primitive.Multiply = Arithmetic Multiply
-primitive_beginning primitive.Divide = Arithmetic Divide
-primitive_beginning primitive.Count = numbered number.CountRegister
-primitive_beginning primitive.Dimen = numbered number.DimenRegister
-primitive_beginning primitive.Catcode = numbered number.Category
-primitive_beginning primitive.Lccode = numbered (number.Code LowerCase)
-primitive_beginning primitive.Uccode = numbered (number.Code UpperCase)
-primitive_beginning primitive.Sfcode = numbered (number.Code SpaceFactor)
-primitive_beginning primitive.Mathcode = numbered (number.Code Math)
-primitive_beginning primitive.Delcode = numbered (number.Code Delimiter)
-primitive_beginning (primitive.Integer parameter) = standing (place.Integer parameter)
-primitive_beginning (primitive.Dimension parameter) = standing (place.Dimension parameter)
-primitive_beginning other = Nothing
-
--- what a command is to assignments: a register's name of its own is a left side too
-abbrev pub beginning : Meaning → Beginning
-beginning (Command primitive) = primitive_beginning primitive
-beginning (CountRegister number) = standing (place.Count number)
-beginning (DimenRegister number) = standing (place.Dimen number)
-beginning other = Nothing
+-- \advance and its kin change registers and parameters, but no codes
+abbrev pub is_changeable : Variable → Bool
+is_changeable (Standing place) = true
+is_changeable (Numbered number.Count) = true
+is_changeable (Numbered number.Dimen) = true
+is_changeable (Numbered number.Category) = false
+is_changeable (Numbered (number.Code code)) = false

@@ -5,7 +5,7 @@ use Rattle.tx_num.specs.declared.limits.Range.{Range}
 use Rattle.tx_num.specs.declared.limits.Range.TheVariants.{Integer as Range_integer, Dimen as Range_dimen}
 use Rattle.tx_prim.specs.declared.integer.IntegerParameter.TheVariants.{Globaldefs}
 use Rattle.tx_eqtb.specs.declared.entry.Entry.{Entry}
-use Rattle.tx_eqtb.specs.declared.entry.Entry.TheVariants.{Number}
+use Rattle.tx_eqtb.specs.declared.entry.Entry.TheVariants.{Means, Number}
 use Rattle.tx_eqtb.specs.declared.eqtb.Eqtb.{Eqtb}
 use Rattle.tx_seen.specs.declared.place.Place.{Place}
 use Rattle.tx_seen.specs.declared.place.Place.TheVariants.{Integer}
@@ -19,9 +19,11 @@ use Rattle.tx_assign.specs.declared.types.Carried.{Carried}
 use Rattle.tx_assign.specs.declared.types.Carried.TheVariants.{Done as Carried_done, Refused}
 use Rattle.tx_assign.specs.declared.types.Change.{Change}
 use Rattle.tx_assign.specs.declared.types.Change.TheVariants.{Set, Compute}
-use Rattle.tx_assign.specs.declared.types.Operation.{Operation}
-use Rattle.tx_assign.specs.declared.types.Operation.TheVariants.{Advance, Multiply, Divide}
-use Rattle.tx_assign.specs.Targets.{is_size}
+use Rattle.tx_prim.specs.declared.family.Operation.{Operation}
+use Rattle.tx_prim.specs.declared.family.Operation.TheVariants.{Advance, Multiply, Divide}
+use Rattle.tx_prim.specs.declared.primitive.Primitive.TheVariants.{Relax}
+use Rattle.tx_seen.specs.declared.meaning.Meaning.TheVariants.{Command}
+use Rattle.tx_seen.specs.Places.{is_size}
 
 -- an assignment is global as its prefix says, unless \globaldefs isn't 0: then all are where it is positive, and none is
 -- where it is negative
@@ -58,15 +60,19 @@ abbrev pub assigned_by : Bool → Eqtb → Place → Entry → Eqtb
 assigned_by true stack place value = assigned_everywhere stack place value
 assigned_by false stack place value = assigned stack place value
 
-abbrev pub carried_to : Eqtb → Assignment → Result Entry TexError → Result Eqtb TexError
-carried_to stack a (Err e) = Err e
-carried_to stack a (Ok value) = Ok (assigned_by (is_global (number_at stack.table (Integer Globaldefs)) a.global) stack a.place value)
+abbrev pub carried_to : Eqtb → Assignment → Bool → Result Entry TexError → Result Eqtb TexError
+carried_to stack a global (Err e) = Err e
+carried_to stack a global (Ok value) = Ok (assigned_by (is_global (number_at stack.table (Integer Globaldefs)) global) stack a.place value)
 
--- the table with the assignment carried out
-abbrev pub carried_out : Eqtb → Assignment → Result Eqtb TexError
-carried_out stack a = carried_to stack a (changed_entry stack.table a.place a.change)
+-- the table with the assignment carried out, with \global before it or not
+abbrev pub carried_out : Eqtb → Assignment → Bool → Result Eqtb TexError
+carried_out stack a global = carried_to stack a global (changed_entry stack.table a.place a.change)
 
 -- the assignment is done, or refused with nothing changed
-abbrev pub IsCarried : Eqtb → Assignment → Eqtb → Carried → Type 0
-IsCarried old a new Carried_done = carried_out old a ≡ Ok new
-IsCarried old a new (Refused e) = (carried_out old a ≡ Err e) × (new ≡ old)
+abbrev pub IsCarried : Eqtb → Assignment → Bool → Eqtb → Carried → Type 0
+IsCarried old a global new Carried_done = carried_out old a global ≡ Ok new
+IsCarried old a global new (Refused e) = (carried_out old a global ≡ Err e) × (new ≡ old)
+
+-- a place is to mean \relax
+abbrev pub relaxed : Place → Assignment
+relaxed place = record { place = place; change = Set (Means (Command Relax)) }

@@ -1,9 +1,5 @@
-pub mod Sight
-pub mod Scans
-pub mod Numbers
-pub mod Dimensions
 pub mod Beginnings
 pub mod Targets
 pub mod Assignments
-pub mod Changes
 pub mod Rests
+pub mod Changes

@@ -1,106 +1,78 @@
--- What reading on gives, by what a scan still needs: a scan that is fed token by token means the rest of what it reads.
-use Rattle.std.specs.Prelude.{◌≡◌, ℕ, Bool, ℤ, List, [], ◌∷◌, ◌++◌, Option, Some, None, option_to_list}
-use Rattle.tx_num.specs.Fractions.{signed}
-use Rattle.tx_num.specs.declared.units.PhysicalUnit.{PhysicalUnit}
-use Rattle.tx_num.specs.Units.{size_of}
-use Rattle.tx_num.specs.Decimals.{fraction_of}
-use Rattle.tx_seen.specs.declared.error.TexError.TheVariants.{MissingNumber, NumberOutOfRange}
-use Rattle.tx_assign.specs.declared.scans.Fed.{Fed}
-use Rattle.tx_assign.specs.declared.scans.Fed.TheVariants as fed
-use Rattle.tx_assign.specs.declared.scans.IntScan.{IntScan}
-use Rattle.tx_assign.specs.declared.scans.IntPart.{IntPart}
-use Rattle.tx_assign.specs.declared.scans.IntPart.TheVariants as int
-use Rattle.tx_assign.specs.declared.scans.DimenScan.{DimenScan}
-use Rattle.tx_assign.specs.declared.scans.DimenPart.{DimenPart}
-use Rattle.tx_assign.specs.declared.scans.DimenPart.TheVariants as dimen
+-- The scan of an assignment means the rest of the assignment.
+use Rattle.std.specs.Prelude.{◌≡◌, ℕ, zero, suc, ◌+◌, ◌∷◌, [], List, Option, Some, None}
+use Rattle.tx_seen.specs.declared.place.Place.{Place}
 use Rattle.tx_seen.specs.declared.seen.Seen.{Seen}
-use Rattle.tx_assign.specs.declared.stage.AssignScan.{AssignScan}
-use Rattle.tx_assign.specs.declared.stage.AssignScan.TheVariants as stage
+use Rattle.tx_seen.specs.declared.item.Item.{Item}
+use Rattle.tx_seen.specs.declared.item.Item.TheVariants.{Took}
+use Rattle.tx_seen.specs.declared.fed.Fed.{Fed}
+use Rattle.tx_seen.specs.Readings.{Reading, next}
+use Rattle.tx_scan.specs.Grammars.{name}
+use Rattle.tx_scan.specs.Rests.{HasTakenBy, IsAnswer}
+use Rattle.tx_scan.specs.IntegerRests as integers
+use Rattle.tx_scan.specs.DimensionRests as sizes
+use Rattle.tx_assign.specs.declared.types.Assigning.{Assigning}
 use Rattle.tx_assign.specs.declared.types.Assignment.{Assignment}
-use Rattle.tx_assign.specs.declared.types.Target.TheVariants.{Name}
-use Rattle.tx_assign.specs.Scans.{Scan, Done, Wrong, next, defining, space_after}
-use Rattle.tx_assign.specs.Numbers.{signs, unsigned, character_code, more_digits}
-use Rattle.tx_assign.specs.Dimensions.{Factor, factor, whole_units, fraction, unit_name, second_letter, sized as sized_dimension}
-use Rattle.tx_assign.specs.Assignments.{assignment, prefixed, name, given, value, valued, sized, changed, by_end, arithmetic, behind_number, defined_by, let_behind_name, let_behind_equals, let_token}
+use Rattle.tx_assign.specs.declared.scan.AssignScan.{AssignScan}
+use Rattle.tx_assign.specs.declared.scan.AssignStage.{AssignStage}
+use Rattle.tx_assign.specs.declared.scan.AssignStage.TheVariants as stage
+use Rattle.tx_assign.specs.Assignments.{assignment, arithmetic, behind_number, by_end, changed, given, let_behind_equals, let_behind_name, let_token, sized, valued}
 
--- an answer says what reading gives, whatever tokens are behind
-abbrev pub IsReading : {A T B : Type 0} → (A → List Seen → Scan T) → (B → List Seen) → (List Seen → Scan T) → Fed A T B → Type 0
-IsReading rest_of given_back reading (fed.More new) = (more : List Seen) → reading more ≡ rest_of new more
-IsReading rest_of given_back reading (fed.Done value back) = (more : List Seen) → reading more ≡ Done value (given_back back ++ more)
-IsReading rest_of given_back reading (fed.Wrong e) = (more : List Seen) → reading more ≡ Wrong e
+-- the token behind the number of a register that waits for a value, if one is held
+abbrev pub held_items : ℕ → Option Seen → List Item
+held_items zero behind = []
+held_items (suc n) None = []
+held_items (suc n) (Some t) = Took t ∷ []
 
--- the answer to one more token says what reading on gives
-abbrev pub IsFed : {A T B : Type 0} → (A → List Seen → Scan T) → (B → List Seen) → A → Seen → Fed A T B → Type 0
-IsFed rest_of given_back scan t answer = IsReading rest_of given_back (λ more. rest_of scan (t ∷ more)) answer
+-- the rest of an assignment by the stage of its scan
+abbrev pub stage_rest : AssignStage → AssignScan → List Item → Item → List Item → Reading Assignment
+stage_rest stage.LetName scan behind item more = next (name (item ∷ more)) let_behind_name
+stage_rest stage.LetBehindName scan behind item more = let_behind_name scan.place (item ∷ more)
+stage_rest stage.LetBehindEquals scan behind item more = let_behind_equals scan.place (item ∷ more)
+stage_rest stage.LetToken scan behind item more = let_token scan.place (item ∷ more)
+stage_rest (stage.Operand operation) scan behind item more = arithmetic operation (item ∷ more)
+stage_rest (stage.Number kind operation) scan behind item more = next (integers.rest scan.integer (held_items (integers.held scan.integer) scan.behind) item more) (behind_number operation kind)
+stage_rest (stage.Equals purpose) scan behind item more = given purpose scan.place (item ∷ more)
+stage_rest (stage.By operation) scan behind item more = changed operation scan.place (item ∷ more)
+stage_rest (stage.ByEnd operation) scan behind item more = by_end operation scan.place (item ∷ more)
+stage_rest (stage.Integer purpose) scan behind item more = next (integers.rest scan.integer behind item more) (valued purpose scan.place)
+stage_rest (stage.Size purpose) scan behind item more = next (sizes.rest scan.size behind item more) (sized purpose scan.place)
 
--- a character's code, or the error where there is none
-abbrev pub coded : Option ℕ → List Seen → Scan ℕ
-coded None rest = Wrong MissingNumber
-coded (Some code) rest = Done code rest
+abbrev pub rest : AssignScan → List Item → Item → List Item → Reading Assignment
+rest scan behind item more = stage_rest scan.stage scan behind item more
 
--- a number with its sign
-abbrev pub with_sign : Bool → ℕ → List Seen → Scan ℤ
-with_sign negative n behind = Done (signed negative n) behind
+-- how many tokens are held behind the value
+abbrev pub stage_held : AssignStage → AssignScan → ℕ
+stage_held (stage.Integer purpose) scan = integers.held scan.integer
+stage_held _ scan = 0
 
-abbrev pub int_part_rest : Bool → IntPart → List Seen → Scan ℤ
-int_part_rest negative int.Signs tokens = next (signs negative tokens) (λ negative rest. next (unsigned rest) (with_sign negative))
-int_part_rest negative int.Character tokens = next (character_code tokens) (with_sign negative)
-int_part_rest negative (int.AfterCharacter code) tokens = next (space_after code tokens) (with_sign negative)
-int_part_rest negative (int.Digits n) tokens = next (more_digits n tokens) (with_sign negative)
+abbrev pub held : AssignScan → ℕ
+held scan = stage_held scan.stage scan
 
--- the rest of an integer
-abbrev pub int_rest : IntScan → List Seen → Scan ℤ
-int_rest scan tokens = int_part_rest scan.negative scan.part tokens
+-- how many values are needed at most, unless more tokens need more: those that numbers wait for, and one that may begin
+-- the value behind the number of a register
+abbrev pub stage_needs : AssignStage → ℕ
+stage_needs (stage.Number kind operation) = 1
+stage_needs _ = 0
 
--- the optional space behind a unit, and the dimension that it ends
-abbrev pub unit_rest : Bool → ℕ → List ℕ → PhysicalUnit → List Seen → Scan ℤ
-unit_rest negative whole digits unit rest =
-    next (space_after unit rest) (λ unit behind. sized_dimension negative (size_of unit whole (fraction_of digits)) behind)
+abbrev pub more_needed : AssignScan → ℕ
+more_needed scan = integers.waiting scan.integer + stage_needs scan.stage
 
--- the unit behind whole units and the digits of a fraction
-abbrev pub factor_rest : Bool → Factor → List Seen → Scan ℤ
-factor_rest negative f rest = next (unit_name rest) (unit_rest negative f.whole f.digits)
+-- the scan that has taken these items reads on as the assignment that begins with them
+abbrev pub HasTaken : Assigning → AssignScan → List Item → Type 0
+HasTaken assigning scan taken = HasTakenBy rest held (assignment assigning) scan taken
 
--- whole units without a fraction
-abbrev pub whole_factor : ℕ → List Seen → Scan Factor
-whole_factor code behind = Done (record { whole = code; digits = [] }) behind
+-- a scan of which nothing is read
+abbrev pub IsBegun : Assigning → AssignScan → Type 0
+IsBegun assigning scan = (held scan ≡ 0) × ((behind : List Item) (item : Item) (more : List Item) → rest scan behind item more ≡ assignment assigning (item ∷ more))
 
-abbrev pub dimen_part_rest : Bool → DimenPart → List Seen → Scan ℤ
-dimen_part_rest negative dimen.Signs tokens = next (signs negative tokens) (λ negative rest. next (factor rest) (factor_rest negative))
-dimen_part_rest negative dimen.Character tokens = next (next (character_code tokens) whole_factor) (factor_rest negative)
-dimen_part_rest negative (dimen.AfterCharacter code) tokens = next (next (space_after code tokens) whole_factor) (factor_rest negative)
-dimen_part_rest negative (dimen.Whole n) tokens = next (whole_units n tokens) (factor_rest negative)
-dimen_part_rest negative (dimen.Fraction f) tokens = next (fraction f.whole f.digits tokens) (factor_rest negative)
-dimen_part_rest negative (dimen.Unit f) tokens = next (unit_name tokens) (unit_rest negative f.whole f.digits)
-dimen_part_rest negative (dimen.SecondLetter f unit c) tokens = next (second_letter c unit tokens) (unit_rest negative f.whole f.digits)
-dimen_part_rest negative (dimen.AfterUnit f unit) tokens = unit_rest negative f.whole f.digits unit tokens
+-- an answer to this token says what reading gives of the items behind it
+abbrev pub IsAssigning : ℕ → (List Item → Reading Assignment) → Seen → AssignScan → Fed Assignment → Type 0
+IsAssigning most reading t scan answer = IsAnswer rest held most reading t scan answer
 
--- the rest of a dimension
-abbrev pub dimen_rest : DimenScan → List Seen → Scan ℤ
-dimen_rest scan tokens = dimen_part_rest scan.negative scan.part tokens
+-- an answer to one more token says what reading on gives
+abbrev pub IsFed : AssignScan → Seen → AssignScan → Fed Assignment → Type 0
+IsFed old t new answer = (behind : List Item) → IsAssigning 1 (λ more. rest old behind (Took t) more) t new answer
 
--- a number within the range of its use, or the error where it isn't
-abbrev pub ranged : Option ℕ → List Seen → Scan ℕ
-ranged None rest = Wrong NumberOutOfRange
-ranged (Some n) rest = Done n rest
-
--- the rest of an assignment
-abbrev pub assign_rest : AssignScan → List Seen → Scan Assignment
-assign_rest stage.Start tokens = assignment tokens
-assign_rest stage.Prefixed tokens = prefixed tokens
-assign_rest (stage.Number global operation kind scan) tokens = next (int_rest scan tokens) (behind_number global operation kind)
-assign_rest (stage.LetName global) tokens = next (name tokens) (let_behind_name global)
-assign_rest (stage.ShorthandName global kind) tokens = next (name tokens) (λ n rest. given global (Name n kind) rest)
-assign_rest (stage.Operand global operation) tokens = arithmetic global operation tokens
-assign_rest (stage.Equals global target) tokens = given global target tokens
-assign_rest (stage.By global target) tokens = changed global target tokens
-assign_rest (stage.ByEnd global target) tokens = by_end global target tokens
-assign_rest (stage.Integer global target scan) tokens = next (defining (defined_by target) (int_rest scan tokens)) (valued global target)
-assign_rest (stage.Size global target scan) tokens = next (dimen_rest scan tokens) (sized global target)
-assign_rest (stage.LetBehindName global n) tokens = let_behind_name global n tokens
-assign_rest (stage.LetBehindEquals global n) tokens = let_behind_equals global n tokens
-assign_rest (stage.LetToken global n) tokens = let_token global n tokens
-
--- an answer says what reading an assignment gives
-abbrev pub IsAssigning : (List Seen → Scan Assignment) → Fed AssignScan Assignment (Option Seen) → Type 0
-IsAssigning reading answer = IsReading assign_rest option_to_list reading answer
+-- the scan at the beginning of this stage
+abbrev pub at_stage : AssignStage → Place → AssignScan
+at_stage s p = record { stage = s; place = p; integer = integers.begun_integer; size = sizes.begun_size; behind = None }

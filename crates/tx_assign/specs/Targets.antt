@@ -1,44 +1,31 @@
 -- What assignments give values, and in what ranges (The TeXbook, chapter 24; TeX: The Program, sections 1224 to 1240).
-use Rattle.std.specs.Prelude.{ℕ, ℤ, pos, neg_ℤ, Bool, true, false, ◌&&◌, ◌∷◌, [], int_le, unsigned_abs, slice_index_or}
+use Rattle.std.specs.Prelude.{ℕ, ℤ, pos, neg_ℤ, Bool, false, ◌&&◌, ◌∷◌, [], int_le, unsigned_abs, slice_index_or}
 use Rattle.tx_char.specs.declared.category.Cat.{Cat}
 use Rattle.tx_char.specs.declared.category.Cat.TheVariants as category
-use Rattle.tx_seen.specs.declared.place.CharacterCode.TheVariants.{LowerCase, UpperCase, SpaceFactor, Math, Delimiter}
+use Rattle.tx_prim.specs.declared.family.CharacterCode.TheVariants.{LowerCase, UpperCase, SpaceFactor, Math, Delimiter}
+use Rattle.tx_prim.specs.declared.family.Operation.TheVariants.{Advance, Multiply, Divide}
+use Rattle.tx_prim.specs.declared.family.Shorthand.{Shorthand}
+use Rattle.tx_prim.specs.declared.family.Shorthand.TheVariants as shorthand
 use Rattle.tx_seen.specs.declared.place.Place.{Place}
 use Rattle.tx_seen.specs.declared.place.Place.TheVariants as place
 use Rattle.tx_seen.specs.declared.meaning.Meaning.{Meaning}
 use Rattle.tx_seen.specs.declared.meaning.Meaning.TheVariants as meaning
+use Rattle.tx_seen.specs.Places.{is_size}
 use Rattle.tx_eqtb.specs.declared.entry.Entry.{Entry}
 use Rattle.tx_eqtb.specs.declared.entry.Entry.TheVariants.{Means, InCategory, Number}
 use Rattle.tx_assign.specs.declared.types.Bounds.{Bounds}
 use Rattle.tx_assign.specs.declared.types.Change.{Change}
-use Rattle.tx_assign.specs.declared.types.Change.TheVariants.{Set, Compute}
-use Rattle.tx_assign.specs.declared.types.Numbered.{Numbered}
-use Rattle.tx_assign.specs.declared.types.Numbered.TheVariants as number
-use Rattle.tx_assign.specs.declared.types.Operation.TheVariants.{Advance}
-use Rattle.tx_assign.specs.declared.types.Shorthand.{Shorthand}
-use Rattle.tx_assign.specs.declared.types.Shorthand.TheVariants as shorthand
-use Rattle.tx_assign.specs.declared.types.Target.{Target}
-use Rattle.tx_assign.specs.declared.types.Target.TheVariants.{Variable, Name, Changed}
-
--- the register or the code with this number
-abbrev pub numbered_place : Numbered → ℕ → Place
-numbered_place number.CountRegister n = place.Count n
-numbered_place number.DimenRegister n = place.Dimen n
-numbered_place number.Category n = place.Category n
-numbered_place (number.Code kind) n = place.Code kind n
-
--- whether a size stands at a place, and no number
-abbrev pub is_size : Place → Bool
-is_size (place.Dimen n) = true
-is_size (place.Dimension parameter) = true
-is_size other = false
+use Rattle.tx_assign.specs.declared.types.Change.TheVariants as change
+use Rattle.tx_assign.specs.declared.types.Purpose.{Purpose}
+use Rattle.tx_assign.specs.declared.types.Purpose.TheVariants.{Set, Define, Compute}
 
 -- whether the value of an assignment is a size: what multiplies or divides is a number
-abbrev pub takes_size : Target → Bool
-takes_size (Variable place) = is_size place
-takes_size (Name name kind) = false
-takes_size (Changed place Advance) = is_size place
-takes_size (Changed place other) = false
+abbrev pub takes_size : Purpose → Place → Bool
+takes_size Set place = is_size place
+takes_size (Define kind) place = false
+takes_size (Compute Advance) place = is_size place
+takes_size (Compute Multiply) place = false
+takes_size (Compute Divide) place = false
 
 abbrev bounds : ℤ → ℤ → Bounds
 bounds least greatest = record { least = least; greatest = greatest }
@@ -62,13 +49,16 @@ place_bounds other = all_integers
 
 -- the numbers that a name may stand for
 abbrev pub name_bounds : Shorthand → Bounds
+name_bounds shorthand.CountRegister = up_to 255
+name_bounds shorthand.DimenRegister = up_to 255
+name_bounds shorthand.Character = up_to 255
 name_bounds shorthand.MathCharacter = up_to 32767
-name_bounds other = up_to 255
 
-abbrev pub target_bounds : Target → Bounds
-target_bounds (Variable place) = place_bounds place
-target_bounds (Name name kind) = name_bounds kind
-target_bounds (Changed place operation) = all_integers
+-- the numbers that a purpose takes, at a place
+abbrev pub purpose_bounds : Purpose → Place → Bounds
+purpose_bounds Set place = place_bounds place
+purpose_bounds (Define kind) place = name_bounds kind
+purpose_bounds (Compute operation) place = all_integers
 
 abbrev pub is_within : Bounds → ℤ → Bool
 is_within b n = int_le b.least n && int_le n b.greatest
@@ -92,18 +82,14 @@ meaning_by shorthand.DimenRegister n = meaning.DimenRegister (unsigned_abs n)
 meaning_by shorthand.Character n = meaning.CharacterNumber (unsigned_abs n)
 meaning_by shorthand.MathCharacter n = meaning.MathNumber (unsigned_abs n)
 
--- where the target is, and what becomes of it by a value
-abbrev pub place_of : Target → Place
-place_of (Variable place) = place
-place_of (Name place kind) = place
-place_of (Changed place operation) = place
-
-abbrev pub change_by : Target → ℤ → Change
-change_by (Variable place) n = Set (entry_at place n)
-change_by (Name name kind) n = Set (Means (meaning_by kind n))
-change_by (Changed place operation) n = Compute operation n
+-- what becomes of a place by a number
+abbrev pub change_by : Purpose → Place → ℤ → Change
+change_by Set place n = change.Set (entry_at place n)
+change_by (Define kind) place n = change.Set (Means (meaning_by kind n))
+change_by (Compute operation) place n = change.Compute operation n
 
 -- what becomes of it by a size
-abbrev pub change_by_size : Target → ℤ → Change
-change_by_size (Changed place operation) size = Compute operation size
-change_by_size other size = Set (Number size)
+abbrev pub change_by_size : Purpose → ℤ → Change
+change_by_size Set size = change.Set (Number size)
+change_by_size (Define kind) size = change.Set (Number size)
+change_by_size (Compute operation) size = change.Compute operation size

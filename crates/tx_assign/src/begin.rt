@@ -1,79 +1,49 @@
-//! How assignments begin.
+//! Left sides of assignments.
 ghost use Rattle.std.specs.Prelude.{◌≡◌};
 ghost use Rattle.tx_assign.specs.Beginnings as spec;
 
-use crate::types::{Numbered, Operation, Shorthand, Variable};
-use tx_prim::Primitive;
-use tx_seen::{CharacterCode, Meaning, Place};
+use crate::types::Variable;
+use tx_prim::{Numbered, Primitive};
+use tx_seen::{Meaning, Place};
 
-/// What a command is to assignments (TeX: The Program, section 1210).
-#[derive(Drop)]
-pub enum Beginning {
-    /// \global.
-    Prefix,
-    /// \let.
-    Let,
-    /// \countdef and its kin.
-    Shorthand(Shorthand),
-    /// \advance and its kin.
-    Arithmetic(Operation),
-    /// The left side of an assignment.
-    Variable(Variable),
-    /// It begins none.
-    Nothing,
-}
-
-/// A primitive, as assignments begin with it.
-#[tactic(auto, unfolding(crate::specs::Beginnings::primitive_beginning))]
-fn primitive_beginning(primitive: Primitive) -> Beginning
-    ensures { result ≡ spec.primitive_beginning primitive }
+/// A left side that is a primitive.
+fn of_primitive(primitive: Primitive) -> Option<Variable>
+    ensures { result ≡ spec.primitive_variable primitive }
 {
     match primitive {
-        Primitive::Global => Beginning::Prefix,
-        Primitive::Let => Beginning::Let,
-        Primitive::Countdef => Beginning::Shorthand(Shorthand::CountRegister),
-        Primitive::Dimendef => Beginning::Shorthand(Shorthand::DimenRegister),
-        Primitive::Chardef => Beginning::Shorthand(Shorthand::Character),
-        Primitive::Mathchardef => Beginning::Shorthand(Shorthand::MathCharacter),
-        Primitive::Advance => Beginning::Arithmetic(Operation::Advance),
-        Primitive::Multiply => Beginning::Arithmetic(Operation::Multiply),
-        Primitive::Divide => Beginning::Arithmetic(Operation::Divide),
-        Primitive::Count => numbered(Numbered::CountRegister),
-        Primitive::Dimen => numbered(Numbered::DimenRegister),
-        Primitive::Catcode => numbered(Numbered::Category),
-        Primitive::Lccode => numbered(Numbered::Code(CharacterCode::LowerCase)),
-        Primitive::Uccode => numbered(Numbered::Code(CharacterCode::UpperCase)),
-        Primitive::Sfcode => numbered(Numbered::Code(CharacterCode::SpaceFactor)),
-        Primitive::Mathcode => numbered(Numbered::Code(CharacterCode::Math)),
-        Primitive::Delcode => numbered(Numbered::Code(CharacterCode::Delimiter)),
-        Primitive::Integer(parameter) => standing(Place::Integer(parameter)),
-        Primitive::Dimension(parameter) => standing(Place::Dimension(parameter)),
-        _ => Beginning::Nothing,
+        Primitive::Numbered(kind) => Some(Variable::Numbered(kind)),
+        Primitive::Integer(parameter) => Some(Variable::Standing(Place::Integer(parameter))),
+        Primitive::Dimension(parameter) => Some(Variable::Standing(Place::Dimension(parameter))),
+        Primitive::Relax | Primitive::Par | Primitive::End => None,
+        Primitive::BeginGroup | Primitive::EndGroup => None,
+        Primitive::Prefix(_) | Primitive::Let | Primitive::Shorthand(_) => None,
+        Primitive::Arithmetic(_) => None,
+        Primitive::Sized(_) | Primitive::Rule(_) | Primitive::Box(_) | Primitive::Shipout => None,
     }
 }
 
-/// A left side of which a number tells the place.
-fn numbered(kind: Numbered) -> Beginning
-    ensures { result ≡ spec.numbered kind }
-{
-    Beginning::Variable(Variable::Numbered(kind))
-}
+impl Variable {
+    /// The left side that a token is by its meaning, if it is one (TeX: The Program, sections 1210 and 1224).
+    pub fn of_meaning(meaning: &Meaning) -> Option<Variable>
+        ensures { result ≡ spec.variable_of meaning.now }
+    {
+        match meaning {
+            Meaning::Command(primitive) => of_primitive(*primitive),
+            Meaning::CountRegister(number) => Some(Variable::Standing(Place::Count(*number))),
+            Meaning::DimenRegister(number) => Some(Variable::Standing(Place::Dimen(*number))),
+            Meaning::Undefined | Meaning::Character(_, _) => None,
+            Meaning::CharacterNumber(_) | Meaning::MathNumber(_) => None,
+        }
+    }
 
-/// A left side that is a place.
-fn standing(place: Place) -> Beginning
-    ensures { result ≡ spec.standing place }
-{
-    Beginning::Variable(Variable::Standing(place))
-}
-
-/// What a command or a character is to assignments, by its meaning.
-pub fn begins_with(meaning: &Meaning) -> Beginning
-    ensures { result ≡ spec.beginning meaning.now }
-{
-    match meaning {
-        Meaning::Command(primitive) => primitive_beginning(*primitive),
-        Meaning::CountRegister(number) => standing(Place::Count(*number)),
-        Meaning::DimenRegister(number) => standing(Place::Dimen(*number)),
-        _ => Beginning::Nothing,
+    /// Whether \advance and its kin may change it: registers and parameters, but no codes (TeX: The Program, section 1237).
+    pub(crate) fn is_changeable(&self) -> bool
+        ensures { result ≡ spec.is_changeable self.now }
+    {
+        match self {
+            Variable::Standing(_) => true,
+            Variable::Numbered(Numbered::Count | Numbered::Dimen) => true,
+            Variable::Numbered(Numbered::Category | Numbered::Code(_)) => false,
+        }
     }
 }

@@ -4,13 +4,12 @@ ghost use Rattle.tx_num.specs.Limits.{limit};
 ghost use Rattle.tx_assign.specs.Changes as spec;
 ghost use Rattle.tx_assign.specs.Changes.{IsCarried};
 
-use crate::target::is_size;
-use crate::types::{Assignment, Carried, Change, Operation};
+use crate::types::{Assignment, Carried, Change};
 use std::alloc::AllocError;
 use tx_eqtb::{Entry, Eqtb};
 use tx_num::{Range, x_over_n};
-use tx_prim::IntegerParameter;
-use tx_seen::{Place, TexError};
+use tx_prim::{IntegerParameter, Operation, Primitive};
+use tx_seen::{Meaning, Place, TexError};
 
 /// Whether an assignment is global, with this value of \globaldefs.
 fn is_global(globaldefs: i32, prefixed: bool) -> bool
@@ -29,7 +28,7 @@ fn is_global(globaldefs: i32, prefixed: bool) -> bool
 fn range_of(place: &Place) -> Range
     ensures { result ≡ spec.range_of place.now }
 {
-    if is_size(place) {
+    if place.is_size() {
         Range::Dimen
     } else {
         Range::Integer
@@ -89,16 +88,27 @@ fn changed_entry(range: Range, number: i32, change: Change) -> Result<Entry, Tex
     }
 }
 
-/// Carries an assignment out; it is refused where a result leaves its range or a divisor is 0, and then nothing has changed.
-/// After want of memory, its only error, the table may only be dropped.
-pub fn carry_out(table: &mut Eqtb, assignment: Assignment) -> Result<Carried, AllocError>
-    ensures ok { IfOk result (IsCarried table.old assignment table.new) }
+/// The assignment by which a place means \relax, as a name does while \chardef and its kin define it (TeX: The Program, section
+/// 1224).
+pub fn relaxed(place: Place) -> Assignment
+    ensures { result ≡ spec.relaxed place }
 {
-    let Assignment {
-        global,
+    Assignment {
         place,
-        change,
-    } = assignment;
+        change: Change::Set(Entry::Means(Meaning::Command(Primitive::Relax))),
+    }
+}
+
+/// Carries an assignment out, with \global before it or not; it is refused where a result leaves its range or a divisor is
+/// 0, and then nothing has changed. After want of memory, its only error, the table may only be dropped.
+pub fn carry_out(
+    table: &mut Eqtb,
+    assignment: Assignment,
+    global: bool,
+) -> Result<Carried, AllocError>
+    ensures ok { IfOk result (IsCarried table.old assignment global table.new) }
+{
+    let Assignment { place, change } = assignment;
     let number = table.number(&place);
     let entry = match changed_entry(range_of(&place), number, change) {
         Ok(entry) => entry,

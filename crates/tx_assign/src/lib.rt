@@ -1,34 +1,26 @@
 //! Assignments to TeX's table (The TeXbook, chapter 24; TeX: The Program, part 49): they are scanned token by token, with
-//! the numbers and dimensions in them, and carried out on the table.
+//! the values that they need, and carried out on the table. Prefixes, and the names that \chardef and its kin define, are
+//! read before by the caller.
 //!
-//! Proved: an assignment is read exactly as the grammar of tokens says, and carried out exactly as defined. Only tested:
-//! that grammar and ranges are TeX's, on documents that Knuth's TeX reads alike.
+//! Proved: an assignment is read exactly as the grammar of tokens and values says, with no more values than tokens and one,
+//! and carried out exactly as defined. Only tested: that grammar and ranges are TeX's, on documents that Knuth's TeX reads
+//! alike.
 //!
-//! Read `sight`, what a token means to an assignment; how values are scanned: `scans`, `integer`, `fraction`, `dimension`;
-//! then `types`, `begin`, `target`, `stage`, `values` and `naming`; and how an assignment is carried out: `carrying`; last
-//! `clones`. Tokens, what they mean and the errors are tx_seen's.
+//! Read `types` and `begin`, what stands on left sides; `target`, in what ranges values are; `scan`, `stage`, `naming`,
+//! `values` and `giving`, how an assignment is read; and `carrying`, how it is carried out. Scans of numbers are tx_scan's.
 #![tactic(auto)]
 
 mod begin;
 mod carrying;
 mod clones;
-mod dimension;
-mod fraction;
-mod integer;
+mod giving;
 mod naming;
-mod scans;
-mod sight;
+mod scan;
 mod stage;
 mod target;
 mod types;
 mod values;
 
-pub use begin::{Beginning, begins_with};
-pub use carrying::carry_out;
-pub use fraction::Digits;
-pub use scans::{DimenFed, DimenPart, DimenScan, Factor, Fed, IntFed, IntPart, IntScan};
-pub use sight::see;
-pub use stage::{AssignFed, AssignScan};
-pub use types::{
-    Assignment, Bounds, Carried, Change, Numbered, Operation, Shorthand, Target, Variable,
-};
+pub use carrying::{carry_out, relaxed};
+pub use scan::AssignScan;
+pub use types::{Assigning, Assignment, Carried, Change, Purpose, Variable};

@@ -1,94 +1,92 @@
-//! Names that are given a meaning, token by token (TeX: The Program, sections 1215, 1221 and 1224).
-ghost use Rattle.std.specs.Prelude.{◌≡◌, ◌∷◌, List};
-ghost use Rattle.tx_seen.specs.declared.seen.Seen.{Seen};
-ghost use Rattle.tx_assign.specs.Assignments.{let_to as spec_let_to, name as name_read, name_or_space};
-ghost use Rattle.tx_assign.specs.Rests.{IsAssigning, assign_rest};
+//! \let, token by token (TeX: The Program, sections 1215 and 1221).
+ghost use Rattle.std.specs.Prelude.{◌≡◌, ◌∷◌, IfOk};
+ghost use Rattle.tx_seen.specs.declared.item.Item.TheVariants.{Took};
+ghost use Rattle.tx_seen.specs.Readings.{next};
+ghost use Rattle.tx_scan.specs.Grammars.{name};
+ghost use Rattle.tx_scan.specs.Supplied.{NeedsNoMore};
+ghost use Rattle.tx_scan.specs.IntegerRests.{waiting};
+ghost use Rattle.tx_assign.specs.Assignments as spec;
+ghost use Rattle.tx_assign.specs.Rests.{IsAssigning, more_needed};
 
-use crate::scans::Fed;
-use crate::stage::{AssignFed, AssignScan};
-use crate::types::{Assignment, Change, Shorthand, Target};
-use tx_char::{Cat, Token};
+use crate::scan::{AssignScan, AssignStage};
+use crate::types::{Assignment, Change};
+use std::alloc::AllocError;
 use tx_eqtb::Entry;
-use tx_seen::{Place, Seen, TexError};
+use tx_scan::NameScan;
+use tx_seen::{Fed, Seen, Want};
 
-/// What a token is where a name is needed.
-#[derive(Drop)]
-pub enum NameRead {
-    /// A space, which is skipped.
-    Space,
-    /// A name or an active character, whose meaning stands at this place.
-    Name(Place),
-    /// Neither.
-    Missing,
-}
-
-/// What a token is where a name is needed.
-fn read_name(token: Token) -> NameRead
-    ensures { result ≡ name_or_space token }
-{
-    match token {
-        Token::Name(name) => NameRead::Name(Place::Name(name)),
-        Token::Character(_, Cat::Space) => NameRead::Space,
-        Token::Character(code, Cat::Active) => NameRead::Name(Place::Active(code)),
-        Token::Character(_, _) | Token::FrozenRelax => NameRead::Missing,
+// The only error of each of these is that no more owners of a name or a meaning can be counted.
+impl AssignScan {
+    /// The scan goes on with this stage, for which the next token is taken as it stands.
+    fn raw(&mut self, stage: AssignStage) -> Fed<Assignment>
+        ensures scan { self.new ≡ record self.old { stage = stage } }
+        ensures answer { result ≡ Fed.More Want.Raw }
+    {
+        self.stage = stage;
+        Fed::More(Want::Raw)
     }
-}
 
-/// The name that \let defines.
-pub(crate) fn feed_let_name(global: bool, token: Seen) -> AssignFed
-    ensures { IsAssigning (λ more. assign_rest (AssignScan.LetName global) (token ∷ more)) result }
-{
-    match read_name(token.token) {
-        NameRead::Space => Fed::More(AssignScan::LetName(global)),
-        NameRead::Name(name) => Fed::More(AssignScan::LetBehindName(global, name)),
-        NameRead::Missing => Fed::Wrong(TexError::MissingName),
+    /// The place is to mean what a token means.
+    fn let_to(&self, token: &Seen) -> Result<Assignment, AllocError>
+        ensures { IfOk result (λ assignment. assignment ≡ spec.let_to self.now.place token.now) }
+    {
+        Ok(Assignment {
+            place: self.place.clone()?,
+            change: Change::Set(Entry::Means(token.meaning.clone()?)),
+        })
     }
-}
 
-/// The name that is to stand for a number.
-pub(crate) fn feed_shorthand_name(global: bool, kind: Shorthand, token: Seen) -> AssignFed
-    ensures { IsAssigning (λ more. assign_rest (AssignScan.ShorthandName global kind) (token ∷ more)) result }
-{
-    match read_name(token.token) {
-        NameRead::Space => Fed::More(AssignScan::ShorthandName(global, kind)),
-        NameRead::Name(name) => Fed::More(AssignScan::Equals(global, Target::Name(name, kind))),
-        NameRead::Missing => Fed::Wrong(TexError::MissingName),
+    /// The name that is defined.
+    pub(crate) fn feed_name(&mut self, token: &Seen) -> Result<Fed<Assignment>, AllocError>
+        requires { self.old.stage ≡ AssignStage.LetName }
+        ensures answer { IfOk result (IsAssigning 0 (λ more. next (name (Took token.now ∷ more)) spec.let_behind_name) token.now self.new) }
+        ensures needed { IfOk result (NeedsNoMore (waiting self.old.integer) (more_needed self.new)) }
+    {
+        let mut name = NameScan::new();
+        match name.feed(token)? {
+            Fed::More(want) => Ok(Fed::More(want)),
+            Fed::Done(place, _) => {
+                self.set_place(place);
+                Ok(self.raw(AssignStage::LetBehindName))
+            }
+            Fed::Need(kind) => Ok(Fed::Need(kind)),
+            Fed::Wrong(error) => Ok(Fed::Wrong(error)),
+        }
     }
-}
 
-/// Spaces, an optional `=`, or the token that the name is to be like.
-pub(crate) fn feed_behind_name(global: bool, name: Place, token: Seen) -> AssignFed
-    ensures { IsAssigning (λ more. assign_rest (AssignScan.LetBehindName global name) (token ∷ more)) result }
-{
-    if token.is_space() {
-        return Fed::More(AssignScan::LetBehindName(global, name));
+    /// Spaces, an optional `=`, or the token that the name is to be like.
+    pub(crate) fn feed_behind_name(&mut self, token: &Seen) -> Result<Fed<Assignment>, AllocError>
+        ensures answer { IfOk result (IsAssigning 0 (λ more. spec.let_behind_name self.old.place (Took token.now ∷ more)) token.now self.new) }
+        ensures needed { IfOk result (NeedsNoMore (waiting self.old.integer) (more_needed self.new)) }
+    {
+        if token.is_space() {
+            return Ok(self.raw(AssignStage::LetBehindName));
+        }
+        if token.is_other(b'=') {
+            return Ok(self.raw(AssignStage::LetBehindEquals));
+        }
+        let assignment = self.let_to(token)?;
+        Ok(Fed::Done(assignment, 0))
     }
-    if token.is_other(b'=') {
-        return Fed::More(AssignScan::LetBehindEquals(global, name));
-    }
-    let_to(global, name, token)
-}
 
-/// An optional space behind the `=`, or the token that the name is to be like.
-pub(crate) fn feed_behind_equals(global: bool, name: Place, token: Seen) -> AssignFed
-    ensures { IsAssigning (λ more. assign_rest (AssignScan.LetBehindEquals global name) (token ∷ more)) result }
-{
-    if token.is_space() {
-        return Fed::More(AssignScan::LetToken(global, name));
+    /// An optional space behind the `=`, or the token that the name is to be like.
+    pub(crate) fn feed_behind_equals(&mut self, token: &Seen) -> Result<Fed<Assignment>, AllocError>
+        ensures answer { IfOk result (IsAssigning 0 (λ more. spec.let_behind_equals self.old.place (Took token.now ∷ more)) token.now self.new) }
+        ensures needed { IfOk result (NeedsNoMore (waiting self.old.integer) (more_needed self.new)) }
+    {
+        if token.is_space() {
+            return Ok(self.raw(AssignStage::LetToken));
+        }
+        let assignment = self.let_to(token)?;
+        Ok(Fed::Done(assignment, 0))
     }
-    let_to(global, name, token)
-}
 
-/// The name is to be like this token.
-pub(crate) fn let_to(global: bool, name: Place, token: Seen) -> AssignFed
-    ensures { IsAssigning (λ more. spec_let_to global name token more) result }
-{
-    Fed::Done(
-        Assignment {
-            global,
-            place: name,
-            change: Change::Set(Entry::Means(token.meaning)),
-        },
-        None,
-    )
+    /// The token that the name is to be like.
+    pub(crate) fn feed_token(&mut self, token: &Seen) -> Result<Fed<Assignment>, AllocError>
+        ensures answer { IfOk result (IsAssigning 0 (λ more. spec.let_token self.old.place (Took token.now ∷ more)) token.now self.new) }
+        ensures needed { IfOk result (NeedsNoMore (waiting self.old.integer) (more_needed self.new)) }
+    {
+        let assignment = self.let_to(token)?;
+        Ok(Fed::Done(assignment, 0))
+    }
 }

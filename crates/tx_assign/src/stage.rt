@@ -1,300 +1,223 @@
 //! Assignments, token by token (The TeXbook, chapter 24; TeX: The Program, part 49).
-ghost use Rattle.std.specs.Prelude.{◌≡◌, ◌∷◌, ◌++◌, [], List, Some, None, IfOk, IsTrue, option_to_list, option_copied};
+ghost use Rattle.std.specs.Prelude.{◌≡◌, ◌≤◌, ◌∷◌, ◌++◌, [], List, Some, None, IfOk};
+ghost use Rattle.tx_seen.specs.declared.item.Item.{Item};
+ghost use Rattle.tx_seen.specs.declared.item.Item.TheVariants.{Took};
 ghost use Rattle.tx_seen.specs.declared.seen.Seen.{Seen};
-ghost use Rattle.tx_assign.specs.Scans.{More};
-ghost use Rattle.tx_assign.specs.Targets.{takes_size};
-ghost use Rattle.tx_assign.specs.Assignments.{behind_number, behind_place, begun, changed, given, left_side, prefixed as behind_prefix, value};
-ghost use Rattle.tx_assign.specs.Rests.{IsAssigning, assign_rest};
+ghost use Rattle.tx_seen.specs.Readings.{Answers};
+ghost use Rattle.tx_scan.specs.Rests.{IsFedBy};
+ghost use Rattle.tx_scan.specs.Supplied.{NeedsNoMore};
+ghost use Rattle.tx_scan.specs.IntegerRests.{waiting};
+ghost use Rattle.tx_assign.specs.Assignments.{assignment, arithmetic, behind_place, by_end, changed, given, left_side, value};
+ghost use Rattle.tx_assign.specs.declared.types.Assigning.{Assigning};
+ghost use Rattle.tx_assign.specs.Rests as rests;
+ghost use Rattle.tx_assign.specs.Rests.{HasTaken, IsAssigning, IsBegun, IsFed, at_stage, more_needed};
 
-use crate::begin::{Beginning, begins_with};
-use crate::naming;
-use crate::scans::{DimenScan, Fed, IntScan};
-use crate::target::{eight_bits, numbered_place};
-use crate::types::{Assignment, Numbered, Operation, Shorthand, Target, Variable};
-use crate::values::{feed_integer, feed_size, feed_value};
+use crate::scan::{AssignScan, AssignStage};
+use crate::types::{Assigning, Assignment, Purpose, Variable};
 use std::alloc::{AllocError, Global};
-use tx_seen::{Place, Seen, TexError};
+use tx_prim::Operation;
+use tx_scan::{DimenScan, EqualsScan, IntScan};
+use tx_seen::{Fed, Place, Seen, TexError, Want};
 
-/// What of an assignment is still to be read. Each stage but the first two knows whether \global stands before it.
-#[derive(Drop)]
-pub enum AssignScan {
-    /// Its first token.
-    Start,
-    /// Its command, behind a prefix; spaces and \relax before it are skipped.
-    Prefixed,
-    /// The number of a register or of a character's code, of which then a value comes, or this operation.
-    Number(bool, Option<Operation>, Numbered, IntScan),
-    /// The name that \let defines.
-    LetName(bool),
-    /// The name that is to stand for a number.
-    ShorthandName(bool, Shorthand),
-    /// What this operation changes.
-    Operand(bool, Operation),
-    /// An optional `=`, with spaces before it.
-    Equals(bool, Target),
-    /// An optional `by`, with spaces before it.
-    By(bool, Target),
-    /// The y of `by`.
-    ByEnd(bool, Target),
-    /// A number.
-    Integer(bool, Target, IntScan),
-    /// A size.
-    Size(bool, Target, DimenScan),
-    /// An optional `=` behind the name that \let defines, with spaces before it, or the token that it is to be like.
-    LetBehindName(bool, Place),
-    /// An optional space behind that `=`, or the token.
-    LetBehindEquals(bool, Place),
-    /// The token.
-    LetToken(bool, Place),
-}
-
-/// What an assignment's scan answers to a token; at most one token isn't part of it.
-pub type AssignFed = Fed<AssignScan, Assignment, Option<Seen>>;
-
-/// The scan goes on with this stage.
-fn on(stage: AssignScan) -> AssignFed
-    ensures { result ≡ Fed.More stage }
+/// The place where nothing is read of one.
+fn unread() -> Place
+    ensures { result ≡ Place.Count 0 }
 {
-    Fed::More(stage)
-}
-
-/// A value is to be read.
-fn to_value(global: bool, target: Target) -> AssignScan
-    ensures { (more : List Seen) → assign_rest result more ≡ value global target more }
-{
-    if target.takes_size() {
-        AssignScan::Size(global, target, DimenScan::new())
-    } else {
-        AssignScan::Integer(global, target, IntScan::new())
-    }
-}
-
-/// What comes behind the place on a left side.
-fn to_place(global: bool, operation: Option<Operation>, place: Place) -> AssignScan
-    ensures { (more : List Seen) → assign_rest result more ≡ behind_place global operation place more }
-{
-    match operation {
-        None => AssignScan::Equals(global, Target::Variable(place)),
-        Some(operation) => AssignScan::By(global, Target::Changed(place, operation)),
-    }
-}
-
-/// What comes behind the command on a left side.
-fn to_side(global: bool, operation: Option<Operation>, side: Variable) -> AssignScan
-    ensures { (more : List Seen) → assign_rest result more ≡ left_side global operation side more }
-{
-    match side {
-        Variable::Standing(place) => to_place(global, operation, place),
-        Variable::Numbered(kind) => AssignScan::Number(global, operation, kind, IntScan::new()),
-    }
-}
-
-/// What comes behind an assignment's command.
-fn begin(global: bool, begins: Beginning) -> AssignFed
-    ensures { IsAssigning (λ more. begun global (behind_prefix more) begins more) result }
-{
-    match begins {
-        Beginning::Prefix => on(AssignScan::Prefixed),
-        Beginning::Let => on(AssignScan::LetName(global)),
-        Beginning::Shorthand(kind) => on(AssignScan::ShorthandName(global, kind)),
-        Beginning::Arithmetic(operation) => on(AssignScan::Operand(global, operation)),
-        Beginning::Variable(side) => on(to_side(global, None, side)),
-        Beginning::Nothing => Fed::Wrong(TexError::NoAssignment),
-    }
+    Place::Count(0)
 }
 
 impl AssignScan {
-    /// The place of the name that is being defined and means \relax until its value is read, if there is one.
-    pub fn defined(&self) -> Option<&Place>
-        ensures { assign_rest self.now [] ≡ More (option_copied result) }
+    /// The scan at the beginning of this stage.
+    fn at(alloc: Global, stage: AssignStage, place: Place) -> AssignScan
+        ensures { result ≡ at_stage stage place }
     {
-        match self {
-            AssignScan::Equals(_, target) => target.defined(),
-            AssignScan::Integer(_, target, _) => target.defined(),
-            _ => None,
+        AssignScan {
+            stage,
+            place,
+            integer: IntScan::new(alloc),
+            size: DimenScan::new(alloc),
+            behind: None,
         }
     }
 
-    /// Takes one token. Its only error is want of memory.
-    pub fn feed(self, alloc: Global, token: Seen) -> Result<AssignFed, AllocError>
-        ensures { IfOk result (IsAssigning (λ more. assign_rest self (token ∷ more))) }
+    /// The scan of an assignment behind this command, of which nothing is read. It takes no memory.
+    pub fn new(alloc: Global, assigning: Assigning) -> AssignScan
+        ensures begun { IsBegun assigning result }
+        ensures taken { HasTaken assigning result [] }
+        ensures needed { more_needed result ≤ 1 }
     {
-        match self {
-            AssignScan::Start => Ok(feed_first(token)),
-            AssignScan::Prefixed => Ok(feed_prefixed(token)),
-            AssignScan::Number(global, operation, kind, scan) => {
-                feed_number(alloc, global, operation, kind, scan, token)
+        match assigning {
+            Assigning::Let => AssignScan::at(alloc, AssignStage::LetName, unread()),
+            Assigning::Arithmetic(operation) => {
+                AssignScan::at(alloc, AssignStage::Operand(operation), unread())
             }
-            AssignScan::LetName(global) => Ok(naming::feed_let_name(global, token)),
-            AssignScan::ShorthandName(global, kind) => Ok(naming::feed_shorthand_name(
-                global, kind, token,
-            )),
-            AssignScan::Operand(global, operation) => Ok(feed_operand(global, operation, token)),
-            AssignScan::Equals(global, target) => feed_equals(alloc, global, target, token),
-            AssignScan::By(global, target) => feed_by(alloc, global, target, token),
-            AssignScan::ByEnd(global, target) => Ok(feed_by_end(global, target, token)),
-            AssignScan::Integer(global, target, scan) => Ok(feed_integer(
-                global, target, scan, token,
-            )),
-            AssignScan::Size(global, target, scan) => feed_size(alloc, global, target, scan, token),
-            AssignScan::LetBehindName(global, name) => Ok(naming::feed_behind_name(
-                global, name, token,
-            )),
-            AssignScan::LetBehindEquals(global, name) => Ok(naming::feed_behind_equals(
-                global, name, token,
-            )),
-            AssignScan::LetToken(global, name) => Ok(naming::let_to(global, name, token)),
+            Assigning::Variable(Variable::Numbered(kind)) => {
+                AssignScan::at(alloc, AssignStage::Number(kind, None), unread())
+            }
+            Assigning::Variable(Variable::Standing(place)) => {
+                AssignScan::at(alloc, AssignStage::Equals(Purpose::Set), place)
+            }
+            Assigning::Named(place, kind) => {
+                AssignScan::at(alloc, AssignStage::Equals(Purpose::Define(kind)), place)
+            }
         }
     }
-}
 
-/// The first token of an assignment.
-fn feed_first(token: Seen) -> AssignFed
-    ensures { IsAssigning (λ more. assign_rest AssignScan.Start (token ∷ more)) result }
-{
-    if token.is_undefined() {
-        return Fed::Wrong(TexError::Undefined);
+    /// Takes one token, at first and after More. The answer is what reading gives of all that was taken. Its only error is
+    /// want of memory.
+    pub fn feed(&mut self, token: &Seen) -> Result<Fed<Assignment>, AllocError>
+        ensures answer { (assigning : Assigning) → (taken : List Item) → HasTaken assigning self.old taken → IfOk result (Answers (assignment assigning) (HasTaken assigning) (taken ++ Took token.now ∷ []) self.new) }
+        ensures part { IfOk result (IsFedBy rests.rest rests.held self.old token.now self.new) }
+        ensures fed { IfOk result (IsFed self.old token.now self.new) }
+        ensures needed { IfOk result (NeedsNoMore (more_needed self.old) (more_needed self.new)) }
+    {
+        self.behind(token)
     }
-    begin(false, begins_with(&token.meaning))
-}
 
-/// Behind a prefix a space or \relax, or the command.
-fn feed_prefixed(token: Seen) -> AssignFed
-    ensures { IsAssigning (λ more. assign_rest AssignScan.Prefixed (token ∷ more)) result }
-{
-    if token.is_undefined() {
-        return Fed::Wrong(TexError::Undefined);
+    /// What it is behind one more token. Its only error is want of memory.
+    fn behind(&mut self, token: &Seen) -> Result<Fed<Assignment>, AllocError>
+        ensures fed { IfOk result (IsFed self.old token.now self.new) }
+        ensures needed { IfOk result (NeedsNoMore (more_needed self.old) (more_needed self.new)) }
+    {
+        match self.stage {
+            AssignStage::LetName => self.feed_name(token),
+            AssignStage::LetBehindName => self.feed_behind_name(token),
+            AssignStage::LetBehindEquals => self.feed_behind_equals(token),
+            AssignStage::LetToken => self.feed_token(token),
+            AssignStage::Operand(operation) => Ok(self.feed_operand(operation, token)),
+            AssignStage::Number(kind, operation) => self.feed_number(kind, operation, token),
+            AssignStage::Equals(purpose) => self.feed_equals(purpose, token),
+            AssignStage::By(operation) => self.feed_by(operation, token),
+            AssignStage::ByEnd(operation) => Ok(self.feed_by_end(operation, token)),
+            AssignStage::Integer(purpose) => self.feed_integer(purpose, token),
+            AssignStage::Size(purpose) => self.feed_size(purpose, token),
+        }
     }
-    if token.is_space() || token.is_relax() {
-        return on(AssignScan::Prefixed);
-    }
-    begin(true, begins_with(&token.meaning))
-}
 
-/// The number of a left side. Its only error is want of memory.
-fn feed_number(
-    alloc: Global,
-    global: bool,
-    operation: Option<Operation>,
-    kind: Numbered,
-    scan: IntScan,
-    token: Seen,
-) -> Result<AssignFed, AllocError>
-    ensures { IfOk result (IsAssigning (λ more. assign_rest (AssignScan.Number global operation kind scan) (token ∷ more))) }
-{
-    match scan.feed(token) {
-        Fed::More(scan) => Ok(on(AssignScan::Number(global, operation, kind, scan))),
-        Fed::Done(number, back) => end_number(alloc, global, operation, kind, number, back),
-        Fed::Wrong(error) => Ok(Fed::Wrong(error)),
+    /// This is assigned to.
+    pub(crate) fn set_place(&mut self, place: Place)
+        ensures { self.new ≡ record self.old { place = place } }
+    {
+        self.place = place;
     }
-}
 
-/// The number of a left side is whole. Its only error is want of memory.
-fn end_number(
-    alloc: Global,
-    global: bool,
-    operation: Option<Operation>,
-    kind: Numbered,
-    number: i64,
-    back: Option<Seen>,
-) -> Result<AssignFed, AllocError>
-    ensures { IfOk result (IsAssigning (λ more. behind_number global operation kind number (option_to_list back ++ more))) }
-{
-    let Some(number) = eight_bits(number) else {
-        return Ok(Fed::Wrong(TexError::NumberOutOfRange));
-    };
-    let place = numbered_place(kind, number);
-    match back {
-        Some(token) => feed_place(alloc, global, operation, place, token),
-        None => Ok(on(to_place(global, operation, place))),
+    /// The scan goes on with this stage, for which the next token is expanded.
+    pub(crate) fn on(&mut self, stage: AssignStage) -> Fed<Assignment>
+        ensures scan { self.new ≡ record self.old { stage = stage } }
+        ensures answer { result ≡ Fed.More Want.Expanded }
+    {
+        self.stage = stage;
+        Fed::More(Want::Expanded)
     }
-}
 
-/// The first token behind the place on a left side. Its only error is want of memory.
-fn feed_place(
-    alloc: Global,
-    global: bool,
-    operation: Option<Operation>,
-    place: Place,
-    token: Seen,
-) -> Result<AssignFed, AllocError>
-    ensures { IfOk result (IsAssigning (λ more. behind_place global operation place (token ∷ more))) }
-{
-    match operation {
-        None => feed_equals(alloc, global, Target::Variable(place), token),
-        Some(operation) => feed_by(alloc, global, Target::Changed(place, operation), token),
+    /// What comes behind the place on a left side.
+    pub(crate) fn to_place(&mut self, operation: Option<Operation>) -> Fed<Assignment>
+        ensures answer { (t : Seen) → IsAssigning 0 (λ more. behind_place operation self.old.place more) t self.new result }
+        ensures needed { NeedsNoMore (waiting self.old.integer) (more_needed self.new) result }
+    {
+        match operation {
+            None => self.on(AssignStage::Equals(Purpose::Set)),
+            Some(operation) => self.on(AssignStage::By(operation)),
+        }
     }
-}
 
-/// What \advance and its kin change.
-fn feed_operand(global: bool, operation: Operation, token: Seen) -> AssignFed
-    ensures { IsAssigning (λ more. assign_rest (AssignScan.Operand global operation) (token ∷ more)) result }
-{
-    if token.is_undefined() {
-        return Fed::Wrong(TexError::Undefined);
+    /// The first token behind the place on a left side. Its only error is want of memory.
+    pub(crate) fn feed_place(
+        &mut self,
+        operation: Option<Operation>,
+        token: &Seen,
+    ) -> Result<Fed<Assignment>, AllocError>
+        ensures answer { IfOk result (IsAssigning 0 (λ more. behind_place operation self.old.place (Took token.now ∷ more)) token.now self.new) }
+        ensures needed { IfOk result (NeedsNoMore (waiting self.old.integer) (more_needed self.new)) }
+    {
+        match operation {
+            None => self.feed_equals(Purpose::Set, token),
+            Some(operation) => self.feed_by(operation, token),
+        }
     }
-    match begins_with(&token.meaning) {
-        Beginning::Variable(side) if side.is_changeable() => on(to_side(
-            global,
-            Some(operation),
-            side,
-        )),
-        _ => Fed::Wrong(TexError::NoAssignment),
-    }
-}
 
-/// An optional `=`, or the first token of the value. Its only error is want of memory.
-fn feed_equals(
-    alloc: Global,
-    global: bool,
-    target: Target,
-    token: Seen,
-) -> Result<AssignFed, AllocError>
-    ensures { IfOk result (IsAssigning (λ more. given global target (token ∷ more))) }
-{
-    if token.is_undefined() {
-        return Ok(Fed::Wrong(TexError::Undefined));
+    /// What comes behind the command on the left side that an operation changes.
+    fn to_side(&mut self, operation: Operation, side: Variable) -> Fed<Assignment>
+        ensures answer { (t : Seen) → IsAssigning 0 (λ more. left_side (Some operation) side more) t self.new result }
+        ensures needed { NeedsNoMore (waiting self.old.integer) (more_needed self.new) result }
+    {
+        match side {
+            Variable::Standing(place) => {
+                self.set_place(place);
+                self.to_place(Some(operation))
+            }
+            Variable::Numbered(kind) => {
+                self.integer.restart();
+                self.on(AssignStage::Number(kind, Some(operation)))
+            }
+        }
     }
-    if token.is_space() {
-        return Ok(on(AssignScan::Equals(global, target)));
-    }
-    if token.is_other(b'=') {
-        return Ok(on(to_value(global, target)));
-    }
-    feed_value(alloc, global, target, token)
-}
 
-/// An optional `by`, or the first token of the value. Its only error is want of memory.
-fn feed_by(
-    alloc: Global,
-    global: bool,
-    target: Target,
-    token: Seen,
-) -> Result<AssignFed, AllocError>
-    ensures { IfOk result (IsAssigning (λ more. changed global target (token ∷ more))) }
-{
-    if token.is_undefined() {
-        return Ok(Fed::Wrong(TexError::Undefined));
+    /// What \advance and its kin change.
+    fn feed_operand(&mut self, operation: Operation, token: &Seen) -> Fed<Assignment>
+        ensures answer { IsAssigning 0 (λ more. arithmetic operation (Took token.now ∷ more)) token.now self.new result }
+        ensures needed { NeedsNoMore (waiting self.old.integer) (more_needed self.new) result }
+    {
+        if token.is_undefined() {
+            return Fed::Wrong(TexError::Undefined);
+        }
+        let Some(side) = Variable::of_meaning(&token.meaning) else {
+            return Fed::Wrong(TexError::NoAssignment);
+        };
+        if side.is_changeable() {
+            self.to_side(operation, side)
+        } else {
+            Fed::Wrong(TexError::NoAssignment)
+        }
     }
-    if token.is_space() {
-        return Ok(on(AssignScan::By(global, target)));
-    }
-    if token.is_key(b'b') {
-        return Ok(on(AssignScan::ByEnd(global, target)));
-    }
-    feed_value(alloc, global, target, token)
-}
 
-/// The y of `by`.
-fn feed_by_end(global: bool, target: Target, token: Seen) -> AssignFed
-    ensures { IsAssigning (λ more. assign_rest (AssignScan.ByEnd global target) (token ∷ more)) result }
-{
-    if token.is_undefined() {
-        return Fed::Wrong(TexError::Undefined);
+    /// An optional `=`, or the first token of the value. Its only error is want of memory.
+    fn feed_equals(&mut self, purpose: Purpose, token: &Seen) -> Result<Fed<Assignment>, AllocError>
+        ensures answer { IfOk result (IsAssigning 0 (λ more. given purpose self.old.place (Took token.now ∷ more)) token.now self.new) }
+        ensures needed { IfOk result (NeedsNoMore (waiting self.old.integer) (more_needed self.new)) }
+    {
+        let mut equals = EqualsScan::new();
+        match equals.feed(token) {
+            Fed::More(want) => {
+                self.stage = AssignStage::Equals(purpose);
+                Ok(Fed::More(want))
+            }
+            Fed::Done(_, 0) => Ok(self.to_value(purpose)),
+            Fed::Done(_, _) => self.feed_value(purpose, token),
+            Fed::Need(kind) => Ok(Fed::Need(kind)),
+            Fed::Wrong(error) => Ok(Fed::Wrong(error)),
+        }
     }
-    if token.is_key(b'y') {
-        on(to_value(global, target))
-    } else {
-        Fed::Wrong(TexError::MissingNumber)
+
+    /// An optional `by`, or the first token of the value. Its only error is want of memory.
+    fn feed_by(&mut self, operation: Operation, token: &Seen) -> Result<Fed<Assignment>, AllocError>
+        ensures answer { IfOk result (IsAssigning 0 (λ more. changed operation self.old.place (Took token.now ∷ more)) token.now self.new) }
+        ensures needed { IfOk result (NeedsNoMore (waiting self.old.integer) (more_needed self.new)) }
+    {
+        if token.is_undefined() {
+            return Ok(Fed::Wrong(TexError::Undefined));
+        }
+        if token.is_space() {
+            return Ok(self.on(AssignStage::By(operation)));
+        }
+        if token.is_key(b'b') {
+            return Ok(self.on(AssignStage::ByEnd(operation)));
+        }
+        self.feed_value(Purpose::Compute(operation), token)
+    }
+
+    /// The y of `by`.
+    fn feed_by_end(&mut self, operation: Operation, token: &Seen) -> Fed<Assignment>
+        ensures answer { IsAssigning 0 (λ more. by_end operation self.old.place (Took token.now ∷ more)) token.now self.new result }
+        ensures needed { NeedsNoMore (waiting self.old.integer) (more_needed self.new) result }
+    {
+        if token.is_undefined() {
+            return Fed::Wrong(TexError::Undefined);
+        }
+        if token.is_key(b'y') {
+            self.to_value(Purpose::Compute(operation))
+        } else {
+            Fed::Wrong(TexError::MissingNumber)
+        }
     }
 }

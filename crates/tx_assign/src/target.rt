@@ -1,47 +1,15 @@
 //! What assignments give values, and in what ranges (The TeXbook, chapter 24; TeX: The Program, sections 1224 to 1240).
-ghost use Rattle.std.specs.Prelude.{◌≡◌, ◌≤◌, ◌≤ℤ◌, ℕ, List, pos, neg_ℤ, IsTrue, unsigned_abs, option_copied};
+ghost use Rattle.std.specs.Prelude.{◌≡◌, ◌≤ℤ◌, pos, neg_ℤ, IsTrue};
 ghost use Rattle.tx_assign.specs.Targets as spec;
-ghost use Rattle.tx_assign.specs.Assignments.{below, defined_by, is_changeable};
-ghost use Rattle.tx_assign.specs.Rests.{ranged};
-ghost use Rattle.tx_seen.specs.declared.seen.Seen.{Seen};
 
-use crate::types::{Bounds, Change, Numbered, Operation, Shorthand, Target, Variable};
+use crate::types::{Bounds, Change, Purpose};
 use tx_char::Cat;
 use tx_eqtb::Entry;
-use tx_seen::{CharacterCode, Meaning, Place};
+use tx_prim::{CharacterCode, Operation, Shorthand};
+use tx_seen::{Meaning, Place};
 
 /// The greatest integer.
 const GREATEST: i64 = 2_147_483_647;
-
-/// The number as a register's or a character's.
-pub(crate) fn eight_bits(number: i64) -> Option<u8>
-    ensures { (rest : List Seen) → below 256 number rest ≡ ranged result rest }
-{
-    if 0 <= number && number < 256 {
-        Some(number as u8)
-    } else {
-        None
-    }
-}
-
-/// The register or the code with this number.
-pub(crate) fn numbered_place(kind: Numbered, number: u8) -> Place
-    ensures { result ≡ spec.numbered_place kind number }
-{
-    match kind {
-        Numbered::CountRegister => Place::Count(number),
-        Numbered::DimenRegister => Place::Dimen(number),
-        Numbered::Category => Place::Category(number),
-        Numbered::Code(code) => Place::Code(code, number),
-    }
-}
-
-/// Whether a size stands at a place, and no number.
-pub(crate) fn is_size(place: &Place) -> bool
-    ensures { result ≡ spec.is_size place.now }
-{
-    matches!(place, Place::Dimen(_) | Place::Dimension(_))
-}
 
 /// The numbers up to this one.
 fn up_to(greatest: i64) -> Bounds
@@ -80,6 +48,16 @@ fn place_bounds(place: &Place) -> Bounds
     }
 }
 
+/// The numbers that a name may stand for.
+fn name_bounds(kind: Shorthand) -> Bounds
+    ensures { result ≡ spec.name_bounds kind }
+{
+    match kind {
+        Shorthand::CountRegister | Shorthand::DimenRegister | Shorthand::Character => up_to(255),
+        Shorthand::MathCharacter => up_to(32767),
+    }
+}
+
 /// The category of a number, 0 to 15; of a greater one Other.
 fn category(number: u8) -> Cat
     ensures { result ≡ spec.category_numbered number }
@@ -111,93 +89,57 @@ fn meaning_by(kind: Shorthand, number: i64) -> Meaning
     }
 }
 
-impl Variable {
-    /// Whether \advance and its kin may change it: registers and parameters, but no codes.
-    pub(crate) fn is_changeable(&self) -> bool
-        ensures { result ≡ is_changeable self.now }
+impl Purpose {
+    /// Whether it takes a size, at a place: what multiplies or divides is a number.
+    pub(crate) fn takes_size(self, place: &Place) -> bool
+        ensures { result ≡ spec.takes_size self place.now }
     {
         match self {
-            Variable::Standing(_) => true,
-            Variable::Numbered(Numbered::CountRegister) => true,
-            Variable::Numbered(Numbered::DimenRegister) => true,
-            Variable::Numbered(_) => false,
-        }
-    }
-}
-
-impl Target {
-    /// Whether the value of the assignment is a size: what multiplies or divides is a number.
-    pub(crate) fn takes_size(&self) -> bool
-        ensures { result ≡ spec.takes_size self.now }
-    {
-        match self {
-            Target::Variable(place) => is_size(place),
-            Target::Name(_, _) => false,
-            Target::Changed(place, Operation::Advance) => is_size(place),
-            Target::Changed(_, _) => false,
+            Purpose::Set | Purpose::Compute(Operation::Advance) => place.is_size(),
+            Purpose::Define(_) | Purpose::Compute(Operation::Multiply | Operation::Divide) => false,
         }
     }
 
-    /// The place of the name that is defined, if it is one.
-    pub(crate) fn defined(&self) -> Option<&Place>
-        ensures { option_copied result ≡ defined_by self.now }
+    /// The numbers that it takes, at a place.
+    fn bounds(self, place: &Place) -> Bounds
+        ensures { result ≡ spec.purpose_bounds self place.now }
     {
         match self {
-            Target::Name(name, _) => Some(name),
-            _ => None,
+            Purpose::Set => place_bounds(place),
+            Purpose::Define(kind) => name_bounds(kind),
+            Purpose::Compute(_) => all_integers(),
         }
     }
 
-    /// The numbers that it may be given.
-    fn bounds(&self) -> Bounds
-        ensures { result ≡ spec.target_bounds self.now }
+    /// Whether it takes this number, at a place.
+    pub(crate) fn takes(self, place: &Place, number: i64) -> bool
+        ensures { result ≡ spec.is_within (spec.purpose_bounds self place.now) number }
     {
-        match self {
-            Target::Variable(place) => place_bounds(place),
-            Target::Name(_, Shorthand::MathCharacter) => up_to(32767),
-            Target::Name(_, _) => up_to(255),
-            Target::Changed(_, _) => all_integers(),
-        }
-    }
-
-    /// Whether it may be given this number.
-    pub(crate) fn takes(&self, number: i64) -> bool
-        ensures { result ≡ spec.is_within (spec.target_bounds self.now) number }
-    {
-        let bounds = self.bounds();
+        let bounds = self.bounds(place);
         bounds.least <= number && number <= bounds.greatest
     }
 
-    /// What becomes of it by a number that it may be given.
-    pub(crate) fn change_by(&self, number: i64) -> Change
-        requires { IsTrue (spec.is_within (spec.target_bounds self.now) number) }
-        ensures { result ≡ spec.change_by self.now number }
+    /// What becomes of a place by a number that it takes.
+    pub(crate) fn change_by(self, place: &Place, number: i64) -> Change
+        requires { IsTrue (spec.is_within (spec.purpose_bounds self place.now) number) }
+        ensures { result ≡ spec.change_by self place.now number }
     {
         match self {
-            Target::Variable(place) => Change::Set(entry_at(place, number)),
-            Target::Name(_, kind) => Change::Set(Entry::Means(meaning_by(*kind, number))),
-            Target::Changed(_, operation) => Change::Compute(*operation, number as i32),
+            Purpose::Set => Change::Set(entry_at(place, number)),
+            Purpose::Define(kind) => Change::Set(Entry::Means(meaning_by(kind, number))),
+            Purpose::Compute(operation) => Change::Compute(operation, number as i32),
         }
     }
 
-    /// What becomes of it by a size in sp.
-    pub(crate) fn change_by_size(&self, size: i32) -> Change
-        ensures { result ≡ spec.change_by_size self.now size }
+    /// What becomes of a place by a size in sp.
+    pub(crate) fn change_by_size(self, size: i64) -> Change
+        requires low { neg_ℤ (pos 1073741823) ≤ℤ size }
+        requires high { size ≤ℤ pos 1073741823 }
+        ensures { result ≡ spec.change_by_size self size }
     {
         match self {
-            Target::Changed(_, operation) => Change::Compute(*operation, size),
-            _ => Change::Set(Entry::Number(size)),
-        }
-    }
-
-    /// Its place.
-    pub(crate) fn into_place(self) -> Place
-        ensures { result ≡ spec.place_of self }
-    {
-        match self {
-            Target::Variable(place) => place,
-            Target::Name(place, _) => place,
-            Target::Changed(place, _) => place,
+            Purpose::Set | Purpose::Define(_) => Change::Set(Entry::Number(size as i32)),
+            Purpose::Compute(operation) => Change::Compute(operation, size as i32),
         }
     }
 }

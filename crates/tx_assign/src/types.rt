@@ -1,26 +1,7 @@
-//! What assignments are, once they are read whole.
+//! What assignments are: what they begin with, and what they are once they are read whole.
 use tx_eqtb::Entry;
-use tx_seen::{CharacterCode, Place, TexError};
-
-/// What \advance, \multiply and \divide do.
-#[derive(Clone, Copy, PartialEq, Eq)]
-pub enum Operation {
-    Advance,
-    Multiply,
-    Divide,
-}
-
-/// What a command that is followed by a number tells apart by it.
-#[derive(Clone, Copy)]
-pub enum Numbered {
-    /// Registers of \count and \dimen.
-    CountRegister,
-    DimenRegister,
-    /// The categories of characters.
-    Category,
-    /// Other codes of characters.
-    Code(CharacterCode),
-}
+use tx_prim::{Numbered, Operation, Shorthand};
+use tx_seen::{Place, TexError};
 
 /// The left side of an assignment (The TeXbook, chapter 24).
 #[derive(Drop)]
@@ -31,27 +12,28 @@ pub enum Variable {
     Standing(Place),
 }
 
-/// What a name is made to mean by a number (TeX: The Program, section 1222).
-#[derive(Clone, Copy, PartialEq, Eq)]
-pub enum Shorthand {
-    /// \countdef and \dimendef: a register.
-    CountRegister,
-    DimenRegister,
-    /// \chardef: a character.
-    Character,
-    /// \mathchardef: a character of mathematics.
-    MathCharacter,
+/// What the command of an assignment is.
+#[derive(Drop)]
+pub enum Assigning {
+    /// \let.
+    Let,
+    /// \advance and its kin.
+    Arithmetic(Operation),
+    /// A left side.
+    Variable(Variable),
+    /// \chardef and its kin with the name behind them, whose meaning stands at this place.
+    Named(Place, Shorthand),
 }
 
-/// What an assignment gives a value.
-#[derive(Drop)]
-pub enum Target {
-    /// This place.
-    Variable(Place),
-    /// The name at this place, which is to stand for a number.
-    Name(Place, Shorthand),
-    /// This place, by its own value and this operation.
-    Changed(Place, Operation),
+/// What a number or a size is for, at a place.
+#[derive(Clone, Copy)]
+pub enum Purpose {
+    /// It is to stand there.
+    Set,
+    /// The name there is to stand for it.
+    Define(Shorthand),
+    /// This is done with it to the number there.
+    Compute(Operation),
 }
 
 /// The numbers from the least to the greatest.
@@ -79,11 +61,9 @@ pub enum Carried {
     Refused(TexError),
 }
 
-/// An assignment with all that belongs to it.
+/// An assignment with all that belongs to it but its prefixes.
 #[derive(Drop)]
 pub struct Assignment {
-    /// Whether \global stands before it.
-    pub global: bool,
     pub place: Place,
     pub change: Change,
 }

@@ -1,91 +1,183 @@
-//! The values of assignments, token by token.
-ghost use Rattle.std.specs.Prelude.{◌≡◌, ◌∷◌, ◌++◌, List, IfOk, IsTrue, option_to_list};
+//! The numbers and sizes in assignments, token by token and value by value.
+ghost use Rattle.std.specs.Prelude.{◌≡◌, ◌≤ℤ◌, ◌∷◌, ◌++◌, [], pos, neg_ℤ, List, IfOk};
+ghost use Rattle.tx_seen.specs.declared.item.Item.{Item};
+ghost use Rattle.tx_seen.specs.declared.item.Item.TheVariants.{Took};
 ghost use Rattle.tx_seen.specs.declared.seen.Seen.{Seen};
-ghost use Rattle.tx_assign.specs.Targets.{is_within, takes_size, target_bounds};
-ghost use Rattle.tx_assign.specs.Assignments.{sized, value, valued};
-ghost use Rattle.tx_assign.specs.Rests.{IsAssigning, assign_rest};
+ghost use Rattle.tx_seen.specs.Readings.{next};
+ghost use Rattle.tx_scan.specs.Rests.{IsEnd};
+ghost use Rattle.tx_scan.specs.Supplied.{NeedsNoMore};
+ghost use Rattle.tx_scan.specs.IntegerRests as integers;
+ghost use Rattle.tx_scan.specs.DimensionRests as sizes;
+ghost use Rattle.tx_assign.specs.Assignments.{behind_number, sized, value, valued};
+ghost use Rattle.tx_assign.specs.Rests.{IsAssigning, IsFed, more_needed};
 
-use crate::scans::{DimenScan, Fed, IntScan};
-use crate::stage::{AssignFed, AssignScan};
-use crate::types::{Assignment, Target};
-use std::alloc::{AllocError, Global};
-use tx_seen::{Seen, TexError};
+use crate::scan::{AssignScan, AssignStage};
+use crate::types::{Assignment, Purpose};
+use std::alloc::AllocError;
+use tx_prim::{Numbered, Operation};
+use tx_scan::byte;
+use tx_seen::{Fed, Place, Seen, TexError};
 
-/// The first token of a value. Its only error is want of memory.
-pub(crate) fn feed_value(
-    alloc: Global,
-    global: bool,
-    target: Target,
-    token: Seen,
-) -> Result<AssignFed, AllocError>
-    ensures { IfOk result (IsAssigning (λ more. value global target (token ∷ more))) }
-{
-    if target.takes_size() {
-        feed_size(alloc, global, target, DimenScan::new(), token)
-    } else {
-        Ok(feed_integer(global, target, IntScan::new(), token))
+// The only error of each of these is want of memory.
+impl AssignScan {
+    /// A value comes next.
+    pub(crate) fn to_value(&mut self, purpose: Purpose) -> Fed<Assignment>
+        ensures answer { (t : Seen) → IsAssigning 0 (λ more. value purpose self.old.place more) t self.new result }
+        ensures needed { NeedsNoMore (integers.waiting self.old.integer) (more_needed self.new) result }
+    {
+        if purpose.takes_size(&self.place) {
+            self.size.restart();
+            self.on(AssignStage::Size(purpose))
+        } else {
+            self.integer.restart();
+            self.on(AssignStage::Integer(purpose))
+        }
     }
-}
 
-/// A number that is given to a target.
-pub(crate) fn feed_integer(global: bool, target: Target, scan: IntScan, token: Seen) -> AssignFed
-    ensures { IsAssigning (λ more. assign_rest (AssignScan.Integer global target scan) (token ∷ more)) result }
-{
-    match scan.feed(token) {
-        Fed::More(scan) => Fed::More(AssignScan::Integer(global, target, scan)),
-        Fed::Done(number, back) => end_integer(global, target, number, back),
-        Fed::Wrong(error) => Fed::Wrong(error),
+    /// The first token of a value.
+    pub(crate) fn feed_value(
+        &mut self,
+        purpose: Purpose,
+        token: &Seen,
+    ) -> Result<Fed<Assignment>, AllocError>
+        ensures answer { IfOk result (IsAssigning 0 (λ more. value purpose self.old.place (Took token.now ∷ more)) token.now self.new) }
+        ensures needed { IfOk result (NeedsNoMore (integers.waiting self.old.integer) (more_needed self.new)) }
+    {
+        if purpose.takes_size(&self.place) {
+            self.size.restart();
+            self.feed_size(purpose, token)
+        } else {
+            self.integer.restart();
+            self.feed_integer(purpose, token)
+        }
     }
-}
 
-/// The number is whole.
-fn end_integer(global: bool, target: Target, number: i64, back: Option<Seen>) -> AssignFed
-    ensures { IsAssigning (λ more. valued global target number (option_to_list back ++ more)) result }
-{
-    if !target.takes(number) {
-        return Fed::Wrong(TexError::NumberOutOfRange);
+    /// A number that is given.
+    pub(crate) fn feed_integer(
+        &mut self,
+        purpose: Purpose,
+        token: &Seen,
+    ) -> Result<Fed<Assignment>, AllocError>
+        ensures answer { IfOk result (λ answer. (behind : List Item) → IsAssigning (integers.most self.old.integer) (λ more. next (integers.rest self.old.integer behind (Took token.now) more) (valued purpose self.old.place)) token.now self.new answer) }
+        ensures needed { IfOk result (NeedsNoMore (integers.waiting self.old.integer) (more_needed self.new)) }
+    {
+        self.stage = AssignStage::Integer(purpose);
+        match self.integer.feed(token)? {
+            Fed::More(want) => Ok(Fed::More(want)),
+            Fed::Need(kind) => Ok(Fed::Need(kind)),
+            Fed::Done(number, back) => self.end_integer(purpose, number, back),
+            Fed::Wrong(error) => Ok(Fed::Wrong(error)),
+        }
     }
-    let change = target.change_by(number);
-    let place = target.into_place();
-    Fed::Done(
-        Assignment {
-            global,
-            place,
-            change,
-        },
-        back,
-    )
-}
 
-/// A size that is given to a target. Its only error is want of memory.
-pub(crate) fn feed_size(
-    alloc: Global,
-    global: bool,
-    target: Target,
-    scan: DimenScan,
-    token: Seen,
-) -> Result<AssignFed, AllocError>
-    ensures { IfOk result (IsAssigning (λ more. assign_rest (AssignScan.Size global target scan) (token ∷ more))) }
-{
-    match scan.feed(alloc, token)? {
-        Fed::More(scan) => Ok(Fed::More(AssignScan::Size(global, target, scan))),
-        Fed::Done(size, back) => Ok(end_size(global, target, size, back)),
-        Fed::Wrong(error) => Ok(Fed::Wrong(error)),
+    /// The number is whole; so many tokens behind it are given back.
+    pub(crate) fn end_integer(
+        &self,
+        purpose: Purpose,
+        number: i64,
+        back: usize,
+    ) -> Result<Fed<Assignment>, AllocError>
+        ensures { IfOk result (IsEnd (λ more. valued purpose self.now.place number more) back) }
+    {
+        if !purpose.takes(&self.place, number) {
+            return Ok(Fed::Wrong(TexError::NumberOutOfRange));
+        }
+        let change = purpose.change_by(&self.place, number);
+        let place = self.place.clone()?;
+        Ok(Fed::Done(Assignment { place, change }, back))
     }
-}
 
-/// The size is whole.
-fn end_size(global: bool, target: Target, size: i32, back: Option<Seen>) -> AssignFed
-    ensures { IsAssigning (λ more. sized global target size (option_to_list back ++ more)) result }
-{
-    let change = target.change_by_size(size);
-    let place = target.into_place();
-    Fed::Done(
-        Assignment {
-            global,
-            place,
-            change,
-        },
-        back,
-    )
+    /// A size that is given.
+    pub(crate) fn feed_size(
+        &mut self,
+        purpose: Purpose,
+        token: &Seen,
+    ) -> Result<Fed<Assignment>, AllocError>
+        ensures answer { IfOk result (λ answer. (behind : List Item) → IsAssigning (sizes.most self.old.size) (λ more. next (sizes.rest self.old.size behind (Took token.now) more) (sized purpose self.old.place)) token.now self.new answer) }
+        ensures needed { IfOk result (NeedsNoMore (integers.waiting self.old.integer) (more_needed self.new)) }
+    {
+        self.stage = AssignStage::Size(purpose);
+        match self.size.feed(token)? {
+            Fed::More(want) => Ok(Fed::More(want)),
+            Fed::Need(kind) => Ok(Fed::Need(kind)),
+            Fed::Done(size, back) => self.end_size(purpose, size, back),
+            Fed::Wrong(error) => Ok(Fed::Wrong(error)),
+        }
+    }
+
+    /// The size is whole; so many tokens behind it are given back.
+    fn end_size(
+        &self,
+        purpose: Purpose,
+        size: i64,
+        back: usize,
+    ) -> Result<Fed<Assignment>, AllocError>
+        requires low { neg_ℤ (pos 1073741823) ≤ℤ size }
+        requires high { size ≤ℤ pos 1073741823 }
+        ensures { IfOk result (IsEnd (λ more. sized purpose self.now.place size more) back) }
+    {
+        let change = purpose.change_by_size(size);
+        let place = self.place.clone()?;
+        Ok(Fed::Done(Assignment { place, change }, back))
+    }
+
+    /// The number of a register or a code, or what ends it.
+    pub(crate) fn feed_number(
+        &mut self,
+        kind: Numbered,
+        operation: Option<Operation>,
+        token: &Seen,
+    ) -> Result<Fed<Assignment>, AllocError>
+        requires { self.old.stage ≡ AssignStage.Number kind operation }
+        ensures fed { IfOk result (IsFed self.old token.now self.new) }
+        ensures needed { IfOk result (NeedsNoMore (more_needed self.old) (more_needed self.new)) }
+    {
+        match self.integer.feed(token)? {
+            Fed::More(want) => Ok(Fed::More(want)),
+            Fed::Need(wanted) => {
+                self.behind = Some(token.clone()?);
+                Ok(Fed::Need(wanted))
+            }
+            Fed::Done(number, 0) => Ok(self.end_number(kind, operation, number)),
+            Fed::Done(number, _) => self.feed_behind_number(kind, operation, number, token),
+            Fed::Wrong(error) => Ok(Fed::Wrong(error)),
+        }
+    }
+
+    /// The number of a register or a code is whole.
+    pub(crate) fn end_number(
+        &mut self,
+        kind: Numbered,
+        operation: Option<Operation>,
+        number: i64,
+    ) -> Fed<Assignment>
+        ensures answer { (t : Seen) → IsAssigning 0 (λ more. behind_number operation kind number more) t self.new result }
+        ensures needed { NeedsNoMore 0 (more_needed self.new) result }
+    {
+        let Some(byte) = byte(number) else {
+            return Fed::Wrong(TexError::NumberOutOfRange);
+        };
+        self.integer.restart();
+        self.set_place(Place::numbered(kind, byte));
+        self.to_place(operation)
+    }
+
+    /// The number of a register or a code is whole, and this token stands behind it.
+    pub(crate) fn feed_behind_number(
+        &mut self,
+        kind: Numbered,
+        operation: Option<Operation>,
+        number: i64,
+        token: &Seen,
+    ) -> Result<Fed<Assignment>, AllocError>
+        ensures answer { IfOk result (IsAssigning 0 (λ more. behind_number operation kind number (Took token.now ∷ more)) token.now self.new) }
+        ensures needed { IfOk result (NeedsNoMore 0 (more_needed self.new)) }
+    {
+        let Some(byte) = byte(number) else {
+            return Ok(Fed::Wrong(TexError::NumberOutOfRange));
+        };
+        self.integer.restart();
+        self.set_place(Place::numbered(kind, byte));
+        self.feed_place(operation, token)
+    }
 }

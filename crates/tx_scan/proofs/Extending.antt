@@ -9,15 +9,18 @@ use Rattle.tx_seen.specs.declared.place.Place.{Place}
 use Rattle.tx_seen.specs.declared.fed.Want.{Want}
 use Rattle.tx_seen.specs.declared.fed.Value.TheVariants.{Int, Dimen, Flag}
 use Rattle.tx_seen.specs.Seen.{is_undefined}
-use Rattle.tx_seen.specs.Readings.{Item, Took, Gave, Reading, More, Need, Done, Wrong, next, ReadsOn}
+use Rattle.tx_seen.specs.declared.item.Item.{Item}
+use Rattle.tx_seen.specs.declared.item.Item.TheVariants.{Took, Gave}
+use Rattle.tx_seen.specs.Readings.{Reading, More, Need, Done, Wrong, next, ReadsOn}
 use Rattle.tx_scan.specs.declared.scans.Radix.{Radix}
 use Rattle.tx_scan.specs.declared.scans.Radix.TheVariants.{Octal, Decimal, Hexadecimal}
-use Rattle.tx_scan.specs.declared.scans.Family.{Family}
+use Rattle.tx_prim.specs.declared.family.Numbered.{Numbered}
 use Rattle.tx_scan.specs.declared.scans.Outer.{Outer}
 use Rattle.tx_scan.specs.declared.scans.Beginning.{Beginning}
 use Rattle.tx_scan.specs.declared.scans.Beginning.TheVariants as begin
-use Rattle.tx_scan.specs.Beginnings.{base, digit, place_of, beginning}
-use Rattle.tx_scan.specs.Integers.{Ended, ended_by, space_after, code_named, character_code, digits, first_digit, given, quantity, byte_of, numbered, with_sign, whole, signed_constant, begun, signs, integer}
+use Rattle.tx_seen.specs.Places.{place_of}
+use Rattle.tx_scan.specs.Beginnings.{base, digit, beginning}
+use Rattle.tx_scan.specs.Integers.{Ended, ended_by, space_after, code_named, character_code, digits, first_digit, in_range, is_in_range, given, quantity, byte_of, numbered, with_sign, whole, signed_constant, begun, signs, integer}
 use Rattle.tx_scan.specs.Laws.{HasEnded}
 use Rattle.tx_scan.proofs.ReadingOn.{on-code, on-digits, on-first}
 
@@ -112,9 +115,13 @@ whole-constant reading outers negative items on closed =
     let stands : reading ((items ++ closed.0) ++ found.0) ≡ Done (record { number = closed.1; behind = [] }) found.0 = rw closed.2 at (on found.0 (items ++ closed.0)) in
     (closed.0 ++ found.0, rw (sym (append_assoc items closed.0 found.0), stands) found.1)
 
+in-range-more : (n : ℤ) (rest : List Item) (want : Want) (b : Bool) (k : ℤ → List Item → Reading ℤ) → is_in_range n ≡ b → (k n rest ≡ More want → ⊥) → next (in_range n rest) k ≡ More want → ⊥
+in-range-more n rest want true k e never h = never (rw e at h)
+in-range-more n rest want false k e never h = let wrong = rw e at h in cc
+
 given-more : (item : Item) (rest : List Item) (want : Want) (k : ℤ → List Item → Reading ℤ) → ((n : ℤ) (rest : List Item) → k n rest ≡ More want → ⊥) → next (given item rest) k ≡ More want → ⊥
-given-more (Gave (Int n)) rest want k never h = never n rest h
-given-more (Gave (Dimen n)) rest want k never h = never n rest h
+given-more (Gave (Int n)) rest want k never h = in-range-more n rest want (is_in_range n) k refl (never n rest) h
+given-more (Gave (Dimen n)) rest want k never h = in-range-more n rest want (is_in_range n) k refl (never n rest) h
 given-more (Gave (Flag b)) rest want k never h = cc
 given-more (Took t) rest want k never h = cc
 
@@ -122,14 +129,14 @@ quantity-more : (place : Place) (items : List Item) (want : Want) (k : ℤ → L
 quantity-more place [] want k never h = cc
 quantity-more place (item ∷ rest) want k never h = given-more item rest want k never h
 
-numbered-more : (family : Family) (o : Option ℕ) (items : List Item) (want : Want) (k : ℤ → List Item → Reading ℤ) → ((n : ℤ) (rest : List Item) → k n rest ≡ More want → ⊥) → next (numbered family o items) k ≡ More want → ⊥
-numbered-more family None items want k never h = cc
-numbered-more family (Some n) items want k never h = quantity-more (place_of family n) items want k never h
+numbered-more : (kind : Numbered) (o : Option ℕ) (items : List Item) (want : Want) (k : ℤ → List Item → Reading ℤ) → ((n : ℤ) (rest : List Item) → k n rest ≡ More want → ⊥) → next (numbered kind o items) k ≡ More want → ⊥
+numbered-more kind None items want k never h = cc
+numbered-more kind (Some n) items want k never h = quantity-more (place_of kind n) items want k never h
 
-whole-more : (outers : List Outer) (n : ℤ) (behind items : List Item) (want : Want) → whole outers n behind items ≡ More want → ⊥
+pub whole-more : (outers : List Outer) (n : ℤ) (behind items : List Item) (want : Want) → whole outers n behind items ≡ More want → ⊥
 whole-more [] n behind items want h = cc
 whole-more (outer ∷ outers) n behind items want h =
-    numbered-more outer.family (byte_of n) items want (λ value rest. whole outers (with_sign outer.negative value) behind rest)
+    numbered-more outer.kind (byte_of n) items want (λ value rest. whole outers (with_sign outer.negative value) behind rest)
     (λ value rest. whole-more outers (with_sign outer.negative value) behind rest want) h
 
 constant-more : (outers : List Outer) (negative : Bool) (r : Reading Ended) (want : Want) → next r (signed_constant outers negative) ≡ More want → r ≡ More want
@@ -154,7 +161,7 @@ ends-begun outers negative rest want begin.Point h later = absurd (cc)
 ends-begun outers negative rest want (begin.Number n) h later = absurd (whole-more outers (with_sign negative (pos n)) [] rest want h)
 ends-begun outers negative rest want (begin.At place) h later =
     absurd (quantity-more place rest want (λ n rest. whole outers (with_sign negative n) [] rest) (λ n rest. whole-more outers (with_sign negative n) [] rest want) h)
-ends-begun outers negative rest want (begin.Numbered family) h later = later (record { negative = negative; family = family } ∷ outers) false h
+ends-begun outers negative rest want (begin.Numbered kind) h later = later (record { negative = negative; kind = kind } ∷ outers) false h
 ends-begun outers negative rest want (begin.Nothing error) h later = absurd (cc)
 
 ends-signs : (outers : List Outer) (negative : Bool) (items : List Item) (want : Want) → signs outers negative items ≡ More want → (more : List Item) × HasEnded (signs outers negative (items ++ more))

@@ -8,7 +8,9 @@ use Rattle.tx_num.specs.Fractions.{nearest}
 use Rattle.tx_num.specs.Decimals.{fraction_of}
 use Rattle.tx_seen.specs.declared.seen.Seen.{Seen}
 use Rattle.tx_seen.specs.Seen.{is_undefined}
-use Rattle.tx_seen.specs.Readings.{Item, Took, Gave, next}
+use Rattle.tx_seen.specs.declared.item.Item.{Item}
+use Rattle.tx_seen.specs.declared.item.Item.TheVariants.{Took, Gave}
+use Rattle.tx_seen.specs.Readings.{next}
 use Rattle.tx_scan.specs.declared.scans.Radix.TheVariants.{Decimal}
 use Rattle.tx_scan.specs.Beginnings.{digit}
 use Rattle.tx_scan.specs.Integers.{unless_space}

@@ -1,67 +1,62 @@
 -- One more token behind the letters of a word.
-use Rattle.std.proofs.Common.{◌≡◌, ℕ, zero, suc, ◌+◌, ◌-◌, ◌≤◌, Bool, true, false, ◌&&◌, not, List, [], ◌∷◌, ◌++◌, length, drop, refl, ap, sym, ◌∙◌, append_assoc, append-nil, add-one, arith, length-append, lit≤}
-use Rattle.std.proofs.lemmas.List.{drop-append-le}
+use Rattle.std.proofs.Common.{◌≡◌, ℕ, zero, suc, ◌+◌, ◌≤◌, Bool, true, false, ◌&&◌, not, List, [], ◌∷◌, ◌++◌, length, drop, refl, ap, sym, ◌∙◌, append_assoc, add-one, arith, length-append}
 use Rattle.tx_seen.specs.declared.fed.Want.TheVariants.{Expanded}
 use Rattle.tx_seen.specs.declared.error.TexError.TheVariants.{Undefined}
 use Rattle.tx_seen.specs.declared.seen.Seen.{Seen}
 use Rattle.tx_seen.specs.Seen.{is_space, is_key, is_undefined}
-use Rattle.tx_seen.specs.Readings.{Item, Took, More, Done, Wrong, tokens, last}
+use Rattle.tx_seen.specs.declared.item.Item.{Item}
+use Rattle.tx_seen.specs.declared.item.Item.TheVariants.{Took}
+use Rattle.tx_seen.specs.Readings.{More, Done, Wrong, ending}
 use Rattle.tx_scan.specs.declared.scans.KeyScan.{KeyScan}
-use Rattle.tx_scan.specs.Keywords.{keyword, letters, begins_with, skips, word_rest, rest, held, HasTaken}
-use Rattle.tx_scan.proofs.Answering.{taken-on, taken-now, last-none, last-kept, tokens-append}
-
-drop-push : (ts : List Item) (i : Item) (n : ℕ) → drop (length (ts ++ i ∷ []) - (n + 1)) (ts ++ i ∷ []) ≡ drop (length ts - n) ts ++ i ∷ []
-drop-push ts i n =
-    let e : length (ts ++ i ∷ []) - (n + 1) ≡ length ts - n = grind (arith, length-append) in
-    let small : length ts - n ≤ length ts = omega arith in
-    rw e (drop-append-le (length ts - n) ts (i ∷ []) small)
-
--- one more token is held
-pub last-push : (n : ℕ) (taken : List Item) (t : Seen) → last (n + 1) (taken ++ Took t ∷ []) ≡ last n taken ++ Took t ∷ []
-last-push n taken t = rw (tokens-append taken (Took t ∷ [])) (drop-push (tokens taken) (Took t) n)
+use Rattle.tx_scan.specs.Keywords.{keyword, letters, begins_with, skips, word_rest, rest}
+use Rattle.tx_scan.proofs.Answering.{ending-none, ending-one, ending-all}
 
 -- a token that is no space before the word is read with its letters
-reads-letter : (word : List ℕ) (read : ℕ) (taken : List Item) (t : Seen) (more : List Item) → skips word read t ≡ false → word_rest word read (last read taken) (Took t) more ≡ letters (drop read word) (last read taken ++ Took t ∷ more) (Took t ∷ more)
-reads-letter word zero taken t more s = rw (s, last-none taken) refl
-reads-letter word (suc read) taken t more s = refl
+reads-letter : (word : List ℕ) (read : ℕ) (behind : List Item) (t : Seen) (more : List Item) → length behind ≤ read → skips word read t ≡ false → word_rest word read behind (Took t) more ≡ letters (drop read word) (behind ++ Took t ∷ more) (Took t ∷ more)
+reads-letter word zero [] t more h s = rw s refl
+reads-letter word zero (i ∷ behind) t more h s = absurd (omega arith)
+reads-letter word (suc read) behind t more h s = refl
 
-read-on : (w : List ℕ) (scan : KeyScan) (taken : List Item) (t : Seen) (more : List Item) → HasTaken w scan taken → skips scan.word scan.read t ≡ false → keyword w ((taken ++ Took t ∷ []) ++ more) ≡ letters (drop scan.read scan.word) (last scan.read taken ++ Took t ∷ more) (Took t ∷ more)
-read-on w scan taken t more h s = taken-on rest held (keyword w) scan taken (Took t) more h ∙ reads-letter scan.word scan.read taken t more s
+-- all held tokens and one more
+all-held : (read : ℕ) (behind : List Item) (t : Seen) → length behind ≤ read → ending (read + 1) (behind ++ Took t ∷ []) ≡ behind ++ Took t ∷ []
+all-held read behind t h =
+    let e : length (behind ++ Took t ∷ []) ≡ length behind + 1 = length-append behind (Took t ∷ []) in
+    ending-all (read + 1) (behind ++ Took t ∷ []) (omega arith)
 
 -- the word was over before
-pub no-letter : (w : List ℕ) (scan : KeyScan) (taken : List Item) (t : Seen) → HasTaken w scan taken → skips scan.word scan.read t ≡ false → drop scan.read scan.word ≡ [] → (more : List Item) → keyword w ((taken ++ Took t ∷ []) ++ more) ≡ Done true (last 1 (taken ++ Took t ∷ []) ++ more)
-no-letter w scan taken t h s e = λ more. read-on w scan taken t more h s ∙ rw (e, last-kept 1 taken t (lit≤ tt)) refl
+pub no-letter : (scan : KeyScan) (behind : List Item) (t : Seen) → length behind ≤ scan.read → skips scan.word scan.read t ≡ false → drop scan.read scan.word ≡ [] → (more : List Item) → rest scan behind (Took t) more ≡ Done true (ending 1 (behind ++ Took t ∷ []) ++ more)
+no-letter scan behind t h s e = λ more. reads-letter scan.word scan.read behind t more h s ∙ rw (e, ending-one behind (Took t)) refl
 
 -- a name without a meaning
-pub undefined-letter : (w : List ℕ) (scan : KeyScan) (taken : List Item) (t : Seen) (c : ℕ) → HasTaken w scan taken → skips scan.word scan.read t ≡ false → drop scan.read scan.word ≡ c ∷ drop (scan.read + 1) scan.word → is_undefined t ≡ true → (more : List Item) → keyword w ((taken ++ Took t ∷ []) ++ more) ≡ Wrong Undefined
-undefined-letter w scan taken t c h s e u = λ more. read-on w scan taken t more h s ∙ rw (e, u) refl
+pub undefined-letter : (scan : KeyScan) (behind : List Item) (t : Seen) (c : ℕ) → length behind ≤ scan.read → skips scan.word scan.read t ≡ false → drop scan.read scan.word ≡ c ∷ drop (scan.read + 1) scan.word → is_undefined t ≡ true → (more : List Item) → rest scan behind (Took t) more ≡ Wrong Undefined
+undefined-letter scan behind t c h s e u = λ more. reads-letter scan.word scan.read behind t more h s ∙ rw (e, u) refl
 
 -- another letter
-pub other-letter : (w : List ℕ) (scan : KeyScan) (taken : List Item) (t : Seen) (c : ℕ) → HasTaken w scan taken → skips scan.word scan.read t ≡ false → drop scan.read scan.word ≡ c ∷ drop (scan.read + 1) scan.word → is_undefined t ≡ false → is_key c t ≡ false → (more : List Item) → keyword w ((taken ++ Took t ∷ []) ++ more) ≡ Done false (last (scan.read + 1) (taken ++ Took t ∷ []) ++ more)
-other-letter w scan taken t c h s e u k = λ more. read-on w scan taken t more h s ∙ rw (e, u, k, last-push scan.read taken t) (ap (λ (items : List Item). Done false items) (sym (append_assoc (last scan.read taken) (Took t ∷ []) more)))
+pub other-letter : (scan : KeyScan) (behind : List Item) (t : Seen) (c : ℕ) → length behind ≤ scan.read → skips scan.word scan.read t ≡ false → drop scan.read scan.word ≡ c ∷ drop (scan.read + 1) scan.word → is_undefined t ≡ false → is_key c t ≡ false → (more : List Item) → rest scan behind (Took t) more ≡ Done false (ending (scan.read + 1) (behind ++ Took t ∷ []) ++ more)
+other-letter scan behind t c h s e u k = λ more.
+    reads-letter scan.word scan.read behind t more h s
+    ∙ rw (e, u, k, all-held scan.read behind t h) (ap (λ (items : List Item). Done false items) (sym (append_assoc behind (Took t ∷ []) more)))
 
-right-letter : (w : List ℕ) (scan : KeyScan) (taken : List Item) (t : Seen) (c : ℕ) (more : List Item) → HasTaken w scan taken → skips scan.word scan.read t ≡ false → drop scan.read scan.word ≡ c ∷ drop (scan.read + 1) scan.word → is_undefined t ≡ false → is_key c t ≡ true → keyword w ((taken ++ Took t ∷ []) ++ more) ≡ letters (drop (scan.read + 1) scan.word) (last scan.read taken ++ Took t ∷ more) more
-right-letter w scan taken t c more h s e u k = read-on w scan taken t more h s ∙ rw (e, u, k) refl
+right-letter : (scan : KeyScan) (behind : List Item) (t : Seen) (c : ℕ) (more : List Item) → length behind ≤ scan.read → skips scan.word scan.read t ≡ false → drop scan.read scan.word ≡ c ∷ drop (scan.read + 1) scan.word → is_undefined t ≡ false → is_key c t ≡ true → rest scan behind (Took t) more ≡ letters (drop (scan.read + 1) scan.word) (behind ++ Took t ∷ more) more
+right-letter scan behind t c more h s e u k = reads-letter scan.word scan.read behind t more h s ∙ rw (e, u, k) refl
 
 -- the last letter of the word
-pub last-letter : (w : List ℕ) (scan : KeyScan) (taken : List Item) (t : Seen) (c : ℕ) → HasTaken w scan taken → skips scan.word scan.read t ≡ false → drop scan.read scan.word ≡ c ∷ drop (scan.read + 1) scan.word → is_undefined t ≡ false → is_key c t ≡ true → drop (scan.read + 1) scan.word ≡ [] → (more : List Item) → keyword w ((taken ++ Took t ∷ []) ++ more) ≡ Done true (last 0 (taken ++ Took t ∷ []) ++ more)
-last-letter w scan taken t c h s e u k f = λ more. right-letter w scan taken t c more h s e u k ∙ rw (f, last-none (taken ++ Took t ∷ [])) refl
+pub last-letter : (scan : KeyScan) (behind : List Item) (t : Seen) (c : ℕ) → length behind ≤ scan.read → skips scan.word scan.read t ≡ false → drop scan.read scan.word ≡ c ∷ drop (scan.read + 1) scan.word → is_undefined t ≡ false → is_key c t ≡ true → drop (scan.read + 1) scan.word ≡ [] → (more : List Item) → rest scan behind (Took t) more ≡ Done true (ending 0 (behind ++ Took t ∷ []) ++ more)
+last-letter scan behind t c h s e u k f = λ more. right-letter scan behind t c more h s e u k ∙ rw (f, ending-none (behind ++ Took t ∷ [])) refl
 
 -- a letter before it
-pub early-letter : (w : List ℕ) (scan : KeyScan) (taken : List Item) (t : Seen) (c d : ℕ) (left : List ℕ) → HasTaken w scan taken → skips scan.word scan.read t ≡ false → drop scan.read scan.word ≡ c ∷ drop (scan.read + 1) scan.word → is_undefined t ≡ false → is_key c t ≡ true → drop (scan.read + 1) scan.word ≡ d ∷ left → keyword w (taken ++ Took t ∷ []) ≡ More Expanded
-early-letter w scan taken t c d left h s e u k f =
-    ap (keyword w) (sym (append-nil (taken ++ Took t ∷ [])))
-    ∙ right-letter w scan taken t c [] h s e u k
-    ∙ rw f refl
+pub early-letter : (scan : KeyScan) (behind : List Item) (t : Seen) (c d : ℕ) (left : List ℕ) → length behind ≤ scan.read → skips scan.word scan.read t ≡ false → drop scan.read scan.word ≡ c ∷ drop (scan.read + 1) scan.word → is_undefined t ≡ false → is_key c t ≡ true → drop (scan.read + 1) scan.word ≡ d ∷ left → rest scan behind (Took t) [] ≡ More Expanded
+early-letter scan behind t c d left h s e u k f = right-letter scan behind t c [] h s e u k ∙ rw f refl
 
 rest-push : (word : List ℕ) (read : ℕ) (behind : List Item) (item : Item) (more : List Item) → word_rest word (read + 1) behind item more ≡ letters (drop (read + 1) word) (behind ++ item ∷ more) (item ∷ more)
 rest-push word read behind item more = rw add-one refl
 
-pub has-letter : (w : List ℕ) (scan : KeyScan) (taken : List Item) (t : Seen) (c : ℕ) → HasTaken w scan taken → skips scan.word scan.read t ≡ false → drop scan.read scan.word ≡ c ∷ drop (scan.read + 1) scan.word → is_undefined t ≡ false → is_key c t ≡ true → (item : Item) (more : List Item) → word_rest scan.word (scan.read + 1) (last (scan.read + 1) (taken ++ Took t ∷ [])) item more ≡ keyword w ((taken ++ Took t ∷ []) ++ item ∷ more)
-has-letter w scan taken t c h s e u k = λ item more.
-    rest-push scan.word scan.read (last (scan.read + 1) (taken ++ Took t ∷ [])) item more
-    ∙ rw (last-push scan.read taken t) (ap (λ (whole : List Item). letters (drop (scan.read + 1) scan.word) whole (item ∷ more)) (append_assoc (last scan.read taken) (Took t ∷ []) (item ∷ more)))
-    ∙ sym (right-letter w scan taken t c (item ∷ more) h s e u k)
+pub has-letter : (scan : KeyScan) (behind : List Item) (t : Seen) (c : ℕ) → length behind ≤ scan.read → skips scan.word scan.read t ≡ false → drop scan.read scan.word ≡ c ∷ drop (scan.read + 1) scan.word → is_undefined t ≡ false → is_key c t ≡ true → (item : Item) (more : List Item) → rest scan behind (Took t) (item ∷ more) ≡ word_rest scan.word (scan.read + 1) (ending (scan.read + 1) (behind ++ Took t ∷ [])) item more
+has-letter scan behind t c h s e u k = λ item more.
+    right-letter scan behind t c (item ∷ more) h s e u k
+    ∙ ap (λ (whole : List Item). letters (drop (scan.read + 1) scan.word) whole (item ∷ more)) (sym (append_assoc behind (Took t ∷ []) (item ∷ more)))
+    ∙ sym (rest-push scan.word scan.read (behind ++ Took t ∷ []) item more)
+    ∙ ap (λ (tokens : List Item). word_rest scan.word (scan.read + 1) tokens item more) (sym (all-held scan.read behind t h))
 
 -- a space before the word
 space-first : (word : List ℕ) (t : Seen) (b s : Bool) → begins_with word t ≡ b → (s && not b) ≡ true → b ≡ false
@@ -85,14 +80,10 @@ skipped-none : (word : List ℕ) (read : ℕ) (t : Seen) → skips word read t �
 skipped-none word zero t s = refl
 skipped-none word (suc read) t s = absurd (cc)
 
-pub skipped-space : (w : List ℕ) (scan : KeyScan) (taken : List Item) (t : Seen) → HasTaken w scan taken → skips scan.word scan.read t ≡ true → keyword w (taken ++ Took t ∷ []) ≡ More Expanded
-skipped-space w scan taken t h s =
-    taken-now rest held (keyword w) scan taken (Took t) h
-    ∙ skipped-by scan.word scan.read (last scan.read taken) t [] s
-    ∙ skipped-more scan.word scan.read t s
+pub skipped-space : (scan : KeyScan) (behind : List Item) (t : Seen) → skips scan.word scan.read t ≡ true → rest scan behind (Took t) [] ≡ More Expanded
+skipped-space scan behind t s = skipped-by scan.word scan.read behind t [] s ∙ skipped-more scan.word scan.read t s
 
-pub has-skipped : (w : List ℕ) (scan : KeyScan) (taken : List Item) (t : Seen) → HasTaken w scan taken → skips scan.word scan.read t ≡ true → (item : Item) (more : List Item) → word_rest scan.word scan.read (last scan.read (taken ++ Took t ∷ [])) item more ≡ keyword w ((taken ++ Took t ∷ []) ++ item ∷ more)
-has-skipped w scan taken t h s = λ item more.
-    ap (λ (read : ℕ). word_rest scan.word read (last scan.read (taken ++ Took t ∷ [])) item more) (skipped-none scan.word scan.read t s)
-    ∙ sym (skipped-by scan.word scan.read (last scan.read taken) t (item ∷ more) s)
-    ∙ sym (taken-on rest held (keyword w) scan taken (Took t) (item ∷ more) h)
+pub has-skipped : (scan : KeyScan) (behind tokens : List Item) (t : Seen) → skips scan.word scan.read t ≡ true → (item : Item) (more : List Item) → rest scan behind (Took t) (item ∷ more) ≡ word_rest scan.word scan.read tokens item more
+has-skipped scan behind tokens t s = λ item more.
+    skipped-by scan.word scan.read behind t (item ∷ more) s
+    ∙ ap (λ (read : ℕ). word_rest scan.word read tokens item more) (sym (skipped-none scan.word scan.read t s))

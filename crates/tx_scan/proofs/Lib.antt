@@ -6,3 +6,5 @@ pub mod Extending
 pub mod OneMore
 pub mod KeptDigits
 pub mod UnitSpaces
+pub mod Mosts
+pub mod Composing

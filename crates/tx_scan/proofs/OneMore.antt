@@ -5,7 +5,9 @@ use Rattle.tx_seen.specs.declared.fed.Value.{Value}
 use Rattle.tx_seen.specs.declared.fed.Fed.{Fed}
 use Rattle.tx_seen.specs.declared.fed.Fed.TheVariants as fed
 use Rattle.tx_seen.specs.declared.place.Place.{Place}
-use Rattle.tx_seen.specs.Readings.{Item, Gave, Reading, Need, Answers}
+use Rattle.tx_seen.specs.declared.item.Item.{Item}
+use Rattle.tx_seen.specs.declared.item.Item.TheVariants.{Gave}
+use Rattle.tx_seen.specs.Readings.{Reading, Need, Answers}
 use Rattle.tx_scan.specs.Supplied.{value_for, IsSupplied, AnswersSupplied, NeedsFewer, needed}
 
 pub supplied-none : {S A : Type 0} (at : Place → Value) (reading : List Item → Reading A) (HasTaken : S → List Item → Type 0) (items : List Item) (scan : S) (answer : Fed A) → Answers reading HasTaken items scan answer → AnswersSupplied at reading HasTaken items scan answer

@@ -6,15 +6,18 @@ use Rattle.tx_seen.specs.declared.place.Place.{Place}
 use Rattle.tx_seen.specs.declared.fed.Value.TheVariants.{Int, Dimen, Flag}
 use Rattle.tx_seen.specs.Seen.{is_undefined}
 use Rattle.tx_seen.specs.declared.error.TexError.TheVariants.{Undefined, MissingNumber, IntegerTooLarge}
-use Rattle.tx_seen.specs.Readings.{Item, Took, Gave, Reading, More, Need, Done, Wrong, next, ReadsOn}
+use Rattle.tx_seen.specs.declared.item.Item.{Item}
+use Rattle.tx_seen.specs.declared.item.Item.TheVariants.{Took, Gave}
+use Rattle.tx_seen.specs.Readings.{Reading, More, Need, Done, Wrong, next, ReadsOn}
 use Rattle.tx_scan.specs.declared.scans.Radix.{Radix}
 use Rattle.tx_scan.specs.declared.scans.Radix.TheVariants.{Decimal}
-use Rattle.tx_scan.specs.declared.scans.Family.{Family}
+use Rattle.tx_prim.specs.declared.family.Numbered.{Numbered}
 use Rattle.tx_scan.specs.declared.scans.Outer.{Outer}
 use Rattle.tx_scan.specs.declared.scans.Beginning.{Beginning}
 use Rattle.tx_scan.specs.declared.scans.Beginning.TheVariants as begin
-use Rattle.tx_scan.specs.Beginnings.{base, digit, place_of, beginning}
-use Rattle.tx_scan.specs.Integers.{Ended, ended_by, space_after, code_named, coded, character_code, digits, first_digit, quantity, byte_of, numbered, with_sign, whole, signed_constant, begun, signs, integer}
+use Rattle.tx_seen.specs.Places.{place_of}
+use Rattle.tx_scan.specs.Beginnings.{base, digit, beginning}
+use Rattle.tx_scan.specs.Integers.{Ended, ended_by, space_after, code_named, coded, character_code, digits, first_digit, in_range, is_in_range, quantity, byte_of, numbered, with_sign, whole, signed_constant, begun, signs, integer}
 
 pub on-if : {A : Type 0} (more : List Item) (b : Bool) (x y u v : Reading A) → ReadsOn more x u → ReadsOn more y v → ReadsOn more (cond b x y) (cond b u v)
 on-if more true x y u v p q = p
@@ -62,22 +65,25 @@ on-first more radix [] = tt
 on-first more radix (Gave v ∷ rest) = refl
 on-first more radix (Took t ∷ rest) = on-first-by more (digit radix t) radix t rest refl
 
+on-range : (more : List Item) (n : ℤ) (rest : List Item) → ReadsOn more (in_range n rest) (in_range n (rest ++ more))
+on-range more n rest = on-if {A = ℤ} more (is_in_range n) (Done n rest) (Wrong IntegerTooLarge) (Done n (rest ++ more)) (Wrong IntegerTooLarge) refl refl
+
 on-quantity : (more : List Item) (place : Place) (items : List Item) → ReadsOn more (quantity place items) (quantity place (items ++ more))
 on-quantity more place [] = tt
-on-quantity more place (Gave (Int n) ∷ rest) = refl
-on-quantity more place (Gave (Dimen n) ∷ rest) = refl
+on-quantity more place (Gave (Int n) ∷ rest) = on-range more n rest
+on-quantity more place (Gave (Dimen n) ∷ rest) = on-range more n rest
 on-quantity more place (Gave (Flag b) ∷ rest) = refl
 on-quantity more place (Took t ∷ rest) = refl
 
-on-numbered : (more : List Item) (family : Family) (o : Option ℕ) (items : List Item) → ReadsOn more (numbered family o items) (numbered family o (items ++ more))
-on-numbered more family None items = refl
-on-numbered more family (Some n) items = on-quantity more (place_of family n) items
+on-numbered : (more : List Item) (kind : Numbered) (o : Option ℕ) (items : List Item) → ReadsOn more (numbered kind o items) (numbered kind o (items ++ more))
+on-numbered more kind None items = refl
+on-numbered more kind (Some n) items = on-quantity more (place_of kind n) items
 
 on-whole : (more : List Item) (outers : List Outer) (n : ℤ) (behind items : List Item) → ReadsOn more (whole outers n behind items) (whole outers n behind (items ++ more))
 on-whole more [] n behind items = ap (λ (rest : List Item). Done n rest) (sym (append_assoc behind items more))
 on-whole more (outer ∷ outers) n behind items =
-    on-next more (numbered outer.family (byte_of n) items) (numbered outer.family (byte_of n) (items ++ more)) (λ value rest. whole outers (with_sign outer.negative value) behind rest)
-    (on-numbered more outer.family (byte_of n) items)
+    on-next more (numbered outer.kind (byte_of n) items) (numbered outer.kind (byte_of n) (items ++ more)) (λ value rest. whole outers (with_sign outer.negative value) behind rest)
+    (on-numbered more outer.kind (byte_of n) items)
     (λ value rest. on-whole more outers (with_sign outer.negative value) behind rest)
 
 on-begun : (more : List Item) (outers : List Outer) (negative : Bool) (here there : List Outer → Bool → Reading ℤ) (rest : List Item) (b : Beginning) → ((outers : List Outer) (negative : Bool) → ReadsOn more (here outers negative) (there outers negative)) → ReadsOn more (begun outers negative here rest b) (begun outers negative there (rest ++ more) b)
@@ -93,7 +99,7 @@ on-begun more outers negative here there rest begin.Point later = refl
 on-begun more outers negative here there rest (begin.Number n) later = on-whole more outers (with_sign negative (pos n)) [] rest
 on-begun more outers negative here there rest (begin.At place) later =
     on-next more (quantity place rest) (quantity place (rest ++ more)) (λ n rest. whole outers (with_sign negative n) [] rest) (on-quantity more place rest) (λ n rest. on-whole more outers (with_sign negative n) [] rest)
-on-begun more outers negative here there rest (begin.Numbered family) later = later (record { negative = negative; family = family } ∷ outers) false
+on-begun more outers negative here there rest (begin.Numbered kind) later = later (record { negative = negative; kind = kind } ∷ outers) false
 on-begun more outers negative here there rest (begin.Nothing error) later = refl
 
 on-signs : (more : List Item) (outers : List Outer) (negative : Bool) (items : List Item) → ReadsOn more (signs outers negative items) (signs outers negative (items ++ more))

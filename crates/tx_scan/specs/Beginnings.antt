@@ -9,14 +9,10 @@ use Rattle.tx_prim.specs.declared.primitive.Primitive.TheVariants as primitive
 use Rattle.tx_seen.specs.declared.error.TexError.TheVariants.{MissingNumber, Undefined}
 use Rattle.tx_seen.specs.declared.meaning.Meaning.{Meaning}
 use Rattle.tx_seen.specs.declared.meaning.Meaning.TheVariants as meaning
-use Rattle.tx_seen.specs.declared.place.CharacterCode.TheVariants.{LowerCase, UpperCase, SpaceFactor, Math, Delimiter}
-use Rattle.tx_seen.specs.declared.place.Place.{Place}
 use Rattle.tx_seen.specs.declared.place.Place.TheVariants as place
 use Rattle.tx_seen.specs.declared.seen.Seen.{Seen}
 use Rattle.tx_scan.specs.declared.scans.Radix.{Radix}
 use Rattle.tx_scan.specs.declared.scans.Radix.TheVariants.{Octal, Decimal, Hexadecimal}
-use Rattle.tx_scan.specs.declared.scans.Family.{Family}
-use Rattle.tx_scan.specs.declared.scans.Family.TheVariants as family
 use Rattle.tx_scan.specs.declared.scans.Beginning.{Beginning}
 use Rattle.tx_scan.specs.declared.scans.Beginning.TheVariants as begin
 
@@ -40,26 +36,28 @@ digit radix t = below (base radix) (figure t.token)
     below n None = None
     below n (Some d) = if nat_lt d n then Some d else None
 
--- what stands at a number of a family
-abbrev pub place_of : Family → ℕ → Place
-place_of family.Count n = place.Count n
-place_of family.Dimen n = place.Dimen n
-place_of family.Category n = place.Category n
-place_of (family.Code code) n = place.Code code n
+-- no number begins
+abbrev pub no_number : Beginning
+no_number = begin.Nothing MissingNumber
 
 -- a primitive stands for a parameter's value, or for what stands at the number behind it
 abbrev pub begun_by_command : Primitive → Beginning
 begun_by_command (primitive.Integer parameter) = begin.At (place.Integer parameter)
 begun_by_command (primitive.Dimension parameter) = begin.At (place.Dimension parameter)
-begun_by_command primitive.Count = begin.Numbered family.Count
-begun_by_command primitive.Dimen = begin.Numbered family.Dimen
-begun_by_command primitive.Catcode = begin.Numbered family.Category
-begun_by_command primitive.Lccode = begin.Numbered (family.Code LowerCase)
-begun_by_command primitive.Uccode = begin.Numbered (family.Code UpperCase)
-begun_by_command primitive.Sfcode = begin.Numbered (family.Code SpaceFactor)
-begun_by_command primitive.Mathcode = begin.Numbered (family.Code Math)
-begun_by_command primitive.Delcode = begin.Numbered (family.Code Delimiter)
-begun_by_command _ = begin.Nothing MissingNumber
+begun_by_command (primitive.Numbered kind) = begin.Numbered kind
+begun_by_command primitive.Relax = no_number
+begun_by_command primitive.Par = no_number
+begun_by_command primitive.End = no_number
+begun_by_command primitive.BeginGroup = no_number
+begun_by_command primitive.EndGroup = no_number
+begun_by_command (primitive.Prefix prefix) = no_number
+begun_by_command primitive.Let = no_number
+begun_by_command (primitive.Shorthand kind) = no_number
+begun_by_command (primitive.Arithmetic operation) = no_number
+begun_by_command (primitive.Sized kind) = no_number
+begun_by_command (primitive.Rule kind) = no_number
+begun_by_command (primitive.Box kind) = no_number
+begun_by_command primitive.Shipout = no_number
 
 -- a name that \chardef or \mathchardef defined is its number, and that of a register stands for its value; what means a
 -- space is one

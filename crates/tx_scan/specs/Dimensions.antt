@@ -10,7 +10,9 @@ use Rattle.tx_seen.specs.declared.error.TexError.TheVariants.{MissingNumber, Mis
 use Rattle.tx_seen.specs.declared.fed.Want.TheVariants.{Expanded}
 use Rattle.tx_seen.specs.declared.seen.Seen.{Seen}
 use Rattle.tx_seen.specs.Seen.{is_space, is_key, is_point}
-use Rattle.tx_seen.specs.Readings.{Item, Took, Gave, Reading, More, Done, Wrong, next}
+use Rattle.tx_seen.specs.declared.item.Item.{Item}
+use Rattle.tx_seen.specs.declared.item.Item.TheVariants.{Took, Gave}
+use Rattle.tx_seen.specs.Readings.{Reading, More, Done, Wrong, next}
 use Rattle.tx_scan.specs.declared.scans.Radix.{Radix}
 use Rattle.tx_scan.specs.declared.scans.Radix.TheVariants.{Octal, Decimal, Hexadecimal}
 use Rattle.tx_scan.specs.declared.scans.Beginning.{Beginning}
@@ -69,13 +71,13 @@ first_unit radix (Took t ∷ rest) = units_from (digit radix t) t rest
 -- the second letter of a unit's name
 abbrev pub second_letter : ℕ → PhysicalUnit → List Item → Reading PhysicalUnit
 second_letter c unit [] = More Expanded
-second_letter c unit (Gave v ∷ rest) = Wrong MissingUnit
+second_letter c unit (Gave v ∷ rest) = Wrong MissingNumber
 second_letter c unit (Took t ∷ rest) = expanded t (if is_key c t then Done unit rest else Wrong MissingUnit)
 
 -- `pt` or `sp`, in small or capital letters, with spaces before it
 abbrev pub unit_name : List Item → Reading PhysicalUnit
 unit_name [] = More Expanded
-unit_name (Gave v ∷ rest) = Wrong MissingUnit
+unit_name (Gave v ∷ rest) = Wrong MissingNumber
 unit_name (Took t ∷ rest) = expanded t (
     if is_space t then unit_name rest
     else if is_key (character "p") t then second_letter (character "t") Point rest
@@ -89,7 +91,7 @@ sized negative size behind = if nat_le size 1073741823 then Done (signed negativ
 -- an optional space behind the unit ends the dimension of so many whole units and 65536ths of one
 abbrev pub unit_rest : Bool → ℕ → ℕ → PhysicalUnit → List Item → Reading ℤ
 unit_rest negative whole part unit [] = More Expanded
-unit_rest negative whole part unit (Gave v ∷ rest) = Wrong MissingUnit
+unit_rest negative whole part unit (Gave v ∷ rest) = Wrong MissingNumber
 unit_rest negative whole part unit (Took t ∷ rest) = expanded t (sized negative (size_of unit whole part) (unless_space t ++ rest))
 
 -- the unit behind a factor
@@ -110,7 +112,7 @@ size_begun negative on rest begin.Point = next (fraction 0 [] rest) (factored ne
 size_begun negative on rest begin.Character = next (character_code rest) (counted negative)
 size_begun negative on rest (begin.Number n) = Wrong MissingNumber
 size_begun negative on rest (begin.At place) = Wrong MissingNumber
-size_begun negative on rest (begin.Numbered family) = Wrong MissingNumber
+size_begun negative on rest (begin.Numbered kind) = Wrong MissingNumber
 size_begun negative on rest (begin.Nothing error) = Wrong error
 
 -- a dimension with its signs, whose sign so far is this, in sp

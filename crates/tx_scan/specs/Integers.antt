@@ -1,23 +1,25 @@
 -- Integers (The TeXbook, chapter 24; TeX: The Program, sections 413 and 440 to 445).
-use Rattle.std.specs.Prelude.{ℕ, ◌+◌, ◌*◌, ◌∷◌, [], ◌++◌, Bool, false, not, nat_le, ℤ, pos, negsuc, neg_ℤ, ◌≤ℤ◌, List, Option, Some, None, if◌then◌else◌}
+use Rattle.std.specs.Prelude.{ℕ, ◌+◌, ◌*◌, ◌∷◌, [], ◌++◌, Bool, false, not, nat_le, ℤ, pos, negsuc, neg_ℤ, ◌≤ℤ◌, int_le, ◌&&◌, List, Option, Some, None, if◌then◌else◌}
 use Rattle.tx_char.specs.declared.tokens.Token.{Token}
 use Rattle.tx_char.specs.declared.tokens.Token.TheVariants as token
 use Rattle.tx_seen.specs.declared.error.TexError.TheVariants.{Undefined, MissingNumber, NumberOutOfRange, IntegerTooLarge}
 use Rattle.tx_seen.specs.declared.fed.Want.TheVariants.{Raw, Expanded}
 use Rattle.tx_seen.specs.declared.fed.Kind.TheVariants.{Quantity}
-use Rattle.tx_seen.specs.declared.fed.Value.{Value}
 use Rattle.tx_seen.specs.declared.fed.Value.TheVariants.{Int, Dimen, Flag}
 use Rattle.tx_seen.specs.declared.place.Place.{Place}
 use Rattle.tx_seen.specs.declared.seen.Seen.{Seen}
 use Rattle.tx_seen.specs.Seen.{is_space, is_undefined}
-use Rattle.tx_seen.specs.Readings.{Item, Took, Gave, Reading, More, Need, Done, Wrong, next}
+use Rattle.tx_seen.specs.declared.item.Item.{Item}
+use Rattle.tx_seen.specs.declared.item.Item.TheVariants.{Took, Gave}
+use Rattle.tx_seen.specs.Readings.{Reading, More, Need, Done, Wrong, next}
 use Rattle.tx_scan.specs.declared.scans.Radix.{Radix}
 use Rattle.tx_scan.specs.declared.scans.Radix.TheVariants.{Decimal}
-use Rattle.tx_scan.specs.declared.scans.Family.{Family}
+use Rattle.tx_prim.specs.declared.family.Numbered.{Numbered}
 use Rattle.tx_scan.specs.declared.scans.Outer.{Outer}
 use Rattle.tx_scan.specs.declared.scans.Beginning.{Beginning}
 use Rattle.tx_scan.specs.declared.scans.Beginning.TheVariants as begin
-use Rattle.tx_scan.specs.Beginnings.{base, digit, place_of, beginning}
+use Rattle.tx_seen.specs.Places.{place_of}
+use Rattle.tx_scan.specs.Beginnings.{base, digit, beginning}
 
 -- a constant, and the token behind it that is read and isn't part of it, if there is one
 pub record Ended : Type 0 where
@@ -84,10 +86,22 @@ first_digit radix (Took t ∷ rest) = digits_from (digit radix t) t rest
     digits_from None t rest = expanded t (Wrong MissingNumber)
     digits_from (Some d) t rest = digits radix d rest
 
+-- whether a number is in the range of integers
+abbrev pub is_in_range : ℤ → Bool
+is_in_range n = int_le (neg_ℤ (pos 2147483647)) n && int_le n (pos 2147483647)
+
+-- it is
+abbrev pub IsInRange : ℤ → Type 0
+IsInRange n = (neg_ℤ (pos 2147483647) ≤ℤ n) × (n ≤ℤ pos 2147483647)
+
+-- a number in that range
+abbrev pub in_range : ℤ → List Item → Reading ℤ
+in_range n rest = if is_in_range n then Done n rest else Wrong IntegerTooLarge
+
 -- a value that was asked for; a size counts in scaled points
 abbrev pub given : Item → List Item → Reading ℤ
-given (Gave (Int n)) rest = Done n rest
-given (Gave (Dimen n)) rest = Done n rest
+given (Gave (Int n)) rest = in_range n rest
+given (Gave (Dimen n)) rest = in_range n rest
 given (Gave (Flag _)) rest = Wrong MissingNumber
 given (Took t) rest = Wrong MissingNumber
 
@@ -101,10 +115,10 @@ abbrev pub byte_of : ℤ → Option ℕ
 byte_of (pos n) = if nat_le n 255 then Some n else None
 byte_of (negsuc n) = None
 
--- what stands at a number of a family
-abbrev pub numbered : Family → Option ℕ → List Item → Reading ℤ
-numbered family None rest = Wrong NumberOutOfRange
-numbered family (Some n) rest = quantity (place_of family n) rest
+-- what stands at a number
+abbrev pub numbered : Numbered → Option ℕ → List Item → Reading ℤ
+numbered kind None rest = Wrong NumberOutOfRange
+numbered kind (Some n) rest = quantity (place_of kind n) rest
 
 abbrev pub with_sign : Bool → ℤ → ℤ
 with_sign negative n = if negative then neg_ℤ n else n
@@ -113,7 +127,7 @@ with_sign negative n = if negative then neg_ℤ n else n
 -- token behind it stays behind
 abbrev pub whole : List Outer → ℤ → List Item → List Item → Reading ℤ
 whole [] n behind rest = Done n (behind ++ rest)
-whole (outer ∷ outers) n behind rest = next (numbered outer.family (byte_of n) rest) (λ value rest. whole outers (with_sign outer.negative value) behind rest)
+whole (outer ∷ outers) n behind rest = next (numbered outer.kind (byte_of n) rest) (λ value rest. whole outers (with_sign outer.negative value) behind rest)
 
 -- a constant with its sign is a whole number
 abbrev pub signed_constant : List Outer → Bool → Ended → List Item → Reading ℤ
@@ -129,7 +143,7 @@ begun outers negative on rest begin.Character = next (character_code rest) (sign
 begun outers negative on rest begin.Point = Wrong MissingNumber
 begun outers negative on rest (begin.Number n) = whole outers (with_sign negative (pos n)) [] rest
 begun outers negative on rest (begin.At place) = next (quantity place rest) (λ n rest. whole outers (with_sign negative n) [] rest)
-begun outers negative on rest (begin.Numbered family) = on (record { negative = negative; family = family } ∷ outers) false
+begun outers negative on rest (begin.Numbered kind) = on (record { negative = negative; kind = kind } ∷ outers) false
 begun outers negative on rest (begin.Nothing error) = Wrong error
 
 -- a number with its signs, whose sign so far is this, where these numbers wait for it, the innermost first
@@ -141,13 +155,3 @@ signs outers negative (Took t ∷ rest) = begun outers negative (λ outers negat
 -- an integer
 abbrev pub integer : List Item → Reading ℤ
 integer items = signs [] false items
-
--- the range of integers
-abbrev pub IsInRange : ℤ → Type 0
-IsInRange n = (neg_ℤ (pos 2147483647) ≤ℤ n) × (n ≤ℤ pos 2147483647)
-
--- a number that is given is within that range
-abbrev pub IsQuantity : Value → Type 0
-IsQuantity (Int n) = IsInRange n
-IsQuantity (Dimen n) = IsInRange n
-IsQuantity (Flag b) = Unit {0}

@@ -1,9 +1,13 @@
 -- Keywords (The TeXbook, chapter 24; TeX: The Program, section 407).
-use Rattle.std.specs.Prelude.{ℕ, zero, suc, ◌++◌, ◌∷◌, [], ◌&&◌, Bool, true, false, not, List, drop, if◌then◌else◌}
+use Rattle.std.specs.Prelude.{◌≡◌, ◌<◌, length, ℕ, zero, suc, ◌++◌, ◌∷◌, [], ◌&&◌, Bool, true, false, not, List, drop, if◌then◌else◌}
 use Rattle.tx_seen.specs.declared.fed.Want.TheVariants.{Expanded}
+use Rattle.tx_seen.specs.declared.fed.Fed.{Fed}
+use Rattle.tx_seen.specs.declared.fed.Fed.TheVariants as fed
 use Rattle.tx_seen.specs.declared.seen.Seen.{Seen}
 use Rattle.tx_seen.specs.Seen.{is_space, is_key}
-use Rattle.tx_seen.specs.Readings.{Item, Took, Gave, Reading, More, Done}
+use Rattle.tx_seen.specs.declared.item.Item.{Item}
+use Rattle.tx_seen.specs.declared.item.Item.TheVariants.{Took, Gave}
+use Rattle.tx_seen.specs.Readings.{Reading, More, Done}
 use Rattle.tx_scan.specs.declared.scans.KeyScan.{KeyScan}
 use Rattle.tx_scan.specs.Integers.{expanded}
 use Rattle.tx_scan.specs.Rests.{HasTakenBy}
@@ -48,3 +52,15 @@ held scan = scan.read
 -- the scan that has taken these items reads on as the word that begins with them
 abbrev pub HasTaken : List ℕ → KeyScan → List Item → Type 0
 HasTaken word scan taken = HasTakenBy rest held (keyword word) scan taken
+
+-- the scan of a word of which nothing is read
+abbrev pub begun_word : List ℕ → KeyScan
+begun_word word = record { word = word; read = 0 }
+
+-- behind a part of a word, which goes on only as long as letters are left: the whole word is there at its last letter
+abbrev pub IsReadOn : KeyScan → Fed Bool → Type 0
+IsReadOn scan (fed.More want) = scan.read < length scan.word
+IsReadOn scan (fed.Need kind) = ⊥
+IsReadOn scan (fed.Done true back) = back ≡ 0
+IsReadOn scan (fed.Done false back) = Unit {0}
+IsReadOn scan (fed.Wrong error) = Unit {0}

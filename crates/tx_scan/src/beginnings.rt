@@ -3,10 +3,10 @@ ghost use Rattle.std.specs.Prelude.{◌≡◌, ◌<◌, IfSome};
 ghost use Rattle.tx_scan.specs.Beginnings as spec;
 ghost use Rattle.tx_scan.specs.Dimensions.{is_decimal};
 
-use crate::scans::{Beginning, Family, Radix};
+use crate::scans::{Beginning, Radix};
 use tx_char::{Cat, Token};
 use tx_prim::Primitive;
-use tx_seen::{CharacterCode, Meaning, Place, Seen, TexError};
+use tx_seen::{Meaning, Place, Seen, TexError};
 
 impl Radix {
     /// How many digits there are.
@@ -56,18 +56,11 @@ pub(crate) fn digit(radix: Radix, token: &Seen) -> Option<u8>
     }
 }
 
-impl Family {
-    /// What stands at this number.
-    pub(crate) fn place(self, number: u8) -> Place
-        ensures { result ≡ spec.place_of self number }
-    {
-        match self {
-            Family::Count => Place::Count(number),
-            Family::Dimen => Place::Dimen(number),
-            Family::Category => Place::Category(number),
-            Family::Code(code) => Place::Code(code, number),
-        }
-    }
+/// No number begins.
+fn nothing() -> Beginning
+    ensures { result ≡ spec.no_number }
+{
+    Beginning::Nothing(TexError::MissingNumber)
 }
 
 /// What a primitive begins.
@@ -77,15 +70,14 @@ fn begun_by_command(command: Primitive) -> Beginning
     match command {
         Primitive::Integer(parameter) => Beginning::At(Place::Integer(parameter)),
         Primitive::Dimension(parameter) => Beginning::At(Place::Dimension(parameter)),
-        Primitive::Count => Beginning::Numbered(Family::Count),
-        Primitive::Dimen => Beginning::Numbered(Family::Dimen),
-        Primitive::Catcode => Beginning::Numbered(Family::Category),
-        Primitive::Lccode => Beginning::Numbered(Family::Code(CharacterCode::LowerCase)),
-        Primitive::Uccode => Beginning::Numbered(Family::Code(CharacterCode::UpperCase)),
-        Primitive::Sfcode => Beginning::Numbered(Family::Code(CharacterCode::SpaceFactor)),
-        Primitive::Mathcode => Beginning::Numbered(Family::Code(CharacterCode::Math)),
-        Primitive::Delcode => Beginning::Numbered(Family::Code(CharacterCode::Delimiter)),
-        _ => Beginning::Nothing(TexError::MissingNumber),
+        Primitive::Numbered(kind) => Beginning::Numbered(kind),
+        Primitive::Relax | Primitive::Par | Primitive::End => nothing(),
+        Primitive::BeginGroup | Primitive::EndGroup => nothing(),
+        Primitive::Prefix(_) | Primitive::Let | Primitive::Shorthand(_) => nothing(),
+        Primitive::Arithmetic(_) => nothing(),
+        Primitive::Sized(_) | Primitive::Rule(_) | Primitive::Box(_) | Primitive::Shipout => {
+            nothing()
+        }
     }
 }
 

@@ -1,10 +1,14 @@
 //! Dimensions, token by token (TeX: The Program, sections 448 to 458).
-ghost use Rattle.std.specs.Prelude.{◌≡◌, ◌≤◌, ◌≤ℤ◌, ◌∷◌, ◌++◌, ◌&&◌, [], ℕ, pos, List, IfOk};
+ghost use Rattle.std.specs.Prelude.{◌≡◌, ◌≤◌, ◌≤ℤ◌, ◌∷◌, ◌++◌, ◌&&◌, [], ℕ, pos, neg_ℤ, List, IfOk};
 ghost use Rattle.tx_num.specs.Fractions.{signed};
 ghost use Rattle.tx_seen.specs.Seen.{is_point};
-ghost use Rattle.tx_seen.specs.Readings.{Item, Took, Answers};
+ghost use Rattle.tx_seen.specs.declared.item.Item.{Item};
+ghost use Rattle.tx_seen.specs.declared.item.Item.TheVariants.{Took};
+ghost use Rattle.tx_seen.specs.Readings.{Answers};
 ghost use Rattle.tx_scan.specs.Dimensions.{dimension, is_decimal};
-ghost use Rattle.tx_scan.specs.DimensionRests.{HasTaken, IsFed, IsUnit};
+ghost use Rattle.tx_scan.specs.Rests.{IsFedBy};
+ghost use Rattle.tx_scan.specs.GrammarRests.{held_none};
+ghost use Rattle.tx_scan.specs.DimensionRests.{HasTaken, IsFed, IsSize, IsUnit, begun_size, rest};
 
 use crate::beginnings::{beginning, digit};
 use crate::fraction::Digits;
@@ -17,7 +21,8 @@ use tx_seen::{Fed, Seen, TexError, Want};
 impl DimenScan {
     /// The scan of a dimension of which nothing is read. It takes no memory.
     pub fn new(alloc: Global) -> DimenScan
-        ensures { HasTaken result [] }
+        ensures scan { result ≡ begun_size }
+        ensures taken { HasTaken result [] }
     {
         DimenScan {
             negative: false,
@@ -26,17 +31,31 @@ impl DimenScan {
         }
     }
 
-    /// Takes one token, at first and after More. The answer is what reading gives of all that was taken. Its only error
-    /// is want of memory.
+    /// Forgets what was read, in the memory that it has.
+    pub fn restart(&mut self)
+        ensures scan { self.new ≡ begun_size }
+        ensures taken { HasTaken self.new [] }
+    {
+        self.negative = false;
+        self.stage = DimenStage::Signs;
+        self.digits.clear();
+    }
+
+    /// Takes one token, at first and after More; it needs no value. The answer is what reading gives of all that was
+    /// taken. Its only error is want of memory.
     pub fn feed(&mut self, token: &Seen) -> Result<Fed<i64>, AllocError>
-        ensures { (taken : List Item) → HasTaken self.old taken → IfOk result (Answers dimension HasTaken (taken ++ Took token.now ∷ []) self.new) }
+        ensures answer { (taken : List Item) → HasTaken self.old taken → IfOk result (Answers dimension HasTaken (taken ++ Took token.now ∷ []) self.new) }
+        ensures part { IfOk result (IsFedBy rest held_none self.old token.now self.new) }
+        ensures fed { IfOk result (IsFed self.old token.now self.new) }
+        ensures size { IfOk result IsSize }
     {
         self.behind(token)
     }
 
     /// What it is behind one more token. Its only error is want of memory.
     fn behind(&mut self, token: &Seen) -> Result<Fed<i64>, AllocError>
-        ensures { IfOk result (IsFed self.old token.now self.new) }
+        ensures fed { IfOk result (IsFed self.old token.now self.new) }
+        ensures size { IfOk result IsSize }
     {
         match self.stage {
             DimenStage::Signs => Ok(self.feed_sign(token)),
@@ -65,7 +84,8 @@ impl DimenScan {
     /// Signs and spaces, or what begins the factor.
     fn feed_sign(&mut self, token: &Seen) -> Fed<i64>
         requires { self.old.stage ≡ DimenStage.Signs }
-        ensures { IsFed self.old token.now self.new result }
+        ensures fed { IsFed self.old token.now self.new result }
+        ensures size { IsSize result }
     {
         match beginning(token) {
             Beginning::Plus => Fed::More(Want::Expanded),
@@ -93,7 +113,8 @@ impl DimenScan {
     /// The first digit of an octal or hexadecimal factor.
     fn feed_first_digit(&mut self, radix: Radix, token: &Seen) -> Fed<i64>
         requires { self.old.stage ≡ DimenStage.FirstDigit radix }
-        ensures { IsFed self.old token.now self.new result }
+        ensures fed { IsFed self.old token.now self.new result }
+        ensures size { IsSize result }
     {
         match digit(radix, token) {
             Some(digit) => self.on(DimenStage::Digits(first(radix, digit))),
@@ -108,7 +129,8 @@ impl DimenScan {
     /// One more digit of whole units, or what ends them.
     fn feed_digit(&mut self, constant: Constant, token: &Seen) -> Fed<i64>
         requires { self.old.stage ≡ DimenStage.Digits constant }
-        ensures { IsFed self.old token.now self.new result }
+        ensures fed { IsFed self.old token.now self.new result }
+        ensures size { IsSize result }
     {
         if let Some(digit) = digit(constant.radix, token) {
             return match longer(constant, digit) {
@@ -126,7 +148,8 @@ impl DimenScan {
     /// One more digit of a fraction, or what ends it.
     fn feed_fraction(&mut self, whole: u32, token: &Seen) -> Result<Fed<i64>, AllocError>
         requires { self.old.stage ≡ DimenStage.Fraction whole }
-        ensures { IfOk result (IsFed self.old token.now self.new) }
+        ensures fed { IfOk result (IsFed self.old token.now self.new) }
+        ensures size { IfOk result IsSize }
     {
         let Some(digit) = digit(Radix::Decimal, token) else {
             return Ok(self.feed_unit(whole, token));
@@ -138,7 +161,8 @@ impl DimenScan {
     /// The character behind a backquote.
     fn feed_character(&mut self, token: &Seen) -> Fed<i64>
         requires { self.old.stage ≡ DimenStage.Character }
-        ensures { IsFed self.old token.now self.new result }
+        ensures fed { IsFed self.old token.now self.new result }
+        ensures size { IsSize result }
     {
         match character_named(&token.token) {
             Some(code) => self.on(DimenStage::AfterCharacter(code)),
@@ -149,7 +173,8 @@ impl DimenScan {
     /// An optional space behind a character's code.
     fn feed_after_character(&mut self, code: u8, token: &Seen) -> Fed<i64>
         requires { self.old.stage ≡ DimenStage.AfterCharacter code }
-        ensures { IsFed self.old token.now self.new result }
+        ensures fed { IsFed self.old token.now self.new result }
+        ensures size { IsSize result }
     {
         self.digits.clear();
         self.feed_unit(u32::from(code), token)
@@ -157,7 +182,8 @@ impl DimenScan {
 
     /// Spaces, or the first letter of a unit.
     fn feed_unit(&mut self, whole: u32, token: &Seen) -> Fed<i64>
-        ensures { IsUnit self.old.negative whole self.old.digits token.now self.new result }
+        ensures fed { IsUnit self.old.negative whole self.old.digits token.now self.new result }
+        ensures size { IsSize result }
     {
         if token.is_undefined() {
             return Fed::Wrong(TexError::Undefined);
@@ -183,7 +209,8 @@ impl DimenScan {
         token: &Seen,
     ) -> Fed<i64>
         requires { self.old.stage ≡ DimenStage.SecondLetter whole unit letter }
-        ensures { IsFed self.old token.now self.new result }
+        ensures fed { IsFed self.old token.now self.new result }
+        ensures size { IsSize result }
     {
         if token.is_undefined() {
             return Fed::Wrong(TexError::Undefined);
@@ -198,7 +225,8 @@ impl DimenScan {
     /// An optional space behind the unit; the dimension is whole.
     fn feed_end(&mut self, whole: u32, unit: PhysicalUnit, token: &Seen) -> Fed<i64>
         requires { self.old.stage ≡ DimenStage.AfterUnit whole unit }
-        ensures { IsFed self.old token.now self.new result }
+        ensures fed { IsFed self.old token.now self.new result }
+        ensures size { IsSize result }
     {
         if token.is_undefined() {
             return Fed::Wrong(TexError::Undefined);
@@ -228,7 +256,9 @@ fn begins_fraction(radix: Radix, token: &Seen) -> bool
 fn signed_size(negative: bool, size: i64) -> i64
     requires low { pos 0 ≤ℤ size }
     requires high { size ≤ℤ pos 1073741823 }
-    ensures { (n : ℕ) → size ≡ pos n → result ≡ signed negative n }
+    ensures value { (n : ℕ) → size ≡ pos n → result ≡ signed negative n }
+    ensures low { neg_ℤ (pos 1073741823) ≤ℤ result }
+    ensures high { result ≤ℤ pos 1073741823 }
 {
     if negative { -size } else { size }
 }

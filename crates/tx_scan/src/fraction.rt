@@ -63,3 +63,14 @@ impl Digits {
         decimals(self.text.as_slice())
     }
 }
+
+/// A clone has the same digits. Its only error is want of memory.
+impl Clone for Digits {
+    ghost is_clone = { λ source copy. copy ≡ source };
+
+    fn clone(&self) -> Result<Self, AllocError> {
+        Ok(Digits {
+            text: self.text.clone()?,
+        })
+    }
+}

@@ -1,11 +1,17 @@
-//! An optional equals sign and a begin-group token, token by token (TeX: The Program, sections 403 to 405).
-ghost use Rattle.std.specs.Prelude.{◌≡◌, ◌∷◌, ◌++◌, [], List};
-ghost use Rattle.tx_seen.specs.Readings.{Item, Took, Answers};
-ghost use Rattle.tx_scan.specs.Grammars.{equals, left_brace};
-ghost use Rattle.tx_scan.specs.GrammarRests.{HasTakenEquals, HasTakenBrace, IsEqualsFed, IsBraceFed};
+//! An optional equals sign, a begin-group token and a name, token by token (TeX: The Program, sections 403 to 405 and 1215).
+ghost use Rattle.std.specs.Prelude.{◌≡◌, ◌∷◌, ◌++◌, [], List, IfOk};
+ghost use Rattle.tx_seen.specs.declared.item.Item.{Item};
+ghost use Rattle.tx_seen.specs.declared.item.Item.TheVariants.{Took};
+ghost use Rattle.tx_seen.specs.Readings.{Answers};
+ghost use Rattle.tx_scan.specs.Grammars.{equals, left_brace, name};
+ghost use Rattle.tx_scan.specs.Rests.{IsFedBy};
+ghost use Rattle.tx_scan.specs.GrammarRests.{HasTakenEquals, HasTakenBrace, HasTakenName, IsEqualsFed, IsBraceFed, IsNameFed, equals_rest, brace_rest, name_rest, held_none};
+ghost use Rattle.tx_scan.specs.Supplied.{NeedsNothing};
 
-use crate::scans::{BraceScan, EqualsScan};
-use tx_seen::{Fed, Seen, TexError, Want};
+use crate::scans::{BraceScan, EqualsScan, NameScan};
+use std::alloc::AllocError;
+use tx_char::{Cat, Token};
+use tx_seen::{Fed, Place, Seen, TexError, Want};
 
 impl EqualsScan {
     /// The scan of an optional `=` of which nothing is read.
@@ -17,14 +23,18 @@ impl EqualsScan {
 
     /// Takes one token, at first and after More; it needs no value. The answer is what reading gives of all that was taken.
     pub fn feed(&mut self, token: &Seen) -> Fed<bool>
-        ensures { (taken : List Item) → HasTakenEquals self.old taken → Answers equals HasTakenEquals (taken ++ Took token.now ∷ []) self.new result }
+        ensures answer { (taken : List Item) → HasTakenEquals self.old taken → Answers equals HasTakenEquals (taken ++ Took token.now ∷ []) self.new result }
+        ensures part { IsFedBy equals_rest held_none self.old token.now self.new result }
+        ensures fed { IsEqualsFed self.new token.now result }
+        ensures nothing { NeedsNothing result }
     {
         self.behind(token)
     }
 
     /// What it is behind one more token.
     fn behind(&self, token: &Seen) -> Fed<bool>
-        ensures { IsEqualsFed self.now token.now result }
+        ensures fed { IsEqualsFed self.now token.now result }
+        ensures nothing { NeedsNothing result }
     {
         if token.is_undefined() {
             return Fed::Wrong(TexError::Undefined);
@@ -50,14 +60,18 @@ impl BraceScan {
 
     /// Takes one token, at first and after More; it needs no value. The answer is what reading gives of all that was taken.
     pub fn feed(&mut self, token: &Seen) -> Fed<()>
-        ensures { (taken : List Item) → HasTakenBrace self.old taken → Answers left_brace HasTakenBrace (taken ++ Took token.now ∷ []) self.new result }
+        ensures answer { (taken : List Item) → HasTakenBrace self.old taken → Answers left_brace HasTakenBrace (taken ++ Took token.now ∷ []) self.new result }
+        ensures part { IsFedBy brace_rest held_none self.old token.now self.new result }
+        ensures fed { IsBraceFed self.new token.now result }
+        ensures nothing { NeedsNothing result }
     {
         self.behind(token)
     }
 
     /// What it is behind one more token.
     fn behind(&self, token: &Seen) -> Fed<()>
-        ensures { IsBraceFed self.now token.now result }
+        ensures fed { IsBraceFed self.now token.now result }
+        ensures nothing { NeedsNothing result }
     {
         if token.is_undefined() {
             return Fed::Wrong(TexError::Undefined);
@@ -69,6 +83,39 @@ impl BraceScan {
             Fed::Done((), 0)
         } else {
             Fed::Wrong(TexError::MissingBeginGroup)
+        }
+    }
+}
+
+impl NameScan {
+    /// The scan of a name of which nothing is read.
+    pub fn new() -> NameScan
+        ensures { HasTakenName result [] }
+    {
+        NameScan {}
+    }
+
+    /// Takes one token, at first and after More; it needs no value. The answer is what reading gives of all that was taken:
+    /// the place where the name's meaning stands. Its only error is that no more owners of a name can be counted.
+    pub fn feed(&mut self, token: &Seen) -> Result<Fed<Place>, AllocError>
+        ensures answer { (taken : List Item) → HasTakenName self.old taken → IfOk result (Answers name HasTakenName (taken ++ Took token.now ∷ []) self.new) }
+        ensures part { IfOk result (IsFedBy name_rest held_none self.old token.now self.new) }
+        ensures fed { IfOk result (IsNameFed self.new token.now) }
+        ensures nothing { IfOk result NeedsNothing }
+    {
+        self.behind(token)
+    }
+
+    /// What it is behind one more token. Its only error is that no more owners of a name can be counted.
+    fn behind(&self, token: &Seen) -> Result<Fed<Place>, AllocError>
+        ensures fed { IfOk result (IsNameFed self.now token.now) }
+        ensures nothing { IfOk result NeedsNothing }
+    {
+        match &token.token {
+            Token::Name(name) => Ok(Fed::Done(Place::Name(name.clone()?), 0)),
+            Token::Character(_, Cat::Space) => Ok(Fed::More(Want::Raw)),
+            Token::Character(code, Cat::Active) => Ok(Fed::Done(Place::Active(*code), 0)),
+            Token::Character(_, _) | Token::FrozenRelax => Ok(Fed::Wrong(TexError::MissingName)),
         }
     }
 }

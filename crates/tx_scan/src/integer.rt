@@ -1,17 +1,22 @@
 //! Integers, token by token (TeX: The Program, sections 413 and 440 to 445).
-ghost use Rattle.std.specs.Prelude.{◌≡◌, ◌+◌, ◌*◌, ◌<◌, ◌≤◌, ◌∷◌, ◌++◌, [], pos, List, Some, IfOk, MatchOption};
-ghost use Rattle.tx_seen.specs.Readings.{Item, Took, Gave, Answers};
+ghost use Rattle.std.specs.Prelude.{◌≡◌, ◌+◌, ◌*◌, ◌<◌, ◌≤◌, ◌∷◌, ◌++◌, [], pos, List, Some, IsTrue, IfOk, MatchOption};
+ghost use Rattle.tx_seen.specs.declared.item.Item.{Item};
+ghost use Rattle.tx_seen.specs.declared.item.Item.TheVariants.{Took, Gave};
+ghost use Rattle.tx_seen.specs.Readings.{Answers};
 ghost use Rattle.tx_scan.specs.Beginnings.{base};
-ghost use Rattle.tx_scan.specs.Integers.{integer, with_sign, byte_of, code_named, IsInRange, IsQuantity};
-ghost use Rattle.tx_scan.specs.IntegerRests.{HasTaken, IsFed, IsGiven, IsWhole, IsEnded, IsWaiting, IsInteger, waiting};
-ghost use Rattle.tx_scan.specs.Supplied.{NeedsFewer};
+ghost use Rattle.tx_scan.specs.Integers.{integer, with_sign, byte_of, code_named, is_in_range, IsInRange};
+ghost use Rattle.tx_scan.specs.Rests.{IsFedBy, IsGivenBy};
+ghost use Rattle.tx_scan.specs.IntegerRests.{HasTaken, IsFed, IsGiven, IsWhole, IsEnded, IsWaiting, IsInteger, IsNumberGiven, begun_integer, waiting};
+ghost use Rattle.tx_scan.specs.IntegerRests as rests;
+ghost use Rattle.tx_scan.specs.Supplied.{NeedsFewer, NeedsNoMore};
 
 use crate::beginnings::{beginning, digit};
 use crate::outers::Outers;
-use crate::scans::{Beginning, Constant, Family, IntScan, IntStage, Outer, Radix};
+use crate::scans::{Beginning, Constant, IntScan, IntStage, Outer, Radix};
 use std::alloc::{AllocError, Global};
 use tx_char::Token;
-use tx_seen::{Fed, Kind, Seen, TexError, Value, Want};
+use tx_prim::Numbered;
+use tx_seen::{Fed, Kind, Place, Seen, TexError, Value, Want};
 
 /// The greatest integer.
 const GREATEST: u64 = 2_147_483_647;
@@ -44,6 +49,14 @@ pub(crate) fn longer(constant: Constant, digit: u8) -> Option<Constant>
     }
 }
 
+/// Whether a number isn't too large.
+fn is_integer(number: i64) -> bool
+    ensures value { result ≡ is_in_range number }
+    ensures within { IsTrue result → IsInRange number }
+{
+    -(GREATEST as i64) <= number && number <= GREATEST as i64
+}
+
 /// The number with its sign.
 fn signed(negative: bool, number: i64) -> i64
     requires { IsInRange number }
@@ -53,8 +66,8 @@ fn signed(negative: bool, number: i64) -> i64
     if negative { -number } else { number }
 }
 
-/// The number of a register or a character.
-fn byte(number: i64) -> Option<u8>
+/// The number as that of a register or a character, if it is within 0 to 255.
+pub fn byte(number: i64) -> Option<u8>
     ensures { result ≡ byte_of number }
 {
     if 0 <= number && number <= 255 {
@@ -81,7 +94,8 @@ pub(crate) fn character_named(token: &Token) -> Option<u8>
 impl IntScan {
     /// The scan of an integer of which nothing is read. It takes no memory.
     pub fn new(alloc: Global) -> IntScan
-        ensures { HasTaken result [] }
+        ensures scan { result ≡ begun_integer }
+        ensures taken { HasTaken result [] }
     {
         IntScan {
             outers: Outers::new(alloc),
@@ -90,19 +104,33 @@ impl IntScan {
         }
     }
 
+    /// Forgets what was read, in the memory that it has.
+    pub fn restart(&mut self)
+        ensures scan { self.new ≡ begun_integer }
+        ensures taken { HasTaken self.new [] }
+    {
+        self.outers.clear();
+        self.negative = false;
+        self.stage = IntStage::Signs;
+    }
+
     /// Takes one token, at first and after More. The answer is what reading gives of all that was taken. Its only error
     /// is want of memory.
     pub fn feed(&mut self, token: &Seen) -> Result<Fed<i64>, AllocError>
         ensures answer { (taken : List Item) → HasTaken self.old taken → IfOk result (Answers integer HasTaken (taken ++ Took token.now ∷ []) self.new) }
+        ensures part { IfOk result (IsFedBy rests.rest rests.held self.old token.now self.new) }
+        ensures fed { IfOk result (IsFed self.old token.now self.new) }
         ensures within { IfOk result IsInteger }
+        ensures waits { IfOk result (NeedsNoMore (waiting self.old) (waiting self.new)) }
     {
         self.behind(token)
     }
 
-    /// Takes the value that it needs, within 2^31-1 either way. The answer is what reading gives of all that was taken.
+    /// Takes the value that it needs. The answer is what reading gives of all that was taken.
     pub fn give(&mut self, value: &Value) -> Fed<i64>
-        requires { IsQuantity value.now }
         ensures answer { (taken : List Item) → HasTaken self.old taken → Answers integer HasTaken (taken ++ Gave value.now ∷ []) self.new result }
+        ensures part { IsGivenBy rests.rest rests.held self.old value.now self.new result }
+        ensures given { IsGiven self.old value.now self.new result }
         ensures within { IsInteger result }
         ensures fewer { NeedsFewer (waiting self.old) (waiting self.new) result }
     {
@@ -111,7 +139,6 @@ impl IntScan {
 
     /// What it is behind a value.
     fn answered(&mut self, value: &Value) -> Fed<i64>
-        requires { IsQuantity value.now }
         ensures given { IsGiven self.old value.now self.new result }
         ensures within { IsInteger result }
         ensures fewer { NeedsFewer (waiting self.old) (waiting self.new) result }
@@ -120,16 +147,29 @@ impl IntScan {
             return Fed::Wrong(TexError::MissingNumber);
         };
         match value {
-            Value::Int(number) => self.whole(signed(self.negative, *number), held),
-            Value::Dimen(size) => self.whole(signed(self.negative, *size), held),
+            Value::Int(number) => self.given(*number, held),
+            Value::Dimen(size) => self.given(*size, held),
             Value::Flag(_) => Fed::Wrong(TexError::MissingNumber),
         }
+    }
+
+    /// What it is behind a number that was needed, behind which so many tokens are held.
+    fn given(&mut self, number: i64, held: usize) -> Fed<i64>
+        ensures given { IsNumberGiven self.old number held self.new result }
+        ensures within { IsInteger result }
+        ensures fewer { NeedsFewer (waiting self.old) (waiting self.new) result }
+    {
+        if !is_integer(number) {
+            return Fed::Wrong(TexError::IntegerTooLarge);
+        }
+        self.whole(signed(self.negative, number), held)
     }
 
     /// What it is behind one more token. Its only error is want of memory.
     fn behind(&mut self, token: &Seen) -> Result<Fed<i64>, AllocError>
         ensures fed { IfOk result (IsFed self.old token.now self.new) }
         ensures within { IfOk result IsInteger }
+        ensures waits { IfOk result (NeedsNoMore (waiting self.old) (waiting self.new)) }
     {
         match self.stage {
             IntStage::Signs => self.feed_sign(token),
@@ -147,6 +187,7 @@ impl IntScan {
         ensures whole { IsWhole self.old.outers number held self.new result }
         ensures within { IsInteger result }
         ensures fewer { NeedsFewer (waiting self.old) (waiting self.new) result }
+        ensures waits { NeedsNoMore (waiting self.old) (waiting self.new) result }
     {
         let Some(outer) = self.outers.pop() else {
             return Fed::Done(number, held);
@@ -156,7 +197,7 @@ impl IntScan {
         };
         self.negative = outer.negative;
         self.stage = IntStage::Given(held);
-        Fed::Need(Kind::Quantity(outer.family.place(byte)))
+        Fed::Need(Kind::Quantity(Place::numbered(outer.kind, byte)))
     }
 
     /// The number that ends at this token.
@@ -164,6 +205,7 @@ impl IntScan {
         requires { number ≤ 2147483647 }
         ensures fed { IsEnded self.old.outers self.old.negative number token.now self.new result }
         ensures within { IsInteger result }
+        ensures waits { NeedsNoMore (waiting self.old) (waiting self.new) result }
     {
         if token.is_undefined() {
             return Fed::Wrong(TexError::Undefined);
@@ -176,14 +218,13 @@ impl IntScan {
         }
     }
 
-    /// The number of what stands at a number of this family comes next, and this one waits. Its only error is want of
-    /// memory.
-    fn wait(&mut self, family: Family) -> Result<Fed<i64>, AllocError>
+    /// The number that tells which of this kind comes next, and this one waits. Its only error is want of memory.
+    fn wait(&mut self, kind: Numbered) -> Result<Fed<i64>, AllocError>
         requires { self.old.stage ≡ IntStage.Signs }
-        ensures { IfOk result (IsWaiting self.old family self.new) }
+        ensures { IfOk result (IsWaiting self.old kind self.new) }
     {
         let negative = self.negative;
-        self.outers.push(Outer { negative, family })?;
+        self.outers.push(Outer { negative, kind })?;
         self.negative = false;
         Ok(Fed::More(Want::Expanded))
     }
@@ -202,6 +243,7 @@ impl IntScan {
         requires { self.old.stage ≡ IntStage.Signs }
         ensures fed { IfOk result (IsFed self.old token.now self.new) }
         ensures within { IfOk result IsInteger }
+        ensures waits { IfOk result (NeedsNoMore (waiting self.old) (waiting self.new)) }
     {
         match beginning(token) {
             Beginning::Plus => Ok(Fed::More(Want::Expanded)),
@@ -223,7 +265,7 @@ impl IntScan {
                 self.stage = IntStage::Given(0);
                 Ok(Fed::Need(Kind::Quantity(place)))
             }
-            Beginning::Numbered(family) => self.wait(family),
+            Beginning::Numbered(kind) => self.wait(kind),
             Beginning::Point => Ok(Fed::Wrong(TexError::MissingNumber)),
             Beginning::Nothing(error) => Ok(Fed::Wrong(error)),
         }
@@ -234,6 +276,7 @@ impl IntScan {
         requires { self.old.stage ≡ IntStage.FirstDigit radix }
         ensures fed { IsFed self.old token.now self.new result }
         ensures within { IsInteger result }
+        ensures waits { NeedsNoMore (waiting self.old) (waiting self.new) result }
     {
         match digit(radix, token) {
             Some(digit) => self.on(IntStage::Digits(first(radix, digit))),
@@ -250,6 +293,7 @@ impl IntScan {
         requires { self.old.stage ≡ IntStage.Digits constant }
         ensures fed { IsFed self.old token.now self.new result }
         ensures within { IsInteger result }
+        ensures waits { NeedsNoMore (waiting self.old) (waiting self.new) result }
     {
         let Some(digit) = digit(constant.radix, token) else {
             return self.end(constant.number, token);
@@ -265,6 +309,7 @@ impl IntScan {
         requires { self.old.stage ≡ IntStage.Character }
         ensures fed { IsFed self.old token.now self.new result }
         ensures within { IsInteger result }
+        ensures waits { NeedsNoMore (waiting self.old) (waiting self.new) result }
     {
         match character_named(&token.token) {
             Some(code) => self.on(IntStage::AfterCharacter(code)),

@@ -1,7 +1,12 @@
 //! Keywords, token by token (TeX: The Program, section 407).
-ghost use Rattle.std.specs.Prelude.{◌≡◌, ◌<◌, ◌+◌, ◌^◌, ◌∷◌, ◌++◌, [], ℕ, List, drop, IfOk, IfSome, MatchOption};
-ghost use Rattle.tx_seen.specs.Readings.{Item, Took, Answers};
-ghost use Rattle.tx_scan.specs.Keywords.{keyword, begins_with, skips, HasTaken};
+ghost use Rattle.std.specs.Prelude.{◌≡◌, ◌<◌, ◌≤◌, ◌+◌, length, ◌^◌, ◌∷◌, ◌++◌, [], ℕ, List, drop, IfOk, IfSome, MatchOption};
+ghost use Rattle.tx_seen.specs.declared.item.Item.{Item};
+ghost use Rattle.tx_seen.specs.declared.item.Item.TheVariants.{Took};
+ghost use Rattle.tx_seen.specs.Readings.{Answers};
+ghost use Rattle.tx_scan.specs.Rests.{IsFedBy};
+ghost use Rattle.tx_scan.specs.Supplied.{NeedsNothing};
+ghost use Rattle.tx_scan.specs.Keywords.{keyword, begins_with, begun_word, skips, HasTaken, IsReadOn};
+ghost use Rattle.tx_scan.specs.Keywords as words;
 
 use crate::scans::KeyScan;
 use std::alloc::{AllocError, Global};
@@ -11,7 +16,8 @@ use tx_seen::{Fed, Seen, TexError, Want};
 impl KeyScan {
     /// The scan of a word of small letters, of which nothing is read. Its only error is want of memory.
     pub fn new(alloc: Global, word: &[u8]) -> Result<KeyScan, AllocError>
-        ensures { IfOk result (λ scan. HasTaken word.now scan []) }
+        ensures scan { IfOk result (λ scan. scan ≡ begun_word word.now) }
+        ensures taken { IfOk result (λ scan. HasTaken word.now scan []) }
     {
         Ok(KeyScan {
             word: Bytes::from_slice(alloc, word)?,
@@ -22,7 +28,19 @@ impl KeyScan {
     /// Takes one token, at first and after More; a word needs no value, and no memory. The answer is what reading gives
     /// of all that was taken.
     pub fn feed(&mut self, token: &Seen) -> Fed<bool>
-        ensures { (word : List ℕ) → (taken : List Item) → HasTaken word self.old taken → Answers (keyword word) (HasTaken word) (taken ++ Took token.now ∷ []) self.new result }
+        ensures answer { (word : List ℕ) → (taken : List Item) → HasTaken word self.old taken → Answers (keyword word) (HasTaken word) (taken ++ Took token.now ∷ []) self.new result }
+        ensures part { IsFedBy words.rest words.held self.old token.now self.new result }
+        ensures nothing { NeedsNothing result }
+        ensures reading { self.old.read < length self.old.word → IsReadOn self.new result }
+    {
+        self.behind(token)
+    }
+
+    /// What it is behind one more token.
+    fn behind(&mut self, token: &Seen) -> Fed<bool>
+        ensures part { IsFedBy words.rest words.held self.old token.now self.new result }
+        ensures nothing { NeedsNothing result }
+        ensures reading { self.old.read < length self.old.word → IsReadOn self.new result }
     {
         if self.skips(token) {
             return Fed::More(Want::Expanded);
@@ -47,6 +65,7 @@ impl KeyScan {
     fn expected(&self) -> Option<u8>
         ensures letter { MatchOption result (drop self.now.read self.now.word ≡ []) (λ c. drop self.now.read self.now.word ≡ c ∷ drop (self.now.read + 1) self.now.word) }
         ensures within { IfSome result (λ c. self.now.read + 1 < 2 ^ 64) }
+        ensures left { MatchOption result (length self.now.word ≤ self.now.read) (λ c. self.now.read < length self.now.word) }
     {
         if self.read < self.word.len() {
             Some(self.word.as_slice()[self.read])

@@ -1,7 +1,8 @@
 //! The theorem that the answers of a scan are final, and that More is a promise.
 ghost use Rattle.std.specs.Prelude.{◌≡◌, ◌++◌, List};
 ghost use Rattle.tx_seen.specs.declared.fed.Want.{Want};
-ghost use Rattle.tx_seen.specs.Readings.{Item, More, ReadsOn};
+ghost use Rattle.tx_seen.specs.declared.item.Item.{Item};
+ghost use Rattle.tx_seen.specs.Readings.{More, ReadsOn};
 ghost use Rattle.tx_scan.specs.Integers.{integer};
 ghost use Rattle.tx_scan.specs.Laws.{HasEnded};
 

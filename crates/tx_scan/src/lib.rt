@@ -1,13 +1,15 @@
-//! Scans: what is read off the tokens that TeX has expanded, here integers and keywords. A scan is fed token by token,
-//! asks for the values that only its caller knows, and gives back the tokens that aren't part of what it reads.
+//! Scans: what is read off tokens as TeX expands them: integers, dimensions, keywords, an optional `=`, a begin-group token
+//! and names. A scan is fed token by token, asks for the values that only its caller knows, and gives back the tokens that
+//! aren't part of what it reads. A scan can be a part of a longer one: its answers say what reading on from it gives.
 //!
-//! Proved: each scan answers exactly what its grammar gives of all tokens and values that were taken, and answers are
-//! final. Only tested: that the grammars are Knuth's, on numbers and keywords that his program reads alike.
+//! Proved: each scan answers exactly what its grammar gives of all tokens and values that were taken; an integer's answers
+//! are final. Only tested: that the grammars are Knuth's, on numbers and keywords that his program reads alike.
 //!
-//! Read `scans` and `beginnings`, then `integer` and `keyword`, and `laws`.
+//! Read `scans` and `beginnings`, then `integer`, `dimension`, `keyword` and `grammars`, and `supplying` and `laws`.
 #![tactic(auto)]
 
 mod beginnings;
+mod clones;
 mod dimension;
 mod fraction;
 mod grammars;
@@ -18,6 +20,7 @@ mod outers;
 mod scans;
 mod supplying;
 
+pub use integer::byte;
 pub use laws::integers_are_read_from_the_left;
-pub use scans::{BraceScan, DimenScan, EqualsScan, IntScan, KeyScan};
-pub use supplying::{Needs, Quantities, supply};
+pub use scans::{BraceScan, DimenScan, EqualsScan, IntScan, KeyScan, NameScan};
+pub use supplying::{Needs, supply};

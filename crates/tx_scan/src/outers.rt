@@ -39,10 +39,28 @@ impl Outers {
         Ok(())
     }
 
+    /// Forgets them, in the memory that they have.
+    pub fn clear(&mut self)
+        ensures { self.new ≡ [] }
+    {
+        self.outermost_first.clear();
+    }
+
     /// Takes the innermost number, if one waits.
     pub fn pop(&mut self) -> Option<Outer>
         ensures { MatchOption result ((self.old ≡ []) × (self.new ≡ [])) (λ outer. self.old ≡ outer ∷ self.new) }
     {
         self.outermost_first.pop()
+    }
+}
+
+/// A clone has the same numbers waiting. Its only error is want of memory.
+impl Clone for Outers {
+    ghost is_clone = { λ source copy. copy ≡ source };
+
+    fn clone(&self) -> Result<Self, AllocError> {
+        Ok(Outers {
+            outermost_first: self.outermost_first.clone()?,
+        })
     }
 }

@@ -5,7 +5,8 @@ use crate::fraction::Digits;
 use crate::outers::Outers;
 use tx_bytes::Bytes;
 use tx_num::PhysicalUnit;
-use tx_seen::{CharacterCode, Place, TexError};
+use tx_prim::Numbered;
+use tx_seen::{Place, TexError};
 
 /// What the digits of a constant count in.
 #[derive(Clone, Copy, PartialEq, Eq)]
@@ -15,25 +16,12 @@ pub enum Radix {
     Hexadecimal,
 }
 
-/// What is numbered by an integer from 0 to 255 and stands for an integer itself.
-#[derive(Clone, Copy)]
-pub enum Family {
-    /// \count.
-    Count,
-    /// \dimen, whose sizes count in scaled points.
-    Dimen,
-    /// \catcode.
-    Category,
-    /// The other codes of characters, as \lccode.
-    Code(CharacterCode),
-}
-
 /// A number that waits for the number of what it stands for, as in `-\count` behind which this number comes.
 #[derive(Clone, Copy)]
 pub struct Outer {
     /// Whether its signs make it negative.
     pub negative: bool,
-    pub family: Family,
+    pub kind: Numbered,
 }
 
 /// What a token begins where a number is needed.
@@ -55,8 +43,8 @@ pub enum Beginning {
     Number(u16),
     /// The number that stands at this place, and nothing follows.
     At(Place),
-    /// What stands at a number of this family, which follows.
-    Numbered(Family),
+    /// What stands at a number of this kind, which follows.
+    Numbered(Numbered),
     /// No number.
     Nothing(TexError),
 }
@@ -112,6 +100,10 @@ pub struct EqualsScan {}
 /// A begin-group token that is being looked for.
 #[derive(Clone, Copy)]
 pub struct BraceScan {}
+
+/// A name that is being looked for.
+#[derive(Clone, Copy)]
+pub struct NameScan {}
 
 /// The part of a dimension that comes next.
 #[derive(Clone, Copy)]

@@ -1,25 +1,14 @@
 //! Values from the caller's table, as often as a scan needs one.
 ghost use Rattle.std.specs.Prelude.{◌≡◌, ◌∷◌, ◌++◌, [], ℕ, List};
-ghost use Rattle.tx_seen.specs.declared.fed.Value.{Value};
-ghost use Rattle.tx_seen.specs.declared.place.Place.{Place};
-ghost use Rattle.tx_seen.specs.Readings.{Item, Gave, Reading, Answers};
-ghost use Rattle.tx_scan.specs.Integers.{integer, IsQuantity};
+ghost use Rattle.tx_seen.specs.declared.item.Item.{Item};
+ghost use Rattle.tx_seen.specs.declared.item.Item.TheVariants.{Gave};
+ghost use Rattle.tx_seen.specs.Readings.{Reading, Answers};
+ghost use Rattle.tx_scan.specs.Integers.{integer};
 ghost use Rattle.tx_scan.specs.IntegerRests.{HasTaken, waiting};
 ghost use Rattle.tx_scan.specs.Supplied.{value_for, AnswersSupplied, NeedsFewer, NeedsNothing};
 
 use crate::scans::IntScan;
-use tx_seen::{Fed, Kind, Place, Value};
-
-/// What stands at the places of a table.
-pub trait Quantities {
-    /// The value at a place.
-    ghost value_at: { Self → Place → Value };
-
-    /// The number that stands at a place, within 2^31-1 either way; a size counts in scaled points.
-    fn quantity(&self, place: &Place) -> Value
-        ensures value { result ≡ value_at self.now place.now }
-        ensures range { IsQuantity result };
-}
+use tx_seen::{Fed, Kind, Quantities, Value};
 
 /// A scan that needs values. Each value makes the number of those that it needs at most smaller.
 pub trait Needs {
@@ -34,7 +23,6 @@ pub trait Needs {
 
     /// Takes the value that it needs.
     fn take_value(&mut self, value: &Value) -> Fed<Self::Output>
-        requires { IsQuantity value.now }
         ensures answer { (taken : List Item) → has_taken self.old taken → Answers reading has_taken (taken ++ Gave value.now ∷ []) self.new result }
         ensures fewer { NeedsFewer (more_needed self.old) (more_needed self.new) result };
 }

@@ -1,5 +1,6 @@
 use Rattle.std.proofs.Common.{List}
-use Rattle.tx_seen.specs.Readings.{Item, Answers}
+use Rattle.tx_seen.specs.declared.item.Item.{Item}
+use Rattle.tx_seen.specs.Readings.{Answers}
 use Rattle.tx_scan.specs.Supplied.{AnswersSupplied, needed}
 use Rattle.tx_scan.proofs.supplying.supply.Given as goal
 

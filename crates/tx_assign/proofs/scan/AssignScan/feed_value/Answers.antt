@@ -1,0 +1,11 @@
+use Rattle.std.proofs.Common.{rules}
+use Rattle.tx_assign.proofs.Steps.{value-by-size, value-by-integer}
+use Rattle.tx_assign.proofs.scan.AssignScan.feed_value.Goals as goal
+
+pub returns-then-takes_size-clause-answer : goal.returns-then-takes_size-clause-answer
+returns-then-takes_size-clause-answer c =
+    value-by-size c.args.purpose c.args.self.now.place c.restart.new.self c.args.token.now c.feed_size.new.self c.feed_size.result (search rules) c.restart.ensures.scan c.feed_size.ensures.answer
+
+pub returns-else-takes_size-clause-answer : goal.returns-else-takes_size-clause-answer
+returns-else-takes_size-clause-answer c =
+    value-by-integer c.args.purpose c.args.self.now.place c.restart-else-takes_size.new.self c.args.token.now c.feed_integer.new.self c.feed_integer.result (search rules) c.restart-else-takes_size.ensures.scan c.feed_integer.ensures.answer

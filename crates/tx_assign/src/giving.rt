@@ -1,0 +1,92 @@
+//! The values that an assignment needs while it is read.
+ghost use Rattle.std.specs.Prelude.{◌≡◌, ◌∷◌, ◌++◌, [], List, IfOk};
+ghost use Rattle.tx_seen.specs.declared.item.Item.{Item};
+ghost use Rattle.tx_seen.specs.declared.item.Item.TheVariants.{Gave};
+ghost use Rattle.tx_seen.specs.Readings.{Answers};
+ghost use Rattle.tx_scan.specs.Rests.{IsGivenBy};
+ghost use Rattle.tx_scan.specs.Supplied.{NeedsFewer};
+ghost use Rattle.tx_assign.specs.Assignments.{assignment};
+ghost use Rattle.tx_assign.specs.declared.types.Assigning.{Assigning};
+ghost use Rattle.tx_assign.specs.Rests as rests;
+ghost use Rattle.tx_assign.specs.Rests.{HasTaken, more_needed};
+
+use crate::scan::{AssignScan, AssignStage};
+use crate::types::{Assignment, Purpose};
+use std::alloc::AllocError;
+use tx_prim::{Numbered, Operation};
+use tx_seen::{Fed, TexError, Value};
+
+impl AssignScan {
+    /// Takes the value that it needs. The answer is what reading gives of all that was taken. Its only error is want of
+    /// memory.
+    pub fn give(&mut self, value: &Value) -> Result<Fed<Assignment>, AllocError>
+        ensures answer { (assigning : Assigning) → (taken : List Item) → HasTaken assigning self.old taken → IfOk result (Answers (assignment assigning) (HasTaken assigning) (taken ++ Gave value.now ∷ []) self.new) }
+        ensures part { IfOk result (IsGivenBy rests.rest rests.held self.old value.now self.new) }
+        ensures fewer { IfOk result (NeedsFewer (more_needed self.old) (more_needed self.new)) }
+    {
+        self.behind_value(value)
+    }
+
+    /// What it is behind a value. Its only error is want of memory.
+    fn behind_value(&mut self, value: &Value) -> Result<Fed<Assignment>, AllocError>
+        ensures part { IfOk result (IsGivenBy rests.rest rests.held self.old value.now self.new) }
+        ensures fewer { IfOk result (NeedsFewer (more_needed self.old) (more_needed self.new)) }
+    {
+        match self.stage {
+            AssignStage::Number(kind, operation) => self.give_number(kind, operation, value),
+            AssignStage::Integer(purpose) => self.give_integer(purpose, value),
+            AssignStage::LetName | AssignStage::LetBehindName => {
+                Ok(Fed::Wrong(TexError::MissingName))
+            }
+            AssignStage::LetBehindEquals | AssignStage::LetToken => {
+                Ok(Fed::Wrong(TexError::MissingName))
+            }
+            AssignStage::Operand(_) => Ok(Fed::Wrong(TexError::NoAssignment)),
+            AssignStage::Equals(_) | AssignStage::By(_) | AssignStage::ByEnd(_) => {
+                Ok(Fed::Wrong(TexError::MissingNumber))
+            }
+            AssignStage::Size(_) => Ok(Fed::Wrong(TexError::MissingNumber)),
+        }
+    }
+
+    /// The value that the number of a register or a code waits for. Its only error is want of memory.
+    fn give_number(
+        &mut self,
+        kind: Numbered,
+        operation: Option<Operation>,
+        value: &Value,
+    ) -> Result<Fed<Assignment>, AllocError>
+        requires { self.old.stage ≡ AssignStage.Number kind operation }
+        ensures part { IfOk result (IsGivenBy rests.rest rests.held self.old value.now self.new) }
+        ensures fewer { IfOk result (NeedsFewer (more_needed self.old) (more_needed self.new)) }
+    {
+        match self.integer.give(value) {
+            Fed::More(want) => Ok(Fed::More(want)),
+            Fed::Need(wanted) => Ok(Fed::Need(wanted)),
+            Fed::Done(number, 0) => Ok(self.end_number(kind, operation, number)),
+            Fed::Done(number, _) => match self.behind.take() {
+                Some(token) => self.feed_behind_number(kind, operation, number, &token),
+                None => Ok(self.end_number(kind, operation, number)),
+            },
+            Fed::Wrong(error) => Ok(Fed::Wrong(error)),
+        }
+    }
+
+    /// The value that a number waits for. Its only error is want of memory.
+    fn give_integer(
+        &mut self,
+        purpose: Purpose,
+        value: &Value,
+    ) -> Result<Fed<Assignment>, AllocError>
+        requires { self.old.stage ≡ AssignStage.Integer purpose }
+        ensures part { IfOk result (IsGivenBy rests.rest rests.held self.old value.now self.new) }
+        ensures fewer { IfOk result (NeedsFewer (more_needed self.old) (more_needed self.new)) }
+    {
+        match self.integer.give(value) {
+            Fed::More(want) => Ok(Fed::More(want)),
+            Fed::Need(wanted) => Ok(Fed::Need(wanted)),
+            Fed::Done(number, back) => self.end_integer(purpose, number, back),
+            Fed::Wrong(error) => Ok(Fed::Wrong(error)),
+        }
+    }
+}

@@ -1,0 +1,47 @@
+//! How far the scan of an assignment is.
+
+use crate::types::Purpose;
+use tx_prim::{Numbered, Operation};
+use tx_scan::{DimenScan, IntScan};
+use tx_seen::{Place, Seen};
+
+/// The part of an assignment that comes next.
+#[derive(Clone, Copy)]
+pub enum AssignStage {
+    /// The name that \let defines.
+    LetName,
+    /// An optional `=` behind it, with spaces before it, or the token that it is to be like.
+    LetBehindName,
+    /// An optional space behind that `=`, or the token.
+    LetBehindEquals,
+    /// The token.
+    LetToken,
+    /// What this operation changes.
+    Operand(Operation),
+    /// The number of a register or a code, of which then a value comes, or an operand of this operation.
+    Number(Numbered, Option<Operation>),
+    /// An optional `=`, with spaces before it, and the value.
+    Equals(Purpose),
+    /// An optional `by`, with spaces before it, and the value.
+    By(Operation),
+    /// The y of `by`.
+    ByEnd(Operation),
+    /// A number.
+    Integer(Purpose),
+    /// A size.
+    Size(Purpose),
+}
+
+/// An assignment that is being scanned.
+#[derive(Drop)]
+pub struct AssignScan {
+    pub(crate) stage: AssignStage,
+    /// What is assigned to; until that is read, some place.
+    pub(crate) place: Place,
+    /// The number of a register or a code, and then the value.
+    pub(crate) integer: IntScan,
+    /// The value, where it is a size.
+    pub(crate) size: DimenScan,
+    /// The token behind the number of a register, where that waits for a value.
+    pub(crate) behind: Option<Seen>,
+}

@@ -1,0 +1,40 @@
+//! Clones of scans. Each is the same as its source; its only error is want of memory.
+ghost use Rattle.std.specs.Prelude.{◌≡◌};
+
+use crate::scans::{DimenScan, IntScan, KeyScan};
+use std::alloc::AllocError;
+
+impl Clone for IntScan {
+    ghost is_clone = { λ source copy. copy ≡ source };
+
+    fn clone(&self) -> Result<Self, AllocError> {
+        Ok(IntScan {
+            outers: self.outers.clone()?,
+            negative: self.negative,
+            stage: self.stage,
+        })
+    }
+}
+
+impl Clone for DimenScan {
+    ghost is_clone = { λ source copy. copy ≡ source };
+
+    fn clone(&self) -> Result<Self, AllocError> {
+        Ok(DimenScan {
+            negative: self.negative,
+            stage: self.stage,
+            digits: self.digits.clone()?,
+        })
+    }
+}
+
+impl Clone for KeyScan {
+    ghost is_clone = { λ source copy. copy ≡ source };
+
+    fn clone(&self) -> Result<Self, AllocError> {
+        Ok(KeyScan {
+            word: self.word.clone()?,
+            read: self.read,
+        })
+    }
+}
