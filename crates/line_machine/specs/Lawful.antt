@@ -6,6 +6,8 @@ use Rattle.tx_machine.specs.declared.types.Reply.TheVariants.{Found, Absent, Lin
 use Rattle.tx_machine.specs.Machine.{Stepped, IsLawful, Ready, mode_after}
 use Rattle.line_machine.specs.declared.state.Phase.{Phase}
 use Rattle.line_machine.specs.declared.state.Phase.TheVariants.{Begins, Reads, Fails, Waits, Halted}
+use Rattle.tx_machine.specs.Same.{same-tells}
+use Rattle.line_machine.specs.Codes.{meaning_code}
 use Rattle.line_machine.specs.State.{Meaning, mode_of}
 use Rattle.line_machine.specs.Turns.{line_machine, reads, ships, steps, is_full_stop, heard}
 
@@ -46,4 +48,5 @@ line-machine-lawful = record {
   costs = λ s. omega arith;
   turns = λ s ready. step-leads s s.phase;
   takes = λ s kind reply waits fit. reply-leads reply;
+  tells = same-tells meaning_code;
 }

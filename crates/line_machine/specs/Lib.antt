@@ -1,4 +1,5 @@
 pub mod Errors
 pub mod State
+pub mod Codes
 pub mod Turns
 pub mod Lawful

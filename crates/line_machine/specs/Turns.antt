@@ -18,6 +18,8 @@ use Rattle.line_machine.specs.declared.error.LineError.TheVariants.{TooLong, Fil
 use Rattle.line_machine.specs.declared.state.Phase.{Phase}
 use Rattle.line_machine.specs.declared.state.Phase.TheVariants.{Begins, Reads, Fails, Waits, Halted}
 use Rattle.line_machine.specs.Errors.{number_of}
+use Rattle.tx_machine.specs.Same.{same_by}
+use Rattle.line_machine.specs.Codes.{meaning_code}
 use Rattle.line_machine.specs.State.{Meaning, mode_of}
 
 -- a line but for its LF
@@ -100,6 +102,7 @@ line_machine = record {
   step = step;
   take = λ s reply. record s { phase = heard reply };
   mode = λ s. mode_of s.phase;
+  same = same_by meaning_code;
 }
 
 -- an event, the state after it and the transcript that waits are those of this turn

@@ -5,4 +5,4 @@ pub mod Stretches
 pub mod Standing
 pub mod Keeping
 pub mod LastRow
-pub mod Replaced
+pub mod Resuming

@@ -1,8 +1,9 @@
 -- Rows whose reads an edit leaves stand on the edited files, a run goes on from any of its rows, and where all reads are
 -- left all of it stands, its end included.
-use Rattle.std.proofs.Common.{◌≡◌, ℕ, zero, suc, ◌+◌, ◌-◌, ◌<◌, ◌≤◌, Bool, true, false, cond, ◌&&◌, List, [], ◌∷◌, length, take, slice_index_or, Option, Some, None, refl, sym, ap, subst, ◌∙◌, arith, true≢false, unwrap_or}
+use Rattle.std.proofs.Common.{◌≡◌, ℕ, zero, suc, ◌+◌, ◌-◌, ◌<◌, ◌≤◌, Bool, true, false, cond, ◌&&◌, List, [], ◌∷◌, length, take, slice_index_or, Option, Some, None, refl, sym, ap, subst, ◌∙◌, arith, true≢false, unwrap_or, nat_eq}
 use Rattle.std.specs.List.{prefix_len, list_all}
-use Rattle.std.proofs.lemmas.List.{length-take, length-take-le, length-map, take-map}
+use Rattle.std.proofs.lemmas.Bool.{eqb-true, eq-eqb}
+use Rattle.std.proofs.lemmas.List.{length-take, length-take-le, length-map, take-map, take_all}
 use Rattle.std.proofs.lemmas.List.Sums.{prefix_len-le-length}
 use Rattle.std.proofs.lemmas.Option.{slice_get_within, get_or_from_slice_get}
 use Rattle.tx_bytes.specs.Files.{Files}
@@ -22,8 +23,10 @@ use Rattle.tx_machine.specs.Opens.{innermost}
 use Rattle.tx_machine.specs.Run.{run_from, closed_run, end_of, error_at, ended, page_start}
 use Rattle.tx_machine.specs.Turn.{Place, Progress, stretch}
 use Rattle.tx_checkpoint.specs.declared.row.Row.{Row}
+use Rattle.tx_checkpoint.specs.declared.row.Last.{Last}
+use Rattle.tx_files.specs.Reads.{untouched}
 use Rattle.tx_checkpoint.specs.Rows.{History, PageRow, page_row, rows_in, last_of, behind, only, closed_rows, rows_from, fresh_rows, run_of, turns_of}
-use Rattle.tx_checkpoint.specs.Resume.{stays, resume, stands, Begun, after_rows, run_behind}
+use Rattle.tx_checkpoint.specs.Resume.{stays, resume, all_stay, stands, Begun, after_rows, run_behind}
 use Rattle.tx_checkpoint.specs.Laws.{AreUntouched, IsLastUntouched}
 use Rattle.tx_checkpoint.proofs.Untouched.{AreLeft, untouched-left}
 use Rattle.tx_checkpoint.proofs.Edited.{Edited, edited-is, same-read}
@@ -60,6 +63,23 @@ module _ {X : Type 0} (p : X → Bool) where
       let rest : k ≤ prefix_len p xs = longest_front xs k (omega arith) parts.1 in
       let more : prefix_len p (x ∷ xs) ≡ 1 + prefix_len p xs = ap (λ b. cond b (1 + prefix_len p xs) 0) parts.0 in
       omega arith
+
+  -- all pass where that front is all
+  pub all-front : (xs : List X) → nat_eq (prefix_len p xs) (length xs) ≡ list_all p xs
+  all-front xs = by (nat_eq (prefix_len p xs) (length xs)) (list_all p xs) refl refl
+    where
+      by : (a b : Bool) → nat_eq (prefix_len p xs) (length xs) ≡ a → list_all p xs ≡ b → a ≡ b
+      by true true is passes = refl
+      by false false is passes = refl
+      by true false is passes = sym (ap (list_all p) (sym (take_all (length xs) xs (omega arith)) ∙ ap (λ n. take n xs) (sym (eqb-true (prefix_len p xs) (length xs) is))) ∙ front_passes xs) ∙ passes
+      by false true is passes =
+          let most : length xs ≤ prefix_len p xs = longest_front xs (length xs) (omega arith) (ap (list_all p) (take_all (length xs) xs (omega arith)) ∙ passes) in
+          let least : prefix_len p xs ≤ length xs = prefix_len-le-length p xs in
+          sym is ∙ eq-eqb (prefix_len p xs) (length xs) (omega arith)
+
+-- so the row at which formatting resumes tells whether everything stands
+pub stands-by : {S : Type 0} (rows : List (Row S)) (last : Last) (e : Edit) (kept len : ℕ) → kept ≡ resume rows e → len ≡ length rows → (nat_eq kept len && untouched last.seen e) ≡ all_stay rows last e
+stands-by rows last e kept len resumes all = (λ i. nat_eq (resumes i) (all i) && untouched last.seen e) ∙ ap (λ b. b && untouched last.seen e) (all-front (stays e) rows)
 
 pub resumes-last : {S : Type 0} (rows : List (Row S)) (e : Edit) → IsLastUntouched rows (resume rows e) e
 resumes-last rows e = record {

@@ -1,5 +1,5 @@
 -- What rows in code mean: the rows of a run, their states in the machine's own form.
-use Rattle.std.specs.Prelude.{◌≡◌, ℕ, List, [], ◌++◌, Some, map, take, unwrap_or}
+use Rattle.std.specs.Prelude.{◌≡◌, ℕ, List, [], Some, map, unwrap_or}
 use Rattle.std.specs.List.{All}
 use Rattle.tx_bytes.specs.Files.{Files}
 use Rattle.tx_machine.specs.declared.types.Close.TheVariants.{Page, Spent}
@@ -48,13 +48,6 @@ FormattedIsIdle m meaning pending (Over last) state = Unit {0}
 -- where a page begins, in code
 abbrev pub begun_of : {S M : Type 0} → (S → M) → Spot S → Begun M
 begun_of meaning spot = record { state = meaning spot.state; opens = spot.opens }
-
--- rows in code of which the first k are kept and others come behind them
-pub record AreReplaced {S : Type 0} (old : Rows S) (kept : ℕ) (later new : Rows S) : Type 0 where
-  pub pages_are : new.pages.items ≡ take kept old.pages.items ++ later.pages.items
-  pub pieces_are : new.pieces.items ≡ take kept old.pieces.items ++ later.pieces.items
-  pub rows_are : new.rows.items ≡ take kept old.rows.items ++ later.rows.items
-  pub last_is : new.last ≡ later.last
 
 -- rows in code that are the same, whatever room is reserved for more
 pub record AreSame {S : Type 0} (old new : Rows S) : Type 0 where

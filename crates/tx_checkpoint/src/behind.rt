@@ -2,7 +2,7 @@ ghost use Rattle.std.specs.Prelude.{◌≡◌, ◌≤◌, length, take, IfOk, On
 ghost use Rattle.tx_machine.specs.Ranges.{IsDate};
 ghost use Rattle.tx_machine.specs.Steps.{raised};
 ghost use Rattle.tx_checkpoint.specs.Meant.{AreRows, AreIdle, IsIdle, begun_of, rows_meant};
-ghost use Rattle.tx_checkpoint.specs.Resume.{after_rows, run_behind, start_of};
+ghost use Rattle.tx_checkpoint.specs.Resume.{after_rows, start_of};
 ghost use Rattle.tx_checkpoint.specs.Rows as specs;
 ghost use Rattle.tx_checkpoint.specs.Rows.{all_turns};
 
@@ -64,7 +64,7 @@ pub fn fresh_rows<M: Machine>(
 
 /// Where the page behind the first rows begins: with the state and the open files after the last of them, which is
 /// shared; where none is kept, at the start. Its only error is want of memory.
-fn spot_behind<M: Machine>(
+pub fn spot_behind<M: Machine>(
     alloc: Global,
     machine: &M,
     rows: &[Row<M::State>],
@@ -87,39 +87,4 @@ fn spot_behind<M: Machine>(
         opens: row.opens.clone()?,
         left: 0,
     })
-}
-
-/// The run on these files behind the first rows, which it begins with a whole budget, for the pages that are left. Each turn raises `steps` by one. Its only error is want of memory.
-pub fn format_behind<M: Machine>(
-    alloc: Global,
-    machine: &M,
-    files: &FileSet,
-    rows: &[Row<M::State>],
-    kept: u32,
-    main: &Name,
-    date: &Date,
-    limits: &Limits,
-    steps: &mut Steps,
-) -> Result<Rows<M::State>, AllocError>
-    requires dated { IsDate date.now }
-    requires within { kept ≤ length rows.now }
-    requires fewer { kept ≤ limits.now.pages }
-    requires idle { AreIdle M.formatter M.meaning M.pending rows.now }
-    ensures rows { IfOk result (λ later. AreRows M.meaning later (run_behind M.formatter files.now (rows_meant M.meaning rows.now) kept main.now date.now limits.now)) }
-    ensures idle { IfOk result (λ later. AreIdle M.formatter M.meaning M.pending later.rows.items) }
-    ensures counted { OnOk result (steps.new ≡ raised steps.old (all_turns (run_behind M.formatter files.now (rows_meant M.meaning rows.now) kept main.now date.now limits.now))) }
-
-    // Also where memory was wanting.
-    ensures bound { steps.new ≤ raised steps.old (all_turns (run_behind M.formatter files.now (rows_meant M.meaning rows.now) kept main.now date.now limits.now)) }
-{
-    let spot = spot_behind(alloc, machine, rows, kept as usize, main, date)?;
-    format_rows(
-        alloc,
-        machine,
-        files,
-        spot,
-        limits.budget,
-        limits.pages - kept,
-        steps,
-    )
 }

@@ -4,17 +4,16 @@
 //! Proved: the laws by which formatting may resume, over any machine, and that `Rows::resume_at` and `Rows::stands` find
 //! exactly these places. Nothing is left to tests.
 //!
-//! Read `row`, `format` and `behind` (how rows are made), `rows` (where to resume), `replace` and `laws` (why that is right); the definitions are in
-//! specs/.
+//! Read `row`, `format` and `behind` (how rows are made, and where a page begins behind some), `rows` (where to resume) and
+//! `laws` (why that is right); the definitions are in specs/.
 #![tactic(auto)]
 
 pub mod behind;
 pub mod format;
 pub mod laws;
-pub mod replace;
 pub mod row;
 pub mod rows;
 
-pub use behind::{format_behind, fresh_rows};
+pub use behind::{fresh_rows, spot_behind};
 pub use format::{format_row, format_rows};
 pub use row::{Formatted, Last, Row, Rows};

@@ -9,3 +9,15 @@ pub mod Suffix
 pub mod Moved
 pub mod Inside
 pub mod Fitting
+pub mod Searching
+pub mod Tailing
+pub mod Fronts
+pub mod Reuse
+pub mod Untils
+pub mod Found
+pub mod Spliced
+pub mod Furthers
+pub mod Carried
+pub mod Laters
+pub mod Reusable
+mod Unmoved

@@ -43,11 +43,11 @@ limit_error : (files : Files) (code : ℕ) (file : Option OpenFile) → is_page_
 limit_error files code None = refl
 limit_error files code (Some file) = refl
 
-limit_now : (files : Files) (opens : List OpenFile) (end : RunEnd) → is_page_limit (end_now files opens end) ≡ is_page_limit end
-limit_now files opens End = refl
-limit_now files opens (Error code name line) = limit_error files code (innermost opens)
-limit_now files opens Budget = refl
-limit_now files opens PageLimit = refl
+pub limit-now : (files : Files) (opens : List OpenFile) (end : RunEnd) → is_page_limit (end_now files opens end) ≡ is_page_limit end
+limit-now files opens End = refl
+limit-now files opens (Error code name line) = limit_error files code (innermost opens)
+limit-now files opens Budget = refl
+limit-now files opens PageLimit = refl
 
 is_limit : (end : RunEnd) → is_page_limit end ≡ true → end ≡ PageLimit
 is_limit End is = absurd (true≢false (sym is))
@@ -73,7 +73,7 @@ module _ {S : Type 0} (m : Formatter S) (before after : Files) (budget most_old 
   same_shown = zip-map (PageKin (ReadsOnAlike before after) no_reads) _ _ (λ p q same i. record { body = same.body i; piece = same.piece i; turns = same.turns i; state = same.state i }) here.pages there.pages kin.pages
 
   limits_same : is_page_limit there.last.end ≡ is_page_limit here.last.end
-  limits_same = ap is_page_limit kin.last.end ∙ limit_now after there.last.opens here.last.end
+  limits_same = ap is_page_limit kin.last.end ∙ limit-now after there.last.opens here.last.end
 
   abbrev by_cases : Bool → Bool → History S
   by_cases b c = cond b (cut most_new begun there) (cond c (gone_on m after budget most_new begun there) there)

@@ -1,4 +1,9 @@
 pub mod Shift
 pub mod Meeting
+pub mod Front
 pub mod Limits
+pub mod Reuse
+pub mod Further
+pub mod Later
 pub mod Laws
+pub mod Tails

@@ -1,5 +1,5 @@
 -- Rows that stand behind an edit move with it: their offsets in the edited file, and what they read of it.
-use Rattle.std.specs.Prelude.{◌≡◌, true, List, map, if◌then◌else◌}
+use Rattle.std.specs.Prelude.{◌≡◌, ℕ, true, List, ◌++◌, map, take, drop, if◌then◌else◌}
 use Rattle.std.specs.List.{All}
 use Rattle.std.specs.Str.{bytes_eq}
 use Rattle.std.specs.FinMap.{get}
@@ -26,6 +26,10 @@ shifted_opens e opens = map (shifted_file e) opens
 -- a row moves its open files and its reads; its turns and its state stay
 abbrev pub shifted_row : {S : Type 0} → Edit → Row S → Row S
 shifted_row e row = record row { seen = shifted_reads e row.seen; opens = shifted_opens e row.opens }
+
+-- rows of which so many behind a number are moved
+abbrev pub with_part_shifted : {S : Type 0} → Edit → ℕ → ℕ → List (Row S) → List (Row S)
+with_part_shifted e from count rows = take from rows ++ (map (shifted_row e) (take count (drop from rows)) ++ drop count (drop from rows))
 
 abbrev pub shifted_page : {S : Type 0} → Edit → PageRow S → PageRow S
 shifted_page e page = record page { row = shifted_row e page.row }

@@ -1,7 +1,8 @@
 //! When a new row meets an old one.
-ghost use Rattle.std.specs.Prelude.{◌≡◌, ◌↔◌, IsTrue};
+ghost use Rattle.std.specs.Prelude.{◌≡◌};
+ghost use Rattle.tx_checkpoint.specs.Meant.{row_meant};
 ghost use Rattle.tx_quiesce.specs.Meeting as spec;
-ghost use Rattle.tx_quiesce.specs.Meeting.{Fits};
+ghost use Rattle.tx_quiesce.specs.Meeting.{row_fits};
 
 use tx_checkpoint::Row;
 use tx_files::{Edit, Seen};
@@ -18,10 +19,13 @@ fn offset_fits(old: u64, new: u64, e: &Edit) -> bool
     left <= new && new - left == e.put.len() as u64
 }
 
-/// Whether an open file of the new run is that of the old run, read up to the same place.
+/// Whether an open file of the new run is that of the old run, read up to the same place. Offsets are compared before names.
 fn file_fits(old: &OpenFile, new: &OpenFile, e: &Edit) -> bool
     ensures { result ≡ spec.file_fits e.now old.now new.now }
 {
+    if new.offset != old.offset && !offset_fits(old.offset, new.offset, e) {
+        return false;
+    }
     if new.name.as_slice() != old.name.as_slice() {
         return false;
     }
@@ -50,9 +54,12 @@ fn opens_fit(old: &[OpenFile], new: &[OpenFile], e: &Edit) -> bool
 /// Whether a new row fits an old one, so that the rest of the run must come out as after the old one as long as it doesn't
 /// ask for the edited file by its name. The open files are compared before the states. It takes no memory.
 pub fn meets<M: Machine>(machine: &M, row: &Row<M::State>, new: &Row<M::State>, e: &Edit) -> bool
-    ensures { IsTrue result ↔ Fits M.meaning row.now new.now e.now }
+    ensures { result ≡ row_fits M.formatter e.now (row_meant M.meaning row.now) (row_meant M.meaning new.now) }
 {
-    opens_fit(row.opens.as_slice(), new.opens.as_slice(), e) && machine.same(&new.state, &row.state)
+    if !opens_fit(row.opens.as_slice(), new.opens.as_slice(), e) {
+        return false;
+    }
+    machine.same(&new.state, &row.state)
 }
 
 /// Whether some turns asked to open this file or to take it whole. It takes no memory.

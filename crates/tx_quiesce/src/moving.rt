@@ -1,7 +1,7 @@
 //! How reused rows move with an edit.
-ghost use Rattle.std.specs.Prelude.{◌≡◌, ◌<◌, length, map, slice_get, slice_set, IfSome};
+ghost use Rattle.std.specs.Prelude.{◌≡◌, ◌<◌, ◌≤◌, ◌+◌, length, map, take, drop, slice_get, slice_set, vec_len, vec_capacity, IfSome};
 ghost use Rattle.std.specs.List.{All};
-ghost use Rattle.tx_quiesce.specs.Shift.{CanShiftFile, CanShiftRow, CanShiftLast, AreShifted, shifted_file, shifted_opens, shifted_row, shifted_last};
+ghost use Rattle.tx_quiesce.specs.Shift.{CanShiftFile, CanShiftRow, CanShiftLast, AreShifted, with_part_shifted, shifted_file, shifted_opens, shifted_row, shifted_last};
 
 use tx_checkpoint::{Last, Row, Rows};
 use tx_files::Edit;
@@ -21,7 +21,7 @@ fn relocate_file(opens: &mut Opens, at: usize, e: &Edit)
 }
 
 /// Moves all open files.
-fn relocate_opens(opens: &mut Opens, e: &Edit)
+pub fn relocate_opens(opens: &mut Opens, e: &Edit)
     requires { All (CanShiftFile e.now) opens.old }
     ensures { opens.new ≡ shifted_opens e.now opens.old }
 {
@@ -39,14 +39,37 @@ fn relocate_row<S>(row: &mut Row<S>, e: &Edit)
     relocate_opens(&mut row.opens, e);
 }
 
-/// Moves these rows, as `relocate` does; takes no memory.
+/// Moves these rows, as `relocate` does; takes no memory. Where the edit puts in as many bytes as it takes out, they stay.
 pub fn relocate_rows<S>(rows: &mut [Row<S>], e: &Edit)
     requires { All (CanShiftRow e.now) rows.old }
     ensures { rows.new ≡ map (shifted_row e.now) rows.old }
 {
+    if e.removed == e.put.len() as u64 {
+        return;
+    }
     for at in 0..rows.len() {
         relocate_row(&mut rows[at], e);
     }
+}
+
+/// Moves so many of these rows behind a number.
+fn relocate_range<S>(rows: &mut [Row<S>], from: usize, count: usize, e: &Edit)
+    requires within { from + count ≤ length rows.old }
+    requires can { All (CanShiftRow e.now) (take count (drop from rows.old)) }
+    ensures { rows.new ≡ with_part_shifted e.now from count rows.old }
+{
+    relocate_rows(&mut rows[from..from + count], e);
+}
+
+/// Moves so many of these rows behind a number, as `relocate` does; takes no memory.
+pub fn relocate_part<S>(rows: &mut Vec<Row<S>>, from: usize, count: usize, e: &Edit)
+    requires within { from + count ≤ length rows.old.items }
+    requires can { All (CanShiftRow e.now) (take count (drop from rows.old.items)) }
+    ensures items { rows.new.items ≡ with_part_shifted e.now from count rows.old.items }
+    ensures len { vec_len rows.new ≡ vec_len rows.old }
+    ensures capacity { vec_capacity rows.old ≤ vec_capacity rows.new }
+{
+    relocate_range(rows.as_mut_slice(), from, count, e);
 }
 
 /// Moves the stretch after the rows, as `relocate` does; takes no memory.

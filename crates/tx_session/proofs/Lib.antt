@@ -1,2 +1,4 @@
 mod Replaying
+pub mod Reusing
+mod Saying
 mod Showing

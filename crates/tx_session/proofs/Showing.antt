@@ -1,11 +1,11 @@
 -- What a session keeps shows the fresh run on its files, and after an edit the one on the edited files.
-use Rattle.std.proofs.Common.{◌≡◌, ℕ, ◌+◌, ◌-◌, ◌*◌, ◌^◌, ◌<◌, ◌≤◌, true, false, cond, List, [], ◌++◌, length, get_or, take, drop, sym, ap, subst, ◌∙◌, arith}
+use Rattle.std.proofs.Common.{◌≡◌, ℕ, ◌+◌, ◌-◌, ◌*◌, ◌^◌, ◌<◌, ◌≤◌, true, false, cond, List, [], ◌++◌, length, get_or, take, drop, Option, Some, None, refl, sym, ap, subst, ◌∙◌, arith}
+use Rattle.std.specs.Prelude.{IfSome}
 use Rattle.std.proofs.lemmas.List.{length-map, length-take-le, length-append}
 use Rattle.std.proofs.lemmas.List.Sums.{prefix_len-le-length}
-use Rattle.std.proofs.Math.Seq.{drop-append_seam}
 use Rattle.tx_bytes.specs.Files.{Files}
 use Rattle.tx_files.specs.declared.edit.Edit.{Edit}
-use Rattle.tx_files.specs.Edits.{fits_in, edited}
+use Rattle.tx_files.specs.Edits.{fits_in, edited, bytes_of}
 use Rattle.tx_machine.specs.Machine.{Formatter, IsLawful}
 use Rattle.tx_machine.specs.Steps.{raised}
 use Rattle.tx_dvi.specs.Page.{Page}
@@ -15,15 +15,23 @@ use Rattle.tx_machine.proofs.PageCounts.{pages-run_from}
 use Rattle.tx_machine.proofs.Running.{turns-run}
 use Rattle.tx_checkpoint.specs.Laws.{AreUntouched}
 use Rattle.tx_checkpoint.specs.Meant.{AreRows, AreIdle, rows_meant}
-use Rattle.tx_checkpoint.specs.Resume.{stays, resume, all_stay, stands, run_behind}
-use Rattle.tx_checkpoint.specs.Rows.{History, rows_in, behind, run_of, all_turns, turns_of}
-use Rattle.tx_checkpoint.proofs.Keeping.{turns-behind}
-use Rattle.tx_checkpoint.proofs.Replaced.{resume-rows, stands-rows}
+use Rattle.tx_checkpoint.specs.Resume.{stays, resume, all_stay, stands, start_of, run_behind}
+use Rattle.tx_checkpoint.specs.Rows.{History, rows_in, behind, run_of, all_turns}
+use Rattle.tx_checkpoint.specs.declared.row.Row.{Row}
+use Rattle.tx_checkpoint.specs.declared.row.Last.{Last}
+use Rattle.tx_checkpoint.proofs.Resuming.{resume-rows, stands-rows}
 use Rattle.tx_checkpoint.proofs.Standing.{rows-tell, resumes-last, fresh-stands, fresh-resumes}
+use Rattle.tx_quiesce.specs.Further.{CanReuse}
+use Rattle.tx_quiesce.specs.Later.{AreOfOneLength, turns_behind}
+use Rattle.tx_quiesce.specs.Meeting.{Meeting, first_meeting}
+use Rattle.tx_quiesce.specs.Reuse.{meeting_behind, reused_by, reused_rows, made_after}
+use Rattle.tx_quiesce.proofs.Found.{first-within, tail_is}
+use Rattle.tx_quiesce.proofs.Reusable.{can-reuse, can-unmeant}
+use Rattle.tx_session.proofs.Reusing.{seam_at, turns-are, reused-few, work-least}
 use Rattle.tx_session.specs.declared.kept.Made.{Made}
 use Rattle.tx_session.specs.Held.{Held, fresh, rows_of, body_of, transcript, joined_with, with_files, edited_session}
-use Rattle.tx_session.specs.Made.{Goes, IsSaid}
-use Rattle.tx_session.specs.Report.{resumed_after, kept_pages, report, work}
+use Rattle.tx_session.specs.Made.{Becomes, IsSaid}
+use Rattle.tx_session.specs.Report.{report_of, resumed_at, meeting_of, formatted_turns, report, work}
 use Rattle.tx_session.specs.Shows.{Shows}
 
 -- a count that has risen by no more than so much is within the sum
@@ -93,8 +101,11 @@ module _ {S M : Type 0} {m : Formatter M} {meaning : S → M} {pending : S → L
     kept-small = let fewer : kept ≤ held.limits.pages = kept-fewer in omega (arith, shows.limited.pages.1)
 
     module _ {files : Files} (fits : fits_in held.files e ≡ true) (changed : files ≡ edited held.files e) where
-      after : History M
-      after = rows_of m (with_files held files)
+      abbrev old : History M
+      old = rows_of m held
+
+      abbrev edited_run : History M
+      edited_run = rows_of m (edited_session held e)
 
       -- everything stands
       standing : all_stay made.rows.rows.items made.rows.last e ≡ true → stands (rows_of m held) e ≡ true
@@ -113,74 +124,118 @@ module _ {S M : Type 0} {m : Formatter M} {meaning : S → M} {pending : S → L
       }
 
       pub work-still : all_stay made.rows.rows.items made.rows.last e ≡ true → work m held e ≡ 0
-      work-still stay = ap (λ b. cond b 0 (turns_of (drop (resume (rows_in (rows_of m held).pages) e) (rows_of m (edited_session held e)).pages) + (rows_of m (edited_session held e)).last.turns)) (standing stay)
+      work-still stay = ap (λ b. cond b 0 (formatted_turns (resumed_at old e) (reused_rows held.limits.pages (length old.pages) (resumed_at old e) (meeting_of m e old edited_run)) old edited_run (meeting_of m e old edited_run))) (standing stay)
 
-      pages_after : (new : Made S) → Shows m meaning pending (with_files held files) new → length new.rows.pages.items ≡ length (fresh m (edited_session held e)).ran.pages
-      pages_after new shown = ap length shown.rows.pages_are ∙ length-map (rows_of m (with_files held files)).pages (λ page. page.body)
-          ∙ sym (ap (λ c. length c.ran.pages) (fresh-tells m (with_files held files)) ∙ length-map (rows_of m (with_files held files)).pages (λ page. page.body))
-          ∙ ap (λ now. length (fresh m (with_files held now)).ran.pages) changed
+      pages_after : (new : Made S) → Shows m meaning pending (with_files held files) new → length new.rows.pages.items ≡ length edited_run.pages
+      pages_after new shown = ap length shown.rows.pages_are ∙ length-map (rows_of m (with_files held files)).pages (λ page. page.body) ∙ ap (λ now. length (rows_of m (with_files held now)).pages) changed
 
-      pub report-still : all_stay made.rows.rows.items made.rows.last e ≡ true → resumed_after (length made.rows.pages.items) (length made.rows.pages.items) ≡ report m held e
+      pub report-still : all_stay made.rows.rows.items made.rows.last e ≡ true → report_of (length made.rows.pages.items) (length made.rows.pages.items) 0 ≡ report m held e
       report-still stay =
-          let all : kept_pages m held e ≡ length (rows_of m held).pages = ap (λ b. cond b (length (rows_of m held).pages) (resume (rows_in (rows_of m held).pages) e)) (standing stay) in
-          let old : length made.rows.pages.items ≡ length (rows_of m held).pages = ap length shows.rows.pages_are ∙ length-map (rows_of m held).pages (λ page. page.body) in
-          λ i. resumed_after ((old ∙ sym all) i) (pages_after made (shows-still stay) i)
+          let pages : length made.rows.pages.items ≡ length edited_run.pages = pages_after made (shows-still stay) in
+          (λ i. report_of (pages i) (pages i) 0)
+          ∙ sym (ap (λ b. cond b (report_of (length edited_run.pages) (length edited_run.pages) 0) (report_of (length edited_run.pages) (resumed_at old e) (reused_rows held.limits.pages (length old.pages) (resumed_at old e) (meeting_of m e old edited_run)))) (standing stay))
 
-      -- formatting resumes
+      -- formatting resumes, and goes on until a new row meets an old one
       abbrev rest : History M
-      rest = run_behind m files (rows_meant meaning made.rows.rows.items) kept held.main held.date held.limits
+      rest = run_behind m files (rows_in old.pages) kept held.main held.date held.limits
 
-      untouched_rows : AreUntouched (rows_in (rows_of m held).pages) kept e
-      untouched_rows = subst (λ i. AreUntouched (rows_in (rows_of m held).pages) i e) (sym kept_is) (resumes-last (rows_in (rows_of m held).pages) e).untouched
+      abbrev its_meeting : Option Meeting
+      its_meeting = meeting_behind m files e (rows_in old.pages) old.last kept held.main held.date held.limits
 
-      pub goes-on : rows_of m (with_files held files) ≡ behind (take kept (rows_of m held).pages) rest
-      goes-on =
+      -- as the rows in code tell it
+      abbrev meeting_told : Option Meeting
+      meeting_told = meeting_behind m files e (rows_meant meaning made.rows.rows.items) made.rows.last kept held.main held.date held.limits
+
+      told_is : meeting_told ≡ its_meeting
+      told_is = λ i. meeting_behind m files e (shows.rows.rows_are i) (shows.rows.last_is i) kept held.main held.date held.limits
+
+      untouched_rows : AreUntouched (rows_in old.pages) kept e
+      untouched_rows = subst (λ i. AreUntouched (rows_in old.pages) i e) (sym kept_is) (resumes-last (rows_in old.pages) e).untouched
+
+      kept_length : length (take kept old.pages) ≡ kept
+      kept_length = length-take-le kept old.pages (let within : kept ≤ length made.rows.rows.items = kept-rows in let rows = rows_length in omega arith)
+
+      resumes : rows_of m (with_files held files) ≡ behind (take kept old.pages) rest
+      resumes =
           ap (λ now. rows_of m (with_files held now)) changed
           ∙ fresh-resumes m held.files e held.main held.date held.limits fits kept untouched_rows
-          ∙ (λ i. behind (take kept (rows_of m held).pages) (run_behind m (sym changed i) (sym shows.rows.rows_are i) kept held.main held.date held.limits))
+          ∙ ap (λ now. behind (take kept old.pages) (run_behind m now (rows_in old.pages) kept held.main held.date held.limits)) (sym changed)
 
-      pub shows-on : (new : Made S) → Goes meaning made.rows kept rest new.rows → AreIdle m meaning pending new.rows.rows.items → IsSaid new → Shows m meaning pending (with_files held files) new
-      shows-on new goes idle said = record {
-        dated = shows.dated;
-        limited = shows.limited;
-        rows = subst (AreRows meaning new.rows) (sym goes-on) (goes (rows_of m held) shows.rows);
-        idle = idle;
-        said = said;
-      }
+      edited_is : edited_run ≡ behind (take kept old.pages) rest
+      edited_is = ap (λ now. rows_of m (with_files held now)) (sym changed) ∙ resumes
 
-      not_standing : all_stay made.rows.rows.items made.rows.last e ≡ false → stands (rows_of m held) e ≡ false
+      not_standing : all_stay made.rows.rows.items made.rows.last e ≡ false → stands old e ≡ false
       not_standing stay = sym (stands-rows meaning e shows.rows) ∙ stay
 
-      kept_length : length (take kept (rows_of m held).pages) ≡ kept
-      kept_length = length-take-le kept (rows_of m held).pages (let within : kept ≤ length made.rows.rows.items = kept-rows in let rows = rows_length in omega arith)
+      meeting_is : meeting_of m e old edited_run ≡ its_meeting
+      meeting_is =
+          (λ i. first_meeting m e (rows_in old.pages) old.last (sym kept_is i) (rows_in (drop (sym kept_is i) (edited_is i).pages)))
+          ∙ ap (λ pages. first_meeting m e (rows_in old.pages) old.last kept (rows_in pages)) (seam_at kept (take kept old.pages) rest.pages kept_length)
 
-      pub work-on : all_stay made.rows.rows.items made.rows.last e ≡ false → work m held e ≡ all_turns rest
-      work-on stay =
-          let part : ℕ → History M → ℕ = λ k h. turns_of (drop k h.pages) + h.last.turns in
-          let seam : drop kept (take kept (rows_of m held).pages ++ rest.pages) ≡ rest.pages =
-          ap (λ k. drop k (take kept (rows_of m held).pages ++ rest.pages)) (sym kept_length) ∙ drop-append_seam (take kept (rows_of m held).pages) rest.pages in
-          ap (λ b. cond b 0 (part (resume (rows_in (rows_of m held).pages) e) (rows_of m (edited_session held e)))) (not_standing stay)
-          ∙ (λ i. part (sym kept_is i) ((ap (λ now. rows_of m (with_files held now)) (sym changed) ∙ goes-on) i))
-          ∙ ap (λ pages. turns_of pages + rest.last.turns) seam
+      formatted_within : (o : Option Meeting) → its_meeting ≡ o → IfSome o (λ meeting. meeting.formatted ≤ length rest.pages)
+      formatted_within None is = tt
+      formatted_within (Some meeting) is = subst (λ n. meeting.formatted ≤ n) (length-map rest.pages (λ page. page.row)) (first-within m e old.last (rows_in old.pages) kept (rows_in rest.pages) meeting is)
+
+      abbrev many : ℕ
+      many = reused_rows held.limits.pages (length old.pages) kept its_meeting
+
+      pub reused-told : reused_rows held.limits.pages (length made.rows.rows.items) kept meeting_told ≡ many
+      reused-told = λ i. reused_rows held.limits.pages (rows_length i) kept (told_is i)
+
+      module _ (lawful : IsLawful m) where
+        rest_is : rest ≡ reused_by m files e (start_of m held.main held.date) held.limits.budget (held.limits.pages - kept) old rest its_meeting
+        rest_is = subst (λ now. run_behind m now (rows_in old.pages) kept held.main held.date held.limits ≡ reused_by m now e (start_of m held.main held.date) held.limits.budget (held.limits.pages - kept) old (run_behind m now (rows_in old.pages) kept held.main held.date held.limits) (meeting_behind m now e (rows_in old.pages) old.last kept held.main held.date held.limits))
+            (sym changed) (tail_is m lawful held.files e held.main held.date held.limits fits kept (meeting_behind m (edited held.files e) e (rows_in old.pages) old.last kept held.main held.date held.limits) refl)
+
+        remade : rows_of m (with_files held files) ≡ made_after m files e held.main held.date held.limits kept old
+        remade = resumes ∙ ap (behind (take kept old.pages)) rest_is
+
+        pub shows-on : (new : Made S) → Becomes meaning made.rows (made_after m files e held.main held.date held.limits kept) new.rows → AreIdle m meaning pending new.rows.rows.items → IsSaid new → Shows m meaning pending (with_files held files) new
+        shows-on new becomes idle said = record {
+          dated = shows.dated;
+          limited = shows.limited;
+          rows = subst (AreRows meaning new.rows) (sym remade) (becomes old shows.rows);
+          idle = idle;
+          said = said;
+        }
+
+        pub work-on : all_stay made.rows.rows.items made.rows.last e ≡ false → work m held e ≡ turns_behind m files e held.main held.date held.limits kept old
+        work-on stay =
+            ap (λ b. cond b 0 (formatted_turns (resumed_at old e) (reused_rows held.limits.pages (length old.pages) (resumed_at old e) (meeting_of m e old edited_run)) old edited_run (meeting_of m e old edited_run))) (not_standing stay)
+            ∙ (λ i. formatted_turns (sym kept_is i) (reused_rows held.limits.pages (length old.pages) (sym kept_is i) (meeting_is i)) old (edited_is i) (meeting_is i))
+            ∙ turns-are m files e (start_of m held.main held.date) held.limits.budget held.limits.pages kept old rest (take kept old.pages) kept_length its_meeting rest_is (formatted_within its_meeting refl)
+
+        pub reused-within : (new : Made S) → Shows m meaning pending (with_files held files) new → kept + many ≤ length new.rows.pages.items
+        reused-within new shown =
+            subst (λ n. kept + many ≤ n) (sym (ap length shown.rows.pages_are ∙ length-map (rows_of m (with_files held files)).pages (λ page. page.body) ∙ ap (λ h. length h.pages) resumes))
+            (reused-few m files e (start_of m held.main held.date) held.limits.budget held.limits.pages kept old rest (take kept old.pages) kept_length its_meeting rest_is (formatted_within its_meeting refl))
 
       pub report-on : all_stay made.rows.rows.items made.rows.last e ≡ false → (new : Made S) → Shows m meaning pending (with_files held files) new
-          → resumed_after kept (length new.rows.pages.items) ≡ report m held e
+          → report_of (length new.rows.pages.items) kept many ≡ report m held e
       report-on stay new shown =
-          let some : kept_pages m held e ≡ resume (rows_in (rows_of m held).pages) e = ap (λ b. cond b (length (rows_of m held).pages) (resume (rows_in (rows_of m held).pages) e)) (not_standing stay) in
-          λ i. resumed_after ((kept_is ∙ sym some) i) (pages_after new shown i)
+          (λ i. report_of (pages_after new shown i) (kept_is i) (reused_rows held.limits.pages (length old.pages) (kept_is i) (sym meeting_is i)))
+          ∙ sym (ap (λ b. cond b (report_of (length edited_run.pages) (length edited_run.pages) 0) (report_of (length edited_run.pages) (resumed_at old e) (reused_rows held.limits.pages (length old.pages) (resumed_at old e) (meeting_of m e old edited_run)))) (not_standing stay))
 
-      pub kept-pages : (new : Made S) → Shows m meaning pending (with_files held files) new → kept ≤ length new.rows.pages.items
-      kept-pages new shown =
-          let same : length new.rows.pages.items ≡ length (rows_of m (with_files held files)).pages = ap length shown.rows.pages_are ∙ length-map (rows_of m (with_files held files)).pages (λ page. page.body) in
-          let parts : length (rows_of m (with_files held files)).pages ≡ length (take kept (rows_of m held).pages) + length rest.pages =
-          ap (λ h. length h.pages) goes-on ∙ length-append (take kept (rows_of m held).pages) rest.pages in
-          let first : length (take kept (rows_of m held).pages) ≡ kept = kept_length in
-          omega arith
+      -- what is reused can be
+      pub can-be : length (bytes_of files e.name) < 2 ^ 64 → IfSome meeting_told (λ meeting. CanReuse e meeting.old made.rows.rows.items made.rows.last)
+      can-be small = by meeting_told refl
+        where
+          by : (o : Option Meeting) → meeting_told ≡ o → IfSome o (λ meeting. CanReuse e meeting.old made.rows.rows.items made.rows.last)
+          by None is = tt
+          by (Some meeting) is =
+              let can : CanReuse e meeting.old (rows_in old.pages) old.last =
+              can-reuse m held.files e held.main held.date held.limits fits (subst (λ now. length (bytes_of now e.name) < 2 ^ 64) changed small) kept meeting
+              (ap (λ now. meeting_behind m now e (rows_in old.pages) old.last kept held.main held.date held.limits) (sym changed) ∙ sym told_is ∙ is) in
+              can-unmeant meaning e meeting.old made.rows.rows.items made.rows.last
+              (subst (λ (last : Last). CanReuse e meeting.old (rows_meant meaning made.rows.rows.items) last) (sym shows.rows.last_is) (subst (λ (rows : List (Row M)). CanReuse e meeting.old rows old.last) (sym shows.rows.rows_are) can))
 
-      -- the turns behind the kept rows are within all turns of the run on the edited files
-      pub work-bound : IsLawful m → all_turns rest ≤ (length (fresh m (edited_session held e)).ran.pages + 1) * held.limits.budget
+      pub one-length : AreOfOneLength made.rows
+      one-length = record { pages_are = (ap length shows.rows.pages_are ∙ length-map old.pages (λ page. page.body)) ∙ sym rows_length; pieces_are = pieces_length ∙ sym rows_length }
+
+      -- the work is within all turns of the run on the edited files
+      pub work-bound : IsLawful m → work m held e ≤ (length (fresh m (edited_session held e)).ran.pages + 1) * held.limits.budget
       work-bound lawful =
-          let whole : all_turns (rows_of m (with_files held files)) ≡ turns_of (take kept (rows_of m held).pages) + all_turns rest = ap all_turns goes-on ∙ turns-behind (take kept (rows_of m held).pages) rest in
-          let same : all_turns (rows_of m (with_files held files)) ≡ (fresh m (edited_session held e)).turns = fresh-turns m (with_files held files) ∙ ap (λ now. (fresh m (with_files held now)).turns) changed in
+          let least : work m held e ≤ all_turns edited_run = work-least m e held.limits.pages old edited_run in
+          let same : all_turns edited_run ≡ (fresh m (edited_session held e)).turns = fresh-turns m (edited_session held e) in
           let most : (fresh m (edited_session held e)).turns ≤ (length (fresh m (edited_session held e)).ran.pages + 1) * held.limits.budget = fresh-bound m (edited_session held e) lawful in
           omega arith

@@ -1,42 +1,43 @@
-ghost use Rattle.std.specs.Prelude.{◌≡◌, ◌≤◌, ◌+◌, ◌*◌, ◌++◌, length, IfOk, OnOk, OnErr};
+ghost use Rattle.std.specs.Prelude.{◌≡◌, ◌≤◌, ◌<◌, ◌+◌, ◌^◌, ◌++◌, length, IfSome, IfOk, OnOk, OnErr};
+ghost use Rattle.tx_files.specs.Edits.{bytes_of};
 ghost use Rattle.tx_machine.specs.Ranges.{IsDate};
 ghost use Rattle.tx_machine.specs.Steps.{raised};
 ghost use Rattle.tx_checkpoint.specs.Meant.{AreRows, AreIdle, AreSame, rows_meant};
-ghost use Rattle.tx_checkpoint.specs.Resume.{run_behind};
 ghost use Rattle.tx_checkpoint.specs.Rows as rows;
-ghost use Rattle.tx_checkpoint.specs.Rows.{all_turns};
+ghost use Rattle.tx_checkpoint.specs.Rows.{History, all_turns};
+ghost use Rattle.tx_quiesce.specs.Further.{CanReuse};
+ghost use Rattle.tx_quiesce.specs.Later.{AreOfOneLength, pieces_of, turns_behind};
+ghost use Rattle.tx_quiesce.specs.Reuse.{meeting_behind, made_after, reused_rows};
 ghost use Rattle.tx_session.specs.Held.{joined_with};
-ghost use Rattle.tx_session.specs.Made.{Joins, Goes, IsSaid};
+ghost use Rattle.tx_session.specs.Made.{Joins, Becomes, IsSaid, pieces_after, last_piece};
 
 use crate::kept::Made;
 use std::alloc::{AllocError, Global};
 use tx_bytes::Bytes;
-use tx_checkpoint::{Rows, format_behind, fresh_rows};
-use tx_files::{FileSet, Name};
+use tx_checkpoint::{Rows, fresh_rows};
+use tx_files::{Edit, FileSet, Name};
 use tx_machine::{Date, Limits, Machine, Steps};
+use tx_quiesce::{Further, Later, format_later, reuse_rows};
 
-/// Puts pieces of a transcript behind it.
+/// Puts pieces of a transcript behind it, most of which are empty.
 fn append_pieces(said: &mut Bytes, pieces: &[Bytes]) -> Result<(), AllocError>
     ensures { OnOk result (Joins pieces.now said.old said.new) }
 {
     for piece in pieces {
-        said.append(piece.as_slice())?;
+        let bytes = piece.as_slice();
+        if bytes.len() != 0 {
+            said.append(bytes)?;
+        }
     }
     Ok(())
 }
 
-/// The whole transcript of a run, of which some pieces are kept and others come behind them.
-fn transcript(
-    alloc: Global,
-    kept: &[Bytes],
-    later: &[Bytes],
-    last: &Bytes,
-) -> Result<Bytes, AllocError>
-    ensures { IfOk result (λ said. said ≡ joined_with (kept.now ++ later.now) last.now) }
+/// The whole transcript of a run.
+fn transcript(alloc: Global, pieces: &[Bytes], last: &Bytes) -> Result<Bytes, AllocError>
+    ensures { IfOk result (λ said. said ≡ joined_with pieces.now last.now) }
 {
     let mut said = Bytes::new(alloc);
-    append_pieces(&mut said, kept)?;
-    append_pieces(&mut said, later)?;
+    append_pieces(&mut said, pieces)?;
     said.append(last.as_slice())?;
     Ok(said)
 }
@@ -59,53 +60,81 @@ pub fn make_anew<M: Machine>(
     ensures bound { steps.new ≤ raised steps.old (all_turns (rows.fresh_rows M.formatter files.now main.now date.now limits.now)) }
 {
     let rows = fresh_rows(alloc, machine, files, main, date, limits, steps)?;
-    let said = transcript(alloc, &[], rows.pieces.as_slice(), &rows.last.piece)?;
+    let said = transcript(alloc, rows.pieces.as_slice(), &rows.last.piece)?;
     Ok(Made { rows, said })
 }
 
-/// Makes what follows the first pages of a run anew, on these files. After want of memory the run stands as before.
-pub fn make_behind<M: Machine>(
+/// Puts the pieces of what comes behind the pages that are reused behind a transcript, to the end of the run.
+fn append_further<S>(said: &mut Bytes, last: &Bytes, further: &Further<S>) -> Result<(), AllocError>
+    ensures { OnOk result (said.new ≡ said.old ++ joined_with (pieces_of further.now) (last_piece last.now further.now)) }
+{
+    match further {
+        Further::Goes(rows) => {
+            append_pieces(said, rows.pieces.as_slice())?;
+            said.append(rows.last.piece.as_slice())
+        }
+        Further::Stands(_) => said.append(last.as_slice()),
+    }
+}
+
+/// The whole transcript after an edit: some pieces are kept, others come behind them, then some that are reused, and others.
+fn transcript_after<S>(
+    alloc: Global,
+    rows: &Rows<S>,
+    kept: usize,
+    later: &Later<S>,
+) -> Result<Bytes, AllocError>
+    requires kept { kept ≤ length rows.now.pieces.items }
+    requires within { later.now.from + later.now.count ≤ length rows.now.pieces.items }
+    ensures { IfOk result (λ said. said ≡ joined_with (pieces_after rows.now kept later.now) (last_piece rows.now.last.piece later.now.further)) }
+{
+    let pieces = rows.pieces.as_slice();
+    let mut said = Bytes::new(alloc);
+    append_pieces(&mut said, &pieces[..kept])?;
+    append_pieces(&mut said, later.front.pieces.as_slice())?;
+    append_pieces(&mut said, &pieces[later.from..later.from + later.count])?;
+    append_further(&mut said, &rows.last.piece, &later.further)?;
+    Ok(said)
+}
+
+/// Makes an edit in a run of which the first pages are kept, on these files, which are the edited ones: formats until a new row
+/// meets an old one, and takes the rest over. Answers how many pages were taken over. After want of memory the run stands as
+/// before.
+pub fn make_after<M: Machine>(
     alloc: Global,
     machine: &M,
     files: &FileSet,
+    e: &Edit,
     made: &mut Made<M::State>,
     kept: u32,
     main: &Name,
     date: &Date,
     limits: &Limits,
     steps: &mut Steps,
-) -> Result<(), AllocError>
+) -> Result<usize, AllocError>
     requires dated { IsDate date.now }
-    requires rows { kept ≤ length made.old.rows.rows.items }
-    requires pieces { kept ≤ length made.old.rows.pieces.items }
+    requires lengths { AreOfOneLength made.old.rows }
+    requires within { kept ≤ length made.old.rows.rows.items }
     requires fewer { kept ≤ limits.now.pages }
     requires idle { AreIdle M.formatter M.meaning M.pending made.old.rows.rows.items }
-    ensures goes { OnOk result (Goes M.meaning made.old.rows kept (run_behind M.formatter files.now (rows_meant M.meaning made.old.rows.rows.items) kept main.now date.now limits.now) made.new.rows) }
+    requires can { length (bytes_of files.now e.now.name) < 2 ^ 64 → IfSome (meeting_behind M.formatter files.now e.now (rows_meant M.meaning made.old.rows.rows.items) made.old.rows.last kept main.now date.now limits.now) (λ meeting. CanReuse e.now meeting.old made.old.rows.rows.items made.old.rows.last) }
+    ensures goes { OnOk result (Becomes M.meaning made.old.rows (made_after M.formatter files.now e.now main.now date.now limits.now kept) made.new.rows) }
     ensures idle { OnOk result (AreIdle M.formatter M.meaning M.pending made.new.rows.rows.items) }
     ensures said { OnOk result (IsSaid made.new) }
+    ensures reused { IfOk result (λ reused. reused ≡ reused_rows limits.now.pages (length made.old.rows.rows.items) kept (meeting_behind M.formatter files.now e.now (rows_meant M.meaning made.old.rows.rows.items) made.old.rows.last kept main.now date.now limits.now)) }
     ensures same { OnErr result (AreSame made.old.rows made.new.rows) }
     ensures unsaid { OnErr result (made.new.said ≡ made.old.said) }
-    ensures counted { OnOk result (steps.new ≡ raised steps.old (all_turns (run_behind M.formatter files.now (rows_meant M.meaning made.old.rows.rows.items) kept main.now date.now limits.now))) }
-    ensures bound { steps.new ≤ raised steps.old (all_turns (run_behind M.formatter files.now (rows_meant M.meaning made.old.rows.rows.items) kept main.now date.now limits.now)) }
+    ensures counted { OnOk result ((h : History M.Meaning) → AreRows M.meaning made.old.rows h → steps.new ≡ raised steps.old (turns_behind M.formatter files.now e.now main.now date.now limits.now kept h)) }
+    ensures bound { (h : History M.Meaning) → AreRows M.meaning made.old.rows h → steps.new ≤ raised steps.old (turns_behind M.formatter files.now e.now main.now date.now limits.now kept h) }
 {
-    let later = format_behind(
-        alloc,
-        machine,
-        files,
-        made.rows.rows.as_slice(),
-        kept,
-        main,
-        date,
-        limits,
-        steps,
+    // An offset tells of each place in the edited file, so of those that move with the edit.
+    let _size = files.bytes_of(e.name.as_slice()).len();
+    let later = format_later(
+        alloc, machine, files, e, &made.rows, kept, main, date, limits, steps,
     )?;
-    let said = transcript(
-        alloc,
-        &made.rows.pieces[..kept as usize],
-        later.pieces.as_slice(),
-        &later.last.piece,
-    )?;
-    made.rows.replace_behind(kept as usize, later)?;
+    let said = transcript_after(alloc, &made.rows, kept as usize, &later)?;
+    let reused = later.count;
+    reuse_rows(alloc, &mut made.rows, kept as usize, later, e)?;
     made.said = said;
-    Ok(())
+    Ok(reused)
 }

@@ -4,10 +4,11 @@ ghost use Rattle.tx_files.specs.Edits.{IsAnswerTo};
 ghost use Rattle.tx_machine.specs.Ranges.{IsDate, AreLimits};
 ghost use Rattle.tx_machine.specs.Steps.{raised};
 ghost use Rattle.tx_session.specs.Held.{fresh, transcript, body_of, edited_session, after, replayed};
-ghost use Rattle.tx_session.specs.Report.{resumed_after, report, work, turns_of_edit, turns_of_edits, IsOutside};
+ghost use Rattle.tx_session.specs.Report as spec;
+ghost use Rattle.tx_session.specs.Report.{report, work, turns_of_edit, turns_of_edits, IsOutside};
 
 use crate::kept::Made;
-use crate::made::{make_anew, make_behind};
+use crate::made::{make_after, make_anew};
 use crate::report::Report;
 use std::alloc::{AllocError, Global};
 use std::marker::Model;
@@ -16,16 +17,16 @@ use tx_dvi::assemble;
 use tx_files::{Edit, FileSet, Name, Refusal};
 use tx_machine::{Date, End, Limits, Machine, Steps};
 
-/// The report of an edit that left the first pages.
-fn resumed_after(kept: usize, pages: usize) -> Report
-    requires { kept ≤ pages }
-    ensures { result ≡ resumed_after kept pages }
+/// The report of an edit, by how many pages there are, after how many formatting resumed, and how many were reused.
+fn report_of(pages: usize, resumed: usize, reused: usize) -> Report
+    requires { resumed + reused ≤ pages }
+    ensures { result ≡ spec.report_of pages resumed reused }
 {
     Report {
         pages,
-        resumed: kept,
-        formatted: pages - kept,
-        reused: 0,
+        resumed,
+        formatted: pages - resumed - reused,
+        reused,
     }
 }
 
@@ -91,8 +92,9 @@ impl<M: Machine> Session<M> {
     }
 
     /// Makes an edit: its answer is what came of it, or why it was refused. Where it leaves all that the run read,
-    /// everything stands, and no turn is taken. Else formatting resumes after the last page up to which it leaves all reads;
-    /// what follows is made beside the old pages, and replaces them in the end. After a refusal everything is as before.
+    /// everything stands, and no turn is taken. Else formatting resumes after the last page up to which it leaves all reads, and
+    /// goes on until a new page meets an old one, from which on the old ones are reused. What is formatted is made beside the old
+    /// pages, and replaces them in the end. After a refusal everything is as before.
     pub fn edit(&mut self, e: &Edit, steps: &mut Steps) -> Result<Report, Refusal>
         ensures answer { IsAnswerTo self.old.files e.now result }
         ensures held { OnOk result (self.new ≡ edited_session self.old e.now) }
@@ -106,15 +108,16 @@ impl<M: Machine> Session<M> {
         ensures bound { steps.new ≤ steps.old + (length (fresh M.formatter (edited_session self.old e.now)).ran.pages + 1) * self.old.limits.budget }
     {
         let before = self.files.change(e)?;
-        if self.made.rows.stands(e) {
-            let pages = self.made.rows.pages.as_slice().len();
-            return Ok(resumed_after(pages, pages));
-        }
         let kept = self.made.rows.resume_at(e);
-        match make_behind(
+        if self.made.rows.stands(kept, e) {
+            let pages = self.made.rows.pages.as_slice().len();
+            return Ok(report_of(pages, pages, 0));
+        }
+        match make_after(
             self.alloc,
             &self.machine,
             &self.files,
+            e,
             &mut self.made,
             kept as u32,
             &self.main,
@@ -122,9 +125,9 @@ impl<M: Machine> Session<M> {
             &self.limits,
             steps,
         ) {
-            Ok(()) => {
+            Ok(reused) => {
                 let pages = self.made.rows.pages.as_slice().len();
-                Ok(resumed_after(kept, pages))
+                Ok(report_of(pages, kept, reused))
             }
             Err(_) => {
                 self.files.restore(&e.name, before);

@@ -1,7 +1,11 @@
-use Rattle.std.proofs.Common.{refl, ap, sym, ◌∙◌, subst}
+use Rattle.std.proofs.Common.{refl, ap, sym, ◌∙◌, subst, arith}
 use Rattle.tx_quiesce.specs.Shift.{CanShiftRow, shifted_row}
 use Rattle.tx_quiesce.proofs.Fitting.{mapped-here, mapped-has}
+use Rattle.tx_quiesce.proofs.Unmoved.{rows-still}
 use Rattle.tx_quiesce.proofs.moving.relocate_rows.Goals as goal
+
+pub returns-then-e-len : goal.returns-then-e-len
+returns-then-e-len g c = sym (rows-still c.args.e.now (omega (arith, c.if-e-len.true, c.len.ensures)) c.args.rows.now c.requires)
 
 pub relocate_row-requires : goal.relocate_row-requires
 relocate_row-requires g c =

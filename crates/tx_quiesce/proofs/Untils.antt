@@ -1,0 +1,113 @@
+-- The loop that formats until a new row meets an old one.
+use Rattle.std.proofs.Common.{◌≡◌, ℕ, suc, ◌+◌, ◌≤◌, List, [], ◌∷◌, ◌++◌, length, map, take, Option, Some, None, sym, ap, ◌∙◌, arith, append-nil, unwrap_or}
+use Rattle.std.proofs.lemmas.List.{map-append}
+use Rattle.tx_bytes.specs.Files.{Files}
+use Rattle.tx_dvi.specs.declared.page.PageBody.{PageBody}
+use Rattle.tx_files.specs.declared.edit.Edit.{Edit}
+use Rattle.tx_machine.specs.declared.types.Close.{Close}
+use Rattle.tx_machine.specs.declared.types.Close.TheVariants.{Page, Halt, Spent}
+use Rattle.tx_machine.specs.declared.types.OpenFile.{OpenFile}
+use Rattle.tx_machine.specs.Machine.{Formatter}
+use Rattle.tx_machine.specs.Run.{page_start}
+use Rattle.tx_machine.specs.Steps.{raised}
+use Rattle.tx_machine.specs.Turn.{Progress, stretch}
+use Rattle.tx_machine.proofs.Going.{raised-raised, raised-le}
+use Rattle.tx_checkpoint.specs.declared.row.Row.{Row}
+use Rattle.tx_checkpoint.specs.declared.row.Last.{Last}
+use Rattle.tx_checkpoint.specs.Rows.{History, PageRow, page_row, rows_in, behind, only, closed_rows, rows_from, turns_of}
+use Rattle.tx_checkpoint.proofs.Keeping.{Keeping, rows-suc, rows-zero}
+use Rattle.tx_quiesce.specs.Front.{turns_to}
+use Rattle.tx_quiesce.specs.Meeting.{Meeting, met_row, meeting_at, first_meeting}
+use Rattle.tx_quiesce.proofs.Fronts.{first, front-turns, MeetsAt, meets-at, none-more}
+
+-- the turns of some pages and one more
+turns-push : {S : Type 0} (pages : List (PageRow S)) (page : PageRow S) → turns_of (pages ++ page ∷ []) ≡ turns_of pages + page.row.turns
+turns-push [] page = omega arith
+turns-push (front ∷ pages) page = let rest : turns_of (pages ++ page ∷ []) ≡ turns_of pages + page.row.turns = turns-push pages page in omega arith
+
+module _ {S : Type 0} {m : Formatter S} {files : Files} {budget : ℕ} {whole : History S} {left : ℕ} {state : S} {opens : List OpenFile} {bodies : List PageBody} {pieces : List (List ℕ)} {rows : List (Row S)} {before now : ℕ}
+    (e : Edit) (olds : List (Row S)) (last : Last) (resumed : ℕ)
+    (so_far : Keeping m files budget whole left state opens bodies pieces rows before now) (none : first_meeting m e olds last resumed rows ≡ None) where
+  none_done : first m e olds last resumed so_far.done ≡ None
+  none_done = sym (ap (first_meeting m e olds last resumed) so_far.rows_are) ∙ none
+
+  module _ (more : ℕ) (there : left ≡ suc more) where
+    abbrev t : Progress S
+    t = stretch m files (page_start state opens budget)
+
+    abbrev later : History S
+    later = rows_from m files budget more t.place.state t.place.opens
+
+    abbrev rest : Close → History S
+    rest close = closed_rows files t close later
+
+    whole_is : whole ≡ behind so_far.done (rest (unwrap_or t.close Spent))
+    whole_is = so_far.whole_is ∙ ap (behind so_far.done) (ap (λ n. rows_from m files budget n state opens) there ∙ rows-suc m files budget more state opens)
+
+    -- the turns of the next stretch are among those that are due
+    page_due : (body : PageBody) (o : Option ℕ) (behind_it : Option Meeting) → t.turns ≤ turns_to (behind (page_row t body ∷ []) later) (meeting_at o behind_it)
+    page_due body None None = omega arith
+    page_due body None (Some meeting) =
+        let next : meeting.formatted + 1 ≡ suc meeting.formatted = omega arith in
+        let is : turns_of (take (meeting.formatted + 1) (page_row t body ∷ later.pages)) ≡ t.turns + turns_of (take meeting.formatted later.pages) = ap (λ n. turns_of (take n (page_row t body ∷ later.pages))) next in
+        omega arith
+    page_due body (Some old) behind_it = omega arith
+
+    due : (close : Close) → t.turns ≤ turns_to (rest close) (first m e olds last resumed (rest close).pages)
+    due (Page body) = page_due body (met_row m e olds last resumed (page_row t body).row) (first m e olds last resumed later.pages)
+    due (Halt stop) = omega arith
+    due Spent = omega arith
+
+    pub until-bound : {now' : ℕ} → now' ≤ raised now t.turns → now' ≤ raised before (turns_to whole (first m e olds last resumed whole.pages))
+    until-bound {now' = now'} count =
+        let all : turns_to whole (first m e olds last resumed whole.pages) ≡ turns_of so_far.done + turns_to (rest (unwrap_or t.close Spent)) (first m e olds last resumed (rest (unwrap_or t.close Spent)).pages) =
+        front-turns m e olds last resumed so_far.done (rest (unwrap_or t.close Spent)) whole_is none_done in
+        let part : t.turns ≤ turns_to (rest (unwrap_or t.close Spent)) (first m e olds last resumed (rest (unwrap_or t.close Spent)).pages) = due (unwrap_or t.close Spent) in
+        let now_is : raised now t.turns ≡ raised before (turns_of so_far.done + t.turns) = ap (λ n. raised n t.turns) so_far.counted ∙ raised-raised before (turns_of so_far.done) t.turns in
+        let within : raised before (turns_of so_far.done + t.turns) ≤ raised before (turns_to whole (first m e olds last resumed whole.pages)) = raised-le before _ _ (omega arith) in
+        omega arith
+
+    -- the page meets an old row
+    pub record UntilMet (body : PageBody) (old : ℕ) (now' : ℕ) : Type 0 where
+      pub meeting : first m e olds last resumed whole.pages ≡ Some (record { formatted = length so_far.done + 1; old = old })
+      pub pages : take (length so_far.done + 1) whole.pages ≡ so_far.done ++ page_row t body ∷ []
+      pub counted : now' ≡ raised before (turns_of (take (length so_far.done + 1) whole.pages))
+
+    pub until-met : {body : PageBody} {old : ℕ} {now' : ℕ} → t.close ≡ Some (Page body) → met_row m e olds last resumed (page_row t body).row ≡ Some old → now' ≡ raised now t.turns → UntilMet body old now'
+    until-met {body = body} closes meets count =
+        let is : whole ≡ behind so_far.done (behind (page_row t body ∷ []) later) = whole_is ∙ ap (λ close. behind so_far.done (rest (unwrap_or close Spent))) closes in
+        let at : MeetsAt m e olds last resumed whole so_far.done (page_row t body) _ = meets-at m e olds last resumed so_far.done (page_row t body) later is none_done meets in
+        record {
+          meeting = at.meeting;
+          pages = at.pages;
+          counted = count ∙ ap (λ n. raised n t.turns) so_far.counted ∙ raised-raised before (turns_of so_far.done) t.turns
+              ∙ ap (raised before) (sym (ap turns_of at.pages ∙ turns-push so_far.done (page_row t body)));
+        }
+
+    pub record FrontTold (body : PageBody) (bodies' : List PageBody) (pieces' : List (List ℕ)) (rows' : List (Row S)) : Type 0 where
+      pub bodies_are : bodies' ≡ map (λ page. page.body) (so_far.done ++ page_row t body ∷ [])
+      pub pieces_are : pieces' ≡ map (λ page. page.piece) (so_far.done ++ page_row t body ∷ [])
+      pub rows_are : rows' ≡ rows_in (so_far.done ++ page_row t body ∷ [])
+
+    pub front-told : {body : PageBody} {piece : List ℕ} {row : Row S} {bodies' : List PageBody} {pieces' : List (List ℕ)} {rows' : List (Row S)} → record { body = body; piece = piece; row = row } ≡ page_row t body
+        → bodies' ≡ bodies ++ body ∷ [] → pieces' ≡ pieces ++ piece ∷ [] → rows' ≡ rows ++ row ∷ [] → FrontTold body bodies' pieces' rows'
+    front-told {body = body} is more_bodies more_pieces more_rows = record {
+      bodies_are = more_bodies ∙ (λ i. so_far.bodies_are i ++ (is i).body ∷ []) ∙ sym (map-append (λ (kept : PageRow S). kept.body) so_far.done (page_row t body ∷ []));
+      pieces_are = more_pieces ∙ (λ i. so_far.pieces_are i ++ (is i).piece ∷ []) ∙ sym (map-append (λ (kept : PageRow S). kept.piece) so_far.done (page_row t body ∷ []));
+      rows_are = more_rows ∙ (λ i. so_far.rows_are i ++ (is i).row ∷ []) ∙ sym (map-append (λ (kept : PageRow S). kept.row) so_far.done (page_row t body ∷ []));
+    }
+
+    -- it meets none
+    pub until-misses : (body : PageBody) → met_row m e olds last resumed (page_row t body).row ≡ None → {rows' : List (Row S)} → rows' ≡ rows ++ (page_row t body).row ∷ [] → first_meeting m e olds last resumed rows' ≡ None
+    until-misses body misses more_rows =
+        ap (first_meeting m e olds last resumed) (more_rows ∙ ap (λ rs. rs ++ (page_row t body).row ∷ []) so_far.rows_are ∙ sym (map-append (λ (kept : PageRow S). kept.row) so_far.done (page_row t body ∷ [])))
+        ∙ none-more m e olds last resumed so_far.done (page_row t body) none_done misses
+
+    -- the run ended
+    pub until-over : {over : Last} → ((h : History S) → closed_rows files t (unwrap_or t.close Spent) h ≡ only over) → first m e olds last resumed whole.pages ≡ None
+    until-over over =
+        ap (first m e olds last resumed) (ap (λ h. h.pages) (whole_is ∙ ap (behind so_far.done) (over later)) ∙ append-nil so_far.done) ∙ none_done
+
+  pub until-limit : left ≡ 0 → first m e olds last resumed whole.pages ≡ None
+  until-limit no_more =
+      ap (first m e olds last resumed) (ap (λ h. h.pages) (so_far.whole_is ∙ ap (behind so_far.done) (ap (λ n. rows_from m files budget n state opens) no_more ∙ rows-zero m files budget state opens)) ∙ append-nil so_far.done) ∙ none_done

@@ -1,0 +1,116 @@
+//! Formatting after an edit, up to the first new row that meets an old one.
+ghost use Rattle.std.specs.Prelude.{◌≡◌, ◌≤◌, ◌++◌, ◌∷◌, [], IfOk, OnOk};
+ghost use Rattle.tx_machine.specs.Steps.{raised};
+ghost use Rattle.tx_checkpoint.specs.Meant.{IsIdle, AreIdle, rows_meant};
+ghost use Rattle.tx_checkpoint.specs.Rows.{rows_from, rows_in};
+ghost use Rattle.tx_quiesce.specs.Front.{Reaches, turns_to};
+ghost use Rattle.tx_quiesce.specs.Meeting.{first_meeting};
+
+use crate::search::met_row;
+use crate::tails::tails;
+use std::alloc::{AllocError, Global};
+use tx_bytes::Bytes;
+use tx_checkpoint::{Formatted, Last, Row, Rows, format_row};
+use tx_dvi::PageBody;
+use tx_files::{Edit, FileSet, Seen};
+use tx_machine::spot::Spot;
+use tx_machine::{End, Machine, Steps};
+
+/// Why formatting stopped.
+#[derive(Drop)]
+pub enum Stopped {
+    /// The run has ended, by this stretch.
+    Over(Last),
+    /// The last new row meets the old row of this number, counted from 1.
+    Met(usize),
+}
+
+/// The pages that were formatted, as `Rows` has them, and why no more were.
+#[derive(Drop)]
+pub struct Front<S> {
+    pub pages: Vec<PageBody>,
+    pub pieces: Vec<Bytes>,
+    pub rows: Vec<Row<S>>,
+    pub stopped: Stopped,
+}
+
+impl<S> Front<S> {
+    /// No page; takes no memory.
+    fn new(alloc: Global) -> Front<S>
+        ensures pages { result.pages.items ≡ [] }
+        ensures pieces { result.pieces.items ≡ [] }
+        ensures rows { result.rows.items ≡ [] }
+    {
+        Front {
+            pages: Vec::new(alloc),
+            pieces: Vec::new(alloc),
+            rows: Vec::new(alloc),
+            stopped: Stopped::Met(0),
+        }
+    }
+
+    /// Puts a page behind the others.
+    fn push(&mut self, body: PageBody, piece: Bytes, row: Row<S>) -> Result<(), AllocError>
+    where
+        S: Drop,
+        ensures pages { OnOk result (self.new.pages.items ≡ self.old.pages.items ++ body ∷ []) }
+        ensures pieces { OnOk result (self.new.pieces.items ≡ self.old.pieces.items ++ piece ∷ []) }
+        ensures rows { OnOk result (self.new.rows.items ≡ self.old.rows.items ++ row ∷ []) }
+    {
+        self.pages.push(body)?;
+        self.pieces.push(piece)?;
+        self.rows.push(row)?;
+        Ok(())
+    }
+}
+
+/// Formats from a state on, for so many pages at most, until a new row meets an old one. Each turn raises `steps` by one. Its
+/// only error is want of memory.
+pub fn format_until_met<M: Machine>(
+    alloc: Global,
+    machine: &M,
+    files: &FileSet,
+    old: &Rows<M::State>,
+    e: &Edit,
+    resumed: usize,
+    mut spot: Spot<M::State>,
+    budget: u64,
+    most: u32,
+    steps: &mut Steps,
+) -> Result<Front<M::State>, AllocError>
+    requires { IsIdle M.formatter M.meaning M.pending spot.state }
+    ensures reaches { IfOk result (let whole = rows_from M.formatter files.now budget most (M.meaning spot.state) spot.opens in Reaches M.meaning whole (first_meeting M.formatter e.now (rows_meant M.meaning old.now.rows.items) old.now.last resumed (rows_in whole.pages))) }
+    ensures idle { IfOk result (λ front. AreIdle M.formatter M.meaning M.pending front.rows.items) }
+    ensures counted { OnOk result (let whole = rows_from M.formatter files.now budget most (M.meaning spot.state) spot.opens in steps.new ≡ raised steps.old (turns_to whole (first_meeting M.formatter e.now (rows_meant M.meaning old.now.rows.items) old.now.last resumed (rows_in whole.pages)))) }
+
+    // Also where memory was wanting.
+    ensures bound { let whole = rows_from M.formatter files.now budget most (M.meaning spot.state) spot.opens in steps.new ≤ raised steps.old (turns_to whole (first_meeting M.formatter e.now (rows_meant M.meaning old.now.rows.items) old.now.last resumed (rows_in whole.pages))) }
+{
+    let offsets = tails(alloc, old.rows.as_slice())?;
+    let mut front = Front::new(alloc);
+    for _page in 0..most {
+        spot.left = budget;
+        match format_row(alloc, machine, files, &mut spot, steps)? {
+            Formatted::Page { body, piece, row } => {
+                let met = met_row(machine, old, offsets.as_slice(), e, resumed, &row);
+                front.push(body, piece, row)?;
+                if let Some(number) = met {
+                    front.stopped = Stopped::Met(number);
+                    return Ok(front);
+                }
+            }
+            Formatted::Over(last) => {
+                front.stopped = Stopped::Over(last);
+                return Ok(front);
+            }
+        }
+    }
+    front.stopped = Stopped::Over(Last {
+        piece: Bytes::new(alloc),
+        turns: 0,
+        seen: Seen::new(alloc),
+        opens: spot.opens,
+        end: End::PageLimit,
+    });
+    Ok(front)
+}

@@ -1,0 +1,17 @@
+-- The transcript after an edit is that of the rows.
+use Rattle.std.proofs.Common.{◌≡◌, ℕ, List, Result, Ok, Err, refl}
+use Rattle.std.specs.Prelude.{OnOk}
+use Rattle.tx_files.specs.declared.edit.Edit.{Edit}
+use Rattle.tx_checkpoint.specs.declared.row.Last.{Last}
+use Rattle.tx_quiesce.specs.declared.further.Further.{Further}
+use Rattle.tx_quiesce.specs.declared.further.Further.TheVariants.{Goes, Stands}
+use Rattle.tx_quiesce.specs.Later.{last_of}
+use Rattle.tx_session.specs.Made.{last_piece}
+
+pub on-ok : {T E : Type 0} (r : Result T E) {P Q : Type 0} → (P → Q) → OnOk r P → OnOk r Q
+on-ok (Ok x) f p = f p
+on-ok (Err x) f p = tt
+
+pub last-said : {S : Type 0} (e : Edit) (last : Last) (f : Further S) → (last_of e last f).piece ≡ last_piece last.piece f
+last-said e last (Goes rows) = refl
+last-said e last (Stands end) = refl
