@@ -1,144 +1,175 @@
--- What is read leaves no more tokens than there were.
-use Rattle.std.proofs.Common.{◌≡◌, ℕ, ◌+◌, ◌*◌, ◌≤◌, Bool, true, false, cond, not, Option, Some, None, List, [], ◌∷◌, ◌++◌, length, refl, arith}
-use Rattle.std.specs.Prelude.{nat_le}
+-- What is read leaves no more items than there were.
+use Rattle.std.proofs.Common.{◌≡◌, ℕ, ◌+◌, ◌*◌, ◌≤◌, ◌&&◌, Bool, true, false, cond, not, Option, Some, None, List, [], ◌∷◌, ◌++◌, length, refl, arith}
+use Rattle.std.specs.Prelude.{ℤ, nat_le}
 use Rattle.tx_num.specs.declared.units.PhysicalUnit.{PhysicalUnit}
 use Rattle.tx_num.specs.declared.units.PhysicalUnit.TheVariants.{Point, ScaledPoint}
-use Rattle.tx_char.specs.declared.tokens.Token.{Token}
-use Rattle.tx_seen.specs.declared.seen.Seen.{Seen}
-use Rattle.tx_char.specs.declared.tokens.Token.TheVariants.{Character, Name, FrozenRelax}
-use Rattle.tx_seen.specs.Seen.{digit_value, is_undefined, is_space, is_other, is_point, is_key}
-use Rattle.tx_num.specs.Units.{size_of}
 use Rattle.tx_num.specs.Decimals.{fraction_of}
-use Rattle.tx_assign.specs.Rests.{unit_rest, factor_rest}
-use Rattle.tx_assign.specs.Scans.{Scan, More, Done, Wrong, next, without_space, space_after}
-use Rattle.tx_assign.specs.Numbers.{signs, code_named, character_code}
-use Rattle.tx_assign.specs.Dimensions.{Factor, fraction, whole_units, factor_from, factor, second_letter, unit_name, sized, dimension}
+use Rattle.tx_num.specs.Units.{size_of}
+use Rattle.tx_char.specs.Character.{character}
+use Rattle.tx_seen.specs.declared.item.Item.{Item}
+use Rattle.tx_seen.specs.declared.item.Item.TheVariants.{Took, Gave}
+use Rattle.tx_seen.specs.declared.seen.Seen.{Seen}
+use Rattle.tx_seen.specs.Seen.{is_undefined, is_space, is_point, is_key}
+use Rattle.tx_seen.specs.Readings.{Reading, More, Need, Done, Wrong, next}
+use Rattle.tx_scan.specs.declared.scans.Radix.{Radix}
+use Rattle.tx_scan.specs.declared.scans.Radix.TheVariants.{Decimal}
+use Rattle.tx_scan.specs.declared.scans.Beginning.{Beginning}
+use Rattle.tx_scan.specs.declared.scans.Beginning.TheVariants as begin
+use Rattle.tx_scan.specs.Beginnings.{base, digit, beginning}
+use Rattle.tx_scan.specs.Integers.{Ended, unless_space, space_after, code_named, coded, character_code}
+use Rattle.tx_scan.specs.Dimensions.{Factor, factor_ended, fraction, is_decimal, whole_units, first_unit, second_letter, unit_name, sized, unit_rest, factored, counted, size_begun, size_signs, dimension}
 
--- at most so many tokens are behind what is read
-abbrev pub Leaves : {A : Type 0} → ℕ → Scan A → Type 0
-Leaves n (More name) = Unit {0}
-Leaves n (Done a rest) = length rest ≤ n
-Leaves n (Wrong e) = Unit {0}
+-- at most so many items are behind what is read, with those that it keeps itself
+abbrev pub LeavesBy : {A : Type 0} → (A → List Item) → ℕ → Reading A → Type 0
+LeavesBy kept n (More want) = Unit {0}
+LeavesBy kept n (Need kind) = Unit {0}
+LeavesBy kept n (Done a rest) = length (kept a ++ rest) ≤ n
+LeavesBy kept n (Wrong error) = Unit {0}
 
-leaves-more : {A : Type 0} (m n : ℕ) (scan : Scan A) → m ≤ n → Leaves m scan → Leaves n scan
-leaves-more m n (More name) h l = tt
-leaves-more m n (Done a rest) h l = omega arith
-leaves-more m n (Wrong e) h l = tt
+abbrev none_kept : {A : Type 0} → A → List Item
+none_kept a = []
 
-leaves-if : {A : Type 0} (n : ℕ) (b : Bool) (x y : Scan A) → Leaves n x → Leaves n y → Leaves n (cond b x y)
-leaves-if n true x y p q = p
-leaves-if n false x y p q = q
+-- at most so many items are behind what is read
+abbrev pub Leaves : {A : Type 0} → ℕ → Reading A → Type 0
+Leaves n reading = LeavesBy none_kept n reading
 
-leaves-next : {A B : Type 0} (m n : ℕ) (scan : Scan A) (on : A → List Seen → Scan B) → Leaves m scan → ((a : A) (rest : List Seen) → length rest ≤ m → Leaves n (on a rest)) → Leaves n (next scan on)
-leaves-next m n (More name) on l h = tt
-leaves-next m n (Done a rest) on l h = h a rest l
-leaves-next m n (Wrong e) on l h = tt
+leaves-more : {A : Type 0} (kept : A → List Item) (m n : ℕ) (reading : Reading A) → m ≤ n → LeavesBy kept m reading → LeavesBy kept n reading
+leaves-more kept m n (More want) h l = tt
+leaves-more kept m n (Need kind) h l = tt
+leaves-more kept m n (Done a rest) h l = omega arith
+leaves-more kept m n (Wrong error) h l = tt
 
-length-cond : (b : Bool) (t : Seen) (rest : List Seen) → length (cond b rest (t ∷ rest)) ≤ length rest + 1
-length-cond true t rest = omega arith
-length-cond false t rest = omega arith
+leaves-if : {A : Type 0} (kept : A → List Item) (n : ℕ) (b : Bool) (x y : Reading A) → LeavesBy kept n x → LeavesBy kept n y → LeavesBy kept n (cond b x y)
+leaves-if kept n true x y p q = p
+leaves-if kept n false x y p q = q
 
-length-without_space : (t : Seen) (rest : List Seen) → length (without_space t rest) ≤ length rest + 1
-length-without_space t rest = length-cond (is_space t) t rest
+leaves-next : {A B : Type 0} (kept : A → List Item) (also : B → List Item) (m n : ℕ) (reading : Reading A) (on : A → List Item → Reading B) → LeavesBy kept m reading → ((a : A) (rest : List Item) → length (kept a ++ rest) ≤ m → LeavesBy also n (on a rest)) → LeavesBy also n (next reading on)
+leaves-next kept also m n (More want) on l h = tt
+leaves-next kept also m n (Need kind) on l h = tt
+leaves-next kept also m n (Done a rest) on l h = h a rest l
+leaves-next kept also m n (Wrong error) on l h = tt
 
-leaves-signs : (negative : Bool) (tokens : List Seen) → Leaves (length tokens) (signs negative tokens)
-leaves-signs negative [] = tt
-leaves-signs negative (t ∷ rest) =
-    let on : (b : Bool) → Leaves (length (t ∷ rest)) (signs b rest) = λ b. leaves-more (length rest) (length (t ∷ rest)) (signs b rest) (omega arith) (leaves-signs b rest) in
-    let same : length (t ∷ rest) ≤ length (t ∷ rest) = omega arith in
-    leaves-if _ (is_undefined t) _ _ tt
-    (leaves-if _ (is_space t) _ _ (on negative)
-    (leaves-if _ (is_other 43 t) _ _ (on negative)
-    (leaves-if _ (is_other 45 t) _ _ (on (not negative)) same)))
+abbrev behind_number : Ended → List Item
+behind_number c = c.behind
 
-leaves-space : {A : Type 0} (a : A) (tokens : List Seen) → Leaves (length tokens) (space_after a tokens)
-leaves-space a [] = tt
-leaves-space a (t ∷ rest) = leaves-if _ (is_undefined t) _ _ tt (omega (arith, length-without_space t rest))
+abbrev behind_factor : Factor → List Item
+behind_factor f = f.behind
 
-leaves-named : (t : Token) (rest : List Seen) → Leaves (length rest) (code_named t rest)
-leaves-named (Character code category) rest = let h : length rest ≤ length rest = omega arith in h
-leaves-named (Name []) rest = tt
-leaves-named (Name (code ∷ [])) rest = let h : length rest ≤ length rest = omega arith in h
-leaves-named (Name (code ∷ c ∷ more)) rest = tt
-leaves-named FrozenRelax rest = tt
+length-unless-by : (b : Bool) (item : Item) (rest : List Item) → length (cond b [] (item ∷ []) ++ rest) ≤ length (item ∷ rest)
+length-unless-by true item rest = omega arith
+length-unless-by false item rest = omega arith
 
-leaves-code : (tokens : List Seen) → Leaves (length tokens) (character_code tokens)
+length-unless : (t : Seen) (rest : List Item) → length (unless_space t ++ rest) ≤ length (Took t ∷ rest)
+length-unless t rest = length-unless-by (is_space t) (Took t) rest
+
+leaves-space : (n : ℕ) (items : List Item) → LeavesBy behind_number (length items) (space_after n items)
+leaves-space n [] = tt
+leaves-space n (Gave v ∷ rest) = tt
+leaves-space n (Took t ∷ rest) = leaves-if behind_number _ (is_undefined t) _ _ tt (length-unless t rest)
+
+leaves-coded : (code : Option ℕ) (rest : List Item) → LeavesBy behind_number (length rest) (coded code rest)
+leaves-coded None rest = tt
+leaves-coded (Some code) rest = leaves-space code rest
+
+leaves-code : (items : List Item) → LeavesBy behind_number (length items) (character_code items)
 leaves-code [] = tt
-leaves-code (t ∷ rest) =
-    leaves-next (length rest) (length (t ∷ rest)) (code_named t.token rest) space_after (leaves-named t.token rest)
-    (λ code behind h. leaves-more (length behind) (length (t ∷ rest)) (space_after code behind) (omega arith) (leaves-space code behind))
+leaves-code (Gave v ∷ rest) = tt
+leaves-code (Took t ∷ rest) = leaves-more behind_number (length rest) (length (Took t ∷ rest)) (coded (code_named t.token) rest) (omega arith) (leaves-coded (code_named t.token) rest)
 
-leaves-fraction-by : (whole : ℕ) (digits : List ℕ) (t : Seen) (rest : List Seen) → ((digits : List ℕ) → Leaves (length rest) (fraction whole digits rest)) → (undefined : Bool) → is_undefined t ≡ undefined → (digit : Option ℕ) → digit_value t ≡ digit → Leaves (length (t ∷ rest)) (fraction whole digits (t ∷ rest))
-leaves-fraction-by whole digits t rest on true u digit v = rw u tt
-leaves-fraction-by whole digits t rest on false u None v = simp (u, v) (omega (arith, length-without_space t rest))
-leaves-fraction-by whole digits t rest on false u (Some d) v =
-    simp (u, v) (leaves-more (length rest) (length (t ∷ rest)) (fraction whole (digits ++ (48 + d) ∷ []) rest) (omega arith) (on (digits ++ (48 + d) ∷ [])))
+leaves-ended : (whole : ℕ) (digits : List ℕ) (t : Seen) (rest : List Item) → LeavesBy behind_factor (length (Took t ∷ rest)) (factor_ended whole digits t rest)
+leaves-ended whole digits t rest = leaves-if behind_factor _ (is_undefined t) _ _ tt (length-unless t rest)
 
-leaves-fraction : (whole : ℕ) (tokens : List Seen) (digits : List ℕ) → Leaves (length tokens) (fraction whole digits tokens)
+leaves-fraction-by : (whole : ℕ) (digits : List ℕ) (t : Seen) (rest : List Item) → ((digits : List ℕ) → LeavesBy behind_factor (length rest) (fraction whole digits rest)) → (d : Option ℕ) → digit Decimal t ≡ d → LeavesBy behind_factor (length (Took t ∷ rest)) (fraction whole digits (Took t ∷ rest))
+leaves-fraction-by whole digits t rest on None is = rw is (leaves-ended whole digits t rest)
+leaves-fraction-by whole digits t rest on (Some d) is =
+    rw is (leaves-more behind_factor (length rest) (length (Took t ∷ rest)) (fraction whole (digits ++ (character "0" + d) ∷ []) rest) (omega arith) (on (digits ++ (character "0" + d) ∷ [])))
+
+leaves-fraction : (whole : ℕ) (items : List Item) (digits : List ℕ) → LeavesBy behind_factor (length items) (fraction whole digits items)
 leaves-fraction whole [] digits = tt
-leaves-fraction whole (t ∷ rest) digits = leaves-fraction-by whole digits t rest (leaves-fraction whole rest) (is_undefined t) refl (digit_value t) refl
+leaves-fraction whole (Gave v ∷ rest) digits = tt
+leaves-fraction whole (Took t ∷ rest) digits = leaves-fraction-by whole digits t rest (leaves-fraction whole rest) (digit Decimal t) refl
 
-leaves-whole-by : (n : ℕ) (t : Seen) (rest : List Seen) → ((n : ℕ) → Leaves (length rest) (whole_units n rest)) → (undefined : Bool) → is_undefined t ≡ undefined → (digit : Option ℕ) → digit_value t ≡ digit → Leaves (length (t ∷ rest)) (whole_units n (t ∷ rest))
-leaves-whole-by n t rest on true u digit v = rw u tt
-leaves-whole-by n t rest on false u None v =
-    simp (u, v)
-    (leaves-if _ (is_point t) (fraction n [] rest) (Done (record { whole = n; digits = [] }) (without_space t rest))
-    (leaves-more (length rest) (length (t ∷ rest)) (fraction n [] rest) (omega arith) (leaves-fraction n rest []))
-    (omega (arith, length-without_space t rest)))
-leaves-whole-by n t rest on false u (Some d) v =
-    simp (u, v)
-    (leaves-if _ (nat_le (10 * n + d) 2147483647) (whole_units (10 * n + d) rest) _
-    (leaves-more (length rest) (length (t ∷ rest)) (whole_units (10 * n + d) rest) (omega arith) (on (10 * n + d))) tt)
+leaves-whole-by : (radix : Radix) (n : ℕ) (t : Seen) (rest : List Item) → ((n : ℕ) → LeavesBy behind_factor (length rest) (whole_units radix n rest)) → (d : Option ℕ) → digit radix t ≡ d → LeavesBy behind_factor (length (Took t ∷ rest)) (whole_units radix n (Took t ∷ rest))
+leaves-whole-by radix n t rest on None is =
+    rw is
+    (leaves-if behind_factor _ (is_decimal radix && is_point t) (fraction n [] rest) (factor_ended n [] t rest)
+    (leaves-more behind_factor (length rest) (length (Took t ∷ rest)) (fraction n [] rest) (omega arith) (leaves-fraction n rest []))
+    (leaves-ended n [] t rest))
+leaves-whole-by radix n t rest on (Some d) is =
+    rw is
+    (leaves-if behind_factor _ (nat_le (base radix * n + d) 2147483647) (whole_units radix (base radix * n + d) rest) _
+    (leaves-more behind_factor (length rest) (length (Took t ∷ rest)) (whole_units radix (base radix * n + d) rest) (omega arith) (on (base radix * n + d))) tt)
 
-leaves-whole : (tokens : List Seen) (n : ℕ) → Leaves (length tokens) (whole_units n tokens)
-leaves-whole [] n = tt
-leaves-whole (t ∷ rest) n = leaves-whole-by n t rest (leaves-whole rest) (is_undefined t) refl (digit_value t) refl
+leaves-whole : (radix : Radix) (items : List Item) (n : ℕ) → LeavesBy behind_factor (length items) (whole_units radix n items)
+leaves-whole radix [] n = tt
+leaves-whole radix (Gave v ∷ rest) n = tt
+leaves-whole radix (Took t ∷ rest) n = leaves-whole-by radix n t rest (leaves-whole radix rest) (digit radix t) refl
 
-leaves-factor-from : (digit : Option ℕ) (t : Seen) (rest : List Seen) → Leaves (length (t ∷ rest)) (factor_from digit t rest)
-leaves-factor-from (Some d) t rest = leaves-more (length rest) (length (t ∷ rest)) (whole_units d rest) (omega arith) (leaves-whole rest d)
-leaves-factor-from None t rest =
-    leaves-if _ (is_point t) _ _
-    (leaves-more (length rest) (length (t ∷ rest)) (fraction 0 [] rest) (omega arith) (leaves-fraction 0 rest []))
-    (leaves-if _ (is_other 96 t) _ _
-    (leaves-next (length rest) (length (t ∷ rest)) (character_code rest) (λ code behind. Done (record { whole = code; digits = [] }) behind)
-    (leaves-code rest) (λ code behind h. omega arith))
-    tt)
+leaves-first-by : (radix : Radix) (t : Seen) (rest : List Item) (d : Option ℕ) → digit radix t ≡ d → LeavesBy behind_factor (length (Took t ∷ rest)) (first_unit radix (Took t ∷ rest))
+leaves-first-by radix t rest None is = rw is (leaves-if behind_factor _ (is_undefined t) _ _ tt tt)
+leaves-first-by radix t rest (Some d) is =
+    rw is (leaves-more behind_factor (length rest) (length (Took t ∷ rest)) (whole_units radix d rest) (omega arith) (leaves-whole radix rest d))
 
-leaves-factor : (tokens : List Seen) → Leaves (length tokens) (factor tokens)
-leaves-factor [] = tt
-leaves-factor (t ∷ rest) = leaves-factor-from (digit_value t) t rest
+leaves-first : (radix : Radix) (items : List Item) → LeavesBy behind_factor (length items) (first_unit radix items)
+leaves-first radix [] = tt
+leaves-first radix (Gave v ∷ rest) = tt
+leaves-first radix (Took t ∷ rest) = leaves-first-by radix t rest (digit radix t) refl
 
-leaves-letter : (c : ℕ) (unit : PhysicalUnit) (tokens : List Seen) → Leaves (length tokens) (second_letter c unit tokens)
+leaves-letter : (c : ℕ) (unit : PhysicalUnit) (items : List Item) → Leaves (length items) (second_letter c unit items)
 leaves-letter c unit [] = tt
-leaves-letter c unit (t ∷ rest) =
-    let h : length rest ≤ length (t ∷ rest) = omega arith in
-    leaves-if _ (is_undefined t) _ _ tt (leaves-if _ (is_key c t) _ _ h tt)
+leaves-letter c unit (Gave v ∷ rest) = tt
+leaves-letter c unit (Took t ∷ rest) =
+    let h : length rest ≤ length (Took t ∷ rest) = omega arith in
+    leaves-if none_kept _ (is_undefined t) _ _ tt (leaves-if none_kept _ (is_key c t) _ _ h tt)
 
-leaves-unit : (tokens : List Seen) → Leaves (length tokens) (unit_name tokens)
+leaves-unit : (items : List Item) → Leaves (length items) (unit_name items)
 leaves-unit [] = tt
-leaves-unit (t ∷ rest) =
-    let h : length rest ≤ length (t ∷ rest) = omega arith in
-    leaves-if _ (is_undefined t) _ _ tt
-    (leaves-if _ (is_space t) _ _ (leaves-more (length rest) (length (t ∷ rest)) (unit_name rest) h (leaves-unit rest))
-    (leaves-if _ (is_key 112 t) _ _ (leaves-more (length rest) (length (t ∷ rest)) (second_letter 116 Point rest) h (leaves-letter 116 Point rest))
-    (leaves-if _ (is_key 115 t) _ _ (leaves-more (length rest) (length (t ∷ rest)) (second_letter 112 ScaledPoint rest) h (leaves-letter 112 ScaledPoint rest))
+leaves-unit (Gave v ∷ rest) = tt
+leaves-unit (Took t ∷ rest) =
+    let h : length rest ≤ length (Took t ∷ rest) = omega arith in
+    leaves-if none_kept _ (is_undefined t) _ _ tt
+    (leaves-if none_kept _ (is_space t) _ _ (leaves-more none_kept (length rest) (length (Took t ∷ rest)) (unit_name rest) h (leaves-unit rest))
+    (leaves-if none_kept _ (is_key (character "p") t) _ _ (leaves-more none_kept (length rest) (length (Took t ∷ rest)) (second_letter (character "t") Point rest) h (leaves-letter (character "t") Point rest))
+    (leaves-if none_kept _ (is_key (character "s") t) _ _ (leaves-more none_kept (length rest) (length (Took t ∷ rest)) (second_letter (character "p") ScaledPoint rest) h (leaves-letter (character "p") ScaledPoint rest))
     tt)))
 
-leaves-sized : (negative : Bool) (size : ℕ) (behind : List Seen) (n : ℕ) → length behind ≤ n → Leaves n (sized negative size behind)
-leaves-sized negative size behind n h = leaves-if n (nat_le size 1073741823) _ _ h tt
+leaves-sized : (negative : Bool) (size : ℕ) (behind : List Item) (n : ℕ) → length behind ≤ n → Leaves n (sized negative size behind)
+leaves-sized negative size behind n h = leaves-if none_kept n (nat_le size 1073741823) _ _ h tt
 
-leaves-unit-rest : (negative : Bool) (whole : ℕ) (digits : List ℕ) (unit : PhysicalUnit) (rest : List Seen) (n : ℕ) → length rest ≤ n → Leaves n (unit_rest negative whole digits unit rest)
-leaves-unit-rest negative whole digits unit rest n h =
-    leaves-next (length rest) n (space_after unit rest) (λ unit behind. sized negative (size_of unit whole (fraction_of digits)) behind)
-    (leaves-space unit rest) (λ unit behind l. leaves-sized negative (size_of unit whole (fraction_of digits)) behind n (omega arith))
+leaves-unit-rest : (negative : Bool) (whole part : ℕ) (unit : PhysicalUnit) (items : List Item) → Leaves (length items) (unit_rest negative whole part unit items)
+leaves-unit-rest negative whole part unit [] = tt
+leaves-unit-rest negative whole part unit (Gave v ∷ rest) = tt
+leaves-unit-rest negative whole part unit (Took t ∷ rest) =
+    leaves-if none_kept _ (is_undefined t) _ _ tt (leaves-sized negative (size_of unit whole part) (unless_space t ++ rest) _ (length-unless t rest))
 
-leaves-factor-rest : (negative : Bool) (f : Factor) (rest : List Seen) (n : ℕ) → length rest ≤ n → Leaves n (factor_rest negative f rest)
-leaves-factor-rest negative f rest n h =
-    leaves-next (length rest) n (unit_name rest) (unit_rest negative f.whole f.digits) (leaves-unit rest)
-    (λ unit behind l. leaves-unit-rest negative f.whole f.digits unit behind n (omega arith))
+leaves-factored : (negative : Bool) (f : Factor) (rest : List Item) (n : ℕ) → length (f.behind ++ rest) ≤ n → Leaves n (factored negative f rest)
+leaves-factored negative f rest n h =
+    leaves-next none_kept none_kept (length (f.behind ++ rest)) n (unit_name (f.behind ++ rest)) (unit_rest negative f.whole (fraction_of f.digits)) (leaves-unit (f.behind ++ rest))
+    (λ unit behind l. leaves-more none_kept (length behind) n (unit_rest negative f.whole (fraction_of f.digits) unit behind) (omega arith) (leaves-unit-rest negative f.whole (fraction_of f.digits) unit behind))
 
-pub leaves-dimension : (tokens : List Seen) → Leaves (length tokens) (dimension tokens)
-leaves-dimension tokens =
-    leaves-next (length tokens) (length tokens) (signs false tokens) (λ negative rest. next (factor rest) (factor_rest negative)) (leaves-signs false tokens)
-    (λ negative rest h. leaves-next (length rest) (length tokens) (factor rest) (factor_rest negative) (leaves-factor rest)
-    (λ f behind l. leaves-factor-rest negative f behind (length tokens) (omega arith)))
+leaves-begun : (negative : Bool) (on : Bool → Reading ℤ) (rest : List Item) (b : Beginning) (n : ℕ) → length rest ≤ n → ((negative : Bool) → Leaves n (on negative)) → Leaves n (size_begun negative on rest b)
+leaves-begun negative on rest begin.Plus n h k = k negative
+leaves-begun negative on rest begin.Minus n h k = k (not negative)
+leaves-begun negative on rest (begin.Digit d) n h k =
+    leaves-next behind_factor none_kept (length rest) n (whole_units Decimal d rest) (factored negative) (leaves-whole Decimal rest d) (λ f behind l. leaves-factored negative f behind n (omega arith))
+leaves-begun negative on rest (begin.Digits radix) n h k =
+    leaves-next behind_factor none_kept (length rest) n (first_unit radix rest) (factored negative) (leaves-first radix rest) (λ f behind l. leaves-factored negative f behind n (omega arith))
+leaves-begun negative on rest begin.Point n h k =
+    leaves-next behind_factor none_kept (length rest) n (fraction 0 [] rest) (factored negative) (leaves-fraction 0 rest []) (λ f behind l. leaves-factored negative f behind n (omega arith))
+leaves-begun negative on rest begin.Character n h k =
+    leaves-next behind_number none_kept (length rest) n (character_code rest) (counted negative) (leaves-code rest)
+    (λ c behind l. leaves-factored negative (record { whole = c.number; digits = []; behind = c.behind }) behind n (omega arith))
+leaves-begun negative on rest (begin.Number m) n h k = tt
+leaves-begun negative on rest (begin.At place) n h k = tt
+leaves-begun negative on rest (begin.Numbered kind) n h k = tt
+leaves-begun negative on rest (begin.Nothing error) n h k = tt
+
+leaves-signs : (items : List Item) (negative : Bool) → Leaves (length items) (size_signs negative items)
+leaves-signs [] negative = tt
+leaves-signs (Gave v ∷ rest) negative = tt
+leaves-signs (Took t ∷ rest) negative =
+    leaves-begun negative (λ negative. size_signs negative rest) rest (beginning t) (length (Took t ∷ rest)) (omega arith)
+    (λ negative. leaves-more none_kept (length rest) (length (Took t ∷ rest)) (size_signs negative rest) (omega arith) (leaves-signs rest negative))
+
+pub leaves-dimension : (items : List Item) → Leaves (length items) (dimension items)
+leaves-dimension items = leaves-signs items false

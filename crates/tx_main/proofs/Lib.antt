@@ -1,7 +1,10 @@
 pub mod Leaves
-pub mod Prefixes
-pub mod SideNames
 pub mod Sides
-pub mod Defined
+pub mod Reading
+pub mod Settling
+pub mod Stages
+pub mod RuleSteps
+pub mod GivingBack
 pub mod Ships
+pub mod Taking
 mod Worked

@@ -1,5 +1,5 @@
 -- What comes of a box that is shipped.
-use Rattle.std.proofs.Common.{◌≡◌, ℤ, Some, Result, Ok, Err, ap, sym, ◌∙◌}
+use Rattle.std.proofs.Common.{◌≡◌, ℤ, Some, Ok, Err, ap, sym, ◌∙◌}
 use Rattle.tx_dvi.specs.Page.{Page}
 use Rattle.tx_node.specs.Items.{HBox}
 use Rattle.tx_ship.specs.declared.error.ShipError.{ShipError}

@@ -1,9 +1,11 @@
 -- A command that is begun.
-use Rattle.std.specs.Prelude.{Bool, List}
-use Rattle.tx_char.specs.declared.tokens.Token.{Token}
-use Rattle.tx_seen.specs.declared.seen.Seen.{Seen}
+use Rattle.std.specs.Prelude.{List}
+use Rattle.tx_prim.specs.declared.modes.Mode.{Mode}
+use Rattle.tx_seen.specs.declared.item.Item.{Item}
+use Rattle.tx_main.specs.declared.types.Head.{Head}
 
--- the tokens of a command that were taken so far, and whether it stands in a horizontal list
+-- the mode, what stands before the command, and the tokens and values that it has taken since
 pub record Begun : Type 0 where
-  pub horizontal : Bool
-  pub taken : List Seen
+  pub mode : Mode
+  pub head : Head
+  pub taken : List Item

@@ -1,93 +1,166 @@
--- The commands, as tokens at the front of a list (TeX: The Program, part 46 on; The TeXbook, chapters 24 to 26).
-use Rattle.std.specs.Prelude.{ℕ, Bool, true, false, List, [], ◌∷◌, if◌then◌else◌}
+-- The commands, as items at the front of a list (TeX: The Program, part 46 on; The TeXbook, chapters 24 to 26): first the mode, then
+-- what the command takes, by its family.
+use Rattle.std.specs.Prelude.{ℕ, ◌∷◌, [], ◌||◌, Bool, true, false, List, if◌then◌else◌}
 use Rattle.tx_char.specs.declared.category.Cat.{Cat}
-use Rattle.tx_char.specs.declared.category.Cat.TheVariants.{BeginGroup as Cat_begin, EndGroup as Cat_end, AlignmentTab, Space as Cat_space, Letter, Other}
+use Rattle.tx_char.specs.declared.category.Cat.TheVariants as category
+use Rattle.tx_prim.specs.declared.family.BoxKind.{BoxKind}
+use Rattle.tx_prim.specs.declared.family.RuleKind.{RuleKind}
+use Rattle.tx_prim.specs.declared.family.Shorthand.{Shorthand}
+use Rattle.tx_prim.specs.declared.family.SizeKind.{SizeKind}
+use Rattle.tx_prim.specs.declared.modes.Mode.{Mode}
 use Rattle.tx_prim.specs.declared.primitive.Primitive.{Primitive}
 use Rattle.tx_prim.specs.declared.primitive.Primitive.TheVariants as primitive
+use Rattle.tx_seen.specs.declared.error.TexError.TheVariants.{Undefined, NoAssignment, NotAllowed, MisplacedAlignment, MissingBox}
+use Rattle.tx_seen.specs.declared.fed.Want.TheVariants.{Expanded}
+use Rattle.tx_seen.specs.declared.item.Item.{Item}
+use Rattle.tx_seen.specs.declared.item.Item.TheVariants.{Took, Gave}
 use Rattle.tx_seen.specs.declared.meaning.Meaning.{Meaning}
 use Rattle.tx_seen.specs.declared.meaning.Meaning.TheVariants as meaning
-use Rattle.tx_seen.specs.declared.error.TexError.TheVariants.{Undefined, MissingBeginGroup, NotAllowed, MisplacedAlignment, MissingBox}
-use Rattle.tx_seen.specs.declared.seen.Seen.{Seen}
-use Rattle.tx_seen.specs.Seen.{is_space, is_relax, is_begin_group}
-use Rattle.tx_assign.specs.Scans.{Scan, Done, Wrong, more, next, expanded}
+use Rattle.tx_seen.specs.declared.place.Place.TheVariants as place
+use Rattle.tx_seen.specs.Seen.{is_space, is_relax}
+use Rattle.tx_seen.specs.Readings.{Reading, More, Done, Wrong, next}
+use Rattle.tx_scan.specs.Dimensions.{dimension}
+use Rattle.tx_scan.specs.Grammars.{left_brace, name}
+use Rattle.tx_scan.specs.Integers.{expanded}
+use Rattle.tx_assign.specs.declared.types.Assigning.{Assigning}
+use Rattle.tx_assign.specs.declared.types.Assigning.TheVariants as assign
+use Rattle.tx_assign.specs.declared.types.Variable.TheVariants.{Numbered, Standing}
 use Rattle.tx_assign.specs.Assignments.{assignment}
-use Rattle.tx_assign.specs.Dimensions.{dimension}
 use Rattle.tx_main.specs.declared.types.BoxContext.{BoxContext}
 use Rattle.tx_main.specs.declared.types.BoxContext.TheVariants.{Append, Ship}
 use Rattle.tx_main.specs.declared.types.Command.{Command}
-use Rattle.tx_main.specs.declared.types.Command.TheVariants.{Nothing, Space, Character, BeginGroup, EndGroup, BeginSemiSimple, EndSemiSimple, Assign, Kern, Vrule, BeginBox, End}
-use Rattle.tx_main.specs.Rules.{plain_vrule, rule_sides}
-
--- the meaning of \hbox
-abbrev pub hbox_meant : Meaning → Bool
-hbox_meant (meaning.Command primitive.Hbox) = true
-hbox_meant _ = false
-
--- the begin-group token of a box, with spaces and \relax before it
-abbrev pub box_begin : BoxContext → List Seen → Scan Command
-box_begin context [] = more
-box_begin context (t ∷ rest) = expanded t (
-    if is_space t then box_begin context rest
-    else if is_relax t then box_begin context rest
-    else if is_begin_group t then Done (BeginBox context) rest
-    else Wrong MissingBeginGroup)
-
--- the box that \shipout needs, with spaces and \relax before it
-abbrev pub shipped_box : List Seen → Scan Command
-shipped_box [] = more
-shipped_box (t ∷ rest) = expanded t (
-    if is_space t then shipped_box rest
-    else if is_relax t then shipped_box rest
-    else if hbox_meant t.meaning then box_begin Ship rest
-    else Wrong MissingBox)
-
--- what is allowed only in a horizontal list: in a vertical one it would begin a paragraph, or add to the page, and
--- neither is there yet
-abbrev pub horizontal_only : Bool → Scan Command → Scan Command
-horizontal_only true scan = scan
-horizontal_only false scan = Wrong NotAllowed
+use Rattle.tx_main.specs.declared.types.Command.TheVariants.{Nothing, Space, Character, BeginGroup, EndGroup, BeginSemiSimple, EndSemiSimple, Prefix, Define, Assign, Sized, Rule, BeginBox, End}
+use Rattle.tx_main.specs.declared.types.Head.{Head}
+use Rattle.tx_main.specs.declared.types.Head.TheVariants.{Fresh, Prefixed, Defining}
+use Rattle.tx_main.specs.Rules.{plain_rule, rule_sides}
+use Rattle.tx_main.specs.Standing.{may_stand}
 
 -- an assignment
-abbrev pub assigning : List Seen → Scan Command
-assigning tokens = next (assignment tokens) (λ a behind. Done (Assign a) behind)
+abbrev pub assigning : Assigning → List Item → Reading Command
+assigning begun items = next (assignment begun items) (λ a behind. Done (Assign a) behind)
+
+-- the begin-group token of a box
+abbrev pub box_begin : BoxKind → BoxContext → List Item → Reading Command
+box_begin kind context items = next (left_brace items) (λ _ behind. Done (BeginBox kind context) behind)
+
+-- the box that \shipout needs
+abbrev pub box_meant : Meaning → List Item → Reading Command
+box_meant (meaning.Command (primitive.Box kind)) rest = box_begin kind Ship rest
+box_meant _ rest = Wrong MissingBox
+
+-- with spaces and \relax before it
+abbrev pub shipped_box : List Item → Reading Command
+shipped_box [] = More Expanded
+shipped_box (Gave v ∷ rest) = Wrong MissingBox
+shipped_box (Took t ∷ rest) = expanded t (if is_space t || is_relax t then shipped_box rest else box_meant t.meaning rest)
+
+-- the name that \chardef or its kin defines
+abbrev pub defining : Shorthand → List Item → Reading Command
+defining kind items = next (name items) (λ defined behind. Done (Define defined kind) behind)
+
+-- the size of a kern
+abbrev pub sizing : SizeKind → List Item → Reading Command
+sizing kind items = next (dimension items) (λ size behind. Done (Sized kind size) behind)
+
+-- the sides of a rule
+abbrev pub ruling : RuleKind → List Item → Reading Command
+ruling kind items = next (rule_sides (plain_rule kind) items) (λ rule behind. Done (Rule kind rule) behind)
 
 -- a character, or a name that \let has made mean one, by its category
-abbrev pub character_command : Bool → ℕ → Cat → List Seen → Scan Command
-character_command horizontal code Cat_begin rest = Done BeginGroup rest
-character_command horizontal code Cat_end rest = Done EndGroup rest
-character_command horizontal code AlignmentTab rest = Wrong MisplacedAlignment
-character_command horizontal code Cat_space rest = Done Space rest
-character_command horizontal code Letter rest = horizontal_only horizontal (Done (Character code) rest)
-character_command horizontal code Other rest = horizontal_only horizontal (Done (Character code) rest)
-character_command horizontal code _ rest = Wrong NotAllowed
+abbrev pub character_command : ℕ → Cat → List Item → Reading Command
+character_command code category.BeginGroup rest = Done BeginGroup rest
+character_command code category.EndGroup rest = Done EndGroup rest
+character_command code category.Space rest = Done Space rest
+character_command code category.Letter rest = Done (Character code) rest
+character_command code category.Other rest = Done (Character code) rest
+character_command code category.AlignmentTab rest = Wrong MisplacedAlignment
+character_command code category.MathShift rest = Wrong NotAllowed
+character_command code category.Superscript rest = Wrong NotAllowed
+character_command code category.Subscript rest = Wrong NotAllowed
+character_command code category.Parameter rest = Wrong NotAllowed
+character_command code category.Escape rest = Wrong NotAllowed
+character_command code category.EndOfLine rest = Wrong NotAllowed
+character_command code category.Ignored rest = Wrong NotAllowed
+character_command code category.Active rest = Wrong NotAllowed
+character_command code category.Comment rest = Wrong NotAllowed
+character_command code category.Invalid rest = Wrong NotAllowed
 
--- a primitive, which is the first of these tokens; all that have no line of their own begin assignments
-abbrev pub primitive_command : Bool → Primitive → List Seen → List Seen → Scan Command
-primitive_command horizontal primitive.Relax tokens rest = Done Nothing rest
-primitive_command horizontal primitive.Par tokens rest = Done Nothing rest
-primitive_command horizontal primitive.BeginGroup tokens rest = Done BeginSemiSimple rest
-primitive_command horizontal primitive.EndGroup tokens rest = Done EndSemiSimple rest
-primitive_command horizontal primitive.Kern tokens rest =
-    horizontal_only horizontal (next (dimension rest) (λ size behind. Done (Kern size) behind))
-primitive_command horizontal primitive.Vrule tokens rest =
-    horizontal_only horizontal (next (rule_sides plain_vrule rest) (λ rule behind. Done (Vrule rule) behind))
-primitive_command horizontal primitive.Hbox tokens rest = horizontal_only horizontal (box_begin Append rest)
-primitive_command horizontal primitive.Shipout tokens rest = shipped_box rest
-primitive_command true primitive.End tokens rest = Wrong NotAllowed
-primitive_command false primitive.End tokens rest = Done End rest
-primitive_command horizontal other tokens rest = assigning tokens
+-- what a primitive takes behind it, by its family
+abbrev pub family_command : Primitive → List Item → Reading Command
+family_command primitive.Relax rest = Done Nothing rest
+family_command primitive.Par rest = Done Nothing rest
+family_command primitive.BeginGroup rest = Done BeginSemiSimple rest
+family_command primitive.EndGroup rest = Done EndSemiSimple rest
+family_command (primitive.Prefix prefix) rest = Done (Prefix prefix) rest
+family_command primitive.Let rest = assigning assign.Let rest
+family_command (primitive.Shorthand kind) rest = defining kind rest
+family_command (primitive.Arithmetic operation) rest = assigning (assign.Arithmetic operation) rest
+family_command (primitive.Numbered kind) rest = assigning (assign.Variable (Numbered kind)) rest
+family_command (primitive.Integer parameter) rest = assigning (assign.Variable (Standing (place.Integer parameter))) rest
+family_command (primitive.Dimension parameter) rest = assigning (assign.Variable (Standing (place.Dimension parameter))) rest
+family_command (primitive.Sized kind) rest = sizing kind rest
+family_command (primitive.Rule kind) rest = ruling kind rest
+family_command (primitive.Box kind) rest = box_begin kind Append rest
+family_command primitive.Shipout rest = shipped_box rest
+family_command primitive.End rest = Done End rest
 
--- the command that begins with a token of this meaning, the first of these
-abbrev pub command_from : Bool → Meaning → List Seen → List Seen → Scan Command
-command_from horizontal meaning.Undefined tokens rest = Wrong Undefined
-command_from horizontal (meaning.Command primitive) tokens rest = primitive_command horizontal primitive tokens rest
-command_from horizontal (meaning.Character code category) tokens rest = character_command horizontal code category rest
-command_from horizontal (meaning.CharacterNumber code) tokens rest = horizontal_only horizontal (Done (Character code) rest)
-command_from horizontal (meaning.MathNumber code) tokens rest = Wrong NotAllowed
-command_from horizontal (meaning.CountRegister number) tokens rest = assigning tokens
-command_from horizontal (meaning.DimenRegister number) tokens rest = assigning tokens
+-- the command whose first token means this
+abbrev pub command_meant : Meaning → List Item → Reading Command
+command_meant meaning.Undefined rest = Wrong Undefined
+command_meant (meaning.Command primitive) rest = family_command primitive rest
+command_meant (meaning.Character code category) rest = character_command code category rest
+command_meant (meaning.CharacterNumber code) rest = Done (Character code) rest
+command_meant (meaning.MathNumber number) rest = Wrong NotAllowed
+command_meant (meaning.CountRegister number) rest = assigning (assign.Variable (Standing (place.Count number))) rest
+command_meant (meaning.DimenRegister number) rest = assigning (assign.Variable (Standing (place.Dimen number))) rest
 
--- the command at the front of these tokens, in a horizontal or a vertical list
-abbrev pub command : Bool → List Seen → Scan Command
-command horizontal [] = more
-command horizontal (t ∷ rest) = command_from horizontal t.meaning (t ∷ rest) rest
+-- a command that nothing stands before
+abbrev pub fresh_command : Mode → List Item → Reading Command
+fresh_command mode [] = More Expanded
+fresh_command mode (Gave v ∷ rest) = Wrong NotAllowed
+fresh_command mode (Took t ∷ rest) = if may_stand mode t.meaning then command_meant t.meaning rest else Wrong NotAllowed
+
+-- whether a primitive may stand behind a prefix
+abbrev pub is_prefixable : Primitive → Bool
+is_prefixable primitive.Relax = false
+is_prefixable primitive.Par = false
+is_prefixable primitive.BeginGroup = false
+is_prefixable primitive.EndGroup = false
+is_prefixable (primitive.Prefix prefix) = true
+is_prefixable primitive.Let = true
+is_prefixable (primitive.Shorthand kind) = true
+is_prefixable (primitive.Arithmetic operation) = true
+is_prefixable (primitive.Numbered kind) = true
+is_prefixable (primitive.Integer parameter) = true
+is_prefixable (primitive.Dimension parameter) = true
+is_prefixable (primitive.Sized kind) = false
+is_prefixable (primitive.Rule kind) = false
+is_prefixable (primitive.Box kind) = false
+is_prefixable primitive.Shipout = false
+is_prefixable primitive.End = false
+
+-- what has no meaning is let through, since carrying it out is an error of its own
+abbrev pub may_be_prefixed : Meaning → Bool
+may_be_prefixed meaning.Undefined = true
+may_be_prefixed (meaning.Command primitive) = is_prefixable primitive
+may_be_prefixed (meaning.Character code category) = false
+may_be_prefixed (meaning.CharacterNumber code) = false
+may_be_prefixed (meaning.MathNumber number) = false
+may_be_prefixed (meaning.CountRegister number) = true
+may_be_prefixed (meaning.DimenRegister number) = true
+
+-- a command behind a prefix: an assignment, with spaces and \relax before it, which do nothing (TeX: The Program, sections 404
+-- and 1211)
+abbrev pub prefixed_command : List Item → Reading Command
+prefixed_command [] = More Expanded
+prefixed_command (Gave v ∷ rest) = Wrong NoAssignment
+prefixed_command (Took t ∷ rest) =
+    if is_space t || is_relax t then Done Nothing rest
+    else if may_be_prefixed t.meaning then command_meant t.meaning rest
+    else Wrong NoAssignment
+
+-- the command at the front of these items, by what stands before it
+abbrev pub command : Mode → Head → List Item → Reading Command
+command mode Fresh items = fresh_command mode items
+command mode (Prefixed prefixes) items = prefixed_command items
+command mode (Defining prefixes defined kind) items = assigning (assign.Named defined kind) items

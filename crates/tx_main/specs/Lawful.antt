@@ -1,12 +1,14 @@
 -- TeX keeps the laws of every machine.
-use Rattle.std.specs.Prelude.{◌≡◌, ◌≤◌, refl}
+use Rattle.std.specs.Prelude.{◌≡◌, ◌≤◌, List, [], ◌∷◌, refl}
 use Rattle.std.proofs.Common.{arith}
 use Rattle.tx_machine.specs.declared.types.AskKind.{AskKind}
 use Rattle.tx_machine.specs.declared.types.Reply.{Reply}
 use Rattle.tx_machine.specs.Machine.{Stepped, IsLawful, Ready, Awaits, mode_after}
 use Rattle.tx_main.specs.declared.parts.Due.{Due}
-use Rattle.tx_main.specs.declared.parts.Due.TheVariants.{Nothing, OpenMain, MainAbsent, FileEnded, MainClosed, Ship}
+use Rattle.tx_main.specs.declared.parts.Due.TheVariants.{OpenMain, MainAbsent, FileEnded, MainClosed, Ship}
 use Rattle.tx_main.specs.Outcomes.{Outcome, Leaves, Asks, Ships, Fails, Ends, stepped}
+use Rattle.tx_machine.specs.Same.{same-tells}
+use Rattle.tx_main.specs.Codes.{meaning_code}
 use Rattle.tx_main.specs.State.{Meaning, Runs, Waits, Stops, mode_of}
 use Rattle.tx_main.specs.Turns.{tex, cost, due_cost, outcome, takes}
 
@@ -21,13 +23,13 @@ stepped-leads (Ships page s) = refl
 stepped-leads (Fails error) = refl
 stepped-leads Ends = refl
 
-due-costs : (due : Due) → 1 ≤ due_cost due
-due-costs Nothing = omega arith
-due-costs (OpenMain name) = omega arith
-due-costs MainAbsent = omega arith
-due-costs FileEnded = omega arith
-due-costs MainClosed = omega arith
-due-costs (Ship box) = omega arith
+due-costs : (due : List Due) → 1 ≤ due_cost due
+due-costs [] = omega arith
+due-costs (OpenMain name ∷ due) = omega arith
+due-costs (MainAbsent ∷ due) = omega arith
+due-costs (FileEnded ∷ due) = omega arith
+due-costs (MainClosed ∷ due) = omega arith
+due-costs (Ship box ∷ due) = omega arith
 
 turn-costs : (m : Meaning) → 1 ≤ cost m
 turn-costs (Runs s) = due-costs s.due
@@ -46,4 +48,5 @@ tex-lawful = record {
   costs = turn-costs;
   turns = λ m ready. stepped-leads (outcome m);
   takes = λ m kind reply waits fit. reply-leads m kind reply waits;
+  tells = same-tells meaning_code;
 }

@@ -1,13 +1,15 @@
 pub mod Rules
+pub mod Standing
 pub mod Commands
-pub mod Keywords
+pub mod Mapped
 pub mod Rests
 pub mod Begun
-pub mod Taken
 pub mod Pages
 pub mod State
 pub mod Outcomes
+pub mod Codes
 pub mod Effects
 pub mod Turns
+pub mod Taken
 pub mod Meanings
 pub mod Lawful

@@ -1,5 +1,5 @@
 -- What the code's state means.
-use Rattle.std.specs.Prelude.{◌≡◌, ℕ, List, ◌++◌}
+use Rattle.std.specs.Prelude.{◌≡◌, ◌++◌}
 use Rattle.tx_machine.specs.declared.types.Event.{Event}
 use Rattle.tx_main.specs.declared.state.State.{State}
 use Rattle.tx_main.specs.Outcomes.{Outcome, stepped}
@@ -10,8 +10,9 @@ abbrev pub state_of : State → TexState
 state_of s = record {
   due = s.due;
   input = s.input;
+  head = s.scan.head;
   taken = s.scan.taken;
-  horizontal = s.scan.horizontal;
+  mode = s.scan.mode;
   list = s.list;
   boxes = s.boxes;
   table = s.table;

@@ -1,32 +1,37 @@
 -- What TeX's state means: plain data (TeX: The Program, parts 15, 19 and 22).
-use Rattle.std.specs.Prelude.{ℕ, ℤ, Bool, false, List, [], Option, None}
-use Rattle.tx_seen.specs.declared.seen.Seen.{Seen}
+use Rattle.std.specs.Prelude.{ℕ, ℤ, List, [], ◌∷◌, Option, None}
 use Rattle.tx_eqtb.specs.declared.eqtb.Eqtb.{Eqtb}
 use Rattle.tx_eqtb.specs.Initex.{initial_table}
 use Rattle.tx_machine.specs.declared.types.Date.{Date}
 use Rattle.tx_machine.specs.declared.types.AskKind.{AskKind}
-use Rattle.tx_machine.specs.Machine.{Mode, Ready, Awaits, Halted as Mode_halted}
-use Rattle.tx_main.specs.Pages.{moment_of}
-use Rattle.tx_node.specs.Items.{Item}
+use Rattle.tx_machine.specs.Machine.{Mode as Machine_mode, Ready, Awaits, Halted as Machine_halted}
+use Rattle.tx_node.specs.Items.{Item as ListItem}
 use Rattle.tx_pending.specs.Elements.{Input, no_input}
+use Rattle.tx_prim.specs.declared.modes.Mode.{Mode}
+use Rattle.tx_prim.specs.declared.modes.Mode.TheVariants.{Vertical}
+use Rattle.tx_seen.specs.declared.item.Item.{Item}
 use Rattle.tx_main.specs.declared.parts.Due.{Due}
 use Rattle.tx_main.specs.declared.parts.Due.TheVariants.{OpenMain}
 use Rattle.tx_main.specs.declared.parts.OpenBox.{OpenBox}
 use Rattle.tx_main.specs.declared.parts.Phase.{Phase}
 use Rattle.tx_main.specs.declared.parts.Phase.TheVariants.{Running, Waiting, Halted}
+use Rattle.tx_main.specs.declared.types.Head.{Head}
+use Rattle.tx_main.specs.declared.types.Head.TheVariants.{Fresh}
+use Rattle.tx_main.specs.Pages.{moment_of}
 
 -- all that the next turns can depend on
 pub record TexState : Type 0 where
-  -- the piece of work that comes first
-  pub due : Due
+  -- the pieces of work that come first, the next one first
+  pub due : List Due
   -- what is read before another line is asked for
   pub input : Input
-  -- the tokens that the open command has taken, with what they mean
-  pub taken : List Seen
-  -- whether the list that is being built is horizontal, and the list
-  pub horizontal : Bool
-  pub list : List Item
-  -- the open boxes, the innermost last
+  -- what stands before the open command, and the tokens and values that it has taken since
+  pub head : Head
+  pub taken : List Item
+  -- the mode, and the list that is being built
+  pub mode : Mode
+  pub list : List ListItem
+  -- the open boxes, the innermost first
   pub boxes : List OpenBox
   -- meanings, codes, registers and parameters, with the open groups
   pub table : Eqtb
@@ -44,18 +49,19 @@ meaning_in Running s = Runs s
 meaning_in (Waiting kind) s = Waits kind s
 meaning_in Halted s = Stops
 
-abbrev pub mode_of : Meaning → Mode
+abbrev pub mode_of : Meaning → Machine_mode
 mode_of (Runs s) = Ready
 mode_of (Waits kind s) = Awaits kind
-mode_of Stops = Mode_halted
+mode_of Stops = Machine_halted
 
 -- the first state of a run: the main file is to be asked for, and nothing is to be read yet
 abbrev pub first_state : Date → List ℕ → TexState
 first_state date main = record {
-  due = OpenMain main;
+  due = OpenMain main ∷ [];
   input = no_input;
+  head = Fresh;
   taken = [];
-  horizontal = false;
+  mode = Vertical;
   list = [];
   boxes = [];
   table = record { table = initial_table (moment_of date); groups = [] };

@@ -1,27 +1,56 @@
 -- How a command is taken off the input.
-use Rattle.std.specs.Prelude.{◌≡◌, Bool, List, [], ◌∷◌, ◌++◌, Option, None}
+use Rattle.std.specs.Prelude.{◌≡◌, ◌<◌, ◌≤◌, ℕ, suc, List, [], ◌∷◌, ◌++◌, length}
+use Rattle.tx_pending.specs.Elements.{Input, with_tokens}
+use Rattle.tx_seen.specs.declared.fed.Fed.{Fed}
+use Rattle.tx_seen.specs.declared.fed.Fed.TheVariants as fed
+use Rattle.tx_seen.specs.declared.fed.Value.{Value}
+use Rattle.tx_seen.specs.declared.fed.Want.{Want}
+use Rattle.tx_seen.specs.declared.item.Item.{Item}
+use Rattle.tx_seen.specs.declared.item.Item.TheVariants.{Took}
 use Rattle.tx_seen.specs.declared.place.Place.{Place}
 use Rattle.tx_seen.specs.declared.seen.Seen.{Seen}
-use Rattle.tx_assign.specs.Scans.{Scan, More, Done, Wrong}
+use Rattle.tx_seen.specs.Readings.{More, Need, Done, Wrong, last}
+use Rattle.tx_scan.specs.Rests.{HasTakenBy}
+use Rattle.tx_scan.specs.Supplied.{supplied}
+use Rattle.tx_main.specs.declared.scans.Stage.{Stage}
 use Rattle.tx_main.specs.declared.scans.Taken.{Taken}
 use Rattle.tx_main.specs.declared.scans.Taken.TheVariants as taken
+use Rattle.tx_main.specs.declared.types.Command.{Command}
+use Rattle.tx_main.specs.declared.types.Head.{Head}
+use Rattle.tx_prim.specs.declared.modes.Mode.{Mode}
 use Rattle.tx_main.specs.Begun.{Begun}
 use Rattle.tx_main.specs.Commands.{command}
-use Rattle.tx_main.specs.Rests.{given_back}
+use Rattle.tx_main.specs.Rests.{command_rest, held, more_needed, IsAt}
+use Rattle.tx_main.specs.Turns.{given_back}
 
--- the name that a command defines of which this was read, if there is one
-abbrev pub name_defined : {A : Type 0} → Scan A → Option Place
-name_defined (More name) = name
-name_defined (Done a rest) = None
-name_defined (Wrong e) = None
+-- a token, and the values that the command needs behind it, as a table has them, join what it has taken
+abbrev pub joined : (Place → Value) → Mode → Head → List Item → Seen → List Item
+joined at mode head taken t = supplied (suc (length (taken ++ Took t ∷ []))) at (command mode head) (taken ++ Took t ∷ [])
 
--- of these tokens the command isn't whole yet, or it is, or it is wrong; after the last two the next one begins
-abbrev pub IsTakenAll : Bool → List Seen → Begun → Taken → Type 0
-IsTakenAll horizontal tokens new taken.More =
-    (command horizontal tokens ≡ More (name_defined (command horizontal tokens))) × (new ≡ record { horizontal = horizontal; taken = tokens })
-IsTakenAll horizontal tokens new (taken.Whole c back) = (command horizontal tokens ≡ Done c (given_back back)) × (new ≡ record { horizontal = horizontal; taken = [] })
-IsTakenAll horizontal tokens new (taken.Wrong e) = (command horizontal tokens ≡ Wrong e) × (new ≡ record { horizontal = horizontal; taken = [] })
+-- the answer says what these items are of a command, and those that were taken are they
+abbrev pub IsSettled : Mode → Head → List Item → List Item → Stage → Fed Command → Type 0
+IsSettled mode head items taken stage (fed.More want) = (command mode head items ≡ More want) × ((taken ≡ items) × IsAt mode head taken stage)
+IsSettled mode head items taken stage (fed.Need kind) = ⊥
+IsSettled mode head items taken stage (fed.Done c back) = (command mode head items ≡ Done c (last back items)) × (taken ≡ items)
+IsSettled mode head items taken stage (fed.Wrong error) = command mode head items ≡ Wrong error
+
+-- the answer says what the taken items are of a command; where a value is needed, these items are the taken ones and so many
+-- values at most
+abbrev pub IsPending : (Place → Value) → Mode → Head → List Item → List Item → Stage → Fed Command → Type 0
+IsPending at mode head items taken stage (fed.More want) = IsSettled mode head items taken stage (fed.More want)
+IsPending at mode head items taken stage (fed.Need kind) =
+    (count : ℕ) × ((more_needed stage < count) × ((supplied count at (command mode head) taken ≡ items) × ((command mode head taken ≡ Need kind) × (HasTakenBy (command_rest mode head) held (command mode head) stage taken × (more_needed stage ≤ length taken)))))
+IsPending at mode head items taken stage (fed.Done c back) = IsSettled mode head items taken stage (fed.Done c back)
+IsPending at mode head items taken stage (fed.Wrong error) = IsSettled mode head items taken stage (fed.Wrong error)
+
+-- of these items the command isn't whole yet, or it is, and what it didn't need is read again, or it is wrong
+abbrev pub IsTakenAll : Begun → List Item → Input → Begun → Input → Taken → Type 0
+IsTakenAll old items before new after taken.More =
+    ((want : Want) × (command old.mode old.head items ≡ More want)) × ((new ≡ record old { taken = items }) × (after ≡ before))
+IsTakenAll old items before new after (taken.Whole c) =
+    (behind : List Item) × ((command old.mode old.head items ≡ Done c behind) × ((new ≡ record old { taken = [] }) × (after ≡ with_tokens before (given_back behind))))
+IsTakenAll old items before new after (taken.Wrong e) = command old.mode old.head items ≡ Wrong e
 
 -- one more token
-abbrev pub IsTaken : Begun → Seen → Begun → Taken → Type 0
-IsTaken old t new taken = IsTakenAll old.horizontal (old.taken ++ t ∷ []) new taken
+abbrev pub IsTaken : (Place → Value) → Begun → Seen → Input → Begun → Input → Taken → Type 0
+IsTaken at old t before new after taken = IsTakenAll old (joined at old.mode old.head old.taken t) before new after taken

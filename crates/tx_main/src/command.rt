@@ -1,100 +1,152 @@
 //! Commands, taken off the input token by token (TeX: The Program, part 46).
-ghost use Rattle.std.specs.Prelude.{◌≡◌, ◌↔◌, [], ◌∷◌, IfOk, IsTrue, option_copied};
-ghost use Rattle.tx_main.specs.Commands.{command};
-ghost use Rattle.tx_main.specs.Taken.{IsTaken, name_defined};
+ghost use Rattle.std.specs.Prelude.{◌≡◌, ◌↔◌, ◌<◌, ◌≤◌, ◌∷◌, ◌++◌, [], ℕ, List, length, IfOk, OnOk, IsTrue};
+ghost use Rattle.tx_eqtb.specs.Quantities.{value_in};
+ghost use Rattle.tx_pending.specs.Elements.{with_tokens};
+ghost use Rattle.tx_prim.specs.declared.modes.Mode.{Mode};
+ghost use Rattle.tx_seen.specs.declared.item.Item.{Item};
+ghost use Rattle.tx_seen.specs.declared.item.Item.TheVariants.{Gave};
+ghost use Rattle.tx_seen.specs.Readings.{last};
+ghost use Rattle.tx_scan.specs.Rests.{IsGivenBy};
+ghost use Rattle.tx_scan.specs.Supplied.{value_for, NeedsFewer};
+ghost use Rattle.tx_main.specs.declared.types.Head.{Head};
+ghost use Rattle.tx_main.specs.Effects.{prefixes_of};
+ghost use Rattle.tx_main.specs.Rests.{command_rest, held, more_needed, GoesOn, IsAssigning, IsAt};
+ghost use Rattle.tx_main.specs.Taken.{joined, IsPending, IsSettled, IsTaken};
+ghost use Rattle.tx_main.specs.Turns.{given_back};
 
-use crate::scans::{Stage, Taken, Tokens};
+use crate::scans::{Stage, Taken};
+use crate::types::{Command, Head, Prefixes};
 use std::alloc::{AllocError, Global};
 use std::marker::Model;
-use tx_seen::{Place, Seen};
+use tx_eqtb::Eqtb;
+use tx_list::{Items, Kept};
+use tx_pending::Pending;
+use tx_prim::{Mode, Prefix, Shorthand};
+use tx_seen::{Fed, Item, Kind, Place, Quantities, Seen};
 
-/// A command that is being taken off the input. Contracts see the tokens that were taken since it began, and whether it
-/// stands in a horizontal list.
+/// A command that is being taken off the input. Contracts see the mode, what stands before the command, and the tokens and
+/// values that were taken since it began.
 #[derive(Drop)]
 pub struct CommandScan {
-    horizontal: bool,
-    taken: Tokens,
+    mode: Mode,
+    head: Head,
+    taken: Items<Item>,
     stage: Stage,
 }
 
 impl Model for CommandScan {
-    ghost use Rattle.std.specs.Prelude.{◌≡◌, List, ◌++◌};
-    ghost use Rattle.tx_seen.specs.declared.seen.Seen.{Seen};
     ghost use Rattle.tx_main.specs.Begun.{Begun};
-    ghost use Rattle.tx_main.specs.Commands.{command};
-    ghost use Rattle.tx_main.specs.Rests.{command_rest};
+    ghost use Rattle.tx_main.specs.Rests.{IsAt};
 
     ghost Value = { Begun };
 
-    ghost view = { λ s. record { horizontal = s.horizontal; taken = s.taken } };
+    ghost view = { λ s. record { mode = s.mode; head = s.head; taken = s.taken } };
 
-    ghost invariant = { λ s. (more : List Seen) → command s.horizontal (s.taken ++ more) ≡ command_rest s.horizontal s.stage more };
+    ghost invariant = { λ s. IsAt s.mode s.head s.taken s.stage };
 }
 
 impl CommandScan {
-    /// A command of which nothing is taken, in a horizontal or a vertical list. Takes no memory.
-    pub fn new(alloc: Global, horizontal: bool) -> CommandScan
-        ensures { result ≡ record { horizontal = horizontal; taken = [] } }
+    /// A command of which nothing is taken, in this mode, and nothing before it. Takes no memory.
+    pub fn new(alloc: Global, mode: Mode) -> CommandScan
+        ensures { result ≡ record { mode = mode; head = Head.Fresh; taken = [] } }
     {
         CommandScan {
-            horizontal,
-            taken: Tokens::new(alloc),
+            mode,
+            head: Head::Fresh,
+            taken: Items::new(alloc),
             stage: Stage::Start,
         }
     }
 
-    /// Begins a command, in a horizontal or a vertical list; the memory of the one before is used again.
-    pub fn begin(&mut self, horizontal: bool)
-        ensures { self.new ≡ record { horizontal = horizontal; taken = [] } }
+    /// The mode.
+    pub fn mode(&self) -> Mode
+        ensures { result ≡ self.now.mode }
     {
-        self.horizontal = horizontal;
-        restart(&mut self.taken, &mut self.stage);
+        self.mode
     }
 
-    /// Whether the command stands in a horizontal list.
-    pub fn is_horizontal(&self) -> bool
-        ensures { result ≡ self.now.horizontal }
+    /// The prefixes before the command.
+    pub fn prefixes(&self) -> Prefixes
+        ensures { result ≡ prefixes_of self.now.head }
     {
-        self.horizontal
-    }
-
-    /// Whether both have taken the same tokens, in lists of the same kind.
-    pub fn same(&self, other: &CommandScan) -> bool
-        ensures { IsTrue result ↔ (self.now ≡ other.now) }
-    {
-        self.horizontal == other.horizontal && self.taken.same(&other.taken)
-    }
-
-    /// The place of the name that the command is defining, if there is one: it means \relax until the command is whole.
-    pub fn defined(&self) -> Option<&Place>
-        ensures { option_copied result ≡ name_defined (command self.now.horizontal self.now.taken) }
-    {
-        match &self.stage {
-            Stage::Assign(scan) => scan.defined(),
-            _ => None,
+        match &self.head {
+            Head::Fresh => Prefixes { global: false },
+            Head::Prefixed(prefixes) | Head::Defining(prefixes, _, _) => *prefixes,
         }
     }
 
-    /// Takes one token more. After a whole command, or a wrong one, the next begins. After want of memory, its only
-    /// error, the scan may only be dropped.
-    pub fn feed(&mut self, alloc: Global, token: Seen) -> Result<Taken, AllocError>
-        ensures { IfOk result (IsTaken self.old token self.new) }
+    /// Begins a command in another mode; what stands before it stays.
+    pub fn enter(&mut self, mode: Mode)
+        ensures { self.new ≡ record { mode = mode; head = self.old.head; taken = [] } }
     {
-        let fed = self.stage.feed(alloc, self.horizontal, &token);
+        self.mode = mode;
+        restart(&mut self.taken, &mut self.stage);
+    }
+
+    /// Begins a command behind this.
+    pub fn begin_behind(&mut self, head: Head)
+        ensures { self.new ≡ record { mode = self.old.mode; head = head; taken = [] } }
+    {
+        self.head = head;
+        restart(&mut self.taken, &mut self.stage);
+    }
+
+    /// Begins a command that nothing stands before.
+    pub fn begin_fresh(&mut self)
+        ensures { self.new ≡ record { mode = self.old.mode; head = Head.Fresh; taken = [] } }
+    {
+        if self.is_fresh() {
+            restart(&mut self.taken, &mut self.stage);
+        } else {
+            self.begin_behind(Head::Fresh);
+        }
+    }
+
+    /// Whether nothing stands before the command.
+    fn is_fresh(&self) -> bool
+        ensures { IsTrue result ↔ (self.now.head ≡ Head.Fresh) }
+    {
+        matches!(self.head, Head::Fresh)
+    }
+
+    /// Whether both have taken the same, in the same mode and behind the same.
+    pub fn same(&self, other: &CommandScan) -> bool
+        ensures { IsTrue result ↔ (self.now ≡ other.now) }
+    {
+        self.mode == other.mode && self.head.same(&other.head) && self.taken.same(&other.taken)
+    }
+
+    /// Takes one token more, and the values that the command needs behind it. Behind a whole command, whose last tokens are put
+    /// at the front of the input where they aren't part of it, or a wrong one, the next begins. Its only error is want of
+    /// memory.
+    pub fn feed(
+        &mut self,
+        alloc: Global,
+        table: &Eqtb,
+        input: &mut Pending,
+        token: Seen,
+    ) -> Result<Taken, AllocError>
+        ensures { IfOk result (IsTaken (value_in table.now) self.old token input.old self.new input.new) }
+    {
+        let fed = take(
+            alloc,
+            self.mode,
+            &self.head,
+            &mut self.taken,
+            &mut self.stage,
+            table,
+            token,
+        );
         match fed {
-            Ok(Taken::More) => {
-                let pushed = self.taken.push(token);
-                if pushed.is_err() {
-                    restart(&mut self.taken, &mut self.stage);
-                    return Err(AllocError);
-                }
-                Ok(Taken::More)
-            }
-            Ok(Taken::Whole(command, back)) => {
+            Ok(Fed::More(_)) => Ok(Taken::More),
+            Ok(Fed::Need(_)) => unreachable!(),
+            Ok(Fed::Done(command, back)) => {
+                let given = give_back(&mut self.taken, input, back);
                 restart(&mut self.taken, &mut self.stage);
-                Ok(Taken::Whole(command, back))
+                given?;
+                Ok(Taken::Whole(command))
             }
-            Ok(Taken::Wrong(error)) => {
+            Ok(Fed::Wrong(error)) => {
                 restart(&mut self.taken, &mut self.stage);
                 Ok(Taken::Wrong(error))
             }
@@ -107,7 +159,7 @@ impl CommandScan {
 }
 
 /// Nothing is taken of the next command.
-fn restart(taken: &mut Tokens, stage: &mut Stage)
+fn restart(taken: &mut Items<Item>, stage: &mut Stage)
     ensures taken { taken.new ≡ [] }
     ensures stage { stage.new ≡ Stage.Start }
 {
@@ -115,13 +167,93 @@ fn restart(taken: &mut Tokens, stage: &mut Stage)
     *stage = Stage::Start;
 }
 
-/// A clone has taken the same tokens. Its only error is want of memory.
+/// Takes one token, and the values that the command needs behind it. Its only error is want of memory.
+fn take(
+    alloc: Global,
+    mode: Mode,
+    head: &Head,
+    taken: &mut Items<Item>,
+    stage: &mut Stage,
+    table: &Eqtb,
+    token: Seen,
+) -> Result<Fed<Command>, AllocError>
+    requires { IsAt mode head.now taken.old stage.old }
+    ensures { IfOk result (IsSettled mode head.now (joined (value_in table.now) mode head.now taken.old token) taken.new stage.new) }
+{
+    let fed = stage.feed(alloc, mode, head, &token)?;
+    taken.push(Item::Took(token))?;
+    settle(taken, stage, table, fed)
+}
+
+/// Gives the values that the command needs, as the table has them, until it needs none. Its only error is want of memory.
+fn settle(
+    taken: &mut Items<Item>,
+    stage: &mut Stage,
+    table: &Eqtb,
+    fed: Fed<Command>,
+) -> Result<Fed<Command>, AllocError>
+    requires { GoesOn stage.old fed }
+    ensures { (mode : Mode) (head : Head) (items : List Item) → IsPending (value_in table.now) mode head items taken.old stage.old fed → IfOk result (IsSettled mode head items taken.new stage.new) }
+{
+    let mut fed = fed;
+    loop {
+        match fed {
+            Fed::Need(kind) => fed = give(taken, stage, table, &kind)?,
+            settled => return Ok(settled),
+        }
+    }
+}
+
+/// Gives the value that is needed. Its only error is want of memory.
+fn give(
+    taken: &mut Items<Item>,
+    stage: &mut Stage,
+    table: &Eqtb,
+    kind: &Kind,
+) -> Result<Fed<Command>, AllocError>
+    requires { IsAssigning stage.old }
+    ensures given { (mode : Mode) (head : Head) → IfOk result (IsGivenBy (command_rest mode head) held stage.old (value_for (value_in table.now) kind.now) stage.new) }
+    ensures needs { IfOk result (NeedsFewer (more_needed stage.old) (more_needed stage.new)) }
+    ensures on { IfOk result (GoesOn stage.new) }
+    ensures taken { OnOk result (taken.new ≡ taken.old ++ Gave (value_for (value_in table.now) kind.now) ∷ []) }
+{
+    match kind {
+        Kind::Quantity(place) => {
+            let value = table.quantity(place);
+            let fed = stage.give(&value)?;
+            taken.push(Item::Gave(value))?;
+            Ok(fed)
+        }
+    }
+}
+
+/// Puts the last tokens that were taken, so many of them, at the front of the input, in their order; what they meant is
+/// forgotten. Its only error is want of memory.
+fn give_back(taken: &mut Items<Item>, input: &mut Pending, back: usize) -> Result<(), AllocError>
+    ensures { OnOk result (input.new ≡ with_tokens input.old (given_back (last back taken.old))) }
+{
+    let mut left = back;
+    while left > 0 {
+        match taken.pop() {
+            Some(Item::Took(seen)) => {
+                input.give_back(seen.token)?;
+                left -= 1;
+            }
+            Some(Item::Gave(_)) => {}
+            None => return Ok(()),
+        }
+    }
+    Ok(())
+}
+
+/// A clone has taken the same. Its only error is want of memory.
 impl Clone for CommandScan {
     ghost is_clone = { λ source copy. copy ≡ source };
 
     fn clone(&self) -> Result<Self, AllocError> {
         Ok(CommandScan {
-            horizontal: self.horizontal,
+            mode: self.mode,
+            head: self.head.share()?,
             taken: self.taken.clone()?,
             stage: self.stage.clone()?,
         })

@@ -2,24 +2,25 @@
 ghost use Rattle.std.specs.Prelude.{◌≡◌, ◌++◌, [], Some, IfOk, OnOk};
 ghost use Rattle.tx_node.specs.Nodes.{item_of};
 ghost use Rattle.tx_node.specs.Packing.{natural};
+ghost use Rattle.tx_assign.specs.Changes.{carried_out};
 ghost use Rattle.tx_eqtb.specs.Stack.{kind_of};
 ghost use Rattle.tx_main.specs.Effects as effects;
-ghost use Rattle.tx_main.specs.Effects.{innermost};
 ghost use Rattle.tx_main.specs.Outcomes.{Fails, Ends, leaves};
 ghost use Rattle.tx_main.specs.Meanings.{IsStepped, meaning_of, state_of};
 
 use crate::parts::{Due, OpenBox, Phase};
 use crate::state::State;
-use crate::types::{BoxContext, Command};
+use crate::types::{BoxContext, Command, Head, Prefixes};
 use itoa::Buffer;
 use std::alloc::{AllocError, Global};
 use std::mem;
-use tx_assign::{Assignment, Carried};
+use tx_assign::{Assignment, Carried, relaxed};
 use tx_bytes::Bytes;
 use tx_eqtb::{GroupKind, OpenError};
 use tx_machine::{Event, Stop};
-use tx_node::{BoxNode, Node, Nodes, PackError, hbox};
-use tx_seen::TexError;
+use tx_node::{BoxNode, Node, Nodes, PackError, Rule, hbox};
+use tx_prim::{BoxKind, Mode, Prefix, RuleKind, Shorthand, SizeKind};
+use tx_seen::{Place, TexError};
 
 /// The run ends by an error.
 pub fn fail(s: &mut State, error: TexError) -> Event
@@ -62,36 +63,64 @@ fn open(s: &mut State, kind: GroupKind) -> Result<Event, AllocError>
     }
 }
 
+/// The group of a box.
+fn group_of(kind: BoxKind) -> GroupKind
+    ensures { result ≡ effects.group_of kind }
+{
+    match kind {
+        BoxKind::Horizontal => GroupKind::HorizontalBox,
+    }
+}
+
+/// The mode of a box's list.
+fn mode_in(kind: BoxKind) -> Mode
+    ensures { result ≡ effects.mode_in kind }
+{
+    match kind {
+        BoxKind::Horizontal => Mode::RestrictedHorizontal,
+    }
+}
+
 /// Begins a box.
-fn open_box(alloc: Global, s: &mut State, context: BoxContext) -> Result<Event, AllocError>
+fn open_box(
+    alloc: Global,
+    s: &mut State,
+    kind: BoxKind,
+    context: BoxContext,
+) -> Result<Event, AllocError>
     requires running { s.old.phase ≡ Phase.Running }
     requires between { s.old.scan.taken ≡ [] }
-    ensures { IfOk result (λ event. IsStepped (effects.effect (state_of s.old) (Command.BeginBox context)) s.old event s.new) }
+    ensures { IfOk result (λ event. IsStepped (effects.effect (state_of s.old) (Command.BeginBox kind context)) s.old event s.new) }
 {
-    match s.table.open_group(GroupKind::HorizontalBox) {
+    match s.table.open_group(group_of(kind)) {
         Ok(()) => {}
         Err(OpenError::TooMany) => return Ok(fail(s, TexError::TooManyGroups)),
         Err(OpenError::OutOfMemory) => return Err(AllocError),
     }
-    enter_box(alloc, s, context)?;
+    enter_box(alloc, s, kind, context)?;
     Ok(Event::Went)
 }
 
-/// The list of a box is begun; what stands around it is kept.
-fn enter_box(alloc: Global, s: &mut State, context: BoxContext) -> Result<(), AllocError>
+/// The list of a box is begun; what stands around it is kept. Its only error is want of memory.
+fn enter_box(
+    alloc: Global,
+    s: &mut State,
+    kind: BoxKind,
+    context: BoxContext,
+) -> Result<(), AllocError>
     requires { s.old.scan.taken ≡ [] }
-    ensures state { OnOk result (state_of s.new ≡ effects.in_box context (state_of s.old)) }
+    ensures state { OnOk result (state_of s.new ≡ effects.in_box kind context (state_of s.old)) }
     ensures phase { OnOk result (s.new.phase ≡ s.old.phase) }
     ensures said { OnOk result (s.new.said ≡ s.old.said) }
 {
     let list = mem::replace(&mut s.list, Nodes::new(alloc));
-    let horizontal = s.scan.is_horizontal();
+    let mode = s.scan.mode();
     s.boxes.push(OpenBox {
         context,
         list,
-        horizontal,
+        mode,
     })?;
-    s.scan.begin(true);
+    s.scan.enter(mode_in(kind));
     Ok(())
 }
 
@@ -136,7 +165,7 @@ fn end_box(alloc: Global, s: &mut State) -> Result<Event, AllocError>
     requires running { s.old.phase ≡ Phase.Running }
     requires between { s.old.scan.taken ≡ [] }
     requires kind { kind_of s.old.table ≡ Some GroupKind.HorizontalBox }
-    ensures { IfOk result (λ event. IsStepped (effects.closing_box (effects.closing (state_of s.old)) (innermost s.old.boxes)) s.old event s.new) }
+    ensures { IfOk result (λ event. IsStepped (effects.closing_box (effects.closing (state_of s.old)) s.old.boxes) s.old event s.new) }
 {
     if s.table.close_group(GroupKind::HorizontalBox).is_err() {
         return Ok(fail(s, TexError::ExtraGroupEnd));
@@ -147,11 +176,11 @@ fn end_box(alloc: Global, s: &mut State) -> Result<Event, AllocError>
             OpenBox {
                 context,
                 list,
-                horizontal,
+                mode,
             },
         ) => {
             let inner = mem::replace(&mut s.list, list);
-            s.scan.begin(horizontal);
+            s.scan.enter(mode);
             close_box(alloc, s, context, inner)
         }
     }
@@ -195,18 +224,62 @@ fn use_box(
 {
     match context {
         BoxContext::Append => s.list.push(Node::from_box(alloc, made)?)?,
-        BoxContext::Ship => s.due = Due::Ship(made),
+        BoxContext::Ship => s.due.push(Due::Ship(made))?,
     }
     Ok(Event::Went)
 }
 
+/// The prefixes with one more.
+fn with_prefix(prefixes: Prefixes, prefix: Prefix) -> Prefixes
+    ensures { result ≡ effects.with_prefix prefixes prefix }
+{
+    match prefix {
+        Prefix::Global => Prefixes {
+            global: true,
+            ..prefixes
+        },
+    }
+}
+
+/// A prefix.
+fn prefix(s: &mut State, prefix: Prefix) -> Event
+    requires running { s.old.phase ≡ Phase.Running }
+    requires between { s.old.scan.taken ≡ [] }
+    ensures { IsStepped (effects.effect (state_of s.old) (Command.Prefix prefix)) s.old result s.new }
+{
+    let prefixes = with_prefix(s.scan.prefixes(), prefix);
+    s.scan.begin_behind(Head::Prefixed(prefixes));
+    Event::Went
+}
+
+/// \chardef or its kin and the name that it defines, which means \relax from now on.
+fn define(s: &mut State, defined: Place, kind: Shorthand) -> Result<Event, AllocError>
+    requires running { s.old.phase ≡ Phase.Running }
+    requires between { s.old.scan.taken ≡ [] }
+    ensures { IfOk result (λ event. IsStepped (effects.effect (state_of s.old) (Command.Define defined kind)) s.old event s.new) }
+{
+    let prefixes = s.scan.prefixes();
+    match tx_assign::carry_out(&mut s.table, relaxed(defined.clone()?), prefixes.global)? {
+        Carried::Done => {
+            s.scan.begin_behind(Head::Defining(prefixes, defined, kind));
+            Ok(Event::Went)
+        }
+        Carried::Refused(error) => Ok(fail(s, error)),
+    }
+}
+
 /// An assignment.
 fn assign(s: &mut State, assignment: Assignment) -> Result<Event, AllocError>
-    requires { s.old.phase ≡ Phase.Running }
+    requires running { s.old.phase ≡ Phase.Running }
+    requires between { s.old.scan.taken ≡ [] }
     ensures { IfOk result (λ event. IsStepped (effects.effect (state_of s.old) (Command.Assign assignment)) s.old event s.new) }
 {
-    match tx_assign::carry_out(&mut s.table, assignment)? {
-        Carried::Done => Ok(Event::Went),
+    let global = s.scan.prefixes().global;
+    match tx_assign::carry_out(&mut s.table, assignment, global)? {
+        Carried::Done => {
+            s.scan.begin_fresh();
+            Ok(Event::Went)
+        }
         Carried::Refused(error) => Ok(fail(s, error)),
     }
 }
@@ -216,10 +289,29 @@ fn space(s: &mut State) -> Result<Event, AllocError>
     requires { s.old.phase ≡ Phase.Running }
     ensures { IfOk result (λ event. IsStepped (effects.effect (state_of s.old) Command.Space) s.old event s.new) }
 {
-    if s.scan.is_horizontal() {
-        add(s, Node::Space)
-    } else {
-        Ok(Event::Went)
+    match s.scan.mode() {
+        Mode::Horizontal | Mode::RestrictedHorizontal => add(s, Node::Space),
+        Mode::Vertical | Mode::InternalVertical | Mode::Math | Mode::DisplayMath => Ok(Event::Went),
+    }
+}
+
+/// What is made of a size.
+fn use_size(s: &mut State, kind: SizeKind, size: i32) -> Result<Event, AllocError>
+    requires { s.old.phase ≡ Phase.Running }
+    ensures { IfOk result (λ event. IsStepped (effects.effect (state_of s.old) (Command.Sized kind size)) s.old event s.new) }
+{
+    match kind {
+        SizeKind::Kern => add(s, Node::Kern(size)),
+    }
+}
+
+/// A rule.
+fn use_rule(s: &mut State, kind: RuleKind, rule: Rule) -> Result<Event, AllocError>
+    requires { s.old.phase ≡ Phase.Running }
+    ensures { IfOk result (λ event. IsStepped (effects.effect (state_of s.old) (Command.Rule kind rule)) s.old event s.new) }
+{
+    match kind {
+        RuleKind::Vertical => add(s, Node::Rule(rule)),
     }
 }
 
@@ -254,10 +346,12 @@ pub fn carry_out(alloc: Global, s: &mut State, command: Command) -> Result<Event
         Command::EndGroup => end_group(alloc, s),
         Command::BeginSemiSimple => open(s, GroupKind::SemiSimple),
         Command::EndSemiSimple => Ok(end_semi_simple(s)),
+        Command::Prefix(found) => Ok(prefix(s, found)),
+        Command::Define(defined, kind) => define(s, defined, kind),
         Command::Assign(assignment) => assign(s, assignment),
-        Command::Kern(size) => add(s, Node::Kern(size)),
-        Command::Vrule(rule) => add(s, Node::Rule(rule)),
-        Command::BeginBox(context) => open_box(alloc, s, context),
+        Command::Sized(kind, size) => use_size(s, kind, size),
+        Command::Rule(kind, rule) => use_rule(s, kind, rule),
+        Command::BeginBox(kind, context) => open_box(alloc, s, kind, context),
         Command::End => Ok(finish(s)),
     }
 }

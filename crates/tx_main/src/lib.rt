@@ -3,16 +3,16 @@
 //! Proved: each turn is the defined step, `same` is exactly equality of meanings. Only tested: that the grammars, effects
 //! and the reading are TeX's, on documents that Knuth's TeX reads alike.
 //!
-//! Read `types`; how commands are taken off tokens: `scans`, `rule`, `stage` and `command`; then `parts`, `state`,
-//! `effects`, `page`, `turn` and `machine`; last `clones`, `share` and `same`.
+//! Read `types`; how commands are taken off tokens: `standing`, `scans`, `rule`, `mapping`, `stage` and `command`; then
+//! `parts`, `state`, `effects`, `page`, `turn` and `machine`; last `clones`, `kept`, `share` and `same`.
 #![tactic(auto)]
 
-mod boxes;
 mod clones;
 mod command;
 mod effects;
-mod keyword;
+mod kept;
 mod machine;
+mod mapping;
 mod page;
 mod parts;
 mod rule;
@@ -20,6 +20,7 @@ mod same;
 mod scans;
 mod share;
 mod stage;
+mod standing;
 mod state;
 mod turn;
 mod types;

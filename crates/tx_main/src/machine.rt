@@ -5,7 +5,6 @@ ghost use Rattle.tx_main.specs.Meanings.{meaning_of};
 ghost use Rattle.tx_main.specs.Turns.{tex};
 ghost use Rattle.tx_main.specs.Lawful.{tex-lawful};
 
-use crate::boxes::Boxes;
 use crate::command::CommandScan;
 use crate::page::moment_of;
 use crate::parts::{Due, Phase};
@@ -16,9 +15,11 @@ use std::mem;
 use tx_bytes::Bytes;
 use tx_eqtb::Eqtb;
 use tx_files::Name;
+use tx_list::Stack;
 use tx_machine::{Date, Event, Machine, Reply, Steps};
 use tx_node::Nodes;
 use tx_pending::Pending;
+use tx_prim::Mode;
 
 /// TeX, begun as INITEX.
 #[derive(Clone, Copy)]
@@ -41,11 +42,11 @@ impl Machine for Tex {
     fn start(&self, alloc: Global, date: &Date, main: &Name) -> Result<State, AllocError> {
         Ok(State {
             phase: Phase::Running,
-            due: Due::OpenMain(main.clone()?),
+            due: Stack::one(alloc, Due::OpenMain(main.clone()?))?,
             input: Pending::new(alloc),
-            scan: CommandScan::new(alloc, false),
+            scan: CommandScan::new(alloc, Mode::Vertical),
             list: Nodes::new(alloc),
-            boxes: Boxes::new(alloc),
+            boxes: Stack::new(alloc),
             table: Eqtb::new(alloc, &moment_of(date))?,
             magnification: None,
             said: Bytes::new(alloc),

@@ -3,12 +3,11 @@ use crate::types::BoxContext;
 use tx_files::Name;
 use tx_machine::AskKind;
 use tx_node::{BoxNode, Nodes};
+use tx_prim::Mode;
 
-/// A piece of work that the next turn does before it reads on.
+/// A piece of work that comes before reading.
 #[derive(Drop)]
 pub enum Due {
-    /// None: the turn reads.
-    Nothing,
     /// To ask for the main file.
     OpenMain(Name),
     /// The main file is absent.
@@ -28,8 +27,8 @@ pub struct OpenBox {
     pub context: BoxContext,
     /// The list around it.
     pub list: Nodes,
-    /// Whether that is a horizontal one.
-    pub horizontal: bool,
+    /// The mode around it.
+    pub mode: Mode,
 }
 
 /// What a state is ready for.

@@ -1,25 +1,42 @@
 //! The sides and sizes of a rule, token by token (TeX: The Program, section 463).
-ghost use Rattle.std.specs.Prelude.{◌≡◌, ◌<◌, ◌++◌, ◌∷◌, [], List, IfOk, length};
-ghost use Rattle.tx_seen.specs.declared.seen.Seen.{Seen};
-ghost use Rattle.tx_main.specs.Keywords.{letters_of, begun_by};
-ghost use Rattle.tx_main.specs.Rules.{with_side, plain_vrule, rule_sides};
-ghost use Rattle.tx_assign.specs.Rests.{IsFed};
-ghost use Rattle.tx_main.specs.Rests.{IsSideFed, rule_rest};
+ghost use Rattle.std.specs.Prelude.{◌≡◌, ◌∷◌, [], Bool, ℕ, ℤ, List, IfOk};
+ghost use Rattle.tx_seen.specs.declared.item.Item.{Item};
+ghost use Rattle.tx_seen.specs.declared.item.Item.TheVariants.{Took};
+ghost use Rattle.tx_seen.specs.Readings.{Reading, next};
+ghost use Rattle.tx_scan.specs.Rests.{HasTakenBy, IsFedBy, IsRead};
+ghost use Rattle.tx_scan.specs.Keywords.{rest as key_rest, held as key_held, IsReadOn};
+ghost use Rattle.tx_scan.specs.DimensionRests.{rest as dimen_rest, IsSize};
+ghost use Rattle.tx_scan.specs.GrammarRests.{held_none};
+ghost use Rattle.tx_main.specs.Rules as spec;
+ghost use Rattle.tx_main.specs.Rests.{rule_rest, rule_held, IsUnnamed, IsRuleFed};
 
-use crate::keyword::Keyword;
-use crate::scans::{RuleFed, RulePart, RuleScan, SideFed, SideScan, Tokens};
+use crate::scans::{RulePart, RuleScan};
 use crate::types::Side;
 use std::alloc::{AllocError, Global};
-use tx_assign::{DimenScan, Fed};
 use tx_node::Rule;
-use tx_seen::{Seen, TexError};
+use tx_prim::RuleKind;
+use tx_scan::{DimenScan, KeyScan};
+use tx_seen::{Fed, Seen, TexError, Want};
 
 /// 0.4pt, the width of a \vrule where nothing else is said.
 const PLAIN_WIDTH: i32 = 26_214;
 
-/// The letters of a side's name.
+/// The rule of a kind where nothing else is said.
+fn plain_rule(kind: RuleKind) -> Rule
+    ensures { result ≡ spec.plain_rule kind }
+{
+    match kind {
+        RuleKind::Vertical => Rule {
+            width: PLAIN_WIDTH,
+            height: None,
+            depth: None,
+        },
+    }
+}
+
+/// The name of a side.
 fn name_of(side: Side) -> &'static [u8]
-    ensures { result.now ≡ letters_of side }
+    ensures { result.now ≡ spec.letters_of side }
 {
     match side {
         Side::Width => b"width",
@@ -30,7 +47,7 @@ fn name_of(side: Side) -> &'static [u8]
 
 /// The side whose name begins with this token.
 fn side_begun(token: &Seen) -> Option<Side>
-    ensures { result ≡ begun_by token.now }
+    ensures { result ≡ spec.side_begun_by token.now }
 {
     if token.is_key(b'w') {
         Some(Side::Width)
@@ -43,59 +60,9 @@ fn side_begun(token: &Seen) -> Option<Side>
     }
 }
 
-impl SideScan {
-    /// Takes one token. Its only error is want of memory.
-    fn feed(self, alloc: Global, token: Seen) -> Result<SideFed, AllocError>
-        ensures { IfOk result (IsSideFed self token) }
-    {
-        match self {
-            SideScan::Spaces => feed_first(alloc, token),
-            SideScan::Keyword(keyword) => feed_letter(keyword, token),
-        }
-    }
-}
-
-/// A space, or the first letter of a name.
-fn feed_first(alloc: Global, token: Seen) -> Result<SideFed, AllocError>
-    ensures { IfOk result (IsSideFed SideScan.Spaces token) }
-{
-    if token.is_undefined() {
-        return Ok(SideFed::Wrong(TexError::Undefined));
-    }
-    if token.is_space() {
-        return Ok(SideFed::More(SideScan::Spaces));
-    }
-    let begun = side_begun(&token);
-    let letters = Tokens::one(alloc, token)?;
-    match begun {
-        Some(side) => Ok(SideFed::More(SideScan::Keyword(Keyword { side, letters }))),
-        None => Ok(SideFed::Unnamed(letters)),
-    }
-}
-
-/// The next letter of a name.
-fn feed_letter(keyword: Keyword, token: Seen) -> Result<SideFed, AllocError>
-    ensures { IfOk result (IsSideFed (SideScan.Keyword keyword) token) }
-{
-    let Keyword { side, mut letters } = keyword;
-    if token.is_undefined() {
-        return Ok(SideFed::Wrong(TexError::Undefined));
-    }
-    let name = name_of(side);
-    let fits = token.is_key(name[letters.len()]);
-    letters.push(token)?;
-    if !fits {
-        return Ok(SideFed::Unnamed(letters));
-    }
-    if letters.len() == name.len() {
-        return Ok(SideFed::Named(side));
-    }
-    Ok(SideFed::More(SideScan::Keyword(Keyword { side, letters })))
-}
-
-/// The rule with this size for one of its sides.
-fn rule_with_side(rule: Rule, side: Side, size: i32) -> Rule
-    ensures { result ≡ with_side rule side size }
+/// The rule with this size for one of its sides, in sp.
+fn with_side(rule: Rule, side: Side, size: i32) -> Rule
+    ensures { result ≡ spec.with_side rule side size }
 {
     match side {
         Side::Width => Rule {
@@ -114,77 +81,113 @@ fn rule_with_side(rule: Rule, side: Side, size: i32) -> Rule
 }
 
 impl RuleScan {
-    /// The scan of a \vrule of which no side is read.
-    pub(crate) fn new() -> RuleScan
-        ensures { (tokens : List Seen) → rule_rest result tokens ≡ rule_sides plain_vrule tokens }
+    /// The scan of a rule of which no side is read.
+    pub(crate) fn new(kind: RuleKind) -> RuleScan
+        ensures rule { result.rule ≡ spec.plain_rule kind }
+        ensures part { result.part ≡ RulePart.Start }
     {
         RuleScan {
-            rule: Rule {
-                width: PLAIN_WIDTH,
-                height: None,
-                depth: None,
-            },
-            part: RulePart::Side(SideScan::Spaces),
+            rule: plain_rule(kind),
+            part: RulePart::Start,
         }
     }
 
     /// Takes one token. Its only error is want of memory.
-    pub(crate) fn feed(self, alloc: Global, token: Seen) -> Result<RuleFed, AllocError>
-        ensures { IfOk result (IsFed rule_rest (λ tokens. tokens) self token) }
+    pub(crate) fn feed(&mut self, alloc: Global, token: &Seen) -> Result<Fed<Rule>, AllocError>
+        requires { IsUnnamed self.old.part }
+        ensures fed { IfOk result (IsFedBy rule_rest rule_held self.old token.now self.new) }
+        ensures on { IfOk result (IsRuleFed self.new) }
     {
-        let RuleScan { rule, part } = self;
-        match part {
-            RulePart::Side(scan) => feed_side(alloc, rule, scan, token),
-            RulePart::Size(side, scan) => feed_size(alloc, rule, side, scan, token),
+        match &mut self.part {
+            RulePart::Start => self.feed_start(alloc, token),
+            RulePart::Name(side, scan) => {
+                let side = *side;
+                let fed = scan.feed(token);
+                Ok(self.named(alloc, side, fed))
+            }
+            RulePart::Size(side, scan) => {
+                let side = *side;
+                let fed = scan.feed(token)?;
+                self.sized(alloc, side, fed, token)
+            }
         }
     }
-}
 
-/// The name of a side, or the rule's end.
-fn feed_side(alloc: Global, rule: Rule, scan: SideScan, token: Seen) -> Result<RuleFed, AllocError>
-    ensures { IfOk result (IsFed rule_rest (λ tokens. tokens) (record { rule = rule; part = RulePart.Side scan }) token) }
-{
-    match scan.feed(alloc, token)? {
-        SideFed::More(scan) => Ok(Fed::More(RuleScan {
-            rule,
-            part: RulePart::Side(scan),
-        })),
-        SideFed::Named(side) => Ok(Fed::More(RuleScan {
-            rule,
-            part: RulePart::Size(side, DimenScan::new()),
-        })),
-        SideFed::Unnamed(back) => Ok(Fed::Done(rule, back)),
-        SideFed::Wrong(error) => Ok(Fed::Wrong(error)),
-    }
-}
-
-/// The size of a side; behind it the next side may be named.
-fn feed_size(
-    alloc: Global,
-    rule: Rule,
-    side: Side,
-    scan: DimenScan,
-    token: Seen,
-) -> Result<RuleFed, AllocError>
-    ensures { IfOk result (IsFed rule_rest (λ tokens. tokens) (record { rule = rule; part = RulePart.Size side scan }) token) }
-{
-    match scan.feed(alloc, token)? {
-        Fed::More(scan) => Ok(Fed::More(RuleScan {
-            rule,
-            part: RulePart::Size(side, scan),
-        })),
-        Fed::Done(size, None) => Ok(Fed::More(RuleScan {
-            rule: rule_with_side(rule, side, size),
-            part: RulePart::Side(SideScan::Spaces),
-        })),
-        Fed::Done(size, Some(token)) => {
-            feed_side(
-                alloc,
-                rule_with_side(rule, side, size),
-                SideScan::Spaces,
-                token,
-            )
+    /// A space, the first letter of a side's name, or what stands behind the rule. Its only error is want of memory.
+    fn feed_start(&mut self, alloc: Global, token: &Seen) -> Result<Fed<Rule>, AllocError>
+        requires { self.old.part ≡ RulePart.Start }
+        ensures fed { IfOk result (IsRead rule_rest rule_held 1 (λ more. spec.rule_sides self.old.rule (Took token.now ∷ more)) (Took token.now ∷ []) self.new) }
+        ensures on { IfOk result (IsRuleFed self.new) }
+    {
+        if token.is_undefined() {
+            return Ok(Fed::Wrong(TexError::Undefined));
         }
-        Fed::Wrong(error) => Ok(Fed::Wrong(error)),
+        if token.is_space() {
+            return Ok(Fed::More(Want::Expanded));
+        }
+        match side_begun(token) {
+            None => Ok(Fed::Done(self.rule, 1)),
+            Some(side) => self.feed_letter(alloc, side, token),
+        }
+    }
+
+    /// The first letter of a side's name. Its only error is want of memory.
+    fn feed_letter(
+        &mut self,
+        alloc: Global,
+        side: Side,
+        token: &Seen,
+    ) -> Result<Fed<Rule>, AllocError>
+        ensures fed { IfOk result (IsRead rule_rest rule_held 1 (λ more. next (spec.side_or_none side (Took token.now ∷ more)) (spec.side_or_end spec.rule_sides self.old.rule)) (Took token.now ∷ []) self.new) }
+        ensures on { IfOk result (IsRuleFed self.new) }
+    {
+        let mut scan = KeyScan::new(alloc, name_of(side))?;
+        let fed = scan.feed(token);
+        self.part = RulePart::Name(side, scan);
+        Ok(self.named(alloc, side, fed))
+    }
+
+    /// What becomes of the rule by what the scan of this side's name answers.
+    fn named(&mut self, alloc: Global, side: Side, fed: Fed<bool>) -> Fed<Rule>
+        ensures fed { (scan : KeyScan) (most : ℕ) (reading : List Item → Reading Bool) (tokens : List Item) → self.old.part ≡ RulePart.Name side scan → IsRead key_rest key_held most reading tokens scan fed → IsReadOn scan fed → IsRead rule_rest rule_held most (λ more. next (next (reading more) (spec.side_if side)) (spec.side_or_end spec.rule_sides self.old.rule)) tokens self.new result }
+        ensures on { (scan : KeyScan) → self.old.part ≡ RulePart.Name side scan → IsReadOn scan fed → IsRuleFed self.new result }
+    {
+        match fed {
+            Fed::More(want) => Fed::More(want),
+            Fed::Need(kind) => Fed::Need(kind),
+            Fed::Done(true, _) => {
+                self.part = RulePart::Size(side, DimenScan::new(alloc));
+                Fed::More(Want::Expanded)
+            }
+            Fed::Done(false, back) => Fed::Done(self.rule, back),
+            Fed::Wrong(error) => Fed::Wrong(error),
+        }
+    }
+
+    /// What becomes of the rule by what the scan of this side's size answers to a token. Its only error is want of memory.
+    fn sized(
+        &mut self,
+        alloc: Global,
+        side: Side,
+        fed: Fed<i64>,
+        token: &Seen,
+    ) -> Result<Fed<Rule>, AllocError>
+        requires { IsSize fed }
+        ensures fed { (scan : DimenScan) (reading : List Item → Reading ℤ) → self.old.part ≡ RulePart.Size side scan → IsRead dimen_rest held_none 1 reading (Took token.now ∷ []) scan fed → IfOk result (IsRead rule_rest rule_held 1 (λ more. next (reading more) (λ size behind. spec.rule_sides (spec.with_side self.old.rule side size) behind)) (Took token.now ∷ []) self.new) }
+        ensures on { (scan : DimenScan) → self.old.part ≡ RulePart.Size side scan → IfOk result (IsRuleFed self.new) }
+    {
+        match fed {
+            Fed::More(want) => Ok(Fed::More(want)),
+            Fed::Need(kind) => Ok(Fed::Need(kind)),
+            Fed::Done(size, back) => {
+                self.rule = with_side(self.rule, side, size as i32);
+                self.part = RulePart::Start;
+                if back == 0 {
+                    return Ok(Fed::More(Want::Expanded));
+                }
+                self.feed_start(alloc, token)
+            }
+            Fed::Wrong(error) => Ok(Fed::Wrong(error)),
+        }
     }
 }

@@ -1,34 +1,20 @@
-//! What a scan that is fed token by token still needs, and what it answers to a token.
-use crate::keyword::Keyword;
+//! What a scan of a command still needs, and what taking a token to one gives.
 use crate::types::{BoxContext, Command, Side};
-use tx_assign::{AssignScan, DimenScan, Fed};
-use tx_list::Items;
+use tx_assign::AssignScan;
 use tx_node::Rule;
-use tx_seen::{Seen, TexError};
+use tx_prim::{BoxKind, RuleKind, Shorthand, SizeKind};
+use tx_scan::{BraceScan, DimenScan, KeyScan, NameScan};
+use tx_seen::TexError;
 
-/// Tokens with what they mean, in the order in which they are read.
-pub type Tokens = Items<Seen>;
-
-/// The name of a rule's side that is being read.
+/// The part of a rule that comes next.
 #[derive(Drop)]
-pub enum SideScan {
-    /// Spaces, and the first letter of a name.
-    Spaces,
-    /// The next letter of a name.
-    Keyword(Keyword),
-}
-
-/// What the scan of a side's name answers to a token.
-#[derive(Drop)]
-pub enum SideFed {
-    /// The scan goes on.
-    More(SideScan),
-    /// This side is named.
-    Named(Side),
-    /// None is; these tokens are given back, to be read again.
-    Unnamed(Tokens),
-    /// The token can't be read.
-    Wrong(TexError),
+pub enum RulePart {
+    /// The name of a side, if there is one, with spaces before it.
+    Start,
+    /// The name of this side.
+    Name(Side, KeyScan),
+    /// The size of this side.
+    Size(Side, DimenScan),
 }
 
 /// The sides and sizes of a rule that are being read.
@@ -39,19 +25,6 @@ pub struct RuleScan {
     pub part: RulePart,
 }
 
-/// The part of a rule that comes next.
-#[derive(Drop)]
-pub enum RulePart {
-    /// The name of a side, if there is one.
-    Side(SideScan),
-    /// The size of this side.
-    Size(Side, DimenScan),
-}
-
-/// A rule, and the tokens behind it that aren't part of it: one, or the letters of a name that breaks off, and what
-/// stands in place of the next letter.
-pub type RuleFed = Fed<RuleScan, Rule, Tokens>;
-
 /// A command that is being read.
 #[derive(Drop)]
 pub enum Stage {
@@ -59,22 +32,16 @@ pub enum Stage {
     Start,
     /// An assignment.
     Assign(AssignScan),
-    /// The size of a \kern.
-    Kern(DimenScan),
-    /// The sides of a \vrule.
-    Vrule(RuleScan),
+    /// The name that \chardef or its kin defines.
+    Name(Shorthand, NameScan),
+    /// The size of which this is made.
+    Sized(SizeKind, DimenScan),
+    /// The sides of a rule of this kind.
+    Rule(RuleKind, RuleScan),
     /// The box of a \shipout, with spaces and \relax before it.
     ShippedBox,
-    /// The begin-group token of a box of which this becomes, with spaces and \relax before it.
-    BoxBegin(BoxContext),
-}
-
-/// The tokens behind a command that were taken and aren't part of it, in their order.
-#[derive(Drop)]
-pub enum Back {
-    Nothing,
-    One(Seen),
-    Several(Tokens),
+    /// The begin-group token of a box of this kind, of which this becomes.
+    BoxBegin(BoxKind, BoxContext, BraceScan),
 }
 
 /// What taking a token to a command gives.
@@ -82,8 +49,8 @@ pub enum Back {
 pub enum Taken {
     /// The command isn't whole yet.
     More,
-    /// It is; these tokens are given back, to be read again.
-    Whole(Command, Back),
+    /// It is.
+    Whole(Command),
     /// The tokens are no command.
     Wrong(TexError),
 }

@@ -2,60 +2,31 @@
 ghost use Rattle.std.specs.Prelude.{◌≡◌, IfOk};
 ghost use Rattle.tx_main.specs.Meanings.{meaning_of};
 
-use crate::boxes::Boxes;
 use crate::command::CommandScan;
 use crate::parts::{Due, OpenBox};
 use crate::state::State;
 use std::alloc::{AllocError, Global};
 use tx_eqtb::Eqtb;
+use tx_list::Stack;
 use tx_node::Nodes;
 use tx_pending::Pending;
 
-/// A clone is the same work. Its only error is want of memory.
-impl Clone for Due {
-    ghost is_clone = { λ source copy. copy ≡ source };
-
-    fn clone(&self) -> Result<Self, AllocError> {
-        match self {
-            Due::Nothing => Ok(Due::Nothing),
-            Due::OpenMain(name) => Ok(Due::OpenMain(name.clone()?)),
-            Due::MainAbsent => Ok(Due::MainAbsent),
-            Due::FileEnded => Ok(Due::FileEnded),
-            Due::MainClosed => Ok(Due::MainClosed),
-            Due::Ship(shipped) => Ok(Due::Ship(shipped.clone()?)),
-        }
-    }
-}
-
-/// A clone is the same open box. Its only error is want of memory.
-impl Clone for OpenBox {
-    ghost is_clone = { λ source copy. copy ≡ source };
-
-    fn clone(&self) -> Result<Self, AllocError> {
-        Ok(OpenBox {
-            context: self.context,
-            list: self.list.clone()?,
-            horizontal: self.horizontal,
-        })
-    }
-}
-
 /// Copies of what is read next. Its only error is want of memory.
-fn share_input(alloc: Global, s: &State) -> Result<(Due, Pending, CommandScan), AllocError>
+fn share_input(alloc: Global, s: &State) -> Result<(Stack<Due>, Pending, CommandScan), AllocError>
     ensures due { IfOk result (λ t. t.0 ≡ s.now.due) }
     ensures input { IfOk result (λ t. t.1 ≡ s.now.input) }
     ensures scan { IfOk result (λ t. t.2 ≡ s.now.scan) }
 {
-    Ok((s.due.clone()?, s.input.share(alloc)?, s.scan.clone()?))
+    Ok((s.due.share()?, s.input.share(alloc)?, s.scan.clone()?))
 }
 
 /// Copies of the lists that are built, and of the table. Its only error is want of memory.
-fn share_lists(s: &State) -> Result<(Nodes, Boxes, Eqtb), AllocError>
+fn share_lists(s: &State) -> Result<(Nodes, Stack<OpenBox>, Eqtb), AllocError>
     ensures list { IfOk result (λ t. t.0 ≡ s.now.list) }
     ensures boxes { IfOk result (λ t. t.1 ≡ s.now.boxes) }
     ensures table { IfOk result (λ t. t.2 ≡ s.now.table) }
 {
-    Ok((s.list.clone()?, s.boxes.clone()?, s.table.share()?))
+    Ok((s.list.clone()?, s.boxes.share()?, s.table.share()?))
 }
 
 /// A state that means the same, with the same bytes of the transcript that are still to be taken. Its only error is want of

@@ -1,249 +1,305 @@
 //! The stages of a command, token by token (TeX: The Program, part 46 on).
-ghost use Rattle.std.specs.Prelude.{◌≡◌, ◌∷◌, [], List, IfOk, option_to_list};
-ghost use Rattle.tx_seen.specs.declared.seen.Seen.{Seen};
-ghost use Rattle.tx_assign.specs.Scans.{Done};
-ghost use Rattle.tx_main.specs.Commands.{assigning, character_command, horizontal_only, hbox_meant, primitive_command};
-ghost use Rattle.tx_main.specs.Rests.{IsCommand, command_rest, given_back};
+ghost use Rattle.std.specs.Prelude.{◌≡◌, ◌∷◌, [], List, IfOk};
+ghost use Rattle.tx_seen.specs.declared.item.Item.{Item};
+ghost use Rattle.tx_seen.specs.declared.item.Item.TheVariants.{Took};
+ghost use Rattle.tx_seen.specs.Readings.{More};
+ghost use Rattle.tx_scan.specs.Rests.{IsFedBy, IsGivenBy, IsRead};
+ghost use Rattle.tx_scan.specs.Supplied.{NeedsNoMore, NeedsFewer};
+ghost use Rattle.tx_assign.specs.Assignments.{assignment};
+ghost use Rattle.tx_main.specs.Commands as commands;
+ghost use Rattle.tx_main.specs.Rests.{command_rest, held, more_needed, GoesOn, IsAssigning, IsOn};
 
-use crate::scans::{Back, RuleScan, Stage, Taken};
-use crate::types::{BoxContext, Command};
+use crate::mapping::{assigned, begun_box, defined, ruled, sized};
+use crate::scans::{RuleScan, Stage};
+use crate::standing::{may_be_prefixed, may_stand};
+use crate::types::{BoxContext, Command, Head};
 use std::alloc::{AllocError, Global};
-use std::mem;
-use tx_assign::{AssignScan, DimenScan, Fed};
+use tx_assign::{AssignScan, Assigning, Variable};
 use tx_char::Cat;
-use tx_prim::Primitive;
-use tx_seen::{Meaning, Seen, TexError};
+use tx_prim::{BoxKind, Mode, Primitive, RuleKind, Shorthand, SizeKind};
+use tx_scan::{BraceScan, DimenScan, NameScan};
+use tx_seen::{Fed, Meaning, Place, Seen, TexError, Value, Want};
 
 impl Stage {
-    /// Takes one token, in a horizontal or a vertical list. Its only error is want of memory.
+    /// Takes one token, in this mode and behind this head. Its only error is want of memory.
     pub(crate) fn feed(
         &mut self,
         alloc: Global,
-        horizontal: bool,
+        mode: Mode,
+        head: &Head,
         token: &Seen,
-    ) -> Result<Taken, AllocError>
-        ensures { IfOk result (IsCommand horizontal (λ more. command_rest horizontal self.old (token.now ∷ more)) self.new) }
+    ) -> Result<Fed<Command>, AllocError>
+        requires { IsOn self.old }
+        ensures fed { IfOk result (IsFedBy (command_rest mode head.now) held self.old token.now self.new) }
+        ensures needs { IfOk result (NeedsNoMore (more_needed self.old) (more_needed self.new)) }
+        ensures on { IfOk result (GoesOn self.new) }
     {
         match self {
-            Stage::Start => feed_first(alloc, self, horizontal, token),
-            Stage::Assign(scan) => feed_assignment(alloc, scan, horizontal, token),
-            Stage::Kern(scan) => feed_kern(alloc, scan, horizontal, token),
-            Stage::Vrule(scan) => feed_rule(alloc, scan, horizontal, token),
-            Stage::ShippedBox => Ok(feed_box(self, horizontal, token)),
-            Stage::BoxBegin(context) => Ok(feed_begin(*context, horizontal, token)),
+            Stage::Start => feed_first(alloc, self, mode, head, token),
+            Stage::Assign(scan) => Ok(assigned(scan.feed(token)?)),
+            Stage::Name(kind, scan) => Ok(defined(*kind, scan.feed(token)?)),
+            Stage::Sized(kind, scan) => Ok(sized(*kind, scan.feed(token)?)),
+            Stage::Rule(kind, scan) => Ok(ruled(*kind, scan.feed(alloc, token)?)),
+            Stage::ShippedBox => Ok(feed_box(self, token)),
+            Stage::BoxBegin(kind, context, scan) => {
+                Ok(begun_box(*kind, *context, scan.feed(token)))
+            }
         }
     }
-}
 
-/// The token that is given back, if there is one.
-fn back_of(token: Option<Seen>) -> Back
-    ensures { given_back result ≡ option_to_list token }
-{
-    match token {
-        Some(token) => Back::One(token),
-        None => Back::Nothing,
+    /// Takes the value that an assignment needs. Its only error is want of memory.
+    pub(crate) fn give(&mut self, value: &Value) -> Result<Fed<Command>, AllocError>
+        requires { IsAssigning self.old }
+        ensures given { (mode : Mode) (head : Head) → IfOk result (IsGivenBy (command_rest mode head) held self.old value.now self.new) }
+        ensures needs { IfOk result (NeedsFewer (more_needed self.old) (more_needed self.new)) }
+        ensures on { IfOk result (GoesOn self.new) }
+    {
+        match self {
+            Stage::Assign(scan) => Ok(assigned(scan.give(value)?)),
+            _ => unreachable!(),
+        }
     }
-}
-
-/// The command is whole, and no token is given back.
-fn whole(command: Command) -> Taken
-    ensures { result ≡ Taken.Whole command Back.Nothing }
-{
-    Taken::Whole(command, Back::Nothing)
 }
 
 /// The first token of a command. Its only error is want of memory.
 fn feed_first(
     alloc: Global,
     stage: &mut Stage,
-    horizontal: bool,
+    mode: Mode,
+    head: &Head,
     token: &Seen,
-) -> Result<Taken, AllocError>
-    ensures { IfOk result (IsCommand horizontal (λ more. command_rest horizontal Stage.Start (token.now ∷ more)) stage.new) }
+) -> Result<Fed<Command>, AllocError>
+    ensures fed { IfOk result (IsRead (command_rest mode head.now) held 1 (λ more. commands.command mode head.now (Took token.now ∷ more)) (Took token.now ∷ []) stage.new) }
+    ensures needs { IfOk result (NeedsNoMore 1 (more_needed stage.new)) }
+    ensures on { IfOk result (GoesOn stage.new) }
 {
-    match &token.meaning {
-        Meaning::Undefined => Ok(Taken::Wrong(TexError::Undefined)),
-        Meaning::Command(primitive) => feed_primitive(alloc, stage, horizontal, *primitive, token),
-        Meaning::Character(code, category) => Ok(character(stage, horizontal, *code, *category)),
-        Meaning::CharacterNumber(code) => Ok(set_character(stage, horizontal, *code)),
-        Meaning::MathNumber(_) => Ok(Taken::Wrong(TexError::NotAllowed)),
-        Meaning::CountRegister(_) | Meaning::DimenRegister(_) => {
-            begin_assignment(alloc, stage, horizontal, token)
-        }
+    match head {
+        Head::Fresh => Ok(feed_fresh(alloc, stage, mode, token)),
+        Head::Prefixed(_) => Ok(feed_prefixed(alloc, stage, token)),
+        Head::Defining(_, name, kind) => feed_defining(alloc, stage, name, *kind, token),
     }
 }
 
-/// A character to be set.
-fn set_character(stage: &Stage, horizontal: bool, code: u8) -> Taken
-    ensures { IsCommand horizontal (λ more. horizontal_only horizontal (Done (Command.Character code) more)) stage.now result }
+/// The first token of a command that nothing stands before.
+fn feed_fresh(alloc: Global, stage: &mut Stage, mode: Mode, token: &Seen) -> Fed<Command>
+    ensures fed { (head : Head) → IsRead (command_rest mode head) held 0 (λ more. commands.fresh_command mode (Took token.now ∷ more)) [] stage.new result }
+    ensures needs { NeedsNoMore 0 (more_needed stage.new) result }
+    ensures on { GoesOn stage.new result }
 {
-    if horizontal {
-        whole(Command::Character(code))
+    if may_stand(mode, &token.meaning) {
+        begin(alloc, stage, &token.meaning)
     } else {
-        Taken::Wrong(TexError::NotAllowed)
+        Fed::Wrong(TexError::NotAllowed)
+    }
+}
+
+/// The first token of a command behind a prefix.
+fn feed_prefixed(alloc: Global, stage: &mut Stage, token: &Seen) -> Fed<Command>
+    ensures fed { (mode : Mode) (head : Head) → IsRead (command_rest mode head) held 0 (λ more. commands.prefixed_command (Took token.now ∷ more)) [] stage.new result }
+    ensures needs { NeedsNoMore 0 (more_needed stage.new) result }
+    ensures on { GoesOn stage.new result }
+{
+    if token.is_space() || token.is_relax() {
+        return Fed::Done(Command::Nothing, 0);
+    }
+    if may_be_prefixed(&token.meaning) {
+        begin(alloc, stage, &token.meaning)
+    } else {
+        Fed::Wrong(TexError::NoAssignment)
+    }
+}
+
+/// The first token behind a name that is being defined. Its only error is want of memory.
+fn feed_defining(
+    alloc: Global,
+    stage: &mut Stage,
+    name: &Place,
+    kind: Shorthand,
+    token: &Seen,
+) -> Result<Fed<Command>, AllocError>
+    ensures fed { (mode : Mode) (head : Head) → IfOk result (IsRead (command_rest mode head) held 1 (λ more. commands.assigning (Assigning.Named name.now kind) (Took token.now ∷ more)) (Took token.now ∷ []) stage.new) }
+    ensures needs { IfOk result (NeedsNoMore 1 (more_needed stage.new)) }
+    ensures on { IfOk result (GoesOn stage.new) }
+{
+    let mut scan = AssignScan::new(alloc, Assigning::Named(name.clone()?, kind));
+    let fed = scan.feed(token)?;
+    *stage = Stage::Assign(scan);
+    Ok(assigned(fed))
+}
+
+/// The command whose first token means this.
+fn begin(alloc: Global, stage: &mut Stage, meaning: &Meaning) -> Fed<Command>
+    ensures fed { (mode : Mode) (head : Head) → IsRead (command_rest mode head) held 0 (λ more. commands.command_meant meaning.now more) [] stage.new result }
+    ensures needs { NeedsNoMore 0 (more_needed stage.new) result }
+    ensures on { GoesOn stage.new result }
+{
+    match meaning {
+        Meaning::Undefined => Fed::Wrong(TexError::Undefined),
+        Meaning::Command(primitive) => begin_primitive(alloc, stage, *primitive),
+        Meaning::Character(code, category) => character(stage, *code, *category),
+        Meaning::CharacterNumber(code) => Fed::Done(Command::Character(*code), 0),
+        Meaning::MathNumber(_) => Fed::Wrong(TexError::NotAllowed),
+        Meaning::CountRegister(number) => begin_variable(
+            alloc,
+            stage,
+            Variable::Standing(Place::Count(*number)),
+        ),
+        Meaning::DimenRegister(number) => begin_variable(
+            alloc,
+            stage,
+            Variable::Standing(Place::Dimen(*number)),
+        ),
     }
 }
 
 /// A character, by its category.
-fn character(stage: &Stage, horizontal: bool, code: u8, category: Cat) -> Taken
-    ensures { IsCommand horizontal (character_command horizontal code category) stage.now result }
+fn character(stage: &Stage, code: u8, category: Cat) -> Fed<Command>
+    ensures fed { (mode : Mode) (head : Head) → IsRead (command_rest mode head) held 0 (λ more. commands.character_command code category more) [] stage.now result }
+    ensures needs { NeedsNoMore 0 (more_needed stage.now) result }
+    ensures on { GoesOn stage.now result }
 {
     match category {
-        Cat::BeginGroup => whole(Command::BeginGroup),
-        Cat::EndGroup => whole(Command::EndGroup),
-        Cat::AlignmentTab => Taken::Wrong(TexError::MisplacedAlignment),
-        Cat::Space => whole(Command::Space),
-        Cat::Letter | Cat::Other => set_character(stage, horizontal, code),
-        _ => Taken::Wrong(TexError::NotAllowed),
+        Cat::BeginGroup => Fed::Done(Command::BeginGroup, 0),
+        Cat::EndGroup => Fed::Done(Command::EndGroup, 0),
+        Cat::Space => Fed::Done(Command::Space, 0),
+        Cat::Letter | Cat::Other => Fed::Done(Command::Character(code), 0),
+        Cat::AlignmentTab => Fed::Wrong(TexError::MisplacedAlignment),
+        Cat::MathShift
+        | Cat::Superscript
+        | Cat::Subscript
+        | Cat::Parameter
+        | Cat::Escape
+        | Cat::EndOfLine
+        | Cat::Ignored
+        | Cat::Active
+        | Cat::Comment
+        | Cat::Invalid => Fed::Wrong(TexError::NotAllowed),
     }
 }
 
-/// The command goes on with this stage.
-fn on(stage: &mut Stage, next: Stage) -> Taken
-    ensures taken { result ≡ Taken.More }
-    ensures stage { stage.new ≡ next }
-{
-    *stage = next;
-    Taken::More
-}
-
-/// A primitive, which this token means; all that have no line of their own begin assignments. Its only error is want of
-/// memory.
-fn feed_primitive(
-    alloc: Global,
-    stage: &mut Stage,
-    horizontal: bool,
-    primitive: Primitive,
-    token: &Seen,
-) -> Result<Taken, AllocError>
-    ensures { IfOk result (IsCommand horizontal (λ more. primitive_command horizontal primitive (token.now ∷ more) more) stage.new) }
+/// A primitive, by its family.
+fn begin_primitive(alloc: Global, stage: &mut Stage, primitive: Primitive) -> Fed<Command>
+    ensures fed { (mode : Mode) (head : Head) → IsRead (command_rest mode head) held 0 (λ more. commands.family_command primitive more) [] stage.new result }
+    ensures needs { NeedsNoMore 0 (more_needed stage.new) result }
+    ensures on { GoesOn stage.new result }
 {
     match primitive {
-        Primitive::Relax | Primitive::Par => Ok(whole(Command::Nothing)),
-        Primitive::BeginGroup => Ok(whole(Command::BeginSemiSimple)),
-        Primitive::EndGroup => Ok(whole(Command::EndSemiSimple)),
-        Primitive::Kern if horizontal => Ok(on(stage, Stage::Kern(DimenScan::new()))),
-        Primitive::Vrule if horizontal => Ok(on(stage, Stage::Vrule(RuleScan::new()))),
-        Primitive::Hbox if horizontal => Ok(on(stage, Stage::BoxBegin(BoxContext::Append))),
-        Primitive::Shipout => Ok(on(stage, Stage::ShippedBox)),
-        Primitive::End if !horizontal => Ok(whole(Command::End)),
-        Primitive::Kern | Primitive::Vrule | Primitive::Hbox | Primitive::End => {
-            Ok(Taken::Wrong(TexError::NotAllowed))
-        }
-        _ => begin_assignment(alloc, stage, horizontal, token),
+        Primitive::Relax | Primitive::Par => Fed::Done(Command::Nothing, 0),
+        Primitive::BeginGroup => Fed::Done(Command::BeginSemiSimple, 0),
+        Primitive::EndGroup => Fed::Done(Command::EndSemiSimple, 0),
+        Primitive::Prefix(prefix) => Fed::Done(Command::Prefix(prefix), 0),
+        Primitive::Let => begin_assignment(alloc, stage, Assigning::Let, Want::Raw),
+        Primitive::Shorthand(kind) => begin_name(stage, kind),
+        Primitive::Arithmetic(operation) => begin_assignment(
+            alloc,
+            stage,
+            Assigning::Arithmetic(operation),
+            Want::Expanded,
+        ),
+        Primitive::Numbered(kind) => begin_variable(alloc, stage, Variable::Numbered(kind)),
+        Primitive::Integer(parameter) => begin_variable(
+            alloc,
+            stage,
+            Variable::Standing(Place::Integer(parameter)),
+        ),
+        Primitive::Dimension(parameter) => begin_variable(
+            alloc,
+            stage,
+            Variable::Standing(Place::Dimension(parameter)),
+        ),
+        Primitive::Sized(kind) => begin_size(alloc, stage, kind),
+        Primitive::Rule(kind) => begin_rule(stage, kind),
+        Primitive::Box(kind) => begin_box(stage, kind, BoxContext::Append),
+        Primitive::Shipout => begin_shipped(stage),
+        Primitive::End => Fed::Done(Command::End, 0),
     }
 }
 
-/// The first token of an assignment. Its only error is want of memory.
-fn begin_assignment(
-    alloc: Global,
-    stage: &mut Stage,
-    horizontal: bool,
-    token: &Seen,
-) -> Result<Taken, AllocError>
-    ensures { IfOk result (IsCommand horizontal (λ more. assigning (token.now ∷ more)) stage.new) }
+/// What gives a variable a value.
+fn begin_variable(alloc: Global, stage: &mut Stage, variable: Variable) -> Fed<Command>
+    ensures fed { (mode : Mode) (head : Head) → IsRead (command_rest mode head) held 0 (λ more. commands.assigning (Assigning.Variable variable) more) [] stage.new result }
+    ensures needs { NeedsNoMore 0 (more_needed stage.new) result }
+    ensures on { GoesOn stage.new result }
 {
-    match AssignScan::Start.feed(alloc, token.clone()?)? {
-        Fed::More(scan) => Ok(on(stage, Stage::Assign(scan))),
-        Fed::Done(assignment, back) => Ok(Taken::Whole(Command::Assign(assignment), back_of(back))),
-        Fed::Wrong(error) => Ok(Taken::Wrong(error)),
-    }
+    begin_assignment(alloc, stage, Assigning::Variable(variable), Want::Expanded)
 }
 
-/// A token of an assignment. Its only error is want of memory.
-fn feed_assignment(
-    alloc: Global,
-    scan: &mut AssignScan,
-    horizontal: bool,
-    token: &Seen,
-) -> Result<Taken, AllocError>
-    ensures { IfOk result (IsCommand horizontal (λ more. command_rest horizontal (Stage.Assign scan.old) (token.now ∷ more)) (Stage.Assign scan.new)) }
+/// An assignment, whose next token is wanted so.
+fn begin_assignment(alloc: Global, stage: &mut Stage, begun: Assigning, want: Want) -> Fed<Command>
+    requires { assignment begun [] ≡ More want }
+    ensures fed { (mode : Mode) (head : Head) → IsRead (command_rest mode head) held 0 (λ more. commands.assigning begun more) [] stage.new result }
+    ensures needs { NeedsNoMore 0 (more_needed stage.new) result }
+    ensures on { GoesOn stage.new result }
 {
-    let before = mem::replace(scan, AssignScan::Start);
-    match before.feed(alloc, token.clone()?)? {
-        Fed::More(behind) => {
-            *scan = behind;
-            Ok(Taken::More)
-        }
-        Fed::Done(assignment, back) => Ok(Taken::Whole(Command::Assign(assignment), back_of(back))),
-        Fed::Wrong(error) => Ok(Taken::Wrong(error)),
-    }
+    *stage = Stage::Assign(AssignScan::new(alloc, begun));
+    Fed::More(want)
 }
 
-/// The size of a \kern.
-fn feed_kern(
-    alloc: Global,
-    scan: &mut DimenScan,
-    horizontal: bool,
-    token: &Seen,
-) -> Result<Taken, AllocError>
-    ensures { IfOk result (IsCommand horizontal (λ more. command_rest horizontal (Stage.Kern scan.old) (token.now ∷ more)) (Stage.Kern scan.new)) }
+/// \chardef or its kin.
+fn begin_name(stage: &mut Stage, kind: Shorthand) -> Fed<Command>
+    ensures fed { (mode : Mode) (head : Head) → IsRead (command_rest mode head) held 0 (λ more. commands.defining kind more) [] stage.new result }
+    ensures needs { NeedsNoMore 0 (more_needed stage.new) result }
+    ensures on { GoesOn stage.new result }
 {
-    let before = mem::replace(scan, DimenScan::new());
-    match before.feed(alloc, token.clone()?)? {
-        Fed::More(behind) => {
-            *scan = behind;
-            Ok(Taken::More)
-        }
-        Fed::Done(size, back) => Ok(Taken::Whole(Command::Kern(size), back_of(back))),
-        Fed::Wrong(error) => Ok(Taken::Wrong(error)),
-    }
+    *stage = Stage::Name(kind, NameScan::new());
+    Fed::More(Want::Raw)
 }
 
-/// The sides of a \vrule.
-fn feed_rule(
-    alloc: Global,
-    scan: &mut RuleScan,
-    horizontal: bool,
-    token: &Seen,
-) -> Result<Taken, AllocError>
-    ensures { IfOk result (IsCommand horizontal (λ more. command_rest horizontal (Stage.Vrule scan.old) (token.now ∷ more)) (Stage.Vrule scan.new)) }
+/// A kern.
+fn begin_size(alloc: Global, stage: &mut Stage, kind: SizeKind) -> Fed<Command>
+    ensures fed { (mode : Mode) (head : Head) → IsRead (command_rest mode head) held 0 (λ more. commands.sizing kind more) [] stage.new result }
+    ensures needs { NeedsNoMore 0 (more_needed stage.new) result }
+    ensures on { GoesOn stage.new result }
 {
-    let before = mem::replace(scan, RuleScan::new());
-    match before.feed(alloc, token.clone()?)? {
-        Fed::More(behind) => {
-            *scan = behind;
-            Ok(Taken::More)
-        }
-        Fed::Done(rule, back) => Ok(Taken::Whole(Command::Vrule(rule), Back::Several(back))),
-        Fed::Wrong(error) => Ok(Taken::Wrong(error)),
-    }
+    *stage = Stage::Sized(kind, DimenScan::new(alloc));
+    Fed::More(Want::Expanded)
 }
 
-/// Whether this is the meaning of \hbox.
-fn is_hbox(meaning: &Meaning) -> bool
-    ensures { result ≡ hbox_meant meaning.now }
+/// A rule.
+fn begin_rule(stage: &mut Stage, kind: RuleKind) -> Fed<Command>
+    ensures fed { (mode : Mode) (head : Head) → IsRead (command_rest mode head) held 0 (λ more. commands.ruling kind more) [] stage.new result }
+    ensures needs { NeedsNoMore 0 (more_needed stage.new) result }
+    ensures on { GoesOn stage.new result }
 {
-    matches!(meaning, Meaning::Command(Primitive::Hbox))
+    *stage = Stage::Rule(kind, RuleScan::new(kind));
+    Fed::More(Want::Expanded)
 }
 
-/// The box of a \shipout.
-fn feed_box(stage: &mut Stage, horizontal: bool, token: &Seen) -> Taken
+/// A box that is made of what stands in braces.
+fn begin_box(stage: &mut Stage, kind: BoxKind, context: BoxContext) -> Fed<Command>
+    ensures fed { (mode : Mode) (head : Head) → IsRead (command_rest mode head) held 0 (λ more. commands.box_begin kind context more) [] stage.new result }
+    ensures needs { NeedsNoMore 0 (more_needed stage.new) result }
+    ensures on { GoesOn stage.new result }
+{
+    *stage = Stage::BoxBegin(kind, context, BraceScan::new());
+    Fed::More(Want::Expanded)
+}
+
+/// \shipout.
+fn begin_shipped(stage: &mut Stage) -> Fed<Command>
+    ensures fed { (mode : Mode) (head : Head) → IsRead (command_rest mode head) held 0 (λ more. commands.shipped_box more) [] stage.new result }
+    ensures needs { NeedsNoMore 0 (more_needed stage.new) result }
+    ensures on { GoesOn stage.new result }
+{
+    *stage = Stage::ShippedBox;
+    Fed::More(Want::Expanded)
+}
+
+/// The box of a \shipout, or what stands before it.
+fn feed_box(stage: &mut Stage, token: &Seen) -> Fed<Command>
     requires { stage.old ≡ Stage.ShippedBox }
-    ensures { IsCommand horizontal (λ more. command_rest horizontal Stage.ShippedBox (token.now ∷ more)) stage.new result }
+    ensures fed { (mode : Mode) (head : Head) → IsRead (command_rest mode head) held 0 (λ more. commands.shipped_box (Took token.now ∷ more)) [] stage.new result }
+    ensures needs { NeedsNoMore 0 (more_needed stage.new) result }
+    ensures on { GoesOn stage.new result }
 {
     if token.is_undefined() {
-        Taken::Wrong(TexError::Undefined)
-    } else if token.is_space() || token.is_relax() {
-        Taken::More
-    } else if is_hbox(&token.meaning) {
-        on(stage, Stage::BoxBegin(BoxContext::Ship))
-    } else {
-        Taken::Wrong(TexError::MissingBox)
+        return Fed::Wrong(TexError::Undefined);
     }
-}
-
-/// The begin-group token of a box.
-fn feed_begin(context: BoxContext, horizontal: bool, token: &Seen) -> Taken
-    ensures { IsCommand horizontal (λ more. command_rest horizontal (Stage.BoxBegin context) (token.now ∷ more)) (Stage.BoxBegin context) result }
-{
-    if token.is_undefined() {
-        Taken::Wrong(TexError::Undefined)
-    } else if token.is_space() || token.is_relax() {
-        Taken::More
-    } else if token.begins_group() {
-        whole(Command::BeginBox(context))
-    } else {
-        Taken::Wrong(TexError::MissingBeginGroup)
+    if token.is_space() || token.is_relax() {
+        return Fed::More(Want::Expanded);
+    }
+    match &token.meaning {
+        Meaning::Command(Primitive::Box(kind)) => begin_box(stage, *kind, BoxContext::Ship),
+        _ => Fed::Wrong(TexError::MissingBox),
     }
 }

@@ -1,9 +1,9 @@
 //! TeX's state, in code.
-use crate::boxes::Boxes;
 use crate::command::CommandScan;
-use crate::parts::{Due, Phase};
+use crate::parts::{Due, OpenBox, Phase};
 use tx_bytes::Bytes;
 use tx_eqtb::Eqtb;
+use tx_list::Stack;
 use tx_node::Nodes;
 use tx_pending::Pending;
 
@@ -11,11 +11,13 @@ use tx_pending::Pending;
 #[derive(Drop)]
 pub struct State {
     pub(crate) phase: Phase,
-    pub(crate) due: Due,
+    /// The next piece first.
+    pub(crate) due: Stack<Due>,
     pub(crate) input: Pending,
     pub(crate) scan: CommandScan,
     pub(crate) list: Nodes,
-    pub(crate) boxes: Boxes,
+    /// The innermost first.
+    pub(crate) boxes: Stack<OpenBox>,
     pub(crate) table: Eqtb,
     pub(crate) magnification: Option<i32>,
     pub(crate) said: Bytes,

@@ -1,7 +1,7 @@
 //! One turn: due work, the ask for a line, or one token (TeX: The Program, sections 1030, 343 and 360).
-ghost use Rattle.std.specs.Prelude.{◌≡◌, map, IfOk, OnOk};
+ghost use Rattle.std.specs.Prelude.{◌≡◌, ◌∷◌, IfOk, OnOk};
 ghost use Rattle.tx_machine.specs.Machine.{kind_of, Ready};
-ghost use Rattle.tx_pending.specs.Elements.{step as next_of, with_tokens};
+ghost use Rattle.tx_pending.specs.Elements.{step as next_of};
 ghost use Rattle.tx_prim.specs.declared.integer.IntegerParameter.TheVariants.{Mag};
 ghost use Rattle.tx_ship.specs.Pages.{IsMag};
 ghost use Rattle.tx_main.specs.Pages.{integer as magnification_in, page_of};
@@ -9,23 +9,21 @@ ghost use Rattle.tx_main.specs.State.{Runs, mode_of};
 ghost use Rattle.tx_main.specs.Outcomes.{Asks};
 ghost use Rattle.tx_main.specs.Turns as turns;
 ghost use Rattle.tx_main.specs.Meanings.{IsStepped, meaning_of, state_of};
-ghost use Rattle.tx_main.specs.Rests.{given_back};
 
 use crate::effects::{carry_out, fail};
 use crate::page::{integer, line_end, may_be, ship_params};
 use crate::parts::{Due, Phase};
-use crate::scans::{Back, Taken, Tokens};
+use crate::scans::Taken;
 use crate::state::State;
 use std::alloc::{AllocError, Global};
-use std::mem;
-use tx_assign::see;
 use tx_char::Token;
 use tx_lex::line_text;
+use tx_list::Stack;
 use tx_machine::{Ask, AskKind, Event, Reply};
 use tx_node::BoxNode;
-use tx_pending::{Next, Pending};
+use tx_pending::Next;
 use tx_prim::IntegerParameter;
-use tx_seen::TexError;
+use tx_seen::{Seen, TexError};
 use tx_ship::{ShipError, body};
 
 /// The turn ends with an ask.
@@ -37,42 +35,17 @@ fn ask(s: &mut State, kind: AskKind, ask: Ask) -> Event
     Event::Asks(ask)
 }
 
-/// Puts these tokens at the front of the input, in their order; what they meant is forgotten. Its only error is want of
-/// memory.
-fn give_back_several(input: &mut Pending, tokens: Tokens) -> Result<(), AllocError>
-    ensures { OnOk result (input.new ≡ with_tokens input.old (map (λ t. t.token) tokens)) }
-{
-    let mut tokens = tokens;
-    while let Some(seen) = tokens.pop() {
-        input.give_back(seen.token)?;
-    }
-    Ok(())
-}
-
-/// Puts what stands behind a command at the front of the input. Its only error is want of memory.
-fn give_back(input: &mut Pending, back: Back) -> Result<(), AllocError>
-    ensures { OnOk result (input.new ≡ with_tokens input.old (map (λ t. t.token) (given_back back))) }
-{
-    match back {
-        Back::Nothing => Ok(()),
-        Back::One(seen) => input.give_back(seen.token),
-        Back::Several(tokens) => give_back_several(input, tokens),
-    }
-}
-
 /// A token joins the open command.
 fn take(alloc: Global, s: &mut State, token: Token) -> Result<Event, AllocError>
     requires { s.old.phase ≡ Phase.Running }
     ensures { IfOk result (λ event. IsStepped (turns.taking (state_of s.old) token) s.old event s.new) }
 {
-    let seen = see(&s.table, s.scan.defined(), token)?;
-    match s.scan.feed(alloc, seen)? {
+    let meaning = s.table.meaning(&token)?;
+    let seen = Seen { token, meaning };
+    match s.scan.feed(alloc, &s.table, &mut s.input, seen)? {
         Taken::More => Ok(Event::Went),
         Taken::Wrong(error) => Ok(fail(s, error)),
-        Taken::Whole(command, back) => {
-            give_back(&mut s.input, back)?;
-            carry_out(alloc, s, command)
-        }
+        Taken::Whole(command) => carry_out(alloc, s, command),
     }
 }
 
@@ -124,31 +97,51 @@ fn ship_box(alloc: Global, s: &mut State, shipped: &BoxNode) -> Result<Event, Al
     ship_with(alloc, s, magnification, shipped)
 }
 
-/// What the next turn costs: shipping a box, the box and all nodes that it holds; all else 1.
-pub fn cost(s: &State) -> u64
-    ensures { result ≡ turns.cost (meaning_of s.now) }
+/// What the next piece of work costs.
+fn due_cost(due: &Stack<Due>) -> u64
+    ensures { result ≡ turns.due_cost due.now }
 {
-    match (s.phase, &s.due) {
-        (Phase::Running, Due::Ship(shipped)) => shipped.count(),
+    match due.first() {
+        Some(Due::Ship(shipped)) => shipped.count(),
         _ => 1,
     }
 }
 
-/// Does the work that is due, or reads.
-fn work(alloc: Global, s: &mut State) -> Result<Event, AllocError>
-    requires { s.old.phase ≡ Phase.Running }
-    ensures { IfOk result (λ event. IsStepped (turns.works (state_of s.old) s.old.due) s.old event s.new) }
+/// What the next turn costs: shipping a box, the box and all nodes that it holds; all else 1.
+pub fn cost(s: &State) -> u64
+    ensures { result ≡ turns.cost (meaning_of s.now) }
 {
-    if let Due::Nothing = &s.due {
-        return read(alloc, s);
+    match s.phase {
+        Phase::Running => due_cost(&s.due),
+        _ => 1,
     }
-    match mem::replace(&mut s.due, Due::Nothing) {
-        Due::Nothing => read(alloc, s),
+}
+
+/// Does a piece of work.
+fn work(alloc: Global, s: &mut State, due: Due) -> Result<Event, AllocError>
+    requires { s.old.phase ≡ Phase.Running }
+    ensures { IfOk result (λ event. IsStepped (turns.works (state_of s.old) due) s.old event s.new) }
+{
+    match due {
         Due::OpenMain(name) => Ok(ask(s, AskKind::Open, Ask::Open(name.into_bytes()))),
         Due::MainAbsent => Ok(fail(s, TexError::FileAbsent)),
         Due::FileEnded => Ok(ask(s, AskKind::Close, Ask::Close)),
         Due::MainClosed => Ok(fail(s, TexError::NoEnd)),
         Due::Ship(shipped) => ship_box(alloc, s, &shipped),
+    }
+}
+
+/// Does the work that comes first, or reads.
+fn go_on(alloc: Global, s: &mut State) -> Result<Event, AllocError>
+    requires { s.old.phase ≡ Phase.Running }
+    ensures { IfOk result (λ event. IsStepped (turns.goes_on (state_of s.old) s.old.due) s.old event s.new) }
+{
+    if s.due.is_empty() {
+        return read(alloc, s);
+    }
+    match s.due.pop() {
+        Some(due) => work(alloc, s, due),
+        None => read(alloc, s),
     }
 }
 
@@ -158,7 +151,7 @@ pub fn turn(alloc: Global, s: &mut State) -> Result<Event, AllocError>
     ensures { IfOk result (λ event. IsStepped (turns.outcome (meaning_of s.old)) s.old event s.new) }
 {
     match s.phase {
-        Phase::Running => work(alloc, s),
+        Phase::Running => go_on(alloc, s),
         _ => unreachable!(),
     }
 }
@@ -170,13 +163,13 @@ fn hear(alloc: Global, s: &mut State, kind: AskKind, reply: &Reply) -> Result<()
     ensures said { OnOk result (s.new.said ≡ s.old.said) }
 {
     match (kind, reply) {
-        (AskKind::Open, Reply::Absent) => s.due = Due::MainAbsent,
+        (AskKind::Open, Reply::Absent) => s.due.push(Due::MainAbsent)?,
         (AskKind::Line, Reply::Line(bytes)) => {
             let line = line_text(alloc, bytes.as_slice(), line_end(&s.table))?;
             s.input.push_line(alloc, line)?;
         }
-        (AskKind::Line, Reply::Ended) => s.due = Due::FileEnded,
-        (AskKind::Close, Reply::Closed) => s.due = Due::MainClosed,
+        (AskKind::Line, Reply::Ended) => s.due.push(Due::FileEnded)?,
+        (AskKind::Close, Reply::Closed) => s.due.push(Due::MainClosed)?,
         _ => {}
     }
     Ok(())

@@ -1,6 +1,8 @@
-//! What commands are, once they are read whole.
+//! What commands are, once they are read whole, and what may stand before them.
 use tx_assign::Assignment;
 use tx_node::Rule;
+use tx_prim::{BoxKind, Prefix, RuleKind, Shorthand, SizeKind};
+use tx_seen::Place;
 
 /// A side of a rule.
 #[derive(Clone, Copy, PartialEq, Eq)]
@@ -19,10 +21,27 @@ pub enum BoxContext {
     Ship,
 }
 
+/// The prefixes before a command (The TeXbook, chapter 24).
+#[derive(Clone, Copy, PartialEq, Eq)]
+pub struct Prefixes {
+    pub global: bool,
+}
+
+/// What stands before the tokens of a command and decides how they are read.
+#[derive(Drop)]
+pub enum Head {
+    /// Nothing.
+    Fresh,
+    /// Prefixes: an assignment is to follow.
+    Prefixed(Prefixes),
+    /// \chardef or its kin, with its prefixes and the name that it defines: what the name is to stand for is to follow.
+    Defining(Prefixes, Place, Shorthand),
+}
+
 /// A command with all that belongs to it.
 #[derive(Drop)]
 pub enum Command {
-    /// `\relax`, and `\par` outside of a paragraph.
+    /// `\relax`, `\par` outside of a paragraph, and what is skipped behind a prefix.
     Nothing,
     /// A space.
     Space,
@@ -34,14 +53,18 @@ pub enum Command {
     /// `\begingroup` and `\endgroup`.
     BeginSemiSimple,
     EndSemiSimple,
+    /// A prefix of the command behind it.
+    Prefix(Prefix),
+    /// `\chardef` or its kin and the name that it defines.
+    Define(Place, Shorthand),
     /// An assignment.
     Assign(Assignment),
     /// `\kern`, in sp.
-    Kern(i32),
+    Sized(SizeKind, i32),
     /// `\vrule`.
-    Vrule(Rule),
+    Rule(RuleKind, Rule),
     /// `\hbox` and its begin-group token, with what becomes of the box.
-    BeginBox(BoxContext),
+    BeginBox(BoxKind, BoxContext),
     /// `\end`.
     End,
 }

@@ -1,15 +1,28 @@
-use Rattle.std.proofs.Common.{◌≡◌, ◌∷◌, ◌++◌, [], List, refl, rules}
-use Rattle.tx_seen.specs.declared.seen.Seen.{Seen}
-use Rattle.tx_main.specs.declared.scans.Taken.TheVariants.{More}
-use Rattle.tx_main.proofs.Prefixes.{taken-fits, taken-more}
+use Rattle.std.proofs.Common.{◌∙◌, List, ap, refl}
+use Rattle.tx_eqtb.specs.Quantities.{value_in}
+use Rattle.tx_pending.specs.Elements.{with_tokens}
+use Rattle.tx_seen.specs.declared.item.Item.{Item}
+use Rattle.tx_seen.specs.Readings.{last}
+use Rattle.tx_main.specs.Taken.{joined}
+use Rattle.tx_main.specs.Begun.{Begun}
+use Rattle.tx_main.specs.Turns.{given_back}
 use Rattle.tx_main.proofs.command.CommandScan.feed.Goals as goal
 
-pub returns-else-is_err : goal.returns-else-is_err
-returns-else-is_err c =
-    let pushed : c.push-pushed.new.self ≡ c.self.inside.taken ++ c.args.token ∷ [] = search rules in
-    let fits = rw c.in-Ok-More.field-0-is at c.in-Ok-More.ensures in
+pub returns-in-Ok-More : goal.returns-in-Ok-More
+returns-in-Ok-More c =
+    let settled = rw c.in-Ok-More.field-0-is at c.in-Ok-More.ensures in
+    let begun : List Item → Begun = λ taken. record { mode = c.self.inside.mode; head = c.self.inside.head; taken = taken } in
+    rw (← c.self.view_is) ((c.in-Ok-More.field-0-0, settled.0), (ap begun settled.1.0, refl))
+
+pub returns-in_ok-given-in-Ok-Done : goal.returns-in_ok-given-in-Ok-Done
+returns-in_ok-given-in-Ok-Done c =
+    let settled = rw c.in-Ok-Done.field-0-is at c.in-Ok-Done.ensures in
+    let items : List Item = joined (value_in c.args.table.now) c.self.inside.mode c.self.inside.head c.self.inside.taken c.args.token in
+    let begun : List Item → Begun = λ taken. record { mode = c.self.inside.mode; head = c.self.inside.head; taken = taken } in
     rw (← c.self.view_is) (
-      taken-more c.self.inside.horizontal (c.self.inside.taken ++ c.args.token ∷ []) c.feed-fed.new.self
-          (taken-fits c.self.inside.horizontal c.self.inside.taken c.self.inside.stage c.feed-fed.new.self c.args.token More c.self.invariant fits),
-      rw pushed refl,
+      last c.in-Ok-Done.back items,
+      (settled.0, (ap begun c.restart.ensures.taken, c.in_ok-given-in-Ok-Done.ensures ∙ ap (λ (taken : List Item). with_tokens c.args.input.now (given_back (last c.in-Ok-Done.back taken))) settled.1)),
     )
+
+pub returns-in-Ok-Wrong : goal.returns-in-Ok-Wrong
+returns-in-Ok-Wrong c = rw (← c.self.view_is) (rw c.in-Ok-Wrong.field-0-is at c.in-Ok-Wrong.ensures)

@@ -1,0 +1,85 @@
+-- TeX's state is plain data: codes by which two states are told apart.
+use Rattle.std.specs.Prelude.{◌≡◌, ℕ, ℤ, Bool, List, Option, ◌⊎◌, refl}
+use Rattle.std.proofs.Common.{inl, inr}
+use Rattle.std.specs.Coded.{Coded, code_by, coded×, coded⊎, coded_ℕ, coded_ℤ, coded_bool, coded_list, coded_option}
+use Rattle.tx_char.specs.declared.tokens.Token.{Token}
+use Rattle.tx_char.specs.contracts.tokens.Token as token
+use Rattle.tx_seen.specs.declared.item.Item.{Item}
+use Rattle.tx_seen.specs.contracts.item.Item as item
+use Rattle.tx_pending.specs.Elements.{Element, Given, Mark, Unread, Input}
+use Rattle.tx_eqtb.specs.declared.eqtb.Eqtb.{Eqtb}
+use Rattle.tx_eqtb.specs.contracts.eqtb.Eqtb as eqtb
+use Rattle.tx_lex.specs.declared.types.ReadState.{ReadState}
+use Rattle.tx_lex.specs.contracts.types.ReadState as read_state
+use Rattle.tx_machine.specs.declared.types.AskKind.{AskKind}
+use Rattle.tx_machine.specs.contracts.types.AskKind as ask_kind
+use Rattle.tx_node.specs.Items.{Item as ListItem}
+use Rattle.tx_node.specs.Codes.{item_code}
+use Rattle.tx_prim.specs.declared.modes.Mode.{Mode}
+use Rattle.tx_prim.specs.contracts.modes.Mode as mode
+use Rattle.tx_main.specs.declared.parts.Due.{Due}
+use Rattle.tx_main.specs.contracts.parts.Due as due
+use Rattle.tx_main.specs.declared.parts.OpenBox.{OpenBox}
+use Rattle.tx_main.specs.contracts.parts.OpenBox as open_box
+use Rattle.tx_main.specs.declared.types.Head.{Head}
+use Rattle.tx_main.specs.contracts.types.Head as head
+use Rattle.tx_main.specs.State.{TexState, Meaning, Runs, Waits, Stops}
+
+-- elements of the pending input
+abbrev element_parts : Element → Token ⊎ (ℕ ⊎ (List ℕ × ReadState))
+element_parts (Given t) = inl t
+element_parts Mark = inr (inl 0)
+element_parts (Unread rest state) = inr (inr (rest, state))
+
+abbrev element_of : Token ⊎ (ℕ ⊎ (List ℕ × ReadState)) → Element
+element_of (inl t) = Given t
+element_of (inr (inl n)) = Mark
+element_of (inr (inr p)) = Unread p.0 p.1
+
+pub element_back : (x : Element) → element_of (element_parts x) ≡ x
+element_back (Given t) = refl
+element_back Mark = refl
+element_back (Unread rest state) = refl
+
+abbrev element_code : Coded Element
+element_code = code_by (Token ⊎ (ℕ ⊎ (List ℕ × ReadState))) (coded⊎ token.the_row.coded (coded⊎ coded_ℕ (coded× (coded_list coded_ℕ) read_state.the_row.coded))) element_parts element_of element_back
+
+abbrev input_code : Coded Input
+input_code = code_by (List Element × Bool) (coded× (coded_list element_code) coded_bool) (λ i. (i.elements, i.closing)) (λ p. record { elements = p.0; closing = p.1 }) (λ _. refl)
+
+abbrev state_code : Coded TexState
+state_code = code_by
+    (List Due × (Input × (Head × (List Item × (Mode × (List ListItem × (List OpenBox × (Eqtb × Option ℤ))))))))
+    (coded× (coded_list due.the_row.coded) (coded× input_code (coded× head.the_row.coded (coded× (coded_list item.the_row.coded) (coded× mode.the_row.coded
+    (coded× (coded_list item_code) (coded× (coded_list open_box.the_row.coded) (coded× eqtb.the_row.coded (coded_option coded_ℤ)))))))))
+    (λ s. (s.due, (s.input, (s.head, (s.taken, (s.mode, (s.list, (s.boxes, (s.table, s.magnification)))))))))
+    (λ p. record {
+      due = p.0;
+      input = p.1.0;
+      head = p.1.1.0;
+      taken = p.1.1.1.0;
+      mode = p.1.1.1.1.0;
+      list = p.1.1.1.1.1.0;
+      boxes = p.1.1.1.1.1.1.0;
+      table = p.1.1.1.1.1.1.1.0;
+      magnification = p.1.1.1.1.1.1.1.1;
+    })
+    (λ _. refl)
+
+abbrev split : Meaning → TexState ⊎ ((AskKind × TexState) ⊎ ℕ)
+split (Runs s) = inl s
+split (Waits kind s) = inr (inl (kind, s))
+split Stops = inr (inr 0)
+
+abbrev join : TexState ⊎ ((AskKind × TexState) ⊎ ℕ) → Meaning
+join (inl s) = Runs s
+join (inr (inl p)) = Waits p.0 p.1
+join (inr (inr n)) = Stops
+
+pub join-split : (m : Meaning) → join (split m) ≡ m
+join-split (Runs s) = refl
+join-split (Waits kind s) = refl
+join-split Stops = refl
+
+abbrev pub meaning_code : Coded Meaning
+meaning_code = code_by (TexState ⊎ ((AskKind × TexState) ⊎ ℕ)) (coded⊎ state_code (coded⊎ (coded× ask_kind.the_row.coded state_code) coded_ℕ)) split join join-split

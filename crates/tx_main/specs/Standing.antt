@@ -1,0 +1,80 @@
+-- Whether a command may stand in a mode, before anything of it is read (TeX: The Program, section 1045).
+use Rattle.std.specs.Prelude.{Bool, true, false, not, ◌&&◌}
+use Rattle.tx_char.specs.declared.category.Cat.{Cat}
+use Rattle.tx_char.specs.declared.category.Cat.TheVariants as category
+use Rattle.tx_prim.specs.declared.modes.Mode.{Mode}
+use Rattle.tx_prim.specs.declared.modes.Mode.TheVariants as mode
+use Rattle.tx_prim.specs.declared.modes.Modes.{Modes}
+use Rattle.tx_prim.specs.declared.modes.Modes.TheVariants.{All, NotVertical, Math, Nowhere}
+use Rattle.tx_prim.specs.declared.modes.Standing.{Standing}
+use Rattle.tx_prim.specs.declared.modes.Standing.TheVariants.{Stands, BeginsParagraph, EndsParagraph, Refused}
+use Rattle.tx_prim.specs.declared.primitive.Primitive.{Primitive}
+use Rattle.tx_prim.specs.declared.primitive.Primitive.TheVariants as primitive
+use Rattle.tx_prim.specs.Modes.{standing}
+use Rattle.tx_prim.specs.Table.{modes_of}
+use Rattle.tx_seen.specs.declared.meaning.Meaning.{Meaning}
+use Rattle.tx_seen.specs.declared.meaning.Meaning.TheVariants as meaning
+
+-- in which modes a character may stand, by its category
+abbrev pub modes_of_category : Cat → Modes
+modes_of_category category.BeginGroup = All
+modes_of_category category.EndGroup = All
+modes_of_category category.AlignmentTab = All
+modes_of_category category.Space = All
+modes_of_category category.MathShift = NotVertical
+modes_of_category category.Letter = NotVertical
+modes_of_category category.Other = NotVertical
+modes_of_category category.Superscript = Math
+modes_of_category category.Subscript = Math
+modes_of_category category.Parameter = Nowhere
+modes_of_category category.Escape = Nowhere
+modes_of_category category.EndOfLine = Nowhere
+modes_of_category category.Ignored = Nowhere
+modes_of_category category.Active = Nowhere
+modes_of_category category.Comment = Nowhere
+modes_of_category category.Invalid = Nowhere
+
+-- in which modes a command may stand, by what its first token means
+abbrev pub modes_of_meaning : Meaning → Modes
+modes_of_meaning meaning.Undefined = All
+modes_of_meaning (meaning.Command command) = modes_of command
+modes_of_meaning (meaning.Character code category) = modes_of_category category
+modes_of_meaning (meaning.CharacterNumber code) = NotVertical
+modes_of_meaning (meaning.MathNumber number) = Math
+modes_of_meaning (meaning.CountRegister number) = All
+modes_of_meaning (meaning.DimenRegister number) = All
+
+-- whether a primitive of a family adds to the list in which it stands
+abbrev pub adds_to_list : Primitive → Bool
+adds_to_list primitive.Relax = false
+adds_to_list primitive.Par = false
+adds_to_list primitive.BeginGroup = false
+adds_to_list primitive.EndGroup = false
+adds_to_list (primitive.Prefix prefix) = false
+adds_to_list primitive.Let = false
+adds_to_list (primitive.Shorthand kind) = false
+adds_to_list (primitive.Arithmetic operation) = false
+adds_to_list (primitive.Numbered kind) = false
+adds_to_list (primitive.Integer parameter) = false
+adds_to_list (primitive.Dimension parameter) = false
+adds_to_list (primitive.Sized kind) = true
+adds_to_list (primitive.Rule kind) = true
+adds_to_list (primitive.Box kind) = true
+adds_to_list primitive.Shipout = false
+adds_to_list primitive.End = false
+
+-- nothing can be added to the pages' list yet
+abbrev pub is_there : Mode → Meaning → Bool
+is_there mode.Vertical (meaning.Command command) = not (adds_to_list command)
+is_there _ _ = true
+
+-- no command can begin or end a paragraph yet
+abbrev pub stands : Standing → Bool
+stands Stands = true
+stands BeginsParagraph = false
+stands EndsParagraph = false
+stands Refused = false
+
+-- whether a command whose first token means this may stand in the mode
+abbrev pub may_stand : Mode → Meaning → Bool
+may_stand mode meaning = stands (standing (modes_of_meaning meaning) mode) && is_there mode meaning
