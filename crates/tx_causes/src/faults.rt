@@ -78,6 +78,25 @@ fn saved_text(alloc: Global, saved: &[Bytes]) -> Result<String, AllocError> {
     }
 }
 
+/// Why a file couldn't be saved, or standard output written, and what was saved before.
+fn fault_cause(
+    alloc: Global,
+    name: &Option<Bytes>,
+    error: &io::Error,
+    before: &str,
+) -> Result<String, AllocError> {
+    match name {
+        Some(name) => {
+            let why = save_text(alloc, error)?;
+            format!(in alloc; "{}: {why}; {before}", name_text(name))
+        }
+        None => {
+            let why = error_text(alloc, error)?;
+            format!(in alloc; "standard output: {why}; {before}")
+        }
+    }
+}
+
 /// Why something couldn't be put out, and what was saved before.
 pub fn put_cause(
     alloc: Global,
@@ -85,13 +104,8 @@ pub fn put_cause(
     saved: &[Bytes],
 ) -> Result<String, AllocError> {
     let before = saved_text(alloc, saved)?;
-    let Some(Cause { name, error }) = cause else {
-        return format!(in alloc; "something couldn't be put out; {before}");
-    };
-    let Some(name) = name else {
-        let why = error_text(alloc, error)?;
-        return format!(in alloc; "standard output: {why}; {before}");
-    };
-    let why = save_text(alloc, error)?;
-    format!(in alloc; "{}: {why}; {before}", name_text(name))
+    match cause {
+        Some(Cause { name, error }) => fault_cause(alloc, name, error, before.as_str()),
+        None => format!(in alloc; "something couldn't be put out; {before}"),
+    }
 }

@@ -2,14 +2,13 @@
 //! sink keep, and by a second look at words, script and files. Nothing here is part of what is proved of a call but that
 //! it is safe: the words are tested, by `tools/check-program`.
 //!
-//! Read `errors` and `ends` (how a run ended), `outside` (edits), `dates`, `names` and `refusals` (words), `scripts`,
-//! `faults` (the system's errors), `memory`, and then `causes` and `telling`.
+//! Read `ends` (how a run ended), `outside` (edits), `dates`, `names` and `refusals` (words), `scripts`, `faults` (the
+//! system's errors), `memory`, and then `causes` and `telling`.
 #![tactic(auto)]
 
 pub mod causes;
 mod dates;
 mod ends;
-mod errors;
 mod faults;
 mod memory;
 mod names;

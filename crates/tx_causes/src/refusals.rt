@@ -149,6 +149,20 @@ fn fault(
     }
 }
 
+/// What is wrong with the words behind `help`, where they begin with that.
+fn help_cause(alloc: Global, words: &[String]) -> Result<Option<String>, AllocError> {
+    match words {
+        [first, command] if first.as_str() == "help" => {
+            let cause = format!(in alloc; "{}: no such command, it is run", command.as_str())?;
+            Ok(Some(cause))
+        }
+        [first, ..] if first.as_str() == "help" => {
+            Ok(Some("help: it takes one command".to_string(alloc)?))
+        }
+        _ => Ok(None),
+    }
+}
+
 /// Which help belongs to the words.
 fn help_for(words: &[String]) -> &'static str {
     match words {
@@ -164,7 +178,11 @@ pub fn words_cause(
     parsed: Result<&ArgMatches<'_>, &Error>,
 ) -> Result<String, AllocError> {
     let help = help_for(words);
-    match fault(alloc, parsed)? {
+    let fault = match help_cause(alloc, words)? {
+        Some(cause) => Some(cause),
+        None => fault(alloc, parsed)?,
+    };
+    match fault {
         Some(fault) => format!(in alloc; "{fault}, see {help}"),
         None => format!(in alloc; "the words are refused, see {help}"),
     }

@@ -12,7 +12,7 @@ use Rattle.clap.specs.declared.error.kind.ErrorKind.{ErrorKind}
 use Rattle.clap.specs.declared.error.kind.ErrorKind.TheVariants as kind
 use Rattle.vortex_cmd.specs.declared.given.Asked.{Asked}
 use Rattle.vortex_cmd.specs.CommandLine.{command_line, faults, subcommand}
-use Rattle.vortex_cmd.specs.Words.{asked, asked_instead, subcommand_asked, words_meant}
+use Rattle.vortex_cmd.specs.Words.{asked, asked_instead, subcommand_asked, call_meant}
 use Rattle.vortex_cmd.proofs.ClearFaults.{IsClear, nothing, one, stray, clear_faults}
 
 if_err : {T E : Type 0} (r : Result T E) (P : T → Type 0) → IsErr r → IfOk r P
@@ -49,22 +49,22 @@ wrong app words e k is of some =
 
 -- the words were taken
 pub asked_taken : (app : App) (words : List (List ℕ)) (m : ArgMatches) → app ≡ command_line → faults words ≡ [] → HasMatchesOf app words m
-    → subcommand_asked (option_map (λ named. named.1) (subcommand_rows_of m)) ≡ words_meant words
+    → subcommand_asked (option_map (λ named. named.1) (subcommand_rows_of m)) ≡ call_meant words
 unfolding subcommand
 asked_taken app words m is none has =
     let found : subcommand_rows_of m ≡ subcommand words = (has (ap is_simple is ∙ one_level)).1 ∙ ap (λ a. subcommand_of a words) is in
-    ap (λ f. subcommand_asked (option_map (λ named. named.1) f)) found ∙ sym (ap (λ kinds. asked kinds (subcommand words)) none)
+    ap (λ f. subcommand_asked (option_map (λ named. named.1) f)) found ∙ sym (ap (λ kinds. asked words kinds (subcommand words)) none)
 
-instead : (kinds : Kinds) (k : ErrorKind) (found : Option (List ℕ × List Row)) → IsClear kinds → IsAmong k kinds → asked_instead k ≡ asked kinds found
-instead kinds k found nothing among = absurd among
-instead kinds k found (one x) (inl is) = ap asked_instead is
-instead kinds k found (one x) (inr never) = absurd never
-instead kinds k found stray (inl is) = ap asked_instead is
-instead kinds k found stray (inr (inl is)) = ap asked_instead is
-instead kinds k found stray (inr (inr never)) = absurd never
+instead : (words : List (List ℕ)) (kinds : Kinds) (k : ErrorKind) (found : Option (List ℕ × List Row)) → IsClear kinds → IsAmong k kinds → asked_instead words k ≡ asked words kinds found
+instead words kinds k found nothing among = absurd among
+instead words kinds k found (one x) (inl is) = ap (asked_instead words) is
+instead words kinds k found (one x) (inr never) = absurd never
+instead words kinds k found stray (inl is) = ap (asked_instead words) is
+instead words kinds k found stray (inr (inl is)) = ap (asked_instead words) is
+instead words kinds k found stray (inr (inr never)) = absurd never
 
 -- or they weren't, or memory was wanting
-pub asked_refused : (words : List (List ℕ)) (k : ErrorKind) → (k ≡ kind.OutOfMemory) ⊎ IsAmong k (faults words) → (r : Result Asked AllocError) → (k ≡ kind.OutOfMemory → IsErr r) → IfOk r (λ a. a ≡ asked_instead k)
-    → IfOk r (λ a. a ≡ words_meant words)
+pub asked_refused : (words : List (List ℕ)) (k : ErrorKind) → (k ≡ kind.OutOfMemory) ⊎ IsAmong k (faults words) → (r : Result Asked AllocError) → (k ≡ kind.OutOfMemory → IsErr r) → IfOk r (λ a. a ≡ asked_instead words k)
+    → IfOk r (λ a. a ≡ call_meant words)
 asked_refused words k (inl memory) r err ok = if_err r _ (err memory)
-asked_refused words k (inr among) r err ok = IfOk-weaker r _ _ (λ a is. is ∙ instead (faults words) k (subcommand words) (clear words) among) ok
+asked_refused words k (inr among) r err ok = IfOk-weaker r _ _ (λ a is. is ∙ instead words (faults words) k (subcommand words) (clear words) among) ok

@@ -1,5 +1,5 @@
 -- The turns of a call are bounded by its words and its script.
-use Rattle.std.proofs.Common.{◌≡◌, ℕ, zero, suc, ◌+◌, ◌*◌, ◌≤◌, Bool, true, false, cond, List, [], ◌∷◌, length, drop, refl, sym, ap, arith}
+use Rattle.std.proofs.Common.{◌≡◌, ℕ, zero, suc, ◌+◌, ◌*◌, ◌≤◌, Bool, true, false, cond, List, [], ◌∷◌, length, refl, sym, ap, arith}
 use Rattle.std.proofs.Math.Nat.{mul-le-mul_right}
 use Rattle.std.specs.FinMap.{empty}
 use Rattle.tx_bytes.specs.Files.{Files}
@@ -8,15 +8,15 @@ use Rattle.tx_files.specs.declared.edit.Edit.{Edit as FileEdit}
 use Rattle.tx_machine.specs.Machine.{Formatter, IsLawful}
 use Rattle.tx_machine.proofs.Running.{turns-run}
 use Rattle.tx_machine.proofs.PageCounts.{pages-run_from}
-use Rattle.tx_checkpoint.specs.Resume.{resume, stands}
-use Rattle.tx_checkpoint.specs.Rows.{PageRow, rows_in, turns_of, all_turns}
+use Rattle.tx_checkpoint.specs.Rows.{all_turns}
 use Rattle.tx_checkpoint.proofs.Standing.{rows-tell}
 use Rattle.tx_script.specs.declared.command.Command.{Command}
 use Rattle.tx_script.specs.declared.command.Command.TheVariants.{Edit, Save as SaveAs}
 use Rattle.tx_session.specs.Held.{Held, fresh, rows_of, edited_session}
 use Rattle.tx_session.specs.Report.{work, turns_of_edit}
+use Rattle.tx_session.proofs.Reusing.{work-least}
 use Rattle.vortex_cmd.specs.declared.given.Asked.{Asked}
-use Rattle.vortex_cmd.specs.declared.given.Asked.TheVariants.{Run, Help, Version, Nothing}
+use Rattle.vortex_cmd.specs.declared.given.Asked.TheVariants.{Run, Help, RunHelp, Version, Nothing}
 use Rattle.vortex_cmd.specs.declared.scripted.Scripted.{Scripted}
 use Rattle.vortex_cmd.specs.declared.scripted.Scripted.TheVariants.{Plays, Refused}
 use Rattle.vortex_cmd.specs.Replay.{Moment, opened, next_moment, turns_from}
@@ -27,12 +27,6 @@ le_trans a b c first second = omega arith
 
 both_most : (a b c d : ℕ) → a ≤ c → b ≤ d → a + b ≤ c + d
 both_most a b c d first second = omega arith
-
-turns_of-drop : {S : Type 0} (pages : List (PageRow S)) (k : ℕ) → turns_of (drop k pages) ≤ turns_of pages
-turns_of-drop [] zero = omega arith
-turns_of-drop [] (suc k) = omega arith
-turns_of-drop (page ∷ pages) zero = omega arith
-turns_of-drop (page ∷ pages) (suc k) = let less : turns_of (drop k pages) ≤ turns_of pages = turns_of-drop pages k in omega arith
 
 -- what a run of this document may take
 abbrev most_of : Held → ℕ
@@ -51,17 +45,9 @@ module _ {S : Type 0} (m : Formatter S) (lawful : IsLawful m) where
       omega (arith, same, fresh-most held)
 
   work-most : (held : Held) (e : FileEdit) → work m held e ≤ most_of held
-  work-most held e = go (stands (rows_of m held) e)
-    where
-      k : ℕ
-      k = resume (rows_in (rows_of m held).pages) e
-
-      go : (b : Bool) → cond b 0 (turns_of (drop k (rows_of m (edited_session held e)).pages) + (rows_of m (edited_session held e)).last.turns) ≤ most_of held
-      go true = omega arith
-      go false =
-          le_trans _ _ (most_of held)
-          (both_most _ _ _ (rows_of m (edited_session held e)).last.turns (turns_of-drop (rows_of m (edited_session held e)).pages k) (omega arith))
-          (rows-most (edited_session held e))
+  work-most held e =
+      le_trans (work m held e) (all_turns (rows_of m (edited_session held e))) (most_of held)
+      (work-least m e held.limits.pages (rows_of m held) (rows_of m (edited_session held e))) (rows-most (edited_session held e))
 
   edit-most : (held : Held) (e : FileEdit) → turns_of_edit m held e ≤ most_of held
   edit-most held e = go (fits_in held.files e)
@@ -81,5 +67,6 @@ module _ {S : Type 0} (m : Formatter S) (lawful : IsLawful m) where
       both_most _ _ _ _ (fresh-most d) (commands-most (opened d) commands)
   turns-most (Run given) (Refused place rule) held = omega arith
   turns-most Help scripted held = omega arith
+  turns-most RunHelp scripted held = omega arith
   turns-most Version scripted held = omega arith
   turns-most Nothing scripted held = omega arith

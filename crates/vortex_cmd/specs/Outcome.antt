@@ -12,11 +12,11 @@ use Rattle.tx_script.specs.declared.command.Command.TheVariants.{Edit, Save as S
 use Rattle.tx_session.specs.Held.{Held, fresh}
 use Rattle.vortex_cmd.specs.declared.given.Given.{Given}
 use Rattle.vortex_cmd.specs.declared.given.Asked.{Asked}
-use Rattle.vortex_cmd.specs.declared.given.Asked.TheVariants.{Run, Help, Version, Nothing}
+use Rattle.vortex_cmd.specs.declared.given.Asked.TheVariants.{Run, Help, RunHelp, Version, Nothing}
 use Rattle.vortex_cmd.specs.declared.scripted.Scripted.{Scripted}
 use Rattle.vortex_cmd.specs.declared.scripted.Scripted.TheVariants.{Plays, Refused}
 use Rattle.vortex_cmd.specs.Words.{words_meant}
-use Rattle.vortex_cmd.specs.Lines.{run_line, help_text, version_line, refusal_line, script_refusal_line}
+use Rattle.vortex_cmd.specs.Lines.{run_line, help_text, run_help_text, version_line, refusal_line, script_refusal_line}
 use Rattle.vortex_cmd.specs.Pieces.{saved_pieces}
 use Rattle.vortex_cmd.specs.Replay.{Moment, opened, moment_after, pieces_from, turns_from, refusal_at, status_after, IsRefused}
 
@@ -71,6 +71,7 @@ scripted_outcome m given (Refused place rule) held = saying (script_refusal_line
 abbrev pub asked_outcome : {S : Type 0} → Formatter S → Asked → Scripted → Files → Outcome
 asked_outcome m (Run given) scripted held = scripted_outcome m given scripted held
 asked_outcome m Help scripted held = saying help_text 0
+asked_outcome m RunHelp scripted held = saying run_help_text 0
 asked_outcome m Version scripted held = saying version_line 0
 asked_outcome m Nothing scripted held = saying refusal_line 2
 

@@ -1,6 +1,7 @@
 -- What the words of a call ask for.
-use Rattle.std.specs.Prelude.{◌≡◌, ℕ, true, List, [], ◌∷◌, map, Option, Some, None, option_map, codes, String, string_bytes}
+use Rattle.std.specs.Prelude.{◌≡◌, ℕ, Bool, true, false, if◌then◌else◌, List, [], ◌∷◌, map, Option, Some, None, option_map, codes, String, string_bytes}
 use Rattle.std.specs.Global.{Global}
+use Rattle.std.specs.Str.{bytes_eq}
 use Rattle.clap.specs.Words.{Row, Kinds, all_of, first_of}
 use Rattle.clap.specs.declared.error.kind.ErrorKind.{ErrorKind}
 use Rattle.clap.specs.declared.error.kind.ErrorKind.TheVariants.{DisplayHelp, DisplayVersion}
@@ -9,7 +10,7 @@ use Rattle.tx_machine.specs.declared.types.Date.{Date}
 use Rattle.tx_machine.specs.declared.types.Limits.{Limits}
 use Rattle.vortex_cmd.specs.declared.given.Given.{Given}
 use Rattle.vortex_cmd.specs.declared.given.Asked.{Asked}
-use Rattle.vortex_cmd.specs.declared.given.Asked.TheVariants.{Run, Help, Version, Nothing}
+use Rattle.vortex_cmd.specs.declared.given.Asked.TheVariants.{Run, Help, RunHelp, Version, Nothing}
 use Rattle.vortex_cmd.specs.CommandLine.{faults, subcommand}
 use Rattle.vortex_cmd.specs.Values.{date_meant, limit_meant, named, are_distinct, all_named}
 
@@ -90,19 +91,42 @@ abbrev pub subcommand_asked : Option (List Row) → Asked
 subcommand_asked None = Nothing
 subcommand_asked (Some rows) = run_asked (run_given rows)
 
--- where `clap` doesn't take the words, that may be since they ask for help or for the version
-abbrev pub asked_instead : ErrorKind → Asked
-asked_instead DisplayHelp = Help
-asked_instead DisplayVersion = Version
-asked_instead _ = Nothing
+-- the first word is this one
+abbrev pub begins_with : List ℕ → List (List ℕ) → Bool
+begins_with word [] = false
+begins_with word (first ∷ _) = bytes_eq first word
 
-abbrev pub asked : Kinds → Option (List ℕ × List Row) → Asked
-asked [] found = subcommand_asked (option_map (λ named. named.1) found)
-asked (kind ∷ _) found = asked_instead kind
+-- where `clap` finds that help is asked for, it is that of `run` behind this word
+abbrev pub help_shown : List (List ℕ) → Asked
+help_shown words = if begins_with (codes "run") words then RunHelp else Help
+
+-- where `clap` doesn't take the words, that may be since they ask for help or for the version
+abbrev pub asked_instead : List (List ℕ) → ErrorKind → Asked
+asked_instead words DisplayHelp = help_shown words
+asked_instead words DisplayVersion = Version
+asked_instead words _ = Nothing
+
+abbrev pub asked : List (List ℕ) → Kinds → Option (List ℕ × List Row) → Asked
+asked words [] found = subcommand_asked (option_map (λ named. named.1) found)
+asked words (kind ∷ _) found = asked_instead words kind
+
+-- what words ask for that are a call by `clap`
+abbrev pub call_meant : List (List ℕ) → Asked
+call_meant words = asked words (faults words) (subcommand words)
+
+-- help of a command
+abbrev pub help_of : List ℕ → Asked
+help_of command = if bytes_eq command (codes "run") then RunHelp else if bytes_eq command (codes "help") then Help else Nothing
+
+-- `help`, or `help` and one command
+abbrev pub help_meant : List (List ℕ) → Asked
+help_meant (_ ∷ []) = Help
+help_meant (_ ∷ command ∷ []) = help_of command
+help_meant _ = Nothing
 
 -- what the words ask for
 abbrev pub words_meant : List (List ℕ) → Asked
-words_meant words = asked (faults words) (subcommand words)
+words_meant words = if begins_with (codes "help") words then help_meant words else call_meant words
 
 -- the bytes of each word
 abbrev pub texts : List (String Global) → List (List ℕ)

@@ -64,8 +64,10 @@ pub struct Given {
 pub enum Asked {
     /// A run.
     Run(Given),
-    /// The text that says how to call.
+    /// The text that says what the program is, and its commands.
     Help,
+    /// The text that says how `run` is called.
+    RunHelp,
     /// The version.
     Version,
     /// Nothing that there is: the words are refused.

@@ -1,6 +1,6 @@
 ghost use Rattle.std.specs.Prelude.{◌≡◌, ◌++◌, OnOk, IfOk};
 ghost use Rattle.std.specs.Fmt.{decimal};
-ghost use Rattle.vortex_cmd.specs.Lines.{place_text, end_text, run_line, edit_text, report_text, edit_line, outside_line, memory_line, script_refusal_line, help_text, version_line};
+ghost use Rattle.vortex_cmd.specs.Lines.{place_text, end_text, run_line, edit_text, report_text, edit_line, outside_line, memory_line, script_refusal_line, help_text, run_help_text, version_line};
 
 use std::alloc::{AllocError, Global};
 use tx_bytes::Bytes;
@@ -144,13 +144,32 @@ pub fn version_line() -> &'static [u8]
     b"vortex 0.1.0\n"
 }
 
-/// What `--help` says.
+/// What `help` says: what the program is, its commands, and its statuses.
 #[tactic(auto, unfolding(crate::specs::Lines::help_text))]
 pub fn help_text() -> &'static [u8]
     ensures { result.now ≡ help_text }
 {
     b"vortex: TeX, written as DVI, and kept ready for edits.\n
-Usage: vortex run --date Y-M-D-T --out NAME [OPTIONS] MAIN [FILE..]\n
+Usage: vortex COMMAND\n
+  run             formats a document, and again after each edit of a script
+  help [COMMAND]  says this, or how a command is called
+  -h, --help      says this, and behind a command how that is called
+  -V, --version   says the version\n
+For example, in the folder examples/edits:\n
+  vortex run --date 2024-5-17-570 --out a --script edits main.tex\n
+Statuses: 0 all is done; 1 all is done, but a run ended by an error or a limit;
+2 the words or the script are refused; 3 a file can't be read; 4 something can't
+be said or saved; 5 an edit goes past the end of its file; 6 no memory is left.
+What went wrong, and what would mend it, is told on standard error.
+"
+}
+
+/// What `help run` says: how `run` is called.
+#[tactic(auto, unfolding(crate::specs::Lines::run_help_text))]
+pub fn run_help_text() -> &'static [u8]
+    ensures { result.now ≡ run_help_text }
+{
+    b"Usage: vortex run --date Y-M-D-T --out NAME [OPTIONS] MAIN [FILE..]\n
 Formats MAIN, says how many pages it has and how it ended, carries out the edits
 of a script, and saves the pages as NAME.dvi, if there is one, and the transcript
 as NAME.log. Files are those of the folder in which it is called; a name has 1 to
@@ -161,8 +180,7 @@ as NAME.log. Files are those of the folder in which it is called; a name has 1 t
   --budget N      what a page may cost, in steps of TeX, 1 to 1000000000 (1000000)
   --pages N       a run ends when it has N pages, 1 to 10000 (1000)
   --keep N        1 to 10000 (10000); it has no effect, all states are kept
-  -h, --help      says this
-  -V, --version   says the version\n
+  -h, --help      says this\n
 For example, in the folder examples/edits:\n
   vortex run --date 2024-5-17-570 --out a --script edits main.tex\n
 A script that takes 2 bytes out of main.tex behind the first 99, puts 3 others
@@ -170,9 +188,6 @@ there, and saves what there is then as b.dvi and b.log:\n
   edit 99 2 3 main.tex
   100
   save b\n
-Statuses: 0 all is done; 1 all is done, but a run ended by an error or a limit;
-2 the words or the script are refused; 3 a file can't be read; 4 something can't
-be said or saved; 5 an edit goes past the end of its file; 6 no memory is left.
-What went wrong, and what would mend it, is told on standard error.
+The statuses are those that vortex --help tells.
 "
 }

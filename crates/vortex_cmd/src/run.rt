@@ -11,7 +11,7 @@ ghost use Rattle.vortex_cmd.specs.declared.given.Asked.TheVariants.{Run, Nothing
 
 use crate::fetching::fetch_files;
 use crate::given::{Asked, Given};
-use crate::lines::{help_text, script_refusal_line, version_line};
+use crate::lines::{help_text, run_help_text, script_refusal_line, version_line};
 use crate::outputs::{save_session, say, say_run};
 use crate::replay::replay;
 use crate::scripted::Scripted;
@@ -182,6 +182,7 @@ pub fn run_words<M: Machine + Drop, S: Source, K: Sink>(
     match read_words(alloc, words)? {
         Asked::Run(given) => run_given(alloc, machine, &given, source, sink, steps),
         Asked::Help => say_only(sink, help_text(), 0),
+        Asked::RunHelp => say_only(sink, run_help_text(), 0),
         Asked::Version => say_only(sink, version_line(), 0),
         Asked::Nothing => say_only(sink, b"words refused\n", 2),
     }

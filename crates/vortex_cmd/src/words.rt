@@ -3,7 +3,7 @@ ghost use Rattle.clap.specs.Words.{rows_of, found_of, subcommand_rows_of, first_
 ghost use Rattle.tx_machine.specs.Ranges.{IsDate, AreLimits};
 ghost use Rattle.clap.specs.declared.error.kind.ErrorKind.TheVariants.{OutOfMemory};
 ghost use Rattle.vortex_cmd.specs.Values.{are_distinct};
-ghost use Rattle.vortex_cmd.specs.Words.{IsWithin, IsAskedWithin, date_given, name_given, limit_given, limits_given, script_given, files_given, given_of, run_given, run_asked, subcommand_asked, asked_instead, words_meant, texts};
+ghost use Rattle.vortex_cmd.specs.Words.{IsWithin, IsAskedWithin, date_given, name_given, limit_given, limits_given, script_given, files_given, given_of, run_given, run_asked, subcommand_asked, begins_with, help_shown, asked_instead, call_meant, help_of, help_meant, words_meant, texts};
 
 use crate::command::command_line;
 use crate::given::{Asked, Given, Names};
@@ -153,17 +153,76 @@ fn subcommand_asked(alloc: Global, matches: &ArgMatches<'_>) -> Result<Asked, Al
     }
 }
 
+/// Whether the first word is this one.
+fn begins_with(words: &[String], word: &str) -> bool
+    ensures { result ≡ begins_with word.now (texts words.now) }
+{
+    match words.first() {
+        Some(first) => first.as_str() == word,
+        None => false,
+    }
+}
+
+/// Which help is asked for by an option.
+fn help_shown(words: &[String]) -> Asked
+    ensures asked { result ≡ help_shown (texts words.now) }
+    ensures within { IsAskedWithin result }
+{
+    if begins_with(words, "run") {
+        Asked::RunHelp
+    } else {
+        Asked::Help
+    }
+}
+
 /// What words ask for that `clap` doesn't take.
-fn asked_instead(kind: ErrorKind) -> Result<Asked, AllocError>
-    ensures asked { IfOk result (λ asked. asked ≡ asked_instead kind) }
+fn asked_instead(words: &[String], kind: ErrorKind) -> Result<Asked, AllocError>
+    ensures asked { IfOk result (λ asked. asked ≡ asked_instead (texts words.now) kind) }
     ensures memory { kind ≡ OutOfMemory → IsErr result }
     ensures within { IfOk result IsAskedWithin }
 {
     match kind {
-        ErrorKind::DisplayHelp => Ok(Asked::Help),
+        ErrorKind::DisplayHelp => Ok(help_shown(words)),
         ErrorKind::DisplayVersion => Ok(Asked::Version),
         ErrorKind::OutOfMemory => Err(AllocError),
         _ => Ok(Asked::Nothing),
+    }
+}
+
+/// What words ask for that are a call by `clap`.
+fn read_call(alloc: Global, words: &[String]) -> Result<Asked, AllocError>
+    ensures asked { IfOk result (λ asked. asked ≡ call_meant (texts words.now)) }
+    ensures within { IfOk result IsAskedWithin }
+{
+    match command_line(alloc)?.try_get_matches_from(words) {
+        Ok(matches) => subcommand_asked(alloc, &matches),
+        Err(error) => asked_instead(words, error.kind()),
+    }
+}
+
+/// Help of a command.
+fn help_of(command: &str) -> Asked
+    ensures asked { result ≡ help_of command.now }
+    ensures within { IsAskedWithin result }
+{
+    if command == "run" {
+        Asked::RunHelp
+    } else if command == "help" {
+        Asked::Help
+    } else {
+        Asked::Nothing
+    }
+}
+
+/// What is asked for by `help` and the words behind it.
+fn read_help(words: &[String]) -> Asked
+    ensures asked { result ≡ help_meant (texts words.now) }
+    ensures within { IsAskedWithin result }
+{
+    match words {
+        [_] => Asked::Help,
+        [_, command] => help_of(command.as_str()),
+        _ => Asked::Nothing,
     }
 }
 
@@ -172,8 +231,9 @@ pub fn read_words(alloc: Global, words: &[String]) -> Result<Asked, AllocError>
     ensures asked { IfOk result (λ asked. asked ≡ words_meant (texts words.now)) }
     ensures within { IfOk result IsAskedWithin }
 {
-    match command_line(alloc)?.try_get_matches_from(words) {
-        Ok(matches) => subcommand_asked(alloc, &matches),
-        Err(error) => asked_instead(error.kind()),
+    if begins_with(words, "help") {
+        Ok(read_help(words))
+    } else {
+        read_call(alloc, words)
     }
 }

@@ -6,7 +6,7 @@ use Rattle.vortex_cmd.specs.Trouble.{Does}
 use Rattle.vortex_cmd.specs.Words.{script_asked, words_meant, texts}
 use Rattle.vortex_cmd.specs.declared.given.Asked.{Asked}
 use Rattle.vortex_cmd.specs.declared.trouble.Trouble.TheVariants.{Memory}
-use Rattle.vortex_cmd.specs.declared.given.Asked.TheVariants.{Run, Help, Version, Nothing}
+use Rattle.vortex_cmd.specs.declared.given.Asked.TheVariants.{Run, Help, RunHelp, Version, Nothing}
 use Rattle.vortex_cmd.proofs.Held.{for_any, does_nothing, of_words}
 use Rattle.vortex_cmd.proofs.run.run_words.Goals as goal
 
@@ -30,6 +30,13 @@ returns-in-Help-clause-does g c =
     of_words g.M.Machine.formatter (texts c.args.words.now) _ are
     (Unread (λ scripted. for_any _ (λ held. subst (λ (text : List ℕ). Does c.say_only.result (saying text 0) (g.K.Sink.output c.args.sink.now) (g.K.Sink.output c.say_only.new.sink) c.args.steps.now c.args.steps.now)
     c.help_text.ensures (c.say_only.ensures.does c.args.steps.now))))
+
+pub returns-in-RunHelp-clause-does : goal.returns-in-RunHelp-clause-does
+returns-in-RunHelp-clause-does g c =
+    let are : RunHelp ≡ words_meant (texts c.args.words.now) = search rules in
+    of_words g.M.Machine.formatter (texts c.args.words.now) _ are
+    (Unread (λ scripted. for_any _ (λ held. subst (λ (text : List ℕ). Does c.say_only-in-RunHelp.result (saying text 0) (g.K.Sink.output c.args.sink.now) (g.K.Sink.output c.say_only-in-RunHelp.new.sink) c.args.steps.now c.args.steps.now)
+    c.run_help_text.ensures (c.say_only-in-RunHelp.ensures.does c.args.steps.now))))
 
 pub returns-in-Version-clause-does : goal.returns-in-Version-clause-does
 returns-in-Version-clause-does g c =
