@@ -1,4 +1,5 @@
 //! Cases of tx_files.
+use crate::answers::append;
 use std::alloc::{AllocError, Global};
 use tx_bytes::Bytes;
 use tx_cases::{answered, bytes_of, first_word, malformed, text_of};
@@ -57,34 +58,59 @@ pub fn play(alloc: Global, lines: &str) -> Result<String, AllocError> {
         files: FileSet::new(alloc),
         seen: Seen::new(alloc),
     };
+    played(alloc, &mut desk, lines)
+}
+
+fn played(alloc: Global, desk: &mut Desk, lines: &str) -> Result<String, AllocError> {
     let mut text = String::new(alloc);
-    for line in lines.split('\n') {
-        let answer = step(alloc, &mut desk, line)?;
-        text.push_str(answer.as_str())?;
-        text.push('\n')?;
-    }
+    write_steps(alloc, &mut text, desk, lines)?;
     Ok(text)
+}
+
+fn write_steps(
+    alloc: Global,
+    text: &mut String,
+    desk: &mut Desk,
+    lines: &str,
+) -> Result<(), AllocError> {
+    for line in lines.split('\n') {
+        append(text, step(alloc, desk, line)?)?;
+    }
+    Ok(())
 }
 
 fn step(alloc: Global, desk: &mut Desk, line: &str) -> Result<String, AllocError> {
     let (word, rest) = first_word(line);
     let (name, rest) = first_word(rest);
-    let Some(name) = name_of(alloc, name)? else {
-        return malformed(alloc);
-    };
+    match name_of(alloc, name)? {
+        Some(name) => act(alloc, desk, word, &name, rest),
+        None => malformed(alloc),
+    }
+}
+
+fn act(
+    alloc: Global,
+    desk: &mut Desk,
+    word: &str,
+    name: &Name,
+    rest: &str,
+) -> Result<String, AllocError> {
     match word {
-        "put" => {
-            desk.files.put(name, bytes_of(alloc, rest)?)?;
-            answered(alloc, "put")
-        }
+        "put" => put(alloc, &mut desk.files, name, rest),
         "show" => shown(alloc, desk.files.get(name.as_slice())),
         "edit" => edit(alloc, &mut desk.files, name, rest),
         "try" => try_edit(alloc, &mut desk.files, name, rest),
-        "sees" => note(alloc, &mut desk.seen, &name, rest),
+        "sees" => note(alloc, &mut desk.seen, name, rest),
         "leaves" => leaves(alloc, &desk.seen, name, rest),
-        "asked" => asked(alloc, &desk.seen, &name),
+        "asked" => asked(alloc, &desk.seen, name),
         _ => malformed(alloc),
     }
+}
+
+fn put(alloc: Global, files: &mut FileSet, name: &Name, rest: &str) -> Result<String, AllocError> {
+    let bytes = bytes_of(alloc, rest)?;
+    files.put(name.clone()?, bytes)?;
+    answered(alloc, "put")
 }
 
 fn shown(alloc: Global, file: Option<&Bytes>) -> Result<String, AllocError> {
@@ -95,26 +121,41 @@ fn shown(alloc: Global, file: Option<&Bytes>) -> Result<String, AllocError> {
 }
 
 /// The edit of this file that a text says.
-fn edit_of(alloc: Global, name: Name, rest: &str) -> Result<Option<Edit>, AllocError> {
+fn edit_of(alloc: Global, name: &Name, rest: &str) -> Result<Option<Edit>, AllocError> {
     let (place, rest) = first_word(rest);
     let (removed, put) = first_word(rest);
-    let (Ok(place), Ok(removed)) = (place.parse::<u64>(), removed.parse::<u64>()) else {
-        return Ok(None);
-    };
+    match (place.parse::<u64>(), removed.parse::<u64>()) {
+        (Ok(place), Ok(removed)) => Ok(Some(edit_at(alloc, name, place, removed, put)?)),
+        _ => Ok(None),
+    }
+}
+
+fn edit_at(
+    alloc: Global,
+    name: &Name,
+    place: u64,
+    removed: u64,
+    put: &str,
+) -> Result<Edit, AllocError> {
     let put = bytes_of(alloc, put)?;
-    Ok(Some(Edit {
+    let name = name.clone()?;
+    Ok(Edit {
         name,
         place,
         removed,
         put,
-    }))
+    })
 }
 
-fn edit(alloc: Global, files: &mut FileSet, name: Name, rest: &str) -> Result<String, AllocError> {
-    let Some(e) = edit_of(alloc, name, rest)? else {
-        return malformed(alloc);
-    };
-    match files.apply(&e) {
+fn edit(alloc: Global, files: &mut FileSet, name: &Name, rest: &str) -> Result<String, AllocError> {
+    match edit_of(alloc, name, rest)? {
+        Some(e) => made(alloc, files.apply(&e)),
+        None => malformed(alloc),
+    }
+}
+
+fn made(alloc: Global, answer: Result<(), Refusal>) -> Result<String, AllocError> {
+    match answer {
         Ok(()) => answered(alloc, "made"),
         Err(refusal) => refused(alloc, refusal),
     }
@@ -130,13 +171,17 @@ fn refused(alloc: Global, refusal: Refusal) -> Result<String, AllocError> {
 fn try_edit(
     alloc: Global,
     files: &mut FileSet,
-    name: Name,
+    name: &Name,
     rest: &str,
 ) -> Result<String, AllocError> {
-    let Some(e) = edit_of(alloc, name, rest)? else {
-        return malformed(alloc);
-    };
-    match files.change(&e) {
+    match edit_of(alloc, name, rest)? {
+        Some(e) => tried(alloc, files, &e),
+        None => malformed(alloc),
+    }
+}
+
+fn tried(alloc: Global, files: &mut FileSet, e: &Edit) -> Result<String, AllocError> {
+    match files.change(e) {
         Ok(before) => {
             let text = text_of(alloc, files.bytes_of(e.name.as_slice()));
             files.restore(&e.name, before);
@@ -158,19 +203,17 @@ fn note(alloc: Global, seen: &mut Seen, name: &Name, rest: &str) -> Result<Strin
     answered(alloc, "seen")
 }
 
-fn leaves(alloc: Global, seen: &Seen, name: Name, rest: &str) -> Result<String, AllocError> {
-    let Ok(place) = rest.parse::<u64>() else {
-        return malformed(alloc);
-    };
-    let e = Edit {
-        name,
-        place,
-        removed: 0,
-        put: Bytes::new(alloc),
-    };
+fn leaves(alloc: Global, seen: &Seen, name: &Name, rest: &str) -> Result<String, AllocError> {
+    match rest.parse::<u64>() {
+        Ok(place) => left(alloc, seen, &edit_at(alloc, name, place, 0, "")?),
+        Err(_) => malformed(alloc),
+    }
+}
+
+fn left(alloc: Global, seen: &Seen, e: &Edit) -> Result<String, AllocError> {
     answered(
         alloc,
-        if untouched(seen, &e) {
+        if untouched(seen, e) {
             "left"
         } else {
             "touched"

@@ -23,15 +23,29 @@ impl From<AllocError> for Fault {
 
 /// The list of a text.
 pub fn list_of(alloc: Global, text: &str) -> Result<Nodes, Fault> {
-    let mut outer = Vec::new(alloc);
     let mut list = Nodes::new(alloc);
+    read_into(alloc, &mut list, text)?;
+    Ok(list)
+}
+
+fn read_into(alloc: Global, list: &mut Nodes, text: &str) -> Result<(), Fault> {
+    let mut outer = Vec::new(alloc);
+    read_words(alloc, &mut outer, list, text)
+}
+
+fn read_words(
+    alloc: Global,
+    outer: &mut Vec<Nodes>,
+    list: &mut Nodes,
+    text: &str,
+) -> Result<(), Fault> {
     for word in text.split(' ') {
         let (count, item) = counted(word);
         for _ in 0..count {
-            put(alloc, &mut outer, &mut list, item)?;
+            put(alloc, outer, list, item)?;
         }
     }
-    Ok(list)
+    Ok(())
 }
 
 /// How often a word stands, and the word.

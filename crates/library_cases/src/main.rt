@@ -1,10 +1,11 @@
 //! Runs the worked cases of the libraries in the files that the words of its command line name, and prints how many there
 //! are in each, or those that come out otherwise. Each module says what its cases are given.
 //!
-//! Read `numbers`, `files`, `scripts`, `pages`, `tokens`, `names`, `primitives`, `lists` and `boxes`, and
+//! Read `answers`, then `numbers`, `files`, `scripts`, `pages`, `tokens`, `names`, `primitives`, `lists` and `boxes`, and
 //! `outside`.
 #![tactic(auto)]
 
+mod answers;
 mod boxes;
 mod files;
 mod lists;

@@ -1,4 +1,5 @@
 //! Cases of tx_name.
+use crate::answers::append;
 use std::alloc::{AllocError, Global};
 use tx_cases::{answered, first_word, malformed};
 use tx_char::ControlName;
@@ -18,17 +19,28 @@ struct Maps {
 /// - `put MAP NAME VALUE`, `remove MAP NAME` and `get MAP NAME`;
 /// - `same`, whether both are equal, and `share`, which makes the other one a share of the one.
 pub fn play(alloc: Global, lines: &str) -> Result<String, AllocError> {
-    let mut maps = Maps {
-        one: NameMap::new(alloc)?,
-        other: NameMap::new(alloc)?,
-    };
+    let one = NameMap::new(alloc)?;
+    let other = NameMap::new(alloc)?;
+    let mut maps = Maps { one, other };
+    played(alloc, &mut maps, lines)
+}
+
+fn played(alloc: Global, maps: &mut Maps, lines: &str) -> Result<String, AllocError> {
     let mut text = String::new(alloc);
-    for line in lines.split('\n') {
-        let answer = step(alloc, &mut maps, line)?;
-        text.push_str(answer.as_str())?;
-        text.push('\n')?;
-    }
+    write_steps(alloc, &mut text, maps, lines)?;
     Ok(text)
+}
+
+fn write_steps(
+    alloc: Global,
+    text: &mut String,
+    maps: &mut Maps,
+    lines: &str,
+) -> Result<(), AllocError> {
+    for line in lines.split('\n') {
+        append(text, step(alloc, maps, line)?)?;
+    }
+    Ok(())
 }
 
 fn step(alloc: Global, maps: &mut Maps, line: &str) -> Result<String, AllocError> {
@@ -54,17 +66,29 @@ fn change(
     word: &str,
     rest: &str,
 ) -> Result<String, AllocError> {
+    if word == "fill" {
+        return fill(alloc, map, rest);
+    }
     let (name, value) = first_word(rest);
     let name = ControlName::from_slice(alloc, name.as_bytes())?;
+    act(alloc, map, word, &name, value.parse().unwrap_or(0))
+}
+
+fn act(
+    alloc: Global,
+    map: &mut NameMap<i32>,
+    word: &str,
+    name: &ControlName,
+    value: i32,
+) -> Result<String, AllocError> {
     match word {
-        "fill" => fill(alloc, map, rest),
-        "get" => found(alloc, map.get(&name)),
+        "get" => found(alloc, map.get(name)),
         "remove" => {
-            map.remove(&name)?;
+            map.remove(name)?;
             answered(alloc, "removed")
         }
         "put" => {
-            map.insert(name, value.parse().unwrap_or(0))?;
+            map.insert(name.clone()?, value)?;
             answered(alloc, "put")
         }
         _ => malformed(alloc),
@@ -78,6 +102,18 @@ fn found(alloc: Global, value: Option<&i32>) -> Result<String, AllocError> {
     }
 }
 
+/// Gives the name of a number, as c007, a value.
+fn insert(
+    alloc: Global,
+    map: &mut NameMap<i32>,
+    number: i32,
+    value: i32,
+) -> Result<(), AllocError> {
+    let text = format!(in alloc; "c{number:03}")?;
+    map.insert(ControlName::from_slice(alloc, text.as_bytes())?, value)?;
+    Ok(())
+}
+
 fn fill(alloc: Global, map: &mut NameMap<i32>, how: &str) -> Result<String, AllocError> {
     for place in 0..600i32 {
         let number = if how == "down" {
@@ -85,9 +121,7 @@ fn fill(alloc: Global, map: &mut NameMap<i32>, how: &str) -> Result<String, Allo
         } else {
             place
         };
-        let name = format!(in alloc; "c{number:03}")?;
-        let name = ControlName::from_slice(alloc, name.as_bytes())?;
-        map.insert(name, how.parse().unwrap_or(number))?;
+        insert(alloc, map, number, how.parse().unwrap_or(number))?;
     }
     answered(alloc, "filled")
 }

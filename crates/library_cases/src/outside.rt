@@ -1,4 +1,5 @@
 //! Cases of tx_io.
+use crate::answers::append;
 use std::alloc::{AllocError, Global};
 use std::{fs, io};
 use tx_bytes::Bytes;
@@ -20,16 +21,34 @@ struct Desk {
 pub fn memory(alloc: Global, rest: &str, lines: &str) -> Result<String, AllocError> {
     let (fetch, rest) = first_word(rest);
     let (say, save) = first_word(rest);
-    let mut desk = Desk {
-        source: MemorySource::new(alloc, failing(alloc, fetch)?),
-        sink: MemorySink::new(alloc, failing(alloc, say)?, failing(alloc, save)?),
-    };
+    let source = MemorySource::new(alloc, failing(alloc, fetch)?);
+    let sink = sink_of(alloc, say, save)?;
+    let mut desk = Desk { source, sink };
+    played(alloc, &mut desk, lines)
+}
+
+fn sink_of(alloc: Global, say: &str, save: &str) -> Result<MemorySink, AllocError> {
+    let says = failing(alloc, say)?;
+    let saves = failing(alloc, save)?;
+    Ok(MemorySink::new(alloc, says, saves))
+}
+
+fn played(alloc: Global, desk: &mut Desk, lines: &str) -> Result<String, AllocError> {
     let mut text = String::new(alloc);
-    for line in lines.split('\n') {
-        let answer = step(alloc, &mut desk, line)?;
-        append(&mut text, answer)?;
-    }
+    write_steps(alloc, &mut text, desk, lines)?;
     Ok(text)
+}
+
+fn write_steps(
+    alloc: Global,
+    text: &mut String,
+    desk: &mut Desk,
+    lines: &str,
+) -> Result<(), AllocError> {
+    for line in lines.split('\n') {
+        append(text, step(alloc, desk, line)?)?;
+    }
+    Ok(())
 }
 
 fn step(alloc: Global, desk: &mut Desk, line: &str) -> Result<String, AllocError> {
@@ -44,12 +63,6 @@ fn step(alloc: Global, desk: &mut Desk, line: &str) -> Result<String, AllocError
         "saved" => shown(alloc, desk.sink.saved(name.as_bytes())),
         _ => called(alloc, &mut desk.source, &mut desk.sink, word, rest),
     }
-}
-
-/// Puts an answer at the end, in a line of its own.
-fn append(text: &mut String, answer: String) -> Result<(), AllocError> {
-    text.push_str(answer.as_str())?;
-    text.push('\n')
 }
 
 /// The number of the call that fails, if one does.
@@ -106,16 +119,33 @@ fn told(alloc: Global, put: Put) -> Result<String, AllocError> {
 /// `write NAME TEXT`, `grow NAME SIZE`, `read NAME` and `remove NAME`, which are done by std's file calls.
 pub fn folder(rt: &HostRuntime, lines: &str) -> io::Result<String> {
     let read = FilesRead::new(rt.alloc());
+    told_of_folder(rt, &read, lines)
+}
+
+fn told_of_folder(rt: &HostRuntime, read: &FilesRead, lines: &str) -> io::Result<String> {
     let mut text = String::new(rt.alloc());
-    for line in lines.split('\n') {
-        let (word, rest) = first_word(line);
-        let answer = match word {
-            "fetch" | "say" | "save" => in_outside(rt, &read, word, rest)?,
-            _ => in_folder(rt, word, rest)?,
-        };
-        append(&mut text, answer)?;
-    }
+    write_calls(rt, &mut text, read, lines)?;
     Ok(text)
+}
+
+fn write_calls(
+    rt: &HostRuntime,
+    text: &mut String,
+    read: &FilesRead,
+    lines: &str,
+) -> io::Result<()> {
+    for line in lines.split('\n') {
+        append(text, call(rt, read, line)?)?;
+    }
+    Ok(())
+}
+
+fn call(rt: &HostRuntime, read: &FilesRead, line: &str) -> io::Result<String> {
+    let (word, rest) = first_word(line);
+    match word {
+        "fetch" | "say" | "save" => Ok(in_outside(rt, read, word, rest)?),
+        _ => in_folder(rt, word, rest),
+    }
 }
 
 /// What comes of a call on the folder, of which these files were read before.

@@ -119,35 +119,82 @@ fn write_token(alloc: Global, text: &mut String, token: &Token) -> Result<(), Al
     }
 }
 
-/// The tokens of a line, of which 100 are read at most.
+/// Where reading stands within a line: how many of its bytes are used, the character that stands in front of the others
+/// in their place, and the state.
+#[derive(Clone, Copy)]
+struct Spot {
+    used: usize,
+    front: Option<u8>,
+    state: ReadState,
+}
+
+/// Writes the token that comes next in a line, `!` at an invalid character, and answers where reading stands behind it;
+/// None where nothing more is read.
+fn write_next(
+    alloc: Global,
+    text: &mut String,
+    line: &[u8],
+    spot: Spot,
+    codes: &Codes,
+) -> Result<Option<Spot>, AllocError> {
+    let rest = line.get(spot.used..).unwrap_or(b"");
+    match lex_on(alloc, spot.front, rest, spot.state, codes)? {
+        Lexed::Token {
+            token,
+            used,
+            front,
+            state,
+        } => {
+            write_token(alloc, text, &token)?;
+            let used = spot.used.saturating_add(used);
+            Ok(Some(Spot { used, front, state }))
+        }
+        Lexed::LineDone => Ok(None),
+        Lexed::E1 => {
+            text.push_str(" !")?;
+            Ok(None)
+        }
+    }
+}
+
+/// Writes the tokens of a line, of which 100 are read at most.
+fn write_tokens(
+    alloc: Global,
+    text: &mut String,
+    line: &[u8],
+    begun: ReadState,
+    codes: &Codes,
+) -> Result<(), AllocError> {
+    let mut spot = Spot {
+        used: 0,
+        front: None,
+        state: begun,
+    };
+    for _ in 0..100 {
+        match write_next(alloc, text, line, spot, codes)? {
+            Some(next) => spot = next,
+            None => return Ok(()),
+        }
+    }
+    Ok(())
+}
+
+fn tokens_in(
+    alloc: Global,
+    line: &[u8],
+    begun: ReadState,
+    codes: &Codes,
+) -> Result<String, AllocError> {
+    let mut text = String::new(alloc);
+    write_tokens(alloc, &mut text, line, begun, codes)?;
+    answered(alloc, text.as_str().strip_prefix(' ').unwrap_or(""))
+}
+
+/// The tokens of a line.
 fn tokens(alloc: Global, line: &str, begun: ReadState) -> Result<String, AllocError> {
     let codes = plain_codes(alloc)?;
     let line = bytes_of(alloc, line)?;
-    let mut text = String::new(alloc);
-    let mut state = begun;
-    let mut front = None;
-    let mut rest = line.as_slice();
-    for _ in 0..100 {
-        match lex_on(alloc, front, rest, state, &codes)? {
-            Lexed::Token {
-                token,
-                used,
-                front: left,
-                state: next,
-            } => {
-                write_token(alloc, &mut text, &token)?;
-                front = left;
-                rest = &rest[used..];
-                state = next;
-            }
-            Lexed::LineDone => break,
-            Lexed::E1 => {
-                text.push_str(" !")?;
-                break;
-            }
-        }
-    }
-    answered(alloc, text.as_str().strip_prefix(' ').unwrap_or(""))
+    tokens_in(alloc, line.as_slice(), begun, &codes)
 }
 
 fn ended(alloc: Global, rest: &str) -> Result<String, AllocError> {

@@ -1,8 +1,11 @@
 //! Cases of tx_cond.
+ghost use Rattle.std.specs.Prelude.{◌≡◌, ◌∷◌, [], false, IfOk, IfSome};
+ghost use Rattle.tx_cond.specs.declared.types.Conditional.TheVariants.{Testing};
+
 use std::alloc::{AllocError, Global};
 use tx_cases::{answered, first_word, malformed};
 use tx_cond::{CondStack, CondWord, Meet, SkipItem, Skipper};
-use tx_seen::{Fed, Want};
+use tx_seen::Fed;
 
 /// - `skip ITEM ..`, the word at which skipping these items ends, `more` or an error;
 /// - `if VALUE WORD ..` and `ifcase VALUE WORD ..`, the answers to these words behind a test of this value;
@@ -37,23 +40,34 @@ fn item_of(word: &str) -> Option<SkipItem> {
     }
 }
 
-/// The answer to the last of these items; those before it must be skipped.
-fn skipped(alloc: Global, items: &str) -> Result<String, AllocError> {
-    let mut skipper = Skipper::new();
-    let mut answer = Fed::More(Want::Raw);
-    for word in items.split(' ') {
-        match (item_of(word), answer) {
-            (Some(item), Fed::More(_)) => answer = skipper.feed(item)?,
-            _ => return malformed(alloc),
-        }
-    }
-    match answer {
-        Fed::More(_) | Fed::Need(_) => answered(alloc, "more"),
+/// What skipping comes to with one more item: its word or its error, and nothing where it goes on.
+fn skip_item(alloc: Global, skipper: &mut Skipper, item: SkipItem) -> Result<String, AllocError> {
+    match skipper.feed(item)? {
+        Fed::More(_) | Fed::Need(_) => answered(alloc, ""),
         Fed::Done(CondWord::Else, _) => answered(alloc, "else"),
         Fed::Done(CondWord::Or, _) => answered(alloc, "or"),
         Fed::Done(CondWord::Fi, _) => answered(alloc, "fi"),
         Fed::Wrong(error) => format!(in alloc; "error {}", error.number()),
     }
+}
+
+fn skip_word(alloc: Global, skipper: &mut Skipper, word: &str) -> Result<String, AllocError> {
+    match item_of(word) {
+        Some(item) => skip_item(alloc, skipper, item),
+        None => malformed(alloc),
+    }
+}
+
+/// What comes of these items, up to the one at which skipping ends.
+fn skipped(alloc: Global, items: &str) -> Result<String, AllocError> {
+    let mut skipper = Skipper::new();
+    for word in items.split(' ') {
+        let answer = skip_word(alloc, &mut skipper, word)?;
+        if !answer.is_empty() {
+            return Ok(answer);
+        }
+    }
+    answered(alloc, "more")
 }
 
 /// Writes the answer to a word.
@@ -72,45 +86,92 @@ fn write_answer(text: &mut String, stack: &mut CondStack, word: &str) -> Result<
     }
 }
 
-/// The answers to these words.
-fn answers(alloc: Global, stack: &mut CondStack, words: &str) -> Result<String, AllocError> {
-    let mut text = String::new(alloc);
+fn write_answers(text: &mut String, stack: &mut CondStack, words: &str) -> Result<(), AllocError> {
     for word in words.split(' ') {
         if !text.is_empty() {
             text.push(' ')?;
         }
-        write_answer(&mut text, stack, word)?;
+        write_answer(text, stack, word)?;
     }
+    Ok(())
+}
+
+/// The answers to these words.
+fn answers(alloc: Global, stack: &mut CondStack, words: &str) -> Result<String, AllocError> {
+    let mut text = String::new(alloc);
+    write_answers(&mut text, stack, words)?;
     Ok(text)
 }
 
 /// The answers to these words behind the test of a conditional.
 fn behind_test(alloc: Global, cases: bool, rest: &str) -> Result<String, AllocError> {
     let (value, words) = first_word(rest);
-    let Ok(value) = value.parse() else {
-        return malformed(alloc);
-    };
+    match value.parse() {
+        Ok(value) => behind_value(alloc, cases, value, words),
+        Err(_) => malformed(alloc),
+    }
+}
+
+fn behind_value(alloc: Global, cases: bool, value: i64, words: &str) -> Result<String, AllocError> {
     let mut stack = CondStack::new(alloc);
     stack.begin(cases)?;
     stack.decide(value);
     answers(alloc, &mut stack, words)
 }
 
-/// \ifnum 1=\iftrue 2 .. \or .. \fi .. \fi: the text up to the second \fi is skipped, the \or in it too.
-fn within_test(alloc: Global, rest: &str) -> Result<String, AllocError> {
-    let (words, behind) = rest.split_once('|').unwrap_or((rest, ""));
-    let empty = CondStack::new(alloc);
-    let mut stack = CondStack::new(alloc);
-    stack.begin(false)?;
+fn is_empty(alloc: Global, stack: &CondStack) -> bool {
+    stack.same(&CondStack::new(alloc))
+}
+
+/// The answers to words that leave the open conditionals as they are; None where they don't.
+fn answers_within(
+    alloc: Global,
+    stack: &mut CondStack,
+    words: &str,
+) -> Result<Option<String>, AllocError>
+    ensures { IfOk result (λ text. IfSome text (λ _. stack.new ≡ stack.old)) }
+{
     let tested = stack.share()?;
-    let before = answers(alloc, &mut stack, words)?;
-    if !stack.same(&tested) || stack.same(&empty) {
-        return answered(alloc, "the test is another one");
+    let text = answers(alloc, stack, words)?;
+    if stack.same(&tested) && !is_empty(alloc, stack) {
+        Ok(Some(text))
+    } else {
+        Ok(None)
     }
+}
+
+/// The answers to words behind a second conditional, with which the test of the first one is over too, and whether none is
+/// open then.
+fn write_behind(
+    alloc: Global,
+    text: &mut String,
+    stack: &mut CondStack,
+    words: &str,
+) -> Result<(), AllocError>
+    requires { stack.old ≡ Testing false ∷ [] }
+{
     stack.begin(false)?;
     stack.decide(1);
     stack.decide(0);
-    let behind = answers(alloc, &mut stack, behind)?;
-    let closed = stack.same(&empty);
-    format!(in alloc; "{before}|{behind}|{closed}")
+    let behind = answers(alloc, stack, words)?;
+    let closed = is_empty(alloc, stack);
+    write!(text, "|{behind}|{closed}")
+}
+
+/// \ifnum 1=\iftrue 2 .. \or .. \fi .. \fi: the text up to the second \fi is skipped, the \or in it too.
+fn within_test(alloc: Global, rest: &str) -> Result<String, AllocError> {
+    let mut stack = CondStack::new(alloc);
+    stack.begin(false)?;
+    told_within(alloc, &mut stack, rest)
+}
+
+fn told_within(alloc: Global, stack: &mut CondStack, rest: &str) -> Result<String, AllocError>
+    requires { stack.old ≡ Testing false ∷ [] }
+{
+    let (words, behind) = rest.split_once('|').unwrap_or((rest, ""));
+    let Some(mut text) = answers_within(alloc, stack, words)? else {
+        return answered(alloc, "the test is another one");
+    };
+    write_behind(alloc, &mut text, stack, behind)?;
+    Ok(text)
 }

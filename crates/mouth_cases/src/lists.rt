@@ -18,14 +18,19 @@ pub fn answer(alloc: Global, word: &str, rest: &str) -> Result<String, AllocErro
     }
 }
 
-/// The tokens of words; words that are none are left out.
-fn tokens_of(alloc: Global, words: &str) -> Result<TokList, AllocError> {
-    let mut tokens = Toks::new(alloc);
+fn push_words(alloc: Global, tokens: &mut Toks, words: &str) -> Result<(), AllocError> {
     for word in words.split(' ') {
         if let Some(token) = token_of(alloc, word)? {
             tokens.push(token)?;
         }
     }
+    Ok(())
+}
+
+/// The tokens of words; words that are none are left out.
+fn tokens_of(alloc: Global, words: &str) -> Result<TokList, AllocError> {
+    let mut tokens = Toks::new(alloc);
+    push_words(alloc, &mut tokens, words)?;
     TokList::from_toks(alloc, tokens)
 }
 

@@ -9,8 +9,8 @@ use tx_cases::{answered, malformed, text_of as shown};
 use tx_char::{Cat, Codes, Token};
 use tx_lex::{Lexed, ReadState, lex};
 use tx_macro::Matcher;
-use tx_seen::Fed;
-use tx_toklist::{Body, Item, Lists, Macro, ParameterText, Toks, text_of};
+use tx_seen::{Fed, TexError};
+use tx_toklist::{Body, Item, Macro, ParameterText, Toks, text_of};
 
 /// - `use TEXT;LINE`, what a macro with this parameter text, each # of which is a parameter, makes of a line: its arguments,
 ///   each with a bar behind it, and then how many tokens are left; or `E` and the last digit of an error's number; or `?`
@@ -20,14 +20,8 @@ use tx_toklist::{Body, Item, Lists, Macro, ParameterText, Toks, text_of};
 pub fn answer(alloc: Global, word: &str, rest: &str) -> Result<String, AllocError> {
     let (text, line) = rest.split_once(';').unwrap_or((rest, ""));
     match word {
-        "use" => shown(
-            alloc,
-            used(alloc, text.as_bytes(), line.as_bytes(), false)?.as_slice(),
-        ),
-        "ended" => shown(
-            alloc,
-            used(alloc, text.as_bytes(), line.as_bytes(), true)?.as_slice(),
-        ),
+        "use" => used_shown(alloc, text, line, false),
+        "ended" => used_shown(alloc, text, line, true),
         "shared" => shared_use(alloc),
         _ => malformed(alloc),
     }
@@ -118,70 +112,144 @@ fn is_whole(parameters: &ParameterText) -> bool
         && all_delimit(parameters.delimiters())
 }
 
-/// A macro with this parameter text, each # of which is a parameter; a begin-group token may end it. None where the text
-/// may be no macro's.
-fn macro_of(
+/// Puts tokens at the end, each # as a parameter.
+fn push_all(
     alloc: Global,
-    text: &[u8],
-    long: bool,
-    codes: &Codes,
-) -> Result<Option<Macro>, AllocError>
-    ensures { IfOk result (λ made. IfSome made (λ m. m.parameters ≢ no_parameters)) }
-{
-    let mut parameters = ParameterText::new(alloc);
-    for token in tokens(alloc, text, codes)?.as_slice() {
+    parameters: &mut ParameterText,
+    tokens: &[Token],
+) -> Result<(), AllocError> {
+    for token in tokens {
         match token {
             Token::Character(_, Cat::Parameter) => parameters.push_parameter(alloc)?,
             _ => parameters.push_token(token.clone()?)?,
         }
     }
+    Ok(())
+}
+
+/// The parameter text of these characters.
+fn parameters_of(alloc: Global, text: &[u8], codes: &Codes) -> Result<ParameterText, AllocError> {
+    let toks = tokens(alloc, text, codes)?;
+    let mut parameters = ParameterText::new(alloc);
+    push_all(alloc, &mut parameters, toks.as_slice())?;
+    Ok(parameters)
+}
+
+/// A macro with this parameter text, each # of which is a parameter; a begin-group token may end it. None where the text
+/// may be no macro's.
+fn macro_of(alloc: Global, text: &[u8], codes: &Codes) -> Result<Option<Macro>, AllocError>
+    ensures { IfOk result (λ made. IfSome made (λ m. m.parameters ≢ no_parameters)) }
+{
+    let parameters = parameters_of(alloc, text, codes)?;
     if !is_whole(&parameters) {
         return Ok(None);
     }
-    Ok(Some(Macro::new(alloc, parameters, Body::new(alloc), long, false)?))
+    Ok(Some(Macro::new(alloc, parameters, Body::new(alloc), false, false)?))
 }
 
-/// The arguments, each with a bar behind it.
-fn write_arguments(alloc: Global, arguments: &Lists, codes: &Codes) -> Result<Bytes, AllocError> {
-    let mut text = Bytes::new(alloc);
-    for argument in arguments.as_slice() {
+/// Writes the arguments, each with a bar behind it.
+fn write_arguments(
+    alloc: Global,
+    text: &mut Bytes,
+    arguments: &[Toks],
+    codes: &Codes,
+) -> Result<(), AllocError> {
+    for argument in arguments {
         text.append(text_of(alloc, argument.as_slice(), Some(b'\\'), codes)?.as_slice())?;
         text.push(b'|')?;
     }
+    Ok(())
+}
+
+/// The arguments, each with a bar behind it, and how many tokens are left.
+fn arguments_shown(
+    alloc: Global,
+    arguments: &[Toks],
+    left: usize,
+    codes: &Codes,
+) -> Result<Bytes, AllocError> {
+    let mut text = Bytes::new(alloc);
+    write_arguments(alloc, &mut text, arguments, codes)?;
+    text.push(b'0' + (left % 10) as u8)?;
     Ok(text)
+}
+
+fn error_shown(alloc: Global, error: TexError) -> Result<Bytes, AllocError> {
+    Bytes::from_slice(alloc, &[b'E', b'0' + error.number() % 10])
+}
+
+/// What becomes of a use at the end of a file.
+fn at_end(alloc: Global, matcher: &mut Matcher) -> Result<Bytes, AllocError>
+    requires { matcher.old.goes_on ≡ true }
+{
+    match matcher.feed(alloc, Item::EndOfFile)? {
+        Fed::Wrong(error) => error_shown(alloc, error),
+        _ => Bytes::from_slice(alloc, b"?"),
+    }
+}
+
+/// What becomes of a use with these tokens, and with the end of the file behind them, where `ends` says so.
+fn fed(
+    alloc: Global,
+    matcher: &mut Matcher,
+    tokens: &[Token],
+    codes: &Codes,
+    ends: bool,
+) -> Result<Bytes, AllocError>
+    requires { matcher.old.goes_on ≡ true }
+{
+    let mut left = tokens.len();
+    for token in tokens {
+        left = left.saturating_sub(1);
+        match matcher.feed(alloc, Item::Token(token.clone()?))? {
+            Fed::More(_) | Fed::Need(_) => {}
+            Fed::Done(arguments, _) => {
+                return arguments_shown(alloc, arguments.as_slice(), left, codes);
+            }
+            Fed::Wrong(error) => return error_shown(alloc, error),
+        }
+    }
+    if ends {
+        return at_end(alloc, matcher);
+    }
+    Bytes::from_slice(alloc, b"?")
+}
+
+/// What this macro makes of a line.
+fn used_by(
+    alloc: Global,
+    made: &Macro,
+    line: &[u8],
+    codes: &Codes,
+    ends: bool,
+) -> Result<Bytes, AllocError>
+    requires { made.now.parameters ≢ no_parameters }
+{
+    let toks = tokens(alloc, line, codes)?;
+    let mut matcher = Matcher::new(alloc, made)?;
+    fed(alloc, &mut matcher, toks.as_slice(), codes, ends)
 }
 
 /// What a macro with this parameter text makes of this line: its arguments, each with a bar behind it, and then how many
 /// tokens are left; or `E` and the last digit of the error's number; or `?` where it wants more. Behind a line comes the
 /// end of its file where `ends` says so.
-fn used(alloc: Global, text: &[u8], line: &[u8], ends: bool) -> Result<Bytes, AllocError> {
+fn used(
+    alloc: Global,
+    text: &[u8],
+    line: &[u8],
+    codes: &Codes,
+    ends: bool,
+) -> Result<Bytes, AllocError> {
+    match macro_of(alloc, text, codes)? {
+        Some(made) => used_by(alloc, &made, line, codes, ends),
+        None => Bytes::from_slice(alloc, b"!"),
+    }
+}
+
+fn used_shown(alloc: Global, text: &str, line: &str, ends: bool) -> Result<String, AllocError> {
     let codes = codes_of_plain(alloc)?;
-    let Some(made) = macro_of(alloc, text, false, &codes)? else {
-        return Bytes::from_slice(alloc, b"!");
-    };
-    let mut matcher = Matcher::new(alloc, &made)?;
-    let toks = tokens(alloc, line, &codes)?;
-    let mut left = toks.len();
-    for token in toks.as_slice() {
-        left = left.saturating_sub(1);
-        match matcher.feed(alloc, Item::Token(token.clone()?))? {
-            Fed::More(_) | Fed::Need(_) => {}
-            Fed::Done(arguments, _) => {
-                let mut answer = write_arguments(alloc, &arguments, &codes)?;
-                answer.push(b'0' + (left % 10) as u8)?;
-                return Ok(answer);
-            }
-            Fed::Wrong(error) => {
-                return Bytes::from_slice(alloc, &[b'E', b'0' + error.number() % 10]);
-            }
-        }
-    }
-    if ends {
-        if let Fed::Wrong(error) = matcher.feed(alloc, Item::EndOfFile)? {
-            return Bytes::from_slice(alloc, &[b'E', b'0' + error.number() % 10]);
-        }
-    }
-    Bytes::from_slice(alloc, b"?")
+    let answer = used(alloc, text.as_bytes(), line.as_bytes(), &codes, ends)?;
+    shown(alloc, answer.as_slice())
 }
 
 /// A use of a macro of one parameter; nothing is taken.
@@ -189,21 +257,27 @@ fn fresh_use(alloc: Global) -> Result<Option<Matcher>, AllocError>
     ensures { IfOk result (λ made. IfSome made (λ m. m.goes_on ≡ true)) }
 {
     let codes = codes_of_plain(alloc)?;
-    match macro_of(alloc, b"#", false, &codes)? {
+    match macro_of(alloc, b"#", &codes)? {
         Some(made) => Ok(Some(Matcher::new(alloc, &made)?)),
         None => Ok(None),
     }
 }
 
 /// Whether a share of a use is the same before one of both takes a space, and after that; and that this one goes on.
+fn share_told(alloc: Global, one: &mut Matcher) -> Result<String, AllocError>
+    requires { one.old.goes_on ≡ true }
+{
+    let other = one.share()?;
+    let before = other.same(one);
+    let space = Item::Token(Token::Character(b' ', Cat::Space));
+    let more = matches!(one.feed(alloc, space)?, Fed::More(_));
+    let (goes_on, after) = (one.goes_on(), other.same(one));
+    format!(in alloc; "{before} {more} {goes_on} {after}")
+}
+
 fn shared_use(alloc: Global) -> Result<String, AllocError> {
     let Some(mut one) = fresh_use(alloc)? else {
         return answered(alloc, "no macro");
     };
-    let other = one.share()?;
-    let before = other.same(&one);
-    let space = Item::Token(Token::Character(b' ', Cat::Space));
-    let more = matches!(one.feed(alloc, space)?, Fed::More(_));
-    let (goes_on, after) = (one.goes_on(), other.same(&one));
-    format!(in alloc; "{before} {more} {goes_on} {after}")
+    share_told(alloc, &mut one)
 }

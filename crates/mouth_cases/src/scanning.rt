@@ -1,6 +1,4 @@
 //! Cases of tx_scan.
-ghost use Rattle.std.specs.Prelude.{◌≡◌};
-ghost use Rattle.tx_scan.specs.Integers.{IsQuantity};
 
 use std::alloc::{AllocError, Global};
 use std::fmt::Display;
@@ -66,41 +64,67 @@ fn told<T: Display + Drop>(
     }
 }
 
+/// What the scan of an integer comes to with one more token; None where it wants more.
+fn integer_at(
+    alloc: Global,
+    scan: &mut IntScan,
+    code: u8,
+    place: usize,
+) -> Result<Option<String>, AllocError> {
+    let seen = seen_of(alloc, code)?;
+    told(alloc, scan.feed(&seen)?, place)
+}
+
 /// What the scan of an integer comes to; `more` where it wants more.
 fn integer(alloc: Global, text: &[u8]) -> Result<String, AllocError> {
     let mut scan = IntScan::new(alloc);
     for place in 0..text.len() {
-        let fed = scan.feed(&seen_of(alloc, text[place])?)?;
-        if let Some(answer) = told(alloc, fed, place)? {
+        if let Some(answer) = integer_at(alloc, &mut scan, text[place], place)? {
             return Ok(answer);
         }
     }
     answered(alloc, "more")
+}
+
+fn keyword_at(
+    alloc: Global,
+    scan: &mut KeyScan,
+    code: u8,
+    place: usize,
+) -> Result<Option<String>, AllocError> {
+    let seen = seen_of(alloc, code)?;
+    told(alloc, scan.feed(&seen), place)
 }
 
 /// The same of the keyword `pt`, whose value is whether it is there.
 fn keyword(alloc: Global, text: &[u8]) -> Result<String, AllocError> {
     let mut scan = KeyScan::new(alloc, b"pt")?;
     for place in 0..text.len() {
-        let fed = scan.feed(&seen_of(alloc, text[place])?);
-        if let Some(answer) = told(alloc, fed, place)? {
+        if let Some(answer) = keyword_at(alloc, &mut scan, text[place], place)? {
             return Ok(answer);
         }
     }
     answered(alloc, "more")
 }
 
+/// Whether the scan wants a token behind this one, and whether it asks for \count0.
+fn wants(alloc: Global, scan: &mut IntScan, code: u8) -> Result<(bool, bool), AllocError> {
+    let seen = seen_of(alloc, code)?;
+    match scan.feed(&seen)? {
+        Fed::More(_) => Ok((true, false)),
+        Fed::Need(Kind::Quantity(Place::Count(0))) => Ok((false, true)),
+        _ => Ok((false, false)),
+    }
+}
+
 /// What the scan of `-\a` comes to, where \a has this value.
-fn negative_of(alloc: Global, value: &Value) -> Result<String, AllocError>
-    requires { IsQuantity value.now }
-{
+fn negative_of(alloc: Global, value: &Value) -> Result<String, AllocError> {
     let mut scan = IntScan::new(alloc);
-    let Fed::More(_) = scan.feed(&seen_of(alloc, b'-')?)? else {
-        return answered(alloc, "an end at the sign");
-    };
-    let Fed::Need(Kind::Quantity(Place::Count(0))) = scan.feed(&seen_of(alloc, b'@')?)? else {
+    let (goes_on, _) = wants(alloc, &mut scan, b'-')?;
+    let (_, asks) = wants(alloc, &mut scan, b'@')?;
+    if !goes_on || !asks {
         return answered(alloc, "no quantity is asked for");
-    };
+    }
     match told(alloc, scan.give(value), 2)? {
         Some(answer) => Ok(answer),
         None => answered(alloc, "more"),
@@ -110,9 +134,6 @@ fn negative_of(alloc: Global, value: &Value) -> Result<String, AllocError>
 fn negative(alloc: Global, rest: &str) -> Result<String, AllocError> {
     let (kind, value) = first_word(rest);
     let number = value.parse::<i64>().unwrap_or(0);
-    if number < -2147483647 || 2147483647 < number {
-        return malformed(alloc);
-    }
     match kind {
         "int" => negative_of(alloc, &Value::Int(number)),
         "dimen" => negative_of(alloc, &Value::Dimen(number)),

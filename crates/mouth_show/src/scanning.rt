@@ -6,8 +6,8 @@ use std::alloc::{AllocError, Global};
 use std::io;
 use tx_char::{Cat, Token};
 use tx_prim::Primitive;
-use tx_scan::{IntScan, KeyScan, Quantities, supply};
-use tx_seen::{Fed, Meaning, Place, Seen, Value, Want};
+use tx_scan::{IntScan, KeyScan, supply};
+use tx_seen::{Fed, Meaning, Place, Quantities, Seen, Value, Want};
 use tx_toklist::Toks;
 
 /// What stands for every text in the registers, to compare with: 3N in \count N where N is even, else -2N; 100N + 1 sp in

@@ -2,9 +2,10 @@
 //! many there are in each, or those that come out otherwise: rows, and runs and sessions of line_machine. Each module says
 //! what its cases are given.
 //!
-//! Read `edits`, then `rows`, `runs` and `sessions`.
+//! Read `documents` and `edits`, then `rows`, `runs` and `sessions`.
 #![tactic(auto)]
 
+mod documents;
 mod edits;
 mod rows;
 mod runs;

@@ -24,7 +24,7 @@ fn resumed(alloc: Global, place: u64, rows: &Rows<u32>) -> Result<String, AllocE
         return malformed(alloc);
     };
     let row = rows.resume_at(&e);
-    match rows.stands(&e) {
+    match rows.stands(row, &e) {
         true => format!(in alloc; "{row}, all stands"),
         false => format!(in alloc; "{row}"),
     }
@@ -37,27 +37,43 @@ fn seen_upto(alloc: Global, place: u64) -> Result<Seen, AllocError> {
     Ok(seen)
 }
 
-/// Rows that read the file up to these places.
-fn rows_of(alloc: Global, last: u64, ends: &[i64]) -> Result<Rows<u32>, AllocError> {
+fn row_upto(alloc: Global, place: u64) -> Result<Row<u32>, AllocError> {
+    let seen = seen_upto(alloc, place)?;
+    Ok(Row {
+        turns: 1,
+        seen,
+        opens: Opens::new(alloc),
+        state: 0,
+    })
+}
+
+fn rows_upto(alloc: Global, ends: &[i64]) -> Result<Vec<Row<u32>>, AllocError> {
     let mut rows = Vec::new(alloc);
     for end in ends {
-        rows.push(Row {
-            turns: 1,
-            seen: seen_upto(alloc, end.unsigned_abs())?,
-            opens: Opens::new(alloc),
-            state: 0,
-        })?;
+        rows.push(row_upto(alloc, end.unsigned_abs())?)?;
     }
-    Ok(Rows {
+    Ok(rows)
+}
+
+/// These rows, and what comes after them, of which this was seen.
+fn with_last(alloc: Global, rows: Vec<Row<u32>>, seen: Seen) -> Rows<u32> {
+    Rows {
         pages: Vec::new(alloc),
         pieces: Vec::new(alloc),
         rows,
         last: Last {
             piece: Bytes::new(alloc),
             turns: 1,
-            seen: seen_upto(alloc, last)?,
+            seen,
             opens: Opens::new(alloc),
             end: End::End,
         },
-    })
+    }
+}
+
+/// Rows that read the file up to these places.
+fn rows_of(alloc: Global, last: u64, ends: &[i64]) -> Result<Rows<u32>, AllocError> {
+    let rows = rows_upto(alloc, ends)?;
+    let seen = seen_upto(alloc, last)?;
+    Ok(with_last(alloc, rows, seen))
 }

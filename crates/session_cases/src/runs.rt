@@ -1,13 +1,14 @@
 //! Cases of fresh runs of line_machine, worked out by hand: a turn for each ask, each page and each stop, and each turn costs
 //! 1.
-ghost use Rattle.std.specs.Prelude.{◌≤◌};
+ghost use Rattle.std.specs.Prelude.{◌≤◌, IfSome};
 ghost use Rattle.tx_machine.specs.Ranges.{AreLimits};
 
+use crate::documents::{main_name, set_of};
 use line_machine::LineMachine;
 use std::alloc::{AllocError, Global};
 use tx_bytes::Bytes;
 use tx_cases::{bytes_of, first_word, malformed};
-use tx_files::{FileSet, Name};
+use tx_files::FileSet;
 use tx_machine::{Date, End, Limits, Ran, Steps, fresh_run};
 
 /// - `run NAME BUDGET PAGES TEXT`, each page with its year and its piece of the transcript, the last piece, the end, and the
@@ -20,13 +21,21 @@ pub fn answer(alloc: Global, word: &str, rest: &str, steps: Steps) -> Result<Str
     let (name, rest) = first_word(rest);
     let (budget, rest) = first_word(rest);
     let (pages, text) = first_word(rest);
-    let bytes = bytes_of(alloc, text)?;
-    match (budget.parse::<u64>(), pages.parse::<u32>()) {
-        (Ok(budget), Ok(pages)) if 1 <= budget && budget <= 1000 && 1 <= pages && pages <= 1000 => {
-            let limits = within(budget, pages);
-            outcome(alloc, steps, name.as_bytes(), bytes.as_slice(), &limits)
-        }
-        _ => malformed(alloc),
+    match limits_of(budget, pages) {
+        Some(limits) => run(alloc, steps, name, text, &limits),
+        None => malformed(alloc),
+    }
+}
+
+/// The limits of two words, within 1000 each.
+fn limits_of(budget: &str, pages: &str) -> Option<Limits>
+    ensures { IfSome result AreLimits }
+{
+    let (budget, pages) = (budget.parse::<u64>().ok()?, pages.parse::<u32>().ok()?);
+    if 1 <= budget && budget <= 1000 && 1 <= pages && pages <= 1000 {
+        Some(within(budget, pages))
+    } else {
+        None
     }
 }
 
@@ -36,15 +45,6 @@ const DATE: Date = Date {
     day: 28,
     minutes: 1439,
 };
-
-/// A set with this one file.
-fn set_of(alloc: Global, name: &[u8], bytes: &[u8]) -> Result<FileSet, AllocError> {
-    let mut files = FileSet::new(alloc);
-    if let Some(name) = Name::new(Bytes::from_slice(alloc, name)?) {
-        files.put(name, Bytes::from_slice(alloc, bytes)?)?;
-    }
-    Ok(files)
-}
 
 /// Writes bytes as characters, and how many there are in place of more than 10.
 fn write_bytes(text: &mut String, bytes: &[u8]) -> Result<(), AllocError> {
@@ -75,46 +75,66 @@ fn write_end(text: &mut String, end: &End) -> Result<(), AllocError> {
     }
 }
 
+/// Writes a page's commands, its year and its piece of the transcript.
+fn write_page(text: &mut String, body: &[u8], year: i32, piece: &[u8]) -> Result<(), AllocError> {
+    write_bytes(text, body)?;
+    write!(text, " {year} ")?;
+    write_bytes(text, piece)?;
+    text.push_str("; ")
+}
+
+fn write_pages(text: &mut String, ran: &Ran) -> Result<(), AllocError> {
+    for (page, piece) in ran.pages.as_slice().iter().zip(ran.pieces.as_slice()) {
+        write_page(text, page.body(), page.date.year, piece.as_slice())?;
+    }
+    Ok(())
+}
+
 /// Each page with its year and its piece of the transcript, the last piece, the end, and the turns.
+fn write_all(text: &mut String, ran: &Ran, steps: &Steps) -> Result<(), AllocError> {
+    write_pages(text, ran)?;
+    write_bytes(text, ran.last.as_slice())?;
+    write_end(text, &ran.end)?;
+    write!(text, "; {steps:?}")
+}
+
 fn written(alloc: Global, ran: &Ran, steps: &Steps) -> Result<String, AllocError> {
     let mut text = String::new(alloc);
-    for (page, piece) in ran.pages.as_slice().iter().zip(ran.pieces.as_slice()) {
-        write_bytes(&mut text, page.body())?;
-        let year = page.date.year;
-        write!(text, " {year} ")?;
-        write_bytes(&mut text, piece.as_slice())?;
-        text.push_str("; ")?;
-    }
-    write_bytes(&mut text, ran.last.as_slice())?;
-    write_end(&mut text, &ran.end)?;
-    write!(text, "; {steps:?}")?;
+    write_all(&mut text, ran, steps)?;
     Ok(text)
 }
 
-/// The run of `main` where the file of this name holds these bytes.
-fn outcome(
+/// The run of `main` on these files.
+fn run_on(
     alloc: Global,
     mut steps: Steps,
-    name: &[u8],
-    bytes: &[u8],
+    files: &FileSet,
     limits: &Limits,
 ) -> Result<String, AllocError>
     requires { AreLimits limits.now }
 {
-    let files = set_of(alloc, name, bytes)?;
-    let Some(main) = Name::new(Bytes::from_slice(alloc, b"main")?) else {
-        return String::from_str(alloc, "no name");
-    };
-    let ran = fresh_run(
-        alloc,
-        &LineMachine,
-        &files,
-        &main,
-        &DATE,
-        limits,
-        &mut steps,
-    )?;
+    let main = main_name(alloc)?;
+    let ran = fresh_run(alloc, &LineMachine, files, &main, &DATE, limits, &mut steps)?;
     written(alloc, &ran, &steps)
+}
+
+/// The run of `main` where the file of this name holds what a text stands for.
+fn run(
+    alloc: Global,
+    steps: Steps,
+    name: &str,
+    text: &str,
+    limits: &Limits,
+) -> Result<String, AllocError>
+    requires { AreLimits limits.now }
+{
+    let bytes = bytes_of(alloc, text)?;
+    run_on(
+        alloc,
+        steps,
+        &set_of(alloc, name.as_bytes(), bytes.as_slice())?,
+        limits,
+    )
 }
 
 /// Limits of this budget for a page and so many pages.
@@ -130,10 +150,26 @@ fn within(budget: u64, pages: u32) -> Limits
     }
 }
 
+/// Three lines, of which the third has so many bytes before its LF.
+fn three_lines(alloc: Global, size: usize) -> Result<Bytes, AllocError> {
+    let mut bytes = Bytes::from_slice(alloc, b"a\n\n")?;
+    append_line(alloc, &mut bytes, size)?;
+    Ok(bytes)
+}
+
+fn append_line(alloc: Global, bytes: &mut Bytes, size: usize) -> Result<(), AllocError> {
+    let line = vec![in alloc; b'x'; size]?;
+    bytes.append(line.as_slice())?;
+    bytes.append(b"\n.\n")
+}
+
 /// The run of a file whose third line has so many bytes before its LF.
 fn third_line_of(alloc: Global, steps: Steps, size: usize) -> Result<String, AllocError> {
-    let mut bytes = Bytes::from_slice(alloc, b"a\n\n")?;
-    bytes.append(vec![in alloc; b'x'; size]?.as_slice())?;
-    bytes.append(b"\n.\n")?;
-    outcome(alloc, steps, b"main", bytes.as_slice(), &within(100, 10))
+    let bytes = three_lines(alloc, size)?;
+    run_on(
+        alloc,
+        steps,
+        &set_of(alloc, b"main", bytes.as_slice())?,
+        &within(100, 10),
+    )
 }

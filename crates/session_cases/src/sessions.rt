@@ -1,11 +1,11 @@
 //! Cases of sessions over line_machine, worked out by hand: a run takes a turn to open its file, one for each line, one for
 //! each page and one to stop; an edit takes those of the pages behind its place alone.
+use crate::documents::{main_name, set_of};
 use crate::edits::edit_of;
 use line_machine::LineMachine;
 use std::alloc::{AllocError, Global};
-use tx_bytes::Bytes;
 use tx_cases::{bytes_of, first_line, first_word};
-use tx_files::{Edit, FileSet, Name};
+use tx_files::{Edit, FileSet};
 use tx_machine::{Date, Limits, Steps};
 use tx_session::{Refusal, Report, Session};
 
@@ -22,21 +22,21 @@ const LIMITS: Limits = Limits {
     keep: 1,
 };
 
-fn main_name(alloc: Global) -> Result<Name, AllocError> {
-    match Name::new(Bytes::from_slice(alloc, b"main")?) {
-        Some(name) => Ok(name),
-        None => Err(AllocError),
-    }
-}
-
 /// A document of one file, opened.
 fn opened(
     alloc: Global,
-    bytes: &[u8],
+    document: &str,
     steps: &mut Steps,
 ) -> Result<Session<LineMachine>, AllocError> {
-    let mut files = FileSet::new(alloc);
-    files.put(main_name(alloc)?, Bytes::from_slice(alloc, bytes)?)?;
+    let bytes = bytes_of(alloc, document)?;
+    open(alloc, set_of(alloc, b"main", bytes.as_slice())?, steps)
+}
+
+fn open(
+    alloc: Global,
+    files: FileSet,
+    steps: &mut Steps,
+) -> Result<Session<LineMachine>, AllocError> {
     let main = main_name(alloc)?;
     Session::open(alloc, LineMachine, files, main, DATE, LIMITS, steps)
 }
@@ -55,6 +55,11 @@ fn append_pages(text: &mut String, session: &Session<LineMachine>) -> Result<(),
     Ok(())
 }
 
+/// The size of the DVI file.
+fn file_size(session: &Session<LineMachine>) -> Result<usize, AllocError> {
+    Ok(session.dvi()?.len())
+}
+
 /// The pages, the transcript, the end, the size of the DVI file, and the turns so far.
 fn append_all(
     text: &mut String,
@@ -63,20 +68,14 @@ fn append_all(
 ) -> Result<(), AllocError> {
     append_pages(text, session)?;
     append_bytes(text, session.said())?;
+    let size = file_size(session)?;
     let end = session.end();
-    let file = session.dvi()?;
-    let size = file.len();
     write!(text, "{end:?} {size} {steps:?}\n")
 }
 
-/// What an edit is answered, and what there is then.
-fn append_edit(
-    text: &mut String,
-    session: &mut Session<LineMachine>,
-    e: &Edit,
-    steps: &mut Steps,
-) -> Result<(), AllocError> {
-    match session.edit(e, steps) {
+/// What an edit is answered.
+fn append_answer(text: &mut String, answer: Result<Report, Refusal>) -> Result<(), AllocError> {
+    match answer {
         Ok(
             Report {
                 pages,
@@ -84,11 +83,10 @@ fn append_edit(
                 formatted,
                 reused,
             },
-        ) => { write!(text, "{pages} = {resumed} + {formatted} + {reused}: ")? }
-        Err(Refusal::Outside { len }) => write!(text, "outside {len}: ")?,
-        Err(Refusal::OutOfMemory) => return Err(AllocError),
+        ) => write!(text, "{pages} = {resumed} + {formatted} + {reused}: "),
+        Err(Refusal::Outside { len }) => write!(text, "outside {len}: "),
+        Err(Refusal::OutOfMemory) => Err(AllocError),
     }
-    append_all(text, session, steps)
 }
 
 /// The edit of `main` of a line with its place, how many bytes it takes out, and what it puts in.
@@ -102,30 +100,76 @@ fn edit(alloc: Global, line: &str) -> Result<Edit, AllocError> {
     }
 }
 
+/// What the edit of a line is answered, and what there is then.
+fn append_edit(
+    alloc: Global,
+    text: &mut String,
+    session: &mut Session<LineMachine>,
+    line: &str,
+    steps: &mut Steps,
+) -> Result<(), AllocError> {
+    let e = edit(alloc, line)?;
+    append_answer(text, session.edit(&e, steps))?;
+    append_all(text, session, steps)
+}
+
+fn append_edits(
+    alloc: Global,
+    text: &mut String,
+    session: &mut Session<LineMachine>,
+    edits: &str,
+    steps: &mut Steps,
+) -> Result<(), AllocError> {
+    append_all(text, session, steps)?;
+    for line in edits.split('\n') {
+        append_edit(alloc, text, session, line, steps)?;
+    }
+    Ok(())
+}
+
 /// What there is of the document of the first line, and after each edit of the lines behind it: what the edit is answered,
 /// the pages, the transcript, the end, the size of the DVI file, and the turns so far.
 pub fn edited(alloc: Global, lines: &str, mut steps: Steps) -> Result<String, AllocError> {
     let (document, edits) = first_line(lines);
+    let mut session = opened(alloc, document, &mut steps)?;
+    edit_all(alloc, &mut session, edits, &mut steps)
+}
+
+fn edit_all(
+    alloc: Global,
+    session: &mut Session<LineMachine>,
+    edits: &str,
+    steps: &mut Steps,
+) -> Result<String, AllocError> {
     let mut text = String::new(alloc);
-    let mut session = opened(alloc, bytes_of(alloc, document)?.as_slice(), &mut steps)?;
-    append_all(&mut text, &session, &steps)?;
-    for line in edits.split('\n') {
-        let e = edit(alloc, line)?;
-        append_edit(&mut text, &mut session, &e, &mut steps)?;
-    }
+    append_edits(alloc, &mut text, session, edits, steps)?;
     Ok(text)
 }
 
 /// What there is after all edits, which are made at once, those that fit.
 pub fn replayed(alloc: Global, lines: &str, mut steps: Steps) -> Result<String, AllocError> {
     let (document, edits) = first_line(lines);
-    let mut session = opened(alloc, bytes_of(alloc, document)?.as_slice(), &mut steps)?;
+    let mut session = opened(alloc, document, &mut steps)?;
+    replay_all(alloc, &mut session, edits, &mut steps)
+}
+
+fn replay_all(
+    alloc: Global,
+    session: &mut Session<LineMachine>,
+    edits: &str,
+    steps: &mut Steps,
+) -> Result<String, AllocError> {
+    let list = edits_of(alloc, edits)?;
+    session.replay(list.as_slice(), steps)?;
+    let mut text = String::new(alloc);
+    append_all(&mut text, session, steps)?;
+    Ok(text)
+}
+
+fn edits_of(alloc: Global, edits: &str) -> Result<Vec<Edit>, AllocError> {
     let mut list = Vec::new(alloc);
     for line in edits.split('\n') {
         list.push(edit(alloc, line)?)?;
     }
-    session.replay(list.as_slice(), &mut steps)?;
-    let mut text = String::new(alloc);
-    append_all(&mut text, &session, &steps)?;
-    Ok(text)
+    Ok(list)
 }
