@@ -9,4 +9,4 @@ short_letters short = take short.count short.bytes
 
 abbrev pub letters_of : Letters → List ℕ
 letters_of (letters.Short short) = short_letters short
-letters_of (letters.Long bytes) = bytes.value
+letters_of (letters.Long bytes) = bytes

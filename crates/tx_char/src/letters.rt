@@ -4,7 +4,6 @@ ghost use Rattle.tx_char.specs.Letters.{short_letters, letters_of};
 
 use crate::short::{Letters, SHORT, Short};
 use std::alloc::{AllocError, Global};
-use std::rc::Rc;
 use tx_bytes::Bytes;
 
 /// These bytes, if there are few.
@@ -21,14 +20,14 @@ fn in_place(bytes: &[u8]) -> Short
 }
 
 impl Letters {
-    /// These bytes. The only error is want of memory.
-    pub(crate) fn new(alloc: Global, bytes: Bytes) -> Result<Letters, AllocError>
-        ensures { IfOk result (λ letters. letters_of letters ≡ bytes) }
+    /// These bytes; takes no memory.
+    pub(crate) fn new(bytes: Bytes) -> Letters
+        ensures { letters_of result ≡ bytes }
     {
         if bytes.len() <= SHORT {
-            Ok(Letters::Short(in_place(bytes.as_slice())))
+            Letters::Short(in_place(bytes.as_slice()))
         } else {
-            Ok(Letters::Long(Rc::new(alloc, bytes)?))
+            Letters::Long(bytes)
         }
     }
 
@@ -39,8 +38,7 @@ impl Letters {
         if bytes.len() <= SHORT {
             Ok(Letters::Short(in_place(bytes)))
         } else {
-            let bytes = Bytes::from_slice(alloc, bytes)?;
-            Ok(Letters::Long(Rc::new(alloc, bytes)?))
+            Ok(Letters::Long(Bytes::from_slice(alloc, bytes)?))
         }
     }
 
@@ -50,17 +48,7 @@ impl Letters {
     {
         match self {
             Letters::Short(short) => &short.bytes[..short.count as usize],
-            Letters::Long(bytes) => bytes.as_ref().as_slice(),
-        }
-    }
-
-    /// The same bytes for another owner. The only error is that no more owners can be counted.
-    pub(crate) fn share(&self) -> Result<Letters, AllocError>
-        ensures { IfOk result (λ twin. letters_of twin ≡ letters_of self.now) }
-    {
-        match self {
-            Letters::Short(short) => Ok(Letters::Short(*short)),
-            Letters::Long(bytes) => Ok(Letters::Long(bytes.clone()?)),
+            Letters::Long(bytes) => bytes.as_slice(),
         }
     }
 }

@@ -4,14 +4,15 @@ ghost use Rattle.std.specs.Prelude.{◌≡◌, ◌↔◌, IsTrue, IfOk};
 use crate::short::Letters;
 use std::alloc::{AllocError, Global};
 use std::marker::Model;
+use std::rc::Rc;
 use tx_bytes::Bytes;
 use tx_list::Kept;
 
 /// The name of a control sequence, without its escape character; it may be empty. Contracts see the list of its bytes.
-/// A short name takes no memory; the bytes of a longer one are shared by its clones.
+/// Clones share them; a short name stands in one piece of memory.
 #[derive(Drop)]
 pub struct ControlName {
-    letters: Letters,
+    letters: Rc<Letters>,
 }
 
 impl Model for ControlName {
@@ -20,7 +21,7 @@ impl Model for ControlName {
 
     ghost Value = { List ℕ };
 
-    ghost view = { λ n. letters_of n.letters };
+    ghost view = { λ n. letters_of n.letters.value };
 }
 
 impl ControlName {
@@ -29,7 +30,7 @@ impl ControlName {
         ensures { IfOk result (λ name. name ≡ bytes) }
     {
         Ok(ControlName {
-            letters: Letters::new(alloc, bytes)?,
+            letters: Rc::new(alloc, Letters::new(bytes))?,
         })
     }
 
@@ -38,7 +39,7 @@ impl ControlName {
         ensures { IfOk result (λ name. name ≡ bytes.now) }
     {
         Ok(ControlName {
-            letters: Letters::from_slice(alloc, bytes)?,
+            letters: Rc::new(alloc, Letters::from_slice(alloc, bytes)?)?,
         })
     }
 
@@ -46,7 +47,7 @@ impl ControlName {
     pub fn as_slice(&self) -> &[u8]
         ensures { result.now ≡ self.now }
     {
-        self.letters.as_slice()
+        self.letters.as_ref().as_slice()
     }
 
     /// Whether both have the same bytes.
@@ -63,7 +64,7 @@ impl Clone for ControlName {
 
     fn clone(&self) -> Result<Self, AllocError> {
         Ok(ControlName {
-            letters: self.letters.share()?,
+            letters: self.letters.clone()?,
         })
     }
 }

@@ -1,7 +1,6 @@
 //! Where the bytes of a name lie.
 ghost use Rattle.std.specs.Prelude.{◌≤◌};
 
-use std::rc::Rc;
 use tx_bytes::Bytes;
 
 /// So many bytes stand in place: few names have more.
@@ -15,9 +14,9 @@ pub(crate) struct Short {
     ghost within: { count ≤ 14 },
 }
 
-/// The bytes of a name: in place, or shared.
+/// The bytes of a name: in place, or on their own.
 #[derive(Drop)]
 pub(crate) enum Letters {
     Short(Short),
-    Long(Rc<Bytes>),
+    Long(Bytes),
 }

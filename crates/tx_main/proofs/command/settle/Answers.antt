@@ -12,16 +12,6 @@ loop-fed-preserved-in_ok-fed-in-Need c = record {
   on = c.in_ok-fed-in-Need.ensures.on;
 }
 
-pub loop-fed-preserved-in_ok-fed-in-Need-2 : goal.loop-fed-preserved-in_ok-fed-in-Need-2
-loop-fed-preserved-in_ok-fed-in-Need-2 c = record {
-  pending = λ mode head items p.
-      rw c.in_ok-fed-in-Need.ensures.taken
-      (value-pending (value_in c.args.table.now) mode head items c.loop-fed.taken c.in-Need.kind c.loop-fed.stage c.give.new.stage c.in_ok-fed-in-Need.fed
-      (rw c.in-Need.is at (c.loop-fed.invariant.pending mode head items p))
-      (c.in_ok-fed-in-Need.ensures.given mode head) c.in_ok-fed-in-Need.ensures.needs c.in_ok-fed-in-Need.ensures.on);
-  on = c.in_ok-fed-in-Need.ensures.on;
-}
-
 pub loop-fed-preserved : goal.loop-fed-preserved
 loop-fed-preserved c = record {
   pending = λ mode head items p.
