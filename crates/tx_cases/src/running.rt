@@ -14,13 +14,41 @@ struct Tally {
     others: u64,
 }
 
-/// Runs the cases of each file that a word of the command line names.
+/// Runs the cases of each file that a word of the command line names; where there is no word, answers each line of the
+/// standard input.
 pub fn run_files<A: Answers>(rt: &HostRuntime, program: &mut A) -> io::Result<()> {
-    for name in env::args(rt)?.skip(1) {
-        let text = fs::read_to_string(rt, name.as_str())?;
-        run_text(rt, name.as_str(), text.as_str(), program)?;
+    let names = words(rt)?;
+    if names.is_empty() {
+        return answer_lines(rt, program);
+    }
+    for name in names.as_slice() {
+        run_file(rt, name.as_str(), program)?;
     }
     Ok(())
+}
+
+/// The words of the command line behind the program's name.
+fn words(rt: &HostRuntime) -> io::Result<Vec<String>> {
+    Ok(env::args(rt)?.skip(1).collect(rt.alloc())?)
+}
+
+/// Answers what each line of the standard input gives.
+fn answer_lines<A: Answers>(rt: &HostRuntime, program: &mut A) -> io::Result<()> {
+    for line in rt.lines(rt.alloc()) {
+        answer_line(rt, line?.as_str(), program)?;
+    }
+    Ok(())
+}
+
+fn answer_line<A: Answers>(rt: &HostRuntime, line: &str, program: &mut A) -> io::Result<()> {
+    let answer = program.answer(rt, line)?;
+    println!(rt; "{answer}")
+}
+
+/// Runs the cases of one file.
+fn run_file<A: Answers>(rt: &HostRuntime, name: &str, program: &mut A) -> io::Result<()> {
+    let text = fs::read_to_string(rt, name)?;
+    run_text(rt, name, text.as_str(), program)
 }
 
 /// Runs the cases of one text, and says how many there were.

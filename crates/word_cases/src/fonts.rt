@@ -5,32 +5,62 @@ use tx_cases::{answered, first_word, malformed};
 use tx_ligkern::every_word_ends;
 use tx_tfm::{Font, FontError, Size};
 
+/// 16pt, in sp: at this size lengths are the multiples of 2^-20 of the file itself.
+const SIXTEEN_POINTS: i64 = 1048576;
+
 /// The font of a file of hexadecimal bytes, by `font FILE HOW`, where HOW is `design`, `at SP` or `scaled RATIO`, a size;
-/// `first COUNT`, which takes so many bytes; or `changed PLACE VALUE ..`, which gives bytes of it these values.
+/// `first COUNT`, which takes so many bytes; or `changed PLACE VALUE ..`, which gives bytes of it these values. Where HOW is
+/// `real`, the file is a font's as it stands, which is taken at 16pt.
 pub fn take(rt: &HostRuntime, font: &mut Option<Font>, rest: &str) -> io::Result<String> {
     let (name, how) = first_word(rest);
-    let text = fs::read_to_string(rt, name)?;
-    let mut bytes = bytes_of(rt.alloc(), text.as_str())?;
     let (word, numbers) = first_word(how);
+    let mut bytes = contents(rt, name, word == "real")?;
+    Ok(taken(rt.alloc(), font, &mut bytes, word, numbers)?)
+}
+
+fn taken(
+    alloc: Global,
+    font: &mut Option<Font>,
+    bytes: &mut Vec<u8>,
+    word: &str,
+    numbers: &str,
+) -> Result<String, AllocError> {
     if word == "first" {
         bytes.truncate(numbers.parse().unwrap_or(0));
     }
     if word == "changed" && change(bytes.as_mut_slice(), numbers).is_none() {
-        return Ok(malformed(rt.alloc())?);
+        return malformed(alloc);
     }
+    read(alloc, font, bytes.as_slice(), size_of(word, numbers))
+}
+
+/// Reads a font from its bytes, and answers its size, or the rule that it breaks.
+fn read(
+    alloc: Global,
+    font: &mut Option<Font>,
+    bytes: &[u8],
+    size: Size,
+) -> Result<String, AllocError> {
     *font = None;
-    Ok(
-        match Font::read(rt.alloc(), bytes.as_slice(), size_of(word, numbers)) {
-            Ok(read) => {
-                every_word_ends(&read);
-                let size = read.size();
-                *font = Some(read);
-                format!(in rt.alloc(); "{size}")?
-            }
-            Err(FontError::BadFont { rule }) => format!(in rt.alloc(); "rule {rule}")?,
-            Err(FontError::OutOfMemory(error)) => return Err(error.into()),
-        },
-    )
+    match Font::read(alloc, bytes, size) {
+        Ok(read) => {
+            every_word_ends(&read);
+            let size = read.size();
+            *font = Some(read);
+            format!(in alloc; "{size}")
+        }
+        Err(FontError::BadFont { rule }) => format!(in alloc; "rule {rule}"),
+        Err(FontError::OutOfMemory(error)) => Err(error),
+    }
+}
+
+/// The bytes of a real file, or those of which a file tells.
+fn contents(rt: &HostRuntime, name: &str, is_real: bool) -> io::Result<Vec<u8>> {
+    if is_real {
+        return fs::read(rt, name);
+    }
+    let text = fs::read_to_string(rt, name)?;
+    Ok(bytes_of(rt.alloc(), text.as_str())?)
 }
 
 /// The bytes of a text of hexadecimal numbers. A line of `##` says what follows.
@@ -55,11 +85,16 @@ fn append(bytes: &mut Vec<u8>, line: &str) -> Result<(), AllocError> {
 
 /// Gives bytes at places new values; None where the text doesn't say so.
 fn change(bytes: &mut [u8], text: &str) -> Option<()> {
-    let (place, rest) = text.split_once(' ')?;
+    let (place, rest) = first_word(text);
     let (value, rest) = first_word(rest);
-    let byte = bytes.get_mut(place.parse::<usize>().ok()?)?;
-    *byte = value.parse().ok()?;
-    let (place, value) = rest.split_once(' ').unwrap_or((place, value));
+    set(bytes, place, value)?;
+    match rest.split_once(' ') {
+        Some((place, value)) => set(bytes, place, value),
+        None => Some(()),
+    }
+}
+
+fn set(bytes: &mut [u8], place: &str, value: &str) -> Option<()> {
     let byte = bytes.get_mut(place.parse::<usize>().ok()?)?;
     *byte = value.parse().ok()?;
     Some(())
@@ -70,6 +105,7 @@ fn size_of(word: &str, number: &str) -> Size {
     match word {
         "at" => Size::At(number),
         "scaled" => Size::Scaled(number),
+        "real" => Size::At(SIXTEEN_POINTS),
         _ => Size::Design,
     }
 }
@@ -78,7 +114,10 @@ fn size_of(word: &str, number: &str) -> Size {
 ///
 /// - `there C`, `width C`, `height C`, `depth C`, `italic C`, `successor C` and `recipe C`, of a character;
 /// - `parameter NUMBER`, `parameters`, `checksum` and `design`;
-/// - `command LEFT RIGHT`, of two characters, of which `-` is a boundary: the command's third byte, and its kern if it is one.
+/// - `command LEFT RIGHT`, of two characters, of which `-` is a boundary: the command's third byte, and its kern, or the
+///   character that a ligature puts in.
+///
+/// A character stands for itself, or is `=` and its code.
 pub fn answer(
     alloc: Global,
     font: &Option<Font>,
@@ -104,6 +143,9 @@ pub fn answer(
 
 /// A character; None for `-`.
 fn character_of(word: &str) -> Option<u8> {
+    if let Some(code) = word.strip_prefix('=') {
+        return code.parse().ok();
+    }
     match word.as_bytes() {
         [b'-'] => None,
         [code] => Some(*code),
@@ -147,7 +189,7 @@ fn command(
         Some(command) if 128 <= command.c => {
             format!(in alloc; "{}, kern {}", command.c, font.kern(command))
         }
-        Some(command) => format!(in alloc; "{}", command.c),
+        Some(command) => format!(in alloc; "{} to {}", command.c, command.d),
         None => answered(alloc, "none"),
     }
 }

@@ -1,5 +1,6 @@
 //! Cases of tx_hyphen.
 use std::alloc::{AllocError, Global};
+use std::fmt::Display;
 use tx_cases::{answered, malformed};
 use tx_hyphen::hyphens::Hyphens;
 use tx_hyphen::places::Places;
@@ -15,7 +16,7 @@ fn plain() -> [u8; 256] {
 }
 
 /// What comes of `patterns PATTERN ..`, `pattern TEXT` and `exception WORD`, which are added unless one is refused, by its
-/// error's number.
+/// error's number and words.
 pub fn add(
     alloc: Global,
     hyphens: &mut Hyphens,
@@ -25,21 +26,25 @@ pub fn add(
     if word == "exception" {
         return match hyphens.except(alloc, rest.as_bytes(), &plain()) {
             Ok(()) => answered(alloc, "added"),
-            Err(error) => refused(alloc, error.number()),
+            Err(error) => refused(alloc, error.number(), error),
         };
     }
     let end = if word == "pattern" { '\n' } else { ' ' };
     for pattern in rest.split(end) {
         if let Err(error) = hyphens.add(alloc, pattern.as_bytes(), &plain()) {
-            return refused(alloc, error.number());
+            return refused(alloc, error.number(), error);
         }
     }
     answered(alloc, "added")
 }
 
-fn refused(alloc: Global, number: Option<u8>) -> Result<String, AllocError> {
+fn refused<E: Display + Drop>(
+    alloc: Global,
+    number: Option<u8>,
+    error: E,
+) -> Result<String, AllocError> {
     match number {
-        Some(number) => format!(in alloc; "error {number}"),
+        Some(number) => format!(in alloc; "error {number}: {error}"),
         None => Err(AllocError),
     }
 }

@@ -1,5 +1,6 @@
 //! Runs the worked cases of fonts, ligatures and hyphens in the files that the words of its command line name, and prints
-//! how many there are in each, or those that come out otherwise. Each module says what its cases are given. The font, the
+//! how many there are in each, or those that come out otherwise; or answers the lines of its standard input, for checks from
+//! outside, as tools/check-tfm. Each module says what its cases are given. The font, the
 //! patterns and the exceptions that a case has taken are there for those behind it; `fresh` forgets the patterns and the
 //! exceptions, `keep` keeps them, and `same` says whether they are those that were kept.
 //!
@@ -10,6 +11,7 @@ mod fonts;
 mod hyphenating;
 mod ligatures;
 
+use std::alloc::{AllocError, Global};
 use std::io;
 use tx_cases::{Answers, answered, first_word, run_files};
 use tx_hyphen::hyphens::Hyphens;
@@ -26,24 +28,32 @@ struct Desk {
 impl Answers for Desk {
     fn answer(&mut self, rt: &HostRuntime, given: &str) -> io::Result<String> {
         let (word, rest) = first_word(given);
-        Ok(match word {
-            "font" => fonts::take(rt, &mut self.font, rest)?,
-            "compose" => ligatures::answer(rt.alloc(), &self.font, rest)?,
-            "patterns" | "pattern" | "exception" => {
-                hyphenating::add(rt.alloc(), &mut self.hyphens, word, rest)?
-            }
-            "places" => hyphenating::places(rt.alloc(), &self.hyphens, rest)?,
-            "fresh" => {
-                self.hyphens = Hyphens::new(rt.alloc())?;
-                answered(rt.alloc(), "forgotten")?
-            }
-            "keep" => {
-                self.kept = self.hyphens.share()?;
-                answered(rt.alloc(), "kept")?
-            }
-            "same" => format!(in rt.alloc(); "{}", self.kept.same(&self.hyphens))?,
-            _ => fonts::answer(rt.alloc(), &self.font, word, rest)?,
-        })
+        if word == "font" {
+            return fonts::take(rt, &mut self.font, rest);
+        }
+        Ok(told(rt.alloc(), self, word, rest)?)
+    }
+}
+
+/// The answer to what needs no file.
+fn told(alloc: Global, desk: &mut Desk, word: &str, rest: &str) -> Result<String, AllocError> {
+    match word {
+        "compose" => ligatures::answer(alloc, &desk.font, rest),
+        "word" => ligatures::by_codes(alloc, &desk.font, rest),
+        "patterns" | "pattern" | "exception" => {
+            hyphenating::add(alloc, &mut desk.hyphens, word, rest)
+        }
+        "places" => hyphenating::places(alloc, &desk.hyphens, rest),
+        "fresh" => {
+            desk.hyphens = Hyphens::new(alloc)?;
+            answered(alloc, "forgotten")
+        }
+        "keep" => {
+            desk.kept = desk.hyphens.share()?;
+            answered(alloc, "kept")
+        }
+        "same" => format!(in alloc; "{}", desk.kept.same(&desk.hyphens)),
+        _ => fonts::answer(alloc, &desk.font, word, rest),
     }
 }
 
