@@ -1,30 +1,29 @@
-use std::alloc::{AllocError, Global};
+use crate::names::are_digits;
+use std::alloc::AllocError;
 
-/// One to four decimal digits as a number.
-fn number(text: &str) -> Option<u32> {
-    let is_short = 1 <= text.len() && text.len() <= 4;
-    if is_short && text.bytes().all(|c| c.is_ascii_digit()) {
-        text.parse().ok()
-    } else {
-        None
+/// Whether a text is one to four decimal digits, and their number within a range.
+fn is_within(text: &str, least: u32, most: u32) -> bool {
+    match text.parse::<u32>() {
+        Ok(number) => text.len() <= 4 && are_digits(text) && least <= number && number <= most,
+        Err(_) => false,
     }
 }
 
-/// What is wrong with a part of a date, which is to be a number within a range.
-fn part_cause(
-    alloc: Global,
-    part: &str,
+/// Writes what is wrong with a part of a date, if it is the first where something is.
+fn write_part(
+    text: &mut String,
+    name: &str,
     least: u32,
     most: u32,
-    text: &str,
-) -> Result<Option<String>, AllocError> {
-    if let Some(n) = number(text) {
-        if least <= n && n <= most {
-            return Ok(None);
-        }
+    part: &str,
+) -> Result<(), AllocError> {
+    if !text.is_empty() || is_within(part, least, most) {
+        return Ok(());
     }
-    let cause = format!(in alloc; "--date: the {part} is {least} to {most}, and not '{text}'")?;
-    Ok(Some(cause))
+    write!(
+        text,
+        "--date: the {name} is {least} to {most}, and not '{part}'"
+    )
 }
 
 /// The four parts of a date, if there are so many.
@@ -35,22 +34,16 @@ fn parts(text: &str) -> Option<(&str, &str, &str, &str)> {
     Some((year, month, day, minutes))
 }
 
-/// What is wrong with a date first, if something is.
-pub fn date_cause(alloc: Global, text: &str) -> Result<Option<String>, AllocError> {
-    let Some((year, month, day, minutes)) = parts(text) else {
-        let cause = format!(in alloc;
-            "--date: '{text}' isn't Y-M-D-T: year, month, day and minutes since midnight"
-        )?;
-        return Ok(Some(cause));
+/// Writes what is wrong with a date first, if something is.
+pub fn write_date_cause(text: &mut String, date: &str) -> Result<(), AllocError> {
+    let Some((year, month, day, minutes)) = parts(date) else {
+        return write!(
+            text,
+            "--date: '{date}' isn't Y-M-D-T: year, month, day and minutes since midnight"
+        );
     };
-    if let Some(cause) = part_cause(alloc, "year", 1, 9999, year)? {
-        return Ok(Some(cause));
-    }
-    if let Some(cause) = part_cause(alloc, "month", 1, 12, month)? {
-        return Ok(Some(cause));
-    }
-    if let Some(cause) = part_cause(alloc, "day", 1, 31, day)? {
-        return Ok(Some(cause));
-    }
-    part_cause(alloc, "time in minutes", 0, 1439, minutes)
+    write_part(text, "year", 1, 9999, year)?;
+    write_part(text, "month", 1, 12, month)?;
+    write_part(text, "day", 1, 31, day)?;
+    write_part(text, "time in minutes", 0, 1439, minutes)
 }

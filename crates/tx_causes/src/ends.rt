@@ -6,15 +6,20 @@ use tx_seen::TexError;
 
 /// The last line of a run or of an edit that was made; empty where there is none.
 fn last_line(said: &str) -> &str {
-    let made = said.lines().filter(|line| line.contains(" pages, "));
-    made.last().unwrap_or("")
+    let mut last = "";
+    for line in said.lines() {
+        if line.contains(" pages, ") {
+            last = line;
+        }
+    }
+    last
 }
 
-/// ` after edit I`, and nothing for the run before all edits.
-fn moment(alloc: Global, line: &str) -> Result<String, AllocError> {
+/// Writes `, after edit I`, and nothing for the run before all edits.
+fn write_moment(text: &mut String, line: &str) -> Result<(), AllocError> {
     match line.split_once(": ") {
-        Some((edit, _)) if edit.starts_with("edit ") => format!(in alloc; ", after {edit}"),
-        _ => Ok(String::new(alloc)),
+        Some((edit, _)) if edit.starts_with("edit ") => write!(text, ", after {edit}"),
+        _ => Ok(()),
     }
 }
 
@@ -37,80 +42,66 @@ fn page_behind(line: &str) -> u64 {
     }
 }
 
-/// An error in words, by its number as a run prints it.
-fn error_text(alloc: Global, code: &str) -> Result<String, AllocError> {
-    let error = match code.parse::<u8>() {
-        Ok(number) => TexError::of_number(number),
-        Err(_) => None,
-    };
-    match error {
-        Some(error) => error.to_string(alloc),
-        None => "an error without words".to_string(alloc),
+/// Writes an error in words, by its number as a run prints it.
+fn write_error_text(text: &mut String, code: &str) -> Result<(), AllocError> {
+    match TexError::of_number(code.parse().unwrap_or(0)) {
+        Some(error) => write!(text, "{error}"),
+        None => text.push_str("an error without words"),
     }
 }
 
-/// An error of which the end tells the number, and the file and line where it has them.
-fn error_cause(alloc: Global, main: &str, error: &str, moment: &str) -> Result<String, AllocError> {
-    let (code, place) = match error.split_once(" at ") {
-        Some((code, place)) => (code, place.rsplit_once(" line ")),
-        None => (error, None),
-    };
-    let text = error_text(alloc, code)?;
-    match place {
-        Some((name, line)) => format!(in alloc; "{name}:{line}: error {code}: {text}{moment}"),
-        None => format!(in alloc; "{main}: error {code}: {text}{moment}"),
+/// Writes an error of which the end tells the number, and the file and line where it has them.
+fn write_error_cause(text: &mut String, main: &str, error: &str) -> Result<(), AllocError> {
+    let (code, place) = error.split_once(" at ").unwrap_or((error, ""));
+    match place.rsplit_once(" line ") {
+        Some((name, line)) => write!(text, "{name}:{line}: error {code}: ")?,
+        None => write!(text, "{main}: error {code}: ")?,
     }
+    write_error_text(text, code)
 }
 
-/// Why the last run, of which this is the line, didn't end by \end.
-fn line_cause(
-    alloc: Global,
-    run: &Run<'_>,
-    line: &str,
-    moment: &str,
-) -> Result<String, AllocError> {
+/// Writes why the last run, of which this is the line, didn't end by \end.
+fn write_end(text: &mut String, run: &Run<'_>, line: &str) -> Result<(), AllocError> {
     let main = text_of(run.main.as_slice());
-    let end = match line.rsplit_once(", ") {
-        Some((_, end)) => end,
-        None => line,
-    };
+    let (_, end) = line.rsplit_once(", ").unwrap_or(("", line));
     if let Some(error) = end.strip_prefix("error ") {
-        return error_cause(alloc, main, error, moment);
+        return write_error_cause(text, main, error);
     }
     if end == "budget" {
-        let page = page_behind(line);
-        let budget = run.budget;
-        return format!(in alloc;
-            "{main}: page {page} costs more than the budget of {budget}; --budget raises it{moment}"
+        let (page, budget) = (page_behind(line), run.budget);
+        return write!(
+            text,
+            "{main}: page {page} costs more than the budget of {budget}; --budget raises it"
         );
     }
     let pages = pages(line);
-    format!(in alloc;
-        "{main}: the run ends with {pages} pages, as many as it may make; --pages raises that{moment}"
+    write!(
+        text,
+        "{main}: the run ends with {pages} pages, as many as it may make; --pages raises that"
     )
 }
 
-/// Why the last run didn't end by \end, as its line has it.
-pub fn end_cause(alloc: Global, run: &Run<'_>, said: &str) -> Result<String, AllocError> {
+/// Writes why the last run didn't end by \end, as its line has it.
+pub fn write_end_cause(text: &mut String, run: &Run<'_>, said: &str) -> Result<(), AllocError> {
     let line = last_line(said);
-    let moment = moment(alloc, line)?;
-    line_cause(alloc, run, line, moment.as_str())
+    write_end(text, run, line)?;
+    write_moment(text, line)
 }
 
-/// A line for each file, but for the main one, that was listed and isn't there.
-pub fn absent_causes(
+/// Adds a line for each file, but for the main one, that was listed and isn't there.
+pub fn append_absent_causes(
     alloc: Global,
+    lines: &mut Vec<String>,
     run: &Run<'_>,
     read: &FilesRead,
-) -> Result<Vec<String>, AllocError> {
-    let mut lines = Vec::new(alloc);
+) -> Result<(), AllocError> {
     for name in run.files {
         let is_main = name.as_slice() == run.main.as_slice();
         if !is_main && !read.contains(name.as_slice()) {
             lines.push(absent_cause(alloc, name)?)?;
         }
     }
-    Ok(lines)
+    Ok(())
 }
 
 fn absent_cause(alloc: Global, name: &Name) -> Result<String, AllocError> {

@@ -1,15 +1,12 @@
-use std::alloc::{AllocError, Global};
+use std::alloc::AllocError;
 use std::io::{self, ErrorKind};
 use std::str;
 use tx_bytes::Bytes;
 use tx_io::Cause;
 
 /// A name as text.
-pub fn name_text(name: &Bytes) -> &str {
-    match str::from_utf8(name.as_slice()) {
-        Ok(text) => text,
-        Err(_) => "a file whose name isn't text",
-    }
+fn name_text(name: &Bytes) -> &str {
+    str::from_utf8(name.as_slice()).unwrap_or("a file whose name isn't text")
 }
 
 /// What a fault of reading or saving means, where there are words for it.
@@ -31,81 +28,88 @@ fn kind_text(kind: ErrorKind) -> Option<&'static str> {
     }
 }
 
-/// An error of the system in words.
-fn error_text(alloc: Global, error: &io::Error) -> Result<String, AllocError> {
+/// Writes an error of the system in words.
+fn write_error(text: &mut String, error: &io::Error) -> Result<(), AllocError> {
     match kind_text(error.kind()) {
-        Some(text) => text.to_string(alloc),
-        None => error.to_string(alloc),
+        Some(words) => text.push_str(words),
+        None => write!(text, "{error}"),
     }
 }
 
 /// The same of a save, which finds nothing only where the folder isn't there.
-fn save_text(alloc: Global, error: &io::Error) -> Result<String, AllocError> {
+fn write_save_error(text: &mut String, error: &io::Error) -> Result<(), AllocError> {
     match error.kind() {
-        ErrorKind::NotFound => "its folder isn't there".to_string(alloc),
-        _ => error_text(alloc, error),
+        ErrorKind::NotFound => text.push_str("its folder isn't there"),
+        _ => write_error(text, error),
     }
 }
 
-/// Why a file couldn't be read.
-pub fn read_cause(alloc: Global, cause: Option<&Cause>) -> Result<String, AllocError> {
-    let Some(
-        Cause {
-            name: Some(name),
-            error,
-        },
-    ) = cause
-    else {
-        return "a file couldn't be read".to_string(alloc);
-    };
-    let why = error_text(alloc, error)?;
-    format!(in alloc; "{}: {why}", name_text(name))
+/// Writes why a file couldn't be read.
+pub fn write_read_cause(text: &mut String, cause: Option<&Cause>) -> Result<(), AllocError> {
+    match cause {
+        Some(
+            Cause {
+                name: Some(name),
+                error,
+            },
+        ) => {
+            write!(text, "{}: ", name_text(name))?;
+            write_error(text, error)
+        }
+        _ => text.push_str("a file couldn't be read"),
+    }
 }
 
-/// What was saved, in words: each file where they are few, else how many and the last one.
-fn saved_text(alloc: Global, saved: &[Bytes]) -> Result<String, AllocError> {
+/// Writes what was saved: each file where they are few, else how many and the last one.
+fn write_saved(text: &mut String, saved: &[Bytes]) -> Result<(), AllocError> {
     match saved {
-        [] => "nothing was saved before".to_string(alloc),
-        [one] => format!(in alloc; "saved before: {}", name_text(one)),
-        [one, two] => format!(in alloc; "saved before: {} and {}", name_text(one), name_text(two)),
+        [] => text.push_str("nothing was saved before"),
+        [one] => write!(text, "saved before: {}", name_text(one)),
+        [one, two] => write!(
+            text,
+            "saved before: {} and {}",
+            name_text(one),
+            name_text(two)
+        ),
         [.., last] => {
-            format!(in alloc;
-                "saved before: {} files, {} the last of them",
-                saved.len(),
+            let count = saved.len();
+            write!(
+                text,
+                "saved before: {count} files, {} the last of them",
                 name_text(last)
             )
         }
     }
 }
 
-/// Why a file couldn't be saved, or standard output written, and what was saved before.
-fn fault_cause(
-    alloc: Global,
+/// Writes why a file couldn't be saved, or standard output written.
+fn write_fault(
+    text: &mut String,
     name: &Option<Bytes>,
     error: &io::Error,
-    before: &str,
-) -> Result<String, AllocError> {
+) -> Result<(), AllocError> {
     match name {
         Some(name) => {
-            let why = save_text(alloc, error)?;
-            format!(in alloc; "{}: {why}; {before}", name_text(name))
+            write!(text, "{}: ", name_text(name))?;
+            write_save_error(text, error)
         }
         None => {
-            let why = error_text(alloc, error)?;
-            format!(in alloc; "standard output: {why}; {before}")
+            text.push_str("standard output: ")?;
+            write_error(text, error)
         }
     }
 }
 
-/// Why something couldn't be put out, and what was saved before.
-pub fn put_cause(
-    alloc: Global,
+/// Writes why something couldn't be put out, and what was saved before.
+pub fn write_put_cause(
+    text: &mut String,
     cause: Option<&Cause>,
     saved: &[Bytes],
-) -> Result<String, AllocError> {
-    let before = saved_text(alloc, saved)?;
+) -> Result<(), AllocError> {
     match cause {
-        Some(Cause { name, error }) => fault_cause(alloc, name, error, before.as_str()),
-        None => format!(in alloc; "something couldn't be put out; {before}"),
+        Some(Cause { name, error }) => write_fault(text, name, error)?,
+        None => text.push_str("something couldn't be put out")?,
     }
+    text.push_str("; ")?;
+    write_saved(text, saved)
 }

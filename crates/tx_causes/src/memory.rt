@@ -1,21 +1,23 @@
-use crate::faults::read_cause;
-use std::alloc::{AllocError, Global};
+use crate::faults::write_read_cause;
+use std::alloc::AllocError;
 use tx_io::Cause;
 
-/// What was being done where there was no memory left, by what had been said until then.
-pub fn memory_cause(
-    alloc: Global,
+/// Writes what was being done where there was no memory left, by what had been said until then.
+pub fn write_memory_cause(
+    text: &mut String,
     said: &str,
     unread: Option<&Cause>,
-) -> Result<String, AllocError> {
-    let Some(last) = said.lines().last() else {
-        return match unread {
-            Some(_) => read_cause(alloc, unread),
-            None => "no memory is left for the words, the files or the first run".to_string(alloc),
-        };
-    };
+) -> Result<(), AllocError> {
+    match said.lines().last() {
+        Some(last) => write_behind(text, last),
+        None if unread.is_some() => write_read_cause(text, unread),
+        None => text.push_str("no memory is left for the words, the files or the first run"),
+    }
+}
+
+fn write_behind(text: &mut String, last: &str) -> Result<(), AllocError> {
     match last.strip_suffix(": memory") {
-        Some(edit) => format!(in alloc; "no memory is left at {edit}; all is as before it"),
-        None => format!(in alloc; "no memory is left for what comes behind '{last}'"),
+        Some(edit) => write!(text, "no memory is left at {edit}; all is as before it"),
+        None => write!(text, "no memory is left for what comes behind '{last}'"),
     }
 }

@@ -1,44 +1,62 @@
-use std::alloc::{AllocError, Global};
+use std::alloc::AllocError;
 use tx_files::name::is_name;
 
-/// What is wrong with a name, if something is; `whose` says what it is to be the name of.
-pub fn name_cause(alloc: Global, whose: &str, text: &str) -> Result<Option<String>, AllocError> {
-    if is_name(text.as_bytes()) {
-        return Ok(None);
+/// Whether a text has decimal digits alone.
+pub fn are_digits(text: &str) -> bool {
+    for byte in text.as_bytes() {
+        if !byte.is_ascii_digit() {
+            return false;
+        }
     }
-    let cause = if text.is_empty() {
-        format!(in alloc; "{whose}: the name is empty")?
-    } else if text.len() > 255 {
-        format!(in alloc;
-            "{whose}: the name has {} bytes, and 255 is the most",
-            text.len()
-        )?
-    } else {
-        format!(in alloc; "{whose}: '{text}' is no name, it may have no space and only ASCII")?
-    };
-    Ok(Some(cause))
+    true
+}
+
+/// Writes what is wrong with a name, if something is; `whose` says what it is to be the name of.
+pub fn write_name_cause(text: &mut String, whose: &str, name: &str) -> Result<(), AllocError> {
+    if is_name(name.as_bytes()) {
+        return Ok(());
+    }
+    match name.len() {
+        0 => write!(text, "{whose}: the name is empty"),
+        1..=255 => write!(
+            text,
+            "{whose}: '{name}' is no name, it may have no space and only ASCII"
+        ),
+        length => write!(
+            text,
+            "{whose}: the name has {length} bytes, and 255 is the most"
+        ),
+    }
+}
+
+fn is_among(text: &str, others: &[&str]) -> bool {
+    for other in others {
+        if *other == text {
+            return true;
+        }
+    }
+    false
 }
 
 /// The first of the texts that stands again behind itself.
 fn repeated<'a>(texts: &[&'a str]) -> Option<&'a str> {
     for i in 0..texts.len() {
-        let text = texts[i];
-        if texts[i + 1..].iter().any(|other| *other == text) {
-            return Some(text);
+        if is_among(texts[i], &texts[i + 1..]) {
+            return Some(texts[i]);
         }
     }
     None
 }
 
-/// What is wrong with the names of the files first, if something is.
-pub fn files_cause(alloc: Global, texts: &[&str]) -> Result<Option<String>, AllocError> {
-    for text in texts {
-        if let Some(cause) = name_cause(alloc, "a file", text)? {
-            return Ok(Some(cause));
+/// Writes what is wrong with the names of the files first, if something is.
+pub fn write_files_cause(text: &mut String, names: &[&str]) -> Result<(), AllocError> {
+    for name in names {
+        if text.is_empty() {
+            write_name_cause(text, "a file", name)?;
         }
     }
-    match repeated(texts) {
-        Some(text) => Ok(Some(format!(in alloc; "{text}: it stands twice among the files")?)),
-        None => Ok(None),
+    match repeated(names) {
+        Some(name) if text.is_empty() => write!(text, "{name}: it stands twice among the files"),
+        _ => Ok(()),
     }
 }

@@ -3,17 +3,6 @@ use std::alloc::{AllocError, Global};
 use tx_files::Edit;
 use tx_script::{Command, Script, read_script};
 
-/// The edits of a script, in order.
-fn edits(alloc: Global, script: &Script) -> Result<Vec<&Edit>, AllocError> {
-    let mut edits = Vec::new(alloc);
-    for command in script.as_slice() {
-        if let Command::Edit(edit) = command {
-            edits.push(edit)?;
-        }
-    }
-    Ok(edits)
-}
-
 /// The number of an edit that lay outside, and the length of its file, as its line says.
 fn outside(line: &str) -> Option<(u64, &str)> {
     let (number, behind) = line
@@ -22,10 +11,18 @@ fn outside(line: &str) -> Option<(u64, &str)> {
     Some((number.parse().ok()?, behind.strip_suffix(" bytes")?))
 }
 
-/// The edit of this number, counted from 1.
-fn edit_of<'a>(edits: &[&'a Edit], number: u64) -> Option<&'a Edit> {
-    let place = number.checked_sub(1)?;
-    edits.get(usize::try_from(place).ok()?).copied()
+/// The edit of this number among the commands of a script, counted from 1.
+fn edit_of(commands: &[Command], number: u64) -> Option<&Edit> {
+    let mut left = number;
+    for command in commands {
+        if let Command::Edit(edit) = command {
+            left = left.checked_sub(1)?;
+            if left == 0 {
+                return Some(edit);
+            }
+        }
+    }
+    None
 }
 
 fn line_of(
@@ -39,23 +36,32 @@ fn line_of(
             "edit {number}: it goes past the end of its file, which has {len} bytes"
         );
     };
-    let name = text_of(edit.name.as_slice());
-    let end = edit.place.saturating_add(edit.removed);
-    format!(in alloc;
-        "edit {number}: it takes bytes {} to {end} of {name}, which has {len}",
-        edit.place
-    )
+    let (name, place) = (text_of(edit.name.as_slice()), edit.place);
+    let end = place.saturating_add(edit.removed);
+    format!(in alloc; "edit {number}: it takes bytes {place} to {end} of {name}, which has {len}")
 }
 
-/// A line for each edit that lay outside its file, by what was said and by the script's bytes.
-pub fn outside_causes(alloc: Global, said: &str, bytes: &[u8]) -> Result<Vec<String>, AllocError> {
-    let script = read_script(alloc, bytes).unwrap_or(Script::new(alloc));
-    let edits = edits(alloc, &script)?;
-    let mut lines = Vec::new(alloc);
+fn append_lines(
+    alloc: Global,
+    lines: &mut Vec<String>,
+    said: &str,
+    commands: &[Command],
+) -> Result<(), AllocError> {
     for line in said.lines() {
         if let Some((number, len)) = outside(line) {
-            lines.push(line_of(alloc, edit_of(edits.as_slice(), number), number, len)?)?;
+            lines.push(line_of(alloc, edit_of(commands, number), number, len)?)?;
         }
     }
-    Ok(lines)
+    Ok(())
+}
+
+/// Adds a line for each edit that lay outside its file, by what was said and by the script's bytes.
+pub fn append_outside_causes(
+    alloc: Global,
+    lines: &mut Vec<String>,
+    said: &str,
+    bytes: &[u8],
+) -> Result<(), AllocError> {
+    let script = read_script(alloc, bytes).unwrap_or(Script::new(alloc));
+    append_lines(alloc, lines, said, script.as_slice())
 }

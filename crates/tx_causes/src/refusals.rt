@@ -1,5 +1,5 @@
-use crate::dates::date_cause;
-use crate::names::{files_cause, name_cause};
+use crate::dates::write_date_cause;
+use crate::names::{are_digits, write_files_cause, write_name_cause};
 use clap::ArgMatches;
 use clap::error::{Error, ErrorKind};
 use std::alloc::{AllocError, Global};
@@ -26,140 +26,132 @@ fn option_of(thing: &str) -> &str {
 /// The first paragraph of the parser's text, in one line.
 fn paragraph(alloc: Global, text: &str) -> Result<String, AllocError> {
     let text = text.strip_prefix("error: ").unwrap_or(text);
-    let first = match text.split_once("\n\n") {
-        Some((first, _)) => first,
-        None => text,
-    };
+    let (first, _) = text.split_once("\n\n").unwrap_or((text, ""));
     let mut line = String::new(alloc);
-    for part in first.split_ascii_whitespace() {
+    write_words(&mut line, first)?;
+    Ok(line)
+}
+
+fn write_words(line: &mut String, text: &str) -> Result<(), AllocError> {
+    for part in text.split_ascii_whitespace() {
         if !line.is_empty() {
             line.push_str(" ")?;
         }
         line.push_str(part)?;
     }
-    Ok(line)
+    Ok(())
 }
 
-/// What the parser of command lines finds wrong first.
-fn parser_cause(alloc: Global, error: &Error) -> Result<String, AllocError> {
+/// Writes what the parser of command lines finds wrong first.
+fn write_parser_cause(alloc: Global, text: &mut String, error: &Error) -> Result<(), AllocError> {
     let whole = error.to_string(alloc)?;
-    let text = paragraph(alloc, whole.as_str())?;
-    let thing = quoted(text.as_str());
-    match error.kind() {
-        ErrorKind::UnknownArgument => format!(in alloc; "{thing}: no such option here"),
-        ErrorKind::InvalidSubcommand => format!(in alloc; "{thing}: no such command, it is run"),
-        ErrorKind::MissingSubcommand => "no command is given, it is run".to_string(alloc),
-        ErrorKind::ArgumentConflict => format!(in alloc; "{}: given twice", option_of(thing)),
-        ErrorKind::InvalidValue => format!(in alloc;
-            "{}: a value is missing behind it",
-            option_of(thing)
-        ),
-        _ => Ok(text),
+    write_told(alloc, text, error.kind(), whole.as_str())
+}
+
+fn write_told(
+    alloc: Global,
+    text: &mut String,
+    kind: ErrorKind,
+    whole: &str,
+) -> Result<(), AllocError> {
+    let line = paragraph(alloc, whole)?;
+    write_kind(text, kind, line.as_str(), quoted(line.as_str()))
+}
+
+fn write_kind(
+    text: &mut String,
+    kind: ErrorKind,
+    line: &str,
+    thing: &str,
+) -> Result<(), AllocError> {
+    match kind {
+        ErrorKind::UnknownArgument => write!(text, "{thing}: no such option here"),
+        ErrorKind::InvalidSubcommand => write!(text, "{thing}: no such command, it is run"),
+        ErrorKind::MissingSubcommand => text.push_str("no command is given, it is run"),
+        ErrorKind::ArgumentConflict => write!(text, "{}: given twice", option_of(thing)),
+        ErrorKind::InvalidValue => {
+            write!(text, "{}: a value is missing behind it", option_of(thing))
+        }
+        _ => text.push_str(line),
     }
 }
 
 /// Whether a text is a number from 1 to the most, in digits alone and without a zero in front.
 fn is_limit(text: &str, most: u64) -> bool {
-    let is_plain = !text.starts_with('0') && text.bytes().all(|c| c.is_ascii_digit());
     match text.parse::<u64>() {
-        Ok(number) => is_plain && 1 <= number && number <= most,
+        Ok(number) => {
+            !text.starts_with('0') && are_digits(text) && 1 <= number && number <= most
+        }
         Err(_) => false,
     }
 }
 
-/// What is wrong with the value of an option that is a number, if something is.
-fn limit_cause(
-    alloc: Global,
+/// Writes what is wrong with the value of an option that is a number, if it is the first where something is.
+fn write_limit(
+    text: &mut String,
     name: &str,
     most: u64,
-    found: &ArgMatches<'_>,
-) -> Result<Option<String>, AllocError> {
-    let Some(text) = found.get_str(name) else {
-        return Ok(None);
-    };
-    if is_limit(text, most) {
-        return Ok(None);
+    value: Option<&str>,
+) -> Result<(), AllocError> {
+    match value {
+        Some(value) if text.is_empty() && !is_limit(value, most) => {
+            write!(
+                text,
+                "--{name}: a number from 1 to {most} is wanted, in digits alone and without a zero in front, and not '{value}'"
+            )
+        }
+        _ => Ok(()),
     }
-    let cause = format!(in alloc;
-        "--{name}: a number from 1 to {most} is wanted, in digits alone and without a zero in front, and not '{text}'"
-    )?;
-    Ok(Some(cause))
 }
 
-fn limits_cause(alloc: Global, found: &ArgMatches<'_>) -> Result<Option<String>, AllocError> {
-    if let Some(cause) = limit_cause(alloc, "budget", 1_000_000_000, found)? {
-        return Ok(Some(cause));
+/// Writes what is wrong with the value of an option that is a name, if it is the first where something is.
+fn write_option(text: &mut String, whose: &str, value: Option<&str>) -> Result<(), AllocError> {
+    match value {
+        Some(value) if text.is_empty() => write_name_cause(text, whose, value),
+        _ => Ok(()),
     }
-    if let Some(cause) = limit_cause(alloc, "pages", 10_000, found)? {
-        return Ok(Some(cause));
-    }
-    limit_cause(alloc, "keep", 10_000, found)
 }
 
-/// What is wrong with the value of an option that is a name, if it is given and something is.
-fn option_cause(
-    alloc: Global,
-    name: &str,
-    found: &ArgMatches<'_>,
-) -> Result<Option<String>, AllocError> {
-    let Some(text) = found.get_str(name) else {
-        return Ok(None);
-    };
-    let whose = format!(in alloc; "--{name}")?;
-    name_cause(alloc, whose.as_str(), text)
-}
-
-fn names_cause(alloc: Global, found: &ArgMatches<'_>) -> Result<Option<String>, AllocError> {
-    if let Some(cause) = option_cause(alloc, "out", found)? {
-        return Ok(Some(cause));
+/// Writes what is wrong with the values that `run` is given first, if something is.
+fn write_values_cause(text: &mut String, found: &ArgMatches<'_>) -> Result<(), AllocError> {
+    if let Some(date) = found.get_str("date") {
+        write_date_cause(text, date)?;
     }
-    if let Some(cause) = option_cause(alloc, "script", found)? {
-        return Ok(Some(cause));
-    }
+    write_limit(text, "budget", 1_000_000_000, found.get_str("budget"))?;
+    write_limit(text, "pages", 10_000, found.get_str("pages"))?;
+    write_limit(text, "keep", 10_000, found.get_str("keep"))?;
+    write_option(text, "--out", found.get_str("out"))?;
+    write_option(text, "--script", found.get_str("script"))?;
     match found.get_raw("file") {
-        Some(texts) => files_cause(alloc, texts),
-        None => Ok(None),
+        Some(names) if text.is_empty() => write_files_cause(text, names),
+        _ => Ok(()),
     }
 }
 
-/// What is wrong with the values that `run` is given first, if something is.
-fn values_cause(alloc: Global, found: &ArgMatches<'_>) -> Result<Option<String>, AllocError> {
-    if let Some(text) = found.get_str("date") {
-        if let Some(cause) = date_cause(alloc, text)? {
-            return Ok(Some(cause));
-        }
-    }
-    if let Some(cause) = limits_cause(alloc, found)? {
-        return Ok(Some(cause));
-    }
-    names_cause(alloc, found)
-}
-
-/// What is wrong with the words first, where the parser takes them or doesn't.
-fn fault(
-    alloc: Global,
-    parsed: Result<&ArgMatches<'_>, &Error>,
-) -> Result<Option<String>, AllocError> {
-    match parsed {
-        Err(error) => Ok(Some(parser_cause(alloc, error)?)),
-        Ok(matches) => match matches.subcommand() {
-            Some((_, found)) => values_cause(alloc, found),
-            None => Ok(None),
-        },
-    }
-}
-
-/// What is wrong with the words behind `help`, where they begin with that.
-fn help_cause(alloc: Global, words: &[String]) -> Result<Option<String>, AllocError> {
+/// Writes what is wrong with the words behind `help`.
+fn write_help_cause(text: &mut String, words: &[String]) -> Result<(), AllocError> {
     match words {
-        [first, command] if first.as_str() == "help" => {
-            let cause = format!(in alloc; "{}: no such command, it is run", command.as_str())?;
-            Ok(Some(cause))
-        }
-        [first, ..] if first.as_str() == "help" => {
-            Ok(Some("help: it takes one command".to_string(alloc)?))
-        }
-        _ => Ok(None),
+        [command] => write!(text, "{}: no such command, it is run", command.as_str()),
+        _ => text.push_str("help: it takes one command"),
+    }
+}
+
+/// Writes what is wrong with the words first, if something is, where the parser takes them or doesn't.
+fn write_fault(
+    alloc: Global,
+    text: &mut String,
+    words: &[String],
+    parsed: Result<&ArgMatches<'_>, &Error>,
+) -> Result<(), AllocError> {
+    match words {
+        [first, behind @ ..] if first.as_str() == "help" => write_help_cause(text, behind),
+        _ => match parsed {
+            Err(error) => write_parser_cause(alloc, text, error),
+            Ok(matches) => match matches.subcommand() {
+                Some((_, found)) => write_values_cause(text, found),
+                None => Ok(()),
+            },
+        },
     }
 }
 
@@ -177,13 +169,20 @@ pub fn words_cause(
     words: &[String],
     parsed: Result<&ArgMatches<'_>, &Error>,
 ) -> Result<String, AllocError> {
-    let help = help_for(words);
-    let fault = match help_cause(alloc, words)? {
-        Some(cause) => Some(cause),
-        None => fault(alloc, parsed)?,
-    };
-    match fault {
-        Some(fault) => format!(in alloc; "{fault}, see {help}"),
-        None => format!(in alloc; "the words are refused, see {help}"),
+    let mut text = String::new(alloc);
+    write_words_cause(alloc, &mut text, words, parsed)?;
+    Ok(text)
+}
+
+fn write_words_cause(
+    alloc: Global,
+    text: &mut String,
+    words: &[String],
+    parsed: Result<&ArgMatches<'_>, &Error>,
+) -> Result<(), AllocError> {
+    write_fault(alloc, text, words, parsed)?;
+    if text.is_empty() {
+        text.push_str("the words are refused")?;
     }
+    write!(text, ", see {}", help_for(words))
 }

@@ -1,4 +1,4 @@
-use std::alloc::{AllocError, Global};
+use std::alloc::AllocError;
 
 /// A line and a column, both counted from 1.
 #[derive(Clone, Copy)]
@@ -55,26 +55,33 @@ fn refusal(said: &str) -> Option<(&str, &str)> {
     Some((place, rule.strip_suffix("\n").unwrap_or(rule)))
 }
 
-/// Why a script was refused, by what was said of it and by its bytes, where they can be had.
-pub fn script_cause(
-    alloc: Global,
+/// Writes why a script was refused, by what was said of it and by its bytes, where they can be had.
+pub fn write_script_cause(
+    text: &mut String,
     name: &str,
     said: &str,
     bytes: Option<&[u8]>,
-) -> Result<String, AllocError> {
-    let Some((place, rule)) = refusal(said) else {
-        return format!(in alloc; "{name}: it is no script");
-    };
-    if rule == "1" {
-        return format!(in alloc; "{name}: there is no such script");
+) -> Result<(), AllocError> {
+    match refusal(said) {
+        None => write!(text, "{name}: it is no script"),
+        Some((_, "1")) => write!(text, "{name}: there is no such script"),
+        Some((place, rule)) => write_wanted(text, name, place, wanted(rule), bytes),
     }
-    let wanted = wanted(rule);
-    let (Some(bytes), Ok(number)) = (bytes, place.parse::<u64>()) else {
-        return format!(in alloc; "{name}: at byte {place} is wanted {wanted}");
-    };
-    let spot = spot_of(bytes, number);
-    format!(in alloc;
-        "{name}:{}:{}: here is wanted {wanted}",
-        spot.line, spot.column
-    )
+}
+
+/// Writes what is wanted at a place: by its line and column, where the bytes can be had.
+fn write_wanted(
+    text: &mut String,
+    name: &str,
+    place: &str,
+    wanted: &str,
+    bytes: Option<&[u8]>,
+) -> Result<(), AllocError> {
+    match (bytes, place.parse::<u64>()) {
+        (Some(bytes), Ok(number)) => {
+            let Spot { line, column } = spot_of(bytes, number);
+            write!(text, "{name}:{line}:{column}: here is wanted {wanted}")
+        }
+        _ => write!(text, "{name}: at byte {place} is wanted {wanted}"),
+    }
 }
