@@ -2,7 +2,7 @@
 use std::alloc::{AllocError, Global};
 use std::{fs, io};
 use tx_bytes::Bytes;
-use tx_cases::{answered, bytes_of, hexadecimal, text_of};
+use tx_cases::{bytes_of, hexadecimal, text_of};
 use tx_io::{MemorySink, MemorySource};
 use tx_machine::CountsTurns;
 use vortex_cmd::vortex::vortex;
@@ -16,31 +16,58 @@ use vortex_cmd::vortex::vortex;
 ///
 /// The answer is the status, what was said, and the files that are shown.
 pub fn outcome(rt: &HostRuntime, words: &str, lines: &str) -> io::Result<String> {
-    let alloc = rt.alloc();
-    let mut source = MemorySource::new(alloc, failing(alloc, "fails fetch ", lines)?);
-    put_files(rt, &mut source, lines)?;
+    let failing = failing(rt.alloc(), "fails fetch ", lines)?;
+    called(
+        rt,
+        &mut MemorySource::new(rt.alloc(), failing),
+        words,
+        lines,
+    )
+}
+
+fn called(
+    rt: &HostRuntime,
+    source: &mut MemorySource,
+    words: &str,
+    lines: &str,
+) -> io::Result<String> {
+    put_files(rt, source, lines)?;
+    let mut sink = sink_of(rt.alloc(), lines)?;
+    Ok(told(rt, words, source, &mut sink, lines)?)
+}
+
+fn sink_of(alloc: Global, lines: &str) -> Result<MemorySink, AllocError> {
     let says = failing(alloc, "fails say ", lines)?;
-    let mut sink = MemorySink::new(alloc, says, failing(alloc, "fails save ", lines)?);
+    let saves = failing(alloc, "fails save ", lines)?;
+    Ok(MemorySink::new(alloc, says, saves))
+}
+
+fn told(
+    rt: &HostRuntime,
+    words: &str,
+    source: &mut MemorySource,
+    sink: &mut MemorySink,
+    lines: &str,
+) -> Result<String, AllocError> {
+    let alloc = rt.alloc();
     let words = words_of(alloc, words)?;
-    let status = vortex(
-        alloc,
-        words.as_slice(),
-        &mut source,
-        &mut sink,
-        &mut rt.steps(),
-    );
-    Ok(shown(alloc, status, &sink, lines)?)
+    let status = vortex(alloc, words.as_slice(), source, sink, &mut rt.steps());
+    shown(alloc, status, sink, lines)
 }
 
 fn words_of(alloc: Global, text: &str) -> Result<Vec<String>, AllocError> {
     let mut words = Vec::new(alloc);
-    if text.is_empty() {
-        return Ok(words);
+    if !text.is_empty() {
+        push_words(alloc, &mut words, text)?;
     }
+    Ok(words)
+}
+
+fn push_words(alloc: Global, words: &mut Vec<String>, text: &str) -> Result<(), AllocError> {
     for word in text.split('|') {
         words.push(String::from_str(alloc, word)?)?;
     }
-    Ok(words)
+    Ok(())
 }
 
 /// The numbers of the lines that begin so.
@@ -54,23 +81,48 @@ fn failing(alloc: Global, begin: &str, lines: &str) -> Result<Vec<u64>, AllocErr
     Ok(numbers)
 }
 
+/// A file that lines are put into; without a name there is none yet.
+#[derive(Drop)]
+struct File {
+    name: Bytes,
+    bytes: Bytes,
+}
+
 fn put_files(rt: &HostRuntime, source: &mut MemorySource, lines: &str) -> io::Result<()> {
-    let alloc = rt.alloc();
-    let mut name = String::new(alloc);
-    let mut bytes = Bytes::new(alloc);
+    let mut file = File {
+        name: Bytes::new(rt.alloc()),
+        bytes: Bytes::new(rt.alloc()),
+    };
+    put_each(rt, source, &mut file, lines)
+}
+
+/// Puts the files into the source; the one that a line belongs to is lent.
+fn put_each(
+    rt: &HostRuntime,
+    source: &mut MemorySource,
+    file: &mut File,
+    lines: &str,
+) -> io::Result<()> {
     for line in lines.split('\n') {
-        if let Some(begun) = line.strip_prefix("file ") {
-            name = String::from_str(alloc, begun)?;
-            bytes = Bytes::new(alloc);
-        } else if let Some((taken, file)) = taken_from(line) {
-            name = String::from_str(alloc, taken)?;
-            bytes = Bytes::from_vec(fs::read(rt, file)?);
-        } else {
-            append(alloc, &mut bytes, line)?;
+        fill(rt, file, line)?;
+        if !file.name.is_empty() {
+            source.put(rt.alloc(), file.name.as_slice(), file.bytes.as_slice())?;
         }
-        if !name.is_empty() {
-            source.put(alloc, name.as_str().as_bytes(), bytes.as_slice())?;
-        }
+    }
+    Ok(())
+}
+
+/// Begins a file anew, or puts what a line says at its end.
+fn fill(rt: &HostRuntime, file: &mut File, line: &str) -> io::Result<()> {
+    let alloc = rt.alloc();
+    if let Some((name, taken)) = taken_from(line) {
+        file.name = Bytes::from_slice(alloc, name.as_bytes())?;
+        file.bytes = Bytes::from_vec(fs::read(rt, taken)?);
+    } else if let Some(name) = line.strip_prefix("file ") {
+        file.name = Bytes::from_slice(alloc, name.as_bytes())?;
+        file.bytes = Bytes::new(alloc);
+    } else {
+        append(alloc, &mut file.bytes, line)?;
     }
     Ok(())
 }
@@ -92,28 +144,50 @@ fn append(alloc: Global, bytes: &mut Bytes, line: &str) -> Result<(), AllocError
 }
 
 fn shown(alloc: Global, status: u8, sink: &MemorySink, lines: &str) -> Result<String, AllocError> {
-    let said = text_of(alloc, sink.said())?;
-    let mut text = format!(in alloc; "status {status}\n{said}")?;
-    for line in lines.split('\n') {
-        if let Some(name) = line.strip_prefix("saved ") {
-            let file = saved(alloc, name, sink.saved(name.as_bytes()))?;
-            write!(text, "{name}:{file}\n")?;
-        }
-    }
+    let mut text = String::new(alloc);
+    write!(text, "status {status}\n")?;
+    write_text(alloc, &mut text, sink.said())?;
+    write_saved(alloc, &mut text, sink, lines)?;
     Ok(text)
 }
 
-fn saved(alloc: Global, name: &str, file: Option<&Bytes>) -> Result<String, AllocError> {
-    let Some(file) = file else {
-        return answered(alloc, " nothing");
-    };
-    if file.is_empty() {
-        return answered(alloc, " empty");
+fn write_text(alloc: Global, text: &mut String, bytes: &[u8]) -> Result<(), AllocError> {
+    text.push_str(text_of(alloc, bytes)?.as_str())
+}
+
+/// Writes the files that are to be shown.
+fn write_saved(
+    alloc: Global,
+    text: &mut String,
+    sink: &MemorySink,
+    lines: &str,
+) -> Result<(), AllocError> {
+    for line in lines.split('\n') {
+        if let Some(name) = line.strip_prefix("saved ") {
+            text.push_str(name)?;
+            write_file(alloc, text, name, sink.saved(name.as_bytes()))?;
+        }
     }
-    let text = if name.ends_with(".dvi") {
-        hexadecimal(alloc, file.as_slice())?
-    } else {
-        text_of(alloc, file.as_slice())?
-    };
-    format!(in alloc; "\n{text}")
+    Ok(())
+}
+
+fn write_file(
+    alloc: Global,
+    text: &mut String,
+    name: &str,
+    file: Option<&Bytes>,
+) -> Result<(), AllocError> {
+    match file {
+        None => text.push_str(": nothing\n"),
+        Some(file) if file.is_empty() => text.push_str(": empty\n"),
+        Some(file) => {
+            text.push_str(":\n")?;
+            if name.ends_with(".dvi") {
+                text.push_str(hexadecimal(alloc, file.as_slice())?.as_str())?;
+            } else {
+                write_text(alloc, text, file.as_slice())?;
+            }
+            text.push('\n')
+        }
+    }
 }

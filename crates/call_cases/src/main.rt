@@ -36,16 +36,23 @@ impl Answers for Program {
             "call" => outcome(rt, words, lines),
             "same" => {
                 let plain = outcome(rt, PLAIN, DOCUMENT)?;
-                told(rt, plain.as_str(), "same", outcome(rt, words, DOCUMENT)?)
+                compared(rt, words, DOCUMENT, plain.as_str(), "same")
             }
-            "refused" => told(rt, REFUSED, "refused", outcome(rt, words, UNFETCHED)?),
+            "refused" => compared(rt, words, UNFETCHED, REFUSED, "refused"),
             _ => Ok(malformed(rt.alloc())?),
         }
     }
 }
 
-/// The word, where what is found is what is expected, and else that.
-fn told(rt: &HostRuntime, expected: &str, word: &str, found: String) -> io::Result<String> {
+/// The word, where what comes of a call is what is expected, and else that.
+fn compared(
+    rt: &HostRuntime,
+    words: &str,
+    lines: &str,
+    expected: &str,
+    word: &str,
+) -> io::Result<String> {
+    let found = outcome(rt, words, lines)?;
     if found.as_str() == expected {
         return Ok(answered(rt.alloc(), word)?);
     }
