@@ -1,7 +1,7 @@
-ghost use Rattle.std.specs.Prelude.{◌≡◌, IfOk, false};
-ghost use Rattle.clap.specs.Words.{app_of, rule_of};
+ghost use Rattle.std.specs.Prelude.{◌≡◌, ◌||◌, IfOk, false};
+ghost use Rattle.clap.specs.Words.{app_of, rule_of, with_rule};
 ghost use Rattle.clap.specs.declared.builder.command.Command.TheViews.{out-Command as fields_of};
-ghost use Rattle.vortex_cmd.specs.CommandLine.{option_rule, required_rule, run_command, command_line};
+ghost use Rattle.vortex_cmd.specs.CommandLine.{option_rule, required_rule, files_rule, run_command, command_line};
 
 use clap::{Arg, ArgAction, Command};
 use std::alloc::{AllocError, Global};
@@ -22,27 +22,54 @@ fn required_option<'a>(alloc: Global, name: &'a str) -> Arg<'a>
     option(alloc, name).required(true)
 }
 
+/// The command with such an option more.
+fn with_option<'a>(
+    alloc: Global,
+    command: Command<'a>,
+    name: &'a str,
+) -> Result<Command<'a>, AllocError>
+    ensures app { IfOk result (λ all. app_of all ≡ with_rule (app_of command.entry) (option_rule name.entry.now)) }
+    ensures local { IfOk result (λ all. (fields_of all).has_globals ≡ ((fields_of command.entry).has_globals || false)) }
+{
+    command.arg(option(alloc, name))
+}
+
+/// The command with an option more that must be there.
+fn with_required<'a>(
+    alloc: Global,
+    command: Command<'a>,
+    name: &'a str,
+) -> Result<Command<'a>, AllocError>
+    ensures app { IfOk result (λ all. app_of all ≡ with_rule (app_of command.entry) (required_rule name.entry.now)) }
+    ensures local { IfOk result (λ all. (fields_of all).has_globals ≡ ((fields_of command.entry).has_globals || false)) }
+{
+    command.arg(required_option(alloc, name))
+}
+
+/// The command with files, at least one.
+fn with_files<'a>(alloc: Global, command: Command<'a>) -> Result<Command<'a>, AllocError>
+    ensures app { IfOk result (λ all. app_of all ≡ with_rule (app_of command.entry) files_rule) }
+    ensures local { IfOk result (λ all. (fields_of all).has_globals ≡ ((fields_of command.entry).has_globals || false)) }
+{
+    command.arg(
+        Arg::new(alloc, "file")
+            .required(true)
+            .action(ArgAction::Append),
+    )
+}
+
+/// The command `run`. Each option is made where it is added: those that waited would be dropped at each want of memory.
 fn run_command<'a>(alloc: Global) -> Result<Command<'a>, AllocError>
     ensures app { IfOk result (λ run. app_of run ≡ run_command) }
     ensures local { IfOk result (λ run. (fields_of run).has_globals ≡ false) }
 {
-    let date = required_option(alloc, "date");
-    let out = required_option(alloc, "out");
-    let script = option(alloc, "script");
-    let budget = option(alloc, "budget");
-    let pages = option(alloc, "pages");
-    let keep = option(alloc, "keep");
-    let files = Arg::new(alloc, "file")
-        .required(true)
-        .action(ArgAction::Append);
-    Command::new(alloc, "run")
-        .arg(date)?
-        .arg(out)?
-        .arg(script)?
-        .arg(budget)?
-        .arg(pages)?
-        .arg(keep)?
-        .arg(files)
+    let dated = with_required(alloc, Command::new(alloc, "run"), "date")?;
+    let named = with_required(alloc, dated, "out")?;
+    let scripted = with_option(alloc, named, "script")?;
+    let bounded = with_option(alloc, scripted, "budget")?;
+    let paged = with_option(alloc, bounded, "pages")?;
+    let keeping = with_option(alloc, paged, "keep")?;
+    with_files(alloc, keeping)
 }
 
 /// The command line of `vortex`, for the words behind the program's name.

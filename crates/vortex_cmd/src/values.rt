@@ -4,7 +4,7 @@ ghost use Rattle.std.specs.List.{list_all, list_any};
 ghost use Rattle.std.specs.Str.{bytes_eq};
 ghost use Rattle.tx_files.specs.Names.{is_name};
 ghost use Rattle.tx_machine.specs.Ranges.{IsDate};
-ghost use Rattle.vortex_cmd.specs.Values.{is_number, number, checked, date_of, date_meant, named, begins_with_zero, is_plain, plain_number, limit_meant, is_first_repeated, are_distinct, all_named};
+ghost use Rattle.vortex_cmd.specs.Values.{is_number, number, checked, date_of, date_meant, before_hyphen, after_hyphen, named, begins_with_zero, is_plain, plain_number, limit_meant, is_first_repeated, are_distinct, all_named};
 
 use crate::given::Names;
 use std::alloc::{AllocError, Global};
@@ -66,19 +66,38 @@ fn date_of(
     })
 }
 
+/// What stands before the first hyphen, all where there is none.
+fn before_hyphen(text: &str) -> &str
+    ensures { result.now ≡ before_hyphen text.now }
+{
+    match text.split_once('-') {
+        Some((before, _)) => before,
+        None => text,
+    }
+}
+
+/// What follows the first hyphen, nothing where there is none.
+fn after_hyphen(text: &str) -> &str
+    ensures { result.now ≡ after_hyphen text.now }
+{
+    match text.split_once('-') {
+        Some((_, after)) => after,
+        None => "",
+    }
+}
+
 /// A date is written Y-M-D-T.
 pub fn read_date(text: &str) -> Option<Date>
     ensures date { result ≡ date_meant text.now }
     ensures ranges { IfSome result (λ date. IsDate date) }
 {
-    let (year, month_on) = text.split_once('-')?;
-    let (month, day_on) = month_on.split_once('-')?;
-    let (day, minutes) = day_on.split_once('-')?;
+    let month_on = after_hyphen(text);
+    let day_on = after_hyphen(month_on);
     date_of(
-        read_number(year),
-        read_number(month),
-        read_number(day),
-        read_number(minutes),
+        read_number(before_hyphen(text)),
+        read_number(before_hyphen(month_on)),
+        read_number(before_hyphen(day_on)),
+        read_number(after_hyphen(day_on)),
     )
 }
 
