@@ -5,13 +5,16 @@ ghost use Rattle.tx_machine.specs.Opens.{innermost, moved_to};
 use crate::types::OpenFile;
 use std::alloc::{AllocError, Global};
 use std::marker::Model;
+use std::mem;
 use tx_bytes::Bytes;
 use tx_dvi::PageBody;
+use tx_list::Items;
 
 /// The files that are open, the innermost last.
 #[derive(Drop)]
 pub struct Opens {
-    items: Vec<OpenFile>,
+    alloc: Global,
+    files: Items<OpenFile>,
 }
 
 impl Model for Opens {
@@ -20,7 +23,7 @@ impl Model for Opens {
 
     ghost Value = { List OpenFile };
 
-    ghost view = { λ o. o.items.items };
+    ghost view = { λ o. o.files };
 }
 
 impl Opens {
@@ -29,7 +32,8 @@ impl Opens {
         ensures { result ≡ [] }
     {
         Opens {
-            items: Vec::new(alloc),
+            alloc,
+            files: Items::new(alloc),
         }
     }
 
@@ -37,14 +41,14 @@ impl Opens {
     pub fn as_slice(&self) -> &[OpenFile]
         ensures { result.now ≡ self.now }
     {
-        self.items.as_slice()
+        self.files.as_slice()
     }
 
     /// The innermost one.
     pub fn innermost(&self) -> Option<&OpenFile>
         ensures { option_copied result ≡ innermost self.now }
     {
-        self.items.last()
+        self.files.as_slice().last()
     }
 
     /// Opens a file inside the others. After want of memory nothing has changed.
@@ -52,8 +56,7 @@ impl Opens {
         ensures ok { OnOk result (self.new ≡ self.old ++ file ∷ []) }
         ensures err { OnErr result (self.new ≡ self.old) }
     {
-        self.items.push(file)?;
-        Ok(())
+        self.files.push(file)
     }
 
     /// Moves the innermost one's offset.
@@ -61,8 +64,8 @@ impl Opens {
         requires { 0 < length self.old }
         ensures { IfSome (innermost self.old) (λ file. self.new ≡ moved_to self.old file offset) }
     {
-        let last = self.items.len() - 1;
-        self.items[last].offset = offset;
+        let last = self.files.len() - 1;
+        self.move_at(last, offset);
     }
 
     /// Moves the offset of the file at a place of the list.
@@ -70,14 +73,16 @@ impl Opens {
         requires { place < length self.old }
         ensures { IfSome (slice_get self.old place) (λ file. self.new ≡ slice_set self.old place (record file { offset = offset })) }
     {
-        self.items[place].offset = offset;
+        let mut files = mem::replace(&mut self.files, Items::new(self.alloc)).into_vec();
+        files[place].offset = offset;
+        self.files = Items::from_vec(files);
     }
 
     /// Closes the innermost one, if there is one.
     pub fn pop(&mut self)
         ensures { self.new ≡ take (length self.old - 1) self.old }
     {
-        let _closed = self.items.pop();
+        let _closed = self.files.pop();
     }
 }
 
@@ -87,90 +92,14 @@ impl Clone for Opens {
 
     fn clone(&self) -> Result<Self, AllocError> {
         Ok(Opens {
-            items: self.items.clone()?,
+            alloc: self.alloc,
+            files: self.files.share()?,
         })
     }
 }
 
 /// Page bodies in order.
-#[derive(Drop)]
-pub struct Pages {
-    items: Vec<PageBody>,
-}
-
-impl Model for Pages {
-    ghost use Rattle.std.specs.Prelude.{List};
-    ghost use Rattle.tx_dvi.specs.declared.page.PageBody.{PageBody};
-
-    ghost Value = { List PageBody };
-
-    ghost view = { λ p. p.items.items };
-}
-
-impl Pages {
-    /// No page; takes no memory.
-    pub fn new(alloc: Global) -> Pages
-        ensures { result ≡ [] }
-    {
-        Pages {
-            items: Vec::new(alloc),
-        }
-    }
-
-    /// The pages, lent.
-    pub fn as_slice(&self) -> &[PageBody]
-        ensures { result.now ≡ self.now }
-    {
-        self.items.as_slice()
-    }
-
-    /// Puts a page behind the others. After want of memory nothing has changed.
-    pub fn push(&mut self, page: PageBody) -> Result<(), AllocError>
-        ensures ok { OnOk result (self.new ≡ self.old ++ page ∷ []) }
-        ensures err { OnErr result (self.new ≡ self.old) }
-    {
-        self.items.push(page)?;
-        Ok(())
-    }
-}
+pub type Pages = Items<PageBody>;
 
 /// Pieces of a transcript in order.
-#[derive(Drop)]
-pub struct Pieces {
-    items: Vec<Bytes>,
-}
-
-impl Model for Pieces {
-    ghost use Rattle.std.specs.Prelude.{List, ℕ};
-
-    ghost Value = { List (List ℕ) };
-
-    ghost view = { λ p. p.items.items };
-}
-
-impl Pieces {
-    /// No piece; takes no memory.
-    pub fn new(alloc: Global) -> Pieces
-        ensures { result ≡ [] }
-    {
-        Pieces {
-            items: Vec::new(alloc),
-        }
-    }
-
-    /// The pieces, lent.
-    pub fn as_slice(&self) -> &[Bytes]
-        ensures { result.now ≡ self.now }
-    {
-        self.items.as_slice()
-    }
-
-    /// Puts a piece behind the others. After want of memory nothing has changed.
-    pub fn push(&mut self, piece: Bytes) -> Result<(), AllocError>
-        ensures ok { OnOk result (self.new ≡ self.old ++ piece ∷ []) }
-        ensures err { OnErr result (self.new ≡ self.old) }
-    {
-        self.items.push(piece)?;
-        Ok(())
-    }
-}
+pub type Pieces = Items<Bytes>;

@@ -4,6 +4,7 @@ use crate::lists::{Pages, Pieces};
 use std::alloc::AllocError;
 use tx_bytes::Bytes;
 use tx_dvi::PageBody;
+use tx_list::Kept;
 
 /// The moment of a run, as \year, \month, \day and \time tell it: the minutes are those since midnight.
 #[derive(Clone, Copy, PartialEq, Eq)]
@@ -99,15 +100,16 @@ pub struct OpenFile {
     pub offset: u64,
 }
 
-/// A clone has the same name and offset. Its only error is want of memory.
-impl Clone for OpenFile {
-    ghost is_clone = { λ source copy. copy ≡ source };
-
-    fn clone(&self) -> Result<Self, AllocError> {
+impl Kept for OpenFile {
+    fn share(&self) -> Result<Self, AllocError> {
         Ok(OpenFile {
             name: self.name.clone()?,
             offset: self.offset,
         })
+    }
+
+    fn same(&self, other: &Self) -> bool {
+        self.offset == other.offset && self.name.same(&other.name)
     }
 }
 
