@@ -45,9 +45,14 @@ impl Answers for Program {
 /// The answer to a case of one line.
 fn row(alloc: Global, word: &str, rest: &str) -> Result<String, AllocError> {
     match word {
-        "primitive" | "primitives" | "begins" | "place" | "standing" => {
-            primitives::answer(alloc, word, rest)
-        }
+        "primitive"
+        | "primitives"
+        | "expandable"
+        | "expandables"
+        | "test"
+        | "begins"
+        | "place"
+        | "standing" => { primitives::answer(alloc, word, rest) }
         "box" | "twin" | "alike" | "page" | "body" => boxes::answer(alloc, word, rest),
         "category" | "change" | "same" | "copy" | "tokens" | "middle" | "ended" => {
             tokens::answer(alloc, word, rest)

@@ -1,7 +1,7 @@
 //! Cases of tx_prim.
 use std::alloc::{AllocError, Global};
 use tx_cases::{answered, first_word, malformed, text_of};
-use tx_prim::{Mode, Moment, Primitive};
+use tx_prim::{Expandable, Mode, Moment, Primitive, Test};
 
 /// When the run begins.
 const BEGUN: Moment = Moment {
@@ -12,6 +12,8 @@ const BEGUN: Moment = Moment {
 };
 
 /// - `primitive NAME`, the name of the primitive to which this name leads, or `none`; `primitives`, how many there are;
+/// - `expandable NAME` and `expandables`, the same of those that are expanded;
+/// - `test NAME MODE`, whether the mode passes this conditional's test;
 /// - `begins NAME`, the value with which INITEX begins; `place NAME`, a parameter's place in the book's order;
 /// - `standing NAME MODE`, the modes in which it may stand, and what becomes of it in this one.
 pub fn answer(alloc: Global, word: &str, rest: &str) -> Result<String, AllocError> {
@@ -22,6 +24,12 @@ pub fn answer(alloc: Global, word: &str, rest: &str) -> Result<String, AllocErro
             Some(primitive) => text_of(alloc, primitive.name()),
             None => answered(alloc, "none"),
         },
+        "expandables" => format!(in alloc; "{}", Expandable::all().len()),
+        "expandable" => match Expandable::of_name(name.as_bytes()) {
+            Some(expandable) => text_of(alloc, expandable.name()),
+            None => answered(alloc, "none"),
+        },
+        "test" => test(alloc, name, mode),
         "standing" => match Primitive::of_name(name.as_bytes()) {
             Some(primitive) => standing(alloc, primitive, mode),
             None => malformed(alloc),
@@ -55,6 +63,15 @@ fn standing(alloc: Global, primitive: Primitive, mode: &str) -> Result<String, A
     let modes = primitive.modes();
     let standing = modes.standing(mode);
     format!(in alloc; "{modes:?} {standing:?}")
+}
+
+fn test(alloc: Global, name: &str, mode: &str) -> Result<String, AllocError> {
+    match (Expandable::of_name(name.as_bytes()), mode_of(mode)) {
+        (Some(Expandable::Test(Test::Mode(test))), Some(mode)) => {
+            format!(in alloc; "{}", test.holds(mode))
+        }
+        _ => malformed(alloc),
+    }
 }
 
 fn mode_of(name: &str) -> Option<Mode> {

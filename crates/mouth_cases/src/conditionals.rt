@@ -4,7 +4,8 @@ ghost use Rattle.tx_cond.specs.declared.types.Conditional.TheVariants.{Testing};
 
 use std::alloc::{AllocError, Global};
 use tx_cases::{answered, first_word, malformed};
-use tx_cond::{CondStack, CondWord, Meet, SkipItem, Skipper};
+use tx_cond::{CondStack, Meet, SkipItem, Skipper};
+use tx_prim::CondWord;
 use tx_seen::Fed;
 
 /// - `skip ITEM ..`, the word at which skipping these items ends, `more` or an error;

@@ -1,9 +1,10 @@
 //! Cases of tx_toklist.
 use crate::tokens::token_of;
 use std::alloc::{AllocError, Global};
+use tx_bytes::Bytes;
 use tx_cases::{answered, first_word, malformed};
 use tx_char::{Cat, Codes, Token};
-use tx_toklist::{Body, BodyPart, Macro, ParameterText, TokList, Toks, text_of};
+use tx_toklist::{Body, Macro, ParameterText, TokList, Toks, text_of};
 
 /// - `text ESCAPE TOKEN ..`, these tokens as messages print them, with this escape character or `none`; `@` is a letter;
 /// - `list TOKEN ..`, how long the list is, whether a share of it is the same, and whether nothing stands behind its end;
@@ -66,10 +67,11 @@ fn worked(alloc: Global, long: bool) -> Result<Macro, AllocError> {
     text.push_parameter(alloc)?;
     text.push_token(Token::Character(b'{', Cat::BeginGroup))?;
     let mut body = Body::new(alloc);
-    body.push(BodyPart::Argument(2))?;
-    body.push(BodyPart::Argument(1))?;
-    body.push(BodyPart::Token(Token::Character(b'{', Cat::BeginGroup)))?;
-    Macro::new(alloc, text, body, long, false)
+    body.push_argument(2)?;
+    body.push_argument(1)?;
+    body.push_token(Token::Character(b'{', Cat::BeginGroup))?;
+    let signs = Bytes::from_slice(alloc, b"##")?;
+    Macro::new(alloc, text, signs, body, long, false)
 }
 
 fn macros(alloc: Global, rest: &str) -> Result<String, AllocError> {

@@ -1,6 +1,7 @@
 //! Cases of tx_macro.
 ghost use Rattle.std.specs.Prelude.{◌≡◌, ◌≢◌, [], true, IfOk, IfSome, IsTrue};
 ghost use Rattle.std.specs.List.{list_all};
+ghost use Rattle.tx_toklist.specs.Bodies.{no_body};
 ghost use Rattle.tx_toklist.specs.Macros.{IsMacro, is_begin, is_delimiter, is_end, no_parameters};
 
 use std::alloc::{AllocError, Global};
@@ -102,11 +103,12 @@ fn all_delimit(lists: &[Toks]) -> bool
     true
 }
 
-/// Whether a parameter text may be a macro's, and has something in it.
-fn is_whole(parameters: &ParameterText) -> bool
-    ensures { IsTrue result → IsMacro parameters.now [] × (parameters.now ≢ no_parameters) }
+/// Whether a parameter text with these signs may be a macro's, and has something in it.
+fn is_whole(parameters: &ParameterText, signs: &Bytes) -> bool
+    ensures { IsTrue result → IsMacro parameters.now signs.now no_body × (parameters.now ≢ no_parameters) }
 {
     !parameters.is_empty()
+        && signs.len() == parameters.parameters()
         && parameters.parameters() <= 9
         && delimits(parameters.before())
         && all_delimit(parameters.delimiters())
@@ -141,10 +143,11 @@ fn macro_of(alloc: Global, text: &[u8], codes: &Codes) -> Result<Option<Macro>, 
     ensures { IfOk result (λ made. IfSome made (λ m. m.parameters ≢ no_parameters)) }
 {
     let parameters = parameters_of(alloc, text, codes)?;
-    if !is_whole(&parameters) {
+    let signs = Bytes::from_vec(vec![in alloc; b'#'; parameters.parameters()]?);
+    if !is_whole(&parameters, &signs) {
         return Ok(None);
     }
-    Ok(Some(Macro::new(alloc, parameters, Body::new(alloc), false, false)?))
+    Ok(Some(Macro::new(alloc, parameters, signs, Body::new(alloc), false, false)?))
 }
 
 /// Writes the arguments, each with a bar behind it.

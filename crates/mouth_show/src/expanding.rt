@@ -6,7 +6,8 @@ use crate::skipping::{kind, skipped};
 use std::alloc::{AllocError, Global};
 use std::io;
 use tx_char::Token;
-use tx_cond::{CondStack, CondWord, Meet, SkipItem};
+use tx_cond::{CondStack, Meet, SkipItem};
+use tx_prim::CondWord;
 use tx_seen::{Fed, TexError, Want};
 use tx_toklist::Toks;
 

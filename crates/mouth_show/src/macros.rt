@@ -1,12 +1,14 @@
 //! Commands that make a macro and use it.
 ghost use Rattle.std.specs.Prelude.{◌≡◌, ◌≢◌, ◌↔◌, [], IsTrue};
 ghost use Rattle.std.specs.List.{list_all};
+ghost use Rattle.tx_toklist.specs.Bodies.{no_body};
 ghost use Rattle.tx_toklist.specs.Macros.{IsMacro, is_begin, is_delimiter, is_end, no_parameters};
 
 use crate::input::Input;
 use crate::skipping::kind;
 use std::alloc::{AllocError, Global};
 use std::io;
+use tx_bytes::Bytes;
 use tx_char::{Cat, Token};
 use tx_cond::SkipItem;
 use tx_macro::{Args, Matcher};
@@ -25,11 +27,15 @@ enum Reading {
 /// want of memory.
 pub fn made(alloc: Global, input: &mut Input, long: bool) -> Result<Option<Macro>, AllocError> {
     match parameter_text(alloc, input)? {
-        Some(parameters) if is_fit(&parameters) => {
+        Some(parameters) => {
+            let signs = Bytes::from_vec(vec![in alloc; b'#'; parameters.parameters()]?);
+            if !is_fit(&parameters, &signs) {
+                return Ok(None);
+            }
             let body = Body::new(alloc);
-            Ok(Some(Macro::new(alloc, parameters, body, long, false)?))
+            Ok(Some(Macro::new(alloc, parameters, signs, body, long, false)?))
         }
-        _ => Ok(None),
+        None => Ok(None),
     }
 }
 
@@ -87,11 +93,12 @@ fn take_behind_sign(
     }
 }
 
-/// Whether there is a macro with this parameter text.
-fn is_fit(parameters: &ParameterText) -> bool
-    ensures { IsTrue result → IsMacro parameters.now [] }
+/// Whether there is a macro with this parameter text and these signs.
+fn is_fit(parameters: &ParameterText, signs: &Bytes) -> bool
+    ensures { IsTrue result → IsMacro parameters.now signs.now no_body }
 {
     parameters.parameters() <= 9
+        && signs.len() == parameters.parameters()
         && delimits(parameters.before())
         && all_delimit(parameters.delimiters())
 }

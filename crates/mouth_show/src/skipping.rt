@@ -4,7 +4,8 @@ use crate::input::Input;
 use std::alloc::{AllocError, Global};
 use std::io;
 use tx_char::Token;
-use tx_cond::{CondWord, SkipItem, Skipper};
+use tx_cond::{SkipItem, Skipper};
+use tx_prim::CondWord;
 use tx_seen::{Fed, Want};
 
 /// Prints the word that ends the skipping of a text.

@@ -5,7 +5,7 @@ use Rattle.tx_prim.specs.declared.primitive.Primitive.TheVariants as primitive
 use Rattle.tx_prim.specs.declared.family.Numbered.TheVariants as number
 use Rattle.tx_seen.specs.declared.place.Place.TheVariants as place
 use Rattle.tx_seen.specs.declared.meaning.Meaning.{Meaning}
-use Rattle.tx_seen.specs.declared.meaning.Meaning.TheVariants.{Undefined, Command, Character, CharacterNumber, MathNumber, CountRegister, DimenRegister}
+use Rattle.tx_seen.specs.declared.meaning.Meaning.TheVariants.{Undefined, Command, Character, CharacterNumber, MathNumber, CountRegister, DimenRegister, Expandable, Macro, Held}
 use Rattle.tx_assign.specs.declared.types.Variable.{Variable}
 use Rattle.tx_assign.specs.declared.types.Variable.TheVariants.{Numbered, Standing}
 
@@ -15,6 +15,7 @@ primitive_variable (primitive.Numbered kind) = Some (Numbered kind)
 primitive_variable (primitive.Integer parameter) = Some (Standing (place.Integer parameter))
 primitive_variable (primitive.Dimension parameter) = Some (Standing (place.Dimension parameter))
 primitive_variable primitive.Relax = None
+primitive_variable primitive.EndCsName = None
 primitive_variable primitive.Par = None
 primitive_variable primitive.End = None
 primitive_variable primitive.BeginGroup = None
@@ -37,6 +38,9 @@ variable_of Undefined = None
 variable_of (Character code category) = None
 variable_of (CharacterNumber number) = None
 variable_of (MathNumber number) = None
+variable_of (Expandable e) = None
+variable_of (Macro m) = None
+variable_of Held = None
 
 -- \advance and its kin change registers and parameters, but no codes
 abbrev pub is_changeable : Variable → Bool

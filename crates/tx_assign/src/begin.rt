@@ -16,6 +16,7 @@ fn of_primitive(primitive: Primitive) -> Option<Variable>
         Primitive::Dimension(parameter) => Some(Variable::Standing(Place::Dimension(parameter))),
         Primitive::Relax | Primitive::Par | Primitive::End => None,
         Primitive::BeginGroup | Primitive::EndGroup => None,
+        Primitive::EndCsName => None,
         Primitive::Prefix(_) | Primitive::Let | Primitive::Shorthand(_) => None,
         Primitive::Arithmetic(_) => None,
         Primitive::Sized(_) | Primitive::Rule(_) | Primitive::Box(_) | Primitive::Shipout => None,
@@ -33,6 +34,7 @@ impl Variable {
             Meaning::DimenRegister(number) => Some(Variable::Standing(Place::Dimen(*number))),
             Meaning::Undefined | Meaning::Character(_, _) => None,
             Meaning::CharacterNumber(_) | Meaning::MathNumber(_) => None,
+            Meaning::Expandable(_) | Meaning::Macro(_) | Meaning::Held => None,
         }
     }
 

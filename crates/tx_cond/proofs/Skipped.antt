@@ -7,7 +7,7 @@ use Rattle.tx_seen.specs.declared.fed.Want.{Want}
 use Rattle.tx_seen.specs.declared.fed.Want.TheVariants.{Raw}
 use Rattle.tx_seen.specs.declared.fed.Fed.{Fed}
 use Rattle.tx_seen.specs.declared.fed.Fed.TheVariants.{More, Need, Done, Wrong}
-use Rattle.tx_cond.specs.declared.types.CondWord.{CondWord}
+use Rattle.tx_prim.specs.declared.expandable.CondWord.{CondWord}
 use Rattle.tx_cond.specs.declared.types.SkipItem.{SkipItem}
 use Rattle.tx_cond.specs.declared.types.SkipItem.TheVariants.{If, Word, Other, Outer, EndOfFile}
 use Rattle.tx_cond.specs.Skipping.{begins, ends, depth, answer, or_else, first_answer, skip, HasSkipped}

@@ -1,7 +1,7 @@
 -- The open conditionals, innermost first (TeX: The Program, sections 487 to 510; The TeXbook, chapter 20).
 use Rattle.std.specs.Prelude.{zero, suc, ◌++◌, ◌||◌, Bool, true, false, ℤ, pos, negsuc, List, [], ◌∷◌, Option, Some, None, if◌then◌else◌}
-use Rattle.tx_cond.specs.declared.types.CondWord.{CondWord}
-use Rattle.tx_cond.specs.declared.types.CondWord.TheVariants.{Else, Or, Fi}
+use Rattle.tx_prim.specs.declared.expandable.CondWord.{CondWord}
+use Rattle.tx_prim.specs.declared.expandable.CondWord.TheVariants.{Else, Or, Fi}
 use Rattle.tx_cond.specs.declared.types.Meet.{Meet}
 use Rattle.tx_cond.specs.declared.types.Meet.TheVariants.{Relax, Skip, Closed}
 use Rattle.tx_cond.specs.declared.types.Conditional.{Conditional}

@@ -4,8 +4,8 @@ use Rattle.tx_seen.specs.declared.error.TexError.TheVariants.{IncompleteConditio
 use Rattle.tx_seen.specs.declared.fed.Want.TheVariants.{Raw}
 use Rattle.tx_seen.specs.declared.fed.Fed.{Fed}
 use Rattle.tx_seen.specs.declared.fed.Fed.TheVariants.{More, Need, Done, Wrong}
-use Rattle.tx_cond.specs.declared.types.CondWord.{CondWord}
-use Rattle.tx_cond.specs.declared.types.CondWord.TheVariants.{Fi}
+use Rattle.tx_prim.specs.declared.expandable.CondWord.{CondWord}
+use Rattle.tx_prim.specs.declared.expandable.CondWord.TheVariants.{Fi}
 use Rattle.tx_cond.specs.declared.types.SkipItem.{SkipItem}
 use Rattle.tx_cond.specs.declared.types.SkipItem.TheVariants.{If, Word, Other, Outer, EndOfFile}
 

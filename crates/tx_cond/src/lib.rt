@@ -14,4 +14,4 @@ mod types;
 
 pub use skipper::Skipper;
 pub use stack::CondStack;
-pub use types::{CondWord, Conditional, Meet, SkipItem};
+pub use types::{Conditional, Meet, SkipItem};

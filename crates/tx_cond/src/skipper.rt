@@ -3,9 +3,10 @@ ghost use Rattle.std.specs.Prelude.{◌≡◌, ◌-◌, ◌^◌, ◌∷◌, ◌+
 ghost use Rattle.tx_cond.specs.declared.types.SkipItem.{SkipItem};
 ghost use Rattle.tx_cond.specs.Skipping.{skip, HasSkipped};
 
-use crate::types::{CondWord, SkipItem};
+use crate::types::SkipItem;
 use std::alloc::AllocError;
 use std::marker::Model;
+use tx_prim::CondWord;
 use tx_seen::{Fed, TexError, Want};
 
 /// Text that is being skipped, token by token, to the first \else, \or or \fi that belongs to no conditional within it.

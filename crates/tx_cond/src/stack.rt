@@ -3,10 +3,11 @@ ghost use Rattle.std.specs.Prelude.{◌≡◌, ◌↔◌, ◌<◌, ◌∷◌, []
 ghost use Rattle.tx_cond.specs.declared.types.Conditional.{Conditional};
 ghost use Rattle.tx_cond.specs.Conditionals.{begins_with_test, decide, has_test, meeting, met, within_all};
 
-use crate::types::{CondWord, Conditional, Meet};
+use crate::types::{Conditional, Meet};
 use std::alloc::{AllocError, Global};
 use std::collections::VecDeque;
 use std::marker::Model;
+use tx_prim::CondWord;
 use tx_seen::TexError;
 
 /// The conditionals that are open. Contracts see the list of them, the innermost first.

@@ -2,7 +2,8 @@
 ghost use Rattle.std.specs.Prelude.{◌≡◌, ◌↔◌, IsTrue, Some, None, IfOk, IfErr, option_to_list};
 ghost use Rattle.tx_cond.specs.Conditionals.{is_test, skips, decided, behind_word};
 
-use crate::types::{CondWord, Conditional};
+use crate::types::Conditional;
+use tx_prim::CondWord;
 use tx_seen::TexError;
 
 impl Conditional {

@@ -1,12 +1,6 @@
-//! The words of conditionals, and the conditionals that are open.
+//! What skipped text is made of, and the conditionals that are open.
 
-/// What may end a branch (The TeXbook, chapter 20).
-#[derive(Clone, Copy, PartialEq, Eq)]
-pub enum CondWord {
-    Else,
-    Or,
-    Fi,
-}
+use tx_prim::CondWord;
 
 /// What a token is to text that is skipped.
 #[derive(Clone, Copy, PartialEq, Eq)]

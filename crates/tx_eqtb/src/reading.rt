@@ -51,23 +51,23 @@ impl Table {
         }
     }
 
-    /// The meaning of a name, lent.
-    pub fn name_meaning(&self, name: &ControlName) -> &Meaning
-        ensures { result.now ≡ spec.meaning_of self.now.names name.now }
+    /// The meaning of a name. Its only error is that no more owners of a meaning can be counted.
+    pub fn name_meaning(&self, name: &ControlName) -> Result<Meaning, AllocError>
+        ensures { IfOk result (λ meaning. meaning ≡ spec.meaning_of self.now.names name.now) }
     {
         match self.names.get(name) {
-            Some(meaning) => meaning,
-            None => &Meaning::Undefined,
+            Some(meaning) => meaning.clone(),
+            None => Ok(Meaning::Undefined),
         }
     }
 
-    /// The meaning of an active character, lent.
-    pub fn active_meaning(&self, code: u8) -> &Meaning
-        ensures { result.now ≡ spec.active_meaning self.now.active code }
+    /// The meaning of an active character. Its only error is that no more owners of a meaning can be counted.
+    pub fn active_meaning(&self, code: u8) -> Result<Meaning, AllocError>
+        ensures { IfOk result (λ meaning. meaning ≡ spec.active_meaning self.now.active code) }
     {
         match self.active.get(code as usize) {
-            Some(meaning) => meaning,
-            None => &Meaning::Undefined,
+            Some(meaning) => meaning.clone(),
+            None => Ok(Meaning::Undefined),
         }
     }
 
@@ -76,8 +76,8 @@ impl Table {
         ensures { IfOk result (λ meaning. meaning ≡ spec.token_meaning self.now token.now) }
     {
         match token {
-            Token::Name(name) => self.name_meaning(name).clone(),
-            Token::Character(code, Cat::Active) => self.active_meaning(*code).clone(),
+            Token::Name(name) => self.name_meaning(name),
+            Token::Character(code, Cat::Active) => self.active_meaning(*code),
             Token::Character(code, category) => Ok(Meaning::Character(*code, *category)),
             Token::FrozenRelax => Ok(Meaning::Command(Primitive::Relax)),
         }

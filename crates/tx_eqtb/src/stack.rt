@@ -46,16 +46,16 @@ impl Eqtb {
         self.table.categories.get(code)
     }
 
-    /// The meaning of a name, lent.
-    pub fn name_meaning(&self, name: &ControlName) -> &Meaning
-        ensures { result.now ≡ meaning_of self.now.table.names name.now }
+    /// The meaning of a name. Its only error is that no more owners of a meaning can be counted.
+    pub fn name_meaning(&self, name: &ControlName) -> Result<Meaning, AllocError>
+        ensures { IfOk result (λ meaning. meaning ≡ meaning_of self.now.table.names name.now) }
     {
         self.table.name_meaning(name)
     }
 
-    /// The meaning of an active character, lent.
-    pub fn active_meaning(&self, code: u8) -> &Meaning
-        ensures { result.now ≡ active_meaning self.now.table.active code }
+    /// The meaning of an active character. Its only error is that no more owners of a meaning can be counted.
+    pub fn active_meaning(&self, code: u8) -> Result<Meaning, AllocError>
+        ensures { IfOk result (λ meaning. meaning ≡ active_meaning self.now.table.active code) }
     {
         self.table.active_meaning(code)
     }

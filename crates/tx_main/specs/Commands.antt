@@ -10,7 +10,7 @@ use Rattle.tx_prim.specs.declared.family.SizeKind.{SizeKind}
 use Rattle.tx_prim.specs.declared.modes.Mode.{Mode}
 use Rattle.tx_prim.specs.declared.primitive.Primitive.{Primitive}
 use Rattle.tx_prim.specs.declared.primitive.Primitive.TheVariants as primitive
-use Rattle.tx_seen.specs.declared.error.TexError.TheVariants.{Undefined, NoAssignment, NotAllowed, MisplacedAlignment, MissingBox}
+use Rattle.tx_seen.specs.declared.error.TexError.TheVariants.{Undefined, NoAssignment, NotAllowed, MisplacedAlignment, MissingBox, BadName}
 use Rattle.tx_seen.specs.declared.fed.Want.TheVariants.{Expanded}
 use Rattle.tx_seen.specs.declared.item.Item.{Item}
 use Rattle.tx_seen.specs.declared.item.Item.TheVariants.{Took, Gave}
@@ -88,6 +88,7 @@ character_command code category.Invalid rest = Wrong NotAllowed
 -- what a primitive takes behind it, by its family
 abbrev pub family_command : Primitive → List Item → Reading Command
 family_command primitive.Relax rest = Done Nothing rest
+family_command primitive.EndCsName rest = Wrong BadName
 family_command primitive.Par rest = Done Nothing rest
 family_command primitive.BeginGroup rest = Done BeginSemiSimple rest
 family_command primitive.EndGroup rest = Done EndSemiSimple rest
@@ -104,9 +105,12 @@ family_command (primitive.Box kind) rest = box_begin kind Append rest
 family_command primitive.Shipout rest = shipped_box rest
 family_command primitive.End rest = Done End rest
 
--- the command whose first token means this
+-- the command whose first token means this; what is expanded is none, and comes expanded, and what \noexpand held does nothing
 abbrev pub command_meant : Meaning → List Item → Reading Command
 command_meant meaning.Undefined rest = Wrong Undefined
+command_meant (meaning.Expandable e) rest = Wrong Undefined
+command_meant (meaning.Macro m) rest = Wrong Undefined
+command_meant meaning.Held rest = Done Nothing rest
 command_meant (meaning.Command primitive) rest = family_command primitive rest
 command_meant (meaning.Character code category) rest = character_command code category rest
 command_meant (meaning.CharacterNumber code) rest = Done (Character code) rest
@@ -123,6 +127,7 @@ fresh_command mode (Took t ∷ rest) = if may_stand mode t.meaning then command_
 -- whether a primitive may stand behind a prefix
 abbrev pub is_prefixable : Primitive → Bool
 is_prefixable primitive.Relax = false
+is_prefixable primitive.EndCsName = false
 is_prefixable primitive.Par = false
 is_prefixable primitive.BeginGroup = false
 is_prefixable primitive.EndGroup = false
@@ -139,7 +144,7 @@ is_prefixable (primitive.Box kind) = false
 is_prefixable primitive.Shipout = false
 is_prefixable primitive.End = false
 
--- what has no meaning is let through, since carrying it out is an error of its own
+-- what has no meaning, or is expanded, is let through, since carrying it out is an error of its own
 abbrev pub may_be_prefixed : Meaning → Bool
 may_be_prefixed meaning.Undefined = true
 may_be_prefixed (meaning.Command primitive) = is_prefixable primitive
@@ -148,6 +153,9 @@ may_be_prefixed (meaning.CharacterNumber code) = false
 may_be_prefixed (meaning.MathNumber number) = false
 may_be_prefixed (meaning.CountRegister number) = true
 may_be_prefixed (meaning.DimenRegister number) = true
+may_be_prefixed (meaning.Expandable e) = true
+may_be_prefixed (meaning.Macro m) = true
+may_be_prefixed meaning.Held = false
 
 -- a command behind a prefix: an assignment, with spaces and \relax before it, which do nothing (TeX: The Program, sections 404
 -- and 1211)

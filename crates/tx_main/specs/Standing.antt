@@ -43,10 +43,14 @@ modes_of_meaning (meaning.CharacterNumber code) = NotVertical
 modes_of_meaning (meaning.MathNumber number) = Math
 modes_of_meaning (meaning.CountRegister number) = All
 modes_of_meaning (meaning.DimenRegister number) = All
+modes_of_meaning (meaning.Expandable e) = All
+modes_of_meaning (meaning.Macro m) = All
+modes_of_meaning meaning.Held = All
 
 -- whether a primitive of a family adds to the list in which it stands
 abbrev pub adds_to_list : Primitive → Bool
 adds_to_list primitive.Relax = false
+adds_to_list primitive.EndCsName = false
 adds_to_list primitive.Par = false
 adds_to_list primitive.BeginGroup = false
 adds_to_list primitive.EndGroup = false

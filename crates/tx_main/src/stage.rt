@@ -135,6 +135,9 @@ fn begin(alloc: Global, stage: &mut Stage, meaning: &Meaning) -> Fed<Command>
 {
     match meaning {
         Meaning::Undefined => Fed::Wrong(TexError::Undefined),
+        // what is expanded is no command, and comes expanded
+        Meaning::Expandable(_) | Meaning::Macro(_) => Fed::Wrong(TexError::Undefined),
+        Meaning::Held => Fed::Done(Command::Nothing, 0),
         Meaning::Command(primitive) => begin_primitive(alloc, stage, *primitive),
         Meaning::Character(code, category) => character(stage, *code, *category),
         Meaning::CharacterNumber(code) => Fed::Done(Command::Character(*code), 0),
@@ -185,6 +188,7 @@ fn begin_primitive(alloc: Global, stage: &mut Stage, primitive: Primitive) -> Fe
 {
     match primitive {
         Primitive::Relax | Primitive::Par => Fed::Done(Command::Nothing, 0),
+        Primitive::EndCsName => Fed::Wrong(TexError::BadName),
         Primitive::BeginGroup => Fed::Done(Command::BeginSemiSimple, 0),
         Primitive::EndGroup => Fed::Done(Command::EndSemiSimple, 0),
         Primitive::Prefix(prefix) => Fed::Done(Command::Prefix(prefix), 0),

@@ -36,6 +36,7 @@ fn modes_of_meaning(meaning: &Meaning) -> Modes
         Meaning::Character(_, category) => modes_of_category(*category),
         Meaning::CharacterNumber(_) => Modes::NotVertical,
         Meaning::MathNumber(_) => Modes::Math,
+        Meaning::Expandable(_) | Meaning::Macro(_) | Meaning::Held => Modes::All,
     }
 }
 
@@ -46,6 +47,7 @@ fn adds_to_list(primitive: Primitive) -> bool
     match primitive {
         Primitive::Sized(_) | Primitive::Rule(_) | Primitive::Box(_) => true,
         Primitive::Relax
+        | Primitive::EndCsName
         | Primitive::Par
         | Primitive::BeginGroup
         | Primitive::EndGroup
@@ -101,6 +103,7 @@ fn is_prefixable(primitive: Primitive) -> bool
         | Primitive::Integer(_)
         | Primitive::Dimension(_) => true,
         Primitive::Relax
+        | Primitive::EndCsName
         | Primitive::Par
         | Primitive::BeginGroup
         | Primitive::EndGroup
@@ -112,7 +115,8 @@ fn is_prefixable(primitive: Primitive) -> bool
     }
 }
 
-/// Whether a command may stand behind a prefix whose first token means this; what has no meaning is let through.
+/// Whether a command may stand behind a prefix whose first token means this; what has no meaning, or is expanded, is let
+/// through.
 pub fn may_be_prefixed(meaning: &Meaning) -> bool
     ensures { result ≡ commands.may_be_prefixed meaning.now }
 {
@@ -120,5 +124,7 @@ pub fn may_be_prefixed(meaning: &Meaning) -> bool
         Meaning::Undefined | Meaning::CountRegister(_) | Meaning::DimenRegister(_) => true,
         Meaning::Command(primitive) => is_prefixable(*primitive),
         Meaning::Character(_, _) | Meaning::CharacterNumber(_) | Meaning::MathNumber(_) => false,
+        Meaning::Expandable(_) | Meaning::Macro(_) => true,
+        Meaning::Held => false,
     }
 }

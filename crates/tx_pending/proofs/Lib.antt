@@ -1,3 +1,4 @@
 mod ListSteps
 mod Places
 mod StackSteps
+pub mod Filling

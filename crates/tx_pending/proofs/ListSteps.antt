@@ -1,6 +1,7 @@
 -- Reading a list.
-use Rattle.std.proofs.Common.{◌≡◌, ◌≢◌, ℕ, ◌-◌, ◌≤◌, ◌<◌, Bool, true, false, List, [], ◌∷◌, length, take, drop, refl, ap, sym, ◌∙◌, arith, leb, leb-true, le-leb, IsTrue, ◌↔◌, Some, None, get_or, slice_get, subst, zero, suc}
-use Rattle.std.proofs.lemmas.List.{drop_all, length-drop, take_rest}
+use Rattle.std.proofs.Common.{◌≡◌, ◌≢◌, ℕ, ◌+◌, ◌-◌, ◌≤◌, ◌<◌, Bool, true, false, List, [], ◌∷◌, length, take, drop, refl, ap, sym, ◌∙◌, arith, leb, leb-true, le-leb, IsTrue, ◌↔◌, Some, None, get_or, slice_get, subst, zero, suc, add-one}
+use Rattle.std.proofs.Math.Seq.{drop-cons}
+use Rattle.std.proofs.lemmas.List.{length-drop, length-take-le, take_rest}
 use Rattle.tx_char.specs.declared.tokens.Token.{Token}
 use Rattle.tx_lex.specs.declared.types.ReadState.{ReadState}
 use Rattle.tx_pending.specs.declared.source.Source.{Source}
@@ -8,6 +9,13 @@ use Rattle.tx_pending.specs.declared.source.Source.TheVariants.{List as Source_l
 use Rattle.tx_pending.specs.Elements.{Given, Unread, list_elements}
 use Rattle.tx_pending.specs.Sources.{elements_of}
 use Rattle.tx_pending.specs.Tails.{ListTail, LineTail}
+
+-- the first of the tokens that are left, and those behind it
+pub left-cons : (tokens : List Token) (read end : ℕ) (t : Token) → read < end → end ≤ length tokens → t ≡ get_or tokens read t → take (end - read) (drop read tokens) ≡ t ∷ take (end - (read + 1)) (drop (read + 1) tokens)
+left-cons tokens read end t less within is =
+    let n : end - read ≡ suc (end - (read + 1)) = omega arith in
+    let e : drop read tokens ≡ t ∷ drop (read + 1) tokens = drop-cons tokens read t (omega arith) ∙ ap (λ x. x ∷ drop (suc read) tokens) (sym is) ∙ ap (λ k. t ∷ drop k tokens) (sym (add-one read)) in
+    ap (λ k. take k (drop read tokens)) n ∙ ap (take (suc (end - (read + 1)))) e
 
 -- a list of which something is left, but no token, is marked
 pub marked-of : (left : List Token) (marked : Bool) → list_elements left marked ≢ [] → left ≡ [] → marked ≡ true
@@ -31,17 +39,14 @@ unmarked-of left false h = refl
 unmarked-of [] true h = cc
 unmarked-of (t ∷ left) true h = cc
 
-pub length-of-nothing : (tokens : List Token) (read : ℕ) → drop read tokens ≡ [] → length tokens ≤ read
-length-of-nothing tokens read h =
-    let e : length tokens - read ≡ 0 = sym (length-drop read tokens) ∙ ap length h in omega arith
-
 -- whether a list is spent, by how much of it is read
-pub spent-tells : (tail : ListTail) (tokens : List Token) (read n : ℕ) (marked : Bool) → record { left = drop read tokens; marked = marked } ≡ tail → n ≡ length tokens → marked ≡ false → (IsTrue (leb n read) → list_elements tail.left tail.marked ≡ []) × (list_elements tail.left tail.marked ≡ [] → IsTrue (leb n read))
-spent-tells tail tokens read n marked view long unmarked =
-    let left : drop read tokens ≡ tail.left = ap (λ (t : ListTail). t.left) view in
-    let mark : marked ≡ tail.marked = ap (λ (t : ListTail). t.marked) view in (
-      (λ t. let l : n ≤ read = leb-true n read t in spent-of tail.left tail.marked (sym mark ∙ unmarked) (sym left ∙ drop_all read tokens (omega arith))),
-      (λ h. let l : length tokens ≤ read = length-of-nothing tokens read (left ∙ left-of tail.left tail.marked h) in le-leb n read (omega arith)),
+pub spent-tells : (tail : ListTail) (tokens : List Token) (read end : ℕ) (marked : Bool) → record { left = take (end - read) (drop read tokens); marked = marked } ≡ tail → end ≤ length tokens → marked ≡ false → (IsTrue (leb end read) → list_elements tail.left tail.marked ≡ []) × (list_elements tail.left tail.marked ≡ [] → IsTrue (leb end read))
+spent-tells tail tokens read end marked view within unmarked =
+    let left : take (end - read) (drop read tokens) ≡ tail.left = ap (λ (t : ListTail). t.left) view in
+    let mark : marked ≡ tail.marked = ap (λ (t : ListTail). t.marked) view in
+    let long : length (take (end - read) (drop read tokens)) ≡ end - read = length-take-le (end - read) (drop read tokens) (omega (arith, length-drop read tokens)) in (
+      (λ t. let l : end ≤ read = leb-true end read t in let none : end - read ≡ 0 = omega arith in spent-of tail.left tail.marked (sym mark ∙ unmarked) (sym left ∙ ap (λ n. take n (drop read tokens)) none)),
+      (λ h. let e : end - read ≡ 0 = sym long ∙ ap length (left ∙ left-of tail.left tail.marked h) in le-leb end read (omega arith)),
     )
 
 list-no-line : (left : List Token) (marked : Bool) (unread : List ℕ) (state : ReadState) (i j : ℕ) → i < length (list_elements left marked) → j < 1 → slice_get (list_elements left marked) i ≡ slice_get (Unread unread state ∷ []) j → ⊥

@@ -1,5 +1,5 @@
 //! A list of tokens that is being read.
-ghost use Rattle.std.specs.Prelude.{◌≡◌, ◌≢◌, ◌↔◌, ◌<◌, [], length, slice_get, Some, IsTrue, IfOk};
+ghost use Rattle.std.specs.Prelude.{◌≡◌, ◌≢◌, ◌↔◌, ◌<◌, ◌-◌, [], drop, false, length, slice_get, take, Some, IsTrue, IfOk};
 ghost use Rattle.std.specs.Option.{option_copied};
 ghost use Rattle.tx_pending.specs.Elements.{Given as Element_given, list_elements};
 ghost use Rattle.tx_pending.specs.Steps.{IsListStep};
@@ -10,24 +10,25 @@ use std::marker::Model;
 use tx_char::Token;
 use tx_toklist::TokList;
 
-/// A shared list, and how many of its tokens are read. Contracts see the tokens that are left, and whether a marker
-/// comes behind them.
+/// A shared list, of which a part is read, and how far that has come. Contracts see the tokens that are left, and whether a
+/// marker comes behind them.
 #[derive(Drop)]
 pub struct ListReading {
     list: TokList,
     read: usize,
+    end: usize,
     marked: bool,
 }
 
 impl Model for ListReading {
-    ghost use Rattle.std.specs.Prelude.{drop, length, ◌≤◌};
+    ghost use Rattle.std.specs.Prelude.{drop, length, take, ◌≤◌, ◌-◌};
     ghost use Rattle.tx_pending.specs.Tails.{ListTail};
 
     ghost Value = { ListTail };
 
-    ghost view = { λ l. record { left = drop l.read l.list; marked = l.marked } };
+    ghost view = { λ l. record { left = take (l.end - l.read) (drop l.read l.list); marked = l.marked } };
 
-    ghost invariant = { λ l. l.read ≤ length l.list };
+    ghost invariant = { λ l. (l.read ≤ l.end) × (l.end ≤ length l.list) };
 }
 
 impl ListReading {
@@ -35,10 +36,25 @@ impl ListReading {
     pub fn new(list: TokList, marked: bool) -> ListReading
         ensures { result ≡ record { left = list; marked = marked } }
     {
+        let end = list.len();
         ListReading {
             list,
             read: 0,
+            end,
             marked,
+        }
+    }
+
+    /// The tokens of a list from a place up to another, counted from 0, as far as there are any.
+    pub fn part(list: TokList, from: usize, to: usize) -> ListReading
+        ensures { result ≡ record { left = take (to - from) (drop from list); marked = false } }
+    {
+        let end = to.min(list.len());
+        ListReading {
+            list,
+            read: from.min(end),
+            end,
+            marked: false,
         }
     }
 
@@ -47,12 +63,11 @@ impl ListReading {
         requires { list_elements self.old.left self.old.marked ≢ [] }
         ensures { IfOk result (λ given. IsListStep self.old given self.new) }
     {
-        let tokens = self.list.as_slice();
-        if self.read >= tokens.len() {
+        if self.read >= self.end {
             self.marked = false;
             return Ok(Given::Marker);
         }
-        let token = tokens[self.read].clone()?;
+        let token = self.list.as_slice()[self.read].clone()?;
         self.read += 1;
         Ok(Given::Token(token))
     }
@@ -61,15 +76,14 @@ impl ListReading {
     pub fn is_spent(&self) -> bool
         ensures { IsTrue result ↔ (list_elements self.now.left self.now.marked ≡ []) }
     {
-        !self.marked && self.read >= self.list.len()
+        !self.marked && self.read >= self.end
     }
 
     /// How many elements are left: the tokens, and the marker.
     pub fn count(&self) -> usize
         ensures { result ≡ length (list_elements self.now.left self.now.marked) }
     {
-        let tokens = self.list.as_slice();
-        let left = tokens.len() - self.read;
+        let left = self.list.as_slice()[self.read..self.end].len();
         if self.marked { left + 1 } else { left }
     }
 
@@ -77,7 +91,7 @@ impl ListReading {
     fn get(&self, place: usize) -> Option<&Token>
         ensures { option_copied result ≡ slice_get self.now.left place }
     {
-        self.list.as_slice()[self.read..].get(place)
+        self.list.as_slice()[self.read..self.end].get(place)
     }
 
     /// Whether the elements at these places are the same token, or are both markers.
@@ -111,6 +125,7 @@ impl ListReading {
         Ok(ListReading {
             list: self.list.share()?,
             read: self.read,
+            end: self.end,
             marked: self.marked,
         })
     }

@@ -1,6 +1,7 @@
 //! The pending input.
-ghost use Rattle.std.specs.Prelude.{◌≡◌, ◌↔◌, ◌++◌, IsTrue, IfOk, OnOk, OnErr};
-ghost use Rattle.tx_pending.specs.Elements.{no_input, step, with_close, with_line, with_list, with_token};
+ghost use Rattle.std.specs.Prelude.{◌≡◌, ◌↔◌, ◌++◌, ◌-◌, drop, map, take, IsTrue, IfOk, OnOk, OnErr};
+ghost use Rattle.tx_toklist.specs.Bodies.{argument, filled, filled_from};
+ghost use Rattle.tx_pending.specs.Elements.{Given as Element_given, no_input, step, with_close, with_line, with_list, with_token, with_tokens};
 ghost use Rattle.tx_pending.specs.Sources.{IsReady, elements_of, stack_elements};
 ghost use Rattle.tx_pending.specs.Steps.{Takes};
 
@@ -14,7 +15,7 @@ use std::alloc::{AllocError, Global};
 use std::marker::Model;
 use tx_bytes::Bytes;
 use tx_char::{Codes, Token};
-use tx_toklist::TokList;
+use tx_toklist::{Macro, Slot, TokList};
 
 /// What is read before another line is asked for. Contracts see one list of tokens, markers and lines, and whether
 /// \endinput came since a line was used up.
@@ -57,6 +58,16 @@ impl Pending {
             &mut self.stack,
             Source::List(ListReading::new(list, marked)),
         )
+    }
+
+    /// Puts the body of a macro at the front, with these arguments in place of its parameters. No token is copied: it takes
+    /// as much as parameters are named in the body. Its only error is want of memory, after which the input may only be
+    /// dropped.
+    pub fn push_use(&mut self, made: &Macro, arguments: &[TokList]) -> Result<(), AllocError>
+        ensures { OnOk result (self.new ≡ with_tokens self.old (filled made.now.body arguments.now)) }
+    {
+        drop_spent(&mut self.stack);
+        put_filled(&mut self.stack, made.tokens(), made.slots(), arguments)
     }
 
     /// Puts a token that was read at the front, to be read again. After want of memory nothing has changed.
@@ -145,6 +156,58 @@ fn put(stack: &mut Vec<Source>, source: Source) -> Result<(), AllocError>
 {
     stack.push(source)?;
     Ok(())
+}
+
+/// Puts the tokens of a body on the stack, with arguments at the places where they stand; what is read last goes first. Its
+/// only error is want of memory.
+fn put_filled(
+    stack: &mut Vec<Source>,
+    tokens: &TokList,
+    slots: &[Slot],
+    arguments: &[TokList],
+) -> Result<(), AllocError>
+    ensures { OnOk result (stack_elements stack.new.items ≡ map Element_given (filled_from arguments.now tokens.now 0 slots.now) ++ stack_elements stack.old.items) }
+{
+    let mut end = tokens.len();
+    let mut left = slots.len();
+    while left > 0 {
+        left -= 1;
+        let slot = slots[left];
+        put_part(stack, tokens, slot.before, end)?;
+        put_argument(stack, arguments, slot.number)?;
+        end = slot.before;
+    }
+    put_part(stack, tokens, 0, end)
+}
+
+/// Puts the tokens of a list from a place up to another on the stack, if there are any. Its only error is want of memory.
+fn put_part(
+    stack: &mut Vec<Source>,
+    tokens: &TokList,
+    from: usize,
+    to: usize,
+) -> Result<(), AllocError>
+    ensures { OnOk result (stack_elements stack.new.items ≡ map Element_given (take (to - from) (drop from tokens.now)) ++ stack_elements stack.old.items) }
+{
+    if from >= to {
+        return Ok(());
+    }
+    let part = ListReading::part(tokens.share()?, from, to);
+    put(stack, Source::List(part))
+}
+
+/// Puts the argument of the parameter of this number on the stack. Its only error is want of memory.
+fn put_argument(
+    stack: &mut Vec<Source>,
+    arguments: &[TokList],
+    number: u8,
+) -> Result<(), AllocError>
+    ensures { OnOk result (stack_elements stack.new.items ≡ map Element_given (argument arguments.now number) ++ stack_elements stack.old.items) }
+{
+    match arguments.get(usize::from(number).saturating_sub(1)) {
+        Some(list) => put(stack, Source::List(ListReading::new(list.share()?, false))),
+        None => Ok(()),
+    }
 }
 
 /// Takes what comes next. Its only error is want of memory.

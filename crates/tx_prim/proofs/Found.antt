@@ -1,7 +1,7 @@
 -- Each primitive is the first of all that has its name.
 use Rattle.std.proofs.Common.{◌≡◌, ℕ, List, [], ◌∷◌, Some, IfSome, cond, true, false, refl}
 use Rattle.tx_prim.specs.declared.primitive.Primitive.{Primitive}
-use Rattle.tx_prim.specs.declared.primitive.Primitive.TheVariants.{Relax, Par, BeginGroup, EndGroup, Prefix, Let, Shorthand, Arithmetic, Numbered, Integer, Dimension, Sized, Rule, Box, Shipout, End}
+use Rattle.tx_prim.specs.declared.primitive.Primitive.TheVariants.{Relax, EndCsName, Par, BeginGroup, EndGroup, Prefix, Let, Shorthand, Arithmetic, Numbered, Integer, Dimension, Sized, Rule, Box, Shipout, End}
 use Rattle.tx_prim.specs.declared.family.Prefix.TheVariants.{Global}
 use Rattle.tx_prim.specs.declared.family.Operation.TheVariants.{Advance, Multiply, Divide}
 use Rattle.tx_prim.specs.declared.family.Shorthand.TheVariants.{CountRegister, DimenRegister, Character, MathCharacter}
@@ -105,6 +105,7 @@ dimension-found Voffset = refl
 pub found : (p : Primitive) → named all (name_of p) ≡ Some p
 unfolding all line_of integer_name dimension_name
 found Relax = refl
+found EndCsName = refl
 found BeginGroup = refl
 found EndGroup = refl
 found (Prefix Global) = refl

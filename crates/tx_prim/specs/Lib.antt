@@ -2,3 +2,4 @@ pub mod Integers
 pub mod Dimensions
 pub mod Modes
 pub mod Table
+pub mod Expandables

@@ -1,6 +1,9 @@
--- What becomes of a command in a mode.
+-- What becomes of a command in a mode, and what a conditional tests of a mode.
+use Rattle.std.specs.Prelude.{Bool, true, false}
 use Rattle.tx_prim.specs.declared.modes.Mode.{Mode}
-use Rattle.tx_prim.specs.declared.modes.Mode.TheVariants.{Vertical, InternalVertical, Horizontal, Math, DisplayMath}
+use Rattle.tx_prim.specs.declared.modes.Mode.TheVariants.{Vertical, InternalVertical, Horizontal, RestrictedHorizontal, Math, DisplayMath}
+use Rattle.tx_prim.specs.declared.modes.ModeTest.{ModeTest}
+use Rattle.tx_prim.specs.declared.modes.ModeTest.TheVariants as tests
 use Rattle.tx_prim.specs.declared.modes.Modes.{Modes}
 use Rattle.tx_prim.specs.declared.modes.Modes.TheVariants.{All, NotMath, NotVertical, Pages, Math as Math_only, Nowhere}
 use Rattle.tx_prim.specs.declared.modes.Standing.{Standing}
@@ -24,3 +27,20 @@ standing Math_only Math = Stands
 standing Math_only DisplayMath = Stands
 standing Math_only mode = Refused
 standing Nowhere mode = Refused
+
+-- \ifvmode, \ifhmode and \ifmmode test the kind of a mode, and \ifinner whether it is that of a box's list or of a formula in a
+-- text (The TeXbook, chapter 20)
+abbrev pub holds : ModeTest → Mode → Bool
+holds tests.Vertical Vertical = true
+holds tests.Vertical InternalVertical = true
+holds tests.Vertical mode = false
+holds tests.Horizontal Horizontal = true
+holds tests.Horizontal RestrictedHorizontal = true
+holds tests.Horizontal mode = false
+holds tests.Math Math = true
+holds tests.Math DisplayMath = true
+holds tests.Math mode = false
+holds tests.Inner InternalVertical = true
+holds tests.Inner RestrictedHorizontal = true
+holds tests.Inner Math = true
+holds tests.Inner mode = false

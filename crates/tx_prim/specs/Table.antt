@@ -1,7 +1,7 @@
 -- The table of the primitives.
 use Rattle.std.specs.Prelude.{ℕ, List, [], ◌∷◌, Option, None, Some, codes, cond, bytes_eq}
 use Rattle.tx_prim.specs.declared.primitive.Primitive.{Primitive}
-use Rattle.tx_prim.specs.declared.primitive.Primitive.TheVariants.{Relax, Par, BeginGroup, EndGroup, Prefix, Let, Shorthand, Arithmetic, Numbered, Integer, Dimension, Sized, Rule, Box, Shipout, End}
+use Rattle.tx_prim.specs.declared.primitive.Primitive.TheVariants.{Relax, EndCsName, Par, BeginGroup, EndGroup, Prefix, Let, Shorthand, Arithmetic, Numbered, Integer, Dimension, Sized, Rule, Box, Shipout, End}
 use Rattle.tx_prim.specs.declared.family.Prefix.TheVariants.{Global}
 use Rattle.tx_prim.specs.declared.family.Operation.TheVariants.{Advance, Multiply, Divide}
 use Rattle.tx_prim.specs.declared.family.Shorthand.TheVariants.{CountRegister, DimenRegister, Character, MathCharacter}
@@ -28,6 +28,7 @@ line name modes = record { name = name; modes = modes }
 -- the table (The TeXbook, chapters 24 to 26)
 unfoldable pub line_of : Primitive → Line
 line_of Relax = line (codes "relax") All
+line_of EndCsName = line (codes "endcsname") All
 line_of BeginGroup = line (codes "begingroup") All
 line_of EndGroup = line (codes "endgroup") All
 line_of (Prefix Global) = line (codes "global") All
@@ -66,7 +67,7 @@ modes_of primitive = (line_of primitive).modes
 
 -- all primitives
 unfoldable pub all : List Primitive
-all = Relax ∷ BeginGroup ∷ EndGroup ∷ Prefix Global ∷ Let ∷ Arithmetic Advance ∷ Arithmetic Multiply ∷ Arithmetic Divide ∷ Numbered Count ∷ Numbered Dimen ∷ Shorthand CountRegister ∷ Shorthand DimenRegister ∷ Shorthand Character ∷ Shorthand MathCharacter ∷ Numbered Category ∷ Numbered (Code LowerCase) ∷ Numbered (Code UpperCase) ∷ Numbered (Code SpaceFactor) ∷ Numbered (Code Math) ∷ Numbered (Code Delimiter) ∷ Box Horizontal ∷ Shipout ∷ Sized Kern ∷ Par ∷ End ∷ Rule Vertical ∷ Integer Pretolerance ∷ Integer Tolerance ∷ Integer Hbadness ∷ Integer Vbadness ∷ Integer Linepenalty ∷ Integer Hyphenpenalty ∷ Integer Exhyphenpenalty ∷ Integer Binoppenalty ∷ Integer Relpenalty ∷ Integer Clubpenalty ∷ Integer Widowpenalty ∷ Integer Displaywidowpenalty ∷ Integer Brokenpenalty ∷ Integer Predisplaypenalty ∷ Integer Postdisplaypenalty ∷ Integer Interlinepenalty ∷ Integer Floatingpenalty ∷ Integer Outputpenalty ∷ Integer Doublehyphendemerits ∷ Integer Finalhyphendemerits ∷ Integer Adjdemerits ∷ Integer Looseness ∷ Integer Pausing ∷ Integer Holdinginserts ∷ Integer Tracingonline ∷ Integer Tracingmacros ∷ Integer Tracingstats ∷ Integer Tracingparagraphs ∷ Integer Tracingpages ∷ Integer Tracingoutput ∷ Integer Tracinglostchars ∷ Integer Tracingcommands ∷ Integer Tracingrestores ∷ Integer Language ∷ Integer Uchyph ∷ Integer Lefthyphenmin ∷ Integer Righthyphenmin ∷ Integer Globaldefs ∷ Integer Defaulthyphenchar ∷ Integer Defaultskewchar ∷ Integer Escapechar ∷ Integer Endlinechar ∷ Integer Newlinechar ∷ Integer Maxdeadcycles ∷ Integer Hangafter ∷ Integer Fam ∷ Integer Mag ∷ Integer Delimiterfactor ∷ Integer Time ∷ Integer Day ∷ Integer Month ∷ Integer Year ∷ Integer Showboxbreadth ∷ Integer Showboxdepth ∷ Integer Errorcontextlines ∷ Dimension Hfuzz ∷ Dimension Vfuzz ∷ Dimension Overfullrule ∷ Dimension Emergencystretch ∷ Dimension Hsize ∷ Dimension Vsize ∷ Dimension Maxdepth ∷ Dimension Splitmaxdepth ∷ Dimension Boxmaxdepth ∷ Dimension Lineskiplimit ∷ Dimension Delimitershortfall ∷ Dimension Nulldelimiterspace ∷ Dimension Scriptspace ∷ Dimension Mathsurround ∷ Dimension Predisplaysize ∷ Dimension Displaywidth ∷ Dimension Displayindent ∷ Dimension Parindent ∷ Dimension Hangindent ∷ Dimension Hoffset ∷ Dimension Voffset ∷ []
+all = Relax ∷ EndCsName ∷ BeginGroup ∷ EndGroup ∷ Prefix Global ∷ Let ∷ Arithmetic Advance ∷ Arithmetic Multiply ∷ Arithmetic Divide ∷ Numbered Count ∷ Numbered Dimen ∷ Shorthand CountRegister ∷ Shorthand DimenRegister ∷ Shorthand Character ∷ Shorthand MathCharacter ∷ Numbered Category ∷ Numbered (Code LowerCase) ∷ Numbered (Code UpperCase) ∷ Numbered (Code SpaceFactor) ∷ Numbered (Code Math) ∷ Numbered (Code Delimiter) ∷ Box Horizontal ∷ Shipout ∷ Sized Kern ∷ Par ∷ End ∷ Rule Vertical ∷ Integer Pretolerance ∷ Integer Tolerance ∷ Integer Hbadness ∷ Integer Vbadness ∷ Integer Linepenalty ∷ Integer Hyphenpenalty ∷ Integer Exhyphenpenalty ∷ Integer Binoppenalty ∷ Integer Relpenalty ∷ Integer Clubpenalty ∷ Integer Widowpenalty ∷ Integer Displaywidowpenalty ∷ Integer Brokenpenalty ∷ Integer Predisplaypenalty ∷ Integer Postdisplaypenalty ∷ Integer Interlinepenalty ∷ Integer Floatingpenalty ∷ Integer Outputpenalty ∷ Integer Doublehyphendemerits ∷ Integer Finalhyphendemerits ∷ Integer Adjdemerits ∷ Integer Looseness ∷ Integer Pausing ∷ Integer Holdinginserts ∷ Integer Tracingonline ∷ Integer Tracingmacros ∷ Integer Tracingstats ∷ Integer Tracingparagraphs ∷ Integer Tracingpages ∷ Integer Tracingoutput ∷ Integer Tracinglostchars ∷ Integer Tracingcommands ∷ Integer Tracingrestores ∷ Integer Language ∷ Integer Uchyph ∷ Integer Lefthyphenmin ∷ Integer Righthyphenmin ∷ Integer Globaldefs ∷ Integer Defaulthyphenchar ∷ Integer Defaultskewchar ∷ Integer Escapechar ∷ Integer Endlinechar ∷ Integer Newlinechar ∷ Integer Maxdeadcycles ∷ Integer Hangafter ∷ Integer Fam ∷ Integer Mag ∷ Integer Delimiterfactor ∷ Integer Time ∷ Integer Day ∷ Integer Month ∷ Integer Year ∷ Integer Showboxbreadth ∷ Integer Showboxdepth ∷ Integer Errorcontextlines ∷ Dimension Hfuzz ∷ Dimension Vfuzz ∷ Dimension Overfullrule ∷ Dimension Emergencystretch ∷ Dimension Hsize ∷ Dimension Vsize ∷ Dimension Maxdepth ∷ Dimension Splitmaxdepth ∷ Dimension Boxmaxdepth ∷ Dimension Lineskiplimit ∷ Dimension Delimitershortfall ∷ Dimension Nulldelimiterspace ∷ Dimension Scriptspace ∷ Dimension Mathsurround ∷ Dimension Predisplaysize ∷ Dimension Displaywidth ∷ Dimension Displayindent ∷ Dimension Parindent ∷ Dimension Hangindent ∷ Dimension Hoffset ∷ Dimension Voffset ∷ []
 
 -- the first primitive of a list that has a name
 abbrev pub named : List Primitive → List ℕ → Option Primitive

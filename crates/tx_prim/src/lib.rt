@@ -4,19 +4,21 @@
 //! Proved: each primitive's name and modes are those of one table, and the name leads back to it. Only tested: that the
 //! table is Knuth's, against `tex -ini`.
 //!
-//! Read `modes`, `family`, `integer` and `dimension`, and then `primitive`.
+//! Read `modes`, `family`, `integer` and `dimension`, then `primitive`, and `expandable`, those that are expanded.
 #![tactic(auto)]
 
 mod dimension;
+mod expandable;
 mod family;
 mod integer;
 mod modes;
 mod primitive;
 
 pub use dimension::DimensionParameter;
+pub use expandable::{CondWord, Conversion, Expandable, Test};
 pub use family::{
     BoxKind, CharacterCode, Numbered, Operation, Prefix, RuleKind, Shorthand, SizeKind,
 };
 pub use integer::{IntegerParameter, Moment};
-pub use modes::{Mode, Modes, Standing};
+pub use modes::{Mode, ModeTest, Modes, Standing};
 pub use primitive::Primitive;

@@ -1,6 +1,6 @@
 //! Modes, and what becomes of a command in each.
 ghost use Rattle.std.specs.Prelude.{◌≡◌};
-ghost use Rattle.tx_prim.specs.Modes.{standing};
+ghost use Rattle.tx_prim.specs.Modes.{holds, standing};
 
 /// What TeX is building (The TeXbook, chapter 13).
 #[derive(Clone, Copy, PartialEq, Eq, Debug)]
@@ -17,6 +17,19 @@ pub enum Mode {
     Math,
     /// A displayed formula.
     DisplayMath,
+}
+
+/// What a conditional tests of a mode (TeX: The Program, section 501).
+#[derive(Clone, Copy, PartialEq, Eq)]
+pub enum ModeTest {
+    /// \ifvmode.
+    Vertical,
+    /// \ifhmode.
+    Horizontal,
+    /// \ifmmode.
+    Math,
+    /// \ifinner: the mode of a box's list, or of a formula in a text.
+    Inner,
 }
 
 /// In which modes a command may stand.
@@ -47,6 +60,23 @@ pub enum Standing {
     EndsParagraph,
     /// It may not stand there.
     Refused,
+}
+
+impl ModeTest {
+    /// Whether a mode passes the test.
+    pub fn holds(self, mode: Mode) -> bool
+        ensures { result ≡ holds self mode }
+    {
+        match self {
+            ModeTest::Vertical => matches!(mode, Mode::Vertical | Mode::InternalVertical),
+            ModeTest::Horizontal => matches!(mode, Mode::Horizontal | Mode::RestrictedHorizontal),
+            ModeTest::Math => matches!(mode, Mode::Math | Mode::DisplayMath),
+            ModeTest::Inner => matches!(
+                mode,
+                Mode::InternalVertical | Mode::RestrictedHorizontal | Mode::Math
+            ),
+        }
+    }
 }
 
 impl Modes {

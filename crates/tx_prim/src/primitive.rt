@@ -16,6 +16,8 @@ use crate::modes::Modes;
 pub enum Primitive {
     /// \relax.
     Relax,
+    /// \endcsname, which stands behind \csname alone.
+    EndCsName,
     /// \par.
     Par,
     /// \begingroup and \endgroup.
@@ -47,8 +49,9 @@ pub enum Primitive {
 }
 
 /// All primitives, in the order of their table.
-const ALL: [Primitive; 102] = [
+const ALL: [Primitive; 103] = [
     Primitive::Relax,
+    Primitive::EndCsName,
     Primitive::BeginGroup,
     Primitive::EndGroup,
     Primitive::Prefix(Prefix::Global),
@@ -168,6 +171,7 @@ impl Primitive {
     {
         match self {
             Primitive::Relax => b"relax",
+            Primitive::EndCsName => b"endcsname",
             Primitive::BeginGroup => b"begingroup",
             Primitive::EndGroup => b"endgroup",
             Primitive::Prefix(Prefix::Global) => b"global",
@@ -205,6 +209,7 @@ impl Primitive {
     {
         match self {
             Primitive::Relax | Primitive::BeginGroup | Primitive::EndGroup => Modes::All,
+            Primitive::EndCsName => Modes::All,
             Primitive::Prefix(_) | Primitive::Let | Primitive::Shorthand(_) => Modes::All,
             Primitive::Arithmetic(_) | Primitive::Numbered(_) => Modes::All,
             Primitive::Integer(_) | Primitive::Dimension(_) => Modes::All,

@@ -46,6 +46,7 @@ begun_by_command (primitive.Integer parameter) = begin.At (place.Integer paramet
 begun_by_command (primitive.Dimension parameter) = begin.At (place.Dimension parameter)
 begun_by_command (primitive.Numbered kind) = begin.Numbered kind
 begun_by_command primitive.Relax = no_number
+begun_by_command primitive.EndCsName = no_number
 begun_by_command primitive.Par = no_number
 begun_by_command primitive.End = no_number
 begun_by_command primitive.BeginGroup = no_number
@@ -70,6 +71,9 @@ begun_by_meaning (meaning.CharacterNumber n) = begin.Number n
 begun_by_meaning (meaning.MathNumber n) = begin.Number n
 begun_by_meaning (meaning.CountRegister n) = begin.At (place.Count n)
 begun_by_meaning (meaning.DimenRegister n) = begin.At (place.Dimen n)
+begun_by_meaning (meaning.Expandable e) = no_number
+begun_by_meaning (meaning.Macro m) = no_number
+begun_by_meaning meaning.Held = no_number
 
 -- a character of category 12 that is no digit: + - ' " ` begin something by themselves, and a point does a size's fraction
 abbrev pub begun_by_sign : ℕ → Meaning → Beginning

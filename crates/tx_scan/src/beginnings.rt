@@ -73,6 +73,7 @@ fn begun_by_command(command: Primitive) -> Beginning
         Primitive::Numbered(kind) => Beginning::Numbered(kind),
         Primitive::Relax | Primitive::Par | Primitive::End => nothing(),
         Primitive::BeginGroup | Primitive::EndGroup => nothing(),
+        Primitive::EndCsName => nothing(),
         Primitive::Prefix(_) | Primitive::Let | Primitive::Shorthand(_) => nothing(),
         Primitive::Arithmetic(_) => nothing(),
         Primitive::Sized(_) | Primitive::Rule(_) | Primitive::Box(_) | Primitive::Shipout => {
@@ -94,6 +95,7 @@ fn begun_by_meaning(meaning: &Meaning) -> Beginning
         Meaning::MathNumber(number) => Beginning::Number(*number),
         Meaning::CountRegister(number) => Beginning::At(Place::Count(*number)),
         Meaning::DimenRegister(number) => Beginning::At(Place::Dimen(*number)),
+        Meaning::Expandable(_) | Meaning::Macro(_) | Meaning::Held => nothing(),
     }
 }
 

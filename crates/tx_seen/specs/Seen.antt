@@ -6,7 +6,7 @@ use Rattle.tx_char.specs.declared.tokens.Token.{Token}
 use Rattle.tx_char.specs.declared.tokens.Token.TheVariants as token
 use Rattle.tx_prim.specs.declared.primitive.Primitive.TheVariants.{Relax}
 use Rattle.tx_seen.specs.declared.meaning.Meaning.{Meaning}
-use Rattle.tx_seen.specs.declared.meaning.Meaning.TheVariants.{Undefined, Command, Character}
+use Rattle.tx_seen.specs.declared.meaning.Meaning.TheVariants.{Undefined, Command, Character, Held}
 use Rattle.tx_seen.specs.declared.seen.Seen.{Seen}
 
 -- a name without a meaning, or an active character without one
@@ -33,12 +33,13 @@ is_begin_group t = is_begin t.meaning
     is_begin (Character code BeginGroup) = true
     is_begin _ = false
 
--- what means \relax
+-- what means \relax, and what \noexpand made mean as little (TeX: The Program, sections 358 and 404)
 abbrev pub is_relax : Seen → Bool
 is_relax t = is_nothing_done t.meaning
   where
     is_nothing_done : Meaning → Bool
     is_nothing_done (Command Relax) = true
+    is_nothing_done Held = true
     is_nothing_done _ = false
 
 -- a character of category 12 with this code

@@ -4,7 +4,8 @@ ghost use Rattle.std.specs.Prelude.{◌≡◌, ◌↔◌, IsTrue};
 use std::alloc::AllocError;
 use tx_char::Cat;
 use tx_list::Kept;
-use tx_prim::Primitive;
+use tx_prim::{Expandable, Primitive};
+use tx_toklist::Macro;
 
 /// The meaning of a name or an active character (TeX: The Program, part 15).
 #[derive(Drop)]
@@ -23,9 +24,16 @@ pub enum Meaning {
     CountRegister(u8),
     /// A register of \dimen, by \dimendef.
     DimenRegister(u8),
+    /// A primitive that is expanded.
+    Expandable(Expandable),
+    /// A macro, which any number of names share.
+    Macro(Macro),
+    /// What would be expanded, but stands behind \noexpand: it does nothing, as \relax, and yet isn't \relax (TeX: The
+    /// Program, section 358).
+    Held,
 }
 
-/// A clone is the same meaning.
+/// A clone is the same meaning. Its only error is that no more owners of a macro can be counted.
 impl Clone for Meaning {
     ghost is_clone = { λ source copy. copy ≡ source };
 
@@ -38,6 +46,9 @@ impl Clone for Meaning {
             Meaning::MathNumber(number) => Ok(Meaning::MathNumber(*number)),
             Meaning::CountRegister(number) => Ok(Meaning::CountRegister(*number)),
             Meaning::DimenRegister(number) => Ok(Meaning::DimenRegister(*number)),
+            Meaning::Expandable(expandable) => Ok(Meaning::Expandable(*expandable)),
+            Meaning::Macro(shared) => Ok(Meaning::Macro(shared.share()?)),
+            Meaning::Held => Ok(Meaning::Held),
         }
     }
 }
@@ -58,6 +69,9 @@ impl Kept for Meaning {
             (Meaning::MathNumber(one), Meaning::MathNumber(other)) => one == other,
             (Meaning::CountRegister(one), Meaning::CountRegister(other)) => one == other,
             (Meaning::DimenRegister(one), Meaning::DimenRegister(other)) => one == other,
+            (Meaning::Expandable(one), Meaning::Expandable(other)) => one == other,
+            (Meaning::Macro(one), Meaning::Macro(other)) => one.same(other),
+            (Meaning::Held, Meaning::Held) => true,
             _ => false,
         }
     }

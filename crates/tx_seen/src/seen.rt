@@ -56,11 +56,14 @@ impl Seen {
         matches!(self.meaning, Meaning::Character(_, Cat::BeginGroup))
     }
 
-    /// Whether it means \relax.
+    /// Whether it means \relax, or stands behind \noexpand and so does nothing either.
     pub fn is_relax(&self) -> bool
         ensures { result ≡ spec.is_relax self.now }
     {
-        matches!(self.meaning, Meaning::Command(Primitive::Relax))
+        matches!(
+            self.meaning,
+            Meaning::Command(Primitive::Relax) | Meaning::Held
+        )
     }
 
     /// Whether it is this character with category 12.

@@ -1,12 +1,12 @@
 -- Macros (The TeXbook, chapter 20; TeX: The Program, sections 200 and 473 to 477).
-use Rattle.std.specs.Prelude.{◌≤◌, ℕ, Bool, true, false, List, [], ◌∷◌, ◌++◌, ◌-◌, ◌==◌, ◌&&◌, nat_le, not, length, slice_set, slice_index_or, IsTrue, if◌then◌else◌}
+use Rattle.std.specs.Prelude.{◌≡◌, ◌≤◌, ℕ, Bool, true, false, List, [], ◌∷◌, ◌++◌, ◌-◌, ◌==◌, ◌&&◌, nat_le, not, length, slice_set, slice_index_or, IsTrue, if◌then◌else◌}
 use Rattle.std.specs.List.{list_all}
 use Rattle.tx_char.specs.declared.category.Cat.{Cat}
 use Rattle.tx_char.specs.declared.category.Cat.TheVariants.{BeginGroup, EndGroup}
 use Rattle.tx_char.specs.declared.tokens.Token.{Token}
 use Rattle.tx_char.specs.declared.tokens.Token.TheVariants.{Character}
-use Rattle.tx_toklist.specs.declared.body.BodyPart.{BodyPart}
-use Rattle.tx_toklist.specs.declared.body.BodyPart.TheVariants.{Argument}
+use Rattle.tx_toklist.specs.declared.body.Slot.{Slot}
+use Rattle.tx_toklist.specs.Bodies.{BodyText}
 
 -- a parameter text: the tokens before its first parameter, and for each parameter the tokens behind it, which delimit
 -- its argument; none where it is undelimited
@@ -14,10 +14,12 @@ pub record Parameters : Type 0 where
   pub before : List Token
   pub delimiters : List (List Token)
 
--- a macro: its parameter text, its body, and whether it is \long and \outer
+-- a macro: its parameter text; for each parameter the character that stood for the # before it, as messages print it; its
+-- body; and whether it is \long and \outer
 pub record Definition : Type 0 where
   pub parameters : Parameters
-  pub body : List BodyPart
+  pub signs : List ℕ
+  pub body : BodyText
   pub long : Bool
   pub outer : Bool
 
@@ -58,10 +60,9 @@ with_token p token =
     then record { before = p.before ++ token ∷ []; delimiters = [] }
     else record { before = p.before; delimiters = slice_set p.delimiters (length p.delimiters - 1) (last_delimiter p ++ token ∷ []) }
 
--- an element of a body that is a parameter's number names one of this many parameters
-abbrev pub is_known : ℕ → BodyPart → Bool
-is_known count (Argument number) = nat_le 1 number && nat_le number count
-is_known count _ = true
+-- a place in a body names one of this many parameters
+abbrev pub is_known : ℕ → Slot → Bool
+is_known count slot = nat_le 1 slot.number && nat_le slot.number count
 
 -- the tokens before a parameter or behind it: none is an end-group token, and only the last may be a begin-group token,
 -- which `#{` puts there
@@ -70,9 +71,10 @@ is_delimiter [] = true
 is_delimiter (t ∷ []) = not (is_end t)
 is_delimiter (t ∷ u ∷ more) = not (is_end t) && (not (is_begin t) && is_delimiter (u ∷ more))
 
--- a macro has at most nine parameters, its parameter text has no group in it, and its body names only parameters that
--- it has
-pub record IsMacro (p : Parameters) (body : List BodyPart) : Type 0 where
+-- a macro has at most nine parameters, each with its sign, its parameter text has no group in it, and its body names only
+-- parameters that it has
+pub record IsMacro (p : Parameters) (signs : List ℕ) (body : BodyText) : Type 0 where
   pub nine : length p.delimiters ≤ 9
+  pub signed : length signs ≡ length p.delimiters
   pub delimits : IsTrue (list_all is_delimiter (p.before ∷ p.delimiters))
-  pub known : IsTrue (list_all (is_known (length p.delimiters)) body)
+  pub known : IsTrue (list_all (is_known (length p.delimiters)) body.slots)

@@ -16,7 +16,7 @@ mod text;
 mod tok_list;
 mod toks;
 
-pub use body::{Body, BodyPart};
+pub use body::{Body, Slot, Slots};
 pub use item::Item;
 pub use macros::Macro;
 pub use parameters::ParameterText;
