@@ -1,5 +1,5 @@
 -- The map that the entries stand for answers as a search of the entries does, and a change of an entry is one in it.
-use Rattle.std.proofs.Common.{◌≡◌, ℕ, Bool, true, false, cond, List, [], ◌∷◌, map, Option, Some, None, refl, sym, ap, ◌∙◌, nat_eq, true≢false}
+use Rattle.std.proofs.Common.{◌≡◌, ℕ, Bool, true, false, cond, List, [], ◌∷◌, map, Option, Some, None, refl, sym, ap, subst, ◌∙◌, ◌≤◌, length, slice_get, arith, nat_eq, true≢false}
 use Rattle.std.specs.Global.{Vec}
 use Rattle.std.specs.Ordering.{nat_cmp}
 use Rattle.std.specs.Cmp.Lexicographic.{slice_cmp}
@@ -76,3 +76,22 @@ module _ {X : Type 0} where
   by_names-changed name value old new here keeps = same_map nat_list_cmp_total (slice_cmp-IsAntisymmetric nat_cmp-IsAntisymmetric) _ _ (λ q.
       get-updates name old new (Some value) here keeps q
       ∙ sym (get-insert nat_list_cmp_total (by_names old) name value q ∙ ap (λ b. cond b (Some value) (get (by_names old) q)) (is_eq-slice_cmp q name)))
+
+  -- without an entry no name has one
+  pub get-nothing : (es : List (Vec ℕ × X)) → slice_get es 0 ≡ None → (q : List ℕ) → get (by_names es) q ≡ None
+  get-nothing [] none q = get-by_names [] q
+  get-nothing (e ∷ es) none q = absurd (let it : Some e ≡ None = none in cc)
+
+  -- where there is one entry at most, each name has that one or none
+  pub get-one : (P : Option X → Type 0) (es : List (Vec ℕ × X)) {e : Vec ℕ × X} → length es ≤ 1 → slice_get es 0 ≡ Some e → P None → P (Some e.1) → (q : List ℕ) → P (get (by_names es) q)
+  get-one P [] few first none one q = absurd (let it : None ≡ Some _ = first in cc)
+  get-one P (x ∷ y ∷ es) few first none one q = absurd (omega arith)
+  get-one P (x ∷ []) {e = e} few first none one q =
+      subst P (sym (get-by_names (x ∷ []) q)) (by (bytes_eq q x.0.items))
+    where
+      same : x ≡ e
+      same = let it : Some x ≡ Some e = first in cc
+
+      by : (b : Bool) → P (cond b (Some x.1) None)
+      by true = subst (λ (v : Vec ℕ × X). P (Some v.1)) (sym same) one
+      by false = none

@@ -71,3 +71,11 @@ leaves (Some reads) place = lies_before reads.extent place
 -- whether an edit leaves what was read as it is: its file wasn't seen, or was read up to the edit's place at most
 abbrev pub untouched : Reads → Edit → Bool
 untouched reads e = leaves (get reads e.name) e.place
+
+-- whether a file was asked for by its name, to be opened or taken whole
+abbrev pub was_asked : Option FileReads → Bool
+was_asked None = false
+was_asked (Some reads) = reads.asked
+
+abbrev pub asks_for : Reads → List ℕ → Bool
+asks_for reads name = was_asked (get reads name)

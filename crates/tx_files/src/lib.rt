@@ -18,4 +18,4 @@ pub use file_set::FileSet;
 pub use line::{NextLine, line_count, next_line};
 pub use name::Name;
 pub use reads::{Extent, FileReads, Note, Sight};
-pub use seen::{Seen, untouched};
+pub use seen::{Seen, asks_for, untouched};

@@ -1,7 +1,7 @@
-ghost use Rattle.std.specs.Prelude.{◌≡◌, OnOk, OnErr};
+ghost use Rattle.std.specs.Prelude.{◌≡◌, true, false, ℕ, List, OnOk, OnErr};
 ghost use Rattle.std.specs.FinMap.{empty, get};
 ghost use Rattle.tx_files.specs.Reads as reads;
-ghost use Rattle.tx_files.specs.Reads.{noted, seen_more, lies_before};
+ghost use Rattle.tx_files.specs.Reads.{noted, seen_more, lies_before, leaves, was_asked};
 ghost use Rattle.tx_files.specs.Shift.{CanShiftExtent, CanShiftReads, shifted_extent};
 ghost use Rattle.tx_files.specs.Shift as shift;
 
@@ -147,6 +147,32 @@ impl Seen {
         self.files.get(name).copied()
     }
 
+    /// Whether one file was seen at most, and all that was read of it lies before this place: then no name is compared.
+    fn is_before(&self, place: u64) -> bool
+        ensures { result ≡ true → (name : List ℕ) → leaves (get self.now name) place ≡ true }
+    {
+        if self.files.len() > 1 {
+            return false;
+        }
+        match self.files.first() {
+            None => true,
+            Some((_, reads)) => lies_before(reads.extent, place),
+        }
+    }
+
+    /// Whether one file was seen at most, and it wasn't asked for by its name: then no name is compared.
+    fn is_unasked(&self) -> bool
+        ensures { result ≡ true → (name : List ℕ) → was_asked (get self.now name) ≡ false }
+    {
+        if self.files.len() > 1 {
+            return false;
+        }
+        match self.files.first() {
+            None => true,
+            Some((_, reads)) => !reads.asked,
+        }
+    }
+
     /// Moves what was read of the edited file, up to a place behind the edit, with the bytes behind it; takes no memory.
     pub fn shift(&mut self, e: &Edit)
         requires { CanShiftReads e.now (get self.old e.now.name) }
@@ -165,8 +191,24 @@ impl Seen {
 pub fn untouched(seen: &Seen, e: &Edit) -> bool
     ensures { result ≡ reads.untouched seen.now e.now }
 {
+    if seen.is_before(e.place) {
+        return true;
+    }
     match seen.get(e.name.as_slice()) {
         None => true,
         Some(reads) => lies_before(reads.extent, e.place),
+    }
+}
+
+/// Whether this file was asked for by its name, to be opened or taken whole. It takes no memory.
+pub fn asks_for(seen: &Seen, name: &[u8]) -> bool
+    ensures { result ≡ reads.asks_for seen.now name.now }
+{
+    if seen.is_unasked() {
+        return false;
+    }
+    match seen.get(name) {
+        None => false,
+        Some(reads) => reads.asked,
     }
 }

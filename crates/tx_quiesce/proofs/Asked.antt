@@ -7,8 +7,7 @@ use Rattle.std.proofs.lemmas.Map.Text.{is_eq-slice_cmp}
 use Rattle.tx_files.specs.declared.reads.FileReads.{FileReads}
 use Rattle.tx_files.specs.declared.reads.Note.{Note}
 use Rattle.tx_files.specs.declared.reads.Sight.{Sight}
-use Rattle.tx_files.specs.Reads.{Reads, is_asked, seen_more, noted, noting, reads_of}
-use Rattle.tx_quiesce.specs.Meeting.{was_asked, asks_for}
+use Rattle.tx_files.specs.Reads.{Reads, is_asked, seen_more, noted, noting, reads_of, was_asked, asks_for}
 
 -- each file that the notes show to be asked for is one of these
 abbrev pub AreAsked : (List ℕ → Type 0) → List Note → Type 0

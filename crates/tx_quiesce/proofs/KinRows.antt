@@ -4,7 +4,7 @@ use Rattle.std.specs.Prelude.{slice_get}
 use Rattle.std.specs.List.{AllZip, list_any}
 use Rattle.tx_bytes.specs.Files.{Files}
 use Rattle.tx_files.specs.declared.reads.Note.{Note}
-use Rattle.tx_files.specs.Reads.{Reads, reads_of}
+use Rattle.tx_files.specs.Reads.{Reads, reads_of, asks_for}
 use Rattle.tx_machine.specs.declared.types.Close.{Close}
 use Rattle.tx_machine.specs.declared.types.Close.TheVariants.{Page, Halt, Spent}
 use Rattle.tx_machine.specs.declared.types.End.TheVariants.{Error}
@@ -19,7 +19,7 @@ use Rattle.tx_checkpoint.specs.declared.row.Row.{Row}
 use Rattle.tx_checkpoint.specs.declared.row.Last.{Last}
 use Rattle.tx_checkpoint.specs.Rows.{History, PageRow, rows_in, closed_rows, rows_from}
 use Rattle.tx_quiesce.specs.Laws.{but_for_line}
-use Rattle.tx_quiesce.specs.Meeting.{asks_for, rest_asks}
+use Rattle.tx_quiesce.specs.Meeting.{rest_asks}
 use Rattle.tx_quiesce.specs.Shift.{end_now}
 use Rattle.tx_quiesce.proofs.Asked.{AreAsked, asked-log, or-left}
 use Rattle.tx_quiesce.proofs.Kin.{IsKin, AreKin, kin-stretch}

@@ -11,6 +11,7 @@ pub mod Inside
 pub mod Fitting
 pub mod Searching
 pub mod Tailing
+pub mod Candidates
 pub mod Fronts
 pub mod Reuse
 pub mod Untils

@@ -7,7 +7,8 @@ use Rattle.tx_machine.specs.Machine.{Formatter, IsLawful}
 use Rattle.tx_checkpoint.specs.declared.row.Row.{Row}
 use Rattle.tx_checkpoint.specs.declared.row.Last.{Last}
 use Rattle.tx_checkpoint.specs.Meant.{row_meant, rows_meant}
-use Rattle.tx_quiesce.specs.Meeting.{opens_fit, row_fits, asks_for, rest_asks, met}
+use Rattle.tx_files.specs.Reads.{asks_for}
+use Rattle.tx_quiesce.specs.Meeting.{opens_fit, row_fits, rest_asks, met}
 
 -- how states are compared in code, as they are in the definition
 same_is : {S : Type 0} {m : Formatter S} → IsLawful m → (a b : S) (r : Bool) → ((r ≡ true → a ≡ b) × (a ≡ b → r ≡ true)) → r ≡ m.same a b

@@ -2,10 +2,8 @@
 use Rattle.std.specs.Prelude.{◌+◌, ◌-◌, Bool, true, false, ◌&&◌, ◌||◌, not, ◌==◌, ℕ, nat_le, max, drop, List, [], ◌∷◌, Option, Some, None, if◌then◌else◌}
 use Rattle.std.specs.List.{list_any}
 use Rattle.std.specs.Str.{bytes_eq}
-use Rattle.std.specs.FinMap.{get}
 use Rattle.tx_files.specs.declared.edit.Edit.{Edit}
-use Rattle.tx_files.specs.declared.reads.FileReads.{FileReads}
-use Rattle.tx_files.specs.Reads.{Reads}
+use Rattle.tx_files.specs.Reads.{asks_for}
 use Rattle.tx_files.specs.Shift.{shifted}
 use Rattle.tx_machine.specs.Machine.{Formatter}
 use Rattle.tx_machine.specs.declared.types.OpenFile.{OpenFile}
@@ -32,15 +30,7 @@ opens_fit e _ _ = false
 abbrev pub row_fits : {S : Type 0} → Formatter S → Edit → Row S → Row S → Bool
 row_fits m e old new = opens_fit e old.opens new.opens && m.same new.state old.state
 
--- whether some turns asked to open a file or to take it whole
-abbrev pub was_asked : Option FileReads → Bool
-was_asked None = false
-was_asked (Some reads) = reads.asked
-
-abbrev pub asks_for : Reads → List ℕ → Bool
-asks_for reads name = was_asked (get reads name)
-
--- whether the turns of some rows did, or those of the stretch after them
+-- whether the turns of some rows asked to open a file or to take it whole, or those of the stretch after them
 abbrev pub rest_asks : {S : Type 0} → List (Row S) → Last → List ℕ → Bool
 rest_asks rows last name = list_any (λ row. asks_for row.seen name) rows || asks_for last.seen name
 

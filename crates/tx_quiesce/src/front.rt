@@ -7,7 +7,7 @@ ghost use Rattle.tx_quiesce.specs.Front.{Reaches, turns_to};
 ghost use Rattle.tx_quiesce.specs.Meeting.{first_meeting};
 
 use crate::search::met_row;
-use crate::tails::tails;
+use crate::tails::{Offsets, write_down};
 use std::alloc::{AllocError, Global};
 use tx_bytes::Bytes;
 use tx_checkpoint::{Formatted, Last, Row, Rows, format_row};
@@ -86,18 +86,19 @@ pub fn format_until_met<M: Machine>(
     // Also where memory was wanting.
     ensures bound { let whole = rows_from M.formatter files.now budget most (M.meaning spot.state) spot.opens in steps.new ≤ raised steps.old (turns_to whole (first_meeting M.formatter e.now (rows_meant M.meaning old.now.rows.items) old.now.last resumed (rows_in whole.pages))) }
 {
-    let offsets = tails(alloc, old.rows.as_slice())?;
+    let mut offsets = Offsets::Unread;
     let mut front = Front::new(alloc);
     for _page in 0..most {
         spot.left = budget;
         match format_row(alloc, machine, files, &mut spot, steps)? {
             Formatted::Page { body, piece, row } => {
-                let met = met_row(machine, old, offsets.as_slice(), e, resumed, &row);
+                let met = met_row(machine, old, &offsets, e, resumed, &row);
                 front.push(body, piece, row)?;
                 if let Some(number) = met {
                     front.stopped = Stopped::Met(number);
                     return Ok(front);
                 }
+                write_down(alloc, &mut offsets, old.rows.as_slice())?;
             }
             Formatted::Over(last) => {
                 front.stopped = Stopped::Over(last);

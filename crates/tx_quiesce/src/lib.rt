@@ -25,5 +25,5 @@ pub mod tails;
 pub use carry::reuse_rows;
 pub use further::Further;
 pub use later::{Later, format_later};
-pub use meeting::{asks_for, meets};
+pub use meeting::meets;
 pub use moving::relocate;

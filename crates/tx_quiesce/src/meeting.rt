@@ -5,7 +5,7 @@ ghost use Rattle.tx_quiesce.specs.Meeting as spec;
 ghost use Rattle.tx_quiesce.specs.Meeting.{row_fits};
 
 use tx_checkpoint::Row;
-use tx_files::{Edit, Seen};
+use tx_files::Edit;
 use tx_machine::{Machine, OpenFile};
 
 /// Whether an offset in the edited file stands behind what the edit takes out, and this one is where it stands after it.
@@ -60,14 +60,4 @@ pub fn meets<M: Machine>(machine: &M, row: &Row<M::State>, new: &Row<M::State>, 
         return false;
     }
     machine.same(&new.state, &row.state)
-}
-
-/// Whether some turns asked to open this file or to take it whole. It takes no memory.
-pub fn asks_for(seen: &Seen, name: &[u8]) -> bool
-    ensures { result ≡ spec.asks_for seen.now name.now }
-{
-    match seen.get(name) {
-        None => false,
-        Some(reads) => reads.asked,
-    }
 }

@@ -1,12 +1,24 @@
 //! Which old rows a new one may fit, by numbers alone.
-ghost use Rattle.std.specs.Prelude.{◌≡◌, ◌+◌, map, drop, IfOk};
+ghost use Rattle.std.specs.Prelude.{◌≡◌, ◌+◌, ◌≤◌, length, drop, IfOk, OnOk};
+ghost use Rattle.std.specs.List.Sorted.{IsNonDecreasing};
 ghost use Rattle.tx_quiesce.specs.Tails as spec;
-ghost use Rattle.tx_quiesce.specs.Tails.{skipped, IsMovedFrom};
+ghost use Rattle.tx_quiesce.specs.Tails.{AreOffsets, IsFirstNotLess, IsNextEqual, IsMovedFrom, offsets_of, skipped};
 
 use std::alloc::{AllocError, Global};
 use tx_checkpoint::Row;
 use tx_files::Edit;
 use tx_machine::Opens;
+
+/// How far the innermost file of each old row was read, as far as that is written down.
+#[derive(Drop)]
+pub enum Offsets {
+    /// It stands in the rows alone.
+    Unread,
+    /// It is written down, and is never less than in the row before.
+    Ascending(Vec<u64>),
+    /// It is written down.
+    Mixed(Vec<u64>),
+}
 
 /// How many bytes of the innermost open file were read; 0 where none is open.
 pub fn innermost_offset(opens: &Opens) -> u64
@@ -18,15 +30,37 @@ pub fn innermost_offset(opens: &Opens) -> u64
     }
 }
 
-/// The innermost offset of each row. Its only error is want of memory.
-pub fn tails<S>(alloc: Global, rows: &[Row<S>]) -> Result<Vec<u64>, AllocError>
-    ensures { IfOk result (λ tails. tails.items ≡ map (λ row. spec.innermost_offset row.opens) rows.now) }
+/// The offsets of these rows, written down. Its only error is want of memory.
+fn read_offsets<S>(alloc: Global, rows: &[Row<S>]) -> Result<Offsets, AllocError>
+    ensures { IfOk result (AreOffsets rows.now) }
 {
-    let mut offsets = Vec::with_capacity(alloc, rows.len())?;
+    let mut numbers = Vec::with_capacity(alloc, rows.len())?;
     for row in rows {
-        offsets.push(innermost_offset(&row.opens))?;
+        numbers.push(innermost_offset(&row.opens))?;
     }
-    Ok(offsets)
+    if numbers.as_slice().is_sorted() {
+        Ok(Offsets::Ascending(numbers))
+    } else {
+        Ok(Offsets::Mixed(numbers))
+    }
+}
+
+/// Writes the offsets of these rows down, unless they are. Its only error is want of memory.
+pub fn write_down<S>(
+    alloc: Global,
+    offsets: &mut Offsets,
+    rows: &[Row<S>],
+) -> Result<(), AllocError>
+    requires { AreOffsets rows.now offsets.old }
+    ensures { OnOk result (AreOffsets rows.now offsets.new) }
+{
+    match offsets {
+        Offsets::Unread => {
+            *offsets = read_offsets(alloc, rows)?;
+            Ok(())
+        }
+        Offsets::Ascending(_) | Offsets::Mixed(_) => Ok(()),
+    }
 }
 
 /// The old offset that stands here after the edit; where there is none, this one.
@@ -47,19 +81,101 @@ fn moved_from(here: u64, e: &Edit) -> u64
     }
 }
 
-/// The first old row from a place on that may fit a new one, whose innermost file was read up to here. It looks at two numbers
-/// only.
-pub fn next_candidate(tails: &[u64], from: usize, e: &Edit, here: u64) -> usize
-    ensures { result ≡ from + skipped e.now here (drop from tails.now) }
+/// The first row from a place on that may fit a new one, whose innermost file was read up to here.
+fn next_row<S>(rows: &[Row<S>], from: usize, e: &Edit, here: u64) -> usize
+    ensures { result ≡ from + skipped e.now here (drop from (offsets_of rows.now)) }
 {
     let moved = moved_from(here, e);
     let mut at = from;
-    while at < tails.len() {
-        let old = tails[at];
+    while at < rows.len() {
+        let old = innermost_offset(&rows[at].opens);
         if old == here || old == moved {
             return at;
         }
         at += 1;
     }
     at
+}
+
+/// The first of these offsets from a place on that may fit this one.
+fn next_offset(numbers: &[u64], from: usize, e: &Edit, here: u64) -> usize
+    ensures { result ≡ from + skipped e.now here (drop from numbers.now) }
+{
+    let moved = moved_from(here, e);
+    let mut at = from;
+    while at < numbers.len() {
+        let old = numbers[at];
+        if old == here || old == moved {
+            return at;
+        }
+        at += 1;
+    }
+    at
+}
+
+/// The first place from one on behind which no number is less than this one, by halving.
+fn first_not_less(numbers: &[u64], from: usize, value: u64) -> usize
+    requires ascending { IsNonDecreasing numbers.now }
+    requires within { from ≤ length numbers.now }
+    ensures { IsFirstNotLess numbers.now from value result }
+{
+    let mut low = from;
+    let mut high = numbers.len();
+    while low < high {
+        let middle = low + (high - low) / 2;
+        if numbers[middle] < value {
+            low = middle + 1;
+        } else {
+            high = middle;
+        }
+    }
+    low
+}
+
+/// The first place from one on where this number stands; the end where it doesn't.
+fn next_equal(numbers: &[u64], from: usize, value: u64) -> usize
+    requires ascending { IsNonDecreasing numbers.now }
+    requires within { from ≤ length numbers.now }
+    ensures { IsNextEqual numbers.now from value result }
+{
+    let at = first_not_less(numbers, from, value);
+    if at < numbers.len() && numbers[at] != value {
+        return numbers.len();
+    }
+    at
+}
+
+/// The same as `next_offset` where no offset is less than the one before.
+fn next_ascending(numbers: &[u64], from: usize, e: &Edit, here: u64) -> usize
+    requires { IsNonDecreasing numbers.now }
+    ensures { result ≡ from + skipped e.now here (drop from numbers.now) }
+{
+    if from >= numbers.len() {
+        return from;
+    }
+    let moved = moved_from(here, e);
+    let unmoved = next_equal(numbers, from, here);
+    let behind = next_equal(numbers, from, moved);
+    if behind < unmoved {
+        return behind;
+    }
+    unmoved
+}
+
+/// The first old row from a place on that may fit a new one, whose innermost file was read up to here.
+pub fn next_candidate<S>(
+    rows: &[Row<S>],
+    offsets: &Offsets,
+    from: usize,
+    e: &Edit,
+    here: u64,
+) -> usize
+    requires { AreOffsets rows.now offsets.now }
+    ensures { result ≡ from + skipped e.now here (drop from (offsets_of rows.now)) }
+{
+    match offsets {
+        Offsets::Unread => next_row(rows, from, e, here),
+        Offsets::Ascending(numbers) => next_ascending(numbers.as_slice(), from, e, here),
+        Offsets::Mixed(numbers) => next_offset(numbers.as_slice(), from, e, here),
+    }
 }

@@ -1,4 +1,4 @@
-use Rattle.std.proofs.Common.{◌≡◌, ℕ, ◌+◌, ◌-◌, ◌≤◌, suc, sym, ap, subst, ◌∙◌, arith, List, [], ◌∷◌, ◌++◌, map, length, Option, Some, None, refl}
+use Rattle.std.proofs.Common.{◌≡◌, ℕ, ◌+◌, ◌-◌, ◌≤◌, suc, sym, ap, subst, ◌∙◌, arith, rules, List, [], ◌∷◌, ◌++◌, map, length, Option, Some, None, refl}
 use Rattle.std.proofs.lemmas.List.{map-append}
 use Rattle.tx_machine.specs.declared.types.End.TheVariants.{PageLimit}
 use Rattle.tx_machine.specs.Run.{page_start}
@@ -30,6 +30,7 @@ loop-page-init g c =
       none = ap (first_meeting g.M.Machine.formatter c.args.e.now (rows_meant g.M.Machine.meaning c.args.old.now.rows.items) c.args.old.now.last c.args.resumed) no_rows;
       idle = c.requires;
       kept = λ k d below. absurd (omega (arith, below, ap length c.new-front.ensures.rows));
+      offsets = tt;
     }
 
 pub returns-in_err-body-clause-bound : goal.returns-in_err-body-clause-bound
@@ -38,6 +39,10 @@ returns-in_err-body-clause-bound g c =
 
 pub returns-in_err-push-in-Page-clause-bound : goal.returns-in_err-push-in-Page-clause-bound
 returns-in_err-push-in-Page-clause-bound g c =
+    until-bound c.args.e.now (rows_meant g.M.Machine.meaning c.args.old.now.rows.items) c.args.old.now.last c.args.resumed c.loop-page.invariant.so_far c.loop-page.invariant.none _ (one_fewer _ _ c.loop-page-test.true) c.format_row.ensures.bound
+
+pub returns-in_err-write_down-in-Page-clause-bound : goal.returns-in_err-write_down-in-Page-clause-bound
+returns-in_err-write_down-in-Page-clause-bound g c =
     until-bound c.args.e.now (rows_meant g.M.Machine.meaning c.args.old.now.rows.items) c.args.old.now.last c.args.resumed c.loop-page.invariant.so_far c.loop-page.invariant.none _ (one_fewer _ _ c.loop-page-test.true) c.format_row.ensures.bound
 
 pub returns-in-Some-clause-reaches : goal.returns-in-Some-clause-reaches
@@ -125,6 +130,7 @@ loop-page-preserved g c =
       idle = idle.1;
       kept = subst (AreIdle g.M.Machine.formatter g.M.Machine.meaning g.M.Machine.pending) (sym c.in_ok-push-in-Page.ensures.rows)
           (idle-push g.M.Machine.formatter g.M.Machine.meaning g.M.Machine.pending c.loop-page.front.rows.items c.in-Page.row c.loop-page.invariant.kept idle.0);
+      offsets = search rules;
     }
 
 pub returns-clause-reaches : goal.returns-clause-reaches

@@ -3,6 +3,7 @@ use Rattle.tx_checkpoint.specs.Meant.{IsIdle, AreIdle, rows_meant}
 use Rattle.tx_checkpoint.specs.Rows.{rows_from}
 use Rattle.tx_checkpoint.proofs.Keeping.{Keeping}
 use Rattle.tx_quiesce.specs.Meeting.{first_meeting}
+use Rattle.tx_quiesce.specs.Tails.{AreOffsets}
 use Rattle.tx_quiesce.proofs.front.format_until_met.Given as goal
 
 abbrev pub invariant-loop-page : goal.invariant-loop-page
@@ -12,4 +13,5 @@ invariant-loop-page g l = record {
   none : first_meeting g.M.Machine.formatter l.e (rows_meant g.M.Machine.meaning l.old.rows.items) l.old.last l.resumed (rows_meant g.M.Machine.meaning l.front.rows.items) ≡ None;
   idle : IsIdle g.M.Machine.formatter g.M.Machine.meaning g.M.Machine.pending l.spot.state;
   kept : AreIdle g.M.Machine.formatter g.M.Machine.meaning g.M.Machine.pending l.front.rows.items;
+  offsets : AreOffsets l.old.rows.items l.offsets;
 }

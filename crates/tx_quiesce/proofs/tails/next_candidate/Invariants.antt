@@ -1,9 +1,0 @@
-use Rattle.std.proofs.Common.{◌≡◌, ◌+◌, ◌-◌, drop, length}
-use Rattle.tx_quiesce.specs.Tails.{skipped}
-use Rattle.tx_quiesce.proofs.tails.next_candidate.Given as goal
-
-abbrev pub invariant-loop-at : goal.invariant-loop-at
-invariant-loop-at l = l.at + skipped l.e l.here (drop l.at l.tails) ≡ l.from + skipped l.e l.here (drop l.from l.tails)
-
-abbrev pub decreases-loop-at : goal.decreases-loop-at
-decreases-loop-at l = length l.tails - l.at
