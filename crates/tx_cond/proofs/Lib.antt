@@ -1,2 +1,4 @@
-pub mod Skipped
 pub mod Decided
+pub mod Skipped
+pub mod Lefts
+pub mod Givens

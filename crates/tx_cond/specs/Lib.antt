@@ -1,2 +1,5 @@
 pub mod Skipping
 pub mod Conditionals
+pub mod Alike
+pub mod Tests
+pub mod TestRests

@@ -1,17 +1,21 @@
-//! TeX's conditionals without their tests: which \if.. are open and what each of them waits for, and the skipping of
-//! text that no branch takes. The caller says what a token is, and scans the tests.
+//! TeX's conditionals: which \if.. are open and what each of them waits for, the skipping of text that no branch takes, and
+//! the tests.
 //!
-//! Proved: skipping, and the list of open conditionals, are exactly as defined. Only tested: that the definitions are
-//! Knuth's, on texts that his program skips and expands alike.
+//! Proved: skipping, the list of open conditionals, and what each test reads and comes to, are exactly as defined. Only
+//! tested: that the definitions are Knuth's, on texts that his program skips and expands alike.
 //!
-//! Read `types`, `skipper`, then `stage` and `stack`.
+//! Read `types`, `skipper`, then `stage` and `stack`; and `test`, `comparing` and `testing`.
 #![tactic(auto)]
 
+mod comparing;
 mod skipper;
 mod stack;
 mod stage;
+mod test;
+mod testing;
 mod types;
 
 pub use skipper::Skipper;
 pub use stack::CondStack;
+pub use test::TestScan;
 pub use types::{Conditional, Meet, SkipItem};

@@ -8,3 +8,4 @@ pub mod KeptDigits
 pub mod UnitSpaces
 pub mod Mosts
 pub mod Composing
+pub mod FileSteps

@@ -9,3 +9,5 @@ pub mod Grammars
 pub mod GrammarRests
 pub mod Dimensions
 pub mod DimensionRests
+pub mod ControlNames
+pub mod FileNames

@@ -1,16 +1,20 @@
-//! Scans: what is read off tokens as TeX expands them: integers, dimensions, keywords, an optional `=`, a begin-group token
-//! and names. A scan is fed token by token, asks for the values that only its caller knows, and gives back the tokens that
-//! aren't part of what it reads. A scan can be a part of a longer one: its answers say what reading on from it gives.
+//! Scans: what is read off tokens as TeX expands them: integers, dimensions, keywords, an optional `=`, a begin-group token,
+//! names, names that are spelled out, and names of files. A scan is fed token by token, asks for the values that only its
+//! caller knows, and gives back the tokens that aren't part of what it reads. A scan can be a part of a longer one: its
+//! answers say what reading on from it gives.
 //!
 //! Proved: each scan answers exactly what its grammar gives of all tokens and values that were taken; an integer's answers
-//! are final. Only tested: that the grammars are Knuth's, on numbers and keywords that his program reads alike.
+//! are final. Only tested: that the grammars are Knuth's, on numbers, keywords and names that his program reads alike.
 //!
-//! Read `scans` and `beginnings`, then `integer`, `dimension`, `keyword` and `grammars`, and `supplying` and `laws`.
+//! Read `scans` and `beginnings`, then `integer`, `dimension`, `keyword` and `grammars`; `spellings`, `control_name` and
+//! `file_name`; and `supplying` and `laws`.
 #![tactic(auto)]
 
 mod beginnings;
 mod clones;
+mod control_name;
 mod dimension;
+mod file_name;
 mod fraction;
 mod grammars;
 mod integer;
@@ -18,9 +22,12 @@ mod keyword;
 mod laws;
 mod outers;
 mod scans;
+mod spellings;
 mod supplying;
 
+pub use file_name::input_name;
 pub use integer::byte;
 pub use laws::integers_are_read_from_the_left;
 pub use scans::{BraceScan, DimenScan, EqualsScan, IntScan, KeyScan, NameScan};
+pub use spellings::{ControlNameScan, FileNameScan};
 pub use supplying::{Needs, supply};

@@ -1,0 +1,258 @@
+//! The tests of conditionals, token by token (TeX: The Program, sections 501 to 509).
+ghost use Rattle.std.specs.Prelude.{◌≡◌, ◌∷◌, ◌++◌, [], List, IfOk};
+ghost use Rattle.tx_prim.specs.declared.expandable.Test.{Test as Kind_of_test};
+ghost use Rattle.tx_prim.specs.declared.modes.Mode.{Mode as Mode_of_test};
+ghost use Rattle.tx_seen.specs.declared.item.Item.{Item};
+ghost use Rattle.tx_seen.specs.declared.item.Item.TheVariants.{Took, Gave};
+ghost use Rattle.tx_seen.specs.declared.seen.Seen.{Seen};
+ghost use Rattle.tx_seen.specs.Readings.{Answers};
+ghost use Rattle.tx_scan.specs.Rests.{IsFedBy, IsGivenBy};
+ghost use Rattle.tx_scan.specs.Supplied.{NeedsFewer, NeedsNoMore, NeedsNothing};
+ghost use Rattle.tx_cond.specs.Tests.{test, behind_left, two_tokens};
+ghost use Rattle.tx_cond.specs.TestRests.{HasTaken, IsFed, IsTesting, more_needed, second_of};
+ghost use Rattle.tx_cond.specs.TestRests as rests;
+
+use crate::comparing::truth;
+use crate::test::{Compared, Judged, Relation, TestScan, TestStage};
+use std::alloc::{AllocError, Global};
+use tx_prim::{Mode, Test};
+use tx_scan::IntScan;
+use tx_seen::{Fed, Seen, TexError, Value, Want};
+
+impl TestScan {
+    /// A scan in which no test has begun. It takes no memory.
+    pub fn new(alloc: Global) -> TestScan {
+        TestScan {
+            stage: TestStage::Left,
+            integer: IntScan::new(alloc),
+            token: None,
+        }
+    }
+
+    /// Begins a test, in this mode, whatever was read before. The answer is what reading gives of nothing: some tests take
+    /// nothing, and have their value at once.
+    pub fn begin(&mut self, kind: Test, mode: Mode) -> Fed<i64>
+        ensures { Answers (test kind mode) (HasTaken kind mode) [] self.new result }
+    {
+        self.integer.restart();
+        match kind {
+            Test::Character => self.on(TestStage::First(Compared::Code), Want::Expanded),
+            Test::Category => self.on(TestStage::First(Compared::Category), Want::Expanded),
+            Test::Same => self.on(TestStage::First(Compared::Meaning), Want::Raw),
+            Test::Number => self.on(TestStage::Left, Want::Expanded),
+            Test::Odd => self.on(TestStage::Last(Judged::Odd), Want::Expanded),
+            Test::Case => self.on(TestStage::Last(Judged::Case), Want::Expanded),
+            Test::Mode(which) => Fed::Done(truth(which.holds(mode)), 0),
+            Test::True => Fed::Done(1, 0),
+            Test::False => Fed::Done(0, 0),
+        }
+    }
+
+    /// The scan goes on with this stage, for which the next token is wanted so.
+    fn on(&mut self, stage: TestStage, want: Want) -> Fed<i64>
+        ensures scan { self.new ≡ record self.old { stage = stage } }
+        ensures answer { result ≡ Fed.More want }
+    {
+        self.stage = stage;
+        Fed::More(want)
+    }
+
+    /// Takes one token, at first and after More. The answer is what reading gives of all that was taken. Its only error is
+    /// want of memory.
+    pub fn feed(&mut self, token: &Seen) -> Result<Fed<i64>, AllocError>
+        ensures answer { (kind : Kind_of_test) → (mode : Mode_of_test) → (taken : List Item) → HasTaken kind mode self.old taken → IfOk result (Answers (test kind mode) (HasTaken kind mode) (taken ++ Took token.now ∷ []) self.new) }
+        ensures part { IfOk result (IsFedBy rests.rest rests.held self.old token.now self.new) }
+        ensures fed { IfOk result (IsFed self.old token.now self.new) }
+        ensures needed { IfOk result (NeedsNoMore (more_needed self.old) (more_needed self.new)) }
+    {
+        self.behind(token)
+    }
+
+    /// What it is behind one more token. Its only error is want of memory.
+    #[tactic(auto, using(crate::proofs::Lefts::needs_no_more))]
+    fn behind(&mut self, token: &Seen) -> Result<Fed<i64>, AllocError>
+        ensures fed { IfOk result (IsFed self.old token.now self.new) }
+        ensures needed { IfOk result (NeedsNoMore (more_needed self.old) (more_needed self.new)) }
+    {
+        match self.stage {
+            TestStage::Left => self.feed_left(token),
+            TestStage::Relation(left) => Ok(self.feed_relation(left, token)),
+            TestStage::Last(judged) => self.feed_last(judged, token),
+            TestStage::First(compared) => self.feed_first(compared, token),
+            TestStage::Second(compared) => Ok(self.feed_second(compared, token)),
+        }
+    }
+
+    /// The first of two numbers, or what ends it. Its only error is want of memory.
+    #[tactic(auto, using(crate::proofs::Lefts::needs_no_more))]
+    fn feed_left(&mut self, token: &Seen) -> Result<Fed<i64>, AllocError>
+        requires { self.old.stage ≡ TestStage.Left }
+        ensures fed { IfOk result (IsFed self.old token.now self.new) }
+        ensures needed { IfOk result (NeedsNoMore (more_needed self.old) (more_needed self.new)) }
+    {
+        match self.integer.feed(token)? {
+            Fed::More(want) => Ok(Fed::More(want)),
+            Fed::Need(wanted) => {
+                self.token = Some(token.clone()?);
+                Ok(Fed::Need(wanted))
+            }
+            Fed::Done(number, 0) => Ok(self.to_relation(number)),
+            Fed::Done(number, _) => Ok(self.feed_relation(number, token)),
+            Fed::Wrong(error) => Ok(Fed::Wrong(error)),
+        }
+    }
+
+    /// The first of two numbers is whole.
+    fn to_relation(&mut self, left: i64) -> Fed<i64>
+        ensures answer { (t : Seen) → IsTesting 0 (λ more. behind_left left more) t self.new result }
+        ensures nothing { NeedsNothing result }
+        ensures none { more_needed self.new ≡ 0 }
+    {
+        self.integer.restart();
+        self.on(TestStage::Relation(left), Want::Expanded)
+    }
+
+    /// A relation, or a space before it.
+    fn feed_relation(&mut self, left: i64, token: &Seen) -> Fed<i64>
+        ensures answer { IsTesting 0 (λ more. behind_left left (Took token.now ∷ more)) token.now self.new result }
+        ensures nothing { NeedsNothing result }
+        ensures none { more_needed self.new ≡ 0 }
+    {
+        self.integer.restart();
+        if token.is_undefined() {
+            return Fed::Wrong(TexError::Undefined);
+        }
+        if token.is_space() {
+            return self.on(TestStage::Relation(left), Want::Expanded);
+        }
+        match Relation::of_token(&token.token) {
+            Some(relation) => self.on(
+                TestStage::Last(Judged::Against(left, relation)),
+                Want::Expanded,
+            ),
+            None => Fed::Wrong(TexError::MissingUnit),
+        }
+    }
+
+    /// The last number, or what ends it. Its only error is want of memory.
+    fn feed_last(&mut self, judged: Judged, token: &Seen) -> Result<Fed<i64>, AllocError>
+        requires { self.old.stage ≡ TestStage.Last judged }
+        ensures fed { IfOk result (IsFed self.old token.now self.new) }
+        ensures needed { IfOk result (NeedsNoMore (more_needed self.old) (more_needed self.new)) }
+    {
+        match self.integer.feed(token)? {
+            Fed::More(want) => Ok(Fed::More(want)),
+            Fed::Need(kind) => Ok(Fed::Need(kind)),
+            Fed::Done(number, back) => Ok(Fed::Done(judged.judgement(number), back)),
+            Fed::Wrong(error) => Ok(Fed::Wrong(error)),
+        }
+    }
+
+    /// Whether a token that was to be expanded has no meaning.
+    fn is_wrong(compared: Compared, token: &Seen) -> bool
+        ensures { result ≡ rests.is_wrong compared token.now }
+    {
+        match compared {
+            Compared::Code | Compared::Category => token.is_undefined(),
+            Compared::Meaning => false,
+        }
+    }
+
+    /// The first of two tokens, which is kept. Its only error is that no more owners can be counted.
+    fn feed_first(&mut self, compared: Compared, token: &Seen) -> Result<Fed<i64>, AllocError>
+        ensures answer { IfOk result (IsTesting 0 (λ more. two_tokens compared (Took token.now ∷ more)) token.now self.new) }
+        ensures needed { IfOk result (NeedsNoMore (more_needed self.old) (more_needed self.new)) }
+    {
+        if TestScan::is_wrong(compared, token) {
+            return Ok(Fed::Wrong(TexError::Undefined));
+        }
+        self.token = Some(token.clone()?);
+        Ok(self.on(TestStage::Second(compared), compared.want()))
+    }
+
+    /// The second of two tokens.
+    fn feed_second(&mut self, compared: Compared, token: &Seen) -> Fed<i64>
+        ensures answer { IsTesting 0 (λ more. second_of compared self.old.token (Took token.now ∷ more)) token.now self.new result }
+        ensures needed { NeedsNoMore (more_needed self.old) (more_needed self.new) result }
+    {
+        let Some(first) = &self.token else {
+            return Fed::Wrong(TexError::MissingNumber);
+        };
+        if TestScan::is_wrong(compared, token) {
+            return Fed::Wrong(TexError::Undefined);
+        }
+        Fed::Done(truth(compared.alike(first, token)), 0)
+    }
+
+    /// Takes the value that it needs. The answer is what reading gives of all that was taken.
+    pub fn give(&mut self, value: &Value) -> Fed<i64>
+        ensures answer { (kind : Kind_of_test) → (mode : Mode_of_test) → (taken : List Item) → HasTaken kind mode self.old taken → Answers (test kind mode) (HasTaken kind mode) (taken ++ Gave value.now ∷ []) self.new result }
+        ensures part { IsGivenBy rests.rest rests.held self.old value.now self.new result }
+        ensures fewer { NeedsFewer (more_needed self.old) (more_needed self.new) result }
+    {
+        self.behind_value(value)
+    }
+
+    /// What it is behind a value.
+    fn behind_value(&mut self, value: &Value) -> Fed<i64>
+        ensures part { IsGivenBy rests.rest rests.held self.old value.now self.new result }
+        ensures fewer { NeedsFewer (more_needed self.old) (more_needed self.new) result }
+    {
+        match self.stage {
+            TestStage::Left => self.give_left(value),
+            TestStage::Last(judged) => self.give_last(judged, value),
+            TestStage::Relation(_) => Fed::Wrong(TexError::MissingUnit),
+            TestStage::First(_) | TestStage::Second(_) => Fed::Wrong(TexError::MissingNumber),
+        }
+    }
+
+    /// The value that the first of two numbers waits for.
+    #[tactic(auto, using(crate::proofs::Lefts::needs_fewer))]
+    fn give_left(&mut self, value: &Value) -> Fed<i64>
+        requires { self.old.stage ≡ TestStage.Left }
+        ensures part { IsGivenBy rests.rest rests.held self.old value.now self.new result }
+        ensures fewer { NeedsFewer (more_needed self.old) (more_needed self.new) result }
+    {
+        match self.integer.give(value) {
+            Fed::More(want) => Fed::More(want),
+            Fed::Need(wanted) => Fed::Need(wanted),
+            Fed::Done(number, 0) => self.to_relation(number),
+            Fed::Done(number, _) => match self.token.take() {
+                Some(token) => self.feed_relation(number, &token),
+                None => self.to_relation(number),
+            },
+            Fed::Wrong(error) => Fed::Wrong(error),
+        }
+    }
+
+    /// The value that the last number waits for.
+    fn give_last(&mut self, judged: Judged, value: &Value) -> Fed<i64>
+        requires { self.old.stage ≡ TestStage.Last judged }
+        ensures part { IsGivenBy rests.rest rests.held self.old value.now self.new result }
+        ensures fewer { NeedsFewer (more_needed self.old) (more_needed self.new) result }
+    {
+        match self.integer.give(value) {
+            Fed::More(want) => Fed::More(want),
+            Fed::Need(kind) => Fed::Need(kind),
+            Fed::Done(number, back) => Fed::Done(judged.judgement(number), back),
+            Fed::Wrong(error) => Fed::Wrong(error),
+        }
+    }
+}
+
+/// A clone has read the same. Its only error is want of memory.
+impl Clone for TestScan {
+    ghost is_clone = { λ source copy. copy ≡ source };
+
+    fn clone(&self) -> Result<Self, AllocError> {
+        let token = match &self.token {
+            Some(token) => Some(token.clone()?),
+            None => None,
+        };
+        Ok(TestScan {
+            stage: self.stage,
+            integer: self.integer.clone()?,
+            token,
+        })
+    }
+}

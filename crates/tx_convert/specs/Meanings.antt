@@ -1,0 +1,116 @@
+-- Meanings as \meaning prints them (TeX: The Program, sections 262, 292 to 296, 298 and the like, and 472).
+use Rattle.std.specs.Prelude.{ℕ, ◌+◌, ◌-◌, ◌||◌, Bool, true, List, [], ◌∷◌, ◌++◌, Option, codes, decimal, flat_map, length, slice_index_or, take, drop, if◌then◌else◌}
+use Rattle.std.specs.Fmt.{digits}
+use Rattle.tx_char.specs.Character.{character}
+use Rattle.tx_char.specs.declared.category.Cat.{Cat}
+use Rattle.tx_char.specs.declared.category.Cat.TheVariants as cat
+use Rattle.tx_char.specs.declared.tokens.Token.{Token}
+use Rattle.tx_char.specs.declared.tokens.Token.TheVariants.{Character, Name, FrozenRelax}
+use Rattle.tx_prim.specs.Table as primitive
+use Rattle.tx_prim.specs.Expandables as expandable
+use Rattle.tx_toklist.specs.Text.{is_letter_code}
+use Rattle.tx_toklist.specs.Macros.{Definition}
+use Rattle.tx_toklist.specs.declared.body.Slot.{Slot}
+use Rattle.tx_seen.specs.declared.meaning.Meaning.{Meaning}
+use Rattle.tx_seen.specs.declared.meaning.Meaning.TheVariants as meaning
+use Rattle.tx_convert.specs.Texts.{escaped, name_text}
+
+-- whether a blank stands behind a name in the text of a macro: there is none behind one character that isn't a letter at this
+-- moment
+abbrev pub has_blank : List Cat → List ℕ → Bool
+has_blank categories (code ∷ []) = is_letter_code categories code
+has_blank categories name = true
+
+abbrev pub shown_name : Option ℕ → List Cat → List ℕ → List ℕ
+shown_name escape categories name = name_text escape name ++ (if has_blank categories name then character " " ∷ [] else [])
+
+-- a token in the text of a macro: a parameter character is doubled
+abbrev pub shown : Option ℕ → List Cat → Token → List ℕ
+shown escape categories (Character code cat.Parameter) = code ∷ code ∷ []
+shown escape categories (Character code _) = code ∷ []
+shown escape categories (Name name) = shown_name escape categories name
+shown escape categories FrozenRelax = shown_name escape categories (codes "relax")
+
+abbrev pub all_shown : Option ℕ → List Cat → List Token → List ℕ
+all_shown escape categories tokens = flat_map (shown escape categories) tokens
+
+-- the parameter with this number, and the character that stands for # before it
+abbrev pub parameter : ℕ → ℕ → List ℕ
+parameter sign number = sign ∷ decimal number
+
+-- the parameters from this number on, each with the tokens behind it
+abbrev pub parameters : Option ℕ → List Cat → ℕ → List ℕ → List (List Token) → List ℕ
+parameters escape categories number (sign ∷ signs) (delimiter ∷ delimiters) =
+    parameter sign number ++ all_shown escape categories delimiter ++ parameters escape categories (number + 1) signs delimiters
+parameters escape categories number _ _ = []
+
+-- the character that stands for # in the body: that of the last parameter
+abbrev pub last_sign : List ℕ → ℕ
+last_sign signs = slice_index_or signs (length signs - 1) (character "#")
+
+-- the tokens of a body from this place on, with its parameters where they stand
+abbrev pub body_from : Option ℕ → List Cat → ℕ → List Token → ℕ → List Slot → List ℕ
+body_from escape categories sign tokens from [] = all_shown escape categories (drop from tokens)
+body_from escape categories sign tokens from (slot ∷ slots) =
+    all_shown escape categories (take (slot.before - from) (drop from tokens))
+    ++ parameter sign slot.number
+    ++ body_from escape categories sign tokens slot.before slots
+
+-- the prefixes with which a macro was defined
+abbrev pub prefixes : Option ℕ → Bool → Bool → List ℕ
+prefixes escape long outer =
+    (if long then escaped escape (codes "long") else [])
+    ++ (if outer then escaped escape (codes "outer") else [])
+    ++ (if long || outer then character " " ∷ [] else [])
+
+abbrev pub macro_text : Option ℕ → List Cat → Definition → List ℕ
+macro_text escape categories m =
+    prefixes escape m.long m.outer ++ codes "macro:"
+    ++ all_shown escape categories m.parameters.before
+    ++ parameters escape categories 1 m.signs m.parameters.delimiters
+    ++ codes "->"
+    ++ body_from escape categories (last_sign m.signs) m.body.tokens 0 m.body.slots
+
+-- what a character is for TeX, by its category; of the last ones no token is made, and nothing means them
+abbrev pub kind_text : Cat → List ℕ
+kind_text cat.BeginGroup = codes "begin-group character "
+kind_text cat.EndGroup = codes "end-group character "
+kind_text cat.MathShift = codes "math shift character "
+kind_text cat.AlignmentTab = codes "alignment tab character "
+kind_text cat.Parameter = codes "macro parameter character "
+kind_text cat.Superscript = codes "superscript character "
+kind_text cat.Subscript = codes "subscript character "
+kind_text cat.Space = codes "blank space "
+kind_text cat.Letter = codes "the letter "
+kind_text cat.Other = codes "the character "
+kind_text cat.Escape = []
+kind_text cat.EndOfLine = []
+kind_text cat.Ignored = []
+kind_text cat.Active = []
+kind_text cat.Comment = []
+kind_text cat.Invalid = []
+
+-- a number with 16 as the base
+abbrev pub hexadecimal : ℕ → List ℕ
+hexadecimal n = character "\"" ∷ digits 16 true n
+
+-- a register, by its number
+abbrev pub register : ℕ → List ℕ
+register n = decimal n
+
+-- a character, and what it is
+abbrev pub character_text : ℕ → Cat → List ℕ
+character_text code category = kind_text category ++ code ∷ []
+
+-- what \meaning prints
+abbrev pub meaning_text : Option ℕ → List Cat → Meaning → List ℕ
+meaning_text escape categories meaning.Undefined = codes "undefined"
+meaning_text escape categories (meaning.Command p) = escaped escape (primitive.name_of p)
+meaning_text escape categories (meaning.Character code category) = character_text code category
+meaning_text escape categories (meaning.CharacterNumber n) = escaped escape (codes "char") ++ hexadecimal n
+meaning_text escape categories (meaning.MathNumber n) = escaped escape (codes "mathchar") ++ hexadecimal n
+meaning_text escape categories (meaning.CountRegister n) = escaped escape (codes "count") ++ register n
+meaning_text escape categories (meaning.DimenRegister n) = escaped escape (codes "dimen") ++ register n
+meaning_text escape categories (meaning.Expandable e) = escaped escape (expandable.name_of e)
+meaning_text escape categories (meaning.Macro m) = macro_text escape categories m
+meaning_text escape categories meaning.Held = escaped escape (codes "relax")
