@@ -93,12 +93,12 @@ fn keyword_at(
     place: usize,
 ) -> Result<Option<String>, AllocError> {
     let seen = seen_of(alloc, code)?;
-    told(alloc, scan.feed(&seen), place)
+    told(alloc, scan.feed(b"pt", &seen), place)
 }
 
 /// The same of the keyword `pt`, whose value is whether it is there.
 fn keyword(alloc: Global, text: &[u8]) -> Result<String, AllocError> {
-    let mut scan = KeyScan::new(alloc, b"pt")?;
+    let mut scan = KeyScan::new();
     for place in 0..text.len() {
         if let Some(answer) = keyword_at(alloc, &mut scan, text[place], place)? {
             return Ok(answer);

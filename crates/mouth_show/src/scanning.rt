@@ -108,13 +108,13 @@ fn keyword(
     input: &mut Input,
     taken: &mut Toks,
 ) -> Result<Fed<bool>, AllocError> {
-    let mut scan = KeyScan::new(alloc, word.as_bytes())?;
+    let mut scan = KeyScan::new();
     for _ in 0..u64::MAX {
         let Some(token) = input.next(alloc)? else {
             return Ok(Fed::More(Want::Expanded));
         };
         let seen = seen(token);
-        let answer = scan.feed(&seen);
+        let answer = scan.feed(word.as_bytes(), &seen);
         taken.push(seen.token)?;
         match answer {
             Fed::More(_) => {}

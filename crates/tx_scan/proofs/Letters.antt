@@ -24,39 +24,39 @@ all-held read behind t h =
     ending-all (read + 1) (behind ++ Took t ∷ []) (omega arith)
 
 -- the word was over before
-pub no-letter : (scan : KeyScan) (behind : List Item) (t : Seen) → length behind ≤ scan.read → skips scan.word scan.read t ≡ false → drop scan.read scan.word ≡ [] → (more : List Item) → rest scan behind (Took t) more ≡ Done true (ending 1 (behind ++ Took t ∷ []) ++ more)
-no-letter scan behind t h s e = λ more. reads-letter scan.word scan.read behind t more h s ∙ rw (e, ending-one behind (Took t)) refl
+pub no-letter : (word : List ℕ) (scan : KeyScan) (behind : List Item) (t : Seen) → length behind ≤ scan.read → skips word scan.read t ≡ false → drop scan.read word ≡ [] → (more : List Item) → rest word scan behind (Took t) more ≡ Done true (ending 1 (behind ++ Took t ∷ []) ++ more)
+no-letter word scan behind t h s e = λ more. reads-letter word scan.read behind t more h s ∙ rw (e, ending-one behind (Took t)) refl
 
 -- a name without a meaning
-pub undefined-letter : (scan : KeyScan) (behind : List Item) (t : Seen) (c : ℕ) → length behind ≤ scan.read → skips scan.word scan.read t ≡ false → drop scan.read scan.word ≡ c ∷ drop (scan.read + 1) scan.word → is_undefined t ≡ true → (more : List Item) → rest scan behind (Took t) more ≡ Wrong Undefined
-undefined-letter scan behind t c h s e u = λ more. reads-letter scan.word scan.read behind t more h s ∙ rw (e, u) refl
+pub undefined-letter : (word : List ℕ) (scan : KeyScan) (behind : List Item) (t : Seen) (c : ℕ) → length behind ≤ scan.read → skips word scan.read t ≡ false → drop scan.read word ≡ c ∷ drop (scan.read + 1) word → is_undefined t ≡ true → (more : List Item) → rest word scan behind (Took t) more ≡ Wrong Undefined
+undefined-letter word scan behind t c h s e u = λ more. reads-letter word scan.read behind t more h s ∙ rw (e, u) refl
 
 -- another letter
-pub other-letter : (scan : KeyScan) (behind : List Item) (t : Seen) (c : ℕ) → length behind ≤ scan.read → skips scan.word scan.read t ≡ false → drop scan.read scan.word ≡ c ∷ drop (scan.read + 1) scan.word → is_undefined t ≡ false → is_key c t ≡ false → (more : List Item) → rest scan behind (Took t) more ≡ Done false (ending (scan.read + 1) (behind ++ Took t ∷ []) ++ more)
-other-letter scan behind t c h s e u k = λ more.
-    reads-letter scan.word scan.read behind t more h s
+pub other-letter : (word : List ℕ) (scan : KeyScan) (behind : List Item) (t : Seen) (c : ℕ) → length behind ≤ scan.read → skips word scan.read t ≡ false → drop scan.read word ≡ c ∷ drop (scan.read + 1) word → is_undefined t ≡ false → is_key c t ≡ false → (more : List Item) → rest word scan behind (Took t) more ≡ Done false (ending (scan.read + 1) (behind ++ Took t ∷ []) ++ more)
+other-letter word scan behind t c h s e u k = λ more.
+    reads-letter word scan.read behind t more h s
     ∙ rw (e, u, k, all-held scan.read behind t h) (ap (λ (items : List Item). Done false items) (sym (append_assoc behind (Took t ∷ []) more)))
 
-right-letter : (scan : KeyScan) (behind : List Item) (t : Seen) (c : ℕ) (more : List Item) → length behind ≤ scan.read → skips scan.word scan.read t ≡ false → drop scan.read scan.word ≡ c ∷ drop (scan.read + 1) scan.word → is_undefined t ≡ false → is_key c t ≡ true → rest scan behind (Took t) more ≡ letters (drop (scan.read + 1) scan.word) (behind ++ Took t ∷ more) more
-right-letter scan behind t c more h s e u k = reads-letter scan.word scan.read behind t more h s ∙ rw (e, u, k) refl
+right-letter : (word : List ℕ) (scan : KeyScan) (behind : List Item) (t : Seen) (c : ℕ) (more : List Item) → length behind ≤ scan.read → skips word scan.read t ≡ false → drop scan.read word ≡ c ∷ drop (scan.read + 1) word → is_undefined t ≡ false → is_key c t ≡ true → rest word scan behind (Took t) more ≡ letters (drop (scan.read + 1) word) (behind ++ Took t ∷ more) more
+right-letter word scan behind t c more h s e u k = reads-letter word scan.read behind t more h s ∙ rw (e, u, k) refl
 
 -- the last letter of the word
-pub last-letter : (scan : KeyScan) (behind : List Item) (t : Seen) (c : ℕ) → length behind ≤ scan.read → skips scan.word scan.read t ≡ false → drop scan.read scan.word ≡ c ∷ drop (scan.read + 1) scan.word → is_undefined t ≡ false → is_key c t ≡ true → drop (scan.read + 1) scan.word ≡ [] → (more : List Item) → rest scan behind (Took t) more ≡ Done true (ending 0 (behind ++ Took t ∷ []) ++ more)
-last-letter scan behind t c h s e u k f = λ more. right-letter scan behind t c more h s e u k ∙ rw (f, ending-none (behind ++ Took t ∷ [])) refl
+pub last-letter : (word : List ℕ) (scan : KeyScan) (behind : List Item) (t : Seen) (c : ℕ) → length behind ≤ scan.read → skips word scan.read t ≡ false → drop scan.read word ≡ c ∷ drop (scan.read + 1) word → is_undefined t ≡ false → is_key c t ≡ true → drop (scan.read + 1) word ≡ [] → (more : List Item) → rest word scan behind (Took t) more ≡ Done true (ending 0 (behind ++ Took t ∷ []) ++ more)
+last-letter word scan behind t c h s e u k f = λ more. right-letter word scan behind t c more h s e u k ∙ rw (f, ending-none (behind ++ Took t ∷ [])) refl
 
 -- a letter before it
-pub early-letter : (scan : KeyScan) (behind : List Item) (t : Seen) (c d : ℕ) (left : List ℕ) → length behind ≤ scan.read → skips scan.word scan.read t ≡ false → drop scan.read scan.word ≡ c ∷ drop (scan.read + 1) scan.word → is_undefined t ≡ false → is_key c t ≡ true → drop (scan.read + 1) scan.word ≡ d ∷ left → rest scan behind (Took t) [] ≡ More Expanded
-early-letter scan behind t c d left h s e u k f = right-letter scan behind t c [] h s e u k ∙ rw f refl
+pub early-letter : (word : List ℕ) (scan : KeyScan) (behind : List Item) (t : Seen) (c d : ℕ) (left : List ℕ) → length behind ≤ scan.read → skips word scan.read t ≡ false → drop scan.read word ≡ c ∷ drop (scan.read + 1) word → is_undefined t ≡ false → is_key c t ≡ true → drop (scan.read + 1) word ≡ d ∷ left → rest word scan behind (Took t) [] ≡ More Expanded
+early-letter word scan behind t c d left h s e u k f = right-letter word scan behind t c [] h s e u k ∙ rw f refl
 
 rest-push : (word : List ℕ) (read : ℕ) (behind : List Item) (item : Item) (more : List Item) → word_rest word (read + 1) behind item more ≡ letters (drop (read + 1) word) (behind ++ item ∷ more) (item ∷ more)
 rest-push word read behind item more = rw add-one refl
 
-pub has-letter : (scan : KeyScan) (behind : List Item) (t : Seen) (c : ℕ) → length behind ≤ scan.read → skips scan.word scan.read t ≡ false → drop scan.read scan.word ≡ c ∷ drop (scan.read + 1) scan.word → is_undefined t ≡ false → is_key c t ≡ true → (item : Item) (more : List Item) → rest scan behind (Took t) (item ∷ more) ≡ word_rest scan.word (scan.read + 1) (ending (scan.read + 1) (behind ++ Took t ∷ [])) item more
-has-letter scan behind t c h s e u k = λ item more.
-    right-letter scan behind t c (item ∷ more) h s e u k
-    ∙ ap (λ (whole : List Item). letters (drop (scan.read + 1) scan.word) whole (item ∷ more)) (sym (append_assoc behind (Took t ∷ []) (item ∷ more)))
-    ∙ sym (rest-push scan.word scan.read (behind ++ Took t ∷ []) item more)
-    ∙ ap (λ (tokens : List Item). word_rest scan.word (scan.read + 1) tokens item more) (sym (all-held scan.read behind t h))
+pub has-letter : (word : List ℕ) (scan : KeyScan) (behind : List Item) (t : Seen) (c : ℕ) → length behind ≤ scan.read → skips word scan.read t ≡ false → drop scan.read word ≡ c ∷ drop (scan.read + 1) word → is_undefined t ≡ false → is_key c t ≡ true → (item : Item) (more : List Item) → rest word scan behind (Took t) (item ∷ more) ≡ word_rest word (scan.read + 1) (ending (scan.read + 1) (behind ++ Took t ∷ [])) item more
+has-letter word scan behind t c h s e u k = λ item more.
+    right-letter word scan behind t c (item ∷ more) h s e u k
+    ∙ ap (λ (whole : List Item). letters (drop (scan.read + 1) word) whole (item ∷ more)) (sym (append_assoc behind (Took t ∷ []) (item ∷ more)))
+    ∙ sym (rest-push word scan.read (behind ++ Took t ∷ []) item more)
+    ∙ ap (λ (tokens : List Item). word_rest word (scan.read + 1) tokens item more) (sym (all-held scan.read behind t h))
 
 -- a space before the word
 space-first : (word : List ℕ) (t : Seen) (b s : Bool) → begins_with word t ≡ b → (s && not b) ≡ true → b ≡ false
@@ -80,10 +80,10 @@ skipped-none : (word : List ℕ) (read : ℕ) (t : Seen) → skips word read t �
 skipped-none word zero t s = refl
 skipped-none word (suc read) t s = absurd (cc)
 
-pub skipped-space : (scan : KeyScan) (behind : List Item) (t : Seen) → skips scan.word scan.read t ≡ true → rest scan behind (Took t) [] ≡ More Expanded
-skipped-space scan behind t s = skipped-by scan.word scan.read behind t [] s ∙ skipped-more scan.word scan.read t s
+pub skipped-space : (word : List ℕ) (scan : KeyScan) (behind : List Item) (t : Seen) → skips word scan.read t ≡ true → rest word scan behind (Took t) [] ≡ More Expanded
+skipped-space word scan behind t s = skipped-by word scan.read behind t [] s ∙ skipped-more word scan.read t s
 
-pub has-skipped : (scan : KeyScan) (behind tokens : List Item) (t : Seen) → skips scan.word scan.read t ≡ true → (item : Item) (more : List Item) → rest scan behind (Took t) (item ∷ more) ≡ word_rest scan.word scan.read tokens item more
-has-skipped scan behind tokens t s = λ item more.
-    skipped-by scan.word scan.read behind t (item ∷ more) s
-    ∙ ap (λ (read : ℕ). word_rest scan.word read tokens item more) (sym (skipped-none scan.word scan.read t s))
+pub has-skipped : (word : List ℕ) (scan : KeyScan) (behind tokens : List Item) (t : Seen) → skips word scan.read t ≡ true → (item : Item) (more : List Item) → rest word scan behind (Took t) (item ∷ more) ≡ word_rest word scan.read tokens item more
+has-skipped word scan behind tokens t s = λ item more.
+    skipped-by word scan.read behind t (item ∷ more) s
+    ∙ ap (λ (read : ℕ). word_rest word read tokens item more) (sym (skipped-none word scan.read t s))

@@ -42,8 +42,8 @@ abbrev pub word_rest : List ℕ → ℕ → List Item → Item → List Item →
 word_rest word zero behind item more = keyword word (item ∷ more)
 word_rest word (suc read) behind item more = letters (drop (suc read) word) (behind ++ item ∷ more) (item ∷ more)
 
-abbrev pub rest : KeyScan → List Item → Item → List Item → Reading Bool
-rest scan behind item more = word_rest scan.word scan.read behind item more
+abbrev pub rest : List ℕ → KeyScan → List Item → Item → List Item → Reading Bool
+rest word scan behind item more = word_rest word scan.read behind item more
 
 -- the letters that are read may be given back
 abbrev pub held : KeyScan → ℕ
@@ -51,16 +51,16 @@ held scan = scan.read
 
 -- the scan that has taken these items reads on as the word that begins with them
 abbrev pub HasTaken : List ℕ → KeyScan → List Item → Type 0
-HasTaken word scan taken = HasTakenBy rest held (keyword word) scan taken
+HasTaken word scan taken = HasTakenBy (rest word) held (keyword word) scan taken
 
 -- the scan of a word of which nothing is read
-abbrev pub begun_word : List ℕ → KeyScan
-begun_word word = record { word = word; read = 0 }
+abbrev pub begun_word : KeyScan
+begun_word = record { read = 0 }
 
 -- behind a part of a word, which goes on only as long as letters are left: the whole word is there at its last letter
-abbrev pub IsReadOn : KeyScan → Fed Bool → Type 0
-IsReadOn scan (fed.More want) = scan.read < length scan.word
-IsReadOn scan (fed.Need kind) = ⊥
-IsReadOn scan (fed.Done true back) = back ≡ 0
-IsReadOn scan (fed.Done false back) = Unit {0}
-IsReadOn scan (fed.Wrong error) = Unit {0}
+abbrev pub IsReadOn : List ℕ → KeyScan → Fed Bool → Type 0
+IsReadOn word scan (fed.More want) = scan.read < length word
+IsReadOn word scan (fed.Need kind) = ⊥
+IsReadOn word scan (fed.Done true back) = back ≡ 0
+IsReadOn word scan (fed.Done false back) = Unit {0}
+IsReadOn word scan (fed.Wrong error) = Unit {0}

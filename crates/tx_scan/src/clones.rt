@@ -1,7 +1,7 @@
 //! Clones of scans. Each is the same as its source; its only error is want of memory.
 ghost use Rattle.std.specs.Prelude.{◌≡◌};
 
-use crate::scans::{DimenScan, IntScan, KeyScan};
+use crate::scans::{DimenScan, IntScan};
 use std::alloc::AllocError;
 
 impl Clone for IntScan {
@@ -24,17 +24,6 @@ impl Clone for DimenScan {
             negative: self.negative,
             stage: self.stage,
             digits: self.digits.clone()?,
-        })
-    }
-}
-
-impl Clone for KeyScan {
-    ghost is_clone = { λ source copy. copy ≡ source };
-
-    fn clone(&self) -> Result<Self, AllocError> {
-        Ok(KeyScan {
-            word: self.word.clone()?,
-            read: self.read,
         })
     }
 }

@@ -11,10 +11,11 @@ ghost use Rattle.tx_scan.specs.IntegerRests as rests;
 ghost use Rattle.tx_scan.specs.Supplied.{NeedsFewer, NeedsNoMore};
 
 use crate::beginnings::{beginning, digit};
-use crate::outers::Outers;
+use crate::outers::forget;
 use crate::scans::{Beginning, Constant, IntScan, IntStage, Outer, Radix};
 use std::alloc::{AllocError, Global};
 use tx_char::Token;
+use tx_list::Stack;
 use tx_prim::Numbered;
 use tx_seen::{Fed, Kind, Place, Seen, TexError, Value, Want};
 
@@ -98,7 +99,7 @@ impl IntScan {
         ensures taken { HasTaken result [] }
     {
         IntScan {
-            outers: Outers::new(alloc),
+            outers: Stack::new(alloc),
             negative: false,
             stage: IntStage::Signs,
         }
@@ -109,7 +110,7 @@ impl IntScan {
         ensures scan { self.new ≡ begun_integer }
         ensures taken { HasTaken self.new [] }
     {
-        self.outers.clear();
+        forget(&mut self.outers);
         self.negative = false;
         self.stage = IntStage::Signs;
     }

@@ -2,8 +2,7 @@
 ghost use Rattle.std.specs.Prelude.{◌≤◌};
 
 use crate::fraction::Digits;
-use crate::outers::Outers;
-use tx_bytes::Bytes;
+use tx_list::Stack;
 use tx_num::PhysicalUnit;
 use tx_prim::Numbered;
 use tx_seen::{Place, TexError};
@@ -77,18 +76,16 @@ pub enum IntStage {
 /// An integer that is being scanned.
 #[derive(Drop)]
 pub struct IntScan {
-    /// The numbers that wait for this one.
-    pub(crate) outers: Outers,
+    /// The numbers that wait for this one, the innermost first.
+    pub(crate) outers: Stack<Outer>,
     /// Whether the signs of this number so far make it negative.
     pub(crate) negative: bool,
     pub(crate) stage: IntStage,
 }
 
-/// A keyword that is being scanned.
-#[derive(Drop)]
+/// A keyword that is being scanned; who feeds it knows the word.
+#[derive(Clone, Copy)]
 pub struct KeyScan {
-    /// The word, in small letters.
-    pub(crate) word: Bytes,
     /// How many of its letters are read.
     pub(crate) read: usize,
 }
