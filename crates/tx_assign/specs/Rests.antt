@@ -1,6 +1,7 @@
 -- The scan of an assignment means the rest of the assignment.
 use Rattle.std.specs.Prelude.{◌≡◌, ℕ, zero, suc, ◌+◌, ◌∷◌, [], List, Option, Some, None}
 use Rattle.tx_seen.specs.declared.place.Place.{Place}
+use Rattle.tx_seen.specs.declared.place.Place.TheVariants.{Count}
 use Rattle.tx_seen.specs.declared.seen.Seen.{Seen}
 use Rattle.tx_seen.specs.declared.item.Item.{Item}
 use Rattle.tx_seen.specs.declared.item.Item.TheVariants.{Took}
@@ -76,3 +77,7 @@ IsFed old t new answer = (behind : List Item) → IsAssigning 1 (λ more. rest o
 -- the scan at the beginning of this stage
 abbrev pub at_stage : AssignStage → Place → AssignScan
 at_stage s p = record { stage = s; place = p; integer = integers.begun_integer; size = sizes.begun_size; behind = None }
+
+-- the scan of no assignment yet
+abbrev pub no_assignment : AssignScan
+no_assignment = at_stage stage.LetName (Count 0)

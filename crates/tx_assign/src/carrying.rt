@@ -69,22 +69,36 @@ fn quotient(range: Range, number: i64, divisor: i64) -> Result<Entry, TexError>
     }
 }
 
-/// What stands at a place after a change; at the place stands this number now.
-fn changed_entry(range: Range, number: i32, change: Change) -> Result<Entry, TexError>
-    ensures { result ≡ spec.changed range number change }
+/// What an operation makes of a number with another one.
+fn calculated(
+    operation: Operation,
+    range: Range,
+    number: i32,
+    operand: i32,
+) -> Result<Entry, TexError>
+    ensures { result ≡ spec.result operation range number operand }
 {
     let number = i64::from(number);
+    let operand = i64::from(operand);
+    match operation {
+        Operation::Advance => computed(range, number + operand),
+        Operation::Multiply => computed(range, number * operand),
+        Operation::Divide => quotient(range, number, operand),
+    }
+}
+
+/// What stands at a place of the table after a change.
+fn changed_entry(table: &Eqtb, place: &Place, change: Change) -> Result<Entry, TexError>
+    ensures { result ≡ spec.changed_entry table.now.table place.now change }
+{
     match change {
         Change::Set(entry) => Ok(entry),
-        Change::Compute(Operation::Advance, operand) => computed(
-            range,
-            number + i64::from(operand),
+        Change::Compute(operation, operand) => calculated(
+            operation,
+            range_of(place),
+            table.number(place),
+            operand,
         ),
-        Change::Compute(Operation::Multiply, operand) => computed(
-            range,
-            number * i64::from(operand),
-        ),
-        Change::Compute(Operation::Divide, operand) => quotient(range, number, i64::from(operand)),
     }
 }
 
@@ -109,8 +123,7 @@ pub fn carry_out(
     ensures ok { IfOk result (IsCarried table.old assignment global table.new) }
 {
     let Assignment { place, change } = assignment;
-    let number = table.number(&place);
-    let entry = match changed_entry(range_of(&place), number, change) {
+    let entry = match changed_entry(table, &place, change) {
         Ok(entry) => entry,
         Err(error) => return Ok(Carried::Refused(error)),
     };

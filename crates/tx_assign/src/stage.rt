@@ -10,7 +10,7 @@ ghost use Rattle.tx_scan.specs.IntegerRests.{waiting};
 ghost use Rattle.tx_assign.specs.Assignments.{assignment, arithmetic, behind_place, by_end, changed, given, left_side, value};
 ghost use Rattle.tx_assign.specs.declared.types.Assigning.{Assigning};
 ghost use Rattle.tx_assign.specs.Rests as rests;
-ghost use Rattle.tx_assign.specs.Rests.{HasTaken, IsAssigning, IsBegun, IsFed, at_stage, more_needed};
+ghost use Rattle.tx_assign.specs.Rests.{HasTaken, IsAssigning, IsBegun, IsFed, at_stage, more_needed, no_assignment};
 
 use crate::scan::{AssignScan, AssignStage};
 use crate::types::{Assigning, Assignment, Purpose, Variable};
@@ -27,40 +27,51 @@ fn unread() -> Place
 }
 
 impl AssignScan {
-    /// The scan at the beginning of this stage.
-    fn at(alloc: Global, stage: AssignStage, place: Place) -> AssignScan
-        ensures { result ≡ at_stage stage place }
+    /// The scan of no assignment yet. It takes no memory.
+    pub fn new(alloc: Global) -> AssignScan
+        ensures { result ≡ no_assignment }
     {
         AssignScan {
-            stage,
-            place,
+            stage: AssignStage::LetName,
+            place: unread(),
             integer: IntScan::new(alloc),
             size: DimenScan::new(alloc),
             behind: None,
         }
     }
 
-    /// The scan of an assignment behind this command, of which nothing is read. It takes no memory.
-    pub fn new(alloc: Global, assigning: Assigning) -> AssignScan
-        ensures begun { IsBegun assigning result }
-        ensures taken { HasTaken assigning result [] }
-        ensures needed { more_needed result ≤ 1 }
+    /// Begins the assignment behind this command, in the memory that the scan has; what was read before is forgotten.
+    pub fn begin(&mut self, assigning: Assigning)
+        ensures begun { IsBegun assigning self.new }
+        ensures taken { HasTaken assigning self.new [] }
+        ensures needed { more_needed self.new ≤ 1 }
     {
         match assigning {
-            Assigning::Let => AssignScan::at(alloc, AssignStage::LetName, unread()),
+            Assigning::Let => self.begin_at(AssignStage::LetName, unread()),
             Assigning::Arithmetic(operation) => {
-                AssignScan::at(alloc, AssignStage::Operand(operation), unread())
+                self.begin_at(AssignStage::Operand(operation), unread())
             }
             Assigning::Variable(Variable::Numbered(kind)) => {
-                AssignScan::at(alloc, AssignStage::Number(kind, None), unread())
+                self.begin_at(AssignStage::Number(kind, None), unread())
             }
             Assigning::Variable(Variable::Standing(place)) => {
-                AssignScan::at(alloc, AssignStage::Equals(Purpose::Set), place)
+                self.begin_at(AssignStage::Equals(Purpose::Set), place)
             }
             Assigning::Named(place, kind) => {
-                AssignScan::at(alloc, AssignStage::Equals(Purpose::Define(kind)), place)
+                self.begin_at(AssignStage::Equals(Purpose::Define(kind)), place)
             }
         }
+    }
+
+    /// It stands at the beginning of this stage.
+    fn begin_at(&mut self, stage: AssignStage, place: Place)
+        ensures { self.new ≡ at_stage stage place }
+    {
+        self.stage = stage;
+        self.place = place;
+        self.integer.restart();
+        self.size.restart();
+        self.behind = None;
     }
 
     /// Takes one token, at first and after More. The answer is what reading gives of all that was taken. Its only error is

@@ -6,6 +6,28 @@ use std::alloc::{AllocError, Global};
 use std::marker::Model;
 use std::rc::Rc;
 use tx_list::{Kept, same_items};
+use tx_seen::Meaning;
+
+/// A value of which many are copied at once.
+pub trait Cell: Kept {
+    /// Second values, equal to these. Its only error is want of memory.
+    fn twins(alloc: Global, values: &[Self]) -> Result<Vec<Self>, AllocError>
+        ensures { IfOk result (λ twins. twins.items ≡ values.now) };
+}
+
+/// Integers are copied all in one.
+impl Cell for i32 {
+    fn twins(alloc: Global, values: &[i32]) -> Result<Vec<i32>, AllocError> {
+        Vec::from_slice(alloc, values)
+    }
+}
+
+/// Meanings are shared one by one.
+impl Cell for Meaning {
+    fn twins(alloc: Global, values: &[Meaning]) -> Result<Vec<Meaning>, AllocError> {
+        share_meanings(alloc, values)
+    }
+}
 
 /// As many values as there are registers, codes or parameters of a kind. Contracts see their list. Shared lists take one
 /// block of memory between them until one of them changes.
@@ -28,18 +50,18 @@ impl<T> Model for Cells<T> {
     ghost view = { λ c. c.values.value.by_number.items };
 }
 
-impl<T: Kept> Clone for Values<T> {
+impl<T: Cell> Clone for Values<T> {
     ghost is_clone = { λ source copy. copy.by_number.items ≡ source.by_number.items };
 
     fn clone(&self) -> Result<Self, AllocError> {
         let alloc = *self.by_number.allocator();
         Ok(Values {
-            by_number: share_values(alloc, self.by_number.as_slice())?,
+            by_number: T::twins(alloc, self.by_number.as_slice())?,
         })
     }
 }
 
-impl<T: Kept> Cells<T> {
+impl<T: Cell> Cells<T> {
     /// These values. Its only error is want of memory.
     pub fn from_vec(values: Vec<T>) -> Result<Cells<T>, AllocError>
         ensures { IfOk result (λ cells. cells ≡ values.items) }
@@ -86,7 +108,7 @@ impl<T: Kept> Cells<T> {
 }
 
 /// Changes one of the values that may be shared; only this owner sees the change.
-fn set_in<T: Kept>(values: &mut Rc<Values<T>>, number: usize, value: T) -> Result<(), AllocError>
+fn set_in<T: Cell>(values: &mut Rc<Values<T>>, number: usize, value: T) -> Result<(), AllocError>
     ensures { OnOk result (values.new.value.by_number.items ≡ slice_set values.old.value.by_number.items number value) }
 {
     let own = Rc::make_mut(values)?;
@@ -96,13 +118,13 @@ fn set_in<T: Kept>(values: &mut Rc<Values<T>>, number: usize, value: T) -> Resul
     Ok(())
 }
 
-/// Second values, equal to these.
-fn share_values<T: Kept>(alloc: Global, values: &[T]) -> Result<Vec<T>, AllocError>
-    ensures { IfOk result (λ twins. twins.items ≡ values.now) }
+/// Second meanings, equal to these.
+fn share_meanings(alloc: Global, meanings: &[Meaning]) -> Result<Vec<Meaning>, AllocError>
+    ensures { IfOk result (λ twins. twins.items ≡ meanings.now) }
 {
-    let mut twins = Vec::with_capacity(alloc, values.len())?;
-    for value in values {
-        twins.push(value.share()?)?;
+    let mut twins = Vec::with_capacity(alloc, meanings.len())?;
+    for meaning in meanings {
+        twins.push(meaning.share()?)?;
     }
     Ok(twins)
 }

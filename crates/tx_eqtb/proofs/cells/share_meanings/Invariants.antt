@@ -1,6 +1,6 @@
 use Rattle.std.proofs.Common.{◌≡◌, take}
-use Rattle.tx_eqtb.proofs.cells.share_values.Given as goal
+use Rattle.tx_eqtb.proofs.cells.share_meanings.Given as goal
 
--- the values so far have their twins
-abbrev pub invariant-loop-value : goal.invariant-loop-value
-invariant-loop-value g l = l.twins.items ≡ take l.value-index l.values
+-- the meanings so far have their twins
+abbrev pub invariant-loop-meaning : goal.invariant-loop-meaning
+invariant-loop-meaning l = l.twins.items ≡ take l.meaning-index l.meanings
