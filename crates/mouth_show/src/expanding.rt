@@ -1,7 +1,7 @@
 //! The command that carries conditionals out.
 
 use crate::input::Input;
-use crate::scanning::number;
+use crate::scanning::{behind_number, number};
 use crate::skipping::{kind, skipped};
 use std::alloc::{AllocError, Global};
 use std::io;
@@ -61,11 +61,11 @@ fn begin(
             skip(alloc, open, input)
         };
     }
-    let mut taken = Toks::new(alloc);
-    match number(alloc, input, &mut taken)? {
+    let mut last = None;
+    match number(alloc, input, &mut last)? {
         Fed::Done(branch, back) => {
-            let left = taken.len().saturating_sub(back);
-            input.give_back(alloc, behind_test(alloc, &taken.as_slice()[left..])?)?;
+            let left = behind_number(alloc, last, back)?;
+            input.give_back(alloc, behind_test(alloc, left.as_slice())?)?;
             open.decide(branch);
             if branch == 0 {
                 Ok(None)

@@ -55,13 +55,21 @@ fn give_back(
     input.give_back(alloc, tokens)
 }
 
+/// The last token that a number took, where it isn't part of it: no number gives back more. Its only error is want of memory.
+pub fn behind_number(alloc: Global, last: Option<Token>, back: usize) -> Result<Toks, AllocError> {
+    match last {
+        Some(token) if back > 0 => Toks::one(alloc, token),
+        _ => Ok(Toks::new(alloc)),
+    }
+}
+
 /// Prints the integer with which a text begins.
 pub fn show_number(rt: &HostRuntime, input: &mut Input) -> io::Result<()> {
-    let mut taken = Toks::new(rt.alloc());
-    match number(rt.alloc(), input, &mut taken)? {
+    let mut last = None;
+    match number(rt.alloc(), input, &mut last)? {
         Fed::Done(number, back) => {
             println!(rt; "value {number}")?;
-            give_back(rt.alloc(), input, &taken, back)?;
+            input.give_back(rt.alloc(), behind_number(rt.alloc(), last, back)?)?;
             input.show_left(rt)
         }
         Fed::Wrong(error) => println!(rt; "error {}", error.number()),
@@ -69,8 +77,12 @@ pub fn show_number(rt: &HostRuntime, input: &mut Input) -> io::Result<()> {
     }
 }
 
-/// The integer with which a text begins, and the tokens that it took. Its only error is want of memory.
-pub fn number(alloc: Global, input: &mut Input, taken: &mut Toks) -> Result<Fed<i64>, AllocError> {
+/// The integer with which a text begins, and the last token that it took. Its only error is want of memory.
+pub fn number(
+    alloc: Global,
+    input: &mut Input,
+    last: &mut Option<Token>,
+) -> Result<Fed<i64>, AllocError> {
     let mut scan = IntScan::new(alloc);
     for _ in 0..u64::MAX {
         let Some(token) = input.next(alloc)? else {
@@ -78,7 +90,7 @@ pub fn number(alloc: Global, input: &mut Input, taken: &mut Toks) -> Result<Fed<
         };
         let seen = seen(token);
         let answer = scan.feed(&seen)?;
-        taken.push(seen.token)?;
+        *last = Some(seen.token);
         match supply(&mut scan, &Registers, answer) {
             Fed::More(_) => {}
             answer => return Ok(answer),

@@ -2,3 +2,4 @@ pub mod Steps
 pub mod Numbers
 pub mod Givens
 pub mod Parts
+mod Operands

@@ -10,7 +10,7 @@ use Rattle.tx_seen.specs.declared.fed.Fed.TheVariants as fed
 use Rattle.tx_prim.specs.declared.family.Numbered.{Numbered}
 use Rattle.tx_prim.specs.declared.family.Operation.{Operation}
 use Rattle.tx_seen.specs.Places.{place_of}
-use Rattle.tx_seen.specs.Seen.{is_undefined, is_key}
+use Rattle.tx_seen.specs.Seen.{is_undefined}
 use Rattle.tx_seen.specs.Readings.{Reading, next, Answers}
 use Rattle.tx_scan.specs.declared.scans.IntScan.{IntScan}
 use Rattle.tx_scan.specs.declared.scans.DimenScan.{DimenScan}
@@ -24,12 +24,11 @@ use Rattle.tx_scan.proofs.Composing.{answer-most}
 use Rattle.tx_assign.specs.declared.scan.AssignScan.{AssignScan}
 use Rattle.tx_assign.specs.declared.types.Assignment.{Assignment}
 use Rattle.tx_assign.specs.declared.types.Purpose.{Purpose}
-use Rattle.tx_assign.specs.declared.types.Purpose.TheVariants.{Compute}
 use Rattle.tx_assign.specs.declared.types.Variable.{Variable}
 use Rattle.tx_assign.specs.declared.types.Variable.TheVariants.{Standing}
 use Rattle.tx_assign.specs.Beginnings.{variable_of, is_changeable}
 use Rattle.tx_assign.specs.Targets.{takes_size}
-use Rattle.tx_assign.specs.Assignments.{arithmetic, behind_number, behind_place, by_end, left_side, sized, value, valued}
+use Rattle.tx_assign.specs.Assignments.{arithmetic, behind_number, behind_place, left_side, sized, value, valued}
 use Rattle.tx_assign.specs.Rests.{rest, held, IsAssigning, IsFed}
 
 -- what a stage reads of a token is what reading on gives
@@ -82,11 +81,7 @@ value-by-integer purpose p scan t new (Ok answer) e b k =
     same-answer rest held 0 (λ more. value purpose p (Took t ∷ more)) (λ more. next (integer (Took t ∷ more)) (valued purpose p)) t new answer (λ more. value-integer purpose p (Took t ∷ more) e) ((rw b at k) [])
 value-by-integer purpose p scan t new (Err error) e b k = tt
 
--- the y of `by`, and what \advance changes
-pub by-ends : (operation : Operation) (p : Place) (t : Seen) (new : AssignScan) (answer : Fed Assignment) → is_undefined t ≡ false → is_key 121 t ≡ true → IsAssigning 0 (λ more. value (Compute operation) p more) t new answer → IsAssigning 0 (λ more. by_end operation p (Took t ∷ more)) t new answer
-by-ends operation p t new answer u y k =
-    same-answer rest held 0 (λ more. by_end operation p (Took t ∷ more)) (λ more. value (Compute operation) p more) t new answer (λ more. rw (u, y) refl) k
-
+-- what \advance changes
 pub operand-side : (operation : Operation) (side : Variable) (t : Seen) (new : AssignScan) (answer : Fed Assignment) → is_undefined t ≡ false → variable_of t.meaning ≡ Some side → is_changeable side ≡ true → IsAssigning 0 (λ more. left_side (Some operation) side more) t new answer → IsAssigning 0 (λ more. arithmetic operation (Took t ∷ more)) t new answer
 operand-side operation side t new answer u v h k =
     same-answer rest held 0 (λ more. arithmetic operation (Took t ∷ more)) (λ more. left_side (Some operation) side more) t new answer (λ more. rw (u, v, h) refl) k

@@ -1,5 +1,5 @@
 -- Assignments, as items at the front of a list (The TeXbook, chapter 24; TeX: The Program, part 49).
-use Rattle.std.specs.Prelude.{ℕ, ℤ, List, [], ◌∷◌, Option, Some, None, if◌then◌else◌}
+use Rattle.std.specs.Prelude.{ℕ, ℤ, Bool, true, false, codes, List, [], ◌∷◌, Option, Some, None, if◌then◌else◌}
 use Rattle.tx_char.specs.Character.{character}
 use Rattle.tx_prim.specs.declared.family.Numbered.{Numbered}
 use Rattle.tx_prim.specs.declared.family.Operation.{Operation}
@@ -15,6 +15,7 @@ use Rattle.tx_seen.specs.Readings.{Reading, More, Done, Wrong, next}
 use Rattle.tx_scan.specs.Integers.{integer, byte_of, expanded}
 use Rattle.tx_scan.specs.Dimensions.{dimension}
 use Rattle.tx_scan.specs.Grammars.{equals, name}
+use Rattle.tx_scan.specs.Keywords.{keyword}
 use Rattle.tx_eqtb.specs.declared.entry.Entry.TheVariants.{Means}
 use Rattle.tx_assign.specs.declared.types.Assigning.{Assigning}
 use Rattle.tx_assign.specs.declared.types.Assigning.TheVariants as assigning
@@ -45,21 +46,20 @@ value purpose place items =
 abbrev pub given : Purpose → Place → List Item → Reading Assignment
 given purpose place items = next (equals items) (λ _ rest. value purpose place rest)
 
--- the y of `by`; no value begins with a b
-abbrev pub by_end : Operation → Place → List Item → Reading Assignment
-by_end operation place [] = More Expanded
-by_end operation place (Gave v ∷ rest) = Wrong MissingNumber
-by_end operation place (Took t ∷ rest) =
-    expanded t (if is_key (character "y") t then value (Compute operation) place rest else Wrong MissingNumber)
+-- whether a token comes first that begins `by`
+abbrev pub begins_by : List Item → Bool
+begins_by [] = false
+begins_by (Gave v ∷ rest) = false
+begins_by (Took t ∷ rest) = is_key (character "b") t
+
+-- the value, behind `by` or where that isn't there; no value begins with a b
+abbrev pub operand : Operation → Place → Bool → List Item → Reading Assignment
+operand operation place true rest = value (Compute operation) place rest
+operand operation place false rest = if begins_by rest then Wrong MissingNumber else value (Compute operation) place rest
 
 -- an optional `by`, with spaces before it, and the value
 abbrev pub changed : Operation → Place → List Item → Reading Assignment
-changed operation place [] = More Expanded
-changed operation place (Gave v ∷ rest) = Wrong MissingNumber
-changed operation place (Took t ∷ rest) = expanded t (
-    if is_space t then changed operation place rest
-    else if is_key (character "b") t then by_end operation place rest
-    else value (Compute operation) place (Took t ∷ rest))
+changed operation place items = next (keyword (codes "by") items) (operand operation place)
 
 -- what stands behind a left side: an operation's operand, or the value
 abbrev pub behind_place : Option Operation → Place → List Item → Reading Assignment

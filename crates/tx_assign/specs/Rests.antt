@@ -1,28 +1,42 @@
 -- The scan of an assignment means the rest of the assignment.
-use Rattle.std.specs.Prelude.{◌≡◌, ℕ, zero, suc, ◌+◌, ◌∷◌, [], List, Option, Some, None}
+use Rattle.std.specs.Prelude.{◌≡◌, ℕ, zero, suc, ◌+◌, ◌∷◌, [], Bool, true, false, codes, List, Option, Some, None}
 use Rattle.tx_seen.specs.declared.place.Place.{Place}
 use Rattle.tx_seen.specs.declared.place.Place.TheVariants.{Count}
 use Rattle.tx_seen.specs.declared.seen.Seen.{Seen}
 use Rattle.tx_seen.specs.declared.item.Item.{Item}
 use Rattle.tx_seen.specs.declared.item.Item.TheVariants.{Took}
 use Rattle.tx_seen.specs.declared.fed.Fed.{Fed}
-use Rattle.tx_seen.specs.Readings.{Reading, next}
+use Rattle.tx_seen.specs.Readings.{Reading, Wrong, next}
 use Rattle.tx_scan.specs.Grammars.{name}
 use Rattle.tx_scan.specs.Rests.{HasTakenBy, IsAnswer}
 use Rattle.tx_scan.specs.IntegerRests as integers
 use Rattle.tx_scan.specs.DimensionRests as sizes
+use Rattle.tx_scan.specs.declared.scans.KeyScan.{KeyScan}
+use Rattle.tx_scan.specs.Keywords as words
+use Rattle.tx_prim.specs.declared.family.Operation.{Operation}
+use Rattle.tx_seen.specs.declared.error.TexError.TheVariants.{MissingNumber}
 use Rattle.tx_assign.specs.declared.types.Assigning.{Assigning}
+use Rattle.tx_assign.specs.declared.types.Purpose.TheVariants.{Compute}
 use Rattle.tx_assign.specs.declared.types.Assignment.{Assignment}
 use Rattle.tx_assign.specs.declared.scan.AssignScan.{AssignScan}
 use Rattle.tx_assign.specs.declared.scan.AssignStage.{AssignStage}
 use Rattle.tx_assign.specs.declared.scan.AssignStage.TheVariants as stage
-use Rattle.tx_assign.specs.Assignments.{assignment, arithmetic, behind_number, by_end, changed, given, let_behind_equals, let_behind_name, let_token, sized, valued}
+use Rattle.tx_assign.specs.Assignments.{assignment, arithmetic, behind_number, given, let_behind_equals, let_behind_name, let_token, operand, sized, value, valued}
 
 -- the token behind the number of a register that waits for a value, if one is held
 abbrev pub held_items : ℕ → Option Seen → List Item
 held_items zero behind = []
 held_items (suc n) None = []
 held_items (suc n) (Some t) = Took t ∷ []
+
+-- the value behind a `by` of which so many letters are read: where it breaks off, a b stood before, which begins no value
+abbrev pub behind_by : ℕ → Operation → Place → Bool → List Item → Reading Assignment
+behind_by zero operation place found more = operand operation place found more
+behind_by (suc read) operation place true more = value (Compute operation) place more
+behind_by (suc read) operation place false more = Wrong MissingNumber
+
+abbrev pub by_rest : KeyScan → Operation → Place → Item → List Item → Reading Assignment
+by_rest word operation place item more = next (words.rest (codes "by") word [] item more) (behind_by word.read operation place)
 
 -- the rest of an assignment by the stage of its scan
 abbrev pub stage_rest : AssignStage → AssignScan → List Item → Item → List Item → Reading Assignment
@@ -33,8 +47,7 @@ stage_rest stage.LetToken scan behind item more = let_token scan.place (item ∷
 stage_rest (stage.Operand operation) scan behind item more = arithmetic operation (item ∷ more)
 stage_rest (stage.Number kind operation) scan behind item more = next (integers.rest scan.integer (held_items (integers.held scan.integer) scan.behind) item more) (behind_number operation kind)
 stage_rest (stage.Equals purpose) scan behind item more = given purpose scan.place (item ∷ more)
-stage_rest (stage.By operation) scan behind item more = changed operation scan.place (item ∷ more)
-stage_rest (stage.ByEnd operation) scan behind item more = by_end operation scan.place (item ∷ more)
+stage_rest (stage.By operation word) scan behind item more = by_rest word operation scan.place item more
 stage_rest (stage.Integer purpose) scan behind item more = next (integers.rest scan.integer behind item more) (valued purpose scan.place)
 stage_rest (stage.Size purpose) scan behind item more = next (sizes.rest scan.size behind item more) (sized purpose scan.place)
 

@@ -42,9 +42,8 @@ impl AssignScan {
                 Ok(Fed::Wrong(TexError::MissingName))
             }
             AssignStage::Operand(_) => Ok(Fed::Wrong(TexError::NoAssignment)),
-            AssignStage::Equals(_) | AssignStage::By(_) | AssignStage::ByEnd(_) => {
-                Ok(Fed::Wrong(TexError::MissingNumber))
-            }
+            AssignStage::Equals(_) => Ok(Fed::Wrong(TexError::MissingNumber)),
+            AssignStage::By(_, _) => Ok(Fed::Wrong(TexError::MissingNumber)),
             AssignStage::Size(_) => Ok(Fed::Wrong(TexError::MissingNumber)),
         }
     }

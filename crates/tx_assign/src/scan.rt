@@ -2,7 +2,7 @@
 
 use crate::types::Purpose;
 use tx_prim::{Numbered, Operation};
-use tx_scan::{DimenScan, IntScan};
+use tx_scan::{DimenScan, IntScan, KeyScan};
 use tx_seen::{Place, Seen};
 
 /// The part of an assignment that comes next.
@@ -22,10 +22,8 @@ pub enum AssignStage {
     Number(Numbered, Option<Operation>),
     /// An optional `=`, with spaces before it, and the value.
     Equals(Purpose),
-    /// An optional `by`, with spaces before it, and the value.
-    By(Operation),
-    /// The y of `by`.
-    ByEnd(Operation),
+    /// An optional `by`, with spaces before it, of which this is read, and the value.
+    By(Operation, KeyScan),
     /// A number.
     Integer(Purpose),
     /// A size.

@@ -7,16 +7,16 @@ ghost use Rattle.tx_seen.specs.Readings.{Answers};
 ghost use Rattle.tx_scan.specs.Rests.{IsFedBy};
 ghost use Rattle.tx_scan.specs.Supplied.{NeedsNoMore};
 ghost use Rattle.tx_scan.specs.IntegerRests.{waiting};
-ghost use Rattle.tx_assign.specs.Assignments.{assignment, arithmetic, behind_place, by_end, changed, given, left_side, value};
+ghost use Rattle.tx_assign.specs.Assignments.{assignment, arithmetic, behind_place, given, left_side, value};
 ghost use Rattle.tx_assign.specs.declared.types.Assigning.{Assigning};
 ghost use Rattle.tx_assign.specs.Rests as rests;
-ghost use Rattle.tx_assign.specs.Rests.{HasTaken, IsAssigning, IsBegun, IsFed, at_stage, more_needed, no_assignment};
+ghost use Rattle.tx_assign.specs.Rests.{HasTaken, IsAssigning, IsBegun, IsFed, at_stage, by_rest, more_needed, no_assignment};
 
 use crate::scan::{AssignScan, AssignStage};
 use crate::types::{Assigning, Assignment, Purpose, Variable};
 use std::alloc::{AllocError, Global};
 use tx_prim::Operation;
-use tx_scan::{DimenScan, EqualsScan, IntScan};
+use tx_scan::{DimenScan, EqualsScan, IntScan, KeyScan};
 use tx_seen::{Fed, Place, Seen, TexError, Want};
 
 /// The place where nothing is read of one.
@@ -98,8 +98,7 @@ impl AssignScan {
             AssignStage::Operand(operation) => Ok(self.feed_operand(operation, token)),
             AssignStage::Number(kind, operation) => self.feed_number(kind, operation, token),
             AssignStage::Equals(purpose) => self.feed_equals(purpose, token),
-            AssignStage::By(operation) => self.feed_by(operation, token),
-            AssignStage::ByEnd(operation) => Ok(self.feed_by_end(operation, token)),
+            AssignStage::By(operation, word) => self.feed_by(operation, word, token),
             AssignStage::Integer(purpose) => self.feed_integer(purpose, token),
             AssignStage::Size(purpose) => self.feed_size(purpose, token),
         }
@@ -128,7 +127,7 @@ impl AssignScan {
     {
         match operation {
             None => self.on(AssignStage::Equals(Purpose::Set)),
-            Some(operation) => self.on(AssignStage::By(operation)),
+            Some(operation) => self.on(AssignStage::By(operation, KeyScan::new())),
         }
     }
 
@@ -143,7 +142,7 @@ impl AssignScan {
     {
         match operation {
             None => self.feed_equals(Purpose::Set, token),
-            Some(operation) => self.feed_by(operation, token),
+            Some(operation) => self.feed_by(operation, KeyScan::new(), token),
         }
     }
 
@@ -200,35 +199,28 @@ impl AssignScan {
         }
     }
 
-    /// An optional `by`, or the first token of the value. Its only error is want of memory.
-    fn feed_by(&mut self, operation: Operation, token: &Seen) -> Result<Fed<Assignment>, AllocError>
-        ensures answer { IfOk result (IsAssigning 0 (λ more. changed operation self.old.place (Took token.now ∷ more)) token.now self.new) }
+    /// An optional `by`, of which this is read, or the first token of the value. Its only error is want of memory.
+    fn feed_by(
+        &mut self,
+        operation: Operation,
+        word: KeyScan,
+        token: &Seen,
+    ) -> Result<Fed<Assignment>, AllocError>
+        ensures answer { IfOk result (IsAssigning 0 (λ more. by_rest word operation self.old.place (Took token.now) more) token.now self.new) }
         ensures needed { IfOk result (NeedsNoMore (waiting self.old.integer) (more_needed self.new)) }
     {
-        if token.is_undefined() {
-            return Ok(Fed::Wrong(TexError::Undefined));
-        }
-        if token.is_space() {
-            return Ok(self.on(AssignStage::By(operation)));
-        }
-        if token.is_key(b'b') {
-            return Ok(self.on(AssignStage::ByEnd(operation)));
-        }
-        self.feed_value(Purpose::Compute(operation), token)
-    }
-
-    /// The y of `by`.
-    fn feed_by_end(&mut self, operation: Operation, token: &Seen) -> Fed<Assignment>
-        ensures answer { IsAssigning 0 (λ more. by_end operation self.old.place (Took token.now ∷ more)) token.now self.new result }
-        ensures needed { NeedsNoMore (waiting self.old.integer) (more_needed self.new) result }
-    {
-        if token.is_undefined() {
-            return Fed::Wrong(TexError::Undefined);
-        }
-        if token.is_key(b'y') {
-            self.to_value(Purpose::Compute(operation))
-        } else {
-            Fed::Wrong(TexError::MissingNumber)
+        let mut word = word;
+        match word.feed(b"by", token) {
+            Fed::More(want) => {
+                self.stage = AssignStage::By(operation, word);
+                Ok(Fed::More(want))
+            }
+            Fed::Done(true, 0) => Ok(self.to_value(Purpose::Compute(operation))),
+            Fed::Done(true, _) => self.feed_value(Purpose::Compute(operation), token),
+            Fed::Done(false, 1) => self.feed_value(Purpose::Compute(operation), token),
+            Fed::Done(false, _) => Ok(Fed::Wrong(TexError::MissingNumber)),
+            Fed::Need(kind) => Ok(Fed::Need(kind)),
+            Fed::Wrong(error) => Ok(Fed::Wrong(error)),
         }
     }
 }

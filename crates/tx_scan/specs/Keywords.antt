@@ -1,5 +1,5 @@
 -- Keywords (The TeXbook, chapter 24; TeX: The Program, section 407).
-use Rattle.std.specs.Prelude.{◌≡◌, ◌<◌, length, ℕ, zero, suc, ◌++◌, ◌∷◌, [], ◌&&◌, Bool, true, false, not, List, drop, if◌then◌else◌}
+use Rattle.std.specs.Prelude.{◌≡◌, ◌⊎◌, ◌+◌, ◌<◌, length, ℕ, zero, suc, ◌++◌, ◌∷◌, [], ◌&&◌, Bool, true, false, not, List, drop, if◌then◌else◌}
 use Rattle.tx_seen.specs.declared.fed.Want.TheVariants.{Expanded}
 use Rattle.tx_seen.specs.declared.fed.Fed.{Fed}
 use Rattle.tx_seen.specs.declared.fed.Fed.TheVariants as fed
@@ -64,3 +64,12 @@ IsReadOn word scan (fed.Need kind) = ⊥
 IsReadOn word scan (fed.Done true back) = back ≡ 0
 IsReadOn word scan (fed.Done false back) = Unit {0}
 IsReadOn word scan (fed.Wrong error) = Unit {0}
+
+-- one more token either is a space before the word or its next letter, or the word breaks off, and what is read of it is
+-- given back
+abbrev pub IsGone : List ℕ → KeyScan → Seen → KeyScan → Fed Bool → Type 0
+IsGone word old t new (fed.More want) = old.read ≡ 0 → (new.read ≡ 0) ⊎ (begins_with word t ≡ true)
+IsGone word old t new (fed.Need kind) = ⊥
+IsGone word old t new (fed.Done true back) = Unit {0}
+IsGone word old t new (fed.Done false back) = back ≡ old.read + 1
+IsGone word old t new (fed.Wrong error) = Unit {0}

@@ -1,4 +1,4 @@
-use Rattle.std.proofs.Common.{◌≡◌, ℕ, length}
+use Rattle.std.proofs.Common.{length}
 use Rattle.tx_scan.proofs.outers.forget.Given as goal
 
 -- each turn takes one number
