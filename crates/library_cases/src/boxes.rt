@@ -105,7 +105,8 @@ fn page(
 }
 
 fn shown_page(alloc: Global, word: &str, page: &PageBody) -> Result<String, AllocError> {
-    let (height, width, nesting, mag) = (page.height, page.width, page.nesting, page.mag);
+    let parts = page.parts();
+    let (height, width, nesting, mag) = (parts.height, parts.width, parts.nesting, parts.mag);
     if word == "page" {
         return format!(in alloc; "{height} {width}");
     }

@@ -4,7 +4,7 @@ ghost use Rattle.std.specs.Prelude.{◌≤◌, length};
 use std::alloc::{AllocError, Global};
 use tx_bytes::Bytes;
 use tx_cases::{hexadecimal, integers, malformed};
-use tx_dvi::{DateParameters, PageBody, assemble};
+use tx_dvi::{DateParameters, PageBody, PageParts, assemble};
 
 /// A rule of 2pt by 1pt.
 const RULE: [u8; 13] = [0x9f, 2, 0, 0, 0x84, 0, 2, 0, 0, 0, 1, 0, 0];
@@ -66,7 +66,7 @@ fn page(
 {
     let mut body = Bytes::from_slice(alloc, &RULE)?;
     body.append(behind)?;
-    Ok(PageBody {
+    let parts = PageParts {
         body,
         counts: [count, 0, 0, 0, 0, 0, 0, 0, 0, 0],
         height,
@@ -74,5 +74,6 @@ fn page(
         nesting: 0,
         mag: 1000,
         date,
-    })
+    };
+    PageBody::new(alloc, parts)
 }

@@ -11,7 +11,7 @@ use crate::state::{Phase, State};
 use std::alloc::{AllocError, Global};
 use std::mem;
 use tx_bytes::Bytes;
-use tx_dvi::{DateParameters, PageBody};
+use tx_dvi::{DateParameters, PageBody, PageParts};
 use tx_machine::{Ask, AskKind, Date, Event, Reply, Stop};
 
 /// The most bytes that the body of a page may have.
@@ -66,7 +66,7 @@ fn ship(alloc: Global, s: &mut State, text: Bytes, first: u8) -> Result<Event, A
     }
     s.said.push(first)?;
     s.phase = Phase::Reads(Bytes::new(alloc));
-    Ok(Event::Shipped(PageBody {
+    let parts = PageParts {
         body: text,
         counts: [0; 10],
         height: 0,
@@ -74,7 +74,8 @@ fn ship(alloc: Global, s: &mut State, text: Bytes, first: u8) -> Result<Event, A
         nesting: 0,
         mag: 1000,
         date: s.date,
-    }))
+    };
+    Ok(Event::Shipped(PageBody::new(alloc, parts)?))
 }
 
 /// What comes of a line.

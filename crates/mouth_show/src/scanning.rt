@@ -56,11 +56,7 @@ fn give_back(
 }
 
 /// The last token that a number took, where it isn't part of it: no number gives back more. Its only error is want of memory.
-pub fn behind_number(
-    alloc: Global,
-    last: Option<Token>,
-    back: usize,
-) -> Result<Toks, AllocError> {
+pub fn behind_number(alloc: Global, last: Option<Token>, back: usize) -> Result<Toks, AllocError> {
     match last {
         Some(token) if back > 0 => Toks::one(alloc, token),
         _ => Ok(Toks::new(alloc)),

@@ -85,7 +85,7 @@ fn write_page(text: &mut String, body: &[u8], year: i32, piece: &[u8]) -> Result
 
 fn write_pages(text: &mut String, ran: &Ran) -> Result<(), AllocError> {
     for (page, piece) in ran.pages.as_slice().iter().zip(ran.pieces.as_slice()) {
-        write_page(text, page.body(), page.date.year, piece.as_slice())?;
+        write_page(text, page.body(), page.parts().date.year, piece.as_slice())?;
     }
     Ok(())
 }

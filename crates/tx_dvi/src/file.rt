@@ -83,9 +83,9 @@ fn preamble(alloc: Global, first: &PageBody) -> Result<Bytes, AllocError>
     ensures bytes { IfOk result (λ file. file ≡ spec.preamble first.now) }
     ensures bound { IfOk result (λ file. length file ≤ 270) }
 {
-    let comment = comment(alloc, first.date)?;
+    let comment = comment(alloc, first.parts().date)?;
     let mut file = Bytes::from_slice(alloc, &[PRE, FORMAT_NUMBER])?;
-    file.append(&units(first.mag))?;
+    file.append(&units(first.parts().mag))?;
     file.push(comment.len() as u8)?;
     file.append(comment.as_slice())?;
     Ok(file)
@@ -99,7 +99,7 @@ fn append_page(file: &mut Bytes, page: &PageBody, pointer: i32) -> Result<(), Al
     ensures ten { length page.now.counts ≡ 10 }
 {
     let mut counts = [0; 40];
-    BigEndian::write_i32_into(&page.counts, &mut counts);
+    BigEndian::write_i32_into(&page.parts().counts, &mut counts);
     file.push(BOP)?;
     file.append(&counts)?;
     file.append(&four_bytes(pointer))?;
@@ -131,7 +131,7 @@ fn greatest_height(pages: &[PageBody]) -> i32
 {
     let mut most = 0;
     for page in pages {
-        most = most.max(page.height);
+        most = most.max(page.parts().height);
     }
     most
 }
@@ -141,7 +141,7 @@ fn greatest_width(pages: &[PageBody]) -> i32
 {
     let mut most = 0;
     for page in pages {
-        most = most.max(page.width);
+        most = most.max(page.parts().width);
     }
     most
 }
@@ -149,7 +149,9 @@ fn greatest_width(pages: &[PageBody]) -> i32
 fn greatest_nesting(pages: &[PageBody]) -> u16
     ensures { result ≡ spec.greatest_nesting pages.now }
 {
-    pages.iter().fold(0, |most, page| most.max(page.nesting))
+    pages
+        .iter()
+        .fold(0, |most, page| most.max(page.parts().nesting))
 }
 
 fn append_sizes(file: &mut Bytes, pages: &[PageBody]) -> Result<(), AllocError>
@@ -173,7 +175,7 @@ fn append_post(
 {
     file.push(POST)?;
     file.append(&four_bytes(last))?;
-    file.append(&units(first.mag))?;
+    file.append(&units(first.parts().mag))?;
     append_sizes(file, pages)
 }
 

@@ -11,4 +11,4 @@ pub mod file;
 pub mod page;
 
 pub use file::{assemble, four_bytes};
-pub use page::{DateParameters, PageBody};
+pub use page::{DateParameters, PageBody, PageParts};

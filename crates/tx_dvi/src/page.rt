@@ -1,7 +1,8 @@
-ghost use Rattle.std.specs.Prelude.{◌≡◌, ◌≤◌, length};
+ghost use Rattle.std.specs.Prelude.{◌≡◌, ◌≤◌, length, IfOk};
 
-use std::alloc::AllocError;
+use std::alloc::{AllocError, Global};
 use std::marker::Model;
+use std::rc::Rc;
 use tx_bytes::Bytes;
 
 /// The parameters \year, \month, \day and \time (minutes since midnight). A document may set them to anything.
@@ -13,10 +14,9 @@ pub struct DateParameters {
     pub time: i32,
 }
 
-/// A page as it stands in a DVI file, without the frame that depends on the pages before it. Contracts see it as the
-/// record `Page` of the same fields.
+/// What the DVI file is told of a page. Contracts see it as the record `Page` of the same fields.
 #[derive(Drop)]
-pub struct PageBody {
+pub struct PageParts {
     /// The commands between bop and eop, at most 200,000 bytes.
     pub body: Bytes,
     /// \count0 to \count9.
@@ -33,7 +33,7 @@ pub struct PageBody {
     pub date: DateParameters,
 }
 
-impl Model for PageBody {
+impl Model for PageParts {
     ghost use Rattle.std.specs.Prelude.{length};
     ghost use Rattle.tx_dvi.specs.Page.{Page, InRange};
 
@@ -52,30 +52,55 @@ impl Model for PageBody {
     ghost invariant = { λ p. InRange (length p.body) (length p.counts) p.nesting p.mag };
 }
 
+/// A page as it stands in a DVI file, without the frame that depends on the pages before it. It is one pointer, so that an
+/// event which may hold a page stays small; clones share the page. Contracts see it as the record `Page`.
+#[derive(Drop)]
+pub struct PageBody {
+    parts: Rc<PageParts>,
+}
+
+impl Model for PageBody {
+    ghost use Rattle.tx_dvi.specs.Page.{Page};
+
+    ghost Value = { Page };
+
+    ghost view = { λ p. p.parts.value };
+}
+
 impl PageBody {
+    /// The page of these parts. Its only error is want of memory.
+    pub fn new(alloc: Global, parts: PageParts) -> Result<PageBody, AllocError>
+        ensures { IfOk result (λ page. page ≡ parts) }
+    {
+        Ok(PageBody {
+            parts: Rc::new(alloc, parts)?,
+        })
+    }
+
+    /// What the DVI file is told of it, lent.
+    pub fn parts(&self) -> &PageParts
+        ensures { result.now ≡ self.now }
+    {
+        self.parts.as_ref()
+    }
+
     /// The commands between bop and eop, lent.
     pub fn body(&self) -> &[u8]
         ensures bytes { result.now ≡ self.now.body }
         ensures bound { length self.now.body ≤ 200000 }
         ensures ten { length self.now.counts ≡ 10 }
     {
-        self.body.as_slice()
+        self.parts().body.as_slice()
     }
 }
 
-/// A clone is the same page. Its only error is want of memory.
+/// A clone is the same page. Its only error is that no more owners can be counted.
 impl Clone for PageBody {
     ghost is_clone = { λ source copy. copy ≡ source };
 
     fn clone(&self) -> Result<Self, AllocError> {
         Ok(PageBody {
-            body: self.body.clone()?,
-            counts: self.counts,
-            height: self.height,
-            width: self.width,
-            nesting: self.nesting,
-            mag: self.mag,
-            date: self.date,
+            parts: self.parts.clone()?,
         })
     }
 }

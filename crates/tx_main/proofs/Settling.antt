@@ -11,16 +11,17 @@ use Rattle.tx_seen.specs.declared.item.Item.{Item}
 use Rattle.tx_seen.specs.declared.item.Item.TheVariants.{Took, Gave}
 use Rattle.tx_seen.specs.declared.place.Place.{Place}
 use Rattle.tx_seen.specs.declared.seen.Seen.{Seen}
-use Rattle.tx_seen.specs.Readings.{Reading, More, Need, Done, Wrong, last, Answers}
+use Rattle.tx_seen.specs.Readings.{Reading, More, Need, Done, Wrong, last, tokens, Answers}
 use Rattle.tx_scan.specs.Rests.{HasTakenBy, IsFedBy, IsGivenBy}
 use Rattle.tx_scan.specs.Supplied.{value_for, unless_needed, supplied, NeedsNoMore, NeedsFewer}
-use Rattle.tx_scan.proofs.Answering.{fed-answers, given-answers}
-use Rattle.tx_main.specs.declared.scans.Stage.{Stage}
+use Rattle.tx_scan.proofs.Answering.{ending-none, fed-answers, given-answers}
+use Rattle.tx_main.specs.declared.scans.Scans.{Scans}
 use Rattle.tx_main.specs.declared.types.Command.{Command}
 use Rattle.tx_main.specs.declared.types.Head.{Head}
 use Rattle.tx_main.specs.Commands.{command}
 use Rattle.tx_main.specs.Rests.{command_rest, held, more_needed, GoesOn, IsAt}
 use Rattle.tx_main.specs.Taken.{joined, IsSettled, IsPending}
+use Rattle.tx_main.specs.Turns.{given_back}
 
 -- where no value is needed, none is given
 given-none : {A : Type 0} (count : ℕ) (at : Place → Value) (reading : List Item → Reading A) (items : List Item) (answer : Reading A) → ((on : Kind → List Item) → unless_needed answer items on ≡ items) → reading items ≡ answer → supplied count at reading items ≡ items
@@ -38,16 +39,16 @@ whole-now reading items a behind k = ap reading (sym (append-nil items)) ∙ (k 
 wrong-now : {A : Type 0} (reading : List Item → Reading A) (items : List Item) (e : TexError) → ((more : List Item) → reading (items ++ more) ≡ Wrong e) → reading items ≡ Wrong e
 wrong-now reading items e k = ap reading (sym (append-nil items)) ∙ k []
 
-more-settled : (mode : Mode) (head : Head) (items taken : List Item) (stage : Stage) (want : Want) → taken ≡ items → command mode head taken ≡ More want → IsAt mode head taken stage → IsSettled mode head items taken stage (fed.More want)
-more-settled mode head items taken stage want same is k = (ap (λ xs. command mode head xs) (sym same) ∙ is, (same, k))
+more-settled : (mode : Mode) (head : Head) (items taken : List Item) (scans : Scans) (want : Want) → taken ≡ items → command mode head taken ≡ More want → IsAt mode head taken scans → IsSettled mode head items taken scans (fed.More want)
+more-settled mode head items taken scans want same is k = (ap (λ xs. command mode head xs) (sym same) ∙ is, (same, k))
 
-whole-settled : (mode : Mode) (head : Head) (items taken : List Item) (stage : Stage) (c : Command) (back : ℕ) → taken ≡ items → command mode head taken ≡ Done c (last back taken) → IsSettled mode head items taken stage (fed.Done c back)
-whole-settled mode head items taken stage c back same is = (ap (λ xs. command mode head xs) (sym same) ∙ (is ∙ ap (λ xs. Done c (last back xs)) same), same)
+whole-settled : (mode : Mode) (head : Head) (items taken : List Item) (scans : Scans) (c : Command) (back : ℕ) → taken ≡ items → command mode head taken ≡ Done c (last back taken) → IsSettled mode head items taken scans (fed.Done c back)
+whole-settled mode head items taken scans c back same is = (ap (λ xs. command mode head xs) (sym same) ∙ (is ∙ ap (λ xs. Done c (last back xs)) same), ap (λ xs. given_back (last back xs)) same)
 
-wrong-settled : (mode : Mode) (head : Head) (items taken : List Item) (stage : Stage) (e : TexError) → taken ≡ items → command mode head taken ≡ Wrong e → IsSettled mode head items taken stage (fed.Wrong e)
-wrong-settled mode head items taken stage e same is = ap (λ xs. command mode head xs) (sym same) ∙ is
+wrong-settled : (mode : Mode) (head : Head) (items taken : List Item) (scans : Scans) (e : TexError) → taken ≡ items → command mode head taken ≡ Wrong e → IsSettled mode head items taken scans (fed.Wrong e)
+wrong-settled mode head items taken scans e same is = ap (λ xs. command mode head xs) (sym same) ∙ is
 
-token-by : (at : Place → Value) (mode : Mode) (head : Head) (taken : List Item) (t : Seen) (new : Stage) (few : ℕ) (answer : Fed Command) → Answers (command mode head) (HasTakenBy (command_rest mode head) held (command mode head)) (taken ++ Took t ∷ []) new answer → few ≤ length taken + 1 → NeedsNoMore few (more_needed new) answer → GoesOn new answer → IsPending at mode head (joined at mode head taken t) (taken ++ Took t ∷ []) new answer
+token-by : (at : Place → Value) (mode : Mode) (head : Head) (taken : List Item) (t : Seen) (new : Scans) (few : ℕ) (answer : Fed Command) → Answers (command mode head) (HasTakenBy (command_rest mode head) held (command mode head)) (taken ++ Took t ∷ []) new answer → few ≤ length taken + 1 → NeedsNoMore few (more_needed new) answer → GoesOn new answer → IsPending at mode head (joined at mode head taken t) (taken ++ Took t ∷ []) new answer
 token-by at mode head taken t new few (fed.More want) a h n on =
     let items : List Item = taken ++ Took t ∷ [] in
     more-settled mode head (joined at mode head taken t) items new want
@@ -69,11 +70,20 @@ token-by at mode head taken t new few (fed.Wrong e) a h n on =
     (sym (given-none (suc (length items)) at (command mode head) items (Wrong e) (λ on. refl) is)) is
 
 -- behind one more token values may be needed
-pub token-pending : (at : Place → Value) (mode : Mode) (head : Head) (taken : List Item) (t : Seen) (old new : Stage) (answer : Fed Command) → IsAt mode head taken old → IsFedBy (command_rest mode head) held old t new answer → NeedsNoMore (more_needed old) (more_needed new) answer → GoesOn new answer → IsPending at mode head (joined at mode head taken t) (taken ++ Took t ∷ []) new answer
+pub token-pending : (at : Place → Value) (mode : Mode) (head : Head) (taken : List Item) (t : Seen) (old new : Scans) (answer : Fed Command) → IsAt mode head taken old → IsFedBy (command_rest mode head) held old t new answer → NeedsNoMore (more_needed old) (more_needed new) answer → GoesOn new answer → IsPending at mode head (joined at mode head taken t) (taken ++ Took t ∷ []) new answer
 token-pending at mode head taken t old new answer k fits n on =
     token-by at mode head taken t new (more_needed old) answer (fed-answers (command_rest mode head) held (command mode head) old new taken t answer k.reads fits) k.few n on
 
-value-by : (at : Place → Value) (mode : Mode) (head : Head) (items taken : List Item) (v : Value) (new : Stage) (few count : ℕ) (answer : Fed Command) → Answers (command mode head) (HasTakenBy (command_rest mode head) held (command mode head)) (taken ++ Gave v ∷ []) new answer → few ≤ length taken → few < suc count → supplied count at (command mode head) (taken ++ Gave v ∷ []) ≡ items → NeedsFewer few (more_needed new) answer → GoesOn new answer → IsPending at mode head items (taken ++ Gave v ∷ []) new answer
+-- a token that makes the command whole or wrong, and isn't given back, needn't be kept
+pub token-whole : (at : Place → Value) (mode : Mode) (head : Head) (taken : List Item) (t : Seen) (old new : Scans) (answer : Fed Command) (c : Command) → answer ≡ fed.Done c 0 → IsAt mode head taken old → IsFedBy (command_rest mode head) held old t new answer → NeedsNoMore (more_needed old) (more_needed new) answer → GoesOn new answer → IsSettled mode head (joined at mode head taken t) taken new (fed.Done c 0)
+token-whole at mode head taken t old new answer c same k fits n on =
+    let p : IsSettled mode head (joined at mode head taken t) (taken ++ Took t ∷ []) new (fed.Done c 0) = rw same at (token-pending at mode head taken t old new answer k fits n on) in
+    (p.0, ap (λ xs. given_back xs) (ending-none (tokens taken) ∙ sym (ending-none (tokens (joined at mode head taken t)))))
+
+pub token-wrong : (at : Place → Value) (mode : Mode) (head : Head) (taken : List Item) (t : Seen) (old new : Scans) (answer : Fed Command) (e : TexError) → answer ≡ fed.Wrong e → IsAt mode head taken old → IsFedBy (command_rest mode head) held old t new answer → NeedsNoMore (more_needed old) (more_needed new) answer → GoesOn new answer → IsSettled mode head (joined at mode head taken t) taken new (fed.Wrong e)
+token-wrong at mode head taken t old new answer e same k fits n on = rw same at (token-pending at mode head taken t old new answer k fits n on)
+
+value-by : (at : Place → Value) (mode : Mode) (head : Head) (items taken : List Item) (v : Value) (new : Scans) (few count : ℕ) (answer : Fed Command) → Answers (command mode head) (HasTakenBy (command_rest mode head) held (command mode head)) (taken ++ Gave v ∷ []) new answer → few ≤ length taken → few < suc count → supplied count at (command mode head) (taken ++ Gave v ∷ []) ≡ items → NeedsFewer few (more_needed new) answer → GoesOn new answer → IsPending at mode head items (taken ++ Gave v ∷ []) new answer
 value-by at mode head items taken v new few count (fed.More want) a h c same n on =
     let now : List Item = taken ++ Gave v ∷ [] in
     more-settled mode head items now new want
@@ -93,7 +103,7 @@ value-by at mode head items taken v new few count (fed.Wrong e) a h c same n on 
     wrong-settled mode head items now new e
     (sym (given-none count at (command mode head) now (Wrong e) (λ on. refl) is) ∙ same) is
 
-counted-by : (at : Place → Value) (mode : Mode) (head : Head) (items taken : List Item) (kind : Kind) (old new : Stage) (answer : Fed Command) (count : ℕ) → more_needed old < count → supplied count at (command mode head) taken ≡ items → command mode head taken ≡ Need kind → HasTakenBy (command_rest mode head) held (command mode head) old taken → more_needed old ≤ length taken → IsGivenBy (command_rest mode head) held old (value_for at kind) new answer → NeedsFewer (more_needed old) (more_needed new) answer → GoesOn new answer → IsPending at mode head items (taken ++ Gave (value_for at kind) ∷ []) new answer
+counted-by : (at : Place → Value) (mode : Mode) (head : Head) (items taken : List Item) (kind : Kind) (old new : Scans) (answer : Fed Command) (count : ℕ) → more_needed old < count → supplied count at (command mode head) taken ≡ items → command mode head taken ≡ Need kind → HasTakenBy (command_rest mode head) held (command mode head) old taken → more_needed old ≤ length taken → IsGivenBy (command_rest mode head) held old (value_for at kind) new answer → NeedsFewer (more_needed old) (more_needed new) answer → GoesOn new answer → IsPending at mode head items (taken ++ Gave (value_for at kind) ∷ []) new answer
 counted-by at mode head items taken kind old new answer zero c same is reads few fits n on = absurd (omega (arith, c))
 counted-by at mode head items taken kind old new answer (suc count) c same is reads few fits n on =
     value-by at mode head items taken (value_for at kind) new (more_needed old) count answer
@@ -101,13 +111,13 @@ counted-by at mode head items taken kind old new answer (suc count) c same is re
     (sym (given-one count at (command mode head) taken kind is) ∙ same) n on
 
 -- behind a value another one may be needed
-pub value-pending : (at : Place → Value) (mode : Mode) (head : Head) (items taken : List Item) (kind : Kind) (old new : Stage) (answer : Fed Command) → IsPending at mode head items taken old (fed.Need kind) → IsGivenBy (command_rest mode head) held old (value_for at kind) new answer → NeedsFewer (more_needed old) (more_needed new) answer → GoesOn new answer → IsPending at mode head items (taken ++ Gave (value_for at kind) ∷ []) new answer
+pub value-pending : (at : Place → Value) (mode : Mode) (head : Head) (items taken : List Item) (kind : Kind) (old new : Scans) (answer : Fed Command) → IsPending at mode head items taken old (fed.Need kind) → IsGivenBy (command_rest mode head) held old (value_for at kind) new answer → NeedsFewer (more_needed old) (more_needed new) answer → GoesOn new answer → IsPending at mode head items (taken ++ Gave (value_for at kind) ∷ []) new answer
 value-pending at mode head items taken kind old new answer p fits n on =
     counted-by at mode head items taken kind old new answer p.0 p.1.0 p.1.1.0 p.1.1.1.0 p.1.1.1.1.0 p.1.1.1.1.1 fits n on
 
 -- an answer that needs none
-pub pending-settled : (at : Place → Value) (mode : Mode) (head : Head) (items taken : List Item) (stage : Stage) (answer : Fed Command) → ((kind : Kind) → answer ≡ fed.Need kind → ⊥) → IsPending at mode head items taken stage answer → IsSettled mode head items taken stage answer
-pending-settled at mode head items taken stage (fed.More want) none p = p
-pending-settled at mode head items taken stage (fed.Need kind) none p = absurd (none kind refl)
-pending-settled at mode head items taken stage (fed.Done c back) none p = p
-pending-settled at mode head items taken stage (fed.Wrong e) none p = p
+pub pending-settled : (at : Place → Value) (mode : Mode) (head : Head) (items taken : List Item) (scans : Scans) (answer : Fed Command) → ((kind : Kind) → answer ≡ fed.Need kind → ⊥) → IsPending at mode head items taken scans answer → IsSettled mode head items taken scans answer
+pending-settled at mode head items taken scans (fed.More want) none p = p
+pending-settled at mode head items taken scans (fed.Need kind) none p = absurd (none kind refl)
+pending-settled at mode head items taken scans (fed.Done c back) none p = p
+pending-settled at mode head items taken scans (fed.Wrong e) none p = p

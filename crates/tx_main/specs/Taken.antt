@@ -12,7 +12,7 @@ use Rattle.tx_seen.specs.declared.seen.Seen.{Seen}
 use Rattle.tx_seen.specs.Readings.{More, Need, Done, Wrong, last}
 use Rattle.tx_scan.specs.Rests.{HasTakenBy}
 use Rattle.tx_scan.specs.Supplied.{supplied}
-use Rattle.tx_main.specs.declared.scans.Stage.{Stage}
+use Rattle.tx_main.specs.declared.scans.Scans.{Scans}
 use Rattle.tx_main.specs.declared.scans.Taken.{Taken}
 use Rattle.tx_main.specs.declared.scans.Taken.TheVariants as taken
 use Rattle.tx_main.specs.declared.types.Command.{Command}
@@ -27,21 +27,21 @@ use Rattle.tx_main.specs.Turns.{given_back}
 abbrev pub joined : (Place → Value) → Mode → Head → List Item → Seen → List Item
 joined at mode head taken t = supplied (suc (length (taken ++ Took t ∷ []))) at (command mode head) (taken ++ Took t ∷ [])
 
--- the answer says what these items are of a command, and those that were taken are they
-abbrev pub IsSettled : Mode → Head → List Item → List Item → Stage → Fed Command → Type 0
-IsSettled mode head items taken stage (fed.More want) = (command mode head items ≡ More want) × ((taken ≡ items) × IsAt mode head taken stage)
-IsSettled mode head items taken stage (fed.Need kind) = ⊥
-IsSettled mode head items taken stage (fed.Done c back) = (command mode head items ≡ Done c (last back items)) × (taken ≡ items)
-IsSettled mode head items taken stage (fed.Wrong error) = command mode head items ≡ Wrong error
+-- the answer says what these items are of a command, and those that were taken are they, or give the same tokens back
+abbrev pub IsSettled : Mode → Head → List Item → List Item → Scans → Fed Command → Type 0
+IsSettled mode head items taken scans (fed.More want) = (command mode head items ≡ More want) × ((taken ≡ items) × IsAt mode head taken scans)
+IsSettled mode head items taken scans (fed.Need kind) = ⊥
+IsSettled mode head items taken scans (fed.Done c back) = (command mode head items ≡ Done c (last back items)) × (given_back (last back taken) ≡ given_back (last back items))
+IsSettled mode head items taken scans (fed.Wrong error) = command mode head items ≡ Wrong error
 
 -- the answer says what the taken items are of a command; where a value is needed, these items are the taken ones and so many
 -- values at most
-abbrev pub IsPending : (Place → Value) → Mode → Head → List Item → List Item → Stage → Fed Command → Type 0
-IsPending at mode head items taken stage (fed.More want) = IsSettled mode head items taken stage (fed.More want)
-IsPending at mode head items taken stage (fed.Need kind) =
-    (count : ℕ) × ((more_needed stage < count) × ((supplied count at (command mode head) taken ≡ items) × ((command mode head taken ≡ Need kind) × (HasTakenBy (command_rest mode head) held (command mode head) stage taken × (more_needed stage ≤ length taken)))))
-IsPending at mode head items taken stage (fed.Done c back) = IsSettled mode head items taken stage (fed.Done c back)
-IsPending at mode head items taken stage (fed.Wrong error) = IsSettled mode head items taken stage (fed.Wrong error)
+abbrev pub IsPending : (Place → Value) → Mode → Head → List Item → List Item → Scans → Fed Command → Type 0
+IsPending at mode head items taken scans (fed.More want) = IsSettled mode head items taken scans (fed.More want)
+IsPending at mode head items taken scans (fed.Need kind) =
+    (count : ℕ) × ((more_needed scans < count) × ((supplied count at (command mode head) taken ≡ items) × ((command mode head taken ≡ Need kind) × (HasTakenBy (command_rest mode head) held (command mode head) scans taken × (more_needed scans ≤ length taken)))))
+IsPending at mode head items taken scans (fed.Done c back) = IsSettled mode head items taken scans (fed.Done c back)
+IsPending at mode head items taken scans (fed.Wrong error) = IsSettled mode head items taken scans (fed.Wrong error)
 
 -- of these items the command isn't whole yet, or it is, and what it didn't need is read again, or it is wrong
 abbrev pub IsTakenAll : Begun → List Item → Input → Begun → Input → Taken → Type 0

@@ -14,7 +14,7 @@ ghost use Rattle.tx_main.specs.Rests.{command_rest, held, more_needed, GoesOn, I
 ghost use Rattle.tx_main.specs.Taken.{joined, IsPending, IsSettled, IsTaken};
 ghost use Rattle.tx_main.specs.Turns.{given_back};
 
-use crate::scans::{Stage, Taken};
+use crate::scans::{Scans, Stage, Taken};
 use crate::types::{Command, Head, Prefixes};
 use std::alloc::{AllocError, Global};
 use std::marker::Model;
@@ -31,7 +31,7 @@ pub struct CommandScan {
     mode: Mode,
     head: Head,
     taken: Items<Item>,
-    stage: Stage,
+    scans: Scans,
 }
 
 impl Model for CommandScan {
@@ -42,7 +42,7 @@ impl Model for CommandScan {
 
     ghost view = { λ s. record { mode = s.mode; head = s.head; taken = s.taken } };
 
-    ghost invariant = { λ s. IsAt s.mode s.head s.taken s.stage };
+    ghost invariant = { λ s. IsAt s.mode s.head s.taken s.scans };
 }
 
 impl CommandScan {
@@ -54,7 +54,7 @@ impl CommandScan {
             mode,
             head: Head::Fresh,
             taken: Items::new(alloc),
-            stage: Stage::Start,
+            scans: Scans::new(alloc),
         }
     }
 
@@ -80,7 +80,7 @@ impl CommandScan {
         ensures { self.new ≡ record { mode = mode; head = self.old.head; taken = [] } }
     {
         self.mode = mode;
-        restart(&mut self.taken, &mut self.stage);
+        restart(&mut self.taken, &mut self.scans);
     }
 
     /// Begins a command behind this.
@@ -88,7 +88,7 @@ impl CommandScan {
         ensures { self.new ≡ record { mode = self.old.mode; head = head; taken = [] } }
     {
         self.head = head;
-        restart(&mut self.taken, &mut self.stage);
+        restart(&mut self.taken, &mut self.scans);
     }
 
     /// Begins a command that nothing stands before.
@@ -96,7 +96,7 @@ impl CommandScan {
         ensures { self.new ≡ record { mode = self.old.mode; head = Head.Fresh; taken = [] } }
     {
         if self.is_fresh() {
-            restart(&mut self.taken, &mut self.stage);
+            restart(&mut self.taken, &mut self.scans);
         } else {
             self.begin_behind(Head::Fresh);
         }
@@ -121,7 +121,6 @@ impl CommandScan {
     /// memory.
     pub fn feed(
         &mut self,
-        alloc: Global,
         table: &Eqtb,
         input: &mut Pending,
         token: Seen,
@@ -129,11 +128,10 @@ impl CommandScan {
         ensures { IfOk result (IsTaken (value_in table.now) self.old token input.old self.new input.new) }
     {
         let fed = take(
-            alloc,
             self.mode,
             &self.head,
             &mut self.taken,
-            &mut self.stage,
+            &mut self.scans,
             table,
             token,
         );
@@ -142,16 +140,16 @@ impl CommandScan {
             Ok(Fed::Need(_)) => unreachable!(),
             Ok(Fed::Done(command, back)) => {
                 let given = give_back(&mut self.taken, input, back);
-                restart(&mut self.taken, &mut self.stage);
+                restart(&mut self.taken, &mut self.scans);
                 given?;
                 Ok(Taken::Whole(command))
             }
             Ok(Fed::Wrong(error)) => {
-                restart(&mut self.taken, &mut self.stage);
+                restart(&mut self.taken, &mut self.scans);
                 Ok(Taken::Wrong(error))
             }
             Err(error) => {
-                restart(&mut self.taken, &mut self.stage);
+                restart(&mut self.taken, &mut self.scans);
                 Err(error)
             }
         }
@@ -159,46 +157,51 @@ impl CommandScan {
 }
 
 /// Nothing is taken of the next command.
-fn restart(taken: &mut Items<Item>, stage: &mut Stage)
+fn restart(taken: &mut Items<Item>, scans: &mut Scans)
     ensures taken { taken.new ≡ [] }
-    ensures stage { stage.new ≡ Stage.Start }
+    ensures scans { scans.new ≡ record scans.old { stage = Stage.Start } }
 {
     taken.clear();
-    *stage = Stage::Start;
+    scans.stage = Stage::Start;
 }
 
-/// Takes one token, and the values that the command needs behind it. Its only error is want of memory.
+/// Takes one token, and the values that the command needs behind it. A token that ends the command isn't kept, where it isn't
+/// given back. Its only error is want of memory.
 fn take(
-    alloc: Global,
     mode: Mode,
     head: &Head,
     taken: &mut Items<Item>,
-    stage: &mut Stage,
+    scans: &mut Scans,
     table: &Eqtb,
     token: Seen,
 ) -> Result<Fed<Command>, AllocError>
-    requires { IsAt mode head.now taken.old stage.old }
-    ensures { IfOk result (IsSettled mode head.now (joined (value_in table.now) mode head.now taken.old token) taken.new stage.new) }
+    requires { IsAt mode head.now taken.old scans.old }
+    ensures { IfOk result (IsSettled mode head.now (joined (value_in table.now) mode head.now taken.old token) taken.new scans.new) }
 {
-    let fed = stage.feed(alloc, mode, head, &token)?;
-    taken.push(Item::Took(token))?;
-    settle(taken, stage, table, fed)
+    match scans.feed(mode, head, &token)? {
+        Fed::Done(command, 0) => Ok(Fed::Done(command, 0)),
+        Fed::Wrong(error) => Ok(Fed::Wrong(error)),
+        fed => {
+            taken.push(Item::Took(token))?;
+            settle(taken, scans, table, fed)
+        }
+    }
 }
 
 /// Gives the values that the command needs, as the table has them, until it needs none. Its only error is want of memory.
 fn settle(
     taken: &mut Items<Item>,
-    stage: &mut Stage,
+    scans: &mut Scans,
     table: &Eqtb,
     fed: Fed<Command>,
 ) -> Result<Fed<Command>, AllocError>
-    requires { GoesOn stage.old fed }
-    ensures { (mode : Mode) (head : Head) (items : List Item) → IsPending (value_in table.now) mode head items taken.old stage.old fed → IfOk result (IsSettled mode head items taken.new stage.new) }
+    requires { GoesOn scans.old fed }
+    ensures { (mode : Mode) (head : Head) (items : List Item) → IsPending (value_in table.now) mode head items taken.old scans.old fed → IfOk result (IsSettled mode head items taken.new scans.new) }
 {
     let mut fed = fed;
     loop {
         match fed {
-            Fed::Need(kind) => fed = give(taken, stage, table, &kind)?,
+            Fed::Need(kind) => fed = give(taken, scans, table, &kind)?,
             settled => return Ok(settled),
         }
     }
@@ -207,20 +210,20 @@ fn settle(
 /// Gives the value that is needed. Its only error is want of memory.
 fn give(
     taken: &mut Items<Item>,
-    stage: &mut Stage,
+    scans: &mut Scans,
     table: &Eqtb,
     kind: &Kind,
 ) -> Result<Fed<Command>, AllocError>
-    requires { IsAssigning stage.old }
-    ensures given { (mode : Mode) (head : Head) → IfOk result (IsGivenBy (command_rest mode head) held stage.old (value_for (value_in table.now) kind.now) stage.new) }
-    ensures needs { IfOk result (NeedsFewer (more_needed stage.old) (more_needed stage.new)) }
-    ensures on { IfOk result (GoesOn stage.new) }
+    requires { IsAssigning scans.old.stage }
+    ensures given { (mode : Mode) (head : Head) → IfOk result (IsGivenBy (command_rest mode head) held scans.old (value_for (value_in table.now) kind.now) scans.new) }
+    ensures needs { IfOk result (NeedsFewer (more_needed scans.old) (more_needed scans.new)) }
+    ensures on { IfOk result (GoesOn scans.new) }
     ensures taken { OnOk result (taken.new ≡ taken.old ++ Gave (value_for (value_in table.now) kind.now) ∷ []) }
 {
     match kind {
         Kind::Quantity(place) => {
             let value = table.quantity(place);
-            let fed = stage.give(&value)?;
+            let fed = scans.give(&value)?;
             taken.push(Item::Gave(value))?;
             Ok(fed)
         }
@@ -255,7 +258,7 @@ impl Clone for CommandScan {
             mode: self.mode,
             head: self.head.share()?,
             taken: self.taken.clone()?,
-            stage: self.stage.clone()?,
+            scans: self.scans.clone()?,
         })
     }
 }

@@ -1,14 +1,14 @@
 //! The sides and sizes of a rule, token by token (TeX: The Program, section 463).
-ghost use Rattle.std.specs.Prelude.{◌≡◌, ◌∷◌, [], Bool, ℕ, ℤ, List, IfOk};
+ghost use Rattle.std.specs.Prelude.{◌≡◌, ◌<◌, ◌∷◌, [], Bool, ℕ, ℤ, List, length, IfOk};
 ghost use Rattle.tx_seen.specs.declared.item.Item.{Item};
 ghost use Rattle.tx_seen.specs.declared.item.Item.TheVariants.{Took};
 ghost use Rattle.tx_seen.specs.Readings.{Reading, next};
-ghost use Rattle.tx_scan.specs.Rests.{HasTakenBy, IsFedBy, IsRead};
+ghost use Rattle.tx_scan.specs.Rests.{IsFedBy, IsRead};
 ghost use Rattle.tx_scan.specs.Keywords.{rest as key_rest, held as key_held, IsReadOn};
 ghost use Rattle.tx_scan.specs.DimensionRests.{rest as dimen_rest, IsSize};
 ghost use Rattle.tx_scan.specs.GrammarRests.{held_none};
 ghost use Rattle.tx_main.specs.Rules as spec;
-ghost use Rattle.tx_main.specs.Rests.{rule_rest, rule_held, IsUnnamed, IsRuleFed};
+ghost use Rattle.tx_main.specs.Rests.{rule_rest, rule_held, IsUnnamed, IsNameFed, IsRuleFed};
 
 use crate::scans::{RulePart, RuleScan};
 use crate::types::Side;
@@ -81,82 +81,81 @@ fn with_side(rule: Rule, side: Side, size: i32) -> Rule
 }
 
 impl RuleScan {
-    /// The scan of a rule of which no side is read.
-    pub(crate) fn new(kind: RuleKind) -> RuleScan
-        ensures rule { result.rule ≡ spec.plain_rule kind }
-        ensures part { result.part ≡ RulePart.Start }
-    {
+    /// The scan of a rule of no kind yet. It takes no memory.
+    pub(crate) fn new(alloc: Global) -> RuleScan {
         RuleScan {
-            rule: plain_rule(kind),
+            rule: plain_rule(RuleKind::Vertical),
             part: RulePart::Start,
+            size: DimenScan::new(alloc),
         }
     }
 
+    /// A rule is begun of which no side is read.
+    pub(crate) fn begin(&mut self, kind: RuleKind)
+        ensures rule { self.new.rule ≡ spec.plain_rule kind }
+        ensures part { self.new.part ≡ RulePart.Start }
+    {
+        self.rule = plain_rule(kind);
+        self.part = RulePart::Start;
+    }
+
     /// Takes one token. Its only error is want of memory.
-    pub(crate) fn feed(&mut self, alloc: Global, token: &Seen) -> Result<Fed<Rule>, AllocError>
+    pub(crate) fn feed(&mut self, token: &Seen) -> Result<Fed<Rule>, AllocError>
         requires { IsUnnamed self.old.part }
         ensures fed { IfOk result (IsFedBy rule_rest rule_held self.old token.now self.new) }
         ensures on { IfOk result (IsRuleFed self.new) }
     {
-        match &mut self.part {
-            RulePart::Start => self.feed_start(alloc, token),
-            RulePart::Name(side, scan) => {
-                let side = *side;
-                let fed = scan.feed(token);
-                Ok(self.named(alloc, side, fed))
-            }
-            RulePart::Size(side, scan) => {
-                let side = *side;
-                let fed = scan.feed(token)?;
-                self.sized(alloc, side, fed, token)
+        match self.part {
+            RulePart::Start => Ok(self.feed_start(token)),
+            RulePart::Name(side, scan) => Ok(self.feed_name(side, scan, token)),
+            RulePart::Size(side) => {
+                let fed = self.size.feed(token)?;
+                Ok(self.sized(side, fed, token))
             }
         }
     }
 
-    /// A space, the first letter of a side's name, or what stands behind the rule. Its only error is want of memory.
-    fn feed_start(&mut self, alloc: Global, token: &Seen) -> Result<Fed<Rule>, AllocError>
+    /// A space, the first letter of a side's name, or what stands behind the rule.
+    fn feed_start(&mut self, token: &Seen) -> Fed<Rule>
         requires { self.old.part ≡ RulePart.Start }
-        ensures fed { IfOk result (IsRead rule_rest rule_held 1 (λ more. spec.rule_sides self.old.rule (Took token.now ∷ more)) (Took token.now ∷ []) self.new) }
-        ensures on { IfOk result (IsRuleFed self.new) }
+        ensures fed { IsRead rule_rest rule_held 1 (λ more. spec.rule_sides self.old.rule (Took token.now ∷ more)) (Took token.now ∷ []) self.new result }
+        ensures on { IsRuleFed self.new result }
     {
         if token.is_undefined() {
-            return Ok(Fed::Wrong(TexError::Undefined));
+            return Fed::Wrong(TexError::Undefined);
         }
         if token.is_space() {
-            return Ok(Fed::More(Want::Expanded));
+            return Fed::More(Want::Expanded);
         }
         match side_begun(token) {
-            None => Ok(Fed::Done(self.rule, 1)),
-            Some(side) => self.feed_letter(alloc, side, token),
+            None => Fed::Done(self.rule, 1),
+            Some(side) => self.feed_name(side, KeyScan::new(), token),
         }
     }
 
-    /// The first letter of a side's name. Its only error is want of memory.
-    fn feed_letter(
-        &mut self,
-        alloc: Global,
-        side: Side,
-        token: &Seen,
-    ) -> Result<Fed<Rule>, AllocError>
-        ensures fed { IfOk result (IsRead rule_rest rule_held 1 (λ more. next (spec.side_or_none side (Took token.now ∷ more)) (spec.side_or_end spec.rule_sides self.old.rule)) (Took token.now ∷ []) self.new) }
-        ensures on { IfOk result (IsRuleFed self.new) }
+    /// A letter of the name of this side, of which so much is read.
+    fn feed_name(&mut self, side: Side, scan: KeyScan, token: &Seen) -> Fed<Rule>
+        requires { scan.read < length (spec.letters_of side) }
+        ensures fed { IsNameFed side scan self.old.rule token.now self.new result }
+        ensures on { IsRuleFed self.new result }
     {
-        let mut scan = KeyScan::new(alloc, name_of(side))?;
-        let fed = scan.feed(token);
+        let mut scan = scan;
+        let fed = scan.feed(name_of(side), token);
         self.part = RulePart::Name(side, scan);
-        Ok(self.named(alloc, side, fed))
+        self.named(side, fed)
     }
 
     /// What becomes of the rule by what the scan of this side's name answers.
-    fn named(&mut self, alloc: Global, side: Side, fed: Fed<bool>) -> Fed<Rule>
-        ensures fed { (scan : KeyScan) (most : ℕ) (reading : List Item → Reading Bool) (tokens : List Item) → self.old.part ≡ RulePart.Name side scan → IsRead key_rest key_held most reading tokens scan fed → IsReadOn scan fed → IsRead rule_rest rule_held most (λ more. next (next (reading more) (spec.side_if side)) (spec.side_or_end spec.rule_sides self.old.rule)) tokens self.new result }
-        ensures on { (scan : KeyScan) → self.old.part ≡ RulePart.Name side scan → IsReadOn scan fed → IsRuleFed self.new result }
+    fn named(&mut self, side: Side, fed: Fed<bool>) -> Fed<Rule>
+        ensures fed { (scan : KeyScan) (most : ℕ) (reading : List Item → Reading Bool) (tokens : List Item) → self.old.part ≡ RulePart.Name side scan → IsRead (key_rest (spec.letters_of side)) key_held most reading tokens scan fed → IsReadOn (spec.letters_of side) scan fed → IsRead rule_rest rule_held most (λ more. next (next (reading more) (spec.side_if side)) (spec.side_or_end spec.rule_sides self.old.rule)) tokens self.new result }
+        ensures on { (scan : KeyScan) → self.old.part ≡ RulePart.Name side scan → IsReadOn (spec.letters_of side) scan fed → IsRuleFed self.new result }
     {
         match fed {
             Fed::More(want) => Fed::More(want),
             Fed::Need(kind) => Fed::Need(kind),
             Fed::Done(true, _) => {
-                self.part = RulePart::Size(side, DimenScan::new(alloc));
+                self.size.restart();
+                self.part = RulePart::Size(side);
                 Fed::More(Want::Expanded)
             }
             Fed::Done(false, back) => Fed::Done(self.rule, back),
@@ -164,30 +163,24 @@ impl RuleScan {
         }
     }
 
-    /// What becomes of the rule by what the scan of this side's size answers to a token. Its only error is want of memory.
-    fn sized(
-        &mut self,
-        alloc: Global,
-        side: Side,
-        fed: Fed<i64>,
-        token: &Seen,
-    ) -> Result<Fed<Rule>, AllocError>
+    /// What becomes of the rule by what the scan of this side's size answers to a token.
+    fn sized(&mut self, side: Side, fed: Fed<i64>, token: &Seen) -> Fed<Rule>
         requires { IsSize fed }
-        ensures fed { (scan : DimenScan) (reading : List Item → Reading ℤ) → self.old.part ≡ RulePart.Size side scan → IsRead dimen_rest held_none 1 reading (Took token.now ∷ []) scan fed → IfOk result (IsRead rule_rest rule_held 1 (λ more. next (reading more) (λ size behind. spec.rule_sides (spec.with_side self.old.rule side size) behind)) (Took token.now ∷ []) self.new) }
-        ensures on { (scan : DimenScan) → self.old.part ≡ RulePart.Size side scan → IfOk result (IsRuleFed self.new) }
+        ensures fed { (reading : List Item → Reading ℤ) → self.old.part ≡ RulePart.Size side → IsRead dimen_rest held_none 1 reading (Took token.now ∷ []) self.old.size fed → IsRead rule_rest rule_held 1 (λ more. next (reading more) (λ size behind. spec.rule_sides (spec.with_side self.old.rule side size) behind)) (Took token.now ∷ []) self.new result }
+        ensures on { self.old.part ≡ RulePart.Size side → IsRuleFed self.new result }
     {
         match fed {
-            Fed::More(want) => Ok(Fed::More(want)),
-            Fed::Need(kind) => Ok(Fed::Need(kind)),
+            Fed::More(want) => Fed::More(want),
+            Fed::Need(kind) => Fed::Need(kind),
             Fed::Done(size, back) => {
                 self.rule = with_side(self.rule, side, size as i32);
                 self.part = RulePart::Start;
                 if back == 0 {
-                    return Ok(Fed::More(Want::Expanded));
+                    return Fed::More(Want::Expanded);
                 }
-                self.feed_start(alloc, token)
+                self.feed_start(token)
             }
-            Fed::Wrong(error) => Ok(Fed::Wrong(error)),
+            Fed::Wrong(error) => Fed::Wrong(error),
         }
     }
 }

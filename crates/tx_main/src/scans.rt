@@ -3,18 +3,18 @@ use crate::types::{BoxContext, Command, Side};
 use tx_assign::AssignScan;
 use tx_node::Rule;
 use tx_prim::{BoxKind, RuleKind, Shorthand, SizeKind};
-use tx_scan::{BraceScan, DimenScan, KeyScan, NameScan};
+use tx_scan::{DimenScan, KeyScan};
 use tx_seen::TexError;
 
 /// The part of a rule that comes next.
-#[derive(Drop)]
+#[derive(Clone, Copy)]
 pub enum RulePart {
     /// The name of a side, if there is one, with spaces before it.
     Start,
     /// The name of this side.
     Name(Side, KeyScan),
     /// The size of this side.
-    Size(Side, DimenScan),
+    Size(Side),
 }
 
 /// The sides and sizes of a rule that are being read.
@@ -23,25 +23,36 @@ pub struct RuleScan {
     /// The rule as it is so far.
     pub rule: Rule,
     pub part: RulePart,
+    /// The size of a side.
+    pub size: DimenScan,
 }
 
-/// A command that is being read.
-#[derive(Drop)]
+/// The part of a command that comes next.
+#[derive(Clone, Copy)]
 pub enum Stage {
     /// Its first token.
     Start,
     /// An assignment.
-    Assign(AssignScan),
+    Assign,
     /// The name that \chardef or its kin defines.
-    Name(Shorthand, NameScan),
+    Name(Shorthand),
     /// The size of which this is made.
-    Sized(SizeKind, DimenScan),
+    Sized(SizeKind),
     /// The sides of a rule of this kind.
-    Rule(RuleKind, RuleScan),
+    Rule(RuleKind),
     /// The box of a \shipout, with spaces and \relax before it.
     ShippedBox,
     /// The begin-group token of a box of this kind, of which this becomes.
-    BoxBegin(BoxKind, BoxContext, BraceScan),
+    BoxBegin(BoxKind, BoxContext),
+}
+
+/// The scans of the parts of commands. They are begun anew in place, so that a token moves none of them.
+#[derive(Drop)]
+pub struct Scans {
+    pub stage: Stage,
+    pub assignment: AssignScan,
+    pub size: DimenScan,
+    pub rule: RuleScan,
 }
 
 /// What taking a token to a command gives.

@@ -42,7 +42,7 @@ fn take(alloc: Global, s: &mut State, token: Token) -> Result<Event, AllocError>
 {
     let meaning = s.table.meaning(&token)?;
     let seen = Seen { token, meaning };
-    match s.scan.feed(alloc, &s.table, &mut s.input, seen)? {
+    match s.scan.feed(&s.table, &mut s.input, seen)? {
         Taken::More => Ok(Event::Went),
         Taken::Wrong(error) => Ok(fail(s, error)),
         Taken::Whole(command) => carry_out(alloc, s, command),

@@ -17,7 +17,7 @@ use crate::places::Cursor;
 use crate::within::{box_lies, further};
 use std::alloc::{AllocError, Global};
 use tx_bytes::Bytes;
-use tx_dvi::{DateParameters, PageBody};
+use tx_dvi::{DateParameters, PageBody, PageParts};
 use tx_node::BoxNode;
 
 /// The greatest size of a page, in sp.
@@ -128,7 +128,7 @@ fn mag_of(params: &ShipParams) -> u16
 }
 
 /// The page with these sizes and commands.
-fn page_with(node: &BoxNode, params: &ShipParams, sizes: PageSizes, commands: Bytes) -> PageBody
+fn page_with(node: &BoxNode, params: &ShipParams, sizes: PageSizes, commands: Bytes) -> PageParts
     requires mag { spec.IsMag params.now.mag }
     requires height { sizes.height ≡ int_max (pos 0) (spec.page_height node.now params.now) }
     requires width { sizes.width ≡ int_max (pos 0) (spec.page_width node.now params.now) }
@@ -139,7 +139,7 @@ fn page_with(node: &BoxNode, params: &ShipParams, sizes: PageSizes, commands: By
     let nesting = list_level(node.list());
     let within = nesting < most;
     prove!(within);
-    PageBody {
+    PageParts {
         body: commands,
         counts: params.counts,
         height: sizes.height,
@@ -170,5 +170,6 @@ pub fn body(alloc: Global, node: &BoxNode, params: &ShipParams) -> Result<PageBo
     if commands.len() > MAX_BODY {
         return Err(ShipError::BodyTooLong);
     }
-    Ok(page_with(node, params, sizes, commands))
+    let parts = page_with(node, params, sizes, commands);
+    Ok(PageBody::new(alloc, parts)?)
 }

@@ -6,7 +6,7 @@ pub loop-fed-preserved-in_ok-fed-in-Need : goal.loop-fed-preserved-in_ok-fed-in-
 loop-fed-preserved-in_ok-fed-in-Need c = record {
   pending = λ mode head items p.
       rw c.in_ok-fed-in-Need.ensures.taken
-      (value-pending (value_in c.args.table.now) mode head items c.loop-fed.taken c.in-Need.kind c.loop-fed.stage c.give.new.stage c.in_ok-fed-in-Need.fed
+      (value-pending (value_in c.args.table.now) mode head items c.loop-fed.taken c.in-Need.kind c.loop-fed.scans c.give.new.scans c.in_ok-fed-in-Need.fed
       (rw c.in-Need.is at (c.loop-fed.invariant.pending mode head items p))
       (c.in_ok-fed-in-Need.ensures.given mode head) c.in_ok-fed-in-Need.ensures.needs c.in_ok-fed-in-Need.ensures.on);
   on = c.in_ok-fed-in-Need.ensures.on;
@@ -16,7 +16,7 @@ pub loop-fed-preserved : goal.loop-fed-preserved
 loop-fed-preserved c = record {
   pending = λ mode head items p.
       rw c.in_ok-fed-in-Need.ensures.taken
-      (value-pending (value_in c.args.table.now) mode head items c.loop-fed.taken c.in-Need.kind c.loop-fed.stage c.give.new.stage c.in_ok-fed-in-Need.fed
+      (value-pending (value_in c.args.table.now) mode head items c.loop-fed.taken c.in-Need.kind c.loop-fed.scans c.give.new.scans c.in_ok-fed-in-Need.fed
       (rw c.in-Need.is at (c.loop-fed.invariant.pending mode head items p))
       (c.in_ok-fed-in-Need.ensures.given mode head) c.in_ok-fed-in-Need.ensures.needs c.in_ok-fed-in-Need.ensures.on);
   on = c.in_ok-fed-in-Need.ensures.on;
@@ -24,4 +24,4 @@ loop-fed-preserved c = record {
 
 pub returns-in_default : goal.returns-in_default
 returns-in_default c = λ mode head items p.
-    pending-settled (value_in c.args.table.now) mode head items c.loop-fed.taken c.loop-fed.stage c.loop-fed.fed c.in_default.not-Need (c.loop-fed.invariant.pending mode head items p)
+    pending-settled (value_in c.args.table.now) mode head items c.loop-fed.taken c.loop-fed.scans c.loop-fed.fed c.in_default.not-Need (c.loop-fed.invariant.pending mode head items p)

@@ -10,9 +10,9 @@ use Rattle.tx_main.proofs.command.settle.Given as goal
 
 abbrev pub invariant-loop-fed : goal.invariant-loop-fed
 invariant-loop-fed l = record {
-  pending : (mode : Mode) (head : Head) (items : List Item) → IsPending (value_in l.table) mode head items l.initial.taken l.initial.stage l.initial.fed → IsPending (value_in l.table) mode head items l.taken l.stage l.fed;
-  on : GoesOn l.stage l.fed;
+  pending : (mode : Mode) (head : Head) (items : List Item) → IsPending (value_in l.table) mode head items l.initial.taken l.initial.scans l.initial.fed → IsPending (value_in l.table) mode head items l.taken l.scans l.fed;
+  on : GoesOn l.scans l.fed;
 }
 
 abbrev pub decreases-loop-fed : goal.decreases-loop-fed
-decreases-loop-fed l = needed l.fed (more_needed l.stage)
+decreases-loop-fed l = needed l.fed (more_needed l.scans)

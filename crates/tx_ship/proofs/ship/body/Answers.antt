@@ -9,11 +9,11 @@ pub returns-clause-page : goal.returns-clause-page
 returns-clause-page c =
     page-is c.args.node.now c.args.params.now c.from_vec-commands.result (sym c.in-Some.ensures.fit) (sym c.if-not-lies.ensures) (c.from_vec-commands.ensures ∙ c.in_ok-page_commands.ensures)
     (omega (arith, c.len.ensures, c.if-len-gt-MAX_BODY.false))
-    ∙ ap Ok (sym c.page_with.ensures)
+    ∙ ap Ok (sym (c.in_ok-new.ensures ∙ c.page_with-parts.ensures))
 
 pub returns-clause-meaning : goal.returns-clause-meaning
 returns-clause-meaning c =
-    ap (λ page. meaning page.body) c.page_with.ensures ∙ ap meaning (c.from_vec-commands.ensures ∙ c.in_ok-page_commands.ensures)
+    ap (λ page. meaning page.body) (c.in_ok-new.ensures ∙ c.page_with-parts.ensures) ∙ ap meaning (c.from_vec-commands.ensures ∙ c.in_ok-page_commands.ensures)
     ∙ page-means c.args.node.now c.args.params.now.hoffset c.args.params.now.voffset (sym c.if-not-lies.ensures)
 
 pub returns-in_default-clause-error : goal.returns-in_default-clause-error

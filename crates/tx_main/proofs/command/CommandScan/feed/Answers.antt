@@ -5,7 +5,7 @@ use Rattle.tx_seen.specs.declared.item.Item.{Item}
 use Rattle.tx_seen.specs.Readings.{last}
 use Rattle.tx_main.specs.Taken.{joined}
 use Rattle.tx_main.specs.Begun.{Begun}
-use Rattle.tx_main.specs.Turns.{given_back}
+use Rattle.tx_char.specs.declared.tokens.Token.{Token}
 use Rattle.tx_main.proofs.command.CommandScan.feed.Goals as goal
 
 pub returns-in-Ok-More : goal.returns-in-Ok-More
@@ -21,7 +21,7 @@ returns-in_ok-given-in-Ok-Done c =
     let begun : List Item → Begun = λ taken. record { mode = c.self.inside.mode; head = c.self.inside.head; taken = taken } in
     rw (← c.self.view_is) (
       last c.in-Ok-Done.back items,
-      (settled.0, (ap begun c.restart.ensures.taken, c.in_ok-given-in-Ok-Done.ensures ∙ ap (λ (taken : List Item). with_tokens c.args.input.now (given_back (last c.in-Ok-Done.back taken))) settled.1)),
+      (settled.0, (ap begun c.restart.ensures.taken, c.in_ok-given-in-Ok-Done.ensures ∙ ap (λ (tokens : List Token). with_tokens c.args.input.now tokens) settled.1)),
     )
 
 pub returns-in-Ok-Wrong : goal.returns-in-Ok-Wrong

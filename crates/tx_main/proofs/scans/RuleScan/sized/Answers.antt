@@ -3,11 +3,11 @@ use Rattle.tx_main.proofs.RuleSteps.{size-whole, size-before}
 use Rattle.tx_main.proofs.scans.RuleScan.sized.Goals as goal
 
 pub returns-then-back-eq0-clause-fed : goal.returns-then-back-eq0-clause-fed
-returns-then-back-eq0-clause-fed c = λ scan reading part k.
-    size-whole c.args.self.now.rule c.with_side-self.result c.args.side c.in-Done.size reading c.args.token.now scan c.in-Done.back
-    (rw c.in-Done.is at k) (search rules) (search rules)
+returns-then-back-eq0-clause-fed c = λ reading part k.
+    size-whole c.args.self.now.rule c.args.side c.in-Done.size reading c.args.token.now c.args.self.now.size c.in-Done.back _
+    (rw c.in-Done.is at k) (search rules) (search rules) (search rules)
 
 pub returns-else-back-eq0-clause-fed : goal.returns-else-back-eq0-clause-fed
-returns-else-back-eq0-clause-fed c = λ scan reading part k.
-    size-before c.args.self.now.rule c.with_side-self.result c.args.side c.in-Done.size reading c.args.token.now scan c.in-Done.back c.feed_start.new.self c.feed_start.result
+returns-else-back-eq0-clause-fed c = λ reading part k.
+    size-before c.args.self.now.rule c.with_side-self.result c.args.side c.in-Done.size reading c.args.token.now c.args.self.now.size c.in-Done.back c.feed_start.new.self c.feed_start.result
     (rw c.in-Done.is at k) (search rules) (search rules) c.feed_start.ensures.fed

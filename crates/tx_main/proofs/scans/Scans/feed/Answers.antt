@@ -1,0 +1,90 @@
+use Rattle.std.proofs.Common.{refl}
+use Rattle.tx_scan.specs.DimensionRests.{rest as dimen_rest}
+use Rattle.tx_scan.specs.GrammarRests.{held_none, name_rest, brace_rest}
+use Rattle.tx_assign.specs.Rests.{rest as assign_rest, held as assign_held}
+use Rattle.tx_main.specs.declared.scans.Stage.TheVariants as stage
+use Rattle.tx_main.specs.declared.types.Command.TheVariants.{Assign, Define, Sized, Rule, BeginBox}
+use Rattle.tx_main.specs.Rests.{rule_rest, rule_held}
+use Rattle.tx_main.proofs.Stages.{part-fed, part-needs, part-goes, size-goes, rule-goes, assign-needs, assign-goes, start-fed, start-needs, start-goes, box-fed}
+use Rattle.tx_main.proofs.scans.Scans.feed.Goals as goal
+
+pub returns-in-Start-clause-fed : goal.returns-in-Start-clause-fed
+returns-in-Start-clause-fed c =
+    start-fed c.args.mode c.args.head.now c.args.token.now c.args.self.now c.feed_first.new.self c.feed_first.result c.in-Start.is c.feed_first.ensures
+
+pub returns-in-Start-clause-needs : goal.returns-in-Start-clause-needs
+returns-in-Start-clause-needs c =
+    start-needs c.args.mode c.args.head.now c.args.token.now c.args.self.now c.feed_first.new.self c.feed_first.result c.in-Start.is c.feed_first.ensures
+
+pub returns-in-Start-clause-on : goal.returns-in-Start-clause-on
+returns-in-Start-clause-on c = start-goes c.args.mode c.args.head.now c.args.token.now c.feed_first.new.self c.feed_first.result c.feed_first.ensures
+
+pub returns-in-ShippedBox-clause-fed : goal.returns-in-ShippedBox-clause-fed
+returns-in-ShippedBox-clause-fed c =
+    box-fed c.args.mode c.args.head.now c.args.token.now c.args.self.now c.feed_box.new.self c.feed_box.result c.in-ShippedBox.is (c.feed_box.ensures c.args.mode c.args.head.now)
+
+pub returns-in-ShippedBox-clause-needs : goal.returns-in-ShippedBox-clause-needs
+returns-in-ShippedBox-clause-needs c = rw c.in-ShippedBox.is (c.feed_box.ensures c.args.mode c.args.head.now).needs
+
+pub returns-in-ShippedBox-clause-on : goal.returns-in-ShippedBox-clause-on
+returns-in-ShippedBox-clause-on c = (c.feed_box.ensures c.args.mode c.args.head.now).goes_on
+
+pub returns-in_ok-feed-in-Assign-clause-fed : goal.returns-in_ok-feed-in-Assign-clause-fed
+returns-in_ok-feed-in-Assign-clause-fed c =
+    rw c.assigned.ensures
+    (part-fed assign_rest assign_held Assign stage.Assign c.args.mode c.args.head.now c.args.self.now.assignment c.feed.new.self c.args.self.now _ c.args.token.now c.in_ok-feed-in-Assign.field-0 c.in-Assign.is c.in-Assign.is
+    (λ behind item more. refl) refl (λ behind item more. refl) refl c.in_ok-feed-in-Assign.ensures.part)
+
+pub returns-in_ok-feed-in-Assign-clause-needs : goal.returns-in_ok-feed-in-Assign-clause-needs
+returns-in_ok-feed-in-Assign-clause-needs c = rw c.assigned.ensures (assign-needs c.args.self.now _ c.in_ok-feed-in-Assign.field-0 c.in-Assign.is c.in-Assign.is c.in_ok-feed-in-Assign.ensures.needed)
+
+pub returns-in_ok-feed-in-Assign-clause-on : goal.returns-in_ok-feed-in-Assign-clause-on
+returns-in_ok-feed-in-Assign-clause-on c = rw c.assigned.ensures (assign-goes _ c.in_ok-feed-in-Assign.field-0 c.in-Assign.is)
+
+pub returns-in_ok-feed-in-Name-clause-fed : goal.returns-in_ok-feed-in-Name-clause-fed
+returns-in_ok-feed-in-Name-clause-fed c =
+    rw c.defined.ensures
+    (part-fed name_rest held_none (λ name. Define name c.in-Name.kind) (stage.Name c.in-Name.kind) c.args.mode c.args.head.now c.new.result c.feed-in-Name.new.self c.args.self.now _ c.args.token.now c.in_ok-feed-in-Name.field-0 c.in-Name.is c.in-Name.is
+    (λ behind item more. refl) refl (λ behind item more. refl) refl c.in_ok-feed-in-Name.ensures.part)
+
+pub returns-in_ok-feed-in-Name-clause-needs : goal.returns-in_ok-feed-in-Name-clause-needs
+returns-in_ok-feed-in-Name-clause-needs c = part-needs c.args.self.now _ c.defined.result (rw c.in-Name.is refl)
+
+pub returns-in_ok-feed-in-Name-clause-on : goal.returns-in_ok-feed-in-Name-clause-on
+returns-in_ok-feed-in-Name-clause-on c = rw c.defined.ensures (part-goes (λ name. Define name c.in-Name.kind) _ c.in_ok-feed-in-Name.field-0 (rw c.in-Name.is tt) c.in_ok-feed-in-Name.ensures.nothing)
+
+pub returns-in_ok-feed-in-Sized-clause-fed : goal.returns-in_ok-feed-in-Sized-clause-fed
+returns-in_ok-feed-in-Sized-clause-fed c =
+    rw c.sized.ensures
+    (part-fed dimen_rest held_none (λ size. Sized c.in-Sized.kind size) (stage.Sized c.in-Sized.kind) c.args.mode c.args.head.now c.args.self.now.size c.feed-in-Sized.new.self c.args.self.now _ c.args.token.now c.in_ok-feed-in-Sized.field-0 c.in-Sized.is c.in-Sized.is
+    (λ behind item more. refl) refl (λ behind item more. refl) refl c.in_ok-feed-in-Sized.ensures.part)
+
+pub returns-in_ok-feed-in-Sized-clause-needs : goal.returns-in_ok-feed-in-Sized-clause-needs
+returns-in_ok-feed-in-Sized-clause-needs c = part-needs c.args.self.now _ c.sized.result (rw c.in-Sized.is refl)
+
+pub returns-in_ok-feed-in-Sized-clause-on : goal.returns-in_ok-feed-in-Sized-clause-on
+returns-in_ok-feed-in-Sized-clause-on c = rw c.sized.ensures (size-goes (λ size. Sized c.in-Sized.kind size) _ c.in_ok-feed-in-Sized.field-0 (rw c.in-Sized.is tt) c.in_ok-feed-in-Sized.ensures.size)
+
+pub returns-in_ok-feed-in-Rule-clause-fed : goal.returns-in_ok-feed-in-Rule-clause-fed
+returns-in_ok-feed-in-Rule-clause-fed c =
+    rw c.ruled.ensures
+    (part-fed rule_rest rule_held (λ rule. Rule c.in-Rule.kind rule) (stage.Rule c.in-Rule.kind) c.args.mode c.args.head.now c.args.self.now.rule c.feed-in-Rule.new.self c.args.self.now _ c.args.token.now c.in_ok-feed-in-Rule.field-0 c.in-Rule.is c.in-Rule.is
+    (λ behind item more. refl) refl (λ behind item more. refl) refl c.in_ok-feed-in-Rule.ensures.fed)
+
+pub returns-in_ok-feed-in-Rule-clause-needs : goal.returns-in_ok-feed-in-Rule-clause-needs
+returns-in_ok-feed-in-Rule-clause-needs c = part-needs c.args.self.now _ c.ruled.result (rw c.in-Rule.is refl)
+
+pub returns-in_ok-feed-in-Rule-clause-on : goal.returns-in_ok-feed-in-Rule-clause-on
+returns-in_ok-feed-in-Rule-clause-on c = rw c.ruled.ensures (rule-goes (λ rule. Rule c.in-Rule.kind rule) c.in-Rule.kind _ c.in_ok-feed-in-Rule.field-0 c.in-Rule.is c.in_ok-feed-in-Rule.ensures.on)
+
+pub returns-in-BoxBegin-clause-fed : goal.returns-in-BoxBegin-clause-fed
+returns-in-BoxBegin-clause-fed c =
+    rw c.begun_box.ensures
+    (part-fed brace_rest held_none (λ _. BeginBox c.in-BoxBegin.kind c.in-BoxBegin.context) (stage.BoxBegin c.in-BoxBegin.kind c.in-BoxBegin.context) c.args.mode c.args.head.now c.new-in-BoxBegin.result c.feed-in-BoxBegin.new.self c.args.self.now _ c.args.token.now c.feed-in-BoxBegin.result c.in-BoxBegin.is c.in-BoxBegin.is
+    (λ behind item more. refl) refl (λ behind item more. refl) refl c.feed-in-BoxBegin.ensures.part)
+
+pub returns-in-BoxBegin-clause-needs : goal.returns-in-BoxBegin-clause-needs
+returns-in-BoxBegin-clause-needs c = part-needs c.args.self.now _ c.begun_box.result (rw c.in-BoxBegin.is refl)
+
+pub returns-in-BoxBegin-clause-on : goal.returns-in-BoxBegin-clause-on
+returns-in-BoxBegin-clause-on c = rw c.begun_box.ensures (part-goes (λ _. BeginBox c.in-BoxBegin.kind c.in-BoxBegin.context) _ c.feed-in-BoxBegin.result (rw c.in-BoxBegin.is tt) c.feed-in-BoxBegin.ensures.nothing)
