@@ -1,5 +1,5 @@
 -- A rule, part by part.
-use Rattle.std.proofs.Common.{◌≡◌, ◌≤◌, ◌<◌, ◌+◌, ℕ, zero, suc, Bool, true, false, ℤ, Some, List, [], ◌∷◌, ◌++◌, length, Result, Ok, Err, IfOk, refl, ap, sym, subst, ◌∙◌, arith}
+use Rattle.std.proofs.Common.{◌≡◌, ◌≤◌, ◌<◌, ℕ, zero, suc, true, false, ℤ, Some, List, [], ◌∷◌, ◌++◌, length, refl, ap, sym, subst, ◌∙◌, arith}
 use Rattle.tx_node.specs.declared.rule.Rule.{Rule}
 use Rattle.tx_seen.specs.declared.fed.Fed.{Fed}
 use Rattle.tx_seen.specs.declared.fed.Fed.TheVariants as fed
@@ -19,7 +19,7 @@ use Rattle.tx_main.specs.declared.types.Side.{Side}
 use Rattle.tx_main.specs.declared.types.Side.TheVariants as side
 use Rattle.tx_main.specs.declared.scans.RulePart.TheVariants as rule
 use Rattle.tx_main.specs.declared.scans.RuleScan.{RuleScan}
-use Rattle.tx_main.specs.Rules.{letters_of, side_begun_by, side_if, side_or_none, named_side, side_named, side_or_end, with_side, rule_sides}
+use Rattle.tx_main.specs.Rules.{letters_of, side_begun_by, side_or_none, named_side, side_named, side_or_end, with_side, rule_sides}
 use Rattle.tx_main.specs.Rests.{rule_part_rest, rule_part_held, rule_rest, rule_held, IsNameFed}
 use Rattle.tx_main.proofs.Reading.{same-read, fed-first}
 use Rattle.tx_main.proofs.Sides.{rule-sides}

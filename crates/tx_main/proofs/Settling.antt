@@ -20,7 +20,7 @@ use Rattle.tx_main.specs.declared.types.Command.{Command}
 use Rattle.tx_main.specs.declared.types.Head.{Head}
 use Rattle.tx_main.specs.Commands.{command}
 use Rattle.tx_main.specs.Rests.{command_rest, held, more_needed, GoesOn, IsAt}
-use Rattle.tx_main.specs.Taken.{joined, IsSettled, IsPending}
+use Rattle.tx_main.specs.Taken.{joined, IsEnd, IsSettled, IsPending}
 use Rattle.tx_main.specs.Turns.{given_back}
 
 -- where no value is needed, none is given
@@ -74,14 +74,18 @@ pub token-pending : (at : Place → Value) (mode : Mode) (head : Head) (taken : 
 token-pending at mode head taken t old new answer k fits n on =
     token-by at mode head taken t new (more_needed old) answer (fed-answers (command_rest mode head) held (command mode head) old new taken t answer k.reads fits) k.few n on
 
--- a token that makes the command whole or wrong, and isn't given back, needn't be kept
-pub token-whole : (at : Place → Value) (mode : Mode) (head : Head) (taken : List Item) (t : Seen) (old new : Scans) (answer : Fed Command) (c : Command) → answer ≡ fed.Done c 0 → IsAt mode head taken old → IsFedBy (command_rest mode head) held old t new answer → NeedsNoMore (more_needed old) (more_needed new) answer → GoesOn new answer → IsSettled mode head (joined at mode head taken t) taken new (fed.Done c 0)
-token-whole at mode head taken t old new answer c same k fits n on =
-    let p : IsSettled mode head (joined at mode head taken t) (taken ++ Took t ∷ []) new (fed.Done c 0) = rw same at (token-pending at mode head taken t old new answer k fits n on) in
-    (p.0, ap (λ xs. given_back xs) (ending-none (tokens taken) ∙ sym (ending-none (tokens (joined at mode head taken t)))))
+-- a token that ends the command, and isn't given back, needn't be kept
+ended-by : (at : Place → Value) (mode : Mode) (head : Head) (items taken now : List Item) (new : Scans) (answer : Fed Command) → IsEnd answer → IsPending at mode head items now new answer → IsSettled mode head items taken new answer
+ended-by at mode head items taken now new (fed.More want) ends p = absurd ends
+ended-by at mode head items taken now new (fed.Need kind) ends p = absurd ends
+ended-by at mode head items taken now new (fed.Done c back) ends p =
+    let none : (xs : List Item) → last back xs ≡ [] = λ xs. ap (λ n. last n xs) ends ∙ ending-none (tokens xs) in
+    (p.0, ap (λ xs. given_back xs) (none taken ∙ sym (none items)))
+ended-by at mode head items taken now new (fed.Wrong e) ends p = p
 
-pub token-wrong : (at : Place → Value) (mode : Mode) (head : Head) (taken : List Item) (t : Seen) (old new : Scans) (answer : Fed Command) (e : TexError) → answer ≡ fed.Wrong e → IsAt mode head taken old → IsFedBy (command_rest mode head) held old t new answer → NeedsNoMore (more_needed old) (more_needed new) answer → GoesOn new answer → IsSettled mode head (joined at mode head taken t) taken new (fed.Wrong e)
-token-wrong at mode head taken t old new answer e same k fits n on = rw same at (token-pending at mode head taken t old new answer k fits n on)
+pub token-ends : (at : Place → Value) (mode : Mode) (head : Head) (taken : List Item) (t : Seen) (old new : Scans) (answer : Fed Command) → IsEnd answer → IsAt mode head taken old → IsFedBy (command_rest mode head) held old t new answer → NeedsNoMore (more_needed old) (more_needed new) answer → GoesOn new answer → IsSettled mode head (joined at mode head taken t) taken new answer
+token-ends at mode head taken t old new answer ends k fits n on =
+    ended-by at mode head (joined at mode head taken t) taken (taken ++ Took t ∷ []) new answer ends (token-pending at mode head taken t old new answer k fits n on)
 
 value-by : (at : Place → Value) (mode : Mode) (head : Head) (items taken : List Item) (v : Value) (new : Scans) (few count : ℕ) (answer : Fed Command) → Answers (command mode head) (HasTakenBy (command_rest mode head) held (command mode head)) (taken ++ Gave v ∷ []) new answer → few ≤ length taken → few < suc count → supplied count at (command mode head) (taken ++ Gave v ∷ []) ≡ items → NeedsFewer few (more_needed new) answer → GoesOn new answer → IsPending at mode head items (taken ++ Gave v ∷ []) new answer
 value-by at mode head items taken v new few count (fed.More want) a h c same n on =

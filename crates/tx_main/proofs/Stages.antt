@@ -43,7 +43,7 @@ use Rattle.tx_main.specs.declared.types.Prefixes.{Prefixes}
 use Rattle.tx_main.specs.Commands.{command, command_meant, fresh_command, may_be_prefixed, prefixed_command, assigning, defining, ruling, sizing, box_begin, box_meant, shipped_box}
 use Rattle.tx_main.specs.Standing.{may_stand}
 use Rattle.tx_main.specs.Mapped.{mapped}
-use Rattle.tx_main.specs.Rests.{command_rest, held, more_needed, stage_rest, stage_held, Begins, GoesOn, IsAssigning, IsBegunBy, IsOn, IsRuleFed}
+use Rattle.tx_main.specs.Rests.{command_rest, held, more_needed, stage_rest, stage_held, Begins, GoesOn, IsAssigning, IsBegunBy, IsOn, IsOnAt, IsRuleFed}
 use Rattle.tx_main.specs.Rules.{plain_rule}
 use Rattle.tx_main.proofs.Reading.{Rest, read-none, fed-first, mapped-read, mapped-fed, mapped-given, same-read}
 
@@ -73,17 +73,20 @@ part-needs old new (fed.Need kind) none = omega (arith, none)
 part-needs old new (fed.Done c back) none = tt
 part-needs old new (fed.Wrong error) none = tt
 
-pub part-goes : {A : Type 0} (f : A → Command) (new : Scans) (answer : Fed A) → IsOn new → NeedsNothing answer → GoesOn new (mapped f answer)
-part-goes f new (fed.More want) on k = on
-part-goes f new (fed.Need kind) on k = absurd k
-part-goes f new (fed.Done a back) on k = tt
-part-goes f new (fed.Wrong error) on k = tt
+on-at : (s : Stage) (new : Scans) → new.stage ≡ s → IsOnAt s new → IsOn new
+on-at s new is on = subst (λ x. IsOnAt x new) (sym is) on
 
-pub size-goes : (f : ℤ → Command) (new : Scans) (answer : Fed ℤ) → IsOn new → IsSize answer → GoesOn new (mapped f answer)
-size-goes f new (fed.More want) on k = on
-size-goes f new (fed.Need kind) on k = absurd k
-size-goes f new (fed.Done a back) on k = tt
-size-goes f new (fed.Wrong error) on k = tt
+pub part-goes : {A : Type 0} (f : A → Command) (s : Stage) (new : Scans) (answer : Fed A) → new.stage ≡ s → IsOnAt s new → NeedsNothing answer → GoesOn new (mapped f answer)
+part-goes f s new (fed.More want) is on k = on-at s new is on
+part-goes f s new (fed.Need kind) is on k = absurd k
+part-goes f s new (fed.Done a back) is on k = tt
+part-goes f s new (fed.Wrong error) is on k = tt
+
+pub size-goes : (f : ℤ → Command) (s : Stage) (new : Scans) (answer : Fed ℤ) → new.stage ≡ s → IsOnAt s new → IsSize answer → GoesOn new (mapped f answer)
+size-goes f s new (fed.More want) is on k = on-at s new is on
+size-goes f s new (fed.Need kind) is on k = absurd k
+size-goes f s new (fed.Done a back) is on k = tt
+size-goes f s new (fed.Wrong error) is on k = tt
 
 pub rule-goes : (f : Rule → Command) (kind : RuleKind) (new : Scans) (answer : Fed Rule) → new.stage ≡ stage.Rule kind → IsRuleFed new.rule answer → GoesOn new (mapped f answer)
 rule-goes f kind new (fed.More want) is k = rw is k

@@ -27,6 +27,13 @@ use Rattle.tx_main.specs.Turns.{given_back}
 abbrev pub joined : (Place → Value) → Mode → Head → List Item → Seen → List Item
 joined at mode head taken t = supplied (suc (length (taken ++ Took t ∷ []))) at (command mode head) (taken ++ Took t ∷ [])
 
+-- an answer that ends the command, where no token is given back
+abbrev pub IsEnd : Fed Command → Type 0
+IsEnd (fed.More want) = ⊥
+IsEnd (fed.Need kind) = ⊥
+IsEnd (fed.Done c back) = back ≡ 0
+IsEnd (fed.Wrong error) = Unit {0}
+
 -- the answer says what these items are of a command, and those that were taken are they, or give the same tokens back
 abbrev pub IsSettled : Mode → Head → List Item → List Item → Scans → Fed Command → Type 0
 IsSettled mode head items taken scans (fed.More want) = (command mode head items ≡ More want) × ((taken ≡ items) × IsAt mode head taken scans)

@@ -11,7 +11,7 @@ ghost use Rattle.tx_scan.specs.Supplied.{value_for, NeedsFewer};
 ghost use Rattle.tx_main.specs.declared.types.Head.{Head};
 ghost use Rattle.tx_main.specs.Effects.{prefixes_of};
 ghost use Rattle.tx_main.specs.Rests.{command_rest, held, more_needed, GoesOn, IsAssigning, IsAt};
-ghost use Rattle.tx_main.specs.Taken.{joined, IsPending, IsSettled, IsTaken};
+ghost use Rattle.tx_main.specs.Taken.{joined, IsEnd, IsPending, IsSettled, IsTaken};
 ghost use Rattle.tx_main.specs.Turns.{given_back};
 
 use crate::scans::{Scans, Stage, Taken};
@@ -165,6 +165,17 @@ fn restart(taken: &mut Items<Item>, scans: &mut Scans)
     scans.stage = Stage::Start;
 }
 
+/// Whether an answer ends the command, and no token is given back.
+fn is_end(fed: &Fed<Command>) -> bool
+    ensures { IsTrue result ↔ IsEnd fed.now }
+{
+    match fed {
+        Fed::Done(_, back) => *back == 0,
+        Fed::Wrong(_) => true,
+        Fed::More(_) | Fed::Need(_) => false,
+    }
+}
+
 /// Takes one token, and the values that the command needs behind it. A token that ends the command isn't kept, where it isn't
 /// given back. Its only error is want of memory.
 fn take(
@@ -178,14 +189,12 @@ fn take(
     requires { IsAt mode head.now taken.old scans.old }
     ensures { IfOk result (IsSettled mode head.now (joined (value_in table.now) mode head.now taken.old token) taken.new scans.new) }
 {
-    match scans.feed(mode, head, &token)? {
-        Fed::Done(command, 0) => Ok(Fed::Done(command, 0)),
-        Fed::Wrong(error) => Ok(Fed::Wrong(error)),
-        fed => {
-            taken.push(Item::Took(token))?;
-            settle(taken, scans, table, fed)
-        }
+    let fed = scans.feed(mode, head, &token)?;
+    if is_end(&fed) {
+        return Ok(fed);
     }
+    taken.push(Item::Took(token))?;
+    settle(taken, scans, table, fed)
 }
 
 /// Gives the values that the command needs, as the table has them, until it needs none. Its only error is want of memory.

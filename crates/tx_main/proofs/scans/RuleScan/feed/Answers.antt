@@ -1,4 +1,4 @@
-use Rattle.std.proofs.Common.{◌≤◌, ◌<◌, [], ◌∷◌, length, arith}
+use Rattle.std.proofs.Common.{◌≤◌, [], length, arith}
 use Rattle.tx_seen.specs.declared.item.Item.{Item}
 use Rattle.tx_seen.specs.declared.item.Item.TheVariants.{Took}
 use Rattle.tx_scan.specs.DimensionRests.{rest as dimen_rest}

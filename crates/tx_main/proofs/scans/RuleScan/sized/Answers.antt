@@ -1,11 +1,12 @@
-use Rattle.std.proofs.Common.{rules}
+use Rattle.std.proofs.Common.{refl, rules}
+use Rattle.tx_main.specs.declared.scans.RulePart.TheVariants.{Start}
 use Rattle.tx_main.proofs.RuleSteps.{size-whole, size-before}
 use Rattle.tx_main.proofs.scans.RuleScan.sized.Goals as goal
 
 pub returns-then-back-eq0-clause-fed : goal.returns-then-back-eq0-clause-fed
 returns-then-back-eq0-clause-fed c = λ reading part k.
-    size-whole c.args.self.now.rule c.args.side c.in-Done.size reading c.args.token.now c.args.self.now.size c.in-Done.back _
-    (rw c.in-Done.is at k) (search rules) (search rules) (search rules)
+    size-whole c.args.self.now.rule c.args.side c.in-Done.size reading c.args.token.now c.args.self.now.size c.in-Done.back (record c.args.self.now { rule = c.with_side-self.result; part = Start })
+    (rw c.in-Done.is at k) (search rules) (search rules) refl
 
 pub returns-else-back-eq0-clause-fed : goal.returns-else-back-eq0-clause-fed
 returns-else-back-eq0-clause-fed c = λ reading part k.

@@ -51,7 +51,7 @@ pub returns-in_ok-feed-in-Name-clause-needs : goal.returns-in_ok-feed-in-Name-cl
 returns-in_ok-feed-in-Name-clause-needs c = part-needs c.args.self.now _ c.defined.result (rw c.in-Name.is refl)
 
 pub returns-in_ok-feed-in-Name-clause-on : goal.returns-in_ok-feed-in-Name-clause-on
-returns-in_ok-feed-in-Name-clause-on c = rw c.defined.ensures (part-goes (λ name. Define name c.in-Name.kind) _ c.in_ok-feed-in-Name.field-0 (rw c.in-Name.is tt) c.in_ok-feed-in-Name.ensures.nothing)
+returns-in_ok-feed-in-Name-clause-on c = rw c.defined.ensures (part-goes (λ name. Define name c.in-Name.kind) (stage.Name c.in-Name.kind) c.args.self.now c.in_ok-feed-in-Name.field-0 c.in-Name.is tt c.in_ok-feed-in-Name.ensures.nothing)
 
 pub returns-in_ok-feed-in-Sized-clause-fed : goal.returns-in_ok-feed-in-Sized-clause-fed
 returns-in_ok-feed-in-Sized-clause-fed c =
@@ -63,7 +63,7 @@ pub returns-in_ok-feed-in-Sized-clause-needs : goal.returns-in_ok-feed-in-Sized-
 returns-in_ok-feed-in-Sized-clause-needs c = part-needs c.args.self.now _ c.sized.result (rw c.in-Sized.is refl)
 
 pub returns-in_ok-feed-in-Sized-clause-on : goal.returns-in_ok-feed-in-Sized-clause-on
-returns-in_ok-feed-in-Sized-clause-on c = rw c.sized.ensures (size-goes (λ size. Sized c.in-Sized.kind size) _ c.in_ok-feed-in-Sized.field-0 (rw c.in-Sized.is tt) c.in_ok-feed-in-Sized.ensures.size)
+returns-in_ok-feed-in-Sized-clause-on c = rw c.sized.ensures (size-goes (λ size. Sized c.in-Sized.kind size) (stage.Sized c.in-Sized.kind) (record c.args.self.now { size = c.feed-in-Sized.new.self }) c.in_ok-feed-in-Sized.field-0 c.in-Sized.is tt c.in_ok-feed-in-Sized.ensures.size)
 
 pub returns-in_ok-feed-in-Rule-clause-fed : goal.returns-in_ok-feed-in-Rule-clause-fed
 returns-in_ok-feed-in-Rule-clause-fed c =
@@ -87,4 +87,4 @@ pub returns-in-BoxBegin-clause-needs : goal.returns-in-BoxBegin-clause-needs
 returns-in-BoxBegin-clause-needs c = part-needs c.args.self.now _ c.begun_box.result (rw c.in-BoxBegin.is refl)
 
 pub returns-in-BoxBegin-clause-on : goal.returns-in-BoxBegin-clause-on
-returns-in-BoxBegin-clause-on c = rw c.begun_box.ensures (part-goes (λ _. BeginBox c.in-BoxBegin.kind c.in-BoxBegin.context) _ c.feed-in-BoxBegin.result (rw c.in-BoxBegin.is tt) c.feed-in-BoxBegin.ensures.nothing)
+returns-in-BoxBegin-clause-on c = rw c.begun_box.ensures (part-goes (λ _. BeginBox c.in-BoxBegin.kind c.in-BoxBegin.context) (stage.BoxBegin c.in-BoxBegin.kind c.in-BoxBegin.context) c.args.self.now c.feed-in-BoxBegin.result c.in-BoxBegin.is tt c.feed-in-BoxBegin.ensures.nothing)

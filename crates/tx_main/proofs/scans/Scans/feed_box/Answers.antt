@@ -1,4 +1,4 @@
-use Rattle.std.proofs.Common.{rules, ap, ◌∙◌}
+use Rattle.std.proofs.Common.{rules, ap}
 use Rattle.tx_main.specs.declared.types.BoxContext.TheVariants.{Ship}
 use Rattle.tx_main.proofs.Stages.{box-there, box-begun}
 use Rattle.tx_main.proofs.scans.Scans.feed_box.Goals as goal
