@@ -18,6 +18,7 @@ use crate::scans::{Scans, Stage, Taken};
 use crate::types::{Command, Head, Prefixes};
 use std::alloc::{AllocError, Global};
 use std::marker::Model;
+use tx_char::Token;
 use tx_eqtb::Eqtb;
 use tx_list::{Items, Kept};
 use tx_pending::Pending;
@@ -239,6 +240,14 @@ fn give(
     }
 }
 
+/// The token, without what it meant.
+fn token_of(seen: Seen) -> Token
+    ensures { result ≡ seen.token }
+{
+    let Seen { token, meaning: _ } = seen;
+    token
+}
+
 /// Puts the last tokens that were taken, so many of them, at the front of the input, in their order; what they meant is
 /// forgotten. Its only error is want of memory.
 fn give_back(taken: &mut Items<Item>, input: &mut Pending, back: usize) -> Result<(), AllocError>
@@ -248,7 +257,7 @@ fn give_back(taken: &mut Items<Item>, input: &mut Pending, back: usize) -> Resul
     while left > 0 {
         match taken.pop() {
             Some(Item::Took(seen)) => {
-                input.give_back(seen.token)?;
+                input.give_back(token_of(seen))?;
                 left -= 1;
             }
             Some(Item::Gave(_)) => {}
