@@ -182,9 +182,9 @@ fn try_edit(
 
 fn tried(alloc: Global, files: &mut FileSet, e: &Edit) -> Result<String, AllocError> {
     match files.change(e) {
-        Ok(before) => {
+        Ok(undo) => {
             let text = text_of(alloc, files.bytes_of(e.name.as_slice()));
-            files.restore(&e.name, before);
+            files.restore(&e.name, undo);
             text
         }
         Err(refusal) => refused(alloc, refusal),

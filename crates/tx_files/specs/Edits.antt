@@ -1,10 +1,12 @@
 -- Edits of files, as an editor makes them: bytes of one file are taken out at a place and others are put there.
-use Rattle.std.specs.Prelude.{◌≡◌, ℕ, ◌+◌, Bool, true, false, List, [], ◌++◌, length, take, drop, nat_le, Option, Some, None, Result, Ok, Err, unwrap_or, if◌then◌else◌, fold}
+use Rattle.std.specs.Prelude.{◌≡◌, ℕ, ◌+◌, ◌≤◌, Bool, true, false, List, [], ◌++◌, length, take, drop, nat_le, IsSome, Result, Ok, Err, unwrap_or, if◌then◌else◌, fold}
 use Rattle.std.specs.FinMap.{insert, remove}
 use Rattle.tx_bytes.specs.Files.{Files, content}
 use Rattle.tx_files.specs.declared.edit.Edit.{Edit}
 use Rattle.tx_files.specs.declared.edit.Refusal.{Refusal}
 use Rattle.tx_files.specs.declared.edit.Refusal.TheVariants.{Outside, OutOfMemory}
+use Rattle.tx_files.specs.declared.edit.Undo.{Undo}
+use Rattle.tx_files.specs.declared.edit.Undo.TheVariants.{Absent, Whole, Part}
 
 -- the bytes of a file, none where it is absent
 abbrev pub bytes_of : Files → List ℕ → List ℕ
@@ -40,7 +42,18 @@ IsAnswerTo files e (Ok value) = fits_in files e ≡ true
 IsAnswerTo files e (Err (Outside len)) = (fits_in files e ≡ false) × (len ≡ length_of files e.name)
 IsAnswerTo files e (Err OutOfMemory) = fits_in files e ≡ true
 
+-- the files with these bytes of a file in the place of as many others
+abbrev pub put_back : Files → List ℕ → ℕ → List ℕ → Files
+put_back files name place bytes = insert files name (spliced (bytes_of files name) place (length bytes) bytes)
+
 -- the files with what a file held before put back; it held nothing where it was absent
-abbrev pub restored : Files → List ℕ → Option (List ℕ) → Files
-restored files name None = remove files name
-restored files name (Some bytes) = insert files name bytes
+abbrev pub restored : Files → List ℕ → Undo → Files
+restored files name Absent = remove files name
+restored files name (Whole bytes) = insert files name bytes
+restored files name (Part place bytes) = put_back files name place bytes
+
+-- a file that has room for what it held before
+abbrev pub CanRestore : Files → List ℕ → Undo → Type 0
+CanRestore files name Absent = IsSome (content files name)
+CanRestore files name (Whole bytes) = IsSome (content files name)
+CanRestore files name (Part place bytes) = IsSome (content files name) × (place + length bytes ≤ length_of files name)

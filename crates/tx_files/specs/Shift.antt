@@ -1,5 +1,5 @@
 -- What stands behind an edit moves with it: places, and what was read up to such a place.
-use Rattle.std.specs.Prelude.{ℕ, ◌+◌, ◌-◌, ◌≤◌, ◌<◌, ◌^◌, List, length, Option, Some, None}
+use Rattle.std.specs.Prelude.{ℕ, ◌+◌, ◌-◌, ◌≤◌, ◌<◌, ◌^◌, length, Option, Some, None}
 use Rattle.std.specs.FinMap.{get, insert}
 use Rattle.tx_files.specs.declared.edit.Edit.{Edit}
 use Rattle.tx_files.specs.declared.reads.Extent.{Extent}

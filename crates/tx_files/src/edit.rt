@@ -16,6 +16,17 @@ pub struct Edit {
     pub put: Bytes,
 }
 
+/// How an edit that was made is taken back: what its file held before.
+#[derive(Drop)]
+pub enum Undo {
+    /// There was no file.
+    Absent,
+    /// All that it held.
+    Whole(Bytes),
+    /// What stood in it from a place on, where as many bytes stand now; all else is the same.
+    Part { place: usize, bytes: Bytes },
+}
+
 /// Why an edit wasn't made. Nothing has changed then.
 #[derive(Clone, Copy, Debug, PartialEq, Eq, Error)]
 pub enum Refusal {

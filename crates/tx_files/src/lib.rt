@@ -13,7 +13,7 @@ pub mod name;
 pub mod reads;
 pub mod seen;
 
-pub use edit::{Edit, Refusal};
+pub use edit::{Edit, Refusal, Undo};
 pub use file_set::FileSet;
 pub use line::{NextLine, line_count, next_line};
 pub use name::Name;

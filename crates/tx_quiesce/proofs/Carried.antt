@@ -1,10 +1,8 @@
 -- Rows of which the first are kept, and what comes later stands behind them, are those of the run with these pages.
 use Rattle.std.proofs.Common.{◌≡◌, ℕ, zero, suc, ◌+◌, ◌-◌, ◌≤◌, length-drop, List, [], ◌∷◌, ◌++◌, length, map, take, drop, refl, sym, ap, ◌∙◌, subst, arith}
-use Rattle.std.specs.List.{All}
 use Rattle.std.proofs.lemmas.List.{map-append, take-map, take-take, take-append-le, take_all, length-map, length-take-le}
 use Rattle.std.proofs.Math.Seq.{drop-append_seam}
 use Rattle.std.proofs.lemmas.List.Elements.{All-append, All-take}
-use Rattle.tx_dvi.specs.declared.page.PageBody.{PageBody}
 use Rattle.tx_files.specs.declared.edit.Edit.{Edit}
 use Rattle.tx_machine.specs.Machine.{Formatter}
 use Rattle.tx_checkpoint.specs.declared.row.Row.{Row}

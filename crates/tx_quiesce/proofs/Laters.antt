@@ -1,24 +1,20 @@
 -- What is made behind the rows that an edit leaves is what the definition makes of the old run.
-use Rattle.std.proofs.Common.{◌≡◌, ℕ, ◌+◌, ◌-◌, ◌≤◌, List, [], ◌++◌, length, map, take, drop, min, Option, Some, None, refl, sym, ap, ◌∙◌, subst, arith, append-nil}
+use Rattle.std.proofs.Common.{◌≡◌, ℕ, ◌+◌, ◌-◌, ◌≤◌, List, [], length, map, take, drop, min, Option, Some, None, refl, sym, ap, ◌∙◌, subst, arith, append-nil}
 use Rattle.std.specs.Prelude.{IfSome}
-use Rattle.std.specs.List.{All}
 use Rattle.std.proofs.lemmas.List.{length-map, length-take-le}
-use Rattle.std.proofs.lemmas.List.Elements.{All-take}
 use Rattle.tx_bytes.specs.Files.{Files}
-use Rattle.tx_dvi.specs.declared.page.PageBody.{PageBody}
 use Rattle.tx_files.specs.declared.edit.Edit.{Edit}
 use Rattle.tx_machine.specs.declared.types.Date.{Date}
 use Rattle.tx_machine.specs.declared.types.Limits.{Limits}
 use Rattle.tx_machine.specs.Machine.{Formatter}
 use Rattle.tx_machine.specs.Run.{run_from}
 use Rattle.tx_machine.specs.Steps.{raised}
-use Rattle.tx_machine.proofs.Going.{raised-raised, raised-le}
-use Rattle.tx_checkpoint.specs.declared.row.Row.{Row}
+use Rattle.tx_machine.proofs.Going.{raised-raised}
 use Rattle.tx_checkpoint.specs.declared.row.Rows.{Rows}
 use Rattle.tx_checkpoint.specs.declared.row.Last.{Last}
 use Rattle.tx_checkpoint.specs.Meant.{AreRows, rows_meant}
 use Rattle.tx_checkpoint.specs.Resume.{Begun, after_rows, start_of, run_behind}
-use Rattle.tx_checkpoint.specs.Rows.{History, PageRow, rows_in, behind, only, rows_from, turns_of, all_turns}
+use Rattle.tx_checkpoint.specs.Rows.{History, rows_in, behind, only}
 use Rattle.tx_quiesce.specs.declared.front.Front.{Front}
 use Rattle.tx_quiesce.specs.declared.front.Stopped.TheVariants.{Over, Met}
 use Rattle.tx_quiesce.specs.declared.further.Further.{Further}
@@ -29,7 +25,7 @@ use Rattle.tx_quiesce.specs.Further.{IsFurther, CanReuse, further_turns}
 use Rattle.tx_quiesce.specs.Later.{IsLater, CanShiftFurther, turns_with, turns_behind}
 use Rattle.tx_quiesce.specs.Meeting.{Meeting}
 use Rattle.tx_quiesce.specs.Reuse.{moved, moved_begun, reused, rest_of, further, reused_by, meeting_behind, made_behind}
-use Rattle.tx_quiesce.specs.Shift.{shifted_page, CanShiftRow, CanShiftLast}
+use Rattle.tx_quiesce.specs.Shift.{shifted_page, CanShiftLast}
 use Rattle.tx_machine.proofs.PageCounts.{pages-run_from}
 use Rattle.tx_checkpoint.proofs.Standing.{rows-tell}
 use Rattle.tx_quiesce.proofs.Found.{first-within, first-past}

@@ -1,19 +1,17 @@
 -- All that is reused behind a meeting stands behind the edit, and offsets still tell of it after the edit.
-use Rattle.std.proofs.Common.{◌≡◌, ℕ, zero, suc, ◌+◌, ◌-◌, ◌^◌, ◌<◌, ◌≤◌, Bool, true, false, List, [], ◌∷◌, ◌++◌, length, map, take, drop, Option, Some, None, refl, sym, ap, ◌∙◌, subst, arith, unwrap_or, length-drop}
+use Rattle.std.proofs.Common.{◌≡◌, ℕ, zero, suc, ◌+◌, ◌-◌, ◌^◌, ◌<◌, ◌≤◌, true, false, List, [], ◌∷◌, ◌++◌, length, take, drop, Option, Some, None, sym, ap, ◌∙◌, subst, arith, unwrap_or, length-drop}
 use Rattle.std.specs.Cmp.Lexicographic.{bytes_decides}
 use Rattle.std.specs.FinMap.{get}
 use Rattle.std.specs.List.{All, AllZip}
-use Rattle.std.specs.Str.{bytes_eq}
 use Rattle.std.proofs.lemmas.Bool.{leb-true, and_parts}
-use Rattle.std.proofs.lemmas.List.{length-append, length-map, length-take-le, take-map}
+use Rattle.std.proofs.lemmas.List.{length-append, length-map, length-take-le}
 use Rattle.tx_bytes.specs.Files.{Files}
 use Rattle.tx_files.specs.declared.edit.Edit.{Edit}
 use Rattle.tx_files.specs.declared.reads.Extent.{Extent}
 use Rattle.tx_files.specs.declared.reads.Extent.TheVariants.{Absent, Upto, Whole}
 use Rattle.tx_files.specs.declared.reads.FileReads.{FileReads}
 use Rattle.tx_files.specs.Edits.{fits_in, edited, spliced}
-use Rattle.tx_files.specs.Reads.{Reads}
-use Rattle.tx_files.specs.Shift.{shifted, IsBehind, CanShift, CanShiftExtent, CanShiftReads}
+use Rattle.tx_files.specs.Shift.{IsBehind, CanShift, CanShiftExtent, CanShiftReads}
 use Rattle.tx_machine.specs.declared.types.Date.{Date}
 use Rattle.tx_machine.specs.declared.types.Limits.{Limits}
 use Rattle.tx_machine.specs.declared.types.OpenFile.{OpenFile}
@@ -30,12 +28,11 @@ use Rattle.tx_quiesce.specs.Meeting.{Meeting, opens_fit, rest_asks}
 use Rattle.tx_quiesce.specs.Reuse.{rest_of, meeting_behind}
 use Rattle.tx_quiesce.specs.Shift.{CanShiftFile, CanShiftRow, CanShiftLast}
 use Rattle.tx_quiesce.proofs.Found.{row_begun, drop-map, old_rest, FoundOld, found_row, FoundNew, found_new}
-use Rattle.tx_quiesce.proofs.Inside.{IsInside, StaysInside, ExtentInside, HeldInside, ReadsInside, ReadInside, rows-inside}
+use Rattle.tx_quiesce.proofs.Inside.{IsInside, StaysInside, ExtentInside, HeldInside, ReadInside, rows-inside}
 use Rattle.tx_quiesce.proofs.KinRows.{PageKin, LastKin, HistoryKin}
 use Rattle.tx_quiesce.proofs.Moved.{FileBehind, FileShifts, moved-kin}
-use Rattle.tx_quiesce.proofs.Reuse.{OpensFit, opens-so}
+use Rattle.tx_quiesce.proofs.Reuse.{opens-so}
 use Rattle.tx_quiesce.proofs.Shifted.{ExtentBehind, HeldBehind, ReadsShift}
-use Rattle.tx_quiesce.proofs.Zips.{zip-length}
 
 -- a list whose first element and all others have a property
 all_of : {X : Type 0} (P : X → Type 0) (x : X) (xs : List X) → P x → All P xs → All P (x ∷ xs)

@@ -1,5 +1,5 @@
--- Parts of a list, put together anew by turning it round.
-use Rattle.std.proofs.Common.{◌≡◌, ℕ, zero, suc, ◌+◌, ◌-◌, ◌≤◌, List, [], ◌∷◌, ◌++◌, length, take, drop, refl, sym, ap, ◌∙◌, arith, append_assoc, length-drop}
+-- Parts of a list, put together anew.
+use Rattle.std.proofs.Common.{◌≡◌, ℕ, zero, suc, ◌+◌, ◌-◌, ◌≤◌, List, [], ◌∷◌, ◌++◌, length, take, drop, refl, sym, ap, ◌∙◌, arith, append_assoc, length-append, length-drop}
 use Rattle.std.proofs.lemmas.List.{take-take, take-append-le, length-take-le, take_all, drop-drop}
 use Rattle.std.proofs.Math.Seq.{drop-append_seam}
 
@@ -25,24 +25,31 @@ module _ {X : Type 0} where
   seam_drop : (n : ℕ) (xs ys : List X) → length xs ≡ n → drop n (xs ++ ys) ≡ ys
   seam_drop n xs ys is = ap (λ k. drop k (xs ++ ys)) (sym is) ∙ drop-append_seam xs ys
 
-  take_past : (n k : ℕ) (xs ys : List X) → length xs ≡ n → take (n + k) (xs ++ ys) ≡ xs ++ take k ys
-  take_past n k [] ys is = let same : n + k ≡ k = omega arith in ap (λ i. take i ys) same
-  take_past zero k (x ∷ xs) ys is = absurd (omega arith)
-  take_past (suc n) k (x ∷ xs) ys is = let next : suc n + k ≡ suc (n + k) = omega arith in ap (λ i. take i (x ∷ xs ++ ys)) next ∙ ap (λ rest. x ∷ rest) (take_past n k xs ys (omega arith))
-
+  -- the items between those that are kept and the part that is reused go behind it and fall away, and others take their place
   pub spliced-so : (items middle later : List X) (kept from count : ℕ) {first second third fourth fifth sixth : List X} → kept ≤ from → from + count ≤ length items
-      → first ≡ take (from + count) items → second ≡ drop from first ++ take from first → third ≡ take (count + kept) second → fourth ≡ third ++ middle → fifth ≡ drop count fourth ++ take count fourth → sixth ≡ fifth ++ later
+      → first ≡ take (from + count) items → second ≡ take kept first ++ (drop (from - kept) (drop kept first) ++ take (from - kept) (drop kept first)) → third ≡ take (kept + count) second → fourth ≡ third ++ middle
+      → fifth ≡ take kept fourth ++ (drop count (drop kept fourth) ++ take count (drop kept fourth)) → sixth ≡ fifth ++ later
       → sixth ≡ take kept items ++ (middle ++ (take count (drop from items) ++ later))
   spliced-so items middle later kept from count {first = first} {second = second} {third = third} {fourth = fourth} order within one two three four five six =
+      let front : List X = take kept items in
       let part : List X = take count (drop from items) in
+      let gone : List X = take (from - kept) (drop kept first) in
+      let front_size : length front ≡ kept = length-take-le kept items (omega arith) in
       let size : length (drop from items) ≡ length items - from = length-drop from items in
       let part_size : length part ≡ count = length-take-le count (drop from items) (omega arith) in
-      let front : take from first ≡ take from items = ap (take from) one ∙ take-take from (from + count) items (omega arith) in
-      let second_is : second ≡ part ++ take from items = two ∙ (λ i. (ap (drop from) one ∙ part_is from count items) i ++ front i) in
-      let third_is : third ≡ part ++ take kept items = three ∙ ap (take (count + kept)) second_is ∙ take_past count kept part (take from items) part_size ∙ ap (λ rest. part ++ rest) (take-take kept from items order) in
-      let fourth_is : fourth ≡ part ++ (take kept items ++ middle) = four ∙ ap (λ rest. rest ++ middle) third_is ∙ append_assoc part (take kept items) middle in
-      six ∙ ap (λ rest. rest ++ later) (five ∙ (λ i. (ap (drop count) fourth_is ∙ seam_drop count part (take kept items ++ middle) part_size) i ++ (ap (take count) fourth_is ∙ seam_take count part (take kept items ++ middle) part_size) i))
-      ∙ append_assoc (take kept items ++ middle) part later ∙ append_assoc (take kept items) middle (part ++ later)
+      let sum : kept + (from - kept) ≡ from = omega arith in
+      let second_is : second ≡ front ++ (part ++ gone) =
+      two ∙ (λ i. (ap (take kept) one ∙ take-take kept (from + count) items (omega arith)) i
+      ++ ((drop-drop (from - kept) kept first ∙ ap (λ n. drop n first) sum ∙ ap (drop from) one ∙ part_is from count items) i ++ gone)) in
+      let third_is : third ≡ front ++ part =
+      three ∙ ap (take (kept + count)) (second_is ∙ sym (append_assoc front part gone))
+      ∙ seam_take (kept + count) (front ++ part) gone (length-append front part ∙ (λ i. front_size i + part_size i)) in
+      let fourth_is : fourth ≡ front ++ (part ++ middle) = four ∙ ap (λ rest. rest ++ middle) third_is ∙ append_assoc front part middle in
+      let behind : drop kept fourth ≡ part ++ middle = ap (drop kept) fourth_is ∙ seam_drop kept front (part ++ middle) front_size in
+      six ∙ ap (λ rest. rest ++ later) (
+      five ∙ (λ i. (ap (take kept) fourth_is ∙ seam_take kept front (part ++ middle) front_size) i
+      ++ ((ap (drop count) behind ∙ seam_drop count part middle part_size) i ++ (ap (take count) behind ∙ seam_take count part middle part_size) i)))
+      ∙ append_assoc front (middle ++ part) later ∙ ap (λ rest. front ++ rest) (append_assoc middle part later)
 
   -- where as many items are put in as fall away
   pub overwritten-so : (items middle later : List X) (kept from count : ℕ) {first second third : List X} → kept ≤ from → from + count ≤ length items → length middle ≡ from - kept

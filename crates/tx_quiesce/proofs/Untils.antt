@@ -1,5 +1,5 @@
 -- The loop that formats until a new row meets an old one.
-use Rattle.std.proofs.Common.{◌≡◌, ℕ, suc, ◌+◌, ◌≤◌, List, [], ◌∷◌, ◌++◌, length, map, take, Option, Some, None, sym, ap, ◌∙◌, arith, append-nil, unwrap_or}
+use Rattle.std.proofs.Common.{◌≡◌, ℕ, suc, ◌+◌, ◌≤◌, List, [], ◌∷◌, ◌++◌, length, map, take, Option, Some, None, sym, ap, subst, ◌∙◌, arith, append-nil, unwrap_or}
 use Rattle.std.proofs.lemmas.List.{map-append}
 use Rattle.tx_bytes.specs.Files.{Files}
 use Rattle.tx_dvi.specs.declared.page.PageBody.{PageBody}
@@ -10,13 +10,18 @@ use Rattle.tx_machine.specs.declared.types.OpenFile.{OpenFile}
 use Rattle.tx_machine.specs.Machine.{Formatter}
 use Rattle.tx_machine.specs.Run.{page_start}
 use Rattle.tx_machine.specs.Steps.{raised}
-use Rattle.tx_machine.specs.Turn.{Progress, stretch}
+use Rattle.tx_machine.specs.Turn.{Place, Progress, stretch}
 use Rattle.tx_machine.proofs.Going.{raised-raised, raised-le}
 use Rattle.tx_checkpoint.specs.declared.row.Row.{Row}
 use Rattle.tx_checkpoint.specs.declared.row.Last.{Last}
-use Rattle.tx_checkpoint.specs.Rows.{History, PageRow, page_row, rows_in, behind, only, closed_rows, rows_from, turns_of}
-use Rattle.tx_checkpoint.proofs.Keeping.{Keeping, rows-suc, rows-zero}
-use Rattle.tx_quiesce.specs.Front.{turns_to}
+use Rattle.tx_checkpoint.specs.declared.row.Formatted.{Formatted}
+use Rattle.tx_checkpoint.specs.declared.row.Formatted.TheVariants.{Page as PageOf, Over as OverOf}
+use Rattle.tx_checkpoint.specs.Meant.{IsFormatted, row_meant, rows_meant}
+use Rattle.tx_checkpoint.specs.Rows.{History, PageRow, page_row, rows_in, at_limit, behind, only, closed_rows, rows_from, turns_of}
+use Rattle.tx_checkpoint.proofs.Keeping.{Keeping, keeping-page, keeping-told, keeping-counted, limit-told, limit-counted, rows-suc, rows-zero}
+use Rattle.tx_quiesce.specs.declared.front.Front.{Front}
+use Rattle.tx_quiesce.specs.declared.front.Stopped.TheVariants.{Over, Met}
+use Rattle.tx_quiesce.specs.Front.{Reaches, turns_to}
 use Rattle.tx_quiesce.specs.Meeting.{Meeting, met_row, meeting_at, first_meeting}
 use Rattle.tx_quiesce.proofs.Fronts.{first, front-turns, MeetsAt, meets-at, none-more}
 
@@ -111,3 +116,74 @@ module _ {S : Type 0} {m : Formatter S} {files : Files} {budget : ℕ} {whole : 
   pub until-limit : left ≡ 0 → first m e olds last resumed whole.pages ≡ None
   until-limit no_more =
       ap (first m e olds last resumed) (ap (λ h. h.pages) (so_far.whole_is ∙ ap (behind so_far.done) (ap (λ n. rows_from m files budget n state opens) no_more ∙ rows-zero m files budget state opens)) ∙ append-nil so_far.done) ∙ none_done
+
+-- formatting stops: what was formatted reaches the first meeting, or the end
+pub record Stops {S M : Type 0} (meaning : S → M) (whole : History M) (meeting : Option Meeting) (before now : ℕ) (front : Front S) : Type 0 where
+  pub reaches : Reaches meaning whole meeting front
+  pub counted : now ≡ raised before (turns_to whole meeting)
+
+stops-at : {S M : Type 0} {meaning : S → M} {whole : History M} {before now : ℕ} {front : Front S} {meeting : Option Meeting} (o : Option Meeting) → meeting ≡ o → Stops meaning whole o before now front → Stops meaning whole meeting before now front
+stops-at {meaning = meaning} {whole = whole} {before = before} {now = now} {front = front} o is stops = subst (λ (o : Option Meeting). Stops meaning whole o before now front) (sym is) stops
+
+module _ {S M : Type 0} {m : Formatter M} (meaning : S → M) {files : Files} {budget : ℕ} {whole : History M} {left : ℕ} {state : M} {opens : List OpenFile} {before now : ℕ}
+    (e : Edit) (olds : List (Row M)) (last : Last) (resumed : ℕ) (front : Front S)
+    (so_far : Keeping m files budget whole left state opens front.pages.items front.pieces.items (rows_meant meaning front.rows.items) before now)
+    (none : first_meeting m e olds last resumed (rows_meant meaning front.rows.items) ≡ None) where
+  abbrev this : Progress M
+  this = stretch m files (page_start state opens budget)
+
+  module _ (more : ℕ) (there : left ≡ suc more) {formatted : Formatted S} (is_formatted : IsFormatted meaning files this formatted) where
+    module _ {body : PageBody} {piece : List ℕ} {row : Row S} (is_page : formatted ≡ PageOf body piece row) {found : Option ℕ} (found_is : found ≡ met_row m e olds last resumed (row_meant meaning row))
+        (front' : Front S) (pages : front'.pages.items ≡ front.pages.items ++ body ∷ []) (pieces : front'.pieces.items ≡ front.pieces.items ++ piece ∷ []) (rows : front'.rows.items ≡ front.rows.items ++ row ∷ []) where
+      page : (this.close ≡ Some (Page body)) × (record { body = body; piece = piece; row = row_meant meaning row } ≡ page_row this body)
+      page = subst (IsFormatted meaning files this) is_page is_formatted
+
+      more_rows : rows_meant meaning front'.rows.items ≡ rows_meant meaning front.rows.items ++ row_meant meaning row ∷ []
+      more_rows = ap (rows_meant meaning) rows ∙ map-append (row_meant meaning) front.rows.items (row ∷ [])
+
+      here_is : met_row m e olds last resumed (page_row this body).row ≡ found
+      here_is = ap (λ (p : PageRow M). met_row m e olds last resumed p.row) (sym page.1) ∙ sym found_is
+
+      pub stops-met : {number : ℕ} → found ≡ Some number → front'.stopped ≡ Met number → {now' : ℕ} → now' ≡ raised now this.turns → Stops meaning whole (first m e olds last resumed whole.pages) before now' front'
+      stops-met some stopped count =
+          let at = until-met e olds last resumed so_far none more there page.0 (here_is ∙ some) count in
+          let told = front-told e olds last resumed so_far none more there page.1 pages pieces more_rows in
+          stops-at _ at.meeting (record {
+            reaches = (
+              record {
+                bodies_are = told.bodies_are ∙ ap (map (λ p. p.body)) (sym at.pages);
+                pieces_are = told.pieces_are ∙ ap (map (λ p. p.piece)) (sym at.pages);
+                rows_are = told.rows_are ∙ ap rows_in (sym at.pages);
+              },
+              stopped,
+            );
+            counted = at.counted;
+          })
+
+      -- it goes on
+      pub goes-on : found ≡ None → {next : Place M} {now' : ℕ} → next ≡ this.place → now' ≡ raised now this.turns
+          → Keeping m files budget whole more next.state next.opens front'.pages.items front'.pieces.items (rows_meant meaning front'.rows.items) before now'
+      goes-on misses place count = keeping-page more there so_far page.0 page.1 place count pages pieces more_rows
+
+      pub none-so_far : found ≡ None → first_meeting m e olds last resumed (rows_meant meaning front'.rows.items) ≡ None
+      none-so_far misses =
+          until-misses e olds last resumed so_far none more there body (here_is ∙ misses) (more_rows ∙ ap (λ (p : PageRow M). rows_meant meaning front.rows.items ++ p.row ∷ []) page.1)
+
+    pub stops-over : {over : Last} → formatted ≡ OverOf over → (front' : Front S) → front'.pages.items ≡ front.pages.items → front'.pieces.items ≡ front.pieces.items → front'.rows.items ≡ front.rows.items → front'.stopped ≡ Over over
+        → {now' : ℕ} → now' ≡ raised now this.turns → Stops meaning whole (first m e olds last resumed whole.pages) before now' front'
+    stops-over {over = over} is_over front' pages pieces rows stopped count =
+        let ends : (later : History M) → closed_rows files this (unwrap_or this.close Spent) later ≡ only over = subst (IsFormatted meaning files this) is_over is_formatted in
+        let told = keeping-told more there so_far ends in
+        stops-at None (until-over e olds last resumed so_far none more there ends) (record {
+          reaches = (record { bodies_are = pages ∙ told.bodies_are; pieces_are = pieces ∙ told.pieces_are; rows_are = ap (rows_meant meaning) rows ∙ told.rows_are }, stopped ∙ ap Over told.last_is);
+          counted = keeping-counted more there so_far ends count;
+        })
+
+  pub stops-limit : left ≡ 0 → (front' : Front S) → front'.pages.items ≡ front.pages.items → front'.pieces.items ≡ front.pieces.items → front'.rows.items ≡ front.rows.items → front'.stopped ≡ Over (at_limit opens)
+      → Stops meaning whole (first m e olds last resumed whole.pages) before now front'
+  stops-limit no_more front' pages pieces rows stopped =
+      let told = limit-told no_more so_far in
+      stops-at None (until-limit e olds last resumed so_far none no_more) (record {
+        reaches = (record { bodies_are = pages ∙ told.bodies_are; pieces_are = pieces ∙ told.pieces_are; rows_are = ap (rows_meant meaning) rows ∙ told.rows_are }, stopped ∙ ap Over told.last_is);
+        counted = limit-counted no_more so_far;
+      })

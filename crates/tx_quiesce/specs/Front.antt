@@ -1,10 +1,16 @@
 -- What is formatted after an edit up to the first meeting, or to the run's end where none comes.
-use Rattle.std.specs.Prelude.{◌≡◌, ℕ, List, map, take, Option, Some, None}
+use Rattle.std.specs.Prelude.{◌≡◌, ℕ, List, [], map, take, Option, Some, None}
 use Rattle.tx_checkpoint.specs.Meant.{rows_meant}
 use Rattle.tx_checkpoint.specs.Rows.{History, PageRow, rows_in, turns_of, all_turns}
 use Rattle.tx_quiesce.specs.declared.front.Front.{Front}
 use Rattle.tx_quiesce.specs.declared.front.Stopped.TheVariants.{Over, Met}
 use Rattle.tx_quiesce.specs.Meeting.{Meeting}
+
+-- no page yet
+pub record IsEmpty {S : Type 0} (front : Front S) : Type 0 where
+  pub no_pages : front.pages.items ≡ []
+  pub no_pieces : front.pieces.items ≡ []
+  pub no_rows : front.rows.items ≡ []
 
 -- bodies, pieces and rows are those of some pages
 pub record AreFront {S M : Type 0} (meaning : S → M) (front : Front S) (pages : List (PageRow M)) : Type 0 where

@@ -2,19 +2,21 @@
 ghost use Rattle.std.specs.Prelude.{◌≡◌, ◌≤◌, ◌++◌, ◌∷◌, [], IfOk, OnOk};
 ghost use Rattle.tx_machine.specs.Steps.{raised};
 ghost use Rattle.tx_checkpoint.specs.Meant.{IsIdle, AreIdle, rows_meant};
-ghost use Rattle.tx_checkpoint.specs.Rows.{rows_from, rows_in};
-ghost use Rattle.tx_quiesce.specs.Front.{Reaches, turns_to};
+ghost use Rattle.tx_checkpoint.specs.Rows.{at_limit, rows_from, rows_in};
+ghost use Rattle.tx_quiesce.specs.Front.{IsEmpty, Reaches, turns_to};
 ghost use Rattle.tx_quiesce.specs.Meeting.{first_meeting};
+ghost use Rattle.tx_quiesce.specs.Tails.{AreOffsets};
 
 use crate::search::met_row;
 use crate::tails::{Offsets, write_down};
 use std::alloc::{AllocError, Global};
+use std::mem;
 use tx_bytes::Bytes;
 use tx_checkpoint::{Formatted, Last, Row, Rows, format_row};
 use tx_dvi::PageBody;
 use tx_files::{Edit, FileSet, Seen};
 use tx_machine::spot::Spot;
-use tx_machine::{End, Machine, Steps};
+use tx_machine::{End, Machine, Opens, Steps};
 
 /// Why formatting stopped.
 #[derive(Drop)]
@@ -37,9 +39,7 @@ pub struct Front<S> {
 impl<S> Front<S> {
     /// No page; takes no memory.
     fn new(alloc: Global) -> Front<S>
-        ensures pages { result.pages.items ≡ [] }
-        ensures pieces { result.pieces.items ≡ [] }
-        ensures rows { result.rows.items ≡ [] }
+        ensures { IsEmpty result }
     {
         Front {
             pages: Vec::new(alloc),
@@ -62,6 +62,67 @@ impl<S> Front<S> {
         self.rows.push(row)?;
         Ok(())
     }
+}
+
+/// The stretch after the last page that may come, with these files open; takes no memory.
+pub(crate) fn last_at_limit(alloc: Global, opens: Opens) -> Last
+    ensures { result ≡ at_limit opens }
+{
+    Last {
+        piece: Bytes::new(alloc),
+        turns: 0,
+        seen: Seen::new(alloc),
+        opens,
+        end: End::PageLimit,
+    }
+}
+
+/// Formats as `format_until_met` does, behind no page yet. What it goes on with is lent, since it may stop anywhere.
+fn format_front<M: Machine>(
+    alloc: Global,
+    machine: &M,
+    files: &FileSet,
+    old: &Rows<M::State>,
+    e: &Edit,
+    resumed: usize,
+    spot: &mut Spot<M::State>,
+    offsets: &mut Offsets,
+    front: &mut Front<M::State>,
+    budget: u64,
+    most: u32,
+    steps: &mut Steps,
+) -> Result<(), AllocError>
+    requires idle { IsIdle M.formatter M.meaning M.pending spot.old.state }
+    requires offsets { AreOffsets old.now.rows.items offsets.old }
+    requires empty { IsEmpty front.old }
+    ensures reaches { OnOk result (let whole = rows_from M.formatter files.now budget most (M.meaning spot.old.state) spot.old.opens in Reaches M.meaning whole (first_meeting M.formatter e.now (rows_meant M.meaning old.now.rows.items) old.now.last resumed (rows_in whole.pages)) front.new) }
+    ensures idle { OnOk result (AreIdle M.formatter M.meaning M.pending front.new.rows.items) }
+    ensures counted { OnOk result (let whole = rows_from M.formatter files.now budget most (M.meaning spot.old.state) spot.old.opens in steps.new ≡ raised steps.old (turns_to whole (first_meeting M.formatter e.now (rows_meant M.meaning old.now.rows.items) old.now.last resumed (rows_in whole.pages)))) }
+
+    // Also where memory was wanting.
+    ensures bound { let whole = rows_from M.formatter files.now budget most (M.meaning spot.old.state) spot.old.opens in steps.new ≤ raised steps.old (turns_to whole (first_meeting M.formatter e.now (rows_meant M.meaning old.now.rows.items) old.now.last resumed (rows_in whole.pages))) }
+{
+    for _page in 0..most {
+        spot.left = budget;
+        match format_row(alloc, machine, files, spot, steps)? {
+            Formatted::Page { body, piece, row } => {
+                let met = met_row(machine, old, offsets, e, resumed, &row);
+                front.push(body, piece, row)?;
+                if let Some(number) = met {
+                    front.stopped = Stopped::Met(number);
+                    return Ok(());
+                }
+                write_down(alloc, offsets, old.rows.as_slice())?;
+            }
+            Formatted::Over(last) => {
+                front.stopped = Stopped::Over(last);
+                return Ok(());
+            }
+        }
+    }
+    let opens = mem::replace(&mut spot.opens, Opens::new(alloc));
+    front.stopped = Stopped::Over(last_at_limit(alloc, opens));
+    Ok(())
 }
 
 /// Formats from a state on, for so many pages at most, until a new row meets an old one. Each turn raises `steps` by one. Its
@@ -88,30 +149,19 @@ pub fn format_until_met<M: Machine>(
 {
     let mut offsets = Offsets::Unread;
     let mut front = Front::new(alloc);
-    for _page in 0..most {
-        spot.left = budget;
-        match format_row(alloc, machine, files, &mut spot, steps)? {
-            Formatted::Page { body, piece, row } => {
-                let met = met_row(machine, old, &offsets, e, resumed, &row);
-                front.push(body, piece, row)?;
-                if let Some(number) = met {
-                    front.stopped = Stopped::Met(number);
-                    return Ok(front);
-                }
-                write_down(alloc, &mut offsets, old.rows.as_slice())?;
-            }
-            Formatted::Over(last) => {
-                front.stopped = Stopped::Over(last);
-                return Ok(front);
-            }
-        }
-    }
-    front.stopped = Stopped::Over(Last {
-        piece: Bytes::new(alloc),
-        turns: 0,
-        seen: Seen::new(alloc),
-        opens: spot.opens,
-        end: End::PageLimit,
-    });
+    format_front(
+        alloc,
+        machine,
+        files,
+        old,
+        e,
+        resumed,
+        &mut spot,
+        &mut offsets,
+        &mut front,
+        budget,
+        most,
+        steps,
+    )?;
     Ok(front)
 }

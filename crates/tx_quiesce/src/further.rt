@@ -11,11 +11,11 @@ ghost use Rattle.tx_quiesce.specs.Reuse as reuse;
 ghost use Rattle.tx_quiesce.specs.Reuse.{moved, moved_begun, rest_of};
 ghost use Rattle.tx_quiesce.specs.Shift.{CanShiftFile, shifted_opens, last_now};
 
+use crate::front::last_at_limit;
 use crate::moving::relocate_opens;
 use std::alloc::{AllocError, Global};
-use tx_bytes::Bytes;
 use tx_checkpoint::{Last, Row, Rows, format_rows};
-use tx_files::{Edit, FileSet, Seen};
+use tx_files::{Edit, FileSet};
 use tx_machine::run::end_of;
 use tx_machine::spot::Spot;
 use tx_machine::{End, Machine, Opens, Steps, Stop};
@@ -66,13 +66,7 @@ fn at_limit<S>(alloc: Global, opens: Opens) -> Rows<S>
         pages: Vec::new(alloc),
         pieces: Vec::new(alloc),
         rows: Vec::new(alloc),
-        last: Last {
-            piece: Bytes::new(alloc),
-            turns: 0,
-            seen: Seen::new(alloc),
-            opens,
-            end: End::PageLimit,
-        },
+        last: last_at_limit(alloc, opens),
     }
 }
 

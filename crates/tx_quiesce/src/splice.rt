@@ -47,8 +47,26 @@ fn overwrite_items<T: Drop>(items: &mut Vec<T>, kept: usize, mut middle: Vec<T>)
     swap_part(items.as_mut_slice(), kept, middle.as_mut_slice());
 }
 
+/// Turns the items behind the first ones round: so many from their front to the end.
+fn rotate_part<T>(items: &mut [T], kept: usize, count: usize)
+    requires { kept + count ≤ length items.old }
+    ensures { items.new ≡ take kept items.old ++ (drop count (drop kept items.old) ++ take count (drop kept items.old)) }
+{
+    items[kept..].rotate_left(count);
+}
+
+/// The same for a `Vec`, which it leaves its room.
+fn rotate_items<T>(items: &mut Vec<T>, kept: usize, count: usize)
+    requires { kept + count ≤ vec_len items.old }
+    ensures items { items.new.items ≡ take kept items.old.items ++ (drop count (drop kept items.old.items) ++ take count (drop kept items.old.items)) }
+    ensures len { vec_len items.new ≡ vec_len items.old }
+    ensures capacity { vec_capacity items.old ≤ vec_capacity items.new }
+{
+    rotate_part(items.as_mut_slice(), kept, count);
+}
+
 /// Keeps the first items, puts others behind them, then a part of those that stood further behind, and others at the end. There
-/// is room for all, so it takes no memory.
+/// is room for all, so it takes no memory. The first items stay where they lie.
 pub fn reuse_items<T: Drop>(
     items: &mut Vec<T>,
     kept: usize,
@@ -66,10 +84,10 @@ pub fn reuse_items<T: Drop>(
     if middle.len() == from - kept {
         overwrite_items(items, kept, middle);
     } else {
-        items.rotate_left(from);
-        items.truncate(count + kept);
+        rotate_items(items, kept, from - kept);
+        items.truncate(kept + count);
         append_within(items, middle);
-        items.rotate_left(count);
+        rotate_items(items, kept, count);
     }
     append_within(items, later);
 }

@@ -1,5 +1,5 @@
 -- The transcript after an edit is that of the rows.
-use Rattle.std.proofs.Common.{◌≡◌, ℕ, List, Result, Ok, Err, refl}
+use Rattle.std.proofs.Common.{◌≡◌, Result, Ok, Err, refl}
 use Rattle.std.specs.Prelude.{OnOk}
 use Rattle.tx_files.specs.declared.edit.Edit.{Edit}
 use Rattle.tx_checkpoint.specs.declared.row.Last.{Last}

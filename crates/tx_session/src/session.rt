@@ -107,7 +107,7 @@ impl<M: Machine> Session<M> {
         ensures most { steps.new ≤ raised steps.old (work M.formatter self.old e.now) }
         ensures bound { steps.new ≤ steps.old + (length (fresh M.formatter (edited_session self.old e.now)).ran.pages + 1) * self.old.limits.budget }
     {
-        let before = self.files.change(e)?;
+        let undo = self.files.change(e)?;
         let kept = self.made.rows.resume_at(e);
         if self.made.rows.stands(kept, e) {
             let pages = self.made.rows.pages.as_slice().len();
@@ -130,7 +130,7 @@ impl<M: Machine> Session<M> {
                 Ok(report_of(pages, kept, reused))
             }
             Err(_) => {
-                self.files.restore(&e.name, before);
+                self.files.restore(&e.name, undo);
                 Err(Refusal::OutOfMemory)
             }
         }

@@ -1,4 +1,4 @@
-use Rattle.std.proofs.Common.{◌≡◌, ◌+◌, ◌++◌, List, map, length, take, drop, refl, sym, ap, subst, ◌∙◌}
+use Rattle.std.proofs.Common.{◌++◌, List, take, drop, refl, sym, ap, subst, ◌∙◌}
 use Rattle.std.specs.List.{All}
 use Rattle.tx_checkpoint.specs.declared.row.Row.{Row}
 use Rattle.tx_quiesce.specs.Shift.{CanShiftRow, shifted_row, with_part_shifted}

@@ -1,4 +1,4 @@
-use Rattle.std.proofs.Common.{◌≡◌, ◌-◌, length, ap, ◌∙◌, arith, rules}
+use Rattle.std.proofs.Common.{◌≡◌, ◌-◌, length, ap, ◌∙◌, rules}
 use Rattle.tx_quiesce.proofs.Spliced.{overwritten-so, spliced-so}
 use Rattle.tx_quiesce.proofs.splice.reuse_items.Goals as goal
 use Rattle.tx_quiesce.proofs.splice.reuse_items.Goals.{then-len-from, else-len-from}
@@ -11,5 +11,5 @@ returns g c = elim c.if-len-from.branch [
       c.truncate.ensures.items (ap (λ v. v.items) w.items-is ∙ w.overwrite_items.ensures.items) c.append_within-2.ensures.items
   | else-len-from w ↦
       spliced-so c.args.items.now.items c.args.middle.items c.args.later.items c.args.kept c.args.from c.args.count c.requires.order (search (rules, c.requires.within))
-      c.truncate.ensures.items w.rotate_left.ensures.items w.truncate-else-len-from.ensures.items w.append_within.ensures.items (ap (λ v. v.items) w.items-is ∙ w.rotate_left-else-len-from.ensures.items) c.append_within-2.ensures.items
+      c.truncate.ensures.items w.rotate_items.ensures.items w.truncate-else-len-from.ensures.items w.append_within.ensures.items (ap (λ v. v.items) w.items-is ∙ w.rotate_items-else-len-from.ensures.items) c.append_within-2.ensures.items
 ]

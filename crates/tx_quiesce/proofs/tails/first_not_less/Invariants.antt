@@ -1,4 +1,4 @@
-use Rattle.std.proofs.Common.{◌≡◌, ◌-◌, ◌≤◌, ◌<◌, ℕ, length, slice_index_or}
+use Rattle.std.proofs.Common.{◌-◌, ◌≤◌, ◌<◌, ℕ, length, slice_index_or}
 use Rattle.tx_quiesce.proofs.tails.first_not_less.Given as goal
 
 -- numbers before the low place are less, those from the high one on are not

@@ -1,4 +1,4 @@
-use Rattle.std.proofs.Common.{◌≡◌, ◌++◌, [], sym, ap, ◌∙◌, append-nil}
+use Rattle.std.proofs.Common.{◌++◌, [], sym, ap, ◌∙◌, append-nil}
 use Rattle.tx_quiesce.specs.Later.{pieces_of}
 use Rattle.tx_session.specs.Held.{joined_with}
 use Rattle.tx_session.specs.Made.{last_piece}

@@ -1,4 +1,4 @@
-use Rattle.std.proofs.Common.{◌≡◌, sym, ap, ◌∙◌}
+use Rattle.std.proofs.Common.{sym, ap, ◌∙◌}
 use Rattle.tx_quiesce.proofs.Carried.{reused-rows, reused-idle}
 use Rattle.tx_session.specs.Held.{joined_with}
 use Rattle.tx_session.proofs.Saying.{last-said}

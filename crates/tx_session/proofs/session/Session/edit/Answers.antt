@@ -1,7 +1,5 @@
-use Rattle.std.proofs.Common.{◌≡◌, ◌≤◌, ◌<◌, ◌+◌, ◌*◌, ◌^◌, List, Option, length, sym, ap, subst, ◌∙◌, arith}
+use Rattle.std.proofs.Common.{◌≤◌, ◌<◌, ◌+◌, ◌*◌, ◌^◌, length, sym, ap, subst, ◌∙◌, arith}
 use Rattle.std.specs.Prelude.{IfSome}
-use Rattle.tx_dvi.specs.declared.page.PageBody.{PageBody}
-use Rattle.tx_files.specs.Edits.{bytes_of}
 use Rattle.tx_machine.specs.Steps.{raised}
 use Rattle.tx_machine.proofs.Going.{raised-zero}
 use Rattle.tx_checkpoint.specs.Meant.{rows_meant}
@@ -17,15 +15,15 @@ use Rattle.tx_session.proofs.session.Session.edit.Goals as goal
 
 pub invariant_of-self-then-stands : goal.invariant_of-self-then-stands
 invariant_of-self-then-stands g c =
-    shows-still c.self.invariant c.args.e.now c.in_ok-before.ensures.answer c.in_ok-before.ensures.ok (sym c.if-stands.ensures)
+    shows-still c.self.invariant c.args.e.now c.in_ok-undo.ensures.answer c.in_ok-undo.ensures.ok (sym c.if-stands.ensures)
 
 pub returns-then-stands-clause-report : goal.returns-then-stands-clause-report
 returns-then-stands-clause-report g c =
-    c.report_of.ensures ∙ (λ i. report_of (length (c.as_slice-pages.ensures.value i)) (length (c.as_slice-pages.ensures.value i)) 0) ∙ report-still c.self.invariant c.args.e.now c.in_ok-before.ensures.answer c.in_ok-before.ensures.ok (sym c.if-stands.ensures) ∙ ap (λ (held : Held). report g.M.Machine.formatter held c.args.e.now) c.self.view_is
+    c.report_of.ensures ∙ (λ i. report_of (length (c.as_slice-pages.ensures.value i)) (length (c.as_slice-pages.ensures.value i)) 0) ∙ report-still c.self.invariant c.args.e.now c.in_ok-undo.ensures.answer c.in_ok-undo.ensures.ok (sym c.if-stands.ensures) ∙ ap (λ (held : Held). report g.M.Machine.formatter held c.args.e.now) c.self.view_is
 
 pub returns-then-stands-clause-counted : goal.returns-then-stands-clause-counted
 returns-then-stands-clause-counted g c =
-    sym (raised-zero c.args.steps.now) ∙ ap (raised c.args.steps.now) (sym (work-still c.self.invariant c.args.e.now c.in_ok-before.ensures.answer c.in_ok-before.ensures.ok (sym c.if-stands.ensures)) ∙ ap (λ (held : Held). work g.M.Machine.formatter held c.args.e.now) c.self.view_is)
+    sym (raised-zero c.args.steps.now) ∙ ap (raised c.args.steps.now) (sym (work-still c.self.invariant c.args.e.now c.in_ok-undo.ensures.answer c.in_ok-undo.ensures.ok (sym c.if-stands.ensures)) ∙ ap (λ (held : Held). work g.M.Machine.formatter held c.args.e.now) c.self.view_is)
 
 pub overflow_cast-kept : goal.overflow_cast-kept
 overflow_cast-kept g c =
@@ -33,7 +31,7 @@ overflow_cast-kept g c =
     omega arith
 
 pub make_after-requires-clause-lengths : goal.make_after-requires-clause-lengths
-make_after-requires-clause-lengths g c = one-length c.self.invariant c.args.e.now c.in_ok-before.ensures.answer c.in_ok-before.ensures.ok
+make_after-requires-clause-lengths g c = one-length c.self.invariant c.args.e.now c.in_ok-undo.ensures.answer c.in_ok-undo.ensures.ok
 
 pub make_after-requires-clause-within : goal.make_after-requires-clause-within
 make_after-requires-clause-within g c =
@@ -46,54 +44,59 @@ make_after-requires-clause-fewer g c =
 pub make_after-requires-clause-can : goal.make_after-requires-clause-can
 make_after-requires-clause-can g c small =
     subst (λ n. IfSome (meeting_behind g.M.Machine.formatter c.change.new.self c.args.e.now (rows_meant g.M.Machine.meaning c.self.inside.made.rows.rows.items) c.self.inside.made.rows.last n c.self.inside.main c.self.inside.date c.self.inside.limits) (λ (meeting : Meeting). CanReuse c.args.e.now meeting.old c.self.inside.made.rows.rows.items c.self.inside.made.rows.last))
-    (sym c.resume_at-kept.ensures) (can-be c.self.invariant c.args.e.now c.in_ok-before.ensures.answer c.in_ok-before.ensures.ok small)
+    (sym c.resume_at-kept.ensures) (can-be c.self.invariant c.args.e.now c.in_ok-undo.ensures.answer c.in_ok-undo.ensures.ok small)
 
 pub report_of-requires-in-Ok : goal.report_of-requires-in-Ok
 report_of-requires-in-Ok g c =
     let made = c.make_after.new.made in
     let kept = c.resume_at-kept.ensures in
-    let shown = shows-on c.self.invariant c.args.e.now c.in_ok-before.ensures.answer c.in_ok-before.ensures.ok g.met.M.Machine.lawful made
+    let shown = shows-on c.self.invariant c.args.e.now c.in_ok-undo.ensures.answer c.in_ok-undo.ensures.ok g.met.M.Machine.lawful made
     (subst (λ n. Becomes g.M.Machine.meaning c.self.inside.made.rows (made_after g.M.Machine.formatter c.change.new.self c.args.e.now c.self.inside.main c.self.inside.date c.self.inside.limits n) made.rows) kept c.in-Ok.ensures.goes) c.in-Ok.ensures.idle c.in-Ok.ensures.said in
     let many = c.in-Ok.ensures.reused ∙ ap (λ n. reused_rows c.self.inside.limits.pages (length c.self.inside.made.rows.rows.items) n (meeting_behind g.M.Machine.formatter c.change.new.self c.args.e.now (rows_meant g.M.Machine.meaning c.self.inside.made.rows.rows.items) c.self.inside.made.rows.last n c.self.inside.main c.self.inside.date c.self.inside.limits)) kept
-    ∙ reused-told c.self.invariant c.args.e.now c.in_ok-before.ensures.answer c.in_ok-before.ensures.ok in
-    let within = reused-within c.self.invariant c.args.e.now c.in_ok-before.ensures.answer c.in_ok-before.ensures.ok g.met.M.Machine.lawful made shown in
+    ∙ reused-told c.self.invariant c.args.e.now c.in_ok-undo.ensures.answer c.in_ok-undo.ensures.ok in
+    let within = reused-within c.self.invariant c.args.e.now c.in_ok-undo.ensures.answer c.in_ok-undo.ensures.ok g.met.M.Machine.lawful made shown in
     let pages = ap length c.as_slice-pages-in-Ok.ensures.value in
     omega (arith, kept, many, within, pages)
 
 pub invariant_of-self-in-Ok : goal.invariant_of-self-in-Ok
 invariant_of-self-in-Ok g c =
-    shows-on c.self.invariant c.args.e.now c.in_ok-before.ensures.answer c.in_ok-before.ensures.ok g.met.M.Machine.lawful c.make_after.new.made
+    shows-on c.self.invariant c.args.e.now c.in_ok-undo.ensures.answer c.in_ok-undo.ensures.ok g.met.M.Machine.lawful c.make_after.new.made
     (subst (λ n. Becomes g.M.Machine.meaning c.self.inside.made.rows (made_after g.M.Machine.formatter c.change.new.self c.args.e.now c.self.inside.main c.self.inside.date c.self.inside.limits n) c.make_after.new.made.rows) c.resume_at-kept.ensures c.in-Ok.ensures.goes) c.in-Ok.ensures.idle c.in-Ok.ensures.said
 
 pub invariant_of-self-in-Ok-2 : goal.invariant_of-self-in-Ok-2
 invariant_of-self-in-Ok-2 g c =
-    shows-on c.self.invariant c.args.e.now c.in_ok-before.ensures.answer c.in_ok-before.ensures.ok g.met.M.Machine.lawful c.make_after.new.made
+    shows-on c.self.invariant c.args.e.now c.in_ok-undo.ensures.answer c.in_ok-undo.ensures.ok g.met.M.Machine.lawful c.make_after.new.made
+    (subst (λ n. Becomes g.M.Machine.meaning c.self.inside.made.rows (made_after g.M.Machine.formatter c.change.new.self c.args.e.now c.self.inside.main c.self.inside.date c.self.inside.limits n) c.make_after.new.made.rows) c.resume_at-kept.ensures c.in-Ok.ensures.goes) c.in-Ok.ensures.idle c.in-Ok.ensures.said
+
+pub invariant_of-self-in-Ok-3 : goal.invariant_of-self-in-Ok-3
+invariant_of-self-in-Ok-3 g c =
+    shows-on c.self.invariant c.args.e.now c.in_ok-undo.ensures.answer c.in_ok-undo.ensures.ok g.met.M.Machine.lawful c.make_after.new.made
     (subst (λ n. Becomes g.M.Machine.meaning c.self.inside.made.rows (made_after g.M.Machine.formatter c.change.new.self c.args.e.now c.self.inside.main c.self.inside.date c.self.inside.limits n) c.make_after.new.made.rows) c.resume_at-kept.ensures c.in-Ok.ensures.goes) c.in-Ok.ensures.idle c.in-Ok.ensures.said
 
 pub returns-in-Ok-clause-report : goal.returns-in-Ok-clause-report
 returns-in-Ok-clause-report g c =
     let made = c.make_after.new.made in
     let kept = c.resume_at-kept.ensures in
-    let shown = shows-on c.self.invariant c.args.e.now c.in_ok-before.ensures.answer c.in_ok-before.ensures.ok g.met.M.Machine.lawful made
+    let shown = shows-on c.self.invariant c.args.e.now c.in_ok-undo.ensures.answer c.in_ok-undo.ensures.ok g.met.M.Machine.lawful made
     (subst (λ n. Becomes g.M.Machine.meaning c.self.inside.made.rows (made_after g.M.Machine.formatter c.change.new.self c.args.e.now c.self.inside.main c.self.inside.date c.self.inside.limits n) made.rows) kept c.in-Ok.ensures.goes) c.in-Ok.ensures.idle c.in-Ok.ensures.said in
     let many = c.in-Ok.ensures.reused ∙ ap (λ n. reused_rows c.self.inside.limits.pages (length c.self.inside.made.rows.rows.items) n (meeting_behind g.M.Machine.formatter c.change.new.self c.args.e.now (rows_meant g.M.Machine.meaning c.self.inside.made.rows.rows.items) c.self.inside.made.rows.last n c.self.inside.main c.self.inside.date c.self.inside.limits)) kept
-    ∙ reused-told c.self.invariant c.args.e.now c.in_ok-before.ensures.answer c.in_ok-before.ensures.ok in
+    ∙ reused-told c.self.invariant c.args.e.now c.in_ok-undo.ensures.answer c.in_ok-undo.ensures.ok in
     c.report_of-in-Ok.ensures ∙ (λ i. report_of (length (c.as_slice-pages-in-Ok.ensures.value i)) (kept i) (many i))
-    ∙ report-on c.self.invariant c.args.e.now c.in_ok-before.ensures.answer c.in_ok-before.ensures.ok (sym c.if-stands.ensures) made shown ∙ ap (λ (held : Held). report g.M.Machine.formatter held c.args.e.now) c.self.view_is
+    ∙ report-on c.self.invariant c.args.e.now c.in_ok-undo.ensures.answer c.in_ok-undo.ensures.ok (sym c.if-stands.ensures) made shown ∙ ap (λ (held : Held). report g.M.Machine.formatter held c.args.e.now) c.self.view_is
 
 pub returns-in-Ok-clause-counted : goal.returns-in-Ok-clause-counted
 returns-in-Ok-clause-counted g c =
     let old = rows_of g.M.Machine.formatter (record { files = c.self.inside.files; main = c.self.inside.main; date = c.self.inside.date; limits = c.self.inside.limits }) in
     c.in-Ok.ensures.counted old c.self.invariant.rows
     ∙ ap (raised c.args.steps.now) (ap (λ n. turns_behind g.M.Machine.formatter c.change.new.self c.args.e.now c.self.inside.main c.self.inside.date c.self.inside.limits n old) c.resume_at-kept.ensures
-    ∙ sym (work-on c.self.invariant c.args.e.now c.in_ok-before.ensures.answer c.in_ok-before.ensures.ok g.met.M.Machine.lawful (sym c.if-stands.ensures)) ∙ ap (λ (held : Held). work g.M.Machine.formatter held c.args.e.now) c.self.view_is)
+    ∙ sym (work-on c.self.invariant c.args.e.now c.in_ok-undo.ensures.answer c.in_ok-undo.ensures.ok g.met.M.Machine.lawful (sym c.if-stands.ensures)) ∙ ap (λ (held : Held). work g.M.Machine.formatter held c.args.e.now) c.self.view_is)
 
 pub returns-in-Ok-clause-most : goal.returns-in-Ok-clause-most
 returns-in-Ok-clause-most g c =
     let old = rows_of g.M.Machine.formatter (record { files = c.self.inside.files; main = c.self.inside.main; date = c.self.inside.date; limits = c.self.inside.limits }) in
     subst (λ turns. c.make_after.new.steps ≤ raised c.args.steps.now turns)
     (ap (λ n. turns_behind g.M.Machine.formatter c.change.new.self c.args.e.now c.self.inside.main c.self.inside.date c.self.inside.limits n old) c.resume_at-kept.ensures
-    ∙ sym (work-on c.self.invariant c.args.e.now c.in_ok-before.ensures.answer c.in_ok-before.ensures.ok g.met.M.Machine.lawful (sym c.if-stands.ensures)) ∙ ap (λ (held : Held). work g.M.Machine.formatter held c.args.e.now) c.self.view_is)
+    ∙ sym (work-on c.self.invariant c.args.e.now c.in_ok-undo.ensures.answer c.in_ok-undo.ensures.ok g.met.M.Machine.lawful (sym c.if-stands.ensures)) ∙ ap (λ (held : Held). work g.M.Machine.formatter held c.args.e.now) c.self.view_is)
     (c.make_after.ensures.bound old c.self.invariant.rows)
 
 pub returns-in-Ok-clause-bound : goal.returns-in-Ok-clause-bound
@@ -102,16 +105,16 @@ returns-in-Ok-clause-bound g c =
     subst (λ (held : Held). c.make_after.new.steps ≤ c.args.steps.now + (length (fresh g.M.Machine.formatter (edited_session held c.args.e.now)).ran.pages + 1) * held.limits.budget) c.self.view_is
     (raised-within c.args.steps.now _ _ _ (subst (λ turns. c.make_after.new.steps ≤ raised c.args.steps.now turns)
     (ap (λ n. turns_behind g.M.Machine.formatter c.change.new.self c.args.e.now c.self.inside.main c.self.inside.date c.self.inside.limits n old) c.resume_at-kept.ensures
-    ∙ sym (work-on c.self.invariant c.args.e.now c.in_ok-before.ensures.answer c.in_ok-before.ensures.ok g.met.M.Machine.lawful (sym c.if-stands.ensures)))
+    ∙ sym (work-on c.self.invariant c.args.e.now c.in_ok-undo.ensures.answer c.in_ok-undo.ensures.ok g.met.M.Machine.lawful (sym c.if-stands.ensures)))
     (c.make_after.ensures.bound old c.self.invariant.rows))
-    (work-bound c.self.invariant c.args.e.now c.in_ok-before.ensures.answer c.in_ok-before.ensures.ok g.met.M.Machine.lawful))
+    (work-bound c.self.invariant c.args.e.now c.in_ok-undo.ensures.answer c.in_ok-undo.ensures.ok g.met.M.Machine.lawful))
 
 pub returns-in-Err-clause-most : goal.returns-in-Err-clause-most
 returns-in-Err-clause-most g c =
     let old = rows_of g.M.Machine.formatter (record { files = c.self.inside.files; main = c.self.inside.main; date = c.self.inside.date; limits = c.self.inside.limits }) in
     subst (λ turns. c.make_after.new.steps ≤ raised c.args.steps.now turns)
     (ap (λ n. turns_behind g.M.Machine.formatter c.change.new.self c.args.e.now c.self.inside.main c.self.inside.date c.self.inside.limits n old) c.resume_at-kept.ensures
-    ∙ sym (work-on c.self.invariant c.args.e.now c.in_ok-before.ensures.answer c.in_ok-before.ensures.ok g.met.M.Machine.lawful (sym c.if-stands.ensures)) ∙ ap (λ (held : Held). work g.M.Machine.formatter held c.args.e.now) c.self.view_is)
+    ∙ sym (work-on c.self.invariant c.args.e.now c.in_ok-undo.ensures.answer c.in_ok-undo.ensures.ok g.met.M.Machine.lawful (sym c.if-stands.ensures)) ∙ ap (λ (held : Held). work g.M.Machine.formatter held c.args.e.now) c.self.view_is)
     (c.make_after.ensures.bound old c.self.invariant.rows)
 
 pub returns-in-Err-clause-bound : goal.returns-in-Err-clause-bound
@@ -120,6 +123,6 @@ returns-in-Err-clause-bound g c =
     subst (λ (held : Held). c.make_after.new.steps ≤ c.args.steps.now + (length (fresh g.M.Machine.formatter (edited_session held c.args.e.now)).ran.pages + 1) * held.limits.budget) c.self.view_is
     (raised-within c.args.steps.now _ _ _ (subst (λ turns. c.make_after.new.steps ≤ raised c.args.steps.now turns)
     (ap (λ n. turns_behind g.M.Machine.formatter c.change.new.self c.args.e.now c.self.inside.main c.self.inside.date c.self.inside.limits n old) c.resume_at-kept.ensures
-    ∙ sym (work-on c.self.invariant c.args.e.now c.in_ok-before.ensures.answer c.in_ok-before.ensures.ok g.met.M.Machine.lawful (sym c.if-stands.ensures)))
+    ∙ sym (work-on c.self.invariant c.args.e.now c.in_ok-undo.ensures.answer c.in_ok-undo.ensures.ok g.met.M.Machine.lawful (sym c.if-stands.ensures)))
     (c.make_after.ensures.bound old c.self.invariant.rows))
-    (work-bound c.self.invariant c.args.e.now c.in_ok-before.ensures.answer c.in_ok-before.ensures.ok g.met.M.Machine.lawful))
+    (work-bound c.self.invariant c.args.e.now c.in_ok-undo.ensures.answer c.in_ok-undo.ensures.ok g.met.M.Machine.lawful))

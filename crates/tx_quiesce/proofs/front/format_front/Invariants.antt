@@ -4,7 +4,7 @@ use Rattle.tx_checkpoint.specs.Rows.{rows_from}
 use Rattle.tx_checkpoint.proofs.Keeping.{Keeping}
 use Rattle.tx_quiesce.specs.Meeting.{first_meeting}
 use Rattle.tx_quiesce.specs.Tails.{AreOffsets}
-use Rattle.tx_quiesce.proofs.front.format_until_met.Given as goal
+use Rattle.tx_quiesce.proofs.front.format_front.Given as goal
 
 abbrev pub invariant-loop-page : goal.invariant-loop-page
 invariant-loop-page g l = record {
