@@ -1,5 +1,5 @@
 -- The machine keeps the laws of every machine.
-use Rattle.std.specs.Prelude.{◌≡◌, ℕ, Bool, true, false, cond, List, [], ◌∷◌, length, nat_le, refl}
+use Rattle.std.specs.Prelude.{◌≡◌, ℕ, Bool, true, false, cond, List, [], ◌∷◌, length, nat_le, ◌==◌, refl}
 use Rattle.std.proofs.Common.{arith}
 use Rattle.tx_machine.specs.declared.types.Reply.{Reply}
 use Rattle.tx_machine.specs.declared.types.Reply.TheVariants.{Found, Absent, Line, Ended, Whole, Closed}
@@ -9,7 +9,7 @@ use Rattle.line_machine.specs.declared.state.Phase.TheVariants.{Begins, Reads, F
 use Rattle.tx_machine.specs.Same.{same-tells}
 use Rattle.line_machine.specs.Codes.{meaning_code}
 use Rattle.line_machine.specs.State.{Meaning, mode_of}
-use Rattle.line_machine.specs.Turns.{line_machine, reads, ships, steps, is_full_stop, heard}
+use Rattle.line_machine.specs.Turns.{line_machine, reads, ships, steps, is_lone, heard}
 
 -- the mode after a turn is that of its event
 abbrev Leads : Stepped Meaning → Type 0
@@ -24,7 +24,7 @@ ship-leads s text first = choice-leads (nat_le (length text) 200000) _ _ refl re
 
 read-leads : (s : Meaning) (text : List ℕ) → Leads (reads s text)
 read-leads s [] = refl
-read-leads s (first ∷ rest) = choice-leads (is_full_stop first rest) _ _ refl (ship-leads s (first ∷ rest) first)
+read-leads s (first ∷ rest) = choice-leads (is_lone 46 first rest) _ _ refl (choice-leads (is_lone 41 first rest) _ _ refl (choice-leads (first == 40) _ _ refl (ship-leads s (first ∷ rest) first)))
 
 step-leads : (s : Meaning) (phase : Phase) → Leads (steps s phase)
 step-leads s (Begins name) = refl

@@ -1,11 +1,11 @@
--- The machine of which each line is a page.
+-- The machine of which each line is a page, but for those that lead to other files and back.
 use Rattle.std.specs.Prelude.{◌≡◌, ℕ, ◌-◌, ◌==◌, Bool, false, pos, List, [], ◌∷◌, ◌++◌, length, take, slice_get, replicate, nat_le, Option, Some, None, if◌then◌else◌}
 use Rattle.tx_dvi.specs.declared.page.DateParameters.{DateParameters}
 use Rattle.tx_dvi.specs.Page.{Page}
 use Rattle.tx_files.specs.Lines.{is_line_feed}
 use Rattle.tx_machine.specs.declared.types.Date.{Date}
 use Rattle.tx_machine.specs.declared.types.Ask.{Ask}
-use Rattle.tx_machine.specs.declared.types.Ask.TheVariants.{Open, Line as AskLine}
+use Rattle.tx_machine.specs.declared.types.Ask.TheVariants.{Open, Line as AskLine, Close}
 use Rattle.tx_machine.specs.declared.types.Reply.{Reply}
 use Rattle.tx_machine.specs.declared.types.Reply.TheVariants.{Found, Absent, Line, Ended, Whole, Closed}
 use Rattle.tx_machine.specs.declared.types.Event.{Event}
@@ -64,15 +64,20 @@ ships s text first =
     then record { event = Shipped (page_of s.date text); next = record s { phase = Reads [] }; said = first ∷ [] }
     else fails s TooLong
 
--- a lone full stop
-abbrev pub is_full_stop : ℕ → List ℕ → Bool
-is_full_stop first [] = first == 46
-is_full_stop first (second ∷ rest) = false
+-- a lone character: a full stop, or `)`
+abbrev pub is_lone : ℕ → ℕ → List ℕ → Bool
+is_lone character first [] = first == character
+is_lone character first (second ∷ rest) = false
 
--- what comes of a line: nothing, the end, or a page
+-- what comes of a line: nothing; the end; by `)` the file around this one is read on; by `(` and a name that file is read; or a
+-- page
 abbrev pub reads : Meaning → List ℕ → Stepped Meaning
 reads s [] = asks s AskLine
-reads s (first ∷ rest) = if is_full_stop first rest then stops s End else ships s (first ∷ rest) first
+reads s (first ∷ rest) =
+    if is_lone 46 first rest then stops s End
+    else if is_lone 41 first rest then asks s Close
+    else if first == 40 then asks s (Open rest)
+    else ships s (first ∷ rest) first
 
 abbrev pub steps : Meaning → Phase → Stepped Meaning
 steps s (Begins name) = asks s (Open name)
@@ -85,14 +90,14 @@ steps s Halted = fails s NoEnd
 abbrev pub step : Meaning → Stepped Meaning
 step s = steps s s.phase
 
--- what a reply brings; the last two are never asked for
+-- what a reply brings; no file is asked for as a whole
 abbrev pub heard : Reply → Phase
 heard Found = Reads []
 heard Absent = Fails FileAbsent
 heard (Line bytes) = Reads (text_of bytes)
 heard Ended = Fails NoEnd
 heard (Whole bytes) = Fails NoEnd
-heard Closed = Fails NoEnd
+heard Closed = Reads []
 
 -- the machine; each turn costs 1
 unfoldable pub line_machine : Formatter Meaning

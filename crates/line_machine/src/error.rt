@@ -9,9 +9,9 @@ use thiserror::Error;
 pub enum LineError {
     #[error("a line has more than 200,000 bytes before its LF")]
     TooLong,
-    #[error("the main file is absent")]
+    #[error("a file is absent")]
     FileAbsent,
-    #[error("the main file has ended and no line was a lone full stop")]
+    #[error("a file has ended and no line of it led back or was a lone full stop")]
     NoEnd,
 }
 

@@ -1,4 +1,5 @@
-//! The smallest machine behind the seam: each line of its main file is a page. It shows that the seam isn't TeX's own.
+//! The smallest machine behind the seam: each line is a page, but for `(NAME`, which leads to the file of that name, `)`, which
+//! leads back, and a full stop, which ends the run. It shows that the seam isn't TeX's own.
 //!
 //! Proved: it meets the trait `Machine`, as TeX does. Only tested: its fresh runs and its sessions, worked out by hand.
 //!

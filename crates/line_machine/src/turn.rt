@@ -2,6 +2,7 @@
 ghost use Rattle.std.specs.Prelude.{◌≡◌, ◌++◌, ◌∷◌, [], IfOk, OnOk};
 ghost use Rattle.tx_machine.specs.Machine.{kind_of, Ready};
 ghost use Rattle.tx_machine.specs.Ranges.{IsDate};
+ghost use Rattle.tx_machine.specs.declared.types.Ask.TheVariants.{Open};
 ghost use Rattle.line_machine.specs.State.{meaning_of, mode_of};
 ghost use Rattle.line_machine.specs.Turns as turns;
 ghost use Rattle.line_machine.specs.Turns.{IsStepped};
@@ -78,6 +79,14 @@ fn ship(alloc: Global, s: &mut State, text: Bytes, first: u8) -> Result<Event, A
     Ok(Event::Shipped(PageBody::new(alloc, parts)?))
 }
 
+/// Reads on in the file of this name.
+fn open(alloc: Global, s: &mut State, name: &[u8]) -> Result<Event, AllocError>
+    ensures { IfOk result (λ event. IsStepped (turns.asks (meaning_of s.old) (Open name.now)) event (meaning_of s.new) s.old.said s.new.said) }
+{
+    let name = Bytes::from_slice(alloc, name)?;
+    Ok(ask(s, AskKind::Open, Ask::Open(name)))
+}
+
 /// What comes of a line.
 fn read(alloc: Global, s: &mut State, text: Bytes) -> Result<Event, AllocError>
     ensures { IfOk result (λ event. IsStepped (turns.reads (meaning_of s.old) text) event (meaning_of s.new) s.old.said s.new.said) }
@@ -85,6 +94,8 @@ fn read(alloc: Global, s: &mut State, text: Bytes) -> Result<Event, AllocError>
     match text.as_slice() {
         [] => Ok(ask(s, AskKind::Line, Ask::Line)),
         [b'.'] => Ok(stop(s, Stop::End)),
+        [b')'] => Ok(ask(s, AskKind::Close, Ask::Close)),
+        [b'(', name @ ..] => open(alloc, s, name),
         [first, ..] => {
             let first = *first;
             ship(alloc, s, text, first)
@@ -112,6 +123,7 @@ pub fn hear(alloc: Global, reply: &Reply) -> Result<Phase, AllocError>
     match reply {
         Reply::Found => Ok(Phase::Reads(Bytes::new(alloc))),
         Reply::Absent => Ok(Phase::Fails(LineError::FileAbsent)),
+        Reply::Closed => Ok(Phase::Reads(Bytes::new(alloc))),
         Reply::Line(line) => Ok(Phase::Reads(Bytes::from_slice(alloc, text_of(line.as_slice()))?)),
         _ => Ok(Phase::Fails(LineError::NoEnd)),
     }
