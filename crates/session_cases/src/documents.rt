@@ -1,4 +1,4 @@
-//! Documents of one file.
+//! Documents of a file or two.
 use std::alloc::{AllocError, Global};
 use tx_bytes::Bytes;
 use tx_files::{FileSet, Name};
@@ -18,7 +18,13 @@ pub fn set_of(alloc: Global, name: &[u8], bytes: &[u8]) -> Result<FileSet, Alloc
     Ok(files)
 }
 
-fn put(alloc: Global, files: &mut FileSet, name: &[u8], bytes: &[u8]) -> Result<(), AllocError> {
+/// Puts a file into a set; leaves it where that is no name.
+pub fn put(
+    alloc: Global,
+    files: &mut FileSet,
+    name: &[u8],
+    bytes: &[u8],
+) -> Result<(), AllocError> {
     let Some(name) = Name::new(Bytes::from_slice(alloc, name)?) else {
         return Ok(());
     };

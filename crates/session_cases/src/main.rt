@@ -25,7 +25,7 @@ impl Answers for Program {
         let (word, rest) = first_word(line);
         Ok(match word {
             "resume" => rows::answer(rt.alloc(), rest)?,
-            "edited" => sessions::edited(rt.alloc(), lines, rt.steps())?,
+            "edited" => sessions::edited(rt.alloc(), rest, lines, rt.steps())?,
             "replayed" => sessions::replayed(rt.alloc(), lines, rt.steps())?,
             _ => runs::answer(rt.alloc(), word, rest, rt.steps())?,
         })

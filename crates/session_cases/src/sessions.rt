@@ -1,6 +1,7 @@
-//! Cases of sessions over line_machine, worked out by hand: a run takes a turn to open its file, one for each line, one for
-//! each page and one to stop; an edit takes those of the pages behind its place alone.
-use crate::documents::{main_name, set_of};
+//! Cases of sessions over line_machine, worked out by hand: a run takes a turn to open a file, one for each line, one for
+//! each page, each line that leads to another file or back, and one to stop; an edit takes those of the pages that it formats
+//! alone.
+use crate::documents::{main_name, put, set_of};
 use crate::edits::edit_of;
 use line_machine::LineMachine;
 use std::alloc::{AllocError, Global};
@@ -22,14 +23,19 @@ const LIMITS: Limits = Limits {
     keep: 1,
 };
 
-/// A document of one file, opened.
+/// A document of its main file's text and, where `more` isn't empty, the name and the text of another file, opened.
 fn opened(
     alloc: Global,
+    more: &str,
     document: &str,
     steps: &mut Steps,
 ) -> Result<Session<LineMachine>, AllocError> {
     let bytes = bytes_of(alloc, document)?;
-    open(alloc, set_of(alloc, b"main", bytes.as_slice())?, steps)
+    let mut files = set_of(alloc, b"main", bytes.as_slice())?;
+    let (name, text) = first_word(more);
+    let bytes = bytes_of(alloc, text)?;
+    put(alloc, &mut files, name.as_bytes(), bytes.as_slice())?;
+    open(alloc, files, steps)
 }
 
 fn open(
@@ -89,12 +95,21 @@ fn append_answer(text: &mut String, answer: Result<Report, Refusal>) -> Result<(
     }
 }
 
-/// The edit of `main` of a line with its place, how many bytes it takes out, and what it puts in.
+/// The edit of a line with its place in `main`, how many bytes it takes out, and what it puts in; or the same behind the name of
+/// another file.
 fn edit(alloc: Global, line: &str) -> Result<Edit, AllocError> {
+    let (word, rest) = first_word(line);
+    if word.parse::<u64>().is_ok() {
+        return edit_in(alloc, "main", line);
+    }
+    edit_in(alloc, word, rest)
+}
+
+fn edit_in(alloc: Global, name: &str, line: &str) -> Result<Edit, AllocError> {
     let (place, rest) = first_word(line);
     let (removed, put) = first_word(rest);
     let (place, removed) = (place.parse().unwrap_or(0), removed.parse().unwrap_or(0));
-    match edit_of(alloc, "main", place, removed, put)? {
+    match edit_of(alloc, name, place, removed, put)? {
         Some(e) => Ok(e),
         None => Err(AllocError),
     }
@@ -127,11 +142,16 @@ fn append_edits(
     Ok(())
 }
 
-/// What there is of the document of the first line, and after each edit of the lines behind it: what the edit is answered,
-/// the pages, the transcript, the end, the size of the DVI file, and the turns so far.
-pub fn edited(alloc: Global, lines: &str, mut steps: Steps) -> Result<String, AllocError> {
+/// What there is of the document of the first line, with another file or none, and after each edit of the lines behind it: what
+/// the edit is answered, the pages, the transcript, the end, the size of the DVI file, and the turns so far.
+pub fn edited(
+    alloc: Global,
+    more: &str,
+    lines: &str,
+    mut steps: Steps,
+) -> Result<String, AllocError> {
     let (document, edits) = first_line(lines);
-    let mut session = opened(alloc, document, &mut steps)?;
+    let mut session = opened(alloc, more, document, &mut steps)?;
     edit_all(alloc, &mut session, edits, &mut steps)
 }
 
@@ -149,7 +169,7 @@ fn edit_all(
 /// What there is after all edits, which are made at once, those that fit.
 pub fn replayed(alloc: Global, lines: &str, mut steps: Steps) -> Result<String, AllocError> {
     let (document, edits) = first_line(lines);
-    let mut session = opened(alloc, document, &mut steps)?;
+    let mut session = opened(alloc, "", document, &mut steps)?;
     replay_all(alloc, &mut session, edits, &mut steps)
 }
 
