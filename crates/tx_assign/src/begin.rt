@@ -15,6 +15,7 @@ fn of_primitive(primitive: Primitive) -> Option<Variable>
         Primitive::Integer(parameter) => Some(Variable::Standing(Place::Integer(parameter))),
         Primitive::Dimension(parameter) => Some(Variable::Standing(Place::Dimension(parameter))),
         Primitive::Relax | Primitive::Par | Primitive::End => None,
+        Primitive::IgnoreSpaces | Primitive::Interaction(_) => None,
         Primitive::BeginGroup | Primitive::EndGroup => None,
         Primitive::EndCsName => None,
         Primitive::Prefix(_) | Primitive::Let | Primitive::Shorthand(_) => None,

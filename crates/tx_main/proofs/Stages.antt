@@ -40,7 +40,7 @@ use Rattle.tx_main.specs.declared.types.Command.TheVariants.{Nothing, Assign}
 use Rattle.tx_main.specs.declared.types.Head.{Head}
 use Rattle.tx_main.specs.declared.types.Head.TheVariants.{Fresh, Prefixed, Defining}
 use Rattle.tx_main.specs.declared.types.Prefixes.{Prefixes}
-use Rattle.tx_main.specs.Commands.{command, command_meant, fresh_command, may_be_prefixed, prefixed_command, assigning, defining, ruling, sizing, box_begin, box_meant, shipped_box}
+use Rattle.tx_main.specs.Commands.{command, command_meant, fresh_command, may_be_prefixed, prefixed_command, assigning, defining, ruling, sizing, box_begin, box_meant, shipped_box, skipping}
 use Rattle.tx_main.specs.Standing.{may_stand}
 use Rattle.tx_main.specs.Mapped.{mapped}
 use Rattle.tx_main.specs.Rests.{command_rest, held, more_needed, stage_rest, stage_held, Begins, GoesOn, IsAssigning, IsBegunBy, IsOn, IsOnAt, IsRuleFed}
@@ -125,6 +125,7 @@ assigning-is stage.Assign k = refl
 assigning-is (stage.Name kind) k = absurd k
 assigning-is (stage.Sized kind) k = absurd k
 assigning-is (stage.Rule kind) k = absurd k
+assigning-is stage.Spaces k = absurd k
 assigning-is stage.ShippedBox k = absurd k
 assigning-is (stage.BoxBegin kind context) k = absurd k
 
@@ -145,6 +146,9 @@ start-needs mode head t old new (Err e) was k = tt
 pub start-goes : {E : Type 0} (mode : Mode) (head : Head) (t : Seen) (new : Scans) (answer : Result (Fed Command) E) → IfOk answer (IsBegunBy mode head 1 (λ more. command mode head (Took t ∷ more)) (Took t ∷ []) new) → IfOk answer (GoesOn new)
 start-goes mode head t new (Ok answer) k = k.goes_on
 start-goes mode head t new (Err e) k = tt
+
+pub space-fed : (mode : Mode) (head : Head) (t : Seen) (old new : Scans) (answer : Fed Command) → old.stage ≡ stage.Spaces → IsBegunBy mode head 1 (λ more. skipping (Took t ∷ more)) (Took t ∷ []) new answer → IsFedBy (command_rest mode head) held old t new answer
+space-fed mode head t old new answer was k = fed-first (command_rest mode head) held old t new answer (rw was refl) (rw was k.reads)
 
 -- what reads on alike is begun alike
 alike : (mode : Mode) (head : Head) (count : ℕ) (reading other : List Item → Reading Command) (tokens : List Item) (new : Scans) (answer : Fed Command) → ((more : List Item) → reading more ≡ other more) → IsBegunBy mode head count other tokens new answer → IsBegunBy mode head count reading tokens new answer
@@ -173,6 +177,9 @@ box-begun kind context new is = λ mode head. record { reads = (refl, rw is (ome
 
 pub shipped-begun : (new : Scans) → new.stage ≡ stage.ShippedBox → Begins shipped_box new (fed.More Expanded)
 shipped-begun new is = λ mode head. record { reads = (refl, rw is (omega arith), λ item more. rw is refl); needs = rw is (omega arith); goes_on = rw is tt }
+
+pub spaces-begun : (new : Scans) → new.stage ≡ stage.Spaces → Begins skipping new (fed.More Expanded)
+spaces-begun new is = λ mode head. record { reads = (refl, rw is (omega arith), λ item more. rw is refl); needs = rw is (omega arith); goes_on = rw is tt }
 
 pub assign-begun : (begun : Assigning) (want : Want) (new : Scans) → assignment begun [] ≡ More want → new.stage ≡ stage.Assign → IsBegun begun new.assignment → assign_needed new.assignment ≤ 1 → Begins (assigning begun) new (fed.More want)
 assign-begun begun want new wants is k few = λ mode head. record {
@@ -207,18 +214,18 @@ fresh-stands mode t new answer h k = λ m head.
     alike m head 0 (λ more. fresh_command mode (Took t ∷ more)) (λ more. command_meant t.meaning more) [] new answer
     (λ more. ap (λ b. cond b (command_meant t.meaning more) (Wrong NotAllowed)) h) (k m head)
 
-pub prefixed-stands : (t : Seen) (new : Scans) (answer : Fed Command) → (is_space t || is_relax t) ≡ false → may_be_prefixed t.meaning ≡ true → Begins (command_meant t.meaning) new answer → Begins (λ more. prefixed_command (Took t ∷ more)) new answer
-prefixed-stands t new answer s h k = λ mode head.
-    alike mode head 0 (λ more. prefixed_command (Took t ∷ more)) (λ more. command_meant t.meaning more) [] new answer
+pub prefixed-stands : (prefixes : Prefixes) (t : Seen) (new : Scans) (answer : Fed Command) → (is_space t || is_relax t) ≡ false → may_be_prefixed prefixes t.meaning ≡ true → Begins (command_meant t.meaning) new answer → Begins (λ more. prefixed_command prefixes (Took t ∷ more)) new answer
+prefixed-stands prefixes t new answer s h k = λ mode head.
+    alike mode head 0 (λ more. prefixed_command prefixes (Took t ∷ more)) (λ more. command_meant t.meaning more) [] new answer
     (λ more.
-    ap (λ b. cond b (Done Nothing more) (cond (may_be_prefixed t.meaning) (command_meant t.meaning more) (Wrong NoAssignment))) s
+    ap (λ b. cond b (Done Nothing more) (cond (may_be_prefixed prefixes t.meaning) (command_meant t.meaning more) (Wrong NoAssignment))) s
     ∙ ap (λ b. cond b (command_meant t.meaning more) (Wrong NoAssignment)) h) (k mode head)
 
 pub first-fresh : (mode : Mode) (head : Head) (t : Seen) (new : Scans) (answer : Fed Command) → head ≡ Fresh → Begins (λ more. fresh_command mode (Took t ∷ more)) new answer → IsBegunBy mode head 1 (λ more. command mode head (Took t ∷ more)) (Took t ∷ []) new answer
 first-fresh mode head t new answer e k = rw e (one-token mode Fresh (λ more. fresh_command mode (Took t ∷ more)) t new answer (k mode Fresh))
 
-pub first-prefixed : (mode : Mode) (head : Head) (prefixes : Prefixes) (t : Seen) (new : Scans) (answer : Fed Command) → head ≡ Prefixed prefixes → Begins (λ more. prefixed_command (Took t ∷ more)) new answer → IsBegunBy mode head 1 (λ more. command mode head (Took t ∷ more)) (Took t ∷ []) new answer
-first-prefixed mode head prefixes t new answer e k = rw e (one-token mode (Prefixed prefixes) (λ more. prefixed_command (Took t ∷ more)) t new answer (k mode (Prefixed prefixes)))
+pub first-prefixed : (mode : Mode) (head : Head) (prefixes : Prefixes) (t : Seen) (new : Scans) (answer : Fed Command) → head ≡ Prefixed prefixes → Begins (λ more. prefixed_command prefixes (Took t ∷ more)) new answer → IsBegunBy mode head 1 (λ more. command mode head (Took t ∷ more)) (Took t ∷ []) new answer
+first-prefixed mode head prefixes t new answer e k = rw e (one-token mode (Prefixed prefixes) (λ more. prefixed_command prefixes (Took t ∷ more)) t new answer (k mode (Prefixed prefixes)))
 
 pub first-defining : {E : Type 0} (mode : Mode) (head : Head) (prefixes : Prefixes) (name : Place) (kind : Shorthand) (t : Seen) (new : Scans) (answer : Result (Fed Command) E) → head ≡ Defining prefixes name kind → ((m : Mode) (h : Head) → IfOk answer (IsBegunBy m h 1 (λ more. assigning (Named name kind) (Took t ∷ more)) (Took t ∷ []) new)) → IfOk answer (IsBegunBy mode head 1 (λ more. command mode head (Took t ∷ more)) (Took t ∷ []) new)
 first-defining mode head prefixes name kind t new (Ok answer) e k = rw e (k mode (Defining prefixes name kind))

@@ -36,7 +36,7 @@ abbrev named : List ℕ → Primitive → Item
 named name primitive = Took (record { token = token.Name name; meaning = meaning.Command primitive })
 
 abbrev unprefixed : Prefixes
-unprefixed = record { global = false }
+unprefixed = record { global = false; long = false; outer = false }
 
 a_rule : read RestrictedHorizontal Fresh (named (codes "vrule") (primitive.Rule Vertical_rule) ∷ plain (codes "width 1pt height 2pt depth 0pt.")) ≡ Done (command.Rule Vertical_rule (record { width = pos 65536; height = Some (pos 131072); depth = Some (pos 0) })) (plain (codes "."))
 unfolding line_of
@@ -67,7 +67,7 @@ a_prefix : read Vertical Fresh (named (codes "global") (primitive.Prefix Global)
 unfolding line_of
 a_prefix = refl
 
-an_advance : read Vertical (Prefixed (record { global = true })) (named (codes "advance") (primitive.Arithmetic Advance) ∷ named (codes "count") (primitive.Numbered number.Count) ∷ plain (codes "12 by-3 ")) ≡ Done (command.Assign (record { place = Count 12; change = Compute Advance (neg_ℤ (pos 3)) })) []
+an_advance : read Vertical (Prefixed (record { global = true; long = false; outer = false })) (named (codes "advance") (primitive.Arithmetic Advance) ∷ named (codes "count") (primitive.Numbered number.Count) ∷ plain (codes "12 by-3 ")) ≡ Done (command.Assign (record { place = Count 12; change = Compute Advance (neg_ℤ (pos 3)) })) []
 an_advance = refl
 
 a_dimension : read RestrictedHorizontal Fresh (named (codes "dimen") (primitive.Numbered number.Dimen) ∷ plain (codes "7 .5pt ")) ≡ Done (command.Assign (record { place = Dimen 7; change = Set (Number (pos 32768)) })) []
@@ -85,8 +85,8 @@ a_category_of_16 : read Vertical Fresh (named (codes "catcode") (primitive.Numbe
 unfolding line_of
 a_category_of_16 = refl
 
-a_space_behind_a_prefix : read Vertical (Prefixed (record { global = true })) (plain (codes " ")) ≡ Done command.Nothing []
+a_space_behind_a_prefix : read Vertical (Prefixed (record { global = true; long = false; outer = false })) (plain (codes " ")) ≡ Done command.Nothing []
 a_space_behind_a_prefix = refl
 
-a_letter_behind_a_prefix : read Vertical (Prefixed (record { global = true })) (plain (codes "x")) ≡ Wrong NoAssignment
+a_letter_behind_a_prefix : read Vertical (Prefixed (record { global = true; long = false; outer = false })) (plain (codes "x")) ≡ Wrong NoAssignment
 a_letter_behind_a_prefix = refl

@@ -1,6 +1,6 @@
 -- The commands, as items at the front of a list (TeX: The Program, part 46 on; The TeXbook, chapters 24 to 26): first the mode, then
 -- what the command takes, by its family.
-use Rattle.std.specs.Prelude.{ℕ, ◌∷◌, [], ◌||◌, Bool, true, false, List, if◌then◌else◌}
+use Rattle.std.specs.Prelude.{ℕ, ◌∷◌, [], ◌||◌, Bool, true, false, not, List, if◌then◌else◌}
 use Rattle.tx_char.specs.declared.category.Cat.{Cat}
 use Rattle.tx_char.specs.declared.category.Cat.TheVariants as category
 use Rattle.tx_prim.specs.declared.family.BoxKind.{BoxKind}
@@ -29,9 +29,10 @@ use Rattle.tx_assign.specs.Assignments.{assignment}
 use Rattle.tx_main.specs.declared.types.BoxContext.{BoxContext}
 use Rattle.tx_main.specs.declared.types.BoxContext.TheVariants.{Append, Ship}
 use Rattle.tx_main.specs.declared.types.Command.{Command}
-use Rattle.tx_main.specs.declared.types.Command.TheVariants.{Nothing, Space, Character, BeginGroup, EndGroup, BeginSemiSimple, EndSemiSimple, Prefix, Define, Assign, Sized, Rule, BeginBox, End}
+use Rattle.tx_main.specs.declared.types.Command.TheVariants.{Nothing, Space, Character, BeginGroup, EndGroup, BeginSemiSimple, EndSemiSimple, Prefix, Define, Assign, Sized, Rule, BeginBox, End, Interact}
 use Rattle.tx_main.specs.declared.types.Head.{Head}
 use Rattle.tx_main.specs.declared.types.Head.TheVariants.{Fresh, Prefixed, Defining}
+use Rattle.tx_main.specs.declared.types.Prefixes.{Prefixes}
 use Rattle.tx_main.specs.Rules.{plain_rule, rule_sides}
 use Rattle.tx_main.specs.Standing.{may_stand}
 
@@ -53,6 +54,12 @@ abbrev pub shipped_box : List Item → Reading Command
 shipped_box [] = More Expanded
 shipped_box (Gave v ∷ rest) = Wrong MissingBox
 shipped_box (Took t ∷ rest) = expanded t (if is_space t || is_relax t then shipped_box rest else box_meant t.meaning rest)
+
+-- spaces, which are skipped (TeX: The Program, section 1045)
+abbrev pub skipping : List Item → Reading Command
+skipping [] = More Expanded
+skipping (Gave v ∷ rest) = Done Nothing (Gave v ∷ rest)
+skipping (Took t ∷ rest) = expanded t (if is_space t then skipping rest else Done Nothing (Took t ∷ rest))
 
 -- the name that \chardef or its kin defines
 abbrev pub defining : Shorthand → List Item → Reading Command
@@ -104,6 +111,8 @@ family_command (primitive.Rule kind) rest = ruling kind rest
 family_command (primitive.Box kind) rest = box_begin kind Append rest
 family_command primitive.Shipout rest = shipped_box rest
 family_command primitive.End rest = Done End rest
+family_command primitive.IgnoreSpaces rest = skipping rest
+family_command (primitive.Interaction kind) rest = Done (Interact kind) rest
 
 -- the command whose first token means this; what is expanded is none, and comes expanded, and what \noexpand held does nothing
 abbrev pub command_meant : Meaning → List Item → Reading Command
@@ -124,51 +133,57 @@ fresh_command mode [] = More Expanded
 fresh_command mode (Gave v ∷ rest) = Wrong NotAllowed
 fresh_command mode (Took t ∷ rest) = if may_stand mode t.meaning then command_meant t.meaning rest else Wrong NotAllowed
 
--- whether a primitive may stand behind a prefix
-abbrev pub is_prefixable : Primitive → Bool
-is_prefixable primitive.Relax = false
-is_prefixable primitive.EndCsName = false
-is_prefixable primitive.Par = false
-is_prefixable primitive.BeginGroup = false
-is_prefixable primitive.EndGroup = false
-is_prefixable (primitive.Prefix prefix) = true
-is_prefixable primitive.Let = true
-is_prefixable (primitive.Shorthand kind) = true
-is_prefixable (primitive.Arithmetic operation) = true
-is_prefixable (primitive.Numbered kind) = true
-is_prefixable (primitive.Integer parameter) = true
-is_prefixable (primitive.Dimension parameter) = true
-is_prefixable (primitive.Sized kind) = false
-is_prefixable (primitive.Rule kind) = false
-is_prefixable (primitive.Box kind) = false
-is_prefixable primitive.Shipout = false
-is_prefixable primitive.End = false
+-- \long and \outer stand before definitions alone, and there is none yet
+abbrev pub want_definition : Prefixes → Bool
+want_definition prefixes = prefixes.long || prefixes.outer
+
+-- whether a primitive may stand behind prefixes
+abbrev pub is_prefixable : Prefixes → Primitive → Bool
+is_prefixable prefixes primitive.Relax = false
+is_prefixable prefixes primitive.EndCsName = false
+is_prefixable prefixes primitive.Par = false
+is_prefixable prefixes primitive.BeginGroup = false
+is_prefixable prefixes primitive.EndGroup = false
+is_prefixable prefixes (primitive.Prefix prefix) = true
+is_prefixable prefixes primitive.Let = not (want_definition prefixes)
+is_prefixable prefixes (primitive.Shorthand kind) = not (want_definition prefixes)
+is_prefixable prefixes (primitive.Arithmetic operation) = not (want_definition prefixes)
+is_prefixable prefixes (primitive.Numbered kind) = not (want_definition prefixes)
+is_prefixable prefixes (primitive.Integer parameter) = not (want_definition prefixes)
+is_prefixable prefixes (primitive.Dimension parameter) = not (want_definition prefixes)
+is_prefixable prefixes (primitive.Sized kind) = false
+is_prefixable prefixes (primitive.Rule kind) = false
+is_prefixable prefixes (primitive.Box kind) = false
+is_prefixable prefixes primitive.Shipout = false
+is_prefixable prefixes primitive.End = false
+is_prefixable prefixes primitive.IgnoreSpaces = false
+is_prefixable prefixes (primitive.Interaction kind) = not (want_definition prefixes)
 
 -- what has no meaning, or is expanded, is let through, since carrying it out is an error of its own
-abbrev pub may_be_prefixed : Meaning → Bool
-may_be_prefixed meaning.Undefined = true
-may_be_prefixed (meaning.Command primitive) = is_prefixable primitive
-may_be_prefixed (meaning.Character code category) = false
-may_be_prefixed (meaning.CharacterNumber code) = false
-may_be_prefixed (meaning.MathNumber number) = false
-may_be_prefixed (meaning.CountRegister number) = true
-may_be_prefixed (meaning.DimenRegister number) = true
-may_be_prefixed (meaning.Expandable e) = true
-may_be_prefixed (meaning.Macro m) = true
-may_be_prefixed meaning.Held = false
+abbrev pub may_be_prefixed : Prefixes → Meaning → Bool
+may_be_prefixed prefixes meaning.Undefined = true
+may_be_prefixed prefixes (meaning.Command primitive) = is_prefixable prefixes primitive
+may_be_prefixed prefixes (meaning.Character code category) = false
+may_be_prefixed prefixes (meaning.CharacterNumber code) = false
+may_be_prefixed prefixes (meaning.MathNumber number) = false
+may_be_prefixed prefixes (meaning.CountRegister number) = not (want_definition prefixes)
+may_be_prefixed prefixes (meaning.DimenRegister number) = not (want_definition prefixes)
+may_be_prefixed prefixes (meaning.Expandable e) = true
+may_be_prefixed prefixes (meaning.Macro m) = true
+may_be_prefixed prefixes meaning.Held = false
 
 -- a command behind a prefix: an assignment, with spaces and \relax before it, which do nothing (TeX: The Program, sections 404
 -- and 1211)
-abbrev pub prefixed_command : List Item → Reading Command
-prefixed_command [] = More Expanded
-prefixed_command (Gave v ∷ rest) = Wrong NoAssignment
-prefixed_command (Took t ∷ rest) =
+abbrev pub prefixed_command : Prefixes → List Item → Reading Command
+prefixed_command prefixes [] = More Expanded
+prefixed_command prefixes (Gave v ∷ rest) = Wrong NoAssignment
+prefixed_command prefixes (Took t ∷ rest) =
     if is_space t || is_relax t then Done Nothing rest
-    else if may_be_prefixed t.meaning then command_meant t.meaning rest
+    else if may_be_prefixed prefixes t.meaning then command_meant t.meaning rest
     else Wrong NoAssignment
 
 -- the command at the front of these items, by what stands before it
 abbrev pub command : Mode → Head → List Item → Reading Command
 command mode Fresh items = fresh_command mode items
-command mode (Prefixed prefixes) items = prefixed_command items
+command mode (Prefixed prefixes) items = prefixed_command prefixes items
 command mode (Defining prefixes defined kind) items = assigning (assign.Named defined kind) items

@@ -11,7 +11,7 @@ use Rattle.tx_eqtb.specs.Stack.{opened, closed, kind_of}
 use Rattle.tx_prim.specs.declared.family.BoxKind.{BoxKind}
 use Rattle.tx_prim.specs.declared.family.BoxKind.TheVariants as box
 use Rattle.tx_prim.specs.declared.family.Prefix.{Prefix as APrefix}
-use Rattle.tx_prim.specs.declared.family.Prefix.TheVariants.{Global}
+use Rattle.tx_prim.specs.declared.family.Prefix.TheVariants.{Global, Long, Outer}
 use Rattle.tx_prim.specs.declared.family.RuleKind.TheVariants as rules
 use Rattle.tx_prim.specs.declared.family.SizeKind.TheVariants.{Kern}
 use Rattle.tx_prim.specs.declared.modes.Mode.{Mode}
@@ -22,7 +22,7 @@ use Rattle.tx_assign.specs.Changes.{carried_out, relaxed}
 use Rattle.tx_main.specs.declared.types.BoxContext.{BoxContext}
 use Rattle.tx_main.specs.declared.types.BoxContext.TheVariants.{Append, Ship as Ship_context}
 use Rattle.tx_main.specs.declared.types.Command.{Command}
-use Rattle.tx_main.specs.declared.types.Command.TheVariants.{Nothing, Space, Character, BeginGroup, EndGroup, BeginSemiSimple, EndSemiSimple, Prefix, Define, Assign, Sized, Rule, BeginBox, End}
+use Rattle.tx_main.specs.declared.types.Command.TheVariants.{Nothing, Space, Character, BeginGroup, EndGroup, BeginSemiSimple, EndSemiSimple, Prefix, Define, Assign, Sized, Rule, BeginBox, End, Interact}
 use Rattle.tx_main.specs.declared.types.Head.{Head}
 use Rattle.tx_main.specs.declared.types.Head.TheVariants.{Fresh, Prefixed, Defining}
 use Rattle.tx_main.specs.declared.types.Prefixes.{Prefixes}
@@ -33,13 +33,15 @@ use Rattle.tx_main.specs.Outcomes.{Outcome, Leaves, Fails, Ends, leaves}
 
 -- the prefixes that stand before a command
 abbrev pub prefixes_of : Head → Prefixes
-prefixes_of Fresh = record { global = false }
+prefixes_of Fresh = record { global = false; long = false; outer = false }
 prefixes_of (Prefixed prefixes) = prefixes
 prefixes_of (Defining prefixes defined kind) = prefixes
 
 -- one more of them
 abbrev pub with_prefix : Prefixes → APrefix → Prefixes
 with_prefix prefixes Global = record prefixes { global = true }
+with_prefix prefixes Long = record prefixes { long = true }
+with_prefix prefixes Outer = record prefixes { outer = true }
 
 abbrev pub prefixing : TexState → APrefix → Outcome
 prefixing s prefix = leaves (record s { head = Prefixed (with_prefix (prefixes_of s.head) prefix) })
@@ -140,3 +142,4 @@ effect s (Sized Kern size) = adding s (kern size)
 effect s (Rule rules.Vertical r) = adding s (rule r)
 effect s (BeginBox kind context) = opening s (group_of kind) (in_box kind context s)
 effect s End = Ends
+effect s (Interact kind) = leaves (record s { head = Fresh })

@@ -25,7 +25,7 @@ use Rattle.tx_main.specs.declared.scans.Scans.{Scans}
 use Rattle.tx_main.specs.declared.scans.Stage.{Stage}
 use Rattle.tx_main.specs.declared.scans.Stage.TheVariants as stage
 use Rattle.tx_main.specs.Rules.{letters_of, side_if, side_or_end, with_side, rule_sides}
-use Rattle.tx_main.specs.Commands.{command, defining, box_begin, shipped_box}
+use Rattle.tx_main.specs.Commands.{command, defining, box_begin, shipped_box, skipping}
 
 -- the rest of a rule by the part that comes next
 abbrev pub rule_part_rest : RulePart → RuleScan → List Item → Item → List Item → Reading Rule
@@ -71,6 +71,7 @@ stage_rest mode head (stage.Name kind) scans behind item more = defining kind (i
 stage_rest mode head (stage.Sized kind) scans behind item more = next (dimen_rest scans.size behind item more) (λ size behind. Done (Sized kind size) behind)
 stage_rest mode head (stage.Rule kind) scans behind item more = next (rule_rest scans.rule behind item more) (λ rule behind. Done (Rule_command kind rule) behind)
 stage_rest mode head stage.ShippedBox scans behind item more = shipped_box (item ∷ more)
+stage_rest mode head stage.Spaces scans behind item more = skipping (item ∷ more)
 stage_rest mode head (stage.BoxBegin kind context) scans behind item more = box_begin kind context (item ∷ more)
 
 abbrev pub command_rest : Mode → Head → Scans → List Item → Item → List Item → Reading Command

@@ -66,6 +66,8 @@ adds_to_list (primitive.Rule kind) = true
 adds_to_list (primitive.Box kind) = true
 adds_to_list primitive.Shipout = false
 adds_to_list primitive.End = false
+adds_to_list primitive.IgnoreSpaces = false
+adds_to_list (primitive.Interaction kind) = false
 
 -- nothing can be added to the pages' list yet
 abbrev pub is_there : Mode → Meaning → Bool

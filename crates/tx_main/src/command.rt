@@ -71,7 +71,11 @@ impl CommandScan {
         ensures { result ≡ prefixes_of self.now.head }
     {
         match &self.head {
-            Head::Fresh => Prefixes { global: false },
+            Head::Fresh => Prefixes {
+                global: false,
+                long: false,
+                outer: false,
+            },
             Head::Prefixed(prefixes) | Head::Defining(prefixes, _, _) => *prefixes,
         }
     }

@@ -19,7 +19,7 @@ use tx_bytes::Bytes;
 use tx_eqtb::{GroupKind, OpenError};
 use tx_machine::{Event, Stop};
 use tx_node::{BoxNode, Node, Nodes, PackError, Rule, hbox};
-use tx_prim::{BoxKind, Mode, Prefix, RuleKind, Shorthand, SizeKind};
+use tx_prim::{BoxKind, Interaction, Mode, Prefix, RuleKind, Shorthand, SizeKind};
 use tx_seen::{Place, TexError};
 
 /// The run ends by an error.
@@ -238,6 +238,14 @@ fn with_prefix(prefixes: Prefixes, prefix: Prefix) -> Prefixes
             global: true,
             ..prefixes
         },
+        Prefix::Long => Prefixes {
+            long: true,
+            ..prefixes
+        },
+        Prefix::Outer => Prefixes {
+            outer: true,
+            ..prefixes
+        },
     }
 }
 
@@ -315,6 +323,17 @@ fn use_rule(s: &mut State, kind: RuleKind, rule: Rule) -> Result<Event, AllocErr
     }
 }
 
+/// \batchmode or its kin: an assignment of which nothing comes.
+fn interact(s: &mut State, kind: Interaction) -> Event
+    requires running { s.old.phase ≡ Phase.Running }
+    requires between { s.old.scan.taken ≡ [] }
+    ensures { IsStepped (effects.effect (state_of s.old) (Command.Interact kind)) s.old result s.new }
+{
+    let _nothing = kind;
+    s.scan.begin_fresh();
+    Event::Went
+}
+
 /// The run ends as \end does it.
 fn finish(s: &mut State) -> Event
     ensures { IsStepped Ends s.old result s.new }
@@ -353,5 +372,6 @@ pub fn carry_out(alloc: Global, s: &mut State, command: Command) -> Result<Event
         Command::Rule(kind, rule) => use_rule(s, kind, rule),
         Command::BeginBox(kind, context) => open_box(alloc, s, kind, context),
         Command::End => Ok(finish(s)),
+        Command::Interact(kind) => Ok(interact(s, kind)),
     }
 }

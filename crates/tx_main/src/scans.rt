@@ -42,6 +42,8 @@ pub enum Stage {
     Rule(RuleKind),
     /// The box of a \shipout, with spaces and \relax before it.
     ShippedBox,
+    /// Spaces that are skipped.
+    Spaces,
     /// The begin-group token of a box of this kind, of which this becomes.
     BoxBegin(BoxKind, BoxContext),
 }

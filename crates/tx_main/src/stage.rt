@@ -11,7 +11,7 @@ ghost use Rattle.tx_main.specs.Rests.{command_rest, held, more_needed, Begins, G
 use crate::mapping::{assigned, begun_box, defined, ruled, sized};
 use crate::scans::{RuleScan, Scans, Stage};
 use crate::standing::{may_be_prefixed, may_stand};
-use crate::types::{BoxContext, Command, Head};
+use crate::types::{BoxContext, Command, Head, Prefixes};
 use std::alloc::{AllocError, Global};
 use tx_assign::{AssignScan, Assigning, Variable};
 use tx_char::Cat;
@@ -74,6 +74,7 @@ impl Scans {
             Stage::Sized(kind) => Ok(sized(kind, self.size.feed(token)?)),
             Stage::Rule(kind) => Ok(ruled(kind, self.rule.feed(token)?)),
             Stage::ShippedBox => Ok(self.feed_box(token)),
+            Stage::Spaces => Ok(self.feed_space(token)),
             Stage::BoxBegin(kind, context) => {
                 Ok(begun_box(kind, context, BraceScan::new().feed(token)))
             }
@@ -101,7 +102,7 @@ impl Scans {
     {
         match head {
             Head::Fresh => Ok(self.feed_fresh(mode, token)),
-            Head::Prefixed(_) => Ok(self.feed_prefixed(token)),
+            Head::Prefixed(prefixes) => Ok(self.feed_prefixed(*prefixes, token)),
             Head::Defining(_, name, kind) => self.feed_defining(name, *kind, token),
         }
     }
@@ -117,14 +118,14 @@ impl Scans {
         }
     }
 
-    /// The first token of a command behind a prefix.
-    fn feed_prefixed(&mut self, token: &Seen) -> Fed<Command>
-        ensures { Begins (λ more. commands.prefixed_command (Took token.now ∷ more)) self.new result }
+    /// The first token of a command behind prefixes.
+    fn feed_prefixed(&mut self, prefixes: Prefixes, token: &Seen) -> Fed<Command>
+        ensures { Begins (λ more. commands.prefixed_command prefixes (Took token.now ∷ more)) self.new result }
     {
         if token.is_space() || token.is_relax() {
             return Fed::Done(Command::Nothing, 0);
         }
-        if may_be_prefixed(&token.meaning) {
+        if may_be_prefixed(prefixes, &token.meaning) {
             self.begin(&token.meaning)
         } else {
             Fed::Wrong(TexError::NoAssignment)
@@ -195,6 +196,8 @@ impl Scans {
             ),
             Primitive::Shipout => self.on(Stage::ShippedBox, Want::Expanded),
             Primitive::End => Fed::Done(Command::End, 0),
+            Primitive::IgnoreSpaces => self.on(Stage::Spaces, Want::Expanded),
+            Primitive::Interaction(kind) => Fed::Done(Command::Interact(kind), 0),
         }
     }
 
@@ -228,6 +231,21 @@ impl Scans {
     {
         self.assignment.begin(begun);
         self.on(Stage::Assign, want)
+    }
+
+    /// A space that is skipped, or what stands behind such.
+    fn feed_space(&self, token: &Seen) -> Fed<Command>
+        requires { self.now.stage ≡ Stage.Spaces }
+        ensures { (mode : Mode) (head : Head) → IsBegunBy mode head 1 (λ more. commands.skipping (Took token.now ∷ more)) (Took token.now ∷ []) self.now result }
+    {
+        if token.is_undefined() {
+            return Fed::Wrong(TexError::Undefined);
+        }
+        if token.is_space() {
+            Fed::More(Want::Expanded)
+        } else {
+            Fed::Done(Command::Nothing, 1)
+        }
     }
 
     /// The box of a \shipout, or what stands before it.

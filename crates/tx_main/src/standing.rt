@@ -4,6 +4,7 @@ ghost use Rattle.std.specs.Prelude.{◌≡◌};
 ghost use Rattle.tx_main.specs.Commands as commands;
 ghost use Rattle.tx_main.specs.Standing as spec;
 
+use crate::types::Prefixes;
 use tx_char::Cat;
 use tx_prim::{Mode, Modes, Primitive, Standing};
 use tx_seen::Meaning;
@@ -59,7 +60,9 @@ fn adds_to_list(primitive: Primitive) -> bool
         | Primitive::Integer(_)
         | Primitive::Dimension(_)
         | Primitive::Shipout
-        | Primitive::End => false,
+        | Primitive::End
+        | Primitive::IgnoreSpaces
+        | Primitive::Interaction(_) => false,
     }
 }
 
@@ -90,18 +93,26 @@ pub fn may_stand(mode: Mode, meaning: &Meaning) -> bool
     stands(modes_of_meaning(meaning).standing(mode)) && is_there(mode, meaning)
 }
 
-/// Whether a primitive may stand behind a prefix.
-fn is_prefixable(primitive: Primitive) -> bool
-    ensures { result ≡ commands.is_prefixable primitive }
+/// Whether prefixes stand before definitions alone.
+fn want_definition(prefixes: Prefixes) -> bool
+    ensures { result ≡ commands.want_definition prefixes }
+{
+    prefixes.long || prefixes.outer
+}
+
+/// Whether a primitive may stand behind these prefixes.
+fn is_prefixable(prefixes: Prefixes, primitive: Primitive) -> bool
+    ensures { result ≡ commands.is_prefixable prefixes primitive }
 {
     match primitive {
-        Primitive::Prefix(_)
-        | Primitive::Let
+        Primitive::Prefix(_) => true,
+        Primitive::Let
         | Primitive::Shorthand(_)
         | Primitive::Arithmetic(_)
         | Primitive::Numbered(_)
         | Primitive::Integer(_)
-        | Primitive::Dimension(_) => true,
+        | Primitive::Dimension(_)
+        | Primitive::Interaction(_) => !want_definition(prefixes),
         Primitive::Relax
         | Primitive::EndCsName
         | Primitive::Par
@@ -111,18 +122,20 @@ fn is_prefixable(primitive: Primitive) -> bool
         | Primitive::Rule(_)
         | Primitive::Box(_)
         | Primitive::Shipout
-        | Primitive::End => false,
+        | Primitive::End
+        | Primitive::IgnoreSpaces => false,
     }
 }
 
-/// Whether a command may stand behind a prefix whose first token means this; what has no meaning, or is expanded, is let
-/// through.
-pub fn may_be_prefixed(meaning: &Meaning) -> bool
-    ensures { result ≡ commands.may_be_prefixed meaning.now }
+/// Whether a command may stand behind these prefixes whose first token means this; what has no meaning, or is
+/// expanded, is let through.
+pub fn may_be_prefixed(prefixes: Prefixes, meaning: &Meaning) -> bool
+    ensures { result ≡ commands.may_be_prefixed prefixes meaning.now }
 {
     match meaning {
-        Meaning::Undefined | Meaning::CountRegister(_) | Meaning::DimenRegister(_) => true,
-        Meaning::Command(primitive) => is_prefixable(*primitive),
+        Meaning::Undefined => true,
+        Meaning::CountRegister(_) | Meaning::DimenRegister(_) => !want_definition(prefixes),
+        Meaning::Command(primitive) => is_prefixable(prefixes, *primitive),
         Meaning::Character(_, _) | Meaning::CharacterNumber(_) | Meaning::MathNumber(_) => false,
         Meaning::Expandable(_) | Meaning::Macro(_) => true,
         Meaning::Held => false,

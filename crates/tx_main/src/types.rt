@@ -1,7 +1,7 @@
 //! What commands are, once they are read whole, and what may stand before them.
 use tx_assign::Assignment;
 use tx_node::Rule;
-use tx_prim::{BoxKind, Prefix, RuleKind, Shorthand, SizeKind};
+use tx_prim::{BoxKind, Interaction, Prefix, RuleKind, Shorthand, SizeKind};
 use tx_seen::Place;
 
 /// A side of a rule.
@@ -25,6 +25,8 @@ pub enum BoxContext {
 #[derive(Clone, Copy, PartialEq, Eq)]
 pub struct Prefixes {
     pub global: bool,
+    pub long: bool,
+    pub outer: bool,
 }
 
 /// What stands before the tokens of a command and decides how they are read.
@@ -67,4 +69,6 @@ pub enum Command {
     BeginBox(BoxKind, BoxContext),
     /// `\end`.
     End,
+    /// `\batchmode` and its kin, assignments that nothing comes of.
+    Interact(Interaction),
 }

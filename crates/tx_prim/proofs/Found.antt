@@ -1,8 +1,9 @@
 -- Each primitive is the first of all that has its name.
 use Rattle.std.proofs.Common.{◌≡◌, ℕ, List, [], ◌∷◌, Some, IfSome, cond, true, false, refl}
 use Rattle.tx_prim.specs.declared.primitive.Primitive.{Primitive}
-use Rattle.tx_prim.specs.declared.primitive.Primitive.TheVariants.{Relax, EndCsName, Par, BeginGroup, EndGroup, Prefix, Let, Shorthand, Arithmetic, Numbered, Integer, Dimension, Sized, Rule, Box, Shipout, End}
-use Rattle.tx_prim.specs.declared.family.Prefix.TheVariants.{Global}
+use Rattle.tx_prim.specs.declared.primitive.Primitive.TheVariants.{Relax, EndCsName, Par, BeginGroup, EndGroup, Prefix, Let, Shorthand, Arithmetic, Numbered, Integer, Dimension, Sized, Rule, Box, Shipout, End, IgnoreSpaces, Interaction}
+use Rattle.tx_prim.specs.declared.family.Prefix.TheVariants.{Global, Long, Outer}
+use Rattle.tx_prim.specs.declared.family.Interaction.TheVariants.{Batch, Nonstop, Scroll, Errorstop}
 use Rattle.tx_prim.specs.declared.family.Operation.TheVariants.{Advance, Multiply, Divide}
 use Rattle.tx_prim.specs.declared.family.Shorthand.TheVariants.{CountRegister, DimenRegister, Character, MathCharacter}
 use Rattle.tx_prim.specs.declared.family.CharacterCode.TheVariants.{LowerCase, UpperCase, SpaceFactor, Math, Delimiter}
@@ -131,6 +132,13 @@ found (Sized Kern) = refl
 found Par = refl
 found End = refl
 found (Rule Vertical) = refl
+found (Prefix Long) = refl
+found (Prefix Outer) = refl
+found IgnoreSpaces = refl
+found (Interaction Batch) = refl
+found (Interaction Nonstop) = refl
+found (Interaction Scroll) = refl
+found (Interaction Errorstop) = refl
 found (Integer p) = integer-found p
 found (Dimension p) = dimension-found p
 

@@ -1,8 +1,9 @@
 -- The table of the primitives.
 use Rattle.std.specs.Prelude.{ℕ, List, [], ◌∷◌, Option, None, Some, codes, cond, bytes_eq}
 use Rattle.tx_prim.specs.declared.primitive.Primitive.{Primitive}
-use Rattle.tx_prim.specs.declared.primitive.Primitive.TheVariants.{Relax, EndCsName, Par, BeginGroup, EndGroup, Prefix, Let, Shorthand, Arithmetic, Numbered, Integer, Dimension, Sized, Rule, Box, Shipout, End}
-use Rattle.tx_prim.specs.declared.family.Prefix.TheVariants.{Global}
+use Rattle.tx_prim.specs.declared.primitive.Primitive.TheVariants.{Relax, EndCsName, Par, BeginGroup, EndGroup, Prefix, Let, Shorthand, Arithmetic, Numbered, Integer, Dimension, Sized, Rule, Box, Shipout, End, IgnoreSpaces, Interaction}
+use Rattle.tx_prim.specs.declared.family.Prefix.TheVariants.{Global, Long, Outer}
+use Rattle.tx_prim.specs.declared.family.Interaction.TheVariants.{Batch, Nonstop, Scroll, Errorstop}
 use Rattle.tx_prim.specs.declared.family.Operation.TheVariants.{Advance, Multiply, Divide}
 use Rattle.tx_prim.specs.declared.family.Shorthand.TheVariants.{CountRegister, DimenRegister, Character, MathCharacter}
 use Rattle.tx_prim.specs.declared.family.CharacterCode.TheVariants.{LowerCase, UpperCase, SpaceFactor, Math, Delimiter}
@@ -54,6 +55,13 @@ line_of (Sized Kern) = line (codes "kern") All
 line_of Par = line (codes "par") NotMath
 line_of End = line (codes "end") Pages
 line_of (Rule Vertical) = line (codes "vrule") NotVertical
+line_of (Prefix Long) = line (codes "long") All
+line_of (Prefix Outer) = line (codes "outer") All
+line_of IgnoreSpaces = line (codes "ignorespaces") All
+line_of (Interaction Batch) = line (codes "batchmode") All
+line_of (Interaction Nonstop) = line (codes "nonstopmode") All
+line_of (Interaction Scroll) = line (codes "scrollmode") All
+line_of (Interaction Errorstop) = line (codes "errorstopmode") All
 line_of (Integer parameter) = line (integer_name parameter) All
 line_of (Dimension parameter) = line (dimension_name parameter) All
 
@@ -67,7 +75,7 @@ modes_of primitive = (line_of primitive).modes
 
 -- all primitives
 unfoldable pub all : List Primitive
-all = Relax ∷ EndCsName ∷ BeginGroup ∷ EndGroup ∷ Prefix Global ∷ Let ∷ Arithmetic Advance ∷ Arithmetic Multiply ∷ Arithmetic Divide ∷ Numbered Count ∷ Numbered Dimen ∷ Shorthand CountRegister ∷ Shorthand DimenRegister ∷ Shorthand Character ∷ Shorthand MathCharacter ∷ Numbered Category ∷ Numbered (Code LowerCase) ∷ Numbered (Code UpperCase) ∷ Numbered (Code SpaceFactor) ∷ Numbered (Code Math) ∷ Numbered (Code Delimiter) ∷ Box Horizontal ∷ Shipout ∷ Sized Kern ∷ Par ∷ End ∷ Rule Vertical ∷ Integer Pretolerance ∷ Integer Tolerance ∷ Integer Hbadness ∷ Integer Vbadness ∷ Integer Linepenalty ∷ Integer Hyphenpenalty ∷ Integer Exhyphenpenalty ∷ Integer Binoppenalty ∷ Integer Relpenalty ∷ Integer Clubpenalty ∷ Integer Widowpenalty ∷ Integer Displaywidowpenalty ∷ Integer Brokenpenalty ∷ Integer Predisplaypenalty ∷ Integer Postdisplaypenalty ∷ Integer Interlinepenalty ∷ Integer Floatingpenalty ∷ Integer Outputpenalty ∷ Integer Doublehyphendemerits ∷ Integer Finalhyphendemerits ∷ Integer Adjdemerits ∷ Integer Looseness ∷ Integer Pausing ∷ Integer Holdinginserts ∷ Integer Tracingonline ∷ Integer Tracingmacros ∷ Integer Tracingstats ∷ Integer Tracingparagraphs ∷ Integer Tracingpages ∷ Integer Tracingoutput ∷ Integer Tracinglostchars ∷ Integer Tracingcommands ∷ Integer Tracingrestores ∷ Integer Language ∷ Integer Uchyph ∷ Integer Lefthyphenmin ∷ Integer Righthyphenmin ∷ Integer Globaldefs ∷ Integer Defaulthyphenchar ∷ Integer Defaultskewchar ∷ Integer Escapechar ∷ Integer Endlinechar ∷ Integer Newlinechar ∷ Integer Maxdeadcycles ∷ Integer Hangafter ∷ Integer Fam ∷ Integer Mag ∷ Integer Delimiterfactor ∷ Integer Time ∷ Integer Day ∷ Integer Month ∷ Integer Year ∷ Integer Showboxbreadth ∷ Integer Showboxdepth ∷ Integer Errorcontextlines ∷ Dimension Hfuzz ∷ Dimension Vfuzz ∷ Dimension Overfullrule ∷ Dimension Emergencystretch ∷ Dimension Hsize ∷ Dimension Vsize ∷ Dimension Maxdepth ∷ Dimension Splitmaxdepth ∷ Dimension Boxmaxdepth ∷ Dimension Lineskiplimit ∷ Dimension Delimitershortfall ∷ Dimension Nulldelimiterspace ∷ Dimension Scriptspace ∷ Dimension Mathsurround ∷ Dimension Predisplaysize ∷ Dimension Displaywidth ∷ Dimension Displayindent ∷ Dimension Parindent ∷ Dimension Hangindent ∷ Dimension Hoffset ∷ Dimension Voffset ∷ []
+all = Relax ∷ EndCsName ∷ BeginGroup ∷ EndGroup ∷ Prefix Global ∷ Let ∷ Arithmetic Advance ∷ Arithmetic Multiply ∷ Arithmetic Divide ∷ Numbered Count ∷ Numbered Dimen ∷ Shorthand CountRegister ∷ Shorthand DimenRegister ∷ Shorthand Character ∷ Shorthand MathCharacter ∷ Numbered Category ∷ Numbered (Code LowerCase) ∷ Numbered (Code UpperCase) ∷ Numbered (Code SpaceFactor) ∷ Numbered (Code Math) ∷ Numbered (Code Delimiter) ∷ Box Horizontal ∷ Shipout ∷ Sized Kern ∷ Par ∷ End ∷ Rule Vertical ∷ Prefix Long ∷ Prefix Outer ∷ IgnoreSpaces ∷ Interaction Batch ∷ Interaction Nonstop ∷ Interaction Scroll ∷ Interaction Errorstop ∷ Integer Pretolerance ∷ Integer Tolerance ∷ Integer Hbadness ∷ Integer Vbadness ∷ Integer Linepenalty ∷ Integer Hyphenpenalty ∷ Integer Exhyphenpenalty ∷ Integer Binoppenalty ∷ Integer Relpenalty ∷ Integer Clubpenalty ∷ Integer Widowpenalty ∷ Integer Displaywidowpenalty ∷ Integer Brokenpenalty ∷ Integer Predisplaypenalty ∷ Integer Postdisplaypenalty ∷ Integer Interlinepenalty ∷ Integer Floatingpenalty ∷ Integer Outputpenalty ∷ Integer Doublehyphendemerits ∷ Integer Finalhyphendemerits ∷ Integer Adjdemerits ∷ Integer Looseness ∷ Integer Pausing ∷ Integer Holdinginserts ∷ Integer Tracingonline ∷ Integer Tracingmacros ∷ Integer Tracingstats ∷ Integer Tracingparagraphs ∷ Integer Tracingpages ∷ Integer Tracingoutput ∷ Integer Tracinglostchars ∷ Integer Tracingcommands ∷ Integer Tracingrestores ∷ Integer Language ∷ Integer Uchyph ∷ Integer Lefthyphenmin ∷ Integer Righthyphenmin ∷ Integer Globaldefs ∷ Integer Defaulthyphenchar ∷ Integer Defaultskewchar ∷ Integer Escapechar ∷ Integer Endlinechar ∷ Integer Newlinechar ∷ Integer Maxdeadcycles ∷ Integer Hangafter ∷ Integer Fam ∷ Integer Mag ∷ Integer Delimiterfactor ∷ Integer Time ∷ Integer Day ∷ Integer Month ∷ Integer Year ∷ Integer Showboxbreadth ∷ Integer Showboxdepth ∷ Integer Errorcontextlines ∷ Dimension Hfuzz ∷ Dimension Vfuzz ∷ Dimension Overfullrule ∷ Dimension Emergencystretch ∷ Dimension Hsize ∷ Dimension Vsize ∷ Dimension Maxdepth ∷ Dimension Splitmaxdepth ∷ Dimension Boxmaxdepth ∷ Dimension Lineskiplimit ∷ Dimension Delimitershortfall ∷ Dimension Nulldelimiterspace ∷ Dimension Scriptspace ∷ Dimension Mathsurround ∷ Dimension Predisplaysize ∷ Dimension Displaywidth ∷ Dimension Displayindent ∷ Dimension Parindent ∷ Dimension Hangindent ∷ Dimension Hoffset ∷ Dimension Voffset ∷ []
 
 -- the first primitive of a list that has a name
 abbrev pub named : List Primitive → List ℕ → Option Primitive

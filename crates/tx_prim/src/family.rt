@@ -6,6 +6,19 @@
 pub enum Prefix {
     /// \global.
     Global,
+    /// \long and \outer, of definitions.
+    Long,
+    Outer,
+}
+
+/// How much TeX asks of its user (The TeXbook, chapter 6); nothing, whatever is said.
+#[derive(Clone, Copy, PartialEq, Eq)]
+pub enum Interaction {
+    /// \batchmode and its kin.
+    Batch,
+    Nonstop,
+    Scroll,
+    Errorstop,
 }
 
 /// What \advance, \multiply and \divide do.

@@ -17,7 +17,7 @@ mod primitive;
 pub use dimension::DimensionParameter;
 pub use expandable::{CondWord, Conversion, Expandable, Test};
 pub use family::{
-    BoxKind, CharacterCode, Numbered, Operation, Prefix, RuleKind, Shorthand, SizeKind,
+    BoxKind, CharacterCode, Interaction, Numbered, Operation, Prefix, RuleKind, Shorthand, SizeKind,
 };
 pub use integer::{IntegerParameter, Moment};
 pub use modes::{Mode, ModeTest, Modes, Standing};

@@ -5,7 +5,7 @@ ghost use Rattle.tx_prim.specs.Table.{all, modes_of, name_of, named};
 
 use crate::dimension::DimensionParameter;
 use crate::family::{
-    BoxKind, CharacterCode, Numbered, Operation, Prefix, RuleKind, Shorthand, SizeKind,
+    BoxKind, CharacterCode, Interaction, Numbered, Operation, Prefix, RuleKind, Shorthand, SizeKind,
 };
 use crate::integer::IntegerParameter;
 use crate::modes::Modes;
@@ -46,10 +46,14 @@ pub enum Primitive {
     Shipout,
     /// \end.
     End,
+    /// \ignorespaces.
+    IgnoreSpaces,
+    /// \batchmode and its kin.
+    Interaction(Interaction),
 }
 
 /// All primitives, in the order of their table.
-const ALL: [Primitive; 103] = [
+const ALL: [Primitive; 110] = [
     Primitive::Relax,
     Primitive::EndCsName,
     Primitive::BeginGroup,
@@ -77,6 +81,13 @@ const ALL: [Primitive; 103] = [
     Primitive::Par,
     Primitive::End,
     Primitive::Rule(RuleKind::Vertical),
+    Primitive::Prefix(Prefix::Long),
+    Primitive::Prefix(Prefix::Outer),
+    Primitive::IgnoreSpaces,
+    Primitive::Interaction(Interaction::Batch),
+    Primitive::Interaction(Interaction::Nonstop),
+    Primitive::Interaction(Interaction::Scroll),
+    Primitive::Interaction(Interaction::Errorstop),
     Primitive::Integer(IntegerParameter::Pretolerance),
     Primitive::Integer(IntegerParameter::Tolerance),
     Primitive::Integer(IntegerParameter::Hbadness),
@@ -197,6 +208,13 @@ impl Primitive {
             Primitive::Par => b"par",
             Primitive::End => b"end",
             Primitive::Rule(RuleKind::Vertical) => b"vrule",
+            Primitive::Prefix(Prefix::Long) => b"long",
+            Primitive::Prefix(Prefix::Outer) => b"outer",
+            Primitive::IgnoreSpaces => b"ignorespaces",
+            Primitive::Interaction(Interaction::Batch) => b"batchmode",
+            Primitive::Interaction(Interaction::Nonstop) => b"nonstopmode",
+            Primitive::Interaction(Interaction::Scroll) => b"scrollmode",
+            Primitive::Interaction(Interaction::Errorstop) => b"errorstopmode",
             Primitive::Integer(parameter) => parameter.name(),
             Primitive::Dimension(parameter) => parameter.name(),
         }
@@ -213,6 +231,7 @@ impl Primitive {
             Primitive::Prefix(_) | Primitive::Let | Primitive::Shorthand(_) => Modes::All,
             Primitive::Arithmetic(_) | Primitive::Numbered(_) => Modes::All,
             Primitive::Integer(_) | Primitive::Dimension(_) => Modes::All,
+            Primitive::IgnoreSpaces | Primitive::Interaction(_) => Modes::All,
             Primitive::Sized(_) | Primitive::Box(_) | Primitive::Shipout => Modes::All,
             Primitive::Rule(RuleKind::Vertical) => Modes::NotVertical,
             Primitive::Par => Modes::NotMath,

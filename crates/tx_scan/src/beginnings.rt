@@ -72,6 +72,7 @@ fn begun_by_command(command: Primitive) -> Beginning
         Primitive::Dimension(parameter) => Beginning::At(Place::Dimension(parameter)),
         Primitive::Numbered(kind) => Beginning::Numbered(kind),
         Primitive::Relax | Primitive::Par | Primitive::End => nothing(),
+        Primitive::IgnoreSpaces | Primitive::Interaction(_) => nothing(),
         Primitive::BeginGroup | Primitive::EndGroup => nothing(),
         Primitive::EndCsName => nothing(),
         Primitive::Prefix(_) | Primitive::Let | Primitive::Shorthand(_) => nothing(),

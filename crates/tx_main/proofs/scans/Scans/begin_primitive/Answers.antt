@@ -1,7 +1,7 @@
 use Rattle.std.proofs.Common.{refl, ap, ◌∙◌}
 use Rattle.tx_seen.specs.declared.fed.Want.TheVariants.{Raw}
 use Rattle.tx_main.specs.declared.types.BoxContext.TheVariants.{Append}
-use Rattle.tx_main.proofs.Stages.{name-begun, size-begun, rule-begun, box-begun, shipped-begun}
+use Rattle.tx_main.proofs.Stages.{name-begun, size-begun, rule-begun, box-begun, shipped-begun, spaces-begun}
 use Rattle.tx_main.proofs.scans.Scans.begin_primitive.Goals as goal
 
 pub returns-in-Let : goal.returns-in-Let
@@ -38,3 +38,6 @@ returns-in-Box c = rw (c.in-Box.is, c.on-in-Box.ensures.answer) (box-begun c.in-
 
 pub returns-in-Shipout : goal.returns-in-Shipout
 returns-in-Shipout c = rw (c.in-Shipout.is, c.on-in-Shipout.ensures.answer) (shipped-begun c.on-in-Shipout.new.self (ap (λ scans. scans.stage) c.on-in-Shipout.ensures.scans))
+
+pub returns-in-IgnoreSpaces : goal.returns-in-IgnoreSpaces
+returns-in-IgnoreSpaces c = rw (c.in-IgnoreSpaces.is, c.on-in-IgnoreSpaces.ensures.answer) (spaces-begun c.on-in-IgnoreSpaces.new.self (ap (λ scans. scans.stage) c.on-in-IgnoreSpaces.ensures.scans))

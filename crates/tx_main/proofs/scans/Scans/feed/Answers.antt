@@ -5,7 +5,7 @@ use Rattle.tx_assign.specs.Rests.{rest as assign_rest, held as assign_held}
 use Rattle.tx_main.specs.declared.scans.Stage.TheVariants as stage
 use Rattle.tx_main.specs.declared.types.Command.TheVariants.{Assign, Define, Sized, Rule, BeginBox}
 use Rattle.tx_main.specs.Rests.{rule_rest, rule_held}
-use Rattle.tx_main.proofs.Stages.{part-fed, part-needs, part-goes, size-goes, rule-goes, assign-needs, assign-goes, start-fed, start-needs, start-goes, box-fed}
+use Rattle.tx_main.proofs.Stages.{part-fed, part-needs, part-goes, size-goes, rule-goes, assign-needs, assign-goes, start-fed, start-needs, start-goes, box-fed, space-fed}
 use Rattle.tx_main.proofs.scans.Scans.feed.Goals as goal
 
 pub returns-in-Start-clause-fed : goal.returns-in-Start-clause-fed
@@ -88,3 +88,13 @@ returns-in-BoxBegin-clause-needs c = part-needs c.args.self.now _ c.begun_box.re
 
 pub returns-in-BoxBegin-clause-on : goal.returns-in-BoxBegin-clause-on
 returns-in-BoxBegin-clause-on c = rw c.begun_box.ensures (part-goes (λ _. BeginBox c.in-BoxBegin.kind c.in-BoxBegin.context) (stage.BoxBegin c.in-BoxBegin.kind c.in-BoxBegin.context) c.args.self.now c.feed-in-BoxBegin.result c.in-BoxBegin.is tt c.feed-in-BoxBegin.ensures.nothing)
+
+pub returns-in-Spaces-clause-fed : goal.returns-in-Spaces-clause-fed
+returns-in-Spaces-clause-fed c =
+    space-fed c.args.mode c.args.head.now c.args.token.now c.args.self.now c.args.self.now c.feed_space.result c.in-Spaces.is (c.feed_space.ensures c.args.mode c.args.head.now)
+
+pub returns-in-Spaces-clause-needs : goal.returns-in-Spaces-clause-needs
+returns-in-Spaces-clause-needs c = part-needs c.args.self.now c.args.self.now c.feed_space.result (rw c.in-Spaces.is refl)
+
+pub returns-in-Spaces-clause-on : goal.returns-in-Spaces-clause-on
+returns-in-Spaces-clause-on c = (c.feed_space.ensures c.args.mode c.args.head.now).goes_on
