@@ -1,12 +1,12 @@
 -- Reading a list.
-use Rattle.std.proofs.Common.{◌≡◌, ◌≢◌, ℕ, ◌+◌, ◌-◌, ◌≤◌, ◌<◌, Bool, true, false, List, [], ◌∷◌, length, take, drop, refl, ap, sym, ◌∙◌, arith, leb, leb-true, le-leb, IsTrue, ◌↔◌, Some, None, get_or, slice_get, subst, zero, suc, add-one}
+use Rattle.std.proofs.Common.{◌≡◌, ◌≢◌, ℕ, ◌+◌, ◌-◌, ◌≤◌, ◌<◌, Bool, true, false, List, [], ◌∷◌, length, take, drop, refl, ap, sym, ◌∙◌, arith, leb, leb-true, le-leb, IsTrue, ◌↔◌, Option, Some, None, get_or, slice_get, subst, zero, suc, add-one}
 use Rattle.std.proofs.Math.Seq.{drop-cons}
 use Rattle.std.proofs.lemmas.List.{length-drop, length-take-le, take_rest}
 use Rattle.tx_char.specs.declared.tokens.Token.{Token}
 use Rattle.tx_lex.specs.declared.types.ReadState.{ReadState}
 use Rattle.tx_pending.specs.declared.source.Source.{Source}
-use Rattle.tx_pending.specs.declared.source.Source.TheVariants.{List as Source_list, Line as Source_line, Token as Source_token}
-use Rattle.tx_pending.specs.Elements.{Given, Unread, list_elements}
+use Rattle.tx_pending.specs.declared.source.Source.TheVariants.{List as Source_list, Line as Source_line, Held as Source_held}
+use Rattle.tx_pending.specs.Elements.{Element, Held, Unread, list_elements}
 use Rattle.tx_pending.specs.Sources.{elements_of}
 use Rattle.tx_pending.specs.Tails.{ListTail, LineTail}
 
@@ -49,30 +49,45 @@ spent-tells tail tokens read end marked view within unmarked =
       (λ h. let e : end - read ≡ 0 = sym long ∙ ap length (left ∙ left-of tail.left tail.marked h) in le-leb end read (omega arith)),
     )
 
-list-no-line : (left : List Token) (marked : Bool) (unread : List ℕ) (state : ReadState) (i j : ℕ) → i < length (list_elements left marked) → j < 1 → slice_get (list_elements left marked) i ≡ slice_get (Unread unread state ∷ []) j → ⊥
-list-no-line left marked unread state i (suc j) l m h = absurd (omega arith)
-list-no-line [] true unread state zero zero l m h = cc
-list-no-line [] true unread state (suc i) zero l m h = absurd (omega arith)
-list-no-line [] false unread state i zero l m h = absurd (omega arith)
-list-no-line (t ∷ left) marked unread state zero zero l m h = cc
-list-no-line (t ∷ left) marked unread state (suc i) zero l m h = list-no-line left marked unread state i zero (omega arith) m h
+list-no-line : (left : List Token) (marked : Bool) (i : ℕ) (unread : List ℕ) (state : ReadState) → Some (Unread unread state) ≡ slice_get (list_elements left marked) i → ⊥
+list-no-line [] true zero unread state h = cc
+list-no-line [] true (suc i) unread state h = cc
+list-no-line [] false i unread state h = cc
+list-no-line (t ∷ left) marked zero unread state h = cc
+list-no-line (t ∷ left) marked (suc i) unread state h = list-no-line left marked i unread state h
 
-token-no-line : (token : Token) (unread : List ℕ) (state : ReadState) (i j : ℕ) → i < 1 → j < 1 → slice_get (Given token ∷ []) i ≡ slice_get (Unread unread state ∷ []) j → ⊥
-token-no-line token unread state zero zero l m h = cc
-token-no-line token unread state (suc i) j l m h = absurd (omega arith)
-token-no-line token unread state zero (suc j) l m h = absurd (omega arith)
+list-no-held : (left : List Token) (marked : Bool) (i : ℕ) (token : Token) → Some (Held token) ≡ slice_get (list_elements left marked) i → ⊥
+list-no-held [] true zero token h = cc
+list-no-held [] true (suc i) token h = cc
+list-no-held [] false i token h = cc
+list-no-held (t ∷ left) marked zero token h = cc
+list-no-held (t ∷ left) marked (suc i) token h = list-no-held left marked i token h
 
-other-no-line : (a : Source) (m : LineTail) (i j : ℕ) → ((l : LineTail) → a ≡ Source_line l → ⊥) → i < length (elements_of a) → j < 1 → slice_get (elements_of a) i ≡ slice_get (Unread m.unread m.state ∷ []) j → ⊥
-other-no-line (Source_list l) m i j other = list-no-line l.left l.marked m.unread m.state i j
-other-no-line (Source_line l) m i j other = absurd (other l refl)
-other-no-line (Source_token (Some token)) m i j other = token-no-line token m.unread m.state i j
-other-no-line (Source_token None) m i j other = λ l. absurd (omega arith)
+only : (e : Element) (i : ℕ) → i < length (e ∷ []) → slice_get (e ∷ []) i ≡ Some e
+only e zero l = refl
+only e (suc i) l = absurd (omega arith)
 
--- no element of what is no line is a line
-pub no-line : (a b : Source) (m : LineTail) (i j : ℕ) → ((l : LineTail) → a ≡ Source_line l → ⊥) → b ≡ Source_line m → i < length (elements_of a) → j < length (elements_of b) → slice_get (elements_of a) i ≡ slice_get (elements_of b) j → ⊥
-no-line a b m i j other f =
-    let P : Source → Type 0 = λ t. i < length (elements_of a) → j < length (elements_of t) → slice_get (elements_of a) i ≡ slice_get (elements_of t) j → ⊥ in
-    subst P (sym f) (other-no-line a m i j other)
+-- no element of a list is a line, or a token that is held
+pub no-line : (s : Source) (l : ListTail) (i : ℕ) (line : LineTail) → s ≡ Source_list l → Some (Unread line.unread line.state) ≡ slice_get (elements_of s) i → ⊥
+no-line s l i line e h = list-no-line l.left l.marked i line.unread line.state (h ∙ ap (λ t. slice_get (elements_of t) i) e)
+
+pub no-held : (s : Source) (l : ListTail) (i : ℕ) (token : Token) → s ≡ Source_list l → Some (Held token) ≡ slice_get (elements_of s) i → ⊥
+no-held s l i token e h = list-no-held l.left l.marked i token (h ∙ ap (λ t. slice_get (elements_of t) i) e)
+
+-- no line is an element of a list, and no token that is held
+pub line-not-in : (l : ListTail) (i : ℕ) (s : Source) (line : LineTail) (j : ℕ) → s ≡ Source_line line → j < length (elements_of s) → slice_get (list_elements l.left l.marked) i ≡ slice_get (elements_of s) j → ⊥
+line-not-in l i s line j e =
+    let P : Source → Type 0 = λ t. j < length (elements_of t) → slice_get (list_elements l.left l.marked) i ≡ slice_get (elements_of t) j → ⊥ in
+    subst P (sym e) (λ m h. list-no-line l.left l.marked i line.unread line.state (sym (h ∙ only (Unread line.unread line.state) j m)))
+
+by-held : (l : ListTail) (i : ℕ) (held : Option Token) (j : ℕ) → j < length (elements_of (Source_held held)) → slice_get (list_elements l.left l.marked) i ≡ slice_get (elements_of (Source_held held)) j → ⊥
+by-held l i None j m h = absurd (omega arith)
+by-held l i (Some token) j m h = list-no-held l.left l.marked i token (sym (h ∙ only (Held token) j m))
+
+pub held-not-in : (l : ListTail) (i : ℕ) (s : Source) (held : Option Token) (j : ℕ) → s ≡ Source_held held → j < length (elements_of s) → slice_get (list_elements l.left l.marked) i ≡ slice_get (elements_of s) j → ⊥
+held-not-in l i s held j e =
+    let P : Source → Type 0 = λ t. j < length (elements_of t) → slice_get (list_elements l.left l.marked) i ≡ slice_get (elements_of t) j → ⊥ in
+    subst P (sym e) (by-held l i held j)
 
 -- a text that begins with this character
 pub begins : (text rest : List ℕ) (code : ℕ) (b : Bool) → 1 ≤ length text → get_or text 0 0 ≡ code → (IsTrue b ↔ (take (length text - 1) (drop 1 text) ≡ rest)) → IsTrue b ↔ (code ∷ rest ≡ text)

@@ -4,7 +4,7 @@ use Rattle.std.proofs.lemmas.List.{take_all, take_more, take-set, take_more_set,
 use Rattle.std.proofs.lemmas.List.Sums.{fold-append}
 use Rattle.tx_char.specs.declared.category.Cat.{Cat}
 use Rattle.tx_pending.specs.declared.given.Given.{Given}
-use Rattle.tx_pending.specs.declared.given.Given.TheVariants.{Token, Marker, Used, E1}
+use Rattle.tx_pending.specs.declared.given.Given.TheVariants.{Token, Held, Marker, Used, E1}
 use Rattle.tx_pending.specs.declared.source.Source.{Source}
 use Rattle.tx_pending.specs.Elements.{Element, Input, step_of}
 use Rattle.tx_pending.specs.Sources.{before, elements_of, stack_elements}
@@ -26,6 +26,7 @@ stack-set stack i top long =
 
 given-taken : (input : Input) (to behind : List Element) (given : Given) → given ≢ Used → given_step input to behind given ≡ taken_step input (to ++ behind) given
 given-taken input to behind (Token t) n = refl
+given-taken input to behind (Held t) n = refl
 given-taken input to behind Marker n = refl
 given-taken input to behind Used n = absurd (n refl)
 given-taken input to behind E1 n = refl

@@ -6,11 +6,13 @@ use Rattle.tx_lex.specs.declared.types.ReadState.{ReadState}
 use Rattle.tx_lex.specs.declared.types.ReadState.TheVariants.{N}
 use Rattle.tx_lex.specs.Reading.{Reading, Read, Nothing, Refused, reading}
 use Rattle.tx_pending.specs.declared.next.Next.{Next}
-use Rattle.tx_pending.specs.declared.next.Next.TheVariants.{Token as Next_token, Marker, Used, E1}
+use Rattle.tx_pending.specs.declared.next.Next.TheVariants.{Token as Next_token, Held as Next_held, Marker, Used, E1}
 
--- an element of the pending input: a token, a marker, or a line with its unread rest and its reading state
+-- an element of the pending input: a token; a token that \noexpand holds (TeX: The Program, sections 358 and 369); a marker;
+-- or a line with its unread rest and its reading state
 pub data Element : Type 0 where
   Given : Token → Element
+  Held : Token → Element
   Mark : Element
   Unread : List ℕ → ReadState → Element
 
@@ -40,7 +42,11 @@ with_list input tokens marked = record { elements = list_elements tokens marked 
 abbrev pub with_token : Input → Token → Input
 with_token input token = record { elements = Given token ∷ input.elements; closing = input.closing }
 
--- so are several, in their order
+-- so is a token that \noexpand holds
+abbrev pub with_held : Input → Token → Input
+with_held input token = record { elements = Held token ∷ input.elements; closing = input.closing }
+
+-- several are put at the front in their order
 abbrev pub with_tokens : Input → List Token → Input
 with_tokens input tokens = record { elements = map Given tokens ++ input.elements; closing = input.closing }
 
@@ -63,6 +69,7 @@ line_step input behind Refused = record { next = E1; left = input }
 abbrev pub step_of : List Cat → Input → List Element → Step
 step_of codes input [] = record { next = Used input.closing; left = no_input }
 step_of codes input (Given token ∷ behind) = record { next = Next_token token; left = record { elements = behind; closing = input.closing } }
+step_of codes input (Held token ∷ behind) = record { next = Next_held token; left = record { elements = behind; closing = input.closing } }
 step_of codes input (Mark ∷ behind) = record { next = Marker; left = record { elements = behind; closing = input.closing } }
 step_of codes input (Unread unread state ∷ behind) = line_step input behind (reading codes state unread)
 

@@ -3,14 +3,15 @@ use Rattle.std.specs.Prelude.{◌≡◌, true, false, List, [], ◌∷◌, ◌++
 use Rattle.tx_char.specs.declared.category.Cat.{Cat}
 use Rattle.tx_lex.specs.Reading.{Read, Nothing, Refused, reading}
 use Rattle.tx_pending.specs.declared.given.Given.{Given}
-use Rattle.tx_pending.specs.declared.given.Given.TheVariants.{Token, Marker, Used, E1}
-use Rattle.tx_pending.specs.declared.next.Next.TheVariants.{Token as Next_token, Marker as Next_marker, Used as Next_used, E1 as Next_E1}
+use Rattle.tx_pending.specs.declared.given.Given.TheVariants.{Token, Held, Marker, Used, E1}
+use Rattle.tx_pending.specs.declared.next.Next.TheVariants.{Token as Next_token, Held as Next_held, Marker as Next_marker, Used as Next_used, E1 as Next_E1}
 use Rattle.tx_pending.specs.Tails.{ListTail, LineTail}
 use Rattle.tx_pending.specs.Elements.{Element, Input, Step, step_of}
 
 -- a list gives its first token, or its marker where no token is left
 abbrev pub IsListStep : ListTail → Given → ListTail → Type 0
 IsListStep from (Token token) to = from ≡ record { left = token ∷ to.left; marked = to.marked }
+IsListStep from (Held token) to = ⊥
 IsListStep from Marker to = (from ≡ record { left = []; marked = true }) × (to ≡ record { left = []; marked = false })
 IsListStep from Used to = ⊥
 IsListStep from E1 to = ⊥
@@ -18,6 +19,7 @@ IsListStep from E1 to = ⊥
 -- a line gives what the reading of its rest is; all stays where that is no token
 abbrev pub IsLineStep : List Cat → LineTail → Given → LineTail → Type 0
 IsLineStep codes from (Token token) to = reading codes from.state from.unread ≡ Read token to.unread to.state
+IsLineStep codes from (Held token) to = ⊥
 IsLineStep codes from Marker to = ⊥
 IsLineStep codes from Used to = (reading codes from.state from.unread ≡ Nothing) × (to ≡ from)
 IsLineStep codes from E1 to = (reading codes from.state from.unread ≡ Refused) × (to ≡ from)
@@ -25,6 +27,7 @@ IsLineStep codes from E1 to = (reading codes from.state from.unread ≡ Refused)
 -- what comes next where a source gives this and leaves these elements, before those behind it
 abbrev pub given_step : Input → List Element → List Element → Given → Step
 given_step input left behind (Token token) = record { next = Next_token token; left = record { elements = left ++ behind; closing = input.closing } }
+given_step input left behind (Held token) = record { next = Next_held token; left = record { elements = left ++ behind; closing = input.closing } }
 given_step input left behind Marker = record { next = Next_marker; left = record { elements = left ++ behind; closing = input.closing } }
 given_step input left behind Used = record { next = Next_used input.closing; left = record { elements = behind; closing = false } }
 given_step input left behind E1 = record { next = Next_E1; left = input }
@@ -37,6 +40,7 @@ pub record Gives (codes : List Cat) (from : List Element) (given : Given) (to : 
 -- what comes next where all that is pending gives this and leaves these elements
 abbrev pub taken_step : Input → List Element → Given → Step
 taken_step input left (Token token) = record { next = Next_token token; left = record { elements = left; closing = input.closing } }
+taken_step input left (Held token) = record { next = Next_held token; left = record { elements = left; closing = input.closing } }
 taken_step input left Marker = record { next = Next_marker; left = record { elements = left; closing = input.closing } }
 taken_step input left Used = record { next = Next_used input.closing; left = record { elements = left; closing = false } }
 taken_step input left E1 = record { next = Next_E1; left = input }

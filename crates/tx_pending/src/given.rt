@@ -9,6 +9,8 @@ use tx_char::Token;
 pub enum Given {
     /// A token.
     Token(Token),
+    /// A token that \noexpand holds.
+    Held(Token),
     /// The end of a list that was to be marked.
     Marker,
     /// Nothing: it is a line, which is used up.

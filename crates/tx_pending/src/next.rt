@@ -6,6 +6,8 @@ use tx_char::Token;
 pub enum Next {
     /// A token.
     Token(Token),
+    /// A token that \noexpand holds: it isn't expanded, and \outer isn't looked at (TeX: The Program, section 358).
+    Held(Token),
     /// The end of a list that was to be marked.
     Marker,
     /// The line is used up, or there is none; whether \endinput came since the last such answer.

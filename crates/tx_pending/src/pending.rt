@@ -1,7 +1,7 @@
 //! The pending input.
 ghost use Rattle.std.specs.Prelude.{◌≡◌, ◌↔◌, ◌++◌, ◌-◌, drop, map, take, IsTrue, IfOk, OnOk, OnErr};
 ghost use Rattle.tx_toklist.specs.Bodies.{argument, filled, filled_from};
-ghost use Rattle.tx_pending.specs.Elements.{Given as Element_given, no_input, step, with_close, with_line, with_list, with_token, with_tokens};
+ghost use Rattle.tx_pending.specs.Elements.{Given as Element_given, no_input, step, with_close, with_held, with_line, with_list, with_token, with_tokens};
 ghost use Rattle.tx_pending.specs.Sources.{IsReady, elements_of, stack_elements};
 ghost use Rattle.tx_pending.specs.Steps.{Takes};
 
@@ -78,6 +78,15 @@ impl Pending {
         put(&mut self.stack, Source::Token(Some(token)))
     }
 
+    /// Puts a token at the front that \noexpand holds: it is the next that is read, and is an ordinary one again where it is
+    /// given back (TeX: The Program, sections 358 and 369). After want of memory nothing has changed.
+    pub fn push_held(&mut self, token: Token) -> Result<(), AllocError>
+        ensures ok { OnOk result (self.new ≡ with_held self.old token) }
+        ensures err { OnErr result (self.new ≡ self.old) }
+    {
+        put(&mut self.stack, Source::Held(Some(token)))
+    }
+
     /// Puts a new line at the front, which is read from the state at a line's start on. After want of memory nothing has
     /// changed.
     pub fn push_line(&mut self, alloc: Global, line: Bytes) -> Result<(), AllocError>
@@ -107,6 +116,7 @@ impl Pending {
         let given = take(&mut self.stack, alloc, codes)?;
         match given {
             Given::Token(token) => Ok(Next::Token(token)),
+            Given::Held(token) => Ok(Next::Held(token)),
             Given::Marker => Ok(Next::Marker),
             Given::Used => {
                 let close = self.closing;

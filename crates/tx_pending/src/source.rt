@@ -1,5 +1,6 @@
 //! The sources of pending input.
-ghost use Rattle.std.specs.Prelude.{◌≡◌, ◌≢◌, ◌↔◌, ◌<◌, [], None, length, slice_get, IsTrue, IfOk, IfSome};
+ghost use Rattle.std.specs.Prelude.{◌≡◌, ◌≢◌, ◌↔◌, ◌<◌, [], None, Some, length, slice_get, IsTrue, IfOk, IfSome};
+ghost use Rattle.tx_pending.specs.Elements.{Given as Element_given, Held as Element_held, Unread, list_elements};
 ghost use Rattle.tx_pending.specs.Sources.{elements_of};
 ghost use Rattle.tx_pending.specs.Steps.{Gives};
 
@@ -16,6 +17,8 @@ pub enum Source {
     Line(LineReading),
     /// A token that was given back, until it is read again.
     Token(Option<Token>),
+    /// A token that \noexpand holds, until it is read again.
+    Held(Option<Token>),
 }
 
 impl Source {
@@ -26,7 +29,7 @@ impl Source {
         match self {
             Source::List(list) => list.is_spent(),
             Source::Line(_) => false,
-            Source::Token(token) => token.is_none(),
+            Source::Token(token) | Source::Held(token) => token.is_none(),
         }
     }
 
@@ -38,7 +41,8 @@ impl Source {
         match self {
             Source::List(list) => list.next(),
             Source::Line(line) => line.next(alloc, codes),
-            Source::Token(token) => Ok(read_again(token)),
+            Source::Token(token) => Ok(Given::Token(read_again(token))),
+            Source::Held(token) => Ok(Given::Held(read_again(token))),
         }
     }
 
@@ -49,8 +53,8 @@ impl Source {
         match self {
             Source::List(list) => list.count(),
             Source::Line(_) => 1,
-            Source::Token(Some(_)) => 1,
-            Source::Token(None) => 0,
+            Source::Token(Some(_)) | Source::Held(Some(_)) => 1,
+            Source::Token(None) | Source::Held(None) => 0,
         }
     }
 
@@ -60,17 +64,63 @@ impl Source {
         requires there { other_place < length (elements_of other.now) }
         ensures { IsTrue result ↔ (slice_get (elements_of self.now) place ≡ slice_get (elements_of other.now) other_place) }
     {
-        match (self, other) {
-            (Source::List(list), Source::List(other_list)) => {
-                list.same_at(place, other_list, other_place)
-            }
-            (Source::List(list), Source::Token(Some(token))) => list.has_token(place, token),
-            (Source::Token(Some(token)), Source::List(list)) => list.has_token(other_place, token),
-            (Source::Token(Some(token)), Source::Token(Some(other_token))) => {
-                token.same(other_token)
-            }
-            (Source::Line(line), Source::Line(other_line)) => line.same(other_line),
-            _ => false,
+        match self {
+            Source::List(list) => other.same_in(other_place, list, place),
+            Source::Line(line) => other.has_line(other_place, line),
+            Source::Token(Some(token)) => other.has_token(other_place, token),
+            Source::Held(Some(token)) => other.has_held(other_place, token),
+            Source::Token(None) | Source::Held(None) => false,
+        }
+    }
+
+    /// Whether the element at this place is that of a list at a place of its own.
+    fn same_in(&self, place: usize, list: &ListReading, list_place: usize) -> bool
+        requires here { place < length (elements_of self.now) }
+        requires there { list_place < length (list_elements list.now.left list.now.marked) }
+        ensures { IsTrue result ↔ (slice_get (list_elements list.now.left list.now.marked) list_place ≡ slice_get (elements_of self.now) place) }
+    {
+        match self {
+            Source::List(own) => list.same_at(list_place, own, place),
+            Source::Token(Some(token)) => list.has_token(list_place, token),
+            Source::Line(_) => false,
+            Source::Held(_) => false,
+            Source::Token(None) => false,
+        }
+    }
+
+    /// Whether the element at this place is this line.
+    fn has_line(&self, place: usize, line: &LineReading) -> bool
+        requires { place < length (elements_of self.now) }
+        ensures { IsTrue result ↔ (Some (Unread line.now.unread line.now.state) ≡ slice_get (elements_of self.now) place) }
+    {
+        match self {
+            Source::Line(own) => line.same(own),
+            Source::List(_) => false,
+            Source::Token(_) | Source::Held(_) => false,
+        }
+    }
+
+    /// Whether the element at this place is this token, not held.
+    fn has_token(&self, place: usize, token: &Token) -> bool
+        requires { place < length (elements_of self.now) }
+        ensures { IsTrue result ↔ (Some (Element_given token.now) ≡ slice_get (elements_of self.now) place) }
+    {
+        match self {
+            Source::List(list) => list.has_token(place, token),
+            Source::Token(Some(own)) => token.same(own),
+            Source::Line(_) | Source::Token(None) | Source::Held(_) => false,
+        }
+    }
+
+    /// Whether the element at this place is this token, held.
+    fn has_held(&self, place: usize, token: &Token) -> bool
+        requires { place < length (elements_of self.now) }
+        ensures { IsTrue result ↔ (Some (Element_held token.now) ≡ slice_get (elements_of self.now) place) }
+    {
+        match self {
+            Source::Held(Some(own)) => token.same(own),
+            Source::List(_) => false,
+            Source::Line(_) | Source::Token(_) | Source::Held(None) => false,
         }
     }
 
@@ -83,18 +133,19 @@ impl Source {
             Source::List(list) => Ok(Source::List(list.share()?)),
             Source::Line(line) => Ok(Source::Line(line.share()?)),
             Source::Token(token) => Ok(Source::Token(token.clone()?)),
+            Source::Held(token) => Ok(Source::Held(token.clone()?)),
         }
     }
 }
 
-/// Reads a token that was given back.
-fn read_again(token: &mut Option<Token>) -> Given
+/// Reads a token that was given back, or is held.
+fn read_again(token: &mut Option<Token>) -> Token
     requires { token.old ≢ None }
-    ensures given { IfSome token.old (λ t. result ≡ Given.Token t) }
+    ensures given { IfSome token.old (λ t. result ≡ t) }
     ensures spent { token.new ≡ None }
 {
     match token.take() {
-        Some(token) => Given::Token(token),
+        Some(token) => token,
         None => unreachable!(),
     }
 }

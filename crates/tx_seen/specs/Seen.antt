@@ -6,7 +6,7 @@ use Rattle.tx_char.specs.declared.tokens.Token.{Token}
 use Rattle.tx_char.specs.declared.tokens.Token.TheVariants as token
 use Rattle.tx_prim.specs.declared.primitive.Primitive.TheVariants.{Relax}
 use Rattle.tx_seen.specs.declared.meaning.Meaning.{Meaning}
-use Rattle.tx_seen.specs.declared.meaning.Meaning.TheVariants.{Undefined, Command, Character, Held}
+use Rattle.tx_seen.specs.declared.meaning.Meaning.TheVariants.{Undefined, Command, Character, Expandable, Macro, Held}
 use Rattle.tx_seen.specs.declared.seen.Seen.{Seen}
 
 -- a name without a meaning, or an active character without one
@@ -16,6 +16,17 @@ is_undefined t = is_nothing t.meaning
     is_nothing : Meaning → Bool
     is_nothing Undefined = true
     is_nothing _ = false
+
+-- what is expanded: a name without a meaning is too, which is an error (TeX: The Program, section 366)
+abbrev pub is_expanded : Meaning → Bool
+is_expanded Undefined = true
+is_expanded (Expandable e) = true
+is_expanded (Macro m) = true
+is_expanded _ = false
+
+-- a token that \noexpand holds: what would be expanded means nothing but that, all else what it means (section 358)
+abbrev pub held : Seen → Seen
+held t = if is_expanded t.meaning then record { token = t.token; meaning = Held } else t
 
 -- a space, or a name that means one
 abbrev pub is_space : Seen → Bool

@@ -42,6 +42,29 @@ impl Seen {
         matches!(self.meaning, Meaning::Undefined)
     }
 
+    /// Whether it is expanded where expansion is wanted: a macro, a primitive that is expanded, or what has no meaning.
+    pub fn is_expanded(&self) -> bool
+        ensures { result ≡ spec.is_expanded self.now.meaning }
+    {
+        matches!(
+            self.meaning,
+            Meaning::Undefined | Meaning::Expandable(_) | Meaning::Macro(_)
+        )
+    }
+
+    /// What it is where \noexpand holds it: it isn't expanded (TeX: The Program, section 358).
+    pub fn held(self) -> Seen
+        ensures { result ≡ spec.held self }
+    {
+        if self.is_expanded() {
+            return Seen {
+                token: self.token,
+                meaning: Meaning::Held,
+            };
+        }
+        self
+    }
+
     /// Whether it is a space, or a name that means one.
     pub fn is_space(&self) -> bool
         ensures { result ≡ spec.is_space self.now }
