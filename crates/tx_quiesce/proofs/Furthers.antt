@@ -12,9 +12,9 @@ use Rattle.tx_checkpoint.specs.declared.row.Last.{Last}
 use Rattle.tx_checkpoint.specs.declared.row.Rows.{Rows}
 use Rattle.tx_checkpoint.specs.Meant.{AreRows, rows_meant}
 use Rattle.tx_checkpoint.specs.Resume.{Begun, after_rows}
-use Rattle.tx_checkpoint.specs.Rows.{History, PageRow, rows_in, only, at_limit, rows_from}
+use Rattle.tx_checkpoint.specs.Rows.{History, PageRow, rows_in, only, at_limit, rows_from, all_turns}
 use Rattle.tx_checkpoint.proofs.LastRow.{last-row}
-use Rattle.tx_quiesce.specs.Further.{CanReuse}
+use Rattle.tx_quiesce.specs.Further.{CanReuse, further_turns}
 use Rattle.tx_quiesce.specs.Limits.{is_page_limit}
 use Rattle.tx_quiesce.specs.Reuse.{moved, moved_begun, rest_of, further}
 use Rattle.tx_quiesce.specs.Shift.{CanShiftFile, shifted_opens, shifted_row, shifted_page, end_now, last_now}
@@ -42,6 +42,22 @@ can-opens {S = S} {e = e} {number = number} {rows = rows} can k within {row = ro
     let left : length (drop (number - 1) rows) ≡ length rows - (number - 1) = length-drop (number - 1) rows in
     let at : number - 1 + k ≡ number + k - 1 = omega arith in
     subst (λ (it : Row S). All (CanShiftFile e) it.opens) (drop_get (number - 1) k rows row ∙ ap (λ i. get_or rows i row) at ∙ sym is) (can.opens k row (omega arith))
+
+-- the files that are open behind some rows of the rest, by the rows as they were lent
+pub lent-opens : {S : Type 0} {e : Edit} {number : ℕ} {olds rows : List (Row S)} {last : Last} → rows ≡ olds → CanReuse e number olds last → (k : ℕ) → k ≤ length rows - number → {row : Row S} → row ≡ get_or rows (number + k - 1) row
+    → All (CanShiftFile e) row.opens
+lent-opens {S = S} {number = number} {olds = olds} rows_are can k within {row = row} is =
+    let few : k ≤ length olds - number = subst (λ (rows : List (Row S)). k ≤ length rows - number) rows_are within in
+    let fit : number ≤ length olds = can.within in
+    can-opens can k (omega arith) (subst (λ (rows : List (Row S)). row ≡ get_or rows (number + k - 1) row) rows_are is)
+
+-- and behind the last row
+pub last-opens : {S : Type 0} {e : Edit} {number : ℕ} {olds rows : List (Row S)} {last : Last} → rows ≡ olds → CanReuse e number olds last → {row : Row S} → row ≡ get_or rows (length rows - 1) row → All (CanShiftFile e) row.opens
+last-opens {S = S} {number = number} {olds = olds} {rows = rows} rows_are can {row = row} is =
+    let fit : number ≤ length olds = can.within in
+    let same : length rows ≡ length olds = ap length rows_are in
+    let sum : length rows - 1 ≡ number + (length rows - number) - 1 = omega arith in
+    lent-opens rows_are can (length rows - number) (omega arith) (is ∙ ap (λ i. get_or rows i row) sum)
 
 module _ {S M : Type 0} (meaning : S → M) (e : Edit) (files : Files) {old : Rows S} {h : History M} (are : AreRows meaning old h) (start : Begun M) (number : ℕ) where
   abbrev pub begun : Begun M
@@ -106,3 +122,19 @@ module _ {S M : Type 0} (meaning : S → M) (e : Edit) (files : Files) {old : Ro
         (λ i. cond (over i) (only (at_limit (after_rows begun (rows_in (take most rest.pages))).opens))
         (cond (by_itself i) (rows_from m files budget (most - length rest.pages) (after_rows begun (rows_in rest.pages)).state (after_rows begun (rows_in rest.pages)).opens) (only rest.last)))
         ∙ ap (λ last. only (last_now files e last)) (sym are.last_is)
+
+    -- the same, by the rows as they were lent
+    module _ {rows : List (Row S)} (rows_are : rows ≡ old.rows.items) (can : CanReuse e number old.rows.items old.last) where
+      pub lent-cut : most ≤ length rows - number → {row : Row S} → row ≡ get_or rows (number + most - 1) row → further m files budget most begun rest ≡ only (at_limit (shifted_opens e row.opens))
+      lent-cut within {row = row} is =
+          further-cut can.some can.within (subst (λ (rows : List (Row S)). most ≤ length rows - number) rows_are within)
+          (subst (λ (rows : List (Row S)). row ≡ get_or rows (number + most - 1) row) rows_are is)
+
+      module _ (above : length rows - number < most) (limit : old.last.end ≡ PageLimit) {row : Row S} (is : row ≡ get_or rows (length rows - 1) row) where
+        pub lent-goes : further m files budget most begun rest ≡ rows_from m files budget (most - (length rows - number)) (meaning row.state) (shifted_opens e row.opens)
+        lent-goes =
+            further-goes can.some can.within (subst (λ (rows : List (Row S)). length rows - number < most) rows_are above) limit (subst (λ (rows : List (Row S)). row ≡ get_or rows (length rows - 1) row) rows_are is)
+            ∙ ap (λ (rows : List (Row S)). rows_from m files budget (most - (length rows - number)) (meaning row.state) (shifted_opens e row.opens)) (sym rows_are)
+
+        pub lent-turns : all_turns (rows_from m files budget (most - (length rows - number)) (meaning row.state) (shifted_opens e row.opens)) ≡ further_turns old.last (further m files budget most begun rest)
+        lent-turns = ap all_turns (sym lent-goes) ∙ ap (λ end. cond (is_page_limit end) (all_turns (further m files budget most begun rest)) 0) (sym limit)

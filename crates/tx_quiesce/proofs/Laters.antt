@@ -1,7 +1,9 @@
 -- What is made behind the rows that an edit leaves is what the definition makes of the old run.
 use Rattle.std.proofs.Common.{◌≡◌, ℕ, ◌+◌, ◌-◌, ◌≤◌, List, [], length, map, take, drop, min, Option, Some, None, refl, sym, ap, ◌∙◌, subst, arith, append-nil}
 use Rattle.std.specs.Prelude.{IfSome}
+use Rattle.std.specs.List.{All}
 use Rattle.std.proofs.lemmas.List.{length-map, length-take-le}
+use Rattle.std.proofs.lemmas.List.Elements.{All-take}
 use Rattle.tx_bytes.specs.Files.{Files}
 use Rattle.tx_files.specs.declared.edit.Edit.{Edit}
 use Rattle.tx_machine.specs.declared.types.Date.{Date}
@@ -22,10 +24,10 @@ use Rattle.tx_quiesce.specs.declared.further.Further.TheVariants.{Goes, Stands}
 use Rattle.tx_quiesce.specs.declared.later.Later.{Later}
 use Rattle.tx_quiesce.specs.Front.{AreFront, Reaches, turns_to}
 use Rattle.tx_quiesce.specs.Further.{IsFurther, CanReuse, further_turns}
-use Rattle.tx_quiesce.specs.Later.{IsLater, CanShiftFurther, turns_with, turns_behind}
+use Rattle.tx_quiesce.specs.Later.{IsLater, CanShiftFurther, FitsBehind, turns_with, turns_behind}
 use Rattle.tx_quiesce.specs.Meeting.{Meeting}
-use Rattle.tx_quiesce.specs.Reuse.{moved, moved_begun, reused, rest_of, further, reused_by, meeting_behind, made_behind}
-use Rattle.tx_quiesce.specs.Shift.{shifted_page, CanShiftLast}
+use Rattle.tx_quiesce.specs.Reuse.{moved, moved_begun, reused, rest_of, further, reused_by, reused_rows, meeting_behind, made_behind}
+use Rattle.tx_quiesce.specs.Shift.{shifted_page, CanShiftRow, CanShiftLast}
 use Rattle.tx_machine.proofs.PageCounts.{pages-run_from}
 use Rattle.tx_checkpoint.proofs.Standing.{rows-tell}
 use Rattle.tx_quiesce.proofs.Found.{first-within, first-past}
@@ -161,3 +163,64 @@ module _ {S M : Type 0} (m : Formatter M) (meaning : S → M) (files : Files) (e
   -- what is reused can be
   pub can-reached : {front : Front S} {number : ℕ} (reached : ReachedMeeting meaning new_run its_meeting front number) → IfSome its_meeting (λ meeting. CanReuse e meeting.old old.rows.items old.last) → CanReuse e number old.rows.items old.last
   can-reached reached can = subst (λ n. CanReuse e n old.rows.items old.last) reached.number_is (subst (λ (o : Option Meeting). IfSome o (λ meeting. CanReuse e meeting.old old.rows.items old.last)) reached.some can)
+
+  -- where formatting stopped, told at once
+  module _ (front : Front S) (reaches : Reaches meaning new_run its_meeting front) where
+    module _ {last : Last} (stopped : front.stopped ≡ Over last) where
+      abbrev over : ReachedEnd meaning new_run its_meeting front last
+      over = reached-end meaning new_run its_meeting front reaches stopped
+
+      pub over-later : {h : History M} (are : AreRows meaning old h) {later : Later S} {rows : Rows S} → later.front.pages ≡ front.pages → later.front.pieces ≡ front.pieces → later.front.rows ≡ front.rows → later.count ≡ 0 → later.further ≡ Goes rows
+          → rows.pages.items ≡ [] → rows.pieces.items ≡ [] → rows.rows.items ≡ [] → rows.last ≡ last → IsLater meaning e old h later (made_behind m files e main date limits kept h)
+      over-later {h = h} are {later = later} pages pieces formatted none goes no_page no_piece no_row last_is =
+          subst (IsLater meaning e old h later) (made-so are)
+          (later-over m meaning files e are (start_of m main date) limits.budget (limits.pages - kept) new_run over pages pieces formatted none goes no_page no_piece no_row last_is)
+
+      pub over-count : 0 ≡ reused_rows limits.pages (length old.rows.items) kept its_meeting
+      over-count = sym (ap (reused_rows limits.pages (length old.rows.items) kept) over.none)
+
+    module _ {number : ℕ} (stopped : front.stopped ≡ Met number) where
+      abbrev at : ReachedMeeting meaning new_run its_meeting front number
+      at = reached-meeting meaning new_run its_meeting front reaches stopped
+
+      abbrev part : IsFormattedPart front at.meeting number
+      part = formatted-part at
+
+      pub met-few : length front.rows.items ≤ limits.pages - kept
+      met-few = let size = part.size in let few = part.few in omega arith
+
+      pub met-can : IfSome its_meeting (λ meeting. CanReuse e meeting.old old.rows.items old.last) → CanReuse e number old.rows.items old.last
+      met-can = can-reached at
+
+      module _ {formatted left : ℕ} (size : formatted ≡ length front.rows.items) (left_is : left ≡ limits.pages - kept - formatted) where
+        left_so : left ≡ limits.pages - kept - at.meeting.formatted
+        left_so = left_is ∙ ap (λ n. limits.pages - kept - n) (size ∙ part.size)
+
+        pub met-turns : {h : History M} (are : AreRows meaning old h)
+            → turns_to new_run its_meeting + further_turns old.last (further m files limits.budget left (moved_begun e (after_rows (start_of m main date) (take number (rows_in h.pages)))) (moved files e (rest_of h number)))
+            ≡ turns_behind m files e main date limits kept h
+        met-turns are = turns-met m meaning files e are (start_of m main date) limits.budget (limits.pages - kept) new_run at left_so ∙ turns-so are
+
+        pub met-count : {count : ℕ} → count ≡ min left (length old.rows.items - number) → count ≡ reused_rows limits.pages (length old.rows.items) kept its_meeting
+        met-count count_is =
+            count_is ∙ (λ i. min (left_so i) (length old.rows.items - sym at.number_is i)) ∙ sym (ap (reused_rows limits.pages (length old.rows.items) kept) at.some)
+
+        pub met-later : {h : History M} (are : AreRows meaning old h) {later : Later S} → later.front.pages ≡ front.pages → later.front.pieces ≡ front.pieces → later.front.rows ≡ front.rows → later.from ≡ number
+            → later.count ≡ min left (length old.rows.items - number)
+            → IsFurther meaning e old.last (further m files limits.budget left (moved_begun e (after_rows (start_of m main date) (take number (rows_in h.pages)))) (moved files e (rest_of h number))) later.further
+            → IsLater meaning e old h later (made_behind m files e main date limits kept h)
+        met-later {h = h} are {later = later} pages pieces rows from count further_is =
+            subst (IsLater meaning e old h later) (made-so are)
+            (later-met m meaning files e are (start_of m main date) limits.budget (limits.pages - kept) new_run at pages pieces rows from left_so count further_is)
+
+      pub met-fits : (can : IfSome its_meeting (λ meeting. CanReuse e meeting.old old.rows.items old.last)) (later : Later S) (left : ℕ) → later.from ≡ number → later.count ≡ min left (length old.rows.items - number) → FitsBehind e kept old later
+      met-fits can later left from count =
+          let able = met-can can in
+          let within : number ≤ length old.rows.items = able.within in
+          let order : kept ≤ number = part.past in
+          record {
+            order = omega (arith, order, from);
+            within = omega (arith, count, from, within);
+            rows_can = subst (λ n. All (CanShiftRow e) (take later.count (drop n old.rows.items))) (sym from) (All-take (CanShiftRow e) later.count (drop number old.rows.items) able.rows_can);
+            last_can = can-further e old.last later.further able.last_can;
+          }
