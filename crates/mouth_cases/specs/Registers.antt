@@ -1,5 +1,5 @@
 -- What stands in the registers for every text.
-use Rattle.std.specs.Prelude.{ℕ, ◌+◌, ◌*◌, ◌%◌, ◌==◌, pos, neg_ℤ, if◌then◌else◌}
+use Rattle.std.specs.Prelude.{◌+◌, ◌*◌, ◌%◌, ◌==◌, pos, neg_ℤ, if◌then◌else◌}
 use Rattle.tx_seen.specs.declared.fed.Value.{Value}
 use Rattle.tx_seen.specs.declared.fed.Value.TheVariants.{Int, Dimen}
 use Rattle.tx_seen.specs.declared.place.Place.{Place}

@@ -1,22 +1,26 @@
-//! The command that skips a text.
-
+//! The skipping of a text that is pending.
 use crate::input::Input;
+use crate::numbers::write_error;
 use std::alloc::{AllocError, Global};
-use std::io;
 use tx_char::Token;
 use tx_cond::{SkipItem, Skipper};
 use tx_prim::CondWord;
 use tx_seen::{Fed, Want};
 
-/// Prints the word that ends the skipping of a text.
-pub fn show(rt: &HostRuntime, input: &mut Input) -> io::Result<()> {
-    match skipped(rt.alloc(), input)? {
+/// Writes the word that ends the skipping of a text, and what is left.
+pub fn write_skipped(
+    alloc: Global,
+    text: &mut String,
+    input: &mut Input,
+) -> Result<(), AllocError> {
+    match skipped(alloc, input)? {
         Fed::Done(word, _) => {
-            println!(rt; "{}", text_of_word(word))?;
-            input.show_left(rt)
+            text.push_str(text_of_word(word))?;
+            text.push('|')?;
+            input.write_left(alloc, text)
         }
-        Fed::Wrong(error) => println!(rt; "error {}", error.number()),
-        Fed::More(_) | Fed::Need(_) => println!(rt; "more"),
+        Fed::Wrong(error) => write_error(text, error),
+        Fed::More(_) | Fed::Need(_) => text.push_str("more"),
     }
 }
 
@@ -56,7 +60,7 @@ fn kind_of_name(name: &[u8]) -> SkipItem {
     }
 }
 
-/// The word as it is printed.
+/// The word as it is written.
 fn text_of_word(word: CondWord) -> &'static str {
     match word {
         CondWord::Else => "else",

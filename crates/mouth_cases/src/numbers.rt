@@ -1,13 +1,12 @@
-//! Commands that scan an integer or a keyword.
-ghost use Rattle.mouth_show.specs.Registers.{register};
+//! Integers and keywords that are read from the pending input.
+ghost use Rattle.mouth_cases.specs.Registers.{register};
 
 use crate::input::Input;
 use std::alloc::{AllocError, Global};
-use std::io;
 use tx_char::{Cat, Token};
 use tx_prim::Primitive;
 use tx_scan::{IntScan, KeyScan, supply};
-use tx_seen::{Fed, Meaning, Place, Quantities, Seen, Value, Want};
+use tx_seen::{Fed, Meaning, Place, Quantities, Seen, TexError, Value, Want};
 use tx_toklist::Toks;
 
 /// What stands for every text in the registers, to compare with: 3N in \count N where N is even, else -2N; 100N + 1 sp in
@@ -40,19 +39,23 @@ fn seen(token: Token) -> Seen {
     Seen { token, meaning }
 }
 
-/// Puts the last tokens that were taken, so many of them, at the front again. Its only error is want of memory.
-fn give_back(
+/// Writes what is left behind the tokens that were taken, of which the last ones, so many, are given back.
+fn write_rest(
     alloc: Global,
+    text: &mut String,
     input: &mut Input,
     taken: &Toks,
     back: usize,
 ) -> Result<(), AllocError> {
     let left = taken.len().saturating_sub(back);
-    let mut tokens = Toks::new(alloc);
-    for token in &taken.as_slice()[left..] {
-        tokens.push(token.clone()?)?;
-    }
-    input.give_back(alloc, tokens)
+    input.give_back(alloc, Toks::from_slice(alloc, &taken.as_slice()[left..])?)?;
+    input.write_left(alloc, text)
+}
+
+/// Writes an error by its number.
+pub fn write_error(text: &mut String, error: TexError) -> Result<(), AllocError> {
+    let number = error.number();
+    write!(text, "error {number}")
 }
 
 /// The last token that a number took, where it isn't part of it: no number gives back more. Its only error is want of memory.
@@ -63,17 +66,17 @@ pub fn behind_number(alloc: Global, last: Option<Token>, back: usize) -> Result<
     }
 }
 
-/// Prints the integer with which a text begins.
-pub fn show_number(rt: &HostRuntime, input: &mut Input) -> io::Result<()> {
+/// Writes the integer with which a text begins, and what is left.
+pub fn write_number(alloc: Global, text: &mut String, input: &mut Input) -> Result<(), AllocError> {
     let mut last = None;
-    match number(rt.alloc(), input, &mut last)? {
+    match number(alloc, input, &mut last)? {
         Fed::Done(number, back) => {
-            println!(rt; "value {number}")?;
-            input.give_back(rt.alloc(), behind_number(rt.alloc(), last, back)?)?;
-            input.show_left(rt)
+            write!(text, "value {number}|")?;
+            input.give_back(alloc, behind_number(alloc, last, back)?)?;
+            input.write_left(alloc, text)
         }
-        Fed::Wrong(error) => println!(rt; "error {}", error.number()),
-        Fed::More(_) | Fed::Need(_) => println!(rt; "more"),
+        Fed::Wrong(error) => write_error(text, error),
+        Fed::More(_) | Fed::Need(_) => text.push_str("more"),
     }
 }
 
@@ -99,24 +102,28 @@ pub fn number(
     Ok(Fed::More(Want::Expanded))
 }
 
-/// Prints whether a text begins with a keyword.
-pub fn show_keyword(rt: &HostRuntime, word: &str, input: &mut Input) -> io::Result<()> {
-    let mut taken = Toks::new(rt.alloc());
-    match keyword(rt.alloc(), word, input, &mut taken)? {
+/// Writes whether a text begins with a keyword, and what is left.
+pub fn write_keyword(
+    alloc: Global,
+    text: &mut String,
+    word: &str,
+    input: &mut Input,
+) -> Result<(), AllocError> {
+    let mut taken = Toks::new(alloc);
+    match keyword(alloc, word.as_bytes(), input, &mut taken)? {
         Fed::Done(found, back) => {
-            println!(rt; "{}", if found { "yes" } else { "no" })?;
-            give_back(rt.alloc(), input, &taken, back)?;
-            input.show_left(rt)
+            text.push_str(if found { "yes|" } else { "no|" })?;
+            write_rest(alloc, text, input, &taken, back)
         }
-        Fed::Wrong(error) => println!(rt; "error {}", error.number()),
-        Fed::More(_) | Fed::Need(_) => println!(rt; "more"),
+        Fed::Wrong(error) => write_error(text, error),
+        Fed::More(_) | Fed::Need(_) => text.push_str("more"),
     }
 }
 
 /// Whether a text begins with a keyword, and the tokens that were taken. Its only error is want of memory.
 fn keyword(
     alloc: Global,
-    word: &str,
+    word: &[u8],
     input: &mut Input,
     taken: &mut Toks,
 ) -> Result<Fed<bool>, AllocError> {
@@ -126,7 +133,7 @@ fn keyword(
             return Ok(Fed::More(Want::Expanded));
         };
         let seen = seen(token);
-        let answer = scan.feed(word.as_bytes(), &seen);
+        let answer = scan.feed(word, &seen);
         taken.push(seen.token)?;
         match answer {
             Fed::More(_) => {}
