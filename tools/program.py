@@ -1,4 +1,4 @@
-"""The programs word_cases and mouth_show, for the checks that ask them."""
+"""The programs word_cases and mouth_cases, for the checks that ask them."""
 import os
 import subprocess
 

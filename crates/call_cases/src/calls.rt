@@ -2,7 +2,7 @@
 use std::alloc::{AllocError, Global};
 use std::{fs, io};
 use tx_bytes::Bytes;
-use tx_cases::{bytes_of, hexadecimal, text_of};
+use tx_cases::{bytes_of, write_bytes, write_hexadecimal};
 use tx_io::{MemorySink, MemorySource};
 use tx_machine::CountsTurns;
 use vortex_cmd::vortex::vortex;
@@ -146,46 +146,32 @@ fn append(alloc: Global, bytes: &mut Bytes, line: &str) -> Result<(), AllocError
 fn shown(alloc: Global, status: u8, sink: &MemorySink, lines: &str) -> Result<String, AllocError> {
     let mut text = String::new(alloc);
     write!(text, "status {status}\n")?;
-    write_text(alloc, &mut text, sink.said())?;
-    write_saved(alloc, &mut text, sink, lines)?;
+    write_bytes(&mut text, sink.said())?;
+    write_saved(&mut text, sink, lines)?;
     Ok(text)
 }
 
-fn write_text(alloc: Global, text: &mut String, bytes: &[u8]) -> Result<(), AllocError> {
-    text.push_str(text_of(alloc, bytes)?.as_str())
-}
-
 /// Writes the files that are to be shown.
-fn write_saved(
-    alloc: Global,
-    text: &mut String,
-    sink: &MemorySink,
-    lines: &str,
-) -> Result<(), AllocError> {
+fn write_saved(text: &mut String, sink: &MemorySink, lines: &str) -> Result<(), AllocError> {
     for line in lines.split('\n') {
         if let Some(name) = line.strip_prefix("saved ") {
             text.push_str(name)?;
-            write_file(alloc, text, name, sink.saved(name.as_bytes()))?;
+            write_file(text, name, sink.saved(name.as_bytes()))?;
         }
     }
     Ok(())
 }
 
-fn write_file(
-    alloc: Global,
-    text: &mut String,
-    name: &str,
-    file: Option<&Bytes>,
-) -> Result<(), AllocError> {
+fn write_file(text: &mut String, name: &str, file: Option<&Bytes>) -> Result<(), AllocError> {
     match file {
         None => text.push_str(": nothing\n"),
         Some(file) if file.is_empty() => text.push_str(": empty\n"),
         Some(file) => {
             text.push_str(":\n")?;
             if name.ends_with(".dvi") {
-                text.push_str(hexadecimal(alloc, file.as_slice())?.as_str())?;
+                write_hexadecimal(text, file.as_slice())?;
             } else {
-                write_text(alloc, text, file.as_slice())?;
+                write_bytes(text, file.as_slice())?;
             }
             text.push('\n')
         }

@@ -1,7 +1,7 @@
 //! Cases of tx_node and tx_ship.
 use crate::lists::{Fault, list_of};
 use std::alloc::{AllocError, Global};
-use tx_cases::{answered, first_word, hexadecimal, malformed};
+use tx_cases::{first_word, write_hexadecimal};
 use tx_dvi::PageBody;
 use tx_node::{BoxNode, PackError, hbox, same_box, same_list};
 use tx_ship::{ShipError, ShipParams, body};
@@ -10,61 +10,80 @@ use tx_ship::{ShipError, ShipParams, body};
 /// - `twin LIST`, whether the box and a clone of it are equal, and `alike LIST|LIST`, whether two lists are;
 /// - `page HOFFSET VOFFSET LIST`, the page's height and width, and `body HOFFSET VOFFSET LIST`, these, its nesting, its
 ///   magnification and its commands in hexadecimal.
-pub fn answer(alloc: Global, word: &str, rest: &str) -> Result<String, AllocError> {
+pub fn write_answer(
+    alloc: Global,
+    text: &mut String,
+    word: &str,
+    rest: &str,
+) -> Result<(), AllocError> {
     match word {
-        "box" => shown(alloc, box_of(alloc, rest)),
-        "twin" => has_twin(alloc, box_of(alloc, rest)),
-        "alike" => are_alike(alloc, rest),
-        "page" | "body" => {
-            let (hoffset, rest) = first_word(rest);
-            let (voffset, rest) = first_word(rest);
-            match (hoffset.parse(), voffset.parse()) {
-                (Ok(hoffset), Ok(voffset)) => {
-                    page(alloc, word, box_of(alloc, rest), &params(hoffset, voffset))
-                }
-                _ => malformed(alloc),
-            }
-        }
-        _ => malformed(alloc),
+        "box" => write_box(text, box_of(alloc, rest)),
+        "twin" => write_twin(text, box_of(alloc, rest)),
+        "alike" => write_alike(alloc, text, rest),
+        "page" | "body" => write_page_at(alloc, text, word, rest),
+        _ => text.push_str("malformed"),
     }
+}
+
+fn write_page_at(
+    alloc: Global,
+    text: &mut String,
+    word: &str,
+    rest: &str,
+) -> Result<(), AllocError> {
+    let (hoffset, rest) = first_word(rest);
+    let (voffset, rest) = first_word(rest);
+    let (Ok(hoffset), Ok(voffset)) = (hoffset.parse(), voffset.parse()) else {
+        return text.push_str("malformed");
+    };
+    write_page(
+        alloc,
+        text,
+        word,
+        box_of(alloc, rest),
+        &params(hoffset, voffset),
+    )
 }
 
 fn box_of(alloc: Global, text: &str) -> Result<BoxNode, Fault> {
     hbox(list_of(alloc, text)?).map_err(Fault::Unpacked)
 }
 
-fn fault(alloc: Global, fault: Fault) -> Result<String, AllocError> {
+fn write_fault(text: &mut String, fault: Fault) -> Result<(), AllocError> {
     match fault {
-        Fault::Malformed => malformed(alloc),
-        Fault::Unpacked(PackError::SizeOutOfRange) => answered(alloc, "too wide"),
-        Fault::Unpacked(PackError::TooDeep) => answered(alloc, "too deep"),
+        Fault::Malformed => text.push_str("malformed"),
+        Fault::Unpacked(PackError::SizeOutOfRange) => text.push_str("too wide"),
+        Fault::Unpacked(PackError::TooDeep) => text.push_str("too deep"),
         Fault::Memory => Err(AllocError),
     }
 }
 
-fn shown(alloc: Global, packed: Result<BoxNode, Fault>) -> Result<String, AllocError> {
+fn write_box(text: &mut String, packed: Result<BoxNode, Fault>) -> Result<(), AllocError> {
     match packed {
         Ok(node) => {
             let (width, height, depth) = (node.width(), node.height(), node.depth());
             let (nesting, count) = (node.nesting(), node.count());
-            format!(in alloc; "{width} {height} {depth}, nesting {nesting}, nodes {count}")
+            write!(
+                text,
+                "{width} {height} {depth}, nesting {nesting}, nodes {count}"
+            )
         }
-        Err(error) => fault(alloc, error),
+        Err(error) => write_fault(text, error),
     }
 }
 
-fn has_twin(alloc: Global, packed: Result<BoxNode, Fault>) -> Result<String, AllocError> {
+fn write_twin(text: &mut String, packed: Result<BoxNode, Fault>) -> Result<(), AllocError> {
     match packed {
-        Ok(node) => format!(in alloc; "{}", same_box(&node, &node.clone()?)),
-        Err(error) => fault(alloc, error),
+        Ok(node) => write!(text, "{}", same_box(&node, &node.clone()?)),
+        Err(error) => write_fault(text, error),
     }
 }
 
-fn are_alike(alloc: Global, rest: &str) -> Result<String, AllocError> {
+fn write_alike(alloc: Global, text: &mut String, rest: &str) -> Result<(), AllocError> {
     let (one, other) = rest.split_once('|').unwrap_or((rest, "?"));
     match (box_of(alloc, one), box_of(alloc, other)) {
-        (Ok(one), Ok(other)) => format!(in alloc; "{}", same_list(one.list(), other.list())),
-        _ => malformed(alloc),
+        (Ok(one), Ok(other)) => write!(text, "{}", same_list(one.list(), other.list())),
+        _ => text.push_str("malformed"),
     }
 }
 
@@ -82,34 +101,35 @@ fn params(hoffset: i64, voffset: i64) -> ShipParams {
     }
 }
 
-fn page(
+fn write_page(
     alloc: Global,
+    text: &mut String,
     word: &str,
     packed: Result<BoxNode, Fault>,
     params: &ShipParams,
-) -> Result<String, AllocError> {
+) -> Result<(), AllocError> {
     let node = match packed {
         Ok(node) => node,
-        Err(error) => return fault(alloc, error),
+        Err(error) => return write_fault(text, error),
     };
     if params.mag != 1200 {
-        return malformed(alloc);
+        return text.push_str("malformed");
     }
     match body(alloc, &node, params) {
-        Ok(page) => shown_page(alloc, word, &page),
-        Err(ShipError::SizeTooLarge) => answered(alloc, "too large"),
-        Err(ShipError::OutsidePage) => answered(alloc, "outside"),
-        Err(ShipError::BodyTooLong) => answered(alloc, "too long"),
+        Ok(page) => write_shipped(text, word, &page),
+        Err(ShipError::SizeTooLarge) => text.push_str("too large"),
+        Err(ShipError::OutsidePage) => text.push_str("outside"),
+        Err(ShipError::BodyTooLong) => text.push_str("too long"),
         Err(ShipError::OutOfMemory) => Err(AllocError),
     }
 }
 
-fn shown_page(alloc: Global, word: &str, page: &PageBody) -> Result<String, AllocError> {
+fn write_shipped(text: &mut String, word: &str, page: &PageBody) -> Result<(), AllocError> {
     let parts = page.parts();
     let (height, width, nesting, mag) = (parts.height, parts.width, parts.nesting, parts.mag);
     if word == "page" {
-        return format!(in alloc; "{height} {width}");
+        return write!(text, "{height} {width}");
     }
-    let commands = hexadecimal(alloc, page.body())?;
-    format!(in alloc; "{height} {width} {nesting} {mag}\n{commands}")
+    writeln!(text, "{height} {width} {nesting} {mag}")?;
+    write_hexadecimal(text, page.body())
 }

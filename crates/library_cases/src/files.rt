@@ -1,8 +1,7 @@
 //! Cases of tx_files.
-use crate::answers::append;
 use std::alloc::{AllocError, Global};
 use tx_bytes::Bytes;
-use tx_cases::{answered, bytes_of, first_word, malformed, text_of};
+use tx_cases::{bytes_of, first_word, write_bytes};
 use tx_files::{
     Edit, FileSet, Name, NextLine, Refusal, Seen, Sight, line_count, next_line, untouched,
 };
@@ -15,31 +14,36 @@ struct Desk {
 }
 
 /// `line FROM TEXT`, the line that begins there; `lines TEXT`, how many there are; `name TEXT`, whether it is one.
-pub fn answer(alloc: Global, word: &str, rest: &str) -> Result<String, AllocError> {
+pub fn write_answer(
+    alloc: Global,
+    text: &mut String,
+    word: &str,
+    rest: &str,
+) -> Result<(), AllocError> {
     match word {
-        "line" => line_of(alloc, rest),
+        "line" => write_line(alloc, text, rest),
         "lines" => {
             let bytes = bytes_of(alloc, rest)?;
-            format!(in alloc; "{}", line_count(bytes.as_slice()))
+            write!(text, "{}", line_count(bytes.as_slice()))
         }
         "name" => match name_of(alloc, rest)? {
-            Some(_) => answered(alloc, "a name"),
-            None => answered(alloc, "no name"),
+            Some(_) => text.push_str("a name"),
+            None => text.push_str("no name"),
         },
-        _ => malformed(alloc),
+        _ => text.push_str("malformed"),
     }
 }
 
-fn line_of(alloc: Global, rest: &str) -> Result<String, AllocError> {
-    let (from, text) = first_word(rest);
+fn write_line(alloc: Global, text: &mut String, rest: &str) -> Result<(), AllocError> {
+    let (from, line) = first_word(rest);
     let Ok(from) = from.parse::<u64>() else {
-        return malformed(alloc);
+        return text.push_str("malformed");
     };
-    let bytes = bytes_of(alloc, text)?;
+    let bytes = bytes_of(alloc, line)?;
     match next_line(bytes.as_slice(), from) {
-        NextLine::Line { end, has_lf: true } => format!(in alloc; "to {end}"),
-        NextLine::Line { end, has_lf: false } => format!(in alloc; "to {end}, without line feed"),
-        NextLine::End => answered(alloc, "end"),
+        NextLine::Line { end, has_lf: true } => write!(text, "to {end}"),
+        NextLine::Line { end, has_lf: false } => write!(text, "to {end}, without line feed"),
+        NextLine::End => text.push_str("end"),
     }
 }
 
@@ -53,18 +57,12 @@ fn name_of(alloc: Global, text: &str) -> Result<Option<Name>, AllocError> {
 /// - `edit NAME PLACE REMOVED TEXT`, which is made; `try NAME PLACE REMOVED TEXT`, which is made, shown and taken back;
 /// - `sees NAME SIGHT`, which notes that so much of it was seen: `opened`, `absent`, `end`, `whole`, or where a line ended;
 /// - `leaves NAME PLACE`, whether an edit there leaves what was seen; `asked NAME`, whether it was asked for by its name.
-pub fn play(alloc: Global, lines: &str) -> Result<String, AllocError> {
+pub fn write_play(alloc: Global, text: &mut String, lines: &str) -> Result<(), AllocError> {
     let mut desk = Desk {
         files: FileSet::new(alloc),
         seen: Seen::new(alloc),
     };
-    played(alloc, &mut desk, lines)
-}
-
-fn played(alloc: Global, desk: &mut Desk, lines: &str) -> Result<String, AllocError> {
-    let mut text = String::new(alloc);
-    write_steps(alloc, &mut text, desk, lines)?;
-    Ok(text)
+    write_steps(alloc, text, &mut desk, lines)
 }
 
 fn write_steps(
@@ -74,49 +72,62 @@ fn write_steps(
     lines: &str,
 ) -> Result<(), AllocError> {
     for line in lines.split('\n') {
-        append(text, step(alloc, desk, line)?)?;
+        write_step(alloc, text, desk, line)?;
+        text.push('\n')?;
     }
     Ok(())
 }
 
-fn step(alloc: Global, desk: &mut Desk, line: &str) -> Result<String, AllocError> {
+fn write_step(
+    alloc: Global,
+    text: &mut String,
+    desk: &mut Desk,
+    line: &str,
+) -> Result<(), AllocError> {
     let (word, rest) = first_word(line);
     let (name, rest) = first_word(rest);
     match name_of(alloc, name)? {
-        Some(name) => act(alloc, desk, word, &name, rest),
-        None => malformed(alloc),
+        Some(name) => write_act(alloc, text, desk, word, &name, rest),
+        None => text.push_str("malformed"),
     }
 }
 
-fn act(
+fn write_act(
     alloc: Global,
+    text: &mut String,
     desk: &mut Desk,
     word: &str,
     name: &Name,
     rest: &str,
-) -> Result<String, AllocError> {
+) -> Result<(), AllocError> {
     match word {
-        "put" => put(alloc, &mut desk.files, name, rest),
-        "show" => shown(alloc, desk.files.get(name.as_slice())),
-        "edit" => edit(alloc, &mut desk.files, name, rest),
-        "try" => try_edit(alloc, &mut desk.files, name, rest),
-        "sees" => note(alloc, &mut desk.seen, name, rest),
-        "leaves" => leaves(alloc, &desk.seen, name, rest),
-        "asked" => asked(alloc, &desk.seen, name),
-        _ => malformed(alloc),
+        "put" => write_put(alloc, text, &mut desk.files, name, rest),
+        "show" => write_file(text, desk.files.get(name.as_slice())),
+        "edit" => write_edit(alloc, text, &mut desk.files, name, rest),
+        "try" => write_try(alloc, text, &mut desk.files, name, rest),
+        "sees" => write_noted(alloc, text, &mut desk.seen, name, rest),
+        "leaves" => write_leaves(alloc, text, &desk.seen, name, rest),
+        "asked" => write_asked(text, &desk.seen, name),
+        _ => text.push_str("malformed"),
     }
 }
 
-fn put(alloc: Global, files: &mut FileSet, name: &Name, rest: &str) -> Result<String, AllocError> {
+fn write_put(
+    alloc: Global,
+    text: &mut String,
+    files: &mut FileSet,
+    name: &Name,
+    rest: &str,
+) -> Result<(), AllocError> {
     let bytes = bytes_of(alloc, rest)?;
     files.put(name.clone()?, bytes)?;
-    answered(alloc, "put")
+    text.push_str("put")
 }
 
-fn shown(alloc: Global, file: Option<&Bytes>) -> Result<String, AllocError> {
+fn write_file(text: &mut String, file: Option<&Bytes>) -> Result<(), AllocError> {
     match file {
-        Some(bytes) => text_of(alloc, bytes.as_slice()),
-        None => answered(alloc, "absent"),
+        Some(bytes) => write_bytes(text, bytes.as_slice()),
+        None => text.push_str("absent"),
     }
 }
 
@@ -147,51 +158,64 @@ fn edit_at(
     })
 }
 
-fn edit(alloc: Global, files: &mut FileSet, name: &Name, rest: &str) -> Result<String, AllocError> {
+fn write_edit(
+    alloc: Global,
+    text: &mut String,
+    files: &mut FileSet,
+    name: &Name,
+    rest: &str,
+) -> Result<(), AllocError> {
     match edit_of(alloc, name, rest)? {
-        Some(e) => made(alloc, files.apply(&e)),
-        None => malformed(alloc),
+        Some(e) => write_made(text, files.apply(&e)),
+        None => text.push_str("malformed"),
     }
 }
 
-fn made(alloc: Global, answer: Result<(), Refusal>) -> Result<String, AllocError> {
+fn write_made(text: &mut String, answer: Result<(), Refusal>) -> Result<(), AllocError> {
     match answer {
-        Ok(()) => answered(alloc, "made"),
-        Err(refusal) => refused(alloc, refusal),
+        Ok(()) => text.push_str("made"),
+        Err(refusal) => write_refusal(text, refusal),
     }
 }
 
-fn refused(alloc: Global, refusal: Refusal) -> Result<String, AllocError> {
+fn write_refusal(text: &mut String, refusal: Refusal) -> Result<(), AllocError> {
     match refusal {
-        Refusal::Outside { len } => format!(in alloc; "outside {len}"),
+        Refusal::Outside { len } => write!(text, "outside {len}"),
         Refusal::OutOfMemory => Err(AllocError),
     }
 }
 
-fn try_edit(
+fn write_try(
     alloc: Global,
+    text: &mut String,
     files: &mut FileSet,
     name: &Name,
     rest: &str,
-) -> Result<String, AllocError> {
+) -> Result<(), AllocError> {
     match edit_of(alloc, name, rest)? {
-        Some(e) => tried(alloc, files, &e),
-        None => malformed(alloc),
+        Some(e) => write_tried(text, files, &e),
+        None => text.push_str("malformed"),
     }
 }
 
-fn tried(alloc: Global, files: &mut FileSet, e: &Edit) -> Result<String, AllocError> {
+fn write_tried(text: &mut String, files: &mut FileSet, e: &Edit) -> Result<(), AllocError> {
     match files.change(e) {
         Ok(undo) => {
-            let text = text_of(alloc, files.bytes_of(e.name.as_slice()));
+            let written = write_bytes(text, files.bytes_of(e.name.as_slice()));
             files.restore(&e.name, undo);
-            text
+            written
         }
-        Err(refusal) => refused(alloc, refusal),
+        Err(refusal) => write_refusal(text, refusal),
     }
 }
 
-fn note(alloc: Global, seen: &mut Seen, name: &Name, rest: &str) -> Result<String, AllocError> {
+fn write_noted(
+    alloc: Global,
+    text: &mut String,
+    seen: &mut Seen,
+    name: &Name,
+    rest: &str,
+) -> Result<(), AllocError> {
     let sight = match rest {
         "opened" => Sight::Opened,
         "absent" => Sight::Absent,
@@ -200,31 +224,34 @@ fn note(alloc: Global, seen: &mut Seen, name: &Name, rest: &str) -> Result<Strin
         _ => Sight::Line(rest.parse().unwrap_or(0)),
     };
     seen.note(alloc, name.as_slice(), sight)?;
-    answered(alloc, "seen")
+    text.push_str("seen")
 }
 
-fn leaves(alloc: Global, seen: &Seen, name: &Name, rest: &str) -> Result<String, AllocError> {
+fn write_leaves(
+    alloc: Global,
+    text: &mut String,
+    seen: &Seen,
+    name: &Name,
+    rest: &str,
+) -> Result<(), AllocError> {
     match rest.parse::<u64>() {
-        Ok(place) => left(alloc, seen, &edit_at(alloc, name, place, 0, "")?),
-        Err(_) => malformed(alloc),
+        Ok(place) => write_left(text, seen, &edit_at(alloc, name, place, 0, "")?),
+        Err(_) => text.push_str("malformed"),
     }
 }
 
-fn left(alloc: Global, seen: &Seen, e: &Edit) -> Result<String, AllocError> {
-    answered(
-        alloc,
-        if untouched(seen, e) {
-            "left"
-        } else {
-            "touched"
-        },
-    )
+fn write_left(text: &mut String, seen: &Seen, e: &Edit) -> Result<(), AllocError> {
+    text.push_str(if untouched(seen, e) {
+        "left"
+    } else {
+        "touched"
+    })
 }
 
-fn asked(alloc: Global, seen: &Seen, name: &Name) -> Result<String, AllocError> {
+fn write_asked(text: &mut String, seen: &Seen, name: &Name) -> Result<(), AllocError> {
     match seen.get(name.as_slice()) {
-        Some(reads) if reads.asked => answered(alloc, "by its name"),
-        Some(_) => answered(alloc, "not by its name"),
-        None => answered(alloc, "not seen"),
+        Some(reads) if reads.asked => text.push_str("by its name"),
+        Some(_) => text.push_str("not by its name"),
+        None => text.push_str("not seen"),
     }
 }

@@ -1,11 +1,10 @@
 //! Runs the worked cases of the libraries in the files that the words of its command line name, and prints how many there
 //! are in each, or those that come out otherwise. Each module says what its cases are given.
 //!
-//! Read `answers`, then `numbers`, `files`, `scripts`, `pages`, `tokens`, `names`, `primitives`, `lists` and `boxes`, and
+//! Read `numbers`, `files`, `scripts`, `pages`, `tokens`, `names`, `primitives`, `lists` and `boxes`, and
 //! `outside`.
 #![tactic(auto)]
 
-mod answers;
 mod boxes;
 mod files;
 mod lists;
@@ -27,24 +26,43 @@ struct Program;
 
 impl Answers for Program {
     fn answer(&mut self, rt: &HostRuntime, given: &str) -> io::Result<String> {
-        let (line, lines) = first_line(given);
-        let (word, rest) = first_word(line);
-        Ok(match word {
-            "line" | "lines" | "name" => files::answer(rt.alloc(), word, rest)?,
-            "files" => files::play(rt.alloc(), lines)?,
-            "script" | "front" => scripts::answer(rt.alloc(), word, rest)?,
-            "pages" => pages::answer(rt.alloc(), rest, lines)?,
-            "maps" => names::play(rt.alloc(), lines)?,
-            "memory" => outside::memory(rt.alloc(), rest, lines)?,
-            "folder" => outside::folder(rt, lines)?,
-            _ => row(rt.alloc(), word, rest)?,
-        })
+        let mut text = String::new(rt.alloc());
+        write_answer(rt, &mut text, given)?;
+        Ok(text)
     }
 }
 
-/// The answer to a case of one line.
-fn row(alloc: Global, word: &str, rest: &str) -> Result<String, AllocError> {
+fn write_answer(rt: &HostRuntime, text: &mut String, given: &str) -> io::Result<()> {
+    let (line, lines) = first_line(given);
+    let (word, rest) = first_word(line);
     match word {
+        "folder" => outside::write_folder(rt, text, lines),
+        _ => Ok(write_lines(rt.alloc(), text, word, rest, lines)?),
+    }
+}
+
+/// Writes the answer to a case that may have further lines.
+fn write_lines(
+    alloc: Global,
+    text: &mut String,
+    word: &str,
+    rest: &str,
+    lines: &str,
+) -> Result<(), AllocError> {
+    match word {
+        "files" => files::write_play(alloc, text, lines),
+        "pages" => pages::write_answer(alloc, text, rest, lines),
+        "maps" => names::write_play(alloc, text, lines),
+        "memory" => outside::write_memory(alloc, text, rest, lines),
+        _ => write_row(alloc, text, word, rest),
+    }
+}
+
+/// Writes the answer to a case of one line.
+fn write_row(alloc: Global, text: &mut String, word: &str, rest: &str) -> Result<(), AllocError> {
+    match word {
+        "line" | "lines" | "name" => files::write_answer(alloc, text, word, rest),
+        "script" | "front" => scripts::write_answer(alloc, text, word, rest),
         "primitive"
         | "primitives"
         | "expandable"
@@ -52,12 +70,12 @@ fn row(alloc: Global, word: &str, rest: &str) -> Result<String, AllocError> {
         | "test"
         | "begins"
         | "place"
-        | "standing" => { primitives::answer(alloc, word, rest) }
-        "box" | "twin" | "alike" | "page" | "body" => boxes::answer(alloc, word, rest),
+        | "standing" => { primitives::write_answer(text, word, rest) }
+        "box" | "twin" | "alike" | "page" | "body" => boxes::write_answer(alloc, text, word, rest),
         "category" | "change" | "same" | "copy" | "tokens" | "middle" | "ended" => {
-            tokens::answer(alloc, word, rest)
+            tokens::write_answer(alloc, text, word, rest)
         }
-        _ => numbers::answer(alloc, word, rest),
+        _ => numbers::write_answer(alloc, text, word, rest),
     }
 }
 

@@ -1,7 +1,6 @@
 //! Cases of tx_name.
-use crate::answers::append;
 use std::alloc::{AllocError, Global};
-use tx_cases::{answered, first_word, malformed};
+use tx_cases::first_word;
 use tx_char::ControlName;
 use tx_name::NameMap;
 
@@ -18,17 +17,11 @@ struct Maps {
 ///   `fill MAP VALUE`, which gives them this value;
 /// - `put MAP NAME VALUE`, `remove MAP NAME` and `get MAP NAME`;
 /// - `same`, whether both are equal, and `share`, which makes the other one a share of the one.
-pub fn play(alloc: Global, lines: &str) -> Result<String, AllocError> {
+pub fn write_play(alloc: Global, text: &mut String, lines: &str) -> Result<(), AllocError> {
     let one = NameMap::new(alloc)?;
     let other = NameMap::new(alloc)?;
     let mut maps = Maps { one, other };
-    played(alloc, &mut maps, lines)
-}
-
-fn played(alloc: Global, maps: &mut Maps, lines: &str) -> Result<String, AllocError> {
-    let mut text = String::new(alloc);
-    write_steps(alloc, &mut text, maps, lines)?;
-    Ok(text)
+    write_steps(alloc, text, &mut maps, lines)
 }
 
 fn write_steps(
@@ -38,67 +31,74 @@ fn write_steps(
     lines: &str,
 ) -> Result<(), AllocError> {
     for line in lines.split('\n') {
-        append(text, step(alloc, maps, line)?)?;
+        write_step(alloc, text, maps, line)?;
+        text.push('\n')?;
     }
     Ok(())
 }
 
-fn step(alloc: Global, maps: &mut Maps, line: &str) -> Result<String, AllocError> {
+fn write_step(
+    alloc: Global,
+    text: &mut String,
+    maps: &mut Maps,
+    line: &str,
+) -> Result<(), AllocError> {
     let (word, rest) = first_word(line);
     let (map, rest) = first_word(rest);
     match word {
-        "same" => return format!(in alloc; "{}", maps.one.same(&maps.other)),
+        "same" => return write!(text, "{}", maps.one.same(&maps.other)),
         "share" => {
             maps.other = maps.one.share()?;
-            return answered(alloc, "shared");
+            return text.push_str("shared");
         }
         _ => {}
     }
     match map {
-        "one" => change(alloc, &mut maps.one, word, rest),
-        _ => change(alloc, &mut maps.other, word, rest),
+        "one" => write_change(alloc, text, &mut maps.one, word, rest),
+        _ => write_change(alloc, text, &mut maps.other, word, rest),
     }
 }
 
-fn change(
+fn write_change(
     alloc: Global,
+    text: &mut String,
     map: &mut NameMap<i32>,
     word: &str,
     rest: &str,
-) -> Result<String, AllocError> {
+) -> Result<(), AllocError> {
     if word == "fill" {
-        return fill(alloc, map, rest);
+        return write_filled(alloc, text, map, rest);
     }
     let (name, value) = first_word(rest);
     let name = ControlName::from_slice(alloc, name.as_bytes())?;
-    act(alloc, map, word, &name, value.parse().unwrap_or(0))
+    write_act(text, map, word, &name, value.parse().unwrap_or(0))
 }
 
-fn act(
-    alloc: Global,
+fn write_act(
+    text: &mut String,
     map: &mut NameMap<i32>,
     word: &str,
     name: &ControlName,
     value: i32,
-) -> Result<String, AllocError> {
+) -> Result<(), AllocError> {
     match word {
-        "get" => found(alloc, map.get(name)),
+        "get" => write_found(text, map.get(name)),
         "remove" => {
             map.remove(name)?;
-            answered(alloc, "removed")
+            text.push_str("removed")
         }
         "put" => {
             map.insert(name.clone()?, value)?;
-            answered(alloc, "put")
+            text.push_str("put")
         }
-        _ => malformed(alloc),
+        _ => text.push_str("malformed"),
     }
 }
 
-fn found(alloc: Global, value: Option<&i32>) -> Result<String, AllocError> {
+fn write_found(text: &mut String, value: Option<&i32>) -> Result<(), AllocError> {
     match value {
-        Some(value) => format!(in alloc; "{value}"),
-        None => answered(alloc, "nothing"),
+        Some(value) => write!(text, "{value}"),
+        None => text.push_str("nothing"),
     }
 }
 
@@ -114,7 +114,12 @@ fn insert(
     Ok(())
 }
 
-fn fill(alloc: Global, map: &mut NameMap<i32>, how: &str) -> Result<String, AllocError> {
+fn write_filled(
+    alloc: Global,
+    text: &mut String,
+    map: &mut NameMap<i32>,
+    how: &str,
+) -> Result<(), AllocError> {
     for place in 0..600i32 {
         let number = if how == "down" {
             599i32.saturating_sub(place)
@@ -123,5 +128,5 @@ fn fill(alloc: Global, map: &mut NameMap<i32>, how: &str) -> Result<String, Allo
         };
         insert(alloc, map, number, how.parse().unwrap_or(number))?;
     }
-    answered(alloc, "filled")
+    text.push_str("filled")
 }

@@ -3,7 +3,7 @@ ghost use Rattle.std.specs.Prelude.{◌<◌, ◌^◌, unsigned_abs, IsTrue};
 ghost use Rattle.std.specs.Str.Parse.{AllDigits};
 
 use std::alloc::{AllocError, Global};
-use tx_cases::{answered, first_word, integers, malformed, text_of};
+use tx_cases::{first_word, integers, write_bytes};
 use tx_num::{
     Glue, Overflow, PhysicalUnit, Range, badness, decimals, scaled_text, set_at, x_over_n,
     xn_over_d,
@@ -14,61 +14,69 @@ use tx_num::{
 /// - `unit UNIT WHOLE FRACTION`;
 /// - `glue W S O H O`, `negated W S O H O` and `sum W S O H O W S O H O`, by width, stretch and its order, shrink and its
 ///   order.
-pub fn answer(alloc: Global, word: &str, rest: &str) -> Result<String, AllocError> {
+pub fn write_answer(
+    alloc: Global,
+    text: &mut String,
+    word: &str,
+    rest: &str,
+) -> Result<(), AllocError> {
     let numbers = integers(alloc, rest)?;
     let numbers = numbers.as_slice();
     match word {
-        "badness" => badness_of(alloc, numbers),
-        "over" => quotient_of(alloc, numbers, Range::Integer),
-        "dimen_over" => quotient_of(alloc, numbers, Range::Dimen),
-        "times_over" => fraction_of(alloc, numbers),
-        "set" => setting_of(alloc, numbers),
-        "decimals" => decimals_of(alloc, rest.as_bytes()),
-        "scaled" => scaled_of(alloc, numbers),
-        "unit" => size_of(alloc, rest, numbers),
-        "glue" => shown_glue(alloc, glue_of(numbers)),
-        "negated" => shown_glue(alloc, negated_of(numbers)),
-        "sum" => shown_glue(alloc, sum_of(numbers)),
-        _ => malformed(alloc),
+        "badness" => write_badness(text, numbers),
+        "over" => write_quotient_of(text, numbers, Range::Integer),
+        "dimen_over" => write_quotient_of(text, numbers, Range::Dimen),
+        "times_over" => write_fraction(text, numbers),
+        "set" => write_setting(text, numbers),
+        "decimals" => write_decimals(text, rest.as_bytes()),
+        "scaled" => write_scaled(alloc, text, numbers),
+        "unit" => write_size(text, rest, numbers),
+        "glue" => write_glue(text, glue_of(numbers)),
+        "negated" => write_glue(text, negated_of(numbers)),
+        "sum" => write_glue(text, sum_of(numbers)),
+        _ => text.push_str("malformed"),
     }
 }
 
-fn badness_of(alloc: Global, numbers: &[i64]) -> Result<String, AllocError> {
+fn write_badness(text: &mut String, numbers: &[i64]) -> Result<(), AllocError> {
     match numbers {
-        [size, sum] if 0 <= *size => format!(in alloc; "{}", badness(*size, *sum)),
-        _ => malformed(alloc),
+        [size, sum] if 0 <= *size => write!(text, "{}", badness(*size, *sum)),
+        _ => text.push_str("malformed"),
     }
 }
 
 /// A quotient and a remainder.
-fn shown(alloc: Global, found: Result<(i64, i64), Overflow>) -> Result<String, AllocError> {
+fn write_quotient(
+    text: &mut String,
+    found: Result<(i64, i64), Overflow>,
+) -> Result<(), AllocError> {
     match found {
-        Ok((quotient, remainder)) => format!(in alloc; "{quotient} {remainder}"),
-        Err(Overflow) => answered(alloc, "overflow"),
+        Ok((quotient, remainder)) => write!(text, "{quotient} {remainder}"),
+        Err(Overflow) => text.push_str("overflow"),
     }
 }
 
-fn quotient_of(alloc: Global, numbers: &[i64], range: Range) -> Result<String, AllocError> {
+fn write_quotient_of(text: &mut String, numbers: &[i64], range: Range) -> Result<(), AllocError> {
     match numbers {
-        [x, n] if *n != 0 => shown(alloc, x_over_n(*x, *n, range)),
-        _ => malformed(alloc),
+        [x, n] if *n != 0 => write_quotient(text, x_over_n(*x, *n, range)),
+        _ => text.push_str("malformed"),
     }
 }
 
-fn fraction_of(alloc: Global, numbers: &[i64]) -> Result<String, AllocError> {
+fn write_fraction(text: &mut String, numbers: &[i64]) -> Result<(), AllocError> {
     match numbers {
-        [x, n, d] if *d != 0 => shown(alloc, xn_over_d(*x, *n, *d, Range::Integer)),
-        _ => malformed(alloc),
+        [x, n, d] if *d != 0 => write_quotient(text, xn_over_d(*x, *n, *d, Range::Integer)),
+        _ => text.push_str("malformed"),
     }
 }
 
-fn setting_of(alloc: Global, numbers: &[i64]) -> Result<String, AllocError> {
+fn write_setting(text: &mut String, numbers: &[i64]) -> Result<(), AllocError> {
     match numbers {
         [total, excess, sum]
             if *total != 0 && is_integer(*total) && is_integer(*excess) && is_integer(*sum) => {
-            format!(in alloc; "{}", set_at(*total, *excess, *sum))
+            write!(text, "{}", set_at(*total, *excess, *sum))
         }
-        _ => malformed(alloc),
+        _ => text.push_str("malformed"),
     }
 }
 
@@ -89,17 +97,17 @@ fn are_digits(bytes: &[u8]) -> bool
     }
 }
 
-fn decimals_of(alloc: Global, digits: &[u8]) -> Result<String, AllocError> {
+fn write_decimals(text: &mut String, digits: &[u8]) -> Result<(), AllocError> {
     if !are_digits(digits) {
-        return malformed(alloc);
+        return text.push_str("malformed");
     }
-    format!(in alloc; "{}", decimals(digits))
+    write!(text, "{}", decimals(digits))
 }
 
-fn scaled_of(alloc: Global, numbers: &[i64]) -> Result<String, AllocError> {
+fn write_scaled(alloc: Global, text: &mut String, numbers: &[i64]) -> Result<(), AllocError> {
     match numbers {
-        [size] => text_of(alloc, scaled_text(alloc, *size)?.as_slice()),
-        _ => malformed(alloc),
+        [size] => write_bytes(text, scaled_text(alloc, *size)?.as_slice()),
+        _ => text.push_str("malformed"),
     }
 }
 
@@ -119,17 +127,17 @@ fn unit_of(name: &str) -> Option<PhysicalUnit> {
     }
 }
 
-fn size_of(alloc: Global, rest: &str, numbers: &[i64]) -> Result<String, AllocError> {
+fn write_size(text: &mut String, rest: &str, numbers: &[i64]) -> Result<(), AllocError> {
     let (name, _) = first_word(rest);
     match (unit_of(name), numbers) {
         (Some(unit), [whole, fraction])
             if 0 <= *whole && *whole < 2147483648 && 0 <= *fraction && *fraction <= 65536 => {
             match unit.to_scaled(*whole as u32, *fraction as u32) {
-                Ok(size) => format!(in alloc; "{size}"),
-                Err(Overflow) => answered(alloc, "overflow"),
+                Ok(size) => write!(text, "{size}"),
+                Err(Overflow) => text.push_str("overflow"),
             }
         }
-        _ => malformed(alloc),
+        _ => text.push_str("malformed"),
     }
 }
 
@@ -160,14 +168,14 @@ fn sum_of(numbers: &[i64]) -> Option<Result<Glue, Overflow>> {
     }
 }
 
-fn shown_glue(alloc: Global, glue: Option<Result<Glue, Overflow>>) -> Result<String, AllocError> {
+fn write_glue(text: &mut String, glue: Option<Result<Glue, Overflow>>) -> Result<(), AllocError> {
     match glue {
         Some(Ok(glue)) => {
             let (width, stretch, shrink) = (glue.width(), glue.stretch(), glue.shrink());
             let (fil, shrink_fil) = (glue.stretch_order(), glue.shrink_order());
-            format!(in alloc; "{width} {stretch} {fil} {shrink} {shrink_fil}")
+            write!(text, "{width} {stretch} {fil} {shrink} {shrink_fil}")
         }
-        Some(Err(Overflow)) => answered(alloc, "overflow"),
-        None => malformed(alloc),
+        Some(Err(Overflow)) => text.push_str("overflow"),
+        None => text.push_str("malformed"),
     }
 }

@@ -1,9 +1,8 @@
 //! Cases of tx_io.
-use crate::answers::append;
 use std::alloc::{AllocError, Global};
 use std::{fs, io};
 use tx_bytes::Bytes;
-use tx_cases::{answered, bytes_of, first_word, malformed, text_of};
+use tx_cases::{bytes_of, first_word, write_bytes};
 use tx_io::{DirSink, DirSource, Fetched, FilesRead, MemorySink, MemorySource, Put, Sink, Source};
 
 /// A source and a sink in memory.
@@ -18,25 +17,24 @@ struct Desk {
 ///
 /// - `put NAME TEXT`, which gives the source a file, and `fetch NAME`;
 /// - `say TEXT` and `save NAME TEXT`, and `said` and `saved NAME`, what there is then.
-pub fn memory(alloc: Global, rest: &str, lines: &str) -> Result<String, AllocError> {
+pub fn write_memory(
+    alloc: Global,
+    text: &mut String,
+    rest: &str,
+    lines: &str,
+) -> Result<(), AllocError> {
     let (fetch, rest) = first_word(rest);
     let (say, save) = first_word(rest);
     let source = MemorySource::new(alloc, failing(alloc, fetch)?);
     let sink = sink_of(alloc, say, save)?;
     let mut desk = Desk { source, sink };
-    played(alloc, &mut desk, lines)
+    write_steps(alloc, text, &mut desk, lines)
 }
 
 fn sink_of(alloc: Global, say: &str, save: &str) -> Result<MemorySink, AllocError> {
     let says = failing(alloc, say)?;
     let saves = failing(alloc, save)?;
     Ok(MemorySink::new(alloc, says, saves))
-}
-
-fn played(alloc: Global, desk: &mut Desk, lines: &str) -> Result<String, AllocError> {
-    let mut text = String::new(alloc);
-    write_steps(alloc, &mut text, desk, lines)?;
-    Ok(text)
 }
 
 fn write_steps(
@@ -46,22 +44,28 @@ fn write_steps(
     lines: &str,
 ) -> Result<(), AllocError> {
     for line in lines.split('\n') {
-        append(text, step(alloc, desk, line)?)?;
+        write_step(alloc, text, desk, line)?;
+        text.push('\n')?;
     }
     Ok(())
 }
 
-fn step(alloc: Global, desk: &mut Desk, line: &str) -> Result<String, AllocError> {
+fn write_step(
+    alloc: Global,
+    text: &mut String,
+    desk: &mut Desk,
+    line: &str,
+) -> Result<(), AllocError> {
     let (word, rest) = first_word(line);
     let (name, bytes) = first_word(rest);
     match word {
         "put" => {
             desk.source.put(alloc, name.as_bytes(), bytes.as_bytes())?;
-            answered(alloc, "put")
+            text.push_str("put")
         }
-        "said" => text_of(alloc, desk.sink.said()),
-        "saved" => shown(alloc, desk.sink.saved(name.as_bytes())),
-        _ => called(alloc, &mut desk.source, &mut desk.sink, word, rest),
+        "said" => write_bytes(text, desk.sink.said()),
+        "saved" => write_file(text, desk.sink.saved(name.as_bytes())),
+        _ => write_called(alloc, text, &mut desk.source, &mut desk.sink, word, rest),
     }
 }
 
@@ -74,58 +78,53 @@ fn failing(alloc: Global, number: &str) -> Result<Vec<u64>, AllocError> {
     Ok(numbers)
 }
 
-fn shown(alloc: Global, file: Option<&Bytes>) -> Result<String, AllocError> {
+fn write_file(text: &mut String, file: Option<&Bytes>) -> Result<(), AllocError> {
     match file {
-        Some(bytes) => text_of(alloc, bytes.as_slice()),
-        None => answered(alloc, "nothing"),
+        Some(bytes) => write_bytes(text, bytes.as_slice()),
+        None => text.push_str("nothing"),
     }
 }
 
 /// The answer to a call that each source or sink has.
-fn called<S: Source, K: Sink>(
+fn write_called<S: Source, K: Sink>(
     alloc: Global,
+    text: &mut String,
     source: &mut S,
     sink: &mut K,
     word: &str,
     rest: &str,
-) -> Result<String, AllocError> {
+) -> Result<(), AllocError> {
     let (name, bytes) = first_word(rest);
     match word {
-        "fetch" => fetched(alloc, source.fetch(alloc, rest.as_bytes())),
-        "say" => told(alloc, sink.say(bytes_of(alloc, rest)?.as_slice())),
-        "save" => told(alloc, sink.save(name.as_bytes(), bytes.as_bytes())),
-        _ => malformed(alloc),
+        "fetch" => write_fetched(text, source.fetch(alloc, rest.as_bytes())),
+        "say" => write_put(text, sink.say(bytes_of(alloc, rest)?.as_slice())),
+        "save" => write_put(text, sink.save(name.as_bytes(), bytes.as_bytes())),
+        _ => text.push_str("malformed"),
     }
 }
 
-fn fetched(alloc: Global, answer: Fetched) -> Result<String, AllocError> {
+fn write_fetched(text: &mut String, answer: Fetched) -> Result<(), AllocError> {
     match answer {
-        Fetched::Found(bytes) => text_of(alloc, bytes.as_slice()),
-        Fetched::Absent => answered(alloc, "absent"),
-        Fetched::Failed => answered(alloc, "failed"),
+        Fetched::Found(bytes) => write_bytes(text, bytes.as_slice()),
+        Fetched::Absent => text.push_str("absent"),
+        Fetched::Failed => text.push_str("failed"),
         Fetched::OutOfMemory => Err(AllocError),
     }
 }
 
-fn told(alloc: Global, put: Put) -> Result<String, AllocError> {
+fn write_put(text: &mut String, put: Put) -> Result<(), AllocError> {
     match put {
-        Put::Done => answered(alloc, "done"),
-        Put::Failed => answered(alloc, "failed"),
+        Put::Done => text.push_str("done"),
+        Put::Failed => text.push_str("failed"),
         Put::OutOfMemory => Err(AllocError),
     }
 }
 
 /// What comes of the current folder and standard output by lines of `fetch NAME`, `say TEXT` and `save NAME TEXT`, and of
 /// `write NAME TEXT`, `grow NAME SIZE`, `read NAME` and `remove NAME`, which are done by std's file calls.
-pub fn folder(rt: &HostRuntime, lines: &str) -> io::Result<String> {
+pub fn write_folder(rt: &HostRuntime, text: &mut String, lines: &str) -> io::Result<()> {
     let read = FilesRead::new(rt.alloc());
-    told_of_folder(rt, &read, lines)
-}
-
-fn told_of_folder(rt: &HostRuntime, read: &FilesRead, lines: &str) -> io::Result<String> {
-    let mut text = String::new(rt.alloc());
-    write_calls(rt, &mut text, read, lines)?;
-    Ok(text)
+    write_calls(rt, text, &read, lines)
 }
 
 fn write_calls(
@@ -135,39 +134,46 @@ fn write_calls(
     lines: &str,
 ) -> io::Result<()> {
     for line in lines.split('\n') {
-        append(text, call(rt, read, line)?)?;
+        write_call(rt, text, read, line)?;
+        text.push('\n')?;
     }
     Ok(())
 }
 
-fn call(rt: &HostRuntime, read: &FilesRead, line: &str) -> io::Result<String> {
+fn write_call(rt: &HostRuntime, text: &mut String, read: &FilesRead, line: &str) -> io::Result<()> {
     let (word, rest) = first_word(line);
     match word {
-        "fetch" | "say" | "save" => Ok(in_outside(rt, read, word, rest)?),
-        _ => in_folder(rt, word, rest),
+        "fetch" | "say" | "save" => Ok(write_outside(rt, text, read, word, rest)?),
+        _ => write_done(rt, text, word, rest),
     }
 }
 
 /// What comes of a call on the folder, of which these files were read before.
-fn in_outside(
+fn write_outside(
     rt: &HostRuntime,
+    text: &mut String,
     read: &FilesRead,
     word: &str,
     rest: &str,
-) -> Result<String, AllocError> {
+) -> Result<(), AllocError> {
     let mut source = DirSource::new(rt, read);
     let mut sink = DirSink::new(rt, rt.alloc(), read);
-    called(rt.alloc(), &mut source, &mut sink, word, rest)
+    write_called(rt.alloc(), text, &mut source, &mut sink, word, rest)
 }
 
-fn in_folder(rt: &HostRuntime, word: &str, rest: &str) -> io::Result<String> {
-    let (name, text) = first_word(rest);
+fn write_done(rt: &HostRuntime, text: &mut String, word: &str, rest: &str) -> io::Result<()> {
+    let (name, given) = first_word(rest);
     match word {
-        "write" => fs::write(rt, name, text)?,
-        "grow" => fs::create(rt, name)?.set_len(text.parse().unwrap_or(0))?,
-        "read" => return fs::read_to_string(rt, name),
+        "write" => fs::write(rt, name, given)?,
+        "grow" => fs::create(rt, name)?.set_len(given.parse().unwrap_or(0))?,
+        "read" => return write_read(rt, text, name),
         "remove" => fs::remove_file(rt, name)?,
-        _ => return Ok(malformed(rt.alloc())?),
+        _ => return Ok(text.push_str("malformed")?),
     }
-    Ok(answered(rt.alloc(), "done")?)
+    Ok(text.push_str("done")?)
+}
+
+fn write_read(rt: &HostRuntime, text: &mut String, name: &str) -> io::Result<()> {
+    let read = fs::read_to_string(rt, name)?;
+    Ok(text.push_str(read.as_str())?)
 }

@@ -3,7 +3,7 @@ ghost use Rattle.std.specs.Prelude.{◌≤◌, length};
 
 use std::alloc::{AllocError, Global};
 use tx_bytes::Bytes;
-use tx_cases::{hexadecimal, integers, malformed};
+use tx_cases::{integers, write_hexadecimal};
 use tx_dvi::{DateParameters, PageBody, PageParts, assemble};
 
 /// A rule of 2pt by 1pt.
@@ -15,22 +15,41 @@ const NOPS: [u8; 10] = [138; 10];
 /// The file of pages, in hexadecimal; each line says a page that has one rule 1pt wide, by its \count0, its height, how many
 /// commands stand behind the rule that do nothing, and its year, month, day and minutes. `size` answers how many bytes the
 /// file has.
-pub fn answer(alloc: Global, rest: &str, lines: &str) -> Result<String, AllocError> {
+pub fn write_answer(
+    alloc: Global,
+    text: &mut String,
+    rest: &str,
+    lines: &str,
+) -> Result<(), AllocError> {
+    let pages = pages_of(alloc, lines)?;
+    write_file(alloc, text, rest, pages.as_slice())
+}
+
+fn write_file(
+    alloc: Global,
+    text: &mut String,
+    rest: &str,
+    pages: &[PageBody],
+) -> Result<(), AllocError> {
+    if pages.len() > 100 {
+        return text.push_str("malformed");
+    }
+    let file = assemble(alloc, pages)?;
+    match rest {
+        "size" => write!(text, "{}", file.len()),
+        _ => write_hexadecimal(text, file.as_slice()),
+    }
+}
+
+/// The pages of the lines that are such.
+fn pages_of(alloc: Global, lines: &str) -> Result<Vec<PageBody>, AllocError> {
     let mut pages = Vec::new(alloc);
     for line in lines.split('\n') {
-        let numbers = integers(alloc, line)?;
-        if let Some(page) = page_of(alloc, numbers.as_slice())? {
+        if let Some(page) = page_of(alloc, line)? {
             pages.push(page)?;
         }
     }
-    if pages.len() > 100 {
-        return malformed(alloc);
-    }
-    let file = assemble(alloc, pages.as_slice())?;
-    match rest {
-        "size" => format!(in alloc; "{}", file.len()),
-        _ => hexadecimal(alloc, file.as_slice()),
-    }
+    Ok(pages)
 }
 
 /// A number of TeX, which may be too large for one.
@@ -38,8 +57,13 @@ fn number(n: i64) -> i32 {
     i32::try_from(n).unwrap_or(0)
 }
 
-/// The page of the numbers of a line.
-fn page_of(alloc: Global, numbers: &[i64]) -> Result<Option<PageBody>, AllocError> {
+/// The page of a line.
+fn page_of(alloc: Global, line: &str) -> Result<Option<PageBody>, AllocError> {
+    let numbers = integers(alloc, line)?;
+    numbered_page(alloc, numbers.as_slice())
+}
+
+fn numbered_page(alloc: Global, numbers: &[i64]) -> Result<Option<PageBody>, AllocError> {
     match numbers {
         [count, height, nops, year, month, day, time] if 0 <= *nops && *nops <= 10 => {
             let date = DateParameters {

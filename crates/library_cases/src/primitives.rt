@@ -1,6 +1,6 @@
 //! Cases of tx_prim.
-use std::alloc::{AllocError, Global};
-use tx_cases::{answered, first_word, malformed, text_of};
+use std::alloc::AllocError;
+use tx_cases::{first_word, write_bytes};
 use tx_prim::{Expandable, Mode, Moment, Primitive, Test};
 
 /// When the run begins.
@@ -16,61 +16,59 @@ const BEGUN: Moment = Moment {
 /// - `test NAME MODE`, whether the mode passes this conditional's test;
 /// - `begins NAME`, the value with which INITEX begins; `place NAME`, a parameter's place in the book's order;
 /// - `standing NAME MODE`, the modes in which it may stand, and what becomes of it in this one.
-pub fn answer(alloc: Global, word: &str, rest: &str) -> Result<String, AllocError> {
+pub fn write_answer(text: &mut String, word: &str, rest: &str) -> Result<(), AllocError> {
     let (name, mode) = first_word(rest);
     match word {
-        "primitives" => format!(in alloc; "{}", Primitive::all().len()),
+        "primitives" => write!(text, "{}", Primitive::all().len()),
         "primitive" => match Primitive::of_name(name.as_bytes()) {
-            Some(primitive) => text_of(alloc, primitive.name()),
-            None => answered(alloc, "none"),
+            Some(primitive) => write_bytes(text, primitive.name()),
+            None => text.push_str("none"),
         },
-        "expandables" => format!(in alloc; "{}", Expandable::all().len()),
+        "expandables" => write!(text, "{}", Expandable::all().len()),
         "expandable" => match Expandable::of_name(name.as_bytes()) {
-            Some(expandable) => text_of(alloc, expandable.name()),
-            None => answered(alloc, "none"),
+            Some(expandable) => write_bytes(text, expandable.name()),
+            None => text.push_str("none"),
         },
-        "test" => test(alloc, name, mode),
+        "test" => write_test(text, name, mode),
         "standing" => match Primitive::of_name(name.as_bytes()) {
-            Some(primitive) => standing(alloc, primitive, mode),
-            None => malformed(alloc),
+            Some(primitive) => write_standing(text, primitive, mode),
+            None => text.push_str("malformed"),
         },
-        "begins" => begins(alloc, name),
-        _ => place(alloc, name),
+        "begins" => write_beginning(text, name),
+        _ => write_place(text, name),
     }
 }
 
-fn begins(alloc: Global, name: &str) -> Result<String, AllocError> {
+fn write_beginning(text: &mut String, name: &str) -> Result<(), AllocError> {
     match Primitive::of_name(name.as_bytes()) {
-        Some(Primitive::Integer(parameter)) => {
-            format!(in alloc; "{}", parameter.initial(&BEGUN))
-        }
-        _ => malformed(alloc),
+        Some(Primitive::Integer(parameter)) => { write!(text, "{}", parameter.initial(&BEGUN)) }
+        _ => text.push_str("malformed"),
     }
 }
 
-fn place(alloc: Global, name: &str) -> Result<String, AllocError> {
+fn write_place(text: &mut String, name: &str) -> Result<(), AllocError> {
     match Primitive::of_name(name.as_bytes()) {
-        Some(Primitive::Integer(parameter)) => format!(in alloc; "{}", parameter.number()),
-        Some(Primitive::Dimension(parameter)) => format!(in alloc; "{}", parameter.number()),
-        _ => malformed(alloc),
+        Some(Primitive::Integer(parameter)) => write!(text, "{}", parameter.number()),
+        Some(Primitive::Dimension(parameter)) => write!(text, "{}", parameter.number()),
+        _ => text.push_str("malformed"),
     }
 }
 
-fn standing(alloc: Global, primitive: Primitive, mode: &str) -> Result<String, AllocError> {
+fn write_standing(text: &mut String, primitive: Primitive, mode: &str) -> Result<(), AllocError> {
     let Some(mode) = mode_of(mode) else {
-        return malformed(alloc);
+        return text.push_str("malformed");
     };
     let modes = primitive.modes();
     let standing = modes.standing(mode);
-    format!(in alloc; "{modes:?} {standing:?}")
+    write!(text, "{modes:?} {standing:?}")
 }
 
-fn test(alloc: Global, name: &str, mode: &str) -> Result<String, AllocError> {
+fn write_test(text: &mut String, name: &str, mode: &str) -> Result<(), AllocError> {
     match (Expandable::of_name(name.as_bytes()), mode_of(mode)) {
         (Some(Expandable::Test(Test::Mode(test))), Some(mode)) => {
-            format!(in alloc; "{}", test.holds(mode))
+            write!(text, "{}", test.holds(mode))
         }
-        _ => malformed(alloc),
+        _ => text.push_str("malformed"),
     }
 }
 

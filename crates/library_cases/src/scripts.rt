@@ -1,52 +1,58 @@
 //! Cases of tx_script.
 use std::alloc::{AllocError, Global};
-use tx_bytes::Bytes;
-use tx_cases::{bytes_of, first_word, text_of};
+use tx_cases::{bytes_of, first_word, write_bytes};
 use tx_script::{Command, ScriptError, read_script};
 
 /// `script TEXT`, its commands or where and by which rule it is refused; `front LENGTH TEXT`, the same of so many bytes.
-pub fn answer(alloc: Global, word: &str, rest: &str) -> Result<String, AllocError> {
+pub fn write_answer(
+    alloc: Global,
+    text: &mut String,
+    word: &str,
+    rest: &str,
+) -> Result<(), AllocError> {
     if word == "script" {
-        return read(alloc, bytes_of(alloc, rest)?.as_slice());
+        return write_script(alloc, text, bytes_of(alloc, rest)?.as_slice());
     }
-    let (length, text) = first_word(rest);
-    let bytes = bytes_of(alloc, text)?;
+    let (length, given) = first_word(rest);
+    let bytes = bytes_of(alloc, given)?;
     let length = length.parse::<usize>().unwrap_or(0);
-    read(alloc, bytes.as_slice().get(..length).unwrap_or(b"too long"))
+    write_script(
+        alloc,
+        text,
+        bytes.as_slice().get(..length).unwrap_or(b"too long"),
+    )
 }
 
-fn read(alloc: Global, bytes: &[u8]) -> Result<String, AllocError> {
+fn write_script(alloc: Global, text: &mut String, bytes: &[u8]) -> Result<(), AllocError> {
     match read_script(alloc, bytes) {
-        Ok(script) => shown(alloc, script.as_slice()),
+        Ok(script) => write_commands(text, script.as_slice()),
         Err(ScriptError::BadScript { place, rule }) => {
-            format!(in alloc; "at {place}, rule {}", rule.number())
+            write!(text, "at {place}, rule {}", rule.number())
         }
         Err(ScriptError::OutOfMemory) => Err(AllocError),
     }
 }
 
-/// Commands, with a bar behind each.
-fn shown(alloc: Global, commands: &[Command]) -> Result<String, AllocError> {
-    let mut text = Bytes::new(alloc);
+/// Writes commands, with a bar behind each.
+fn write_commands(text: &mut String, commands: &[Command]) -> Result<(), AllocError> {
     for command in commands {
-        append(alloc, &mut text, command)?;
-        text.push(b'|')?;
+        write_command(text, command)?;
+        text.push('|')?;
     }
-    text_of(alloc, text.as_slice())
+    Ok(())
 }
 
-fn append(alloc: Global, text: &mut Bytes, command: &Command) -> Result<(), AllocError> {
+fn write_command(text: &mut String, command: &Command) -> Result<(), AllocError> {
     match command {
         Command::Save(name) => {
-            text.append(b"save ")?;
-            text.append(name.as_slice())
+            text.push_str("save ")?;
+            write_bytes(text, name.as_slice())
         }
         Command::Edit(e) => {
-            let numbers = format!(in alloc; " at {} for {} put:", e.place, e.removed)?;
-            text.append(b"edit ")?;
-            text.append(e.name.as_slice())?;
-            text.append(numbers.as_bytes())?;
-            text.append(e.put.as_slice())
+            text.push_str("edit ")?;
+            write_bytes(text, e.name.as_slice())?;
+            write!(text, " at {} for {} put:", e.place, e.removed)?;
+            write_bytes(text, e.put.as_slice())
         }
     }
 }

@@ -1,6 +1,6 @@
 //! Cases of tx_char and tx_lex.
 use std::alloc::{AllocError, Global};
-use tx_cases::{answered, bytes_of, first_word, malformed, text_of};
+use tx_cases::{bytes_of, first_word, write_bytes};
 use tx_char::{Cat, Codes, ControlName, Token};
 use tx_lex::{Lexed, ReadState, lex_on, line_text};
 
@@ -9,36 +9,41 @@ use tx_lex::{Lexed, ReadState, lex_on, line_text};
 /// - `same TOKEN TOKEN` and `copy TOKEN`, where a token is `\` and a name, or a character, a point and a category;
 /// - `tokens LINE` and `middle LINE`, what is read from the line's start, or within a line, with `!` at an invalid character;
 /// - `ended CODE LINE`, the line as TeX sees it, with this character at its end, or `none`.
-pub fn answer(alloc: Global, word: &str, rest: &str) -> Result<String, AllocError> {
+pub fn write_answer(
+    alloc: Global,
+    text: &mut String,
+    word: &str,
+    rest: &str,
+) -> Result<(), AllocError> {
     match word {
-        "category" => category_of(alloc, rest),
-        "change" => changed(alloc, rest),
-        "same" => is_same(alloc, rest),
-        "copy" => is_copy(alloc, rest),
-        "tokens" => tokens(alloc, rest, ReadState::N),
-        "middle" => tokens(alloc, rest, ReadState::M),
-        "ended" => ended(alloc, rest),
-        _ => malformed(alloc),
+        "category" => write_category(alloc, text, rest),
+        "change" => write_change(alloc, text, rest),
+        "same" => write_sameness(alloc, text, rest),
+        "copy" => write_copy(alloc, text, rest),
+        "tokens" => write_line_tokens(alloc, text, rest, ReadState::N),
+        "middle" => write_line_tokens(alloc, text, rest, ReadState::M),
+        "ended" => write_ended(alloc, text, rest),
+        _ => text.push_str("malformed"),
     }
 }
 
-fn category_of(alloc: Global, rest: &str) -> Result<String, AllocError> {
+fn write_category(alloc: Global, text: &mut String, rest: &str) -> Result<(), AllocError> {
     let Ok(code) = rest.parse::<u8>() else {
-        return malformed(alloc);
+        return text.push_str("malformed");
     };
     let category = Codes::initex(alloc)?.get(code);
     let number = category.number();
     if Cat::from_number(number) == Some(category) {
-        format!(in alloc; "{number}")
+        write!(text, "{number}")
     } else {
-        format!(in alloc; "{number}, which is another one's")
+        write!(text, "{number}, which is another one's")
     }
 }
 
-fn changed(alloc: Global, rest: &str) -> Result<String, AllocError> {
+fn write_change(alloc: Global, text: &mut String, rest: &str) -> Result<(), AllocError> {
     let (code, number) = first_word(rest);
     let (Ok(code), Some(category)) = (code.parse::<u8>(), category_from(number)) else {
-        return malformed(alloc);
+        return text.push_str("malformed");
     };
     let begun = Codes::initex(alloc)?;
     let mut copy = begun.clone()?;
@@ -46,7 +51,7 @@ fn changed(alloc: Global, rest: &str) -> Result<String, AllocError> {
     copy.set(code, category)?;
     let after = copy.same(&begun);
     let (old, new) = (begun.get(code).number(), copy.get(code).number());
-    format!(in alloc; "{before} {after} {old} {new}")
+    write!(text, "{before} {after} {old} {new}")
 }
 
 fn category_from(number: &str) -> Option<Cat> {
@@ -70,18 +75,18 @@ fn character_of(text: &str) -> Option<Token> {
     Some(Token::Character(code, category_from(number)?))
 }
 
-fn is_same(alloc: Global, rest: &str) -> Result<String, AllocError> {
+fn write_sameness(alloc: Global, text: &mut String, rest: &str) -> Result<(), AllocError> {
     let (one, other) = first_word(rest);
     match (token_of(alloc, one)?, token_of(alloc, other)?) {
-        (Some(one), Some(other)) => format!(in alloc; "{}", one.same(&other)),
-        _ => malformed(alloc),
+        (Some(one), Some(other)) => write!(text, "{}", one.same(&other)),
+        _ => text.push_str("malformed"),
     }
 }
 
-fn is_copy(alloc: Global, rest: &str) -> Result<String, AllocError> {
+fn write_copy(alloc: Global, text: &mut String, rest: &str) -> Result<(), AllocError> {
     match token_of(alloc, rest)? {
-        Some(token) => format!(in alloc; "{}", token.same(&token.clone()?)),
-        None => malformed(alloc),
+        Some(token) => write!(text, "{}", token.same(&token.clone()?)),
+        None => text.push_str("malformed"),
     }
 }
 
@@ -104,18 +109,18 @@ fn plain_codes(alloc: Global) -> Result<Codes, AllocError> {
     Ok(codes)
 }
 
-/// Writes a character as its code and its category, a name with a backslash before it; a blank stands before each.
-fn write_token(alloc: Global, text: &mut String, token: &Token) -> Result<(), AllocError> {
+/// Writes a character as its code and its category, a name with a backslash before it.
+fn write_token(text: &mut String, token: &Token) -> Result<(), AllocError> {
     match token {
         Token::Character(code, category) => {
             let number = category.number();
-            write!(text, " {code}.{number}")
+            write!(text, "{code}.{number}")
         }
         Token::Name(name) => {
-            text.push_str(" \\")?;
-            text.push_str(text_of(alloc, name.as_slice())?.as_str())
+            text.push('\\')?;
+            write_bytes(text, name.as_slice())
         }
-        Token::FrozenRelax => text.push_str(" frozen"),
+        Token::FrozenRelax => text.push_str("frozen"),
     }
 }
 
@@ -126,6 +131,14 @@ struct Spot {
     used: usize,
     front: Option<u8>,
     state: ReadState,
+}
+
+/// Writes a blank behind what was written, if there is something.
+fn write_behind(text: &mut String) -> Result<(), AllocError> {
+    if text.is_empty() {
+        return Ok(());
+    }
+    text.push(' ')
 }
 
 /// Writes the token that comes next in a line, `!` at an invalid character, and answers where reading stands behind it;
@@ -145,13 +158,15 @@ fn write_next(
             front,
             state,
         } => {
-            write_token(alloc, text, &token)?;
+            write_behind(text)?;
+            write_token(text, &token)?;
             let used = spot.used.saturating_add(used);
             Ok(Some(Spot { used, front, state }))
         }
         Lexed::LineDone => Ok(None),
         Lexed::E1 => {
-            text.push_str(" !")?;
+            write_behind(text)?;
+            text.push('!')?;
             Ok(None)
         }
     }
@@ -179,27 +194,21 @@ fn write_tokens(
     Ok(())
 }
 
-fn tokens_in(
-    alloc: Global,
-    line: &[u8],
-    begun: ReadState,
-    codes: &Codes,
-) -> Result<String, AllocError> {
-    let mut text = String::new(alloc);
-    write_tokens(alloc, &mut text, line, begun, codes)?;
-    answered(alloc, text.as_str().strip_prefix(' ').unwrap_or(""))
-}
-
 /// The tokens of a line.
-fn tokens(alloc: Global, line: &str, begun: ReadState) -> Result<String, AllocError> {
+fn write_line_tokens(
+    alloc: Global,
+    text: &mut String,
+    line: &str,
+    begun: ReadState,
+) -> Result<(), AllocError> {
     let codes = plain_codes(alloc)?;
     let line = bytes_of(alloc, line)?;
-    tokens_in(alloc, line.as_slice(), begun, &codes)
+    write_tokens(alloc, text, line.as_slice(), begun, &codes)
 }
 
-fn ended(alloc: Global, rest: &str) -> Result<String, AllocError> {
+fn write_ended(alloc: Global, text: &mut String, rest: &str) -> Result<(), AllocError> {
     let (code, raw) = first_word(rest);
     let raw = bytes_of(alloc, raw)?;
     let line = line_text(alloc, raw.as_slice(), code.parse().ok())?;
-    text_of(alloc, line.as_slice())
+    write_bytes(text, line.as_slice())
 }

@@ -8,13 +8,13 @@ use tx_cond::{CondStack, Meet, SkipItem, Skipper};
 use tx_prim::CondWord;
 use tx_seen::Fed;
 
-/// - `skip ITEM ..`, the word at which skipping these items ends, `more` or an error;
+/// - `items ITEM ..`, the word at which skipping these items ends, `more` or an error;
 /// - `if VALUE WORD ..` and `ifcase VALUE WORD ..`, the answers to these words behind a test of this value;
 /// - `within WORD ..|WORD ..`, the answers to words in the test of a conditional, and then to others where a second one was
 ///   begun in its branch.
 pub fn answer(alloc: Global, word: &str, rest: &str) -> Result<String, AllocError> {
     match word {
-        "skip" => skipped(alloc, rest),
+        "items" => skipped(alloc, rest),
         "if" => behind_test(alloc, false, rest),
         "ifcase" => behind_test(alloc, true, rest),
         "within" => within_test(alloc, rest),

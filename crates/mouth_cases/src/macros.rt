@@ -1,70 +1,19 @@
-//! Cases of tx_macro.
-ghost use Rattle.std.specs.Prelude.{◌≡◌, ◌≢◌, [], true, IfOk, IfSome, IsTrue};
+//! Macros that are made of a text, and used.
+ghost use Rattle.std.specs.Prelude.{◌≡◌, ◌≢◌, ◌↔◌, true, IfOk, IfSome, IsTrue};
 ghost use Rattle.std.specs.List.{list_all};
 ghost use Rattle.tx_toklist.specs.Bodies.{no_body};
 ghost use Rattle.tx_toklist.specs.Macros.{IsMacro, is_begin, is_delimiter, is_end, no_parameters};
 
+use crate::input::Input;
+use crate::numbers::write_error;
+use crate::skipping::kind;
 use std::alloc::{AllocError, Global};
 use tx_bytes::Bytes;
-use tx_cases::{answered, malformed, text_of as shown};
-use tx_char::{Cat, Codes, Token};
-use tx_lex::{Lexed, ReadState, lex};
-use tx_macro::Matcher;
-use tx_seen::{Fed, TexError};
-use tx_toklist::{Body, Item, Macro, ParameterText, Toks, text_of};
-
-/// - `use TEXT;LINE`, what a macro with this parameter text, each # of which is a parameter, makes of a line: its arguments,
-///   each with a bar behind it, and then how many tokens are left; or `E` and the last digit of an error's number; or `?`
-///   where it wants more;
-/// - `ended TEXT;LINE`, the same where the file ends behind the line;
-/// - `shared CHARACTER`, what becomes of a shared use of a macro with one parameter when one of both takes a space.
-pub fn answer(alloc: Global, word: &str, rest: &str) -> Result<String, AllocError> {
-    let (text, line) = rest.split_once(';').unwrap_or((rest, ""));
-    match word {
-        "use" => used_shown(alloc, text, line, false),
-        "ended" => used_shown(alloc, text, line, true),
-        "shared" => shared_use(alloc),
-        _ => malformed(alloc),
-    }
-}
-
-/// The categories of plain TeX that these uses need.
-fn codes_of_plain(alloc: Global) -> Result<Codes, AllocError> {
-    let mut codes = Codes::initex(alloc)?;
-    let changes = [
-        (b'{', Cat::BeginGroup),
-        (b'}', Cat::EndGroup),
-        (b'$', Cat::MathShift),
-        (b'#', Cat::Parameter),
-    ];
-    for (code, category) in changes {
-        codes.set(code, category)?;
-    }
-    Ok(codes)
-}
-
-/// The tokens of a line.
-fn tokens(alloc: Global, line: &[u8], codes: &Codes) -> Result<Toks, AllocError> {
-    let mut toks = Toks::new(alloc);
-    let mut state = ReadState::M;
-    let mut rest = line;
-    for _ in 0..60 {
-        match lex(alloc, rest, state, codes)? {
-            Lexed::Token {
-                token,
-                used,
-                state: next,
-                ..
-            } => {
-                toks.push(token)?;
-                rest = &rest[used..];
-                state = next;
-            }
-            _ => return Ok(toks),
-        }
-    }
-    Ok(toks)
-}
+use tx_char::{Cat, Token};
+use tx_cond::SkipItem;
+use tx_macro::{Args, Matcher};
+use tx_seen::{Fed, Want};
+use tx_toklist::{Body, Item, Macro, ParameterText, Toks};
 
 /// Whether this is a begin-group token.
 fn begins_group(token: &Token) -> bool
@@ -103,13 +52,12 @@ fn all_delimit(lists: &[Toks]) -> bool
     true
 }
 
-/// Whether a parameter text with these signs may be a macro's, and has something in it.
+/// Whether there is a macro with this parameter text and these signs.
 fn is_whole(parameters: &ParameterText, signs: &Bytes) -> bool
-    ensures { IsTrue result → IsMacro parameters.now signs.now no_body × (parameters.now ≢ no_parameters) }
+    ensures { IsTrue result → IsMacro parameters.now signs.now no_body }
 {
-    !parameters.is_empty()
+    parameters.parameters() <= 9
         && signs.len() == parameters.parameters()
-        && parameters.parameters() <= 9
         && delimits(parameters.before())
         && all_delimit(parameters.delimiters())
 }
@@ -129,145 +77,120 @@ fn push_all(
     Ok(())
 }
 
-/// The parameter text of these characters.
-fn parameters_of(alloc: Global, text: &[u8], codes: &Codes) -> Result<ParameterText, AllocError> {
-    let toks = tokens(alloc, text, codes)?;
+/// The macro with this parameter text, each # of which is a parameter; a begin-group token may end it. None where there is
+/// no such macro. Its only error is want of memory.
+pub fn made(
+    alloc: Global,
+    input: &mut Input,
+    text: &[u8],
+    long: bool,
+) -> Result<Option<Macro>, AllocError> {
+    let toks = input.tokens(alloc, text)?;
     let mut parameters = ParameterText::new(alloc);
     push_all(alloc, &mut parameters, toks.as_slice())?;
-    Ok(parameters)
-}
-
-/// A macro with this parameter text, each # of which is a parameter; a begin-group token may end it. None where the text
-/// may be no macro's.
-fn macro_of(alloc: Global, text: &[u8], codes: &Codes) -> Result<Option<Macro>, AllocError>
-    ensures { IfOk result (λ made. IfSome made (λ m. m.parameters ≢ no_parameters)) }
-{
-    let parameters = parameters_of(alloc, text, codes)?;
     let signs = Bytes::from_vec(vec![in alloc; b'#'; parameters.parameters()]?);
     if !is_whole(&parameters, &signs) {
         return Ok(None);
     }
-    Ok(Some(Macro::new(alloc, parameters, signs, Body::new(alloc), false, false)?))
+    Ok(Some(Macro::new(alloc, parameters, signs, Body::new(alloc), long, false)?))
+}
+
+/// Whether the macro's parameter text is empty.
+fn takes_nothing(made: &Macro) -> bool
+    ensures { IsTrue result ↔ (made.now.parameters ≡ no_parameters) }
+{
+    made.before().is_empty() && made.delimiters().is_empty()
+}
+
+/// A use of the macro of which nothing is taken yet; none where it takes nothing. Its only error is want of memory.
+fn begun(alloc: Global, made: &Macro) -> Result<Option<Matcher>, AllocError>
+    ensures { IfOk result (λ begun. IfSome begun (λ m. m.goes_on ≡ true)) }
+{
+    if takes_nothing(made) {
+        return Ok(None);
+    }
+    Ok(Some(Matcher::new(alloc, made)?))
+}
+
+/// Writes the arguments with which a text begins, and what is left. Its only error is want of memory.
+pub fn write_use(
+    alloc: Global,
+    text: &mut String,
+    made: &Macro,
+    input: &mut Input,
+) -> Result<(), AllocError> {
+    match begun(alloc, made)? {
+        Some(mut matcher) => write_fed(alloc, text, &mut matcher, input),
+        None => input.write_left(alloc, text),
+    }
+}
+
+fn write_fed(
+    alloc: Global,
+    text: &mut String,
+    matcher: &mut Matcher,
+    input: &mut Input,
+) -> Result<(), AllocError>
+    requires { matcher.old.goes_on ≡ true }
+{
+    match fed(alloc, matcher, input)? {
+        Fed::Done(arguments, _) => {
+            write_arguments(alloc, text, arguments.as_slice(), input)?;
+            input.write_left(alloc, text)
+        }
+        Fed::Wrong(error) => write_error(text, error),
+        Fed::More(_) | Fed::Need(_) => text.push_str("more"),
+    }
 }
 
 /// Writes the arguments, each with a bar behind it.
 fn write_arguments(
     alloc: Global,
-    text: &mut Bytes,
+    text: &mut String,
     arguments: &[Toks],
-    codes: &Codes,
+    input: &Input,
 ) -> Result<(), AllocError> {
     for argument in arguments {
-        text.append(text_of(alloc, argument.as_slice(), Some(b'\\'), codes)?.as_slice())?;
-        text.push(b'|')?;
+        input.write(alloc, text, "argument", argument.as_slice())?;
+        text.push('|')?;
     }
     Ok(())
 }
 
-/// The arguments, each with a bar behind it, and how many tokens are left.
-fn arguments_shown(
-    alloc: Global,
-    arguments: &[Toks],
-    left: usize,
-    codes: &Codes,
-) -> Result<Bytes, AllocError> {
-    let mut text = Bytes::new(alloc);
-    write_arguments(alloc, &mut text, arguments, codes)?;
-    text.push(b'0' + (left % 10) as u8)?;
-    Ok(text)
-}
-
-fn error_shown(alloc: Global, error: TexError) -> Result<Bytes, AllocError> {
-    Bytes::from_slice(alloc, &[b'E', b'0' + error.number() % 10])
-}
-
-/// What becomes of a use at the end of a file.
-fn at_end(alloc: Global, matcher: &mut Matcher) -> Result<Bytes, AllocError>
+/// What comes of a use with the tokens that are read.
+fn fed(alloc: Global, matcher: &mut Matcher, input: &mut Input) -> Result<Fed<Args>, AllocError>
     requires { matcher.old.goes_on ≡ true }
 {
-    match matcher.feed(alloc, Item::EndOfFile)? {
-        Fed::Wrong(error) => error_shown(alloc, error),
-        _ => Bytes::from_slice(alloc, b"?"),
-    }
-}
-
-/// What becomes of a use with these tokens, and with the end of the file behind them, where `ends` says so.
-fn fed(
-    alloc: Global,
-    matcher: &mut Matcher,
-    tokens: &[Token],
-    codes: &Codes,
-    ends: bool,
-) -> Result<Bytes, AllocError>
-    requires { matcher.old.goes_on ≡ true }
-{
-    let mut left = tokens.len();
-    for token in tokens {
-        left = left.saturating_sub(1);
-        match matcher.feed(alloc, Item::Token(token.clone()?))? {
-            Fed::More(_) | Fed::Need(_) => {}
-            Fed::Done(arguments, _) => {
-                return arguments_shown(alloc, arguments.as_slice(), left, codes);
-            }
-            Fed::Wrong(error) => return error_shown(alloc, error),
+    for _ in 0..u64::MAX {
+        match matcher.feed(alloc, item(input.next(alloc)?))? {
+            Fed::More(_) => {}
+            answer => return Ok(answer),
         }
     }
-    if ends {
-        return at_end(alloc, matcher);
-    }
-    Bytes::from_slice(alloc, b"?")
+    Ok(Fed::More(Want::Raw))
 }
 
-/// What this macro makes of a line.
-fn used_by(
-    alloc: Global,
-    made: &Macro,
-    line: &[u8],
-    codes: &Codes,
-    ends: bool,
-) -> Result<Bytes, AllocError>
-    requires { made.now.parameters ≢ no_parameters }
-{
-    let toks = tokens(alloc, line, codes)?;
-    let mut matcher = Matcher::new(alloc, made)?;
-    fed(alloc, &mut matcher, toks.as_slice(), codes, ends)
-}
-
-/// What a macro with this parameter text makes of this line: its arguments, each with a bar behind it, and then how many
-/// tokens are left; or `E` and the last digit of the error's number; or `?` where it wants more. Behind a line comes the
-/// end of its file where `ends` says so.
-fn used(
-    alloc: Global,
-    text: &[u8],
-    line: &[u8],
-    codes: &Codes,
-    ends: bool,
-) -> Result<Bytes, AllocError> {
-    match macro_of(alloc, text, codes)? {
-        Some(made) => used_by(alloc, &made, line, codes, ends),
-        None => Bytes::from_slice(alloc, b"!"),
+/// What is fed where this token comes, or none.
+fn item(token: Option<Token>) -> Item {
+    match token {
+        Some(token) => match kind(&token) {
+            SkipItem::Outer => Item::Outer,
+            _ => Item::Token(token),
+        },
+        None => Item::EndOfFile,
     }
 }
 
-fn used_shown(alloc: Global, text: &str, line: &str, ends: bool) -> Result<String, AllocError> {
-    let codes = codes_of_plain(alloc)?;
-    let answer = used(alloc, text.as_bytes(), line.as_bytes(), &codes, ends)?;
-    shown(alloc, answer.as_slice())
-}
-
-/// A use of a macro of one parameter; nothing is taken.
-fn fresh_use(alloc: Global) -> Result<Option<Matcher>, AllocError>
-    ensures { IfOk result (λ made. IfSome made (λ m. m.goes_on ≡ true)) }
-{
-    let codes = codes_of_plain(alloc)?;
-    match macro_of(alloc, b"#", &codes)? {
-        Some(made) => Ok(Some(Matcher::new(alloc, &made)?)),
-        None => Ok(None),
+/// Writes whether a share of a use is the same before one of both takes a space, and after that; and that this one goes on.
+/// Its only error is want of memory.
+pub fn write_share(alloc: Global, text: &mut String, made: &Macro) -> Result<(), AllocError> {
+    match begun(alloc, made)? {
+        Some(mut matcher) => write_shares(alloc, text, &mut matcher),
+        None => text.push_str("no use"),
     }
 }
 
-/// Whether a share of a use is the same before one of both takes a space, and after that; and that this one goes on.
-fn share_told(alloc: Global, one: &mut Matcher) -> Result<String, AllocError>
+fn write_shares(alloc: Global, text: &mut String, one: &mut Matcher) -> Result<(), AllocError>
     requires { one.old.goes_on ≡ true }
 {
     let other = one.share()?;
@@ -275,12 +198,5 @@ fn share_told(alloc: Global, one: &mut Matcher) -> Result<String, AllocError>
     let space = Item::Token(Token::Character(b' ', Cat::Space));
     let more = matches!(one.feed(alloc, space)?, Fed::More(_));
     let (goes_on, after) = (one.goes_on(), other.same(one));
-    format!(in alloc; "{before} {more} {goes_on} {after}")
-}
-
-fn shared_use(alloc: Global) -> Result<String, AllocError> {
-    let Some(mut one) = fresh_use(alloc)? else {
-        return answered(alloc, "no macro");
-    };
-    share_told(alloc, &mut one)
+    write!(text, "{before} {more} {goes_on} {after}")
 }

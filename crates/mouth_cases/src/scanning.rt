@@ -8,13 +8,13 @@ use tx_prim::Primitive;
 use tx_scan::{IntScan, KeyScan};
 use tx_seen::{Fed, Kind, Meaning, Place, Seen, Value, Want};
 
-/// - `integer TEXT` and `keyword TEXT`, what the scan of an integer or of the keyword `pt` comes to;
+/// - `integer TEXT` and `pt TEXT`, what the scan of an integer or of the keyword `pt` comes to;
 /// - `negative KIND VALUE`, with the kind `int` or `dimen`, what the scan of `-\a` comes to, where \a has this value;
 /// - `unexpanded TEXT`, whether the scan takes a name behind this text as it is.
 pub fn answer(alloc: Global, word: &str, rest: &str) -> Result<String, AllocError> {
     match word {
         "integer" => integer(alloc, rest.as_bytes()),
-        "keyword" => keyword(alloc, rest.as_bytes()),
+        "pt" => keyword(alloc, rest.as_bytes()),
         "negative" => negative(alloc, rest),
         "unexpanded" => unexpanded(alloc, rest.as_bytes()),
         _ => malformed(alloc),

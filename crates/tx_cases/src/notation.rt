@@ -39,23 +39,28 @@ fn marked(piece: &str) -> Option<(u8, &str)> {
 /// of memory.
 pub fn text_of(alloc: Global, bytes: &[u8]) -> Result<String, AllocError> {
     let mut text = String::new(alloc);
+    write_bytes(&mut text, bytes)?;
+    Ok(text)
+}
+
+/// The same at the end of a text. Its only error is want of memory.
+pub fn write_bytes(text: &mut String, bytes: &[u8]) -> Result<(), AllocError> {
     for byte in bytes {
         match byte {
             b'\n' | b' '..=b';' | b'='..=b'~' => text.push(char::from(*byte))?,
             _ => write!(text, "<{byte:02x}>")?,
         }
     }
-    Ok(text)
+    Ok(())
 }
 
-/// Bytes in hexadecimal, 32 a line. Its only error is want of memory.
-pub fn hexadecimal(alloc: Global, bytes: &[u8]) -> Result<String, AllocError> {
-    let mut text = String::new(alloc);
+/// Writes bytes in hexadecimal, 32 a line, at the end of a text. Its only error is want of memory.
+pub fn write_hexadecimal(text: &mut String, bytes: &[u8]) -> Result<(), AllocError> {
     for (place, byte) in bytes.iter().enumerate() {
         if place != 0 && place % 32 == 0 {
             text.push('\n')?;
         }
         write!(text, "{byte:02x}")?;
     }
-    Ok(text)
+    Ok(())
 }

@@ -6,9 +6,9 @@ use tx_causes::causes::{
 use tx_causes::refusals::words_cause;
 use tx_causes::run::Run;
 use tx_io::{DirSink, DirSource, FilesRead, Source};
-use vortex_cmd::command::command_line;
-use vortex_cmd::given::{Asked, Given};
-use vortex_cmd::words::read_words;
+use tx_words::command::command_line;
+use tx_words::given::{Asked, Given};
+use tx_words::words::read_words;
 
 fn run_of(given: &Given) -> Run<'_> {
     Run {

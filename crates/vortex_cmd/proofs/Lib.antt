@@ -1,8 +1,4 @@
-pub mod Numbers
-pub mod Rows
 pub mod Listed
-pub mod ClearFaults
-pub mod Reading
 pub mod OneReading
 pub mod TurnBounds
 pub mod Puts

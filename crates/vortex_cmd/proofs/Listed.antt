@@ -8,7 +8,7 @@ use Rattle.std.proofs.lemmas.List.Folds.{list_any-append}
 use Rattle.std.proofs.lemmas.Map.Text.{is_eq-slice_cmp}
 use Rattle.std.proofs.lemmas.Slice.Eq.{bytes_eq-Decides}
 use Rattle.tx_bytes.specs.Files.{Files, content}
-use Rattle.vortex_cmd.specs.Values.{are_distinct}
+use Rattle.tx_words.specs.Values.{are_distinct}
 use Rattle.vortex_cmd.specs.Outcome.{with_file, with_listed, ForHeld}
 use Rattle.vortex_cmd.specs.Fetching.{Fetches}
 

@@ -15,8 +15,8 @@ use Rattle.tx_script.specs.declared.command.Command.TheVariants.{Edit, Save as S
 use Rattle.tx_session.specs.Held.{Held, fresh, rows_of, edited_session}
 use Rattle.tx_session.specs.Report.{work, turns_of_edit}
 use Rattle.tx_session.proofs.Reusing.{work-least}
-use Rattle.vortex_cmd.specs.declared.given.Asked.{Asked}
-use Rattle.vortex_cmd.specs.declared.given.Asked.TheVariants.{Run, Help, RunHelp, Version, Nothing}
+use Rattle.tx_words.specs.declared.given.Asked.{Asked}
+use Rattle.tx_words.specs.declared.given.Asked.TheVariants.{Run, Help, RunHelp, Version, Nothing}
 use Rattle.vortex_cmd.specs.declared.scripted.Scripted.{Scripted}
 use Rattle.vortex_cmd.specs.declared.scripted.Scripted.TheVariants.{Plays, Refused}
 use Rattle.vortex_cmd.specs.Replay.{Moment, opened, next_moment, turns_from}

@@ -1,6 +1,3 @@
-pub mod CommandLine
-pub mod Values
-pub mod Words
 pub mod Lines
 pub mod Scripts
 pub mod Pieces

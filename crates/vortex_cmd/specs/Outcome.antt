@@ -10,12 +10,12 @@ use Rattle.tx_machine.specs.Steps.{raised}
 use Rattle.tx_script.specs.declared.command.Command.{Command}
 use Rattle.tx_script.specs.declared.command.Command.TheVariants.{Edit, Save as SaveAs}
 use Rattle.tx_session.specs.Held.{Held, fresh}
-use Rattle.vortex_cmd.specs.declared.given.Given.{Given}
-use Rattle.vortex_cmd.specs.declared.given.Asked.{Asked}
-use Rattle.vortex_cmd.specs.declared.given.Asked.TheVariants.{Run, Help, RunHelp, Version, Nothing}
+use Rattle.tx_words.specs.declared.given.Given.{Given}
+use Rattle.tx_words.specs.declared.given.Asked.{Asked}
+use Rattle.tx_words.specs.declared.given.Asked.TheVariants.{Run, Help, RunHelp, Version, Nothing}
 use Rattle.vortex_cmd.specs.declared.scripted.Scripted.{Scripted}
 use Rattle.vortex_cmd.specs.declared.scripted.Scripted.TheVariants.{Plays, Refused}
-use Rattle.vortex_cmd.specs.Words.{words_meant}
+use Rattle.tx_words.specs.Words.{words_meant}
 use Rattle.vortex_cmd.specs.Lines.{run_line, help_text, run_help_text, version_line, refusal_line, script_refusal_line}
 use Rattle.vortex_cmd.specs.Pieces.{saved_pieces}
 use Rattle.vortex_cmd.specs.Replay.{Moment, opened, moment_after, pieces_from, turns_from, refusal_at, status_after, IsRefused}

@@ -3,7 +3,7 @@ ghost use Rattle.std.specs.FinMap.{empty};
 ghost use Rattle.vortex_cmd.specs.Outcome.{with_listed, ForHeld};
 ghost use Rattle.vortex_cmd.specs.Fetching.{Fetches};
 ghost use Rattle.vortex_cmd.specs.Trouble.{SourceCauses};
-ghost use Rattle.vortex_cmd.specs.Values.{are_distinct};
+ghost use Rattle.tx_words.specs.Values.{are_distinct};
 
 use crate::trouble::Trouble;
 use std::alloc::Global;

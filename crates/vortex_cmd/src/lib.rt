@@ -4,14 +4,12 @@
 //! Proved: besides, each status comes only with its cause, and without faults all is done. Only tested: that it answers
 //! anything but want of memory.
 //!
-//! Read `given` (what the words ask for), `command` (the command line, as it is told to clap), `values` and `words` (how
-//! they are read), `trouble`, `scripted`, `scripts` and `fetching` (what is read from the source), `lines` (what is said),
-//! `outputs` (what is put out of a run), `tally` and `replay` (the commands of a script), `run`, and then `vortex`.
+//! Read `trouble`, `scripted`, `scripts` and `fetching` (what is read from the source), `lines` (what is said), `outputs`
+//! (what is put out of a run), `tally` and `replay` (the commands of a script), `run`, and then `vortex`. What the words ask
+//! for is read in `tx_words`.
 #![tactic(auto)]
 
-pub mod command;
 mod fetching;
-pub mod given;
 mod lines;
 mod outputs;
 mod replay;
@@ -20,6 +18,4 @@ mod scripted;
 mod scripts;
 mod tally;
 mod trouble;
-mod values;
 pub mod vortex;
-pub mod words;

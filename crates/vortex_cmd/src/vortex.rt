@@ -2,9 +2,9 @@ ghost use Rattle.std.specs.Prelude.{◌≡◌, ◌≢◌, ◌+◌, ◌<◌, ◌�
 ghost use Rattle.tx_io.specs.Faults.{Rose};
 ghost use Rattle.tx_main.specs.Turns.{tex};
 ghost use Rattle.vortex_cmd.specs.Outcome.{outcome, most_turns, ForHeld, Leaves};
-ghost use Rattle.vortex_cmd.specs.declared.given.Asked.TheVariants.{Nothing};
+ghost use Rattle.tx_words.specs.declared.given.Asked.TheVariants.{Nothing};
 ghost use Rattle.vortex_cmd.specs.Scripts.{ForScript, NamesNoScript, HoldsNoScript};
-ghost use Rattle.vortex_cmd.specs.Words.{script_asked, words_meant, texts};
+ghost use Rattle.tx_words.specs.Words.{script_asked, words_meant, texts};
 
 use crate::run::run_words;
 use crate::trouble::{Interruption, Trouble};

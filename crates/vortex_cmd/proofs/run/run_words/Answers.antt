@@ -3,10 +3,10 @@ use Rattle.std.proofs.lemmas.Result.{IfOk-weaker}
 use Rattle.vortex_cmd.specs.Outcome.{saying}
 use Rattle.vortex_cmd.specs.Scripts.{NamesNoScript, Unread}
 use Rattle.vortex_cmd.specs.Trouble.{Does}
-use Rattle.vortex_cmd.specs.Words.{script_asked, words_meant, texts}
-use Rattle.vortex_cmd.specs.declared.given.Asked.{Asked}
+use Rattle.tx_words.specs.Words.{script_asked, words_meant, texts}
+use Rattle.tx_words.specs.declared.given.Asked.{Asked}
 use Rattle.vortex_cmd.specs.declared.trouble.Trouble.TheVariants.{Memory}
-use Rattle.vortex_cmd.specs.declared.given.Asked.TheVariants.{Run, Help, RunHelp, Version, Nothing}
+use Rattle.tx_words.specs.declared.given.Asked.TheVariants.{Run, Help, RunHelp, Version, Nothing}
 use Rattle.vortex_cmd.proofs.Held.{for_any, does_nothing, of_words}
 use Rattle.vortex_cmd.proofs.run.run_words.Goals as goal
 

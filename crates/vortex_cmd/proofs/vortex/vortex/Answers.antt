@@ -3,7 +3,7 @@ use Rattle.tx_main.specs.Turns.{tex}
 use Rattle.tx_main.specs.Lawful.{tex-lawful}
 use Rattle.vortex_cmd.specs.declared.trouble.Trouble.TheVariants.{Memory, Source, Sink}
 use Rattle.vortex_cmd.specs.declared.trouble.Interruption.TheVariants.{Trouble as Interrupted, RefusedEdit}
-use Rattle.vortex_cmd.specs.Words.{texts}
+use Rattle.tx_words.specs.Words.{texts}
 use Rattle.vortex_cmd.proofs.Held.{for_script, for_held, turns_bound, leaves_all, leaves_part, leaves_refused}
 use Rattle.vortex_cmd.proofs.vortex.vortex.Goals as goal
 
