@@ -1,5 +1,5 @@
 -- One more item behind items that are skipped.
-use Rattle.std.proofs.Common.{◌≡◌, ℕ, ◌+◌, ◌<◌, ◌==◌, Bool, true, false, cond, List, [], ◌∷◌, ◌++◌, refl, sym, ◌∙◌, ap, arith, append_assoc, append-nil, zero-add, ◌⊎◌, inl, inr}
+use Rattle.std.proofs.Common.{◌≡◌, ℕ, zero, suc, ◌+◌, ◌==◌, Bool, true, false, cond, List, [], ◌∷◌, ◌++◌, refl, sym, ◌∙◌, ap, arith, append_assoc, append-nil, zero-add}
 use Rattle.std.specs.Prelude.{count_by}
 use Rattle.std.proofs.lemmas.List.Sums.{sum_by-append}
 use Rattle.tx_seen.specs.declared.error.TexError.TheVariants.{IncompleteConditional}
@@ -9,7 +9,8 @@ use Rattle.tx_seen.specs.declared.fed.Fed.TheVariants.{More, Need, Done, Wrong}
 use Rattle.tx_prim.specs.declared.expandable.CondWord.{CondWord}
 use Rattle.tx_cond.specs.declared.types.SkipItem.{SkipItem}
 use Rattle.tx_cond.specs.declared.types.SkipItem.TheVariants.{If, Word, Other, Outer, EndOfFile}
-use Rattle.tx_cond.specs.Skipping.{begins, ends, depth, answer, or_else, first_answer, skip, HasSkipped}
+use Rattle.tx_prim.specs.declared.expandable.CondWord.TheVariants.{Else, Or, Fi}
+use Rattle.tx_cond.specs.Skipping.{begins, ends, depth, passing, answer, or_else, first_answer, skip, HasSkipped, IsSkip}
 
 -- where more is wanted, it is wanted as it stands
 abbrev IsRaw : Fed CondWord → Type 0
@@ -52,24 +53,31 @@ count-push : (p : SkipItem → Bool) (taken : List SkipItem) (item : SkipItem) �
 count-push p taken item = sum_by-append (λ x. cond (p x) 1 0) taken (item ∷ []) ∙ ap (λ n. count_by p taken + n) (zero-add (cond (p item) 1 0))
 
 -- what the next item is to skipping
-pub answer-is : (inside : ℕ) (taken : List SkipItem) (item : SkipItem) (a : Fed CondWord) → HasSkipped inside taken → answer taken item ≡ a → a ≡ skip (taken ++ item ∷ [])
-answer-is inside taken item a h is = sym is ∙ sym (skip-push taken item h.skipped)
+answer-is : (taken : List SkipItem) (item : SkipItem) (a : Fed CondWord) → skip taken ≡ More Raw → answer taken item ≡ a → skip (taken ++ item ∷ []) ≡ a
+answer-is taken item a h is = skip-push taken item h ∙ is
 
 -- a word within a conditional of the skipped text
-pub answer-inside : (inside : ℕ) (taken : List SkipItem) (word : CondWord) → HasSkipped inside taken → 0 < inside → answer taken (Word word) ≡ More Raw
-answer-inside inside taken word h i = rw (let e : (depth taken == 0) ≡ false = grind (arith, h.counted) in e) refl
+answer-inside : (inside : ℕ) (taken : List SkipItem) (word : CondWord) → HasSkipped (suc inside) taken → answer taken (Word word) ≡ More Raw
+answer-inside inside taken word h = rw (let e : (depth taken == 0) ≡ false = grind (arith, h.counted) in e) refl
 
 -- a word that belongs to no conditional of the skipped text
-pub answer-outside : (inside : ℕ) (taken : List SkipItem) (word : CondWord) → HasSkipped inside taken → inside ≡ 0 → answer taken (Word word) ≡ Done word 0
-answer-outside inside taken word h i = rw (let e : (depth taken == 0) ≡ true = grind (arith, h.counted) in e) refl
+answer-outside : (taken : List SkipItem) (word : CondWord) → HasSkipped 0 taken → answer taken (Word word) ≡ Done word 0
+answer-outside taken word h = rw (let e : (depth taken == 0) ≡ true = grind (arith, h.counted) in e) refl
 
 -- the next item is skipped too
-pub skips-on : (inside next : ℕ) (taken : List SkipItem) (item : SkipItem) → HasSkipped inside taken → answer taken item ≡ More Raw → inside + cond (begins item) 1 0 ≡ next + cond (ends item) 1 0 → HasSkipped next (taken ++ item ∷ [])
+skips-on : (inside next : ℕ) (taken : List SkipItem) (item : SkipItem) → HasSkipped inside taken → answer taken item ≡ More Raw → inside + cond (begins item) 1 0 ≡ next + cond (ends item) 1 0 → HasSkipped next (taken ++ item ∷ [])
 skips-on inside next taken item h more e = record {
   skipped = skip-push taken item h.skipped ∙ more;
   counted = omega (arith, count-push begins taken item, count-push ends taken item, h.counted);
 }
 
--- what can't be skipped
-pub answer-incomplete : (inside : ℕ) (taken : List SkipItem) (item : SkipItem) → HasSkipped inside taken → (item ≡ Outer) ⊎ (item ≡ EndOfFile) → Wrong IncompleteConditional ≡ skip (taken ++ item ∷ [])
-answer-incomplete inside taken item h is = answer-is inside taken item (Wrong IncompleteConditional) h (elim is [ inl e ↦ rw e refl | inr e ↦ rw e refl ])
+-- by the count of open conditionals
+pub counts : (inside : ℕ) (taken : List SkipItem) (item : SkipItem) → HasSkipped inside taken → IsSkip (passing inside item) (taken ++ item ∷ [])
+counts inside taken If h = skips-on inside (suc inside) taken If h refl (omega arith)
+counts zero taken (Word word) h = answer-is taken (Word word) (Done word 0) h.skipped (answer-outside taken word h)
+counts (suc inside) taken (Word Fi) h = skips-on (suc inside) inside taken (Word Fi) h (answer-inside inside taken Fi h) (omega arith)
+counts (suc inside) taken (Word Else) h = skips-on (suc inside) (suc inside) taken (Word Else) h (answer-inside inside taken Else h) refl
+counts (suc inside) taken (Word Or) h = skips-on (suc inside) (suc inside) taken (Word Or) h (answer-inside inside taken Or h) refl
+counts inside taken Other h = skips-on inside inside taken Other h refl refl
+counts inside taken Outer h = answer-is taken Outer (Wrong IncompleteConditional) h.skipped refl
+counts inside taken EndOfFile h = answer-is taken EndOfFile (Wrong IncompleteConditional) h.skipped refl

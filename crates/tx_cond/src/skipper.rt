@@ -1,13 +1,26 @@
 //! The skipping of text that no branch takes (TeX: The Program, section 494).
-ghost use Rattle.std.specs.Prelude.{◌≡◌, ◌-◌, ◌^◌, ◌∷◌, ◌++◌, [], List, IfOk, OnErr};
-ghost use Rattle.tx_cond.specs.declared.types.SkipItem.{SkipItem};
-ghost use Rattle.tx_cond.specs.Skipping.{skip, HasSkipped};
+ghost use Rattle.std.specs.Prelude.{◌≡◌, ◌-◌, ◌^◌, IfOk, OnErr};
+ghost use Rattle.tx_cond.specs.Skipping.{passing, item_of, IsPassed};
 
 use crate::types::SkipItem;
 use std::alloc::AllocError;
 use std::marker::Model;
-use tx_prim::CondWord;
-use tx_seen::{Fed, TexError, Want};
+use tx_prim::{CondWord, Expandable};
+use tx_seen::{Fed, Meaning, TexError, Want};
+
+impl SkipItem {
+    /// What a token that means this is to text that is skipped.
+    pub fn of(meaning: &Meaning) -> SkipItem
+        ensures { result ≡ item_of meaning.now }
+    {
+        match meaning {
+            Meaning::Expandable(Expandable::Test(_)) => SkipItem::If,
+            Meaning::Expandable(Expandable::Word(word)) => SkipItem::Word(*word),
+            Meaning::Macro(found) if found.is_outer() => SkipItem::Outer,
+            _ => SkipItem::Other,
+        }
+    }
+}
 
 /// Text that is being skipped, token by token, to the first \else, \or or \fi that belongs to no conditional within it.
 /// Contracts see the number of conditionals within it that are open.
@@ -27,16 +40,15 @@ impl Model for Skipper {
 impl Skipper {
     /// Nothing is skipped.
     pub fn new() -> Skipper
-        ensures { HasSkipped result [] }
+        ensures { result ≡ 0 }
     {
         Skipper { open: 0 }
     }
 
-    /// Skips one more item, at first and after More. The answer is what skipping gives of all items so far. Its only
-    /// error is that no more open conditionals can be counted; nothing has changed then.
+    /// Skips one more item, at first and after More. Its only error is that no more open conditionals can be counted;
+    /// nothing has changed then.
     pub fn feed(&mut self, item: SkipItem) -> Result<Fed<CondWord>, AllocError>
-        ensures answer { (taken : List SkipItem) → HasSkipped self.old taken → IfOk result (λ fed. fed ≡ skip (taken ++ item ∷ [])) }
-        ensures state { (taken : List SkipItem) → HasSkipped self.old taken → IfOk result (λ fed. fed ≡ Fed.More Want.Raw → HasSkipped self.new (taken ++ item ∷ [])) }
+        ensures passed { IfOk result (λ fed. IsPassed (passing self.old item) fed self.new) }
         ensures full { OnErr result ((self.new ≡ self.old) × (self.old ≡ 2 ^ 64 - 1)) }
     {
         match item {
@@ -57,8 +69,7 @@ impl Skipper {
 
     /// Skips a word, or ends at it.
     fn feed_word(&mut self, word: CondWord) -> Fed<CondWord>
-        ensures answer { (taken : List SkipItem) → HasSkipped self.old taken → result ≡ skip (taken ++ SkipItem.Word word ∷ []) }
-        ensures state { (taken : List SkipItem) → HasSkipped self.old taken → result ≡ Fed.More Want.Raw → HasSkipped self.new (taken ++ SkipItem.Word word ∷ []) }
+        ensures { IsPassed (passing self.old (SkipItem.Word word)) result self.new }
     {
         if self.open == 0 {
             return Fed::Done(word, 0);

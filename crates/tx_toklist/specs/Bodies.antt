@@ -12,9 +12,12 @@ pub record BodyText : Type 0 where
 abbrev pub no_body : BodyText
 no_body = record { tokens = []; slots = [] }
 
--- one more token, or the argument of one more parameter, at the end
+-- one more token, several of them, or the argument of one more parameter, at the end
 abbrev pub with_body_token : BodyText → Token → BodyText
 with_body_token body token = record { tokens = body.tokens ++ token ∷ []; slots = body.slots }
+
+abbrev pub with_body_tokens : BodyText → List Token → BodyText
+with_body_tokens body tokens = record { tokens = body.tokens ++ tokens; slots = body.slots }
 
 abbrev pub with_argument : BodyText → ℕ → BodyText
 with_argument body number = record { tokens = body.tokens; slots = body.slots ++ record { before = length body.tokens; number = number } ∷ [] }

@@ -1,6 +1,6 @@
 //! Bodies of macros.
-ghost use Rattle.std.specs.Prelude.{◌≡◌, OnOk, OnErr, length};
-ghost use Rattle.tx_toklist.specs.Bodies.{ArePlaced, no_body, with_argument, with_body_token};
+ghost use Rattle.std.specs.Prelude.{◌≡◌, ◌↔◌, [], IsTrue, IfOk, OnOk, OnErr, length};
+ghost use Rattle.tx_toklist.specs.Bodies.{ArePlaced, no_body, with_argument, with_body_token, with_body_tokens};
 
 use crate::toks::Toks;
 use std::alloc::{AllocError, Global};
@@ -75,6 +75,31 @@ impl Body {
     {
         let before = self.tokens.len();
         self.slots.push(Slot { before, number })
+    }
+
+    /// Moves tokens to the end. After want of memory nothing has changed.
+    pub fn append(&mut self, tokens: &mut Toks) -> Result<(), AllocError>
+        ensures ok { OnOk result ((self.new ≡ with_body_tokens self.old tokens.old) × (tokens.new ≡ [])) }
+        ensures err { OnErr result ((self.new ≡ self.old) × (tokens.new ≡ tokens.old)) }
+    {
+        self.tokens.append(tokens)
+    }
+
+    /// Whether both have the same tokens with the same places among them.
+    pub fn same(&self, other: &Body) -> bool
+        ensures { IsTrue result ↔ (self.now ≡ other.now) }
+    {
+        self.slots.same(&other.slots) && self.tokens.same(&other.tokens)
+    }
+
+    /// The same body once more. Its only error is want of memory.
+    pub fn share(&self) -> Result<Body, AllocError>
+        ensures { IfOk result (λ shared. shared ≡ self.now) }
+    {
+        Ok(Body {
+            tokens: self.tokens.share()?,
+            slots: self.slots.share()?,
+        })
     }
 
     /// Its tokens and the places among them.

@@ -1,5 +1,5 @@
 //! Parameter texts of macros.
-ghost use Rattle.std.specs.Prelude.{◌≡◌, ◌↔◌, ◌<◌, [], IsTrue, OnOk, OnErr, length};
+ghost use Rattle.std.specs.Prelude.{◌≡◌, ◌↔◌, ◌<◌, [], IsTrue, IfOk, OnOk, OnErr, length};
 ghost use Rattle.tx_toklist.specs.Macros.{no_parameters, with_parameter, with_token};
 
 use crate::toks::{Lists, Toks};
@@ -86,5 +86,15 @@ impl ParameterText {
         ensures { IsTrue result ↔ (self.now ≡ other.now) }
     {
         self.before.same(&other.before) && self.delimiters.same(&other.delimiters)
+    }
+
+    /// The same text once more. Its only error is want of memory.
+    pub fn share(&self) -> Result<ParameterText, AllocError>
+        ensures { IfOk result (λ shared. shared ≡ self.now) }
+    {
+        Ok(ParameterText {
+            before: self.before.share()?,
+            delimiters: self.delimiters.share()?,
+        })
     }
 }
