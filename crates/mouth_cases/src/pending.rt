@@ -3,7 +3,7 @@ use std::alloc::{AllocError, Global};
 use std::mem;
 use tx_bytes::Bytes;
 use tx_cases::{answered, bytes_of, first_word, malformed, text_of};
-use tx_char::{Cat, Codes, Token};
+use tx_char::{Cat, Codes, ControlName, Token};
 use tx_pending::{Next, Pending};
 use tx_toklist::{TokList, Toks};
 
@@ -17,7 +17,8 @@ struct Inputs {
 
 /// What becomes of two inputs, `one` and `other`, by lines of
 ///
-/// - `INPUT line TEXT`, `INPUT list LETTERS`, `INPUT marked LETTERS`, a list with a marker behind it, and `INPUT end_input`;
+/// - `INPUT line TEXT`, `INPUT list LETTERS`, `INPUT marked LETTERS`, a list with a marker behind it, `INPUT held LETTERS`, a
+///   name that \noexpand holds, `INPUT back LETTERS`, one that is given back, and `INPUT end_input`;
 /// - `INPUT next`, which takes what comes next, and `INPUT read`, which answers what comes up to the line that is used up;
 /// - `same`, whether both are the same, and `share`, which makes the other one a share of the one.
 pub fn play(alloc: Global, lines: &str) -> Result<String, AllocError> {
@@ -98,6 +99,8 @@ fn give(
         "line" => pending.push_line(alloc, bytes_of(alloc, text)?)?,
         "list" => pending.push_list(letters(alloc, text.as_bytes())?, false)?,
         "marked" => pending.push_list(letters(alloc, text.as_bytes())?, true)?,
+        "held" => pending.push_held(name(alloc, text)?)?,
+        "back" => pending.give_back(name(alloc, text)?)?,
         "end_input" => pending.end_input(),
         _ => return malformed(alloc),
     }
@@ -118,12 +121,18 @@ fn letters(alloc: Global, text: &[u8]) -> Result<TokList, AllocError> {
     TokList::from_toks(alloc, toks)
 }
 
-/// What comes next: a character as itself, a name as a backslash, a marker as `|`, the end as `.`, or as `!` where
-/// \endinput came, an invalid character as `?`.
+/// The token of a name.
+fn name(alloc: Global, text: &str) -> Result<Token, AllocError> {
+    Ok(Token::Name(ControlName::from_slice(alloc, text.as_bytes())?))
+}
+
+/// What comes next: a character as itself, a name as a backslash, a token that \noexpand holds as `^`, a marker as `|`, the
+/// end as `.`, or as `!` where \endinput came, an invalid character as `?`.
 fn shown(next: Next) -> u8 {
     match next {
         Next::Token(Token::Character(code, _)) => code,
         Next::Token(Token::Name(_) | Token::FrozenRelax) => b'\\',
+        Next::Held(_) => b'^',
         Next::Marker => b'|',
         Next::Used { close: false } => b'.',
         Next::Used { close: true } => b'!',
