@@ -12,7 +12,9 @@ use tx_bytes::Bytes;
 pub fn line_text(alloc: Global, raw: &[u8], end_of_line: Option<u8>) -> Result<Bytes, AllocError>
     ensures { IfOk result (λ line. line ≡ seen_line raw.now end_of_line) }
 {
-    let mut line = Bytes::from_slice(alloc, trimmed(stripped(raw)))?;
+    let text = trimmed(stripped(raw));
+    let mut line = Bytes::from_vec(Vec::with_capacity(alloc, text.len() + 1)?);
+    line.append(text)?;
     if let Some(code) = end_of_line {
         line.push(code)?;
     }

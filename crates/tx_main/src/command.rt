@@ -195,11 +195,20 @@ fn take(
     ensures { IfOk result (IsSettled mode head.now (joined (value_in table.now) mode head.now taken.old token) taken.new scans.new) }
 {
     let fed = scans.feed(mode, head, &token)?;
-    if is_end(&fed) {
-        return Ok(fed);
+    match fed {
+        // most tokens
+        Fed::More(want) => {
+            taken.push(Item::Took(token))?;
+            Ok(Fed::More(want))
+        }
+        fed => {
+            if is_end(&fed) {
+                return Ok(fed);
+            }
+            taken.push(Item::Took(token))?;
+            settle(taken, scans, table, fed)
+        }
     }
-    taken.push(Item::Took(token))?;
-    settle(taken, scans, table, fed)
 }
 
 /// Gives the values that the command needs, as the table has them, until it needs none. Its only error is want of memory.
