@@ -82,7 +82,7 @@ impl Source {
         match self {
             Source::List(own) => list.same_at(list_place, own, place),
             Source::Token(Some(token)) => list.has_token(list_place, token),
-            Source::Line(_) => false,
+            Source::Line(..) => false,
             Source::Held(_) => false,
             Source::Token(None) => false,
         }

@@ -1,0 +1,3 @@
+pub mod Signs
+pub mod Definitions
+pub mod Absorbed
