@@ -1,5 +1,5 @@
 //! Lists of values with one owner, for all crates above: what is asked of a value that can be kept, and the list and the stack
-//! that keep any number of them. Contracts see the list of the values.
+//! that keep any number of them. Contracts see the list of the values. `specs/` says when two values of plain data are equal.
 //!
 //! Proved: a list is the list of its values, a stack that of its values with the newest first, and `same` is exactly equality.
 //! Nothing is left to tests.

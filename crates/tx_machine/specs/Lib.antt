@@ -6,4 +6,4 @@ pub mod Notes
 pub mod Turn
 pub mod Counts
 pub mod Run
-pub mod Same
+pub use Rattle.tx_list.specs.Same

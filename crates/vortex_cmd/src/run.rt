@@ -10,20 +10,20 @@ ghost use Rattle.tx_words.specs.Words.{IsRun, IsWithin, script_asked, words_mean
 ghost use Rattle.tx_words.specs.declared.given.Asked.TheVariants.{Run, Nothing};
 
 use crate::fetching::fetch_files;
-use tx_words::given::{Asked, Given};
 use crate::lines::{help_text, run_help_text, script_refusal_line, version_line};
 use crate::outputs::{save_session, say, say_run};
 use crate::replay::replay;
 use crate::scripted::Scripted;
 use crate::scripts::fetch_script;
 use crate::trouble::{Interruption, Trouble};
-use tx_words::words::read_words;
 use std::alloc::Global;
 use tx_files::{FileSet, Name};
 use tx_io::{Sink, Source};
 use tx_machine::{End, Machine, Steps};
 use tx_script::{Command, Rule};
 use tx_session::Session;
+use tx_words::given::{Asked, Given};
+use tx_words::words::read_words;
 
 /// The status after all commands: 1 where the last run ended otherwise than by the end of its text, else 5 where an edit
 /// went past the end of its file, else 0.
