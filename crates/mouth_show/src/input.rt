@@ -133,7 +133,7 @@ impl Input {
     pub fn next(&mut self, alloc: Global) -> Result<Option<Token>, AllocError> {
         for _ in 0..u64::MAX {
             match self.pending.next(alloc, &self.codes)? {
-                Next::Token(token) => return Ok(Some(token)),
+                Next::Token(token) | Next::Held(token) => return Ok(Some(token)),
                 Next::Marker => {}
                 Next::Used { .. } if self.lines > 0 => self.lines -= 1,
                 Next::Used { .. } | Next::E1 => return Ok(None),
