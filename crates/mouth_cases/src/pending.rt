@@ -118,12 +118,13 @@ fn letters(alloc: Global, text: &[u8]) -> Result<TokList, AllocError> {
     TokList::from_toks(alloc, toks)
 }
 
-/// What comes next: a character as itself, a name as a backslash, a marker as `|`, the end as `.`, or as `!` where
-/// \endinput came, an invalid character as `?`.
+/// What comes next: a character as itself, a name as a backslash, what \noexpand holds as `*`, a marker as `|`, the end as
+/// `.`, or as `!` where \endinput came, an invalid character as `?`.
 fn shown(next: Next) -> u8 {
     match next {
         Next::Token(Token::Character(code, _)) => code,
         Next::Token(Token::Name(_) | Token::FrozenRelax) => b'\\',
+        Next::Held(_) => b'*',
         Next::Marker => b'|',
         Next::Used { close: false } => b'.',
         Next::Used { close: true } => b'!',
