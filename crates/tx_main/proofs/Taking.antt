@@ -42,32 +42,19 @@ joins-whole s t c behind is = ap (scanned s (items_with s t)) is
 abbrev pub fed_state : State → Begun → Input → State
 fed_state s scan input = record s { input = input; scan = scan }
 
-turn-more : (s : State) (scan : Begun) (input : Input) (t : Seen) → s.phase ≡ Running → IsTaken (value_in s.table) s.scan t s.input scan input taken.More → IsStepped (joining (state_of s) (items_with (state_of s) t)) s Went (fed_state s scan input)
-turn-more s scan input t running k =
+pub takes-more : (s : State) (scan : Begun) (input : Input) (t : Seen) → s.phase ≡ Running → IsTaken (value_in s.table) s.scan t s.input scan input taken.More → IsStepped (taking (state_of s) t) s Went (fed_state s scan input)
+takes-more s scan input t running k =
     rw (k.1.0, k.1.1)
     (rw (joins-more (state_of s) t k.0.0 k.0.1) (record { event_is = refl; state_is = rw running refl; said_is = sym (append-nil s.said) }))
 
-turn-wrong : (s new : State) (scan : Begun) (input : Input) (t : Seen) (e : TexError) (event : Event) → IsTaken (value_in s.table) s.scan t s.input scan input (taken.Wrong e) → IsStepped (Fails e) (fed_state s scan input) event new → IsStepped (joining (state_of s) (items_with (state_of s) t)) s event new
-turn-wrong s new scan input t e event k did =
+pub takes-wrong : (s new : State) (scan : Begun) (input : Input) (t : Seen) (e : TexError) (event : Event) → IsTaken (value_in s.table) s.scan t s.input scan input (taken.Wrong e) → IsStepped (Fails e) (fed_state s scan input) event new → IsStepped (taking (state_of s) t) s event new
+takes-wrong s new scan input t e event k did =
     rw (joins-wrong (state_of s) t e k) (record { event_is = did.event_is; state_is = did.state_is; said_is = did.said_is })
 
-whole-by : (s new : State) (t : Seen) (c : Command) (behind : List Item) (event : Event) → command s.scan.mode s.scan.head (items_with (state_of s) t) ≡ Done c behind → IsStepped (effect (record (state_of s) { taken = []; input = with_tokens s.input (given_back behind) }) c) (fed_state s (record s.scan { taken = [] }) (with_tokens s.input (given_back behind))) event new → IsStepped (joining (state_of s) (items_with (state_of s) t)) s event new
+whole-by : (s new : State) (t : Seen) (c : Command) (behind : List Item) (event : Event) → command s.scan.mode s.scan.head (items_with (state_of s) t) ≡ Done c behind → IsStepped (effect (record (state_of s) { taken = []; input = with_tokens s.input (given_back behind) }) c) (fed_state s (record s.scan { taken = [] }) (with_tokens s.input (given_back behind))) event new → IsStepped (taking (state_of s) t) s event new
 whole-by s new t c behind event is did =
     rw (joins-whole (state_of s) t c behind is) (record { event_is = did.event_is; state_is = did.state_is; said_is = did.said_is })
 
-turn-whole : {E : Type 0} (s new : State) (scan : Begun) (input : Input) (t : Seen) (c : Command) (answer : Result Event E) → IsTaken (value_in s.table) s.scan t s.input scan input (taken.Whole c) → IfOk answer (λ event. IsStepped (effect (state_of (fed_state s scan input)) c) (fed_state s scan input) event new) → IfOk answer (λ event. IsStepped (joining (state_of s) (items_with (state_of s) t)) s event new)
-turn-whole s new scan input t c (Ok event) k did = whole-by s new t c k.0 event k.1.0 (rw (k.1.1.0, k.1.1.1) at did)
-turn-whole s new scan input t c (Err e) k did = tt
-
--- the token with its meaning
-same-token : (s : State) (token : Token) (meaning : Meaning) → meaning ≡ token_meaning s.table.table token → joining (state_of s) (items_with (state_of s) (record { token = token; meaning = meaning })) ≡ taking (state_of s) token
-same-token s token meaning is = ap (λ m. joining (state_of s) (items_with (state_of s) (record { token = token; meaning = m }))) is
-
-pub takes-more : (s : State) (scan : Begun) (input : Input) (token : Token) (meaning : Meaning) → s.phase ≡ Running → meaning ≡ token_meaning s.table.table token → IsTaken (value_in s.table) s.scan (record { token = token; meaning = meaning }) s.input scan input taken.More → IsStepped (taking (state_of s) token) s Went (fed_state s scan input)
-takes-more s scan input token meaning running is k = rw (← same-token s token meaning is) (turn-more s scan input (record { token = token; meaning = meaning }) running k)
-
-pub takes-wrong : (s new : State) (scan : Begun) (input : Input) (token : Token) (meaning : Meaning) (e : TexError) (event : Event) → meaning ≡ token_meaning s.table.table token → IsTaken (value_in s.table) s.scan (record { token = token; meaning = meaning }) s.input scan input (taken.Wrong e) → IsStepped (Fails e) (fed_state s scan input) event new → IsStepped (taking (state_of s) token) s event new
-takes-wrong s new scan input token meaning e event is k did = rw (← same-token s token meaning is) (turn-wrong s new scan input (record { token = token; meaning = meaning }) e event k did)
-
-pub takes-whole : {E : Type 0} (s new : State) (scan : Begun) (input : Input) (token : Token) (meaning : Meaning) (c : Command) (answer : Result Event E) → meaning ≡ token_meaning s.table.table token → IsTaken (value_in s.table) s.scan (record { token = token; meaning = meaning }) s.input scan input (taken.Whole c) → IfOk answer (λ event. IsStepped (effect (state_of (fed_state s scan input)) c) (fed_state s scan input) event new) → IfOk answer (λ event. IsStepped (taking (state_of s) token) s event new)
-takes-whole s new scan input token meaning c answer is k did = rw (← same-token s token meaning is) (turn-whole s new scan input (record { token = token; meaning = meaning }) c answer k did)
+pub takes-whole : {E : Type 0} (s new : State) (scan : Begun) (input : Input) (t : Seen) (c : Command) (answer : Result Event E) → IsTaken (value_in s.table) s.scan t s.input scan input (taken.Whole c) → IfOk answer (λ event. IsStepped (effect (state_of (fed_state s scan input)) c) (fed_state s scan input) event new) → IfOk answer (λ event. IsStepped (taking (state_of s) t) s event new)
+takes-whole s new scan input t c (Ok event) k did = whole-by s new t c k.0 event k.1.0 (rw (k.1.1.0, k.1.1.1) at did)
+takes-whole s new scan input t c (Err e) k did = tt

@@ -3,6 +3,8 @@ use Rattle.std.specs.Prelude.{ℕ, suc, ℤ, true, false, List, [], ◌∷◌, �
 use Rattle.tx_char.specs.declared.tokens.Token.{Token}
 use Rattle.tx_seen.specs.declared.item.Item.{Item}
 use Rattle.tx_seen.specs.declared.item.Item.TheVariants.{Took, Gave}
+use Rattle.tx_seen.specs.declared.seen.Seen.{Seen}
+use Rattle.tx_seen.specs.Seen.{held}
 use Rattle.tx_dvi.specs.Page.{Page}
 use Rattle.tx_lex.specs.Line.{seen_line}
 use Rattle.tx_machine.specs.declared.types.AskKind.{AskKind}
@@ -18,7 +20,7 @@ use Rattle.tx_main.specs.declared.types.Command.{Command}
 use Rattle.tx_node.specs.Counts.{box_count, ended}
 use Rattle.tx_ship.specs.declared.error.ShipError.{ShipError}
 use Rattle.tx_pending.specs.declared.next.Next.{Next}
-use Rattle.tx_pending.specs.declared.next.Next.TheVariants.{Token as Next_token, Marker, Used, E1}
+use Rattle.tx_pending.specs.declared.next.Next.TheVariants.{Token as Next_token, Held as Next_held, Marker, Used, E1}
 use Rattle.tx_pending.specs.Elements.{Step, with_line, with_tokens, step as next_of}
 use Rattle.tx_prim.specs.declared.integer.IntegerParameter.TheVariants.{Mag}
 use Rattle.tx_eqtb.specs.Table.{token_meaning}
@@ -46,20 +48,25 @@ scanned s items (Need kind) = leaves (record s { taken = items })
 scanned s items (Wrong error) = Fails error
 scanned s items (Done c behind) = effect (record s { taken = []; input = with_tokens s.input (given_back behind) }) c
 
--- a token, with what it means and the values that the open command needs behind it, joins what that has taken
+-- a token, and the values that the open command needs behind it, join what that has taken
 abbrev pub joining : TexState → List Item → Outcome
 joining s items = scanned s items (command s.mode s.head items)
 
 abbrev pub supplying : TexState → List Item → Outcome
 supplying s items = joining s (supplied (suc (length items)) (value_in s.table) (command s.mode s.head) items)
 
-abbrev pub taking : TexState → Token → Outcome
-taking s t = supplying s (s.taken ++ Took (record { token = t; meaning = token_meaning s.table.table t }) ∷ [])
+abbrev pub taking : TexState → Seen → Outcome
+taking s t = supplying s (s.taken ++ Took t ∷ [])
+
+-- a token with its meaning
+abbrev pub seen_in : TexState → Token → Seen
+seen_in s t = record { token = t; meaning = token_meaning s.table.table t }
 
 -- what comes of what the input gives next. Where a line is used up the next one is asked for, or behind \endinput the file
 -- is closed; nothing puts a marker into the input, and one would be passed over
 abbrev pub read : TexState → Next → Outcome
-read s (Next_token t) = taking s t
+read s (Next_token t) = taking s (seen_in s t)
+read s (Next_held t) = taking s (held (seen_in s t))
 read s Marker = leaves s
 read s (Used false) = Asks Line s
 read s (Used true) = Asks Close s

@@ -3,6 +3,7 @@ ghost use Rattle.std.specs.Prelude.{◌≡◌, ◌∷◌, IfOk, OnOk};
 ghost use Rattle.tx_machine.specs.Machine.{kind_of, Ready};
 ghost use Rattle.tx_pending.specs.Elements.{step as next_of};
 ghost use Rattle.tx_prim.specs.declared.integer.IntegerParameter.TheVariants.{Mag};
+ghost use Rattle.tx_seen.specs.Seen.{held};
 ghost use Rattle.tx_ship.specs.Pages.{IsMag};
 ghost use Rattle.tx_main.specs.Pages.{integer as magnification_in, page_of};
 ghost use Rattle.tx_main.specs.State.{Runs, mode_of};
@@ -35,18 +36,42 @@ fn ask(s: &mut State, kind: AskKind, ask: Ask) -> Event
     Event::Asks(ask)
 }
 
-/// A token joins the open command.
-fn take(alloc: Global, s: &mut State, token: Token) -> Result<Event, AllocError>
-    requires { s.old.phase ≡ Phase.Running }
-    ensures { IfOk result (λ event. IsStepped (turns.taking (state_of s.old) token) s.old event s.new) }
+/// A token with its meaning. Its only error is that no more owners of a macro can be counted.
+fn seen_in(s: &State, token: Token) -> Result<Seen, AllocError>
+    ensures { IfOk result (λ seen. seen ≡ turns.seen_in (state_of s.now) token) }
 {
     let meaning = s.table.meaning(&token)?;
-    let seen = Seen { token, meaning };
+    Ok(Seen { token, meaning })
+}
+
+/// A token joins the open command.
+fn take(alloc: Global, s: &mut State, seen: Seen) -> Result<Event, AllocError>
+    requires { s.old.phase ≡ Phase.Running }
+    ensures { IfOk result (λ event. IsStepped (turns.taking (state_of s.old) seen) s.old event s.new) }
+{
     match s.scan.feed(&s.table, &mut s.input, seen)? {
         Taken::More => Ok(Event::Went),
         Taken::Wrong(error) => Ok(fail(s, error)),
         Taken::Whole(command) => carry_out(alloc, s, command),
     }
+}
+
+/// A token joins the open command with its meaning.
+fn take_token(alloc: Global, s: &mut State, token: Token) -> Result<Event, AllocError>
+    requires { s.old.phase ≡ Phase.Running }
+    ensures { IfOk result (λ event. IsStepped (turns.taking (state_of s.old) (turns.seen_in (state_of s.old) token)) s.old event s.new) }
+{
+    let seen = seen_in(s, token)?;
+    take(alloc, s, seen)
+}
+
+/// So does one that \noexpand holds.
+fn take_held(alloc: Global, s: &mut State, token: Token) -> Result<Event, AllocError>
+    requires { s.old.phase ≡ Phase.Running }
+    ensures { IfOk result (λ event. IsStepped (turns.taking (state_of s.old) (held (turns.seen_in (state_of s.old) token))) s.old event s.new) }
+{
+    let seen = seen_in(s, token)?;
+    take(alloc, s, seen.held())
 }
 
 /// Reads the next token, or asks for the next line, or for the file to be closed.
@@ -55,7 +80,8 @@ fn read(alloc: Global, s: &mut State) -> Result<Event, AllocError>
     ensures { IfOk result (λ event. IsStepped (turns.reads (state_of s.old) (next_of s.old.table.table.categories s.old.input)) s.old event s.new) }
 {
     match s.input.next(alloc, s.table.categories())? {
-        Next::Token(token) => take(alloc, s, token),
+        Next::Token(token) => take_token(alloc, s, token),
+        Next::Held(token) => take_held(alloc, s, token),
         Next::Marker => Ok(Event::Went),
         Next::Used { close: false } => Ok(ask(s, AskKind::Line, Ask::Line)),
         Next::Used { close: true } => Ok(ask(s, AskKind::Close, Ask::Close)),
