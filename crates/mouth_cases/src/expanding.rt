@@ -1,6 +1,4 @@
 //! A pending text whose conditionals are carried out.
-ghost use Rattle.std.specs.Prelude.{IsTrue};
-ghost use Rattle.tx_cond.specs.Conditionals.{has_test};
 
 use crate::input::Input;
 use crate::numbers::{behind_number, number, write_error};
@@ -92,7 +90,6 @@ fn decide(
     value: i64,
     first: i64,
 ) -> Result<Option<TexError>, AllocError>
-    requires { IsTrue (has_test «open».old) }
 {
     open.decide(value);
     if value == first {
@@ -107,7 +104,6 @@ fn begin_case(
     open: &mut CondStack,
     input: &mut Input,
 ) -> Result<Option<TexError>, AllocError>
-    requires { IsTrue (has_test «open».old) }
 {
     let mut last = None;
     match number(alloc, input, &mut last)? {
