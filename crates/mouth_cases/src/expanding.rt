@@ -1,6 +1,4 @@
 //! A pending text whose conditionals are carried out.
-ghost use Rattle.std.specs.Prelude.{IsTrue};
-ghost use Rattle.tx_cond.specs.Conditionals.{has_test};
 
 use crate::input::Input;
 use crate::numbers::{behind_number, number, write_error};
@@ -91,9 +89,7 @@ fn decide(
     input: &mut Input,
     value: i64,
     first: i64,
-) -> Result<Option<TexError>, AllocError>
-    requires { IsTrue (has_test «open».old) }
-{
+) -> Result<Option<TexError>, AllocError> {
     open.decide(value);
     if value == first {
         return Ok(None);
@@ -106,9 +102,7 @@ fn begin_case(
     alloc: Global,
     open: &mut CondStack,
     input: &mut Input,
-) -> Result<Option<TexError>, AllocError>
-    requires { IsTrue (has_test «open».old) }
-{
+) -> Result<Option<TexError>, AllocError> {
     let mut last = None;
     match number(alloc, input, &mut last)? {
         Fed::Done(branch, back) => {

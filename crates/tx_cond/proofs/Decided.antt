@@ -1,10 +1,10 @@
 -- The innermost test, found from the inside, and the conditionals within it.
-use Rattle.std.proofs.Common.{◌≡◌, ℕ, suc, ◌+◌, ◌<◌, Bool, true, false, ℤ, IsTrue, List, [], ◌∷◌, ◌++◌, length, take, drop, get_or, set, refl, sym, ◌∙◌, ap, arith, add-one, drop-cons}
+use Rattle.std.proofs.Common.{◌≡◌, ℕ, zero, suc, ◌+◌, ◌<◌, ◌≤◌, true, false, ℤ, List, [], ◌∷◌, ◌++◌, length, take, drop, get_or, set, refl, sym, ◌∙◌, ap, arith, add-one, drop-cons}
 use Rattle.std.proofs.Math.Seq.{take-suc}
 use Rattle.std.proofs.lemmas.List.{take-set, drop-set}
 use Rattle.tx_cond.specs.declared.types.Conditional.{Conditional}
 use Rattle.tx_cond.specs.declared.types.Conditional.TheVariants.{Testing, AwaitingOr, AwaitingElse, Live, Ending, LastBranch}
-use Rattle.tx_cond.specs.Conditionals.{is_test, has_test, skips, is_skipped, within, within_all, decide}
+use Rattle.tx_cond.specs.Conditionals.{is_test, skips, is_skipped, within, within_all, decide}
 
 pub decide-inner : (branch : ℤ) (c : Conditional) (outer : List Conditional) → is_test c ≡ false → decide branch (c ∷ outer) ≡ within c (decide branch outer)
 decide-inner branch (Testing cases) outer h = cc
@@ -26,38 +26,31 @@ search-on branch xs place c i at e h =
     ∙ sym (within_all-push (take place xs) c (decide branch (drop (suc place) xs)))
     ∙ rw (add-one, take-suc xs place c, ← at) refl
 
-has-test-rest : (c : Conditional) (outer : List Conditional) → is_test c ≡ false → IsTrue (has_test (c ∷ outer)) → IsTrue (has_test outer)
-has-test-rest (Testing cases) outer e h = cc
-has-test-rest (AwaitingOr others) outer e h = h
-has-test-rest (AwaitingElse cases) outer e h = h
-has-test-rest (Live cases) outer e h = h
-has-test-rest Ending outer e h = h
-has-test-rest LastBranch outer e h = h
+pub skipped-at : (xs : List Conditional) (i : ℕ) (d : Conditional) → i < length xs → d ≡ get_or xs i d → skips d ≡ is_skipped (drop i xs)
+skipped-at xs i d l at = rw (drop-cons xs i d, ← at) refl
 
-pub has-test-on : (xs : List Conditional) (place : ℕ) (c : Conditional) → place < length xs → c ≡ get_or xs place c → is_test c ≡ false → IsTrue (has_test (drop place xs)) → IsTrue (has_test (drop (place + 1) xs))
-has-test-on xs place c i at e h = rw add-one (has-test-rest c (drop (suc place) xs) e (rw (drop-cons xs place c, ← at) at h))
-
-skipped-at : (xs : List Conditional) (i : ℕ) (d : Conditional) (b : Bool) → i < length xs → d ≡ get_or xs i d → skips d ≡ b → is_skipped (drop i xs) ≡ b
-skipped-at xs i d b l at e = rw (drop-cons xs i d, ← at) e
+pub skipped-past : (xs : List Conditional) (i : ℕ) → length xs ≤ i → is_skipped (drop i xs) ≡ false
+skipped-past [] zero l = refl
+skipped-past [] (suc i) l = refl
+skipped-past (c ∷ xs) zero l = absurd (omega (arith, l))
+skipped-past (c ∷ xs) (suc i) l = skipped-past xs i (omega (arith, l))
 
 within-next : (xs : List Conditional) (k : ℕ) (d : Conditional) → k < length xs → within_all (take (k + 1) xs) (drop (k + 1) xs) ≡ within_all (take k xs) (within (get_or xs k d) (drop (k + 1) xs))
 within-next xs k d l = rw (add-one, take-suc xs k d) (within_all-push (take k xs) (get_or xs k d) (drop (suc k) xs))
 
-pass-skipped-suc : (xs : List Conditional) (k : ℕ) (d : Conditional) → k + 1 < length xs → d ≡ get_or xs (k + 1) d → skips d ≡ true → within_all (take k (set xs k Ending)) (drop k (set xs k Ending)) ≡ within_all (take (k + 1) xs) (drop (k + 1) xs)
-pass-skipped-suc xs k d l at e =
-    let m : k < length xs = omega arith in
+pass-skipped-suc : (xs : List Conditional) (k : ℕ) → k < length xs → is_skipped (drop (k + 1) xs) ≡ true → within_all (take k (set xs k Ending)) (drop k (set xs k Ending)) ≡ within_all (take (k + 1) xs) (drop (k + 1) xs)
+pass-skipped-suc xs k l e =
     rw (take-set xs k Ending, drop-set xs k Ending)
-    (sym (within-next xs k d m ∙ rw (skipped-at xs (k + 1) d true l at e) refl))
+    (sym (within-next xs k Ending l ∙ rw e refl))
 
 -- the step that passes over one more conditional, and the one that leaves it
-pub pass-skipped : (xs : List Conditional) (k i : ℕ) (d : Conditional) → i ≡ k + 1 → i < length xs → d ≡ get_or xs i d → skips d ≡ true → within_all (take k (set xs k Ending)) (drop k (set xs k Ending)) ≡ within_all (take i xs) (drop i xs)
-pass-skipped xs k i d is l at e = rw is (pass-skipped-suc xs k d (rw is at l) (rw is at at) e)
+pub pass-skipped : (xs : List Conditional) (k i : ℕ) → i ≡ k + 1 → i ≤ length xs → is_skipped (drop i xs) ≡ true → within_all (take k (set xs k Ending)) (drop k (set xs k Ending)) ≡ within_all (take i xs) (drop i xs)
+pass-skipped xs k i is l e = rw is (pass-skipped-suc xs k (omega (arith, is, l)) (rw is at e))
 
-pass-live-suc : (xs : List Conditional) (k : ℕ) (d : Conditional) → k + 1 < length xs → d ≡ get_or xs (k + 1) d → skips d ≡ false → within_all (take k xs) (drop k xs) ≡ within_all (take (k + 1) xs) (drop (k + 1) xs)
-pass-live-suc xs k d l at e =
-    let m : k < length xs = omega arith in
-    rw (drop-cons xs k d, ← add-one)
-    (sym (within-next xs k d m ∙ rw (skipped-at xs (k + 1) d false l at e) refl))
+pass-live-suc : (xs : List Conditional) (k : ℕ) → k < length xs → is_skipped (drop (k + 1) xs) ≡ false → within_all (take k xs) (drop k xs) ≡ within_all (take (k + 1) xs) (drop (k + 1) xs)
+pass-live-suc xs k l e =
+    rw (drop-cons xs k Ending, ← add-one)
+    (sym (within-next xs k Ending l ∙ rw e refl))
 
-pub pass-live : (xs : List Conditional) (k i : ℕ) (d : Conditional) → i ≡ k + 1 → i < length xs → d ≡ get_or xs i d → skips d ≡ false → within_all (take k xs) (drop k xs) ≡ within_all (take i xs) (drop i xs)
-pass-live xs k i d is l at e = rw is (pass-live-suc xs k d (rw is at l) (rw is at at) e)
+pub pass-live : (xs : List Conditional) (k i : ℕ) → i ≡ k + 1 → i ≤ length xs → is_skipped (drop i xs) ≡ false → within_all (take k xs) (drop k xs) ≡ within_all (take i xs) (drop i xs)
+pass-live xs k i is l e = rw is (pass-live-suc xs k (omega (arith, is, l)) (rw is at e))

@@ -1,5 +1,5 @@
 -- The open conditionals, innermost first (TeX: The Program, sections 487 to 510; The TeXbook, chapter 20).
-use Rattle.std.specs.Prelude.{zero, suc, ◌++◌, ◌||◌, Bool, true, false, ℤ, pos, negsuc, List, [], ◌∷◌, Option, Some, None, if◌then◌else◌}
+use Rattle.std.specs.Prelude.{zero, suc, ◌++◌, Bool, true, false, ℤ, pos, negsuc, List, [], ◌∷◌, Option, Some, None, if◌then◌else◌}
 use Rattle.tx_prim.specs.declared.expandable.CondWord.{CondWord}
 use Rattle.tx_prim.specs.declared.expandable.CondWord.TheVariants.{Else, Or, Fi}
 use Rattle.tx_cond.specs.declared.types.Meet.{Meet}
@@ -11,11 +11,6 @@ use Rattle.tx_cond.specs.declared.types.Conditional.TheVariants.{Testing, Awaiti
 abbrev pub is_test : Conditional → Bool
 is_test (Testing cases) = true
 is_test _ = false
-
--- whether a test is being scanned
-abbrev pub has_test : List Conditional → Bool
-has_test [] = false
-has_test (c ∷ outer) = is_test c || has_test outer
 
 -- whether the innermost of these is one
 abbrev pub begins_with_test : List Conditional → Bool

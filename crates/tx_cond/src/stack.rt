@@ -1,7 +1,7 @@
 //! The list of open conditionals.
-ghost use Rattle.std.specs.Prelude.{◌≡◌, ◌↔◌, ◌<◌, ◌∷◌, [], List, Some, None, take, drop, length, ℤ, IsTrue, IfOk, IfErr, OnOk, OnErr};
+ghost use Rattle.std.specs.Prelude.{◌≡◌, ◌↔◌, ◌<◌, ◌≤◌, ◌∷◌, [], List, Some, None, take, drop, length, ℤ, IsTrue, IfOk, IfErr, OnOk, OnErr};
 ghost use Rattle.tx_cond.specs.declared.types.Conditional.{Conditional};
-ghost use Rattle.tx_cond.specs.Conditionals.{begins_with_test, decide, has_test, meeting, met, within_all};
+ghost use Rattle.tx_cond.specs.Conditionals.{begins_with_test, decide, is_skipped, meeting, met, within_all};
 
 use crate::types::{Conditional, Meet};
 use std::alloc::{AllocError, Global};
@@ -46,14 +46,15 @@ impl CondStack {
     }
 
     /// The innermost test that is being scanned has this value: for an \if.. 0 is false and all else true, an \ifcase
-    /// takes the branch of this number.
+    /// takes the branch of this number. Where no test is scanned none gets it.
     pub fn decide(&mut self, branch: i64)
-        requires { IsTrue (has_test self.old) }
         ensures { self.new ≡ decide branch self.old }
     {
         let place = innermost_test(&self.open);
-        if let Conditional::Testing { cases } = self.open[place] {
-            self.open[place] = Conditional::with_value(cases, branch);
+        if place < self.open.len() {
+            if let Conditional::Testing { cases } = self.open[place] {
+                self.open[place] = Conditional::with_value(cases, branch);
+            }
         }
         pass_over_inner(&mut self.open, place);
     }
@@ -78,6 +79,16 @@ impl CondStack {
             }
         }
         Ok(self.how_to_go_on())
+    }
+
+    /// Whether text is skipped.
+    pub fn is_skipping(&self) -> bool
+        ensures { result ≡ is_skipped self.now }
+    {
+        match self.open.front() {
+            Some(innermost) => innermost.is_skipping(),
+            None => false,
+        }
     }
 
     /// Whether the text is read or skipped.
@@ -107,11 +118,10 @@ impl CondStack {
     }
 }
 
-/// The place of the innermost test that is being scanned.
+/// The place of the innermost test that is being scanned; the end where there is none.
 fn innermost_test(conditionals: &VecDeque<Conditional>) -> usize
-    requires { IsTrue (has_test conditionals.now.items) }
-    ensures place { result < length conditionals.now.items }
-    ensures test { IsTrue (begins_with_test (drop result conditionals.now.items)) }
+    ensures place { result ≤ length conditionals.now.items }
+    ensures test { result < length conditionals.now.items → IsTrue (begins_with_test (drop result conditionals.now.items)) }
     ensures inner { (branch : ℤ) → decide branch conditionals.now.items ≡ within_all (take result conditionals.now.items) (decide branch (drop result conditionals.now.items)) }
 {
     for place in 0..conditionals.len() {
@@ -119,21 +129,28 @@ fn innermost_test(conditionals: &VecDeque<Conditional>) -> usize
             return place;
         }
     }
-    unreachable!()
+    conditionals.len()
 }
 
 /// Where text is skipped at this place, so it is in the conditionals before it.
 fn pass_over_inner(conditionals: &mut VecDeque<Conditional>, place: usize)
-    requires { place < length conditionals.old.items }
+    requires { place ≤ length conditionals.old.items }
     ensures { conditionals.new.items ≡ within_all (take place conditionals.old.items) (drop place conditionals.old.items) }
 {
     let mut inner = place;
     while inner > 0 {
         inner -= 1;
-        if conditionals[inner + 1].is_skipping() {
+        if is_skipping_from(conditionals, inner + 1) {
             conditionals[inner] = Conditional::Ending;
         }
     }
+}
+
+/// Whether text is skipped within the conditionals from this place on.
+fn is_skipping_from(conditionals: &VecDeque<Conditional>, place: usize) -> bool
+    ensures { result ≡ is_skipped (drop place conditionals.now.items) }
+{
+    place < conditionals.len() && conditionals[place].is_skipping()
 }
 
 /// Whether both lists have the same conditionals.

@@ -32,7 +32,8 @@ impl TestScan {
     /// Begins a test, in this mode, whatever was read before. The answer is what reading gives of nothing: some tests take
     /// nothing, and have their value at once.
     pub fn begin(&mut self, kind: Test, mode: Mode) -> Fed<i64>
-        ensures { Answers (test kind mode) (HasTaken kind mode) [] self.new result }
+        ensures answer { Answers (test kind mode) (HasTaken kind mode) [] self.new result }
+        ensures none { more_needed self.new ≡ 0 }
     {
         self.integer.restart();
         match kind {

@@ -116,7 +116,7 @@ fn begun_by_sign(code: u8, meaning: &Meaning) -> Beginning
 }
 
 /// What a token begins.
-pub(crate) fn beginning(token: &Seen) -> Beginning
+pub fn beginning(token: &Seen) -> Beginning
     ensures { result ≡ spec.beginning token.now }
 {
     if let Some(digit) = digit(Radix::Decimal, token) {

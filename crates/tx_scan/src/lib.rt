@@ -25,9 +25,10 @@ mod scans;
 mod spellings;
 mod supplying;
 
+pub use beginnings::beginning;
 pub use file_name::input_name;
 pub use integer::byte;
 pub use laws::integers_are_read_from_the_left;
-pub use scans::{BraceScan, DimenScan, EqualsScan, IntScan, KeyScan, NameScan};
+pub use scans::{Beginning, BraceScan, DimenScan, EqualsScan, IntScan, KeyScan, NameScan};
 pub use spellings::{ControlNameScan, FileNameScan};
 pub use supplying::{Needs, supply};

@@ -1,0 +1,12 @@
+use Rattle.std.proofs.Common.{◌≡◌, ◌∙◌, sym, rules, Some}
+use Rattle.tx_expand.specs.Turns.{held_back}
+use Rattle.tx_expand.proofs.Releasing.{one-released}
+use Rattle.tx_expand.proofs.expanding.release.Goals as goal
+
+pub loop-token-preserved : goal.loop-token-preserved
+loop-token-preserved c =
+    let held : held_back c.loop-token.begun.items ≡ Some c.in-Some.token = sym c.in_ok-token.ensures ∙ c.in-Some.is in
+    λ conditionals job.
+    one-released c.loop-token.begun.items c.pop_front.new.self.items c.in-Some.token c.loop-token.input c.give_back.new.self conditionals job held
+    c.pop_front.ensures.rest (search rules)
+    ∙ c.loop-token.invariant conditionals job

@@ -1,0 +1,7 @@
+use Rattle.tx_expand.proofs.state.Open.convert.Goals as goal
+
+pub returns-in-Number : goal.returns-in-Number
+returns-in-Number c = λ mode text token. rw c.in-Number.is (c.scan.ensures mode)
+
+pub returns-in-RomanNumeral : goal.returns-in-RomanNumeral
+returns-in-RomanNumeral c = λ mode text token. rw c.in-RomanNumeral.is (c.scan-in-RomanNumeral.ensures mode)

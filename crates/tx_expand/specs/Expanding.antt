@@ -1,0 +1,28 @@
+-- What the expander keeps beside the input, and what the table tells it.
+use Rattle.std.specs.Prelude.{ℕ, Option, List}
+use Rattle.tx_pending.specs.Elements.{Input}
+use Rattle.tx_prim.specs.declared.integer.IntegerParameter.TheVariants.{Escapechar}
+use Rattle.tx_prim.specs.declared.modes.Mode.{Mode}
+use Rattle.tx_seen.specs.declared.place.Place.TheVariants.{Integer}
+use Rattle.tx_scan.specs.Integers.{byte_of}
+use Rattle.tx_eqtb.specs.declared.eqtb.Eqtb.{Eqtb}
+use Rattle.tx_eqtb.specs.Quantities.{value_in}
+use Rattle.tx_eqtb.specs.Table.{number_at, token_meaning}
+use Rattle.tx_cond.specs.declared.types.Conditional.{Conditional}
+use Rattle.tx_expand.specs.declared.begun.Begun.{Begun}
+use Rattle.tx_expand.specs.declared.state.Open.{Open}
+use Rattle.tx_expand.specs.Reader.{World, Reader}
+
+-- the input, and what is open beside it
+abbrev pub reader : List Begun → Input → List Conditional → List ℕ → Reader
+reader begun input conditionals job = record { input = input; begun = begun; conditionals = conditionals; job = job }
+
+abbrev pub reader_of : Open → Input → Reader
+reader_of e input = reader e.begun.items input e.conditionals e.job
+
+-- \escapechar is the escape character where it is a character's code (section 243)
+abbrev pub escape_of : Eqtb → Option ℕ
+escape_of e = byte_of (number_at e.table (Integer Escapechar))
+
+abbrev pub world_of : Eqtb → Mode → World
+world_of e mode = record { meaning = token_meaning e.table; value = value_in e; codes = e.table.categories; escape = escape_of e; mode = mode }

@@ -1,0 +1,9 @@
+pub mod Scans
+pub mod Parts
+pub mod Mapped
+pub mod Uses
+pub mod Steps
+pub mod Reader
+pub mod Turns
+pub mod Taken
+pub mod Expanding

@@ -1,0 +1,319 @@
+-- One turn: a token is read, and what comes of it before another one is needed (TeX: The Program, sections 366 to 380).
+use Rattle.std.specs.Prelude.{◌≡◌, ℕ, suc, Bool, true, false, not, ◌&&◌, ◌||◌, Option, None, Some, List, [], ◌∷◌, ◌++◌, length, ℤ, if◌then◌else◌}
+use Rattle.tx_char.specs.declared.tokens.Token.{Token}
+use Rattle.tx_char.specs.declared.tokens.Token.TheVariants as token
+use Rattle.tx_toklist.specs.Bodies.{filled}
+use Rattle.tx_toklist.specs.Macros.{Definition, Parameters}
+use Rattle.tx_pending.specs.declared.next.Next.{Next}
+use Rattle.tx_pending.specs.declared.next.Next.TheVariants as front
+use Rattle.tx_pending.specs.Elements.{Step, step, with_close, with_held, with_tokens}
+use Rattle.tx_prim.specs.declared.expandable.Conversion.TheVariants as conversion
+use Rattle.tx_prim.specs.declared.expandable.Expandable.{Expandable}
+use Rattle.tx_prim.specs.declared.expandable.Expandable.TheVariants as expandable
+use Rattle.tx_prim.specs.declared.expandable.Test.{Test}
+use Rattle.tx_prim.specs.declared.expandable.Test.TheVariants as tests
+use Rattle.tx_seen.specs.declared.error.TexError.{TexError}
+use Rattle.tx_seen.specs.declared.error.TexError.TheVariants.{Undefined, InvalidCharacter, ExtraConditionalWord, IncompleteConditional, IncompleteText}
+use Rattle.tx_seen.specs.declared.fed.Want.{Want}
+use Rattle.tx_seen.specs.declared.fed.Want.TheVariants.{Raw, Expanded}
+use Rattle.tx_seen.specs.declared.fed.Value.{Value}
+use Rattle.tx_seen.specs.declared.item.Item.{Item}
+use Rattle.tx_seen.specs.declared.item.Item.TheVariants.{Took}
+use Rattle.tx_seen.specs.declared.meaning.Meaning.{Meaning}
+use Rattle.tx_seen.specs.declared.meaning.Meaning.TheVariants as meaning
+use Rattle.tx_seen.specs.declared.place.Place.{Place}
+use Rattle.tx_seen.specs.declared.seen.Seen.{Seen}
+use Rattle.tx_seen.specs.Seen.{held}
+use Rattle.tx_seen.specs.Readings.{Reading, More, Need, Done, Wrong}
+use Rattle.tx_scan.specs.Supplied.{supplied}
+use Rattle.tx_cond.specs.declared.types.Conditional.{Conditional}
+use Rattle.tx_cond.specs.declared.types.Conditional.TheVariants.{Testing}
+use Rattle.tx_cond.specs.declared.types.Meet.{Meet}
+use Rattle.tx_cond.specs.declared.types.Meet.TheVariants as meet
+use Rattle.tx_cond.specs.Skipping.{Passing, Inside, Ended, Refused, item_of, passing}
+use Rattle.tx_cond.specs.Conditionals.{Met, decide, is_skipped, meeting}
+use Rattle.tx_macro.specs.Matching as macro
+use Rattle.tx_convert.specs.Jobs.{job_name}
+use Rattle.tx_convert.specs.Meanings.{meaning_text}
+use Rattle.tx_convert.specs.Texts.{as_tokens, string_text}
+use Rattle.tx_expand.specs.declared.begun.Begun.{Begun}
+use Rattle.tx_expand.specs.declared.begun.Begun.TheVariants as begun
+use Rattle.tx_expand.specs.declared.types.Expanded.{Expanded as Answer}
+use Rattle.tx_expand.specs.declared.types.Expanded.TheVariants as answer
+use Rattle.tx_expand.specs.declared.types.Made.{Made}
+use Rattle.tx_expand.specs.declared.types.Made.TheVariants as made
+use Rattle.tx_expand.specs.declared.types.Printed.{Printed}
+use Rattle.tx_expand.specs.declared.types.Printed.TheVariants as printed
+use Rattle.tx_expand.specs.declared.types.Scanned.{Scanned}
+use Rattle.tx_expand.specs.declared.types.Scanned.TheVariants as scanned
+use Rattle.tx_expand.specs.declared.types.Wanted.{Wanted}
+use Rattle.tx_expand.specs.Reader.{World, Reader, Turn, Goes, Fails}
+use Rattle.tx_expand.specs.Scans.{Scan, reading, tokens_of}
+use Rattle.tx_expand.specs.Uses.{Use, comes_to, with_taken}
+
+abbrev pub with_begun : List Begun → Reader → Reader
+with_begun begun r = record { input = r.input; begun = begun; conditionals = r.conditionals; job = r.job }
+
+abbrev pub with_conditionals : List Conditional → Reader → Reader
+with_conditionals conditionals r = record { input = r.input; begun = r.begun; conditionals = conditionals; job = r.job }
+
+-- tokens stand in front
+abbrev pub put : List Token → Reader → Reader
+put tokens r = record { input = with_tokens r.input tokens; begun = r.begun; conditionals = r.conditionals; job = r.job }
+
+-- so does one that \noexpand holds: where it is read again at once, it isn't expanded (section 369)
+abbrev pub put_held : Token → Reader → Reader
+put_held t r = record { input = with_held r.input t; begun = r.begun; conditionals = r.conditionals; job = r.job }
+
+-- \endinput: the file ends with its line (section 378)
+abbrev pub put_close : Reader → Reader
+put_close r = record { input = with_close r.input; begun = r.begun; conditionals = r.conditionals; job = r.job }
+
+-- one begins within those that have begun
+abbrev pub begins : Begun → Reader → Turn
+begins b r = Goes answer.Went (with_begun (b ∷ r.begun) r)
+
+-- an expansion within these has ended: what \expandafter held back before it comes in front, innermost first (section 368)
+abbrev pub released_within : List Begun → Reader → Reader
+released_within [] r = with_begun [] r
+released_within (begun.Before t ∷ outer) r = released_within outer (put (t ∷ []) (with_begun outer r))
+released_within (b ∷ outer) r = with_begun (b ∷ outer) r
+
+-- the token that the innermost expansion holds back
+abbrev pub held_back : List Begun → Option Token
+held_back (begun.Before t ∷ outer) = Some t
+held_back other = None
+
+abbrev pub released : Reader → Reader
+released r = released_within r.begun r
+
+abbrev pub ended : Reader → Turn
+ended r = Goes answer.Went (released r)
+
+-- the same, and these tokens stand in its place
+abbrev pub replaced : List Token → Reader → Turn
+replaced tokens r = ended (put tokens r)
+
+-- a word of the innermost conditional: while its test is read TeX puts a \relax in before the word, which is read again; else text
+-- is skipped from there on, or read (sections 379 and 510)
+abbrev pub met_word : Token → Reader → Option Met → Turn
+met_word t r None = Fails ExtraConditionalWord
+met_word t r (Some met) = by met.answer (with_conditionals met.stack r)
+  where
+    by : Meet → Reader → Turn
+    by meet.Relax behind = replaced (token.FrozenRelax ∷ t ∷ []) behind
+    by meet.Skip behind = begins (begun.Skipping 0) behind
+    by meet.Closed behind = ended behind
+
+-- the innermost test has this value: its branch is read, or text is skipped (section 498)
+abbrev pub decided : ℤ → Reader → Turn
+decided value r =
+    let conditionals : List Conditional = decide value r.conditionals in
+    if is_skipped conditionals then begins (begun.Skipping 0) (with_conditionals conditionals r) else ended (with_conditionals conditionals r)
+
+-- a name that has no meaning means \relax from now on (section 372)
+abbrev pub named : List ℕ → Meaning → Reader → Turn
+named name meaning.Undefined r = Goes (answer.Relaxes name) r
+named name other r = Goes answer.Went r
+
+-- what comes of what was read
+abbrev pub come : World → Made → Reader → Turn
+come w (made.Puts tokens) r = replaced tokens r
+come w (made.Gives tokens) r = Goes (answer.Text tokens) (released r)
+come w (made.Names name) r = named name (w.meaning (token.Name name)) (released (put (token.Name name ∷ []) r))
+come w (made.Decides value) r = decided value r
+come w (made.Opens name) r = Goes (answer.Asks name) (with_begun (begun.Opening ∷ r.begun) r)
+
+-- these items come to that; what wasn't needed of them is read again
+abbrev pub read_on : World → Scan → Reader → Reading Made → Turn
+read_on w scan r (More want) = begins (begun.Scanning scan) r
+read_on w scan r (Need kind) = begins (begun.Scanning scan) r
+read_on w scan r (Done made back) = come w made (put (tokens_of back) r)
+read_on w scan r (Wrong error) = Fails error
+
+-- an expansion reads these items
+abbrev pub reads : World → Scanned → List Item → Reader → Turn
+reads w what items r = read_on w (record { what = what; taken = items }) r (reading what items)
+
+-- a token joins them, and so do the values that are needed behind it
+abbrev pub joined : (Place → Value) → Scan → Seen → List Item
+joined at scan t = supplied (suc (length (scan.taken ++ Took t ∷ []))) at (reading scan.what) (scan.taken ++ Took t ∷ [])
+
+-- a token joins the use of a macro (section 389)
+abbrev pub use_on : Use → Reader → macro.Use → Turn
+use_on u r macro.Open = begins (begun.Use u) r
+use_on u r (macro.Fits arguments) = replaced (filled u.definition.body arguments) r
+use_on u r (macro.Fails error) = Fails error
+
+-- a token joins skipped text, of which it makes this (section 494)
+abbrev pub skips_on : Token → Reader → Passing → Turn
+skips_on t r (Inside depth) = begins (begun.Skipping depth) r
+skips_on t r (Ended word) = met_word t r (meeting r.conditionals word)
+skips_on t r (Refused error) = Fails error
+
+-- what is printed of a token (section 472)
+abbrev pub text_of : World → Printed → Seen → List ℕ
+text_of w printed.Token t = string_text w.escape t.token
+text_of w printed.Meaning t = meaning_text w.escape w.codes t.meaning
+
+-- an expansion takes a token within those around it
+abbrev pub given_by : World → Seen → Reader → Begun → Turn
+given_by w t r (begun.Use u) = use_on (with_taken u t.token) r (comes_to (with_taken u t.token))
+given_by w t r begun.After = begins (begun.Before t.token) r
+given_by w t r (begun.Before held) = replaced (held ∷ t.token ∷ []) r
+given_by w t r begun.Hold = ended (put_held t.token r)
+given_by w t r (begun.Print what) = replaced (as_tokens (text_of w what t)) r
+given_by w t r (begun.Scanning scan) = reads w scan.what (joined w.value scan t) r
+given_by w t r (begun.Skipping depth) = skips_on t.token r (passing depth (item_of t.meaning))
+given_by w t r begun.Opening = begins begun.Opening r
+
+-- the innermost expansion takes a token, or the caller does
+abbrev pub given_to : World → Seen → Reader → List Begun → Turn
+given_to w t r [] = Goes (answer.Got t) r
+given_to w t r (b ∷ outer) = given_by w t (with_begun outer r) b
+
+-- whether the tokens of \the belong to the text that the caller takes: where nothing else has begun (section 478)
+abbrev pub for_text : Bool → List Begun → Bool
+for_text text [] = text
+for_text text (b ∷ outer) = false
+
+-- whether a file's name is being read: an \input there ends it (section 378)
+abbrev pub reads_file : Scanned → Bool
+reads_file scanned.File = true
+reads_file other = false
+
+abbrev pub finds : Begun → Bool
+finds (begun.Scanning scan) = reads_file scan.what
+finds other = false
+
+abbrev pub is_finding : List Begun → Bool
+is_finding [] = false
+is_finding (b ∷ outer) = finds b || is_finding outer
+
+abbrev pub is_case : Test → Bool
+is_case tests.Case = true
+is_case other = false
+
+-- the expansion of a primitive, whose token is this (section 367)
+abbrev pub expands : World → Bool → Token → Reader → Expandable → Turn
+expands w text t r expandable.ExpandAfter = begins begun.After r
+expands w text t r expandable.NoExpand = begins begun.Hold r
+expands w text t r expandable.CsName = reads w scanned.Name [] r
+expands w text t r (expandable.Convert conversion.Number) = reads w scanned.Number [] r
+expands w text t r (expandable.Convert conversion.RomanNumeral) = reads w scanned.Roman [] r
+expands w text t r (expandable.Convert conversion.Token) = begins (begun.Print printed.Token) r
+expands w text t r (expandable.Convert conversion.Meaning) = begins (begun.Print printed.Meaning) r
+expands w text t r (expandable.Convert conversion.JobName) = replaced (as_tokens (job_name r.job)) r
+expands w text t r expandable.The = reads w (scanned.Quantity (for_text text r.begun)) [] r
+expands w text t r expandable.Input = if is_finding r.begun then replaced (token.FrozenRelax ∷ t ∷ []) r else reads w scanned.File [] r
+expands w text t r expandable.EndInput = ended (put_close r)
+expands w text t r (expandable.Test test) = reads w (scanned.Test test w.mode) [] (with_conditionals (Testing (is_case test) ∷ r.conditionals) r)
+expands w text t r (expandable.Word word) = met_word t r (meeting r.conditionals word)
+
+-- whether a parameter text is empty
+abbrev pub is_bare : Parameters → Bool
+is_bare p = is_none p.before && is_none p.delimiters
+  where
+    is_none : {A : Type 0} → List A → Bool
+    is_none [] = true
+    is_none (x ∷ xs) = false
+
+-- a macro without anything in its parameter text is its body; the others take their arguments (section 389)
+abbrev pub uses : Definition → Reader → Turn
+uses m r = if is_bare m.parameters then replaced (filled m.body []) r else begins (begun.Use (record { definition = m; taken = [] })) r
+
+-- the expansion of a token that means this; what isn't expanded is taken
+abbrev pub expanded : World → Bool → Seen → Reader → Meaning → Turn
+expanded w text t r meaning.Undefined = Fails Undefined
+expanded w text t r (meaning.Expandable e) = expands w text t.token r e
+expanded w text t r (meaning.Macro m) = uses m r
+expanded w text t r other = given_to w t r r.begun
+
+abbrev pub is_expanding : Want → Bool
+is_expanding Raw = false
+is_expanding Expanded = true
+
+-- how the next token is wanted by the innermost expansion, or by the caller: what \expandafter waits for is expanded
+abbrev pub want_of : Reading Made → Want
+want_of (More want) = want
+want_of other = Raw
+
+abbrev pub wanted_by : Wanted → List Begun → Want
+wanted_by wanted [] = wanted.want
+wanted_by wanted (begun.Before t ∷ outer) = Expanded
+wanted_by wanted (begun.Scanning scan ∷ outer) = want_of (reading scan.what scan.taken)
+wanted_by wanted (b ∷ outer) = Raw
+
+-- the error at an \outer macro and where a file ends: text is skipped, or an argument or a text is taken (sections 336 and 338);
+-- nothing begins within skipped text or an argument, whose tokens aren't expanded
+abbrev pub in_text : Bool → Option TexError
+in_text true = Some IncompleteText
+in_text false = None
+
+abbrev pub incomplete : Bool → List Begun → Option TexError
+incomplete text (begun.Skipping depth ∷ outer) = Some IncompleteConditional
+incomplete text (begun.Use m ∷ outer) = Some IncompleteText
+incomplete text other = in_text text
+
+-- \noexpand, \string, \meaning and \ifx take a token whatever it is (sections 369, 471 and 507)
+abbrev pub compares : Scanned → Bool
+compares (scanned.Test tests.Same mode) = true
+compares other = false
+
+abbrev pub takes_all : List Begun → Bool
+takes_all (begun.Hold ∷ outer) = true
+takes_all (begun.Print what ∷ outer) = true
+takes_all (begun.Scanning scan ∷ outer) = compares scan.what
+takes_all other = false
+
+abbrev pub is_outer : Meaning → Bool
+is_outer (meaning.Macro m) = m.outer
+is_outer other = false
+
+-- the error that an \outer macro is here
+abbrev pub refused : Bool → Meaning → List Begun → Option TexError
+refused text m opened = if is_outer m && not (takes_all opened) then incomplete text opened else None
+
+-- a token is read: \outer is looked at first; then it is expanded, or taken
+abbrev pub token_read : World → Wanted → Seen → Reader → Turn
+token_read w wanted t r = by (refused wanted.text t.meaning r.begun)
+  where
+    by : Option TexError → Turn
+    by (Some error) = Fails error
+    by None = if is_expanding (wanted_by wanted r.begun) then expanded w wanted.text t r t.meaning else given_to w t r r.begun
+
+abbrev pub front_read : World → Wanted → Reader → Next → Turn
+front_read w wanted r (front.Token t) = token_read w wanted (record { token = t; meaning = w.meaning t }) r
+front_read w wanted r (front.Held t) = token_read w wanted (held (record { token = t; meaning = w.meaning t })) r
+front_read w wanted r front.Marker = Goes answer.Marked r
+front_read w wanted r (front.Used close) = Goes (answer.Used close) r
+front_read w wanted r front.E1 = Fails InvalidCharacter
+
+abbrev pub with_front : World → Wanted → Reader → Step → Turn
+with_front w wanted r next = front_read w wanted (record { input = next.left; begun = r.begun; conditionals = r.conditionals; job = r.job }) next.next
+
+-- whether the first line of a file is awaited
+abbrev pub is_opening : List Begun → Bool
+is_opening (begun.Opening ∷ outer) = true
+is_opening other = false
+
+-- a turn; the first line of the file that \input opened is asked for before anything else, also behind \endinput (section 538)
+abbrev pub turn : World → Wanted → Reader → Turn
+turn w wanted r = if is_opening r.begun then Goes (answer.Used false) r else with_front w wanted r (step w.codes r.input)
+
+-- the innermost file has ended
+abbrev pub file_ended : Bool → Reader → Option TexError
+file_ended text r = incomplete text r.begun
+
+-- the first line of the file that \input opened stands in front, or there is none: what \expandafter held back comes before it
+abbrev pub opened : Reader → Reader
+opened r = by r.begun
+  where
+    by : List Begun → Reader
+    by (begun.Opening ∷ outer) = released (with_begun outer r)
+    by other = r
+
+-- an answer is that of a turn, and this is left; where an error comes nothing is said of what is left
+abbrev pub IsTurned : Turn → Reader → Answer → Type 0
+IsTurned (Goes answer left) now given = (given ≡ answer) × (now ≡ left)
+IsTurned (Fails error) now given = given ≡ answer.Wrong error

@@ -1,0 +1,97 @@
+//! The expander.
+ghost use Rattle.std.specs.Prelude.{◌≡◌, [], IfOk, OnOk};
+ghost use Rattle.tx_expand.specs.Expanding.{reader_of, world_of};
+ghost use Rattle.tx_expand.specs.Turns as turns;
+ghost use Rattle.tx_expand.specs.Turns.{file_ended, turn, IsTurned};
+ghost use Rattle.tx_pending.specs.Elements.{Input};
+
+use crate::state::Open;
+use crate::types::{Expanded, Wanted};
+use std::alloc::{AllocError, Global};
+use std::collections::VecDeque;
+use std::marker::Model;
+use tx_bytes::Bytes;
+use tx_cond::CondStack;
+use tx_eqtb::Eqtb;
+use tx_pending::{Next, Pending};
+use tx_prim::Mode;
+use tx_seen::{Seen, TexError};
+
+/// What has begun and hasn't ended, between the input and the one who carries commands out. Contracts see the expansions and
+/// the conditionals, the innermost first each, and the main file's name.
+#[derive(Drop)]
+pub struct Expander {
+    open: Open,
+}
+
+impl Model for Expander {
+    ghost use Rattle.tx_expand.specs.declared.state.Open.{Open};
+
+    ghost Value = { Open };
+
+    ghost view = { λ e. e.open };
+}
+
+impl Expander {
+    /// Nothing is open, in a run of the main file of this name. Takes no memory.
+    pub fn new(alloc: Global, job: Bytes) -> Expander
+        ensures begun { result.begun.items ≡ [] }
+        ensures conditionals { result.conditionals ≡ [] }
+        ensures job { result.job ≡ job }
+    {
+        Expander {
+            open: Open {
+                begun: VecDeque::new(alloc),
+                conditionals: CondStack::new(alloc),
+                job,
+            },
+        }
+    }
+
+    /// The error where the innermost file has ended and isn't closed yet; whether the caller takes a text.
+    pub fn ended(&self, text: bool) -> Option<TexError>
+        ensures { (input : Input) → result ≡ file_ended text (reader_of self.now input) }
+    {
+        self.open.incomplete(text)
+    }
+
+    /// The first line of the file that \input opened stands in front, or there is none: what \expandafter held back comes
+    /// before it. Its only error is want of memory.
+    pub fn line_came(&mut self, input: &mut Pending) -> Result<(), AllocError>
+        ensures { OnOk result (reader_of self.new input.new ≡ turns.opened (reader_of self.old input.old)) }
+    {
+        self.open.line_came(input)
+    }
+
+    /// Takes what comes next off the input, and does all that follows before another token is needed. Its only error is want
+    /// of memory, after which it may only be dropped.
+    pub fn turn(
+        &mut self,
+        alloc: Global,
+        input: &mut Pending,
+        table: &Eqtb,
+        mode: Mode,
+        wanted: Wanted,
+    ) -> Result<Expanded, AllocError>
+        ensures { IfOk result (IsTurned (turn (world_of table.now mode) wanted (reader_of self.old input.old)) (reader_of self.new input.new)) }
+    {
+        if self.open.is_opening() {
+            return Ok(Expanded::Used(false));
+        }
+        match input.next(alloc, table.categories())? {
+            Next::Token(token) => {
+                let meaning = table.meaning(&token)?;
+                let seen = Seen { token, meaning };
+                self.open.read(alloc, input, table, mode, wanted, seen)
+            }
+            Next::Held(token) => {
+                let meaning = table.meaning(&token)?;
+                let seen = Seen { token, meaning }.held();
+                self.open.read(alloc, input, table, mode, wanted, seen)
+            }
+            Next::Marker => Ok(Expanded::Marked),
+            Next::Used { close } => Ok(Expanded::Used(close)),
+            Next::E1 => Ok(Expanded::Wrong(TexError::InvalidCharacter)),
+        }
+    }
+}

@@ -1,0 +1,574 @@
+//! What a token makes of what is open.
+ghost use Rattle.std.specs.Prelude.{◌≡◌, ◌∷◌, ◌≤◌, [], List, ℕ, IsTrue, IfOk, OnOk};
+ghost use Rattle.tx_cond.specs.Conditionals.{meeting};
+ghost use Rattle.tx_cond.specs.declared.types.Conditional.{Conditional};
+ghost use Rattle.tx_cond.specs.Skipping.{item_of, passing};
+ghost use Rattle.tx_pending.specs.Elements.{Input};
+ghost use Rattle.tx_prim.specs.declared.modes.Mode.{Mode as Any_mode};
+ghost use Rattle.tx_expand.specs.Expanding.{escape_of, reader, reader_of, world_of};
+ghost use Rattle.tx_expand.specs.Reader.{Goes};
+ghost use Rattle.tx_expand.specs.Turns as turns;
+ghost use Rattle.tx_expand.specs.Turns.{begins, come, decided, ended, expanded, expands, given_by, given_to, met_word, reads, released, replaced, skips_on, token_read, use_on, uses, IsTurned};
+ghost use Rattle.tx_expand.specs.Turns.{joined, text_of};
+ghost use Rattle.tx_expand.specs.Uses.{comes_to, with_taken};
+ghost use Rattle.tx_convert.specs.Texts.{as_tokens};
+ghost use Rattle.tx_eqtb.specs.Quantities.{value_in};
+ghost use Rattle.std.specs.Prelude.{Bool};
+ghost use Rattle.tx_char.specs.declared.tokens.Token.{Token as Any_token};
+
+use crate::begun::Begun;
+use crate::part::Part;
+use crate::scanning::Scanning;
+use crate::state::Open;
+use crate::step::Step;
+use crate::types::{Expanded, Made, Printed, Read, Scanned, Wanted};
+use crate::using::Using;
+use std::alloc::{AllocError, Global};
+use std::collections::VecDeque;
+use tx_char::{ControlName, Token};
+use tx_cond::{Meet, SkipItem, Skipper};
+use tx_convert::{push_job_name, push_meaning, push_string};
+use tx_eqtb::Eqtb;
+use tx_pending::Pending;
+use tx_prim::{CondWord, Conversion, Expandable, IntegerParameter, Mode, Test};
+use tx_scan::byte;
+use tx_seen::{Fed, Meaning, Place, Seen, TexError, Want};
+use tx_toklist::{Macro, TokList, Toks};
+
+/// The token, without what it meant.
+fn token_of(seen: Seen) -> Token
+    ensures { result ≡ seen.token }
+{
+    let Seen { token, meaning: _ } = seen;
+    token
+}
+
+/// The token that the innermost expansion holds back, if it does. Its only error is that no more owners can be counted.
+fn held_back(begun: &VecDeque<Begun>) -> Result<Option<Token>, AllocError>
+    ensures { IfOk result (λ held. held ≡ turns.held_back begun.now.items) }
+{
+    match begun.front() {
+        Some(Begun::Before(token)) => Ok(Some(token.clone()?)),
+        _ => Ok(None),
+    }
+}
+
+/// Puts what \expandafter held back before an expansion that has ended at the front of the input. Its only error is want of
+/// memory.
+fn release(begun: &mut VecDeque<Begun>, input: &mut Pending) -> Result<(), AllocError>
+    ensures { (conditionals : List Conditional) (job : List ℕ) → OnOk result (reader begun.new.items input.new conditionals job ≡ released (reader begun.old.items input.old conditionals job)) }
+{
+    while let Some(token) = held_back(begun)? {
+        begun.pop_front();
+        input.give_back(token)?;
+    }
+    Ok(())
+}
+
+/// Whether the tokens of \the belong to the text that the caller takes.
+fn for_text(text: bool, begun: &VecDeque<Begun>) -> bool
+    ensures { result ≡ turns.for_text text begun.now.items }
+{
+    match begun.front() {
+        Some(_) => false,
+        None => text,
+    }
+}
+
+/// Whether a conditional is \ifcase.
+fn is_case(test: Test) -> bool
+    ensures { result ≡ turns.is_case test }
+{
+    matches!(test, Test::Case)
+}
+
+/// Whether an expansion reads a file's name.
+fn finds(begun: &Begun) -> bool
+    ensures { result ≡ turns.finds begun.now }
+{
+    match begun {
+        Begun::Scanning(scanning) => matches!(scanning.what(), Scanned::File),
+        _ => false,
+    }
+}
+
+impl Open {
+    /// An expansion begins. Its only error is want of memory.
+    fn begin(&mut self, begun: Begun) -> Result<Expanded, AllocError>
+        ensures { (input : Input) → IfOk result (IsTurned (begins begun (reader_of self.old input)) (reader_of self.new input)) }
+    {
+        self.begun.push_front(begun)?;
+        Ok(Expanded::Went)
+    }
+
+    /// An expansion has ended: what \expandafter held back comes in front. Its only error is want of memory.
+    fn went(&mut self, input: &mut Pending) -> Result<Expanded, AllocError>
+        ensures { IfOk result (IsTurned (ended (reader_of self.old input.old)) (reader_of self.new input.new)) }
+    {
+        release(&mut self.begun, input)?;
+        Ok(Expanded::Went)
+    }
+
+    /// Tokens stand in the place of an expansion that has ended. Its only error is want of memory.
+    fn replace(
+        &mut self,
+        alloc: Global,
+        input: &mut Pending,
+        tokens: Toks,
+    ) -> Result<Expanded, AllocError>
+        ensures { IfOk result (IsTurned (replaced tokens (reader_of self.old input.old)) (reader_of self.new input.new)) }
+    {
+        input.push_list(TokList::from_toks(alloc, tokens)?, false)?;
+        self.went(input)
+    }
+
+    /// TeX puts a \relax in before this token. Its only error is want of memory.
+    fn relax_before(&mut self, input: &mut Pending, token: Token) -> Result<Expanded, AllocError>
+        ensures { IfOk result (IsTurned (replaced (Token.FrozenRelax ∷ token ∷ []) (reader_of self.old input.old)) (reader_of self.new input.new)) }
+    {
+        input.give_back(token)?;
+        input.give_back(Token::FrozenRelax)?;
+        self.went(input)
+    }
+
+    /// A word of the innermost conditional. Its only error is want of memory.
+    fn meet(
+        &mut self,
+        input: &mut Pending,
+        token: Token,
+        word: CondWord,
+    ) -> Result<Expanded, AllocError>
+        ensures { IfOk result (IsTurned (met_word token (reader_of self.old input.old) (meeting self.old.conditionals word)) (reader_of self.new input.new)) }
+    {
+        match self.conditionals.meet(word) {
+            Ok(Meet::Relax) => self.relax_before(input, token),
+            Ok(Meet::Skip) => self.begin(Begun::Skipping(Skipper::new())),
+            Ok(Meet::Closed) => self.went(input),
+            Err(error) => Ok(Expanded::Wrong(error)),
+        }
+    }
+
+    /// The innermost test has this value. Its only error is want of memory.
+    fn decide(&mut self, input: &mut Pending, value: i64) -> Result<Expanded, AllocError>
+        ensures { IfOk result (IsTurned (decided value (reader_of self.old input.old)) (reader_of self.new input.new)) }
+    {
+        self.conditionals.decide(value);
+        if self.conditionals.is_skipping() {
+            self.begin(Begun::Skipping(Skipper::new()))
+        } else {
+            self.went(input)
+        }
+    }
+
+    /// A name stands in the place of an expansion. Its only error is want of memory.
+    fn name(
+        &mut self,
+        input: &mut Pending,
+        table: &Eqtb,
+        name: ControlName,
+    ) -> Result<Expanded, AllocError>
+        ensures { (any : Any_mode) → IfOk result (IsTurned (come (world_of table.now any) (Made.Names name) (reader_of self.old input.old)) (reader_of self.new input.new)) }
+    {
+        let meaning = table.name_meaning(&name)?;
+        input.give_back(Token::Name(name.clone()?))?;
+        release(&mut self.begun, input)?;
+        match meaning {
+            Meaning::Undefined => Ok(Expanded::Relaxes(name)),
+            _ => Ok(Expanded::Went),
+        }
+    }
+
+    /// What comes of what was read. Its only error is want of memory.
+    fn come(
+        &mut self,
+        alloc: Global,
+        input: &mut Pending,
+        table: &Eqtb,
+        made: Made,
+    ) -> Result<Expanded, AllocError>
+        ensures { (any : Any_mode) → IfOk result (IsTurned (come (world_of table.now any) made (reader_of self.old input.old)) (reader_of self.new input.new)) }
+    {
+        match made {
+            Made::Puts(tokens) => self.replace(alloc, input, tokens),
+            Made::Gives(tokens) => {
+                release(&mut self.begun, input)?;
+                Ok(Expanded::Text(tokens))
+            }
+            Made::Names(name) => self.name(input, table, name),
+            Made::Decides(value) => self.decide(input, value),
+            Made::Opens(name) => {
+                self.begun.push_front(Begun::Opening)?;
+                Ok(Expanded::Asks(name))
+            }
+        }
+    }
+
+    /// An expansion reads this. Its only error is want of memory.
+    fn scan(
+        &mut self,
+        alloc: Global,
+        input: &mut Pending,
+        table: &Eqtb,
+        what: Scanned,
+    ) -> Result<Expanded, AllocError>
+        ensures { (any : Any_mode) → IfOk result (IsTurned (reads (world_of table.now any) what [] (reader_of self.old input.old)) (reader_of self.new input.new)) }
+    {
+        let (part, fed) = Part::begin(alloc, what);
+        match fed {
+            Fed::More(want) => {
+                self.begin(Begun::Scanning(Scanning::new(alloc, what, want, part)))
+            }
+            Fed::Need(_) => unreachable!(),
+            Fed::Done(made, _) => self.come(alloc, input, table, made),
+            Fed::Wrong(error) => Ok(Expanded::Wrong(error)),
+        }
+    }
+
+    /// A token joins what an expansion reads. Its only error is want of memory.
+    fn scan_on(
+        &mut self,
+        alloc: Global,
+        input: &mut Pending,
+        table: &Eqtb,
+        scanning: Scanning,
+        token: Seen,
+    ) -> Result<Expanded, AllocError>
+        ensures { (any : Any_mode) → IfOk result (IsTurned (reads (world_of table.now any) scanning.what (joined (value_in table.now) scanning token) (reader_of self.old input.old)) (reader_of self.new input.new)) }
+    {
+        let mut scanning = scanning;
+        match scanning.feed(alloc, table, input, token)? {
+            Read::More => self.begin(Begun::Scanning(scanning)),
+            Read::Made(made) => self.come(alloc, input, table, made),
+            Read::Wrong(error) => Ok(Expanded::Wrong(error)),
+        }
+    }
+
+    /// A token joins the use of a macro. Its only error is want of memory.
+    fn use_on(
+        &mut self,
+        alloc: Global,
+        input: &mut Pending,
+        usage: Using,
+        token: Token,
+    ) -> Result<Expanded, AllocError>
+        ensures { IfOk result (IsTurned (use_on (with_taken usage token) (reader_of self.old input.old) (comes_to (with_taken usage token))) (reader_of self.new input.new)) }
+    {
+        match usage.feed(alloc, token)? {
+            Step::On(using) => self.begin(Begun::Use(using)),
+            Step::Fits(made, arguments) => {
+                input.push_use(&made, arguments.as_slice())?;
+                self.went(input)
+            }
+            Step::Wrong(error) => Ok(Expanded::Wrong(error)),
+        }
+    }
+
+    /// Skipped text takes a token. Its only error is want of memory.
+    fn skip_on(
+        &mut self,
+        input: &mut Pending,
+        skipper: Skipper,
+        token: Seen,
+    ) -> Result<Expanded, AllocError>
+        ensures { IfOk result (IsTurned (skips_on token.token (reader_of self.old input.old) (passing skipper (item_of token.meaning))) (reader_of self.new input.new)) }
+    {
+        let mut skipper = skipper;
+        match skipper.feed(SkipItem::of(&token.meaning))? {
+            Fed::More(_) => self.begin(Begun::Skipping(skipper)),
+            Fed::Need(_) => unreachable!(),
+            Fed::Done(word, _) => self.meet(input, token_of(token), word),
+            Fed::Wrong(error) => Ok(Expanded::Wrong(error)),
+        }
+    }
+
+    /// What is printed of a token. Its only error is want of memory.
+    fn print(
+        &mut self,
+        alloc: Global,
+        input: &mut Pending,
+        table: &Eqtb,
+        what: Printed,
+        token: &Seen,
+    ) -> Result<Expanded, AllocError>
+        ensures { (any : Any_mode) → IfOk result (IsTurned (replaced (as_tokens (text_of (world_of table.now any) what token.now)) (reader_of self.old input.old)) (reader_of self.new input.new)) }
+    {
+        let mut tokens = Toks::new(alloc);
+        let escape = escape_of(table);
+        match what {
+            Printed::Token => push_string(&mut tokens, escape, &token.token)?,
+            Printed::Meaning => push_meaning(
+                alloc,
+                &mut tokens,
+                escape,
+                table.categories(),
+                &token.meaning,
+            )?,
+        }
+        self.replace(alloc, input, tokens)
+    }
+
+    /// The innermost expansion takes a token, or the caller does. Its only error is want of memory.
+    fn take(
+        &mut self,
+        alloc: Global,
+        input: &mut Pending,
+        table: &Eqtb,
+        token: Seen,
+    ) -> Result<Expanded, AllocError>
+        ensures { (any : Any_mode) → IfOk result (IsTurned (given_to (world_of table.now any) token (reader_of self.old input.old) self.old.begun.items) (reader_of self.new input.new)) }
+    {
+        match self.begun.pop_front() {
+            Some(begun) => self.take_by(alloc, input, table, begun, token),
+            None => Ok(Expanded::Got(token)),
+        }
+    }
+
+    /// An expansion takes a token. Its only error is want of memory.
+    fn take_by(
+        &mut self,
+        alloc: Global,
+        input: &mut Pending,
+        table: &Eqtb,
+        begun: Begun,
+        token: Seen,
+    ) -> Result<Expanded, AllocError>
+        ensures { (any : Any_mode) → IfOk result (IsTurned (given_by (world_of table.now any) token (reader_of self.old input.old) begun) (reader_of self.new input.new)) }
+    {
+        match begun {
+            Begun::Use(using) => self.use_on(alloc, input, using, token_of(token)),
+            Begun::After => self.begin(Begun::Before(token_of(token))),
+            Begun::Before(held) => {
+                input.give_back(token_of(token))?;
+                input.give_back(held)?;
+                self.went(input)
+            }
+            Begun::Hold => {
+                input.push_held(token_of(token))?;
+                self.went(input)
+            }
+            Begun::Print(what) => self.print(alloc, input, table, what, &token),
+            Begun::Scanning(scanning) => self.scan_on(alloc, input, table, scanning, token),
+            Begun::Skipping(skipper) => self.skip_on(input, skipper, token),
+            Begun::Opening => self.begin(Begun::Opening),
+        }
+    }
+
+    /// Whether a file's name is being read.
+    fn is_finding(&self) -> bool
+        ensures { result ≡ turns.is_finding self.now.begun.items }
+    {
+        for place in 0..self.begun.len() {
+            if finds(&self.begun[place]) {
+                return true;
+            }
+        }
+        false
+    }
+
+    /// The expansion of a primitive, whose token is this. Its only error is want of memory.
+    fn expand_primitive(
+        &mut self,
+        alloc: Global,
+        input: &mut Pending,
+        table: &Eqtb,
+        mode: Mode,
+        text: bool,
+        token: Token,
+        primitive: Expandable,
+    ) -> Result<Expanded, AllocError>
+        ensures { IfOk result (IsTurned (expands (world_of table.now mode) text token (reader_of self.old input.old) primitive) (reader_of self.new input.new)) }
+    {
+        match primitive {
+            Expandable::ExpandAfter => self.begin(Begun::After),
+            Expandable::NoExpand => self.begin(Begun::Hold),
+            Expandable::CsName => self.scan(alloc, input, table, Scanned::Name),
+            Expandable::Convert(kind) => self.convert(alloc, input, table, kind),
+            Expandable::The => {
+                let what = Scanned::Quantity {
+                    text: for_text(text, &self.begun),
+                };
+                self.scan(alloc, input, table, what)
+            }
+            Expandable::Input => {
+                if self.is_finding() {
+                    self.relax_before(input, token)
+                } else {
+                    self.scan(alloc, input, table, Scanned::File)
+                }
+            }
+            Expandable::EndInput => {
+                input.end_input();
+                self.went(input)
+            }
+            Expandable::Test(test) => {
+                self.conditionals.begin(is_case(test))?;
+                self.scan(alloc, input, table, Scanned::Test(test, mode))
+            }
+            Expandable::Word(word) => self.meet(input, token, word),
+        }
+    }
+
+    /// What is printed as tokens. Its only error is want of memory.
+    fn convert(
+        &mut self,
+        alloc: Global,
+        input: &mut Pending,
+        table: &Eqtb,
+        kind: Conversion,
+    ) -> Result<Expanded, AllocError>
+        ensures { (mode : Any_mode) (text : Bool) (token : Any_token) → IfOk result (IsTurned (expands (world_of table.now mode) text token (reader_of self.old input.old) (Expandable.Convert kind)) (reader_of self.new input.new)) }
+    {
+        match kind {
+            Conversion::Number => self.scan(alloc, input, table, Scanned::Number),
+            Conversion::RomanNumeral => self.scan(alloc, input, table, Scanned::Roman),
+            Conversion::Token => self.begin(Begun::Print(Printed::Token)),
+            Conversion::Meaning => self.begin(Begun::Print(Printed::Meaning)),
+            Conversion::JobName => {
+                let mut tokens = Toks::new(alloc);
+                push_job_name(&mut tokens, self.job.as_slice())?;
+                self.replace(alloc, input, tokens)
+            }
+        }
+    }
+
+    /// The use of a macro. Its only error is want of memory.
+    fn use_macro(
+        &mut self,
+        alloc: Global,
+        input: &mut Pending,
+        made: Macro,
+    ) -> Result<Expanded, AllocError>
+        ensures { IfOk result (IsTurned (uses made (reader_of self.old input.old)) (reader_of self.new input.new)) }
+    {
+        if is_bare(&made) {
+            input.push_use(&made, &[])?;
+            self.went(input)
+        } else {
+            self.begin(Begun::Use(Using::new(alloc, made)?))
+        }
+    }
+
+    /// The expansion of a token; what isn't expanded is taken. Its only error is want of memory.
+    fn expand(
+        &mut self,
+        alloc: Global,
+        input: &mut Pending,
+        table: &Eqtb,
+        mode: Mode,
+        text: bool,
+        token: Seen,
+    ) -> Result<Expanded, AllocError>
+        ensures { IfOk result (IsTurned (expanded (world_of table.now mode) text token (reader_of self.old input.old) token.meaning) (reader_of self.new input.new)) }
+    {
+        let Seen { token, meaning } = token;
+        match meaning {
+            Meaning::Undefined => Ok(Expanded::Wrong(TexError::Undefined)),
+            Meaning::Expandable(primitive) => self.expand_primitive(
+                alloc, input, table, mode, text, token, primitive,
+            ),
+            Meaning::Macro(made) => self.use_macro(alloc, input, made),
+            meaning => self.take(alloc, input, table, Seen { token, meaning }),
+        }
+    }
+
+    /// How the next token is wanted.
+    fn want(&self, wanted: Wanted) -> Want
+        ensures { result ≡ turns.wanted_by wanted self.now.begun.items }
+    {
+        match self.begun.front() {
+            None => wanted.want,
+            Some(Begun::Before(_)) => Want::Expanded,
+            Some(Begun::Scanning(scanning)) => scanning.want(),
+            Some(_) => Want::Raw,
+        }
+    }
+
+    /// The error at an \outer macro and where a file ends.
+    pub(crate) fn incomplete(&self, text: bool) -> Option<TexError>
+        ensures { result ≡ turns.incomplete text self.now.begun.items }
+    {
+        match self.begun.front() {
+            Some(Begun::Skipping(_)) => Some(TexError::IncompleteConditional),
+            Some(Begun::Use(_)) => Some(TexError::IncompleteText),
+            _ if text => Some(TexError::IncompleteText),
+            _ => None,
+        }
+    }
+
+    /// Whether the next token is taken whatever it is.
+    fn takes_all(&self) -> bool
+        ensures { result ≡ turns.takes_all self.now.begun.items }
+    {
+        match self.begun.front() {
+            Some(Begun::Hold | Begun::Print(_)) => true,
+            Some(Begun::Scanning(scanning)) => matches!(
+                scanning.what(),
+                Scanned::Test(Test::Same, _)
+            ),
+            _ => false,
+        }
+    }
+
+    /// The error that an \outer macro is here.
+    fn refused(&self, text: bool, meaning: &Meaning) -> Option<TexError>
+        ensures { result ≡ turns.refused text meaning.now self.now.begun.items }
+    {
+        match meaning {
+            Meaning::Macro(made) if made.is_outer() && !self.takes_all() => self.incomplete(text),
+            _ => None,
+        }
+    }
+
+    /// A token is read. Its only error is want of memory.
+    pub(crate) fn read(
+        &mut self,
+        alloc: Global,
+        input: &mut Pending,
+        table: &Eqtb,
+        mode: Mode,
+        wanted: Wanted,
+        token: Seen,
+    ) -> Result<Expanded, AllocError>
+        ensures { IfOk result (IsTurned (token_read (world_of table.now mode) wanted token (reader_of self.old input.old)) (reader_of self.new input.new)) }
+    {
+        if let Some(error) = self.refused(wanted.text, &token.meaning) {
+            return Ok(Expanded::Wrong(error));
+        }
+        match self.want(wanted) {
+            Want::Expanded => self.expand(alloc, input, table, mode, wanted.text, token),
+            Want::Raw => self.take(alloc, input, table, token),
+        }
+    }
+
+    /// Whether the first line of a file is awaited.
+    pub(crate) fn is_opening(&self) -> bool
+        ensures { result ≡ turns.is_opening self.now.begun.items }
+    {
+        matches!(self.begun.front(), Some(Begun::Opening))
+    }
+
+    /// The first line of the file is there, or there is none. Its only error is want of memory.
+    pub(crate) fn line_came(&mut self, input: &mut Pending) -> Result<(), AllocError>
+        ensures { OnOk result (reader_of self.new input.new ≡ turns.opened (reader_of self.old input.old)) }
+    {
+        if self.is_opening() {
+            self.begun.pop_front();
+            release(&mut self.begun, input)?;
+        }
+        Ok(())
+    }
+}
+
+/// The escape character, if there is one.
+fn escape_of(table: &Eqtb) -> Option<u8>
+    ensures { result ≡ escape_of table.now }
+{
+    byte(i64::from(table.number(&Place::Integer(IntegerParameter::Escapechar))))
+}
+
+/// Whether a macro has nothing in its parameter text.
+fn is_bare(made: &Macro) -> bool
+    ensures { result ≡ turns.is_bare made.now.parameters }
+{
+    made.before().is_empty() && made.delimiters().is_empty()
+}

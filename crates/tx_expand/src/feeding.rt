@@ -1,0 +1,113 @@
+//! The scan of what an expansion reads, token by token.
+ghost use Rattle.std.specs.Prelude.{◌≡◌, ◌≤◌, ◌∷◌, [], IfOk};
+ghost use Rattle.tx_seen.specs.declared.item.Item.TheVariants.{Took};
+ghost use Rattle.tx_seen.specs.Readings.{Answers};
+ghost use Rattle.tx_scan.specs.Rests.{HasTakenBy, IsFedBy, IsGivenBy, IsRead};
+ghost use Rattle.tx_scan.specs.Supplied.{NeedsFewer, NeedsNoMore};
+ghost use Rattle.tx_expand.specs.Parts.{held, more_needed, rest};
+ghost use Rattle.tx_expand.specs.Scans.{quantity_begun, reading, the};
+ghost use Rattle.tx_scan.specs.Beginnings as beginnings;
+
+use crate::mapping::{decided, named, opened, printed};
+use crate::part::{Figures, Part};
+use crate::types::{Made, Scanned};
+use std::alloc::{AllocError, Global};
+use tx_cond::TestScan;
+use tx_scan::{Beginning, ControlNameScan, FileNameScan, IntScan, beginning};
+use tx_seen::{Fed, Place, Seen, TexError, Value, Want};
+
+/// Whether what a token begins stands for a size, if it stands for a quantity.
+fn quantity_begun_by(token: &Seen) -> Option<bool>
+    ensures { result ≡ quantity_begun (beginnings.beginning token.now) }
+{
+    match beginning(token) {
+        Beginning::Number(_) => Some(false),
+        Beginning::At(place) => Some(place.is_size()),
+        Beginning::Numbered(kind) => Some(Place::numbered(kind, 0).is_size()),
+        _ => None,
+    }
+}
+
+impl Part {
+    /// The scan of what is read so, of which nothing is taken, and what it answers before the first token. It takes no memory.
+    pub(crate) fn begin(alloc: Global, what: Scanned) -> (Part, Fed<Made>)
+        ensures answer { Answers (reading what) (HasTakenBy rest held (reading what)) [] result.0 result.1 }
+        ensures few { more_needed result.0 ≤ 1 }
+    {
+        match what {
+            Scanned::Name => (
+                Part::Name(ControlNameScan::new(alloc)),
+                Fed::More(Want::Expanded),
+            ),
+            Scanned::Number => (
+                Part::Integer(IntScan::new(alloc), Figures::Decimal),
+                Fed::More(Want::Expanded),
+            ),
+            Scanned::Roman => (
+                Part::Integer(IntScan::new(alloc), Figures::Roman),
+                Fed::More(Want::Expanded),
+            ),
+            Scanned::Quantity { text } => (Part::Quantity { text }, Fed::More(Want::Expanded)),
+            Scanned::Test(kind, mode) => {
+                let mut scan = TestScan::new(alloc);
+                let fed = decided(scan.begin(kind, mode));
+                (Part::Test(scan), fed)
+            }
+            Scanned::File => (
+                Part::File(FileNameScan::new(alloc)),
+                Fed::More(Want::Expanded),
+            ),
+        }
+    }
+
+    /// Takes one token. Its only error is want of memory.
+    pub(crate) fn feed(&mut self, alloc: Global, token: &Seen) -> Result<Fed<Made>, AllocError>
+        ensures fed { IfOk result (IsFedBy rest held self.old token.now self.new) }
+        ensures needs { IfOk result (NeedsNoMore (more_needed self.old) (more_needed self.new)) }
+    {
+        match self {
+            Part::Name(scan) => Ok(named(scan.feed(alloc, token)?)),
+            Part::Quantity { text } => {
+                let text = *text;
+                self.feed_quantity(alloc, text, token)
+            }
+            Part::Integer(scan, figures) => printed(alloc, *figures, scan.feed(token)?),
+            Part::Test(scan) => Ok(decided(scan.feed(token)?)),
+            Part::File(scan) => opened(scan.feed(token)?),
+        }
+    }
+
+    /// Takes the token behind \the. Its only error is want of memory.
+    fn feed_quantity(
+        &mut self,
+        alloc: Global,
+        text: bool,
+        token: &Seen,
+    ) -> Result<Fed<Made>, AllocError>
+        ensures fed { IfOk result (IsRead rest held 1 (λ more. the text (Took token.now ∷ more)) (Took token.now ∷ []) self.new) }
+        ensures needs { IfOk result (NeedsNoMore 0 (more_needed self.new)) }
+    {
+        let Some(size) = quantity_begun_by(token) else {
+            return Ok(Fed::Wrong(TexError::NoAssignment));
+        };
+        let figures = Figures::Quantity { text, size };
+        let mut scan = IntScan::new(alloc);
+        let fed = scan.feed(token)?;
+        *self = Part::Integer(scan, figures);
+        printed(alloc, figures, fed)
+    }
+
+    /// Takes the value that it needs. Its only error is want of memory.
+    pub(crate) fn give(&mut self, alloc: Global, value: &Value) -> Result<Fed<Made>, AllocError>
+        ensures given { IfOk result (IsGivenBy rest held self.old value.now self.new) }
+        ensures needs { IfOk result (NeedsFewer (more_needed self.old) (more_needed self.new)) }
+    {
+        match self {
+            Part::Name(_) => Ok(Fed::Wrong(TexError::BadName)),
+            Part::Quantity { .. } => Ok(Fed::Wrong(TexError::NoAssignment)),
+            Part::Integer(scan, figures) => printed(alloc, *figures, scan.give(value)),
+            Part::Test(scan) => Ok(decided(scan.give(value))),
+            Part::File(_) => Ok(Fed::Wrong(TexError::MissingName)),
+        }
+    }
+}

@@ -1,0 +1,28 @@
+//! Expansion (The TeXbook, chapter 20; TeX: The Program, parts 24, 25 and 28 to 30): tokens are taken off the input, and what is
+//! expanded is replaced in its front, without recursion: a list keeps what has begun, the innermost first.
+//!
+//! Proved: each turn answers, and leaves of the input, of what has begun and of the conditionals, exactly what is defined; so
+//! does what comes before the first line of a file, and the error where a file ends. Only tested: that the definitions are
+//! Knuth's, on cases worked out by hand, most of them seen in his program (`proofs/Worked.antt`).
+//!
+//! Read `types` and `begun`; `part`, `mapping`, `feeding` and `scanning`; `step` and `using`; then `state`, `expanding` and
+//! `expander`.
+#![tactic(auto)]
+
+mod begun;
+mod expander;
+mod expanding;
+mod feeding;
+mod mapping;
+mod part;
+mod scanning;
+mod state;
+mod step;
+mod types;
+mod using;
+
+pub use begun::Begun;
+pub use expander::Expander;
+pub use scanning::Scanning;
+pub use types::{Expanded, Made, Printed, Read, Scanned, Wanted};
+pub use using::Using;

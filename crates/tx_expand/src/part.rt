@@ -1,0 +1,30 @@
+//! How far the reading of an expansion is.
+use tx_cond::TestScan;
+use tx_scan::{ControlNameScan, FileNameScan, IntScan};
+
+/// How an integer is printed.
+#[derive(Clone, Copy, PartialEq, Eq)]
+pub enum Figures {
+    /// In decimal digits.
+    Decimal,
+    /// In Roman letters.
+    Roman,
+    /// As what stands at a place, with its unit where that is a size; whether its tokens belong to the text that the caller
+    /// takes.
+    Quantity { text: bool, size: bool },
+}
+
+/// The scan of what an expansion reads.
+#[derive(Drop)]
+pub enum Part {
+    /// The name behind \csname.
+    Name(ControlNameScan),
+    /// The first token behind \the.
+    Quantity { text: bool },
+    /// An integer that is printed.
+    Integer(IntScan, Figures),
+    /// The test of a conditional.
+    Test(TestScan),
+    /// The name behind \input.
+    File(FileNameScan),
+}

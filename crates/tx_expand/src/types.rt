@@ -1,0 +1,88 @@
+//! What an expansion reads and makes, and what a turn answers.
+use tx_bytes::Bytes;
+use tx_char::ControlName;
+use tx_prim::{Mode, Test};
+use tx_seen::{Seen, TexError, Want};
+use tx_toklist::Toks;
+
+/// What the caller takes.
+#[derive(Clone, Copy, PartialEq, Eq)]
+pub struct Wanted {
+    /// How it wants its next token.
+    pub want: Want,
+    /// Whether it takes a text: a definition, or what is absorbed (TeX: The Program, section 305).
+    pub text: bool,
+}
+
+/// What is printed of one token.
+#[derive(Clone, Copy, PartialEq, Eq)]
+pub enum Printed {
+    /// \string: the token.
+    Token,
+    /// \meaning: what it means.
+    Meaning,
+}
+
+/// What an expansion reads off tokens that are expanded.
+#[derive(Clone, Copy, PartialEq, Eq)]
+pub enum Scanned {
+    /// \csname: a name.
+    Name,
+    /// \number: an integer, to be printed in decimal digits.
+    Number,
+    /// \romannumeral: an integer, to be printed in Roman letters.
+    Roman,
+    /// \the: what stands at a place; whether its tokens belong to the text that the caller takes.
+    Quantity { text: bool },
+    /// The test of a conditional, in this mode.
+    Test(Test, Mode),
+    /// \input: a file's name.
+    File,
+}
+
+/// What comes of what an expansion has read.
+#[derive(Drop)]
+pub enum Made {
+    /// These tokens stand in its place.
+    Puts(Toks),
+    /// They belong to the text that the caller takes, and aren't expanded again.
+    Gives(Toks),
+    /// This name stands in its place, and means \relax from now on if it had no meaning.
+    Names(ControlName),
+    /// The innermost test has this value.
+    Decides(i64),
+    /// The file of this name is opened.
+    Opens(Bytes),
+}
+
+/// What a token makes of what an expansion reads.
+#[derive(Drop)]
+pub enum Read {
+    /// More is to come.
+    More,
+    /// It is whole, and comes to this.
+    Made(Made),
+    /// This error comes.
+    Wrong(TexError),
+}
+
+/// What a turn answers.
+#[derive(Drop)]
+pub enum Expanded {
+    /// A token for the caller, with what it means.
+    Got(Seen),
+    /// Tokens for the text that the caller takes, none of which is expanded again.
+    Text(Toks),
+    /// No token yet.
+    Went,
+    /// No token yet; this name, which had no meaning, means \relax from now on, locally.
+    Relaxes(ControlName),
+    /// The end of a list that was to be marked.
+    Marked,
+    /// The line is used up; whether \endinput came since the last such answer.
+    Used(bool),
+    /// The file of this name is asked for.
+    Asks(Bytes),
+    /// This error comes.
+    Wrong(TexError),
+}
