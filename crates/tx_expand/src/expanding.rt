@@ -1,20 +1,17 @@
 //! What a token makes of what is open.
-ghost use Rattle.std.specs.Prelude.{◌≡◌, ◌∷◌, ◌≤◌, [], List, ℕ, IsTrue, IfOk, OnOk};
+ghost use Rattle.std.specs.Prelude.{◌≡◌, ◌∷◌, [], Bool, List, ℕ, IfOk, OnOk};
+ghost use Rattle.tx_char.specs.declared.tokens.Token.{Token as Any_token};
 ghost use Rattle.tx_cond.specs.Conditionals.{meeting};
 ghost use Rattle.tx_cond.specs.declared.types.Conditional.{Conditional};
 ghost use Rattle.tx_cond.specs.Skipping.{item_of, passing};
+ghost use Rattle.tx_convert.specs.Texts.{as_tokens};
+ghost use Rattle.tx_eqtb.specs.Quantities.{value_in};
 ghost use Rattle.tx_pending.specs.Elements.{Input};
 ghost use Rattle.tx_prim.specs.declared.modes.Mode.{Mode as Any_mode};
 ghost use Rattle.tx_expand.specs.Expanding.{escape_of, reader, reader_of, world_of};
-ghost use Rattle.tx_expand.specs.Reader.{Goes};
 ghost use Rattle.tx_expand.specs.Turns as turns;
-ghost use Rattle.tx_expand.specs.Turns.{begins, come, decided, ended, expanded, expands, given_by, given_to, met_word, reads, released, replaced, skips_on, token_read, use_on, uses, IsTurned};
-ghost use Rattle.tx_expand.specs.Turns.{joined, text_of};
+ghost use Rattle.tx_expand.specs.Turns.{begins, come, decided, ended, expanded, expands, given_by, given_to, joined, met_word, reads, released, replaced, skips_on, text_of, token_read, use_on, uses, IsTurned};
 ghost use Rattle.tx_expand.specs.Uses.{comes_to, with_taken};
-ghost use Rattle.tx_convert.specs.Texts.{as_tokens};
-ghost use Rattle.tx_eqtb.specs.Quantities.{value_in};
-ghost use Rattle.std.specs.Prelude.{Bool};
-ghost use Rattle.tx_char.specs.declared.tokens.Token.{Token as Any_token};
 
 use crate::begun::Begun;
 use crate::part::Part;
