@@ -138,6 +138,10 @@ TABLE = [
     (b'\\global\\relax\n \\par\\end\n', 'run: 0 pages, error 10 at main.tex line 2', b''),
     (b'\\global x\\end\n', 'run: 0 pages, error 10 at main.tex line 1', b''),
     (b'\\global\\begingroup\\end\n', 'run: 0 pages, error 10 at main.tex line 1', b''),
+    (b'\\long\\let\\a=\\end\n', 'run: 0 pages, error 10 at main.tex line 1', b''),
+    (b'\\outer\\batchmode\\end\n', 'run: 0 pages, error 10 at main.tex line 1', b''),
+    (b'\\global\\batchmode\\global\n\\ignorespaces\\end\n', 'run: 0 pages, error 10 at main.tex line 2', b''),
+    (b'\\ignorespaces   \n  \\x\\end\n', 'run: 0 pages, error 2 at main.tex line 2', b''),
     (b'\\advance\\catcode1 by 1 \\end\n', 'run: 0 pages, error 10 at main.tex line 1', b''),
     (b'\\multiply{\\end\n', 'run: 0 pages, error 10 at main.tex line 1', b''),
     (b'\\begingroup}\\end\n', 'run: 0 pages, error 11 at main.tex line 1', b''),
@@ -174,5 +178,4 @@ FOR_NOW = [
     (b'\\shipout\\hbox to 3pt{}\\end\n', 'run: 0 pages, error 18 at main.tex line 1', b''),
     (b'\\shipout\\hbox{\\kern 1in}\\end\n', 'run: 0 pages, error 4 at main.tex line 1', b''),
     (b'\\def\\a{}\\end\n', 'run: 0 pages, error 2 at main.tex line 1', b''),
-    (b'\\long\\let\\a=\\end\n', 'run: 0 pages, error 2 at main.tex line 1', b''),
 ]
