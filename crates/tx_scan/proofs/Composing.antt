@@ -7,7 +7,6 @@ use Rattle.tx_seen.specs.declared.fed.Fed.{Fed}
 use Rattle.tx_seen.specs.declared.fed.Fed.TheVariants as fed
 use Rattle.tx_seen.specs.declared.fed.Kind.{Kind}
 use Rattle.tx_seen.specs.declared.fed.Want.{Want}
-use Rattle.tx_seen.specs.declared.error.TexError.{TexError}
 use Rattle.tx_seen.specs.Readings.{Reading, next}
 use Rattle.tx_scan.specs.Rests.{kept, IsAnswer, IsEnd}
 use Rattle.tx_scan.proofs.Answering.{same-answer}
@@ -33,9 +32,6 @@ need-next part part_held whole held few most reading on t scan new kind k h same
   h,
   λ item more. ap (λ r. next r on) (k.2 item more) ∙ same item more,
 )
-
-pub wrong-next : {S T A B : Type 0} (part : S → List Item → Item → List Item → Reading A) (part_held : S → ℕ) (whole : T → List Item → Item → List Item → Reading B) (held : T → ℕ) (few most : ℕ) (reading : List Item → Reading A) (on : A → List Item → Reading B) (t : Seen) (scan : S) (new : T) (error : TexError) → IsAnswer part part_held few reading t scan (fed.Wrong error) → IsAnswer whole held most (λ more. next (reading more) on) t new (fed.Wrong error)
-wrong-next part part_held whole held few most reading on t scan new error k = λ more. ap (λ r. next r on) (k more)
 
 -- the part has ended, and what is behind it goes on with the tokens that it gives back
 pub done-next : {S T A B : Type 0} (part : S → List Item → Item → List Item → Reading A) (part_held : S → ℕ) (whole : T → List Item → Item → List Item → Reading B) (held : T → ℕ) (few most : ℕ) (reading : List Item → Reading A) (on : A → List Item → Reading B) (t : Seen) (scan : S) (new : T) (value : A) (back : ℕ) (answer : Fed B) → IsAnswer part part_held few reading t scan (fed.Done value back) → IsAnswer whole held most (λ more. on value (kept back t ++ more)) t new answer → IsAnswer whole held most (λ more. next (reading more) on) t new answer

@@ -9,7 +9,7 @@ use Rattle.tx_seen.specs.declared.item.Item.TheVariants.{Took}
 use Rattle.tx_seen.specs.Readings.{More, Done, Wrong, ending}
 use Rattle.tx_scan.specs.declared.scans.KeyScan.{KeyScan}
 use Rattle.tx_scan.specs.Keywords.{keyword, letters, begins_with, skips, word_rest, rest}
-use Rattle.tx_scan.proofs.Answering.{ending-none, ending-one, ending-all}
+use Rattle.tx_scan.proofs.Answering.{ending-one, ending-all}
 
 -- a token that is no space before the word is read with its letters
 reads-letter : (word : List ℕ) (read : ℕ) (behind : List Item) (t : Seen) (more : List Item) → length behind ≤ read → skips word read t ≡ false → word_rest word read behind (Took t) more ≡ letters (drop read word) (behind ++ Took t ∷ more) (Took t ∷ more)
@@ -39,10 +39,6 @@ other-letter word scan behind t c h s e u k = λ more.
 
 right-letter : (word : List ℕ) (scan : KeyScan) (behind : List Item) (t : Seen) (c : ℕ) (more : List Item) → length behind ≤ scan.read → skips word scan.read t ≡ false → drop scan.read word ≡ c ∷ drop (scan.read + 1) word → is_undefined t ≡ false → is_key c t ≡ true → rest word scan behind (Took t) more ≡ letters (drop (scan.read + 1) word) (behind ++ Took t ∷ more) more
 right-letter word scan behind t c more h s e u k = reads-letter word scan.read behind t more h s ∙ rw (e, u, k) refl
-
--- the last letter of the word
-pub last-letter : (word : List ℕ) (scan : KeyScan) (behind : List Item) (t : Seen) (c : ℕ) → length behind ≤ scan.read → skips word scan.read t ≡ false → drop scan.read word ≡ c ∷ drop (scan.read + 1) word → is_undefined t ≡ false → is_key c t ≡ true → drop (scan.read + 1) word ≡ [] → (more : List Item) → rest word scan behind (Took t) more ≡ Done true (ending 0 (behind ++ Took t ∷ []) ++ more)
-last-letter word scan behind t c h s e u k f = λ more. right-letter word scan behind t c more h s e u k ∙ rw (f, ending-none (behind ++ Took t ∷ [])) refl
 
 -- a letter before it
 pub early-letter : (word : List ℕ) (scan : KeyScan) (behind : List Item) (t : Seen) (c d : ℕ) (left : List ℕ) → length behind ≤ scan.read → skips word scan.read t ≡ false → drop scan.read word ≡ c ∷ drop (scan.read + 1) word → is_undefined t ≡ false → is_key c t ≡ true → drop (scan.read + 1) word ≡ d ∷ left → rest word scan behind (Took t) [] ≡ More Expanded

@@ -9,3 +9,6 @@ pub mod UnitSpaces
 pub mod Mosts
 pub mod Composing
 pub mod FileSteps
+pub mod Mappings
+pub mod Settling
+pub mod GivingBack

@@ -1,5 +1,5 @@
 -- One value more from a table.
-use Rattle.std.proofs.Common.{◌≡◌, ◌<◌, ℕ, suc, List, [], ◌∷◌, ◌++◌, map, refl, sym, ap, ◌∙◌, append_assoc, append-nil, arith}
+use Rattle.std.proofs.Common.{◌≡◌, List, [], ◌∷◌, ◌++◌, map, refl, sym, ap, ◌∙◌, append_assoc, append-nil}
 use Rattle.tx_seen.specs.declared.fed.Kind.{Kind}
 use Rattle.tx_seen.specs.declared.fed.Value.{Value}
 use Rattle.tx_seen.specs.declared.fed.Fed.{Fed}
@@ -8,10 +8,7 @@ use Rattle.tx_seen.specs.declared.place.Place.{Place}
 use Rattle.tx_seen.specs.declared.item.Item.{Item}
 use Rattle.tx_seen.specs.declared.item.Item.TheVariants.{Gave}
 use Rattle.tx_seen.specs.Readings.{Reading, Need, Answers}
-use Rattle.tx_scan.specs.Supplied.{value_for, IsSupplied, AnswersSupplied, NeedsFewer, needed}
-
-pub supplied-none : {S A : Type 0} (at : Place → Value) (reading : List Item → Reading A) (HasTaken : S → List Item → Type 0) (items : List Item) (scan : S) (answer : Fed A) → Answers reading HasTaken items scan answer → AnswersSupplied at reading HasTaken items scan answer
-supplied-none at reading HasTaken items scan answer h = ([], (tt, rw append-nil h))
+use Rattle.tx_scan.specs.Supplied.{value_for, IsSupplied, AnswersSupplied}
 
 supplied-push : {A : Type 0} (at : Place → Value) (reading : List Item → Reading A) (kind : Kind) (values : List Value) (items : List Item) → IsSupplied at reading items values → reading (items ++ map Gave values) ≡ Need kind → IsSupplied at reading items (values ++ value_for at kind ∷ [])
 supplied-push at reading kind [] items s h = (kind, (rw append-nil at h, (refl, tt)))
@@ -33,10 +30,3 @@ supplied-more at reading HasTaken items old new kind answer h k = (
     rw (given-push h.0 (value_for at kind) items) (k (items ++ map Gave h.0) h.1.1.1),
   ),
 )
-
--- fewer values are needed then
-pub needed-fewer : {A : Type 0} (answer : Fed A) (old new : ℕ) → NeedsFewer old new answer → needed answer new < suc old
-needed-fewer (fed.More want) old new h = omega arith
-needed-fewer (fed.Need kind) old new h = omega arith
-needed-fewer (fed.Done value back) old new h = omega arith
-needed-fewer (fed.Wrong error) old new h = omega arith

@@ -11,3 +11,5 @@ pub mod Dimensions
 pub mod DimensionRests
 pub mod ControlNames
 pub mod FileNames
+pub mod Settled
+pub mod Mapped

@@ -1,5 +1,5 @@
 -- Values from a table, as often as a scan needs one.
-use Rattle.std.specs.Prelude.{◌≡◌, ◌<◌, ◌≤◌, ◌+◌, ℕ, zero, suc, ◌++◌, ◌∷◌, [], List, map}
+use Rattle.std.specs.Prelude.{◌≡◌, ◌<◌, ◌≤◌, ◌+◌, ℕ, zero, suc, ◌++◌, ◌∷◌, [], List, length, map}
 use Rattle.tx_seen.specs.declared.fed.Kind.{Kind}
 use Rattle.tx_seen.specs.declared.fed.Kind.TheVariants.{Quantity}
 use Rattle.tx_seen.specs.declared.fed.Value.{Value}
@@ -62,3 +62,7 @@ unless_needed (Wrong error) items on = items
 abbrev pub supplied : {A : Type 0} → ℕ → (Place → Value) → (List Item → Reading A) → List Item → List Item
 supplied zero at reading items = items
 supplied (suc count) at reading items = unless_needed (reading items) items (λ kind. supplied count at reading (items ++ Gave (value_for at kind) ∷ []))
+
+-- the items with all of them: behind each token one more may be needed
+abbrev pub with_values : {A : Type 0} → (Place → Value) → (List Item → Reading A) → List Item → List Item
+with_values at reading items = supplied (suc (length items)) at reading items

@@ -73,6 +73,8 @@ fn begun_by_command(command: Primitive) -> Beginning
         Primitive::Numbered(kind) => Beginning::Numbered(kind),
         Primitive::Relax | Primitive::Par | Primitive::End => nothing(),
         Primitive::IgnoreSpaces | Primitive::Interaction(_) => nothing(),
+        Primitive::Definition(_) | Primitive::Text(_) | Primitive::After(_) => nothing(),
+        Primitive::FutureLet => nothing(),
         Primitive::BeginGroup | Primitive::EndGroup => nothing(),
         Primitive::EndCsName => nothing(),
         Primitive::Prefix(_) | Primitive::Let | Primitive::Shorthand(_) => nothing(),

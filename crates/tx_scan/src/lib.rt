@@ -7,7 +7,7 @@
 //! are final. Only tested: that the grammars are Knuth's, on numbers, keywords and names that his program reads alike.
 //!
 //! Read `scans` and `beginnings`, then `integer`, `dimension`, `keyword` and `grammars`; `spellings`, `control_name` and
-//! `file_name`; and `supplying` and `laws`.
+//! `file_name`; and `supplying`, `giving_back` and `laws`.
 #![tactic(auto)]
 
 mod beginnings;
@@ -16,6 +16,7 @@ mod control_name;
 mod dimension;
 mod file_name;
 mod fraction;
+mod giving_back;
 mod grammars;
 mod integer;
 mod keyword;
@@ -27,6 +28,7 @@ mod supplying;
 
 pub use beginnings::beginning;
 pub use file_name::input_name;
+pub use giving_back::{give_back, token_of};
 pub use integer::byte;
 pub use laws::integers_are_read_from_the_left;
 pub use scans::{Beginning, BraceScan, DimenScan, EqualsScan, IntScan, KeyScan, NameScan};
