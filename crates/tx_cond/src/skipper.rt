@@ -1,5 +1,5 @@
 //! The skipping of text that no branch takes (TeX: The Program, section 494).
-ghost use Rattle.std.specs.Prelude.{◌≡◌, ◌-◌, ◌^◌, IfOk, OnErr};
+ghost use Rattle.std.specs.Prelude.{◌≡◌, ◌↔◌, ◌-◌, ◌^◌, IfOk, IsTrue, OnErr};
 ghost use Rattle.tx_cond.specs.Skipping.{passing, item_of, IsPassed};
 
 use crate::types::SkipItem;
@@ -43,6 +43,20 @@ impl Skipper {
         ensures { result ≡ 0 }
     {
         Skipper { open: 0 }
+    }
+
+    /// Whether as many conditionals are open in both.
+    pub fn same(&self, other: &Skipper) -> bool
+        ensures { IsTrue result ↔ (self.now ≡ other.now) }
+    {
+        self.open == other.open
+    }
+
+    /// The same once more.
+    pub fn share(&self) -> Skipper
+        ensures { result ≡ self.now }
+    {
+        Skipper { open: self.open }
     }
 
     /// Skips one more item, at first and after More. Its only error is that no more open conditionals can be counted;

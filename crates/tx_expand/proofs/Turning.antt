@@ -7,7 +7,6 @@ use Rattle.tx_pending.specs.declared.next.Next.TheVariants as front
 use Rattle.tx_pending.specs.Elements.{Input, step}
 use Rattle.tx_seen.specs.declared.error.TexError.{TexError}
 use Rattle.tx_seen.specs.declared.fed.Fed.TheVariants as fed
-use Rattle.tx_seen.specs.declared.fed.Want.{Want}
 use Rattle.tx_seen.specs.declared.fed.Want.TheVariants.{Raw}
 use Rattle.tx_seen.specs.declared.meaning.Meaning.{Meaning}
 use Rattle.tx_seen.specs.declared.meaning.Meaning.TheVariants as meaning
@@ -17,21 +16,18 @@ use Rattle.tx_prim.specs.declared.expandable.Expandable.{Expandable}
 use Rattle.tx_toklist.specs.Macros.{Definition}
 use Rattle.tx_expand.specs.declared.types.Wanted.{Wanted}
 use Rattle.tx_seen.specs.declared.item.Item.{Item}
-use Rattle.tx_seen.specs.Readings.{Reading, More, Done, last, next}
+use Rattle.tx_seen.specs.Readings.{Reading, Done, last, next}
 use Rattle.tx_cond.specs.Skipping.{Passing, Inside, Ended, Refused, IsPassed}
 use Rattle.tx_expand.specs.declared.begun.Begun.{Begun}
-use Rattle.tx_expand.specs.declared.begun.Begun.TheVariants as begun
 use Rattle.tx_expand.specs.declared.types.Expanded.TheVariants as answer
 use Rattle.tx_expand.specs.declared.types.Made.{Made}
 use Rattle.tx_expand.specs.declared.types.Scanned.{Scanned}
 use Rattle.tx_expand.specs.declared.state.Open.{Open}
 use Rattle.tx_expand.specs.Expanding.{reader_of}
 use Rattle.tx_expand.specs.Reader.{World, Reader}
-use Rattle.tx_expand.specs.Scans.{reading, tokens_of}
-use Rattle.tx_expand.specs.Turns.{begins, come, expanded, finds, given_to, is_finding, put, read_on, reads, refused, front_read, is_opening, skips_on, token_read, turn, wanted_by, IsTurned}
-
-pub reads-more : (w : World) (what : Scanned) (items : List Item) (r : Reader) (want : Want) → reading what items ≡ More want → reads w what items r ≡ begins (begun.Scanning (record { what = what; taken = items })) r
-reads-more w what items r want is = ap (λ (read : Reading Made). read_on w (record { what = what; taken = items }) r read) is
+use Rattle.tx_scan.specs.Settled.{tokens_of}
+use Rattle.tx_expand.specs.Scans.{reading}
+use Rattle.tx_expand.specs.Turns.{come, expanded, finds, given_to, is_finding, put, read_on, reads, refused, front_read, is_opening, skips_on, token_read, turn, wanted_by, IsTurned}
 
 pub reads-done : (w : World) (what : Scanned) (items : List Item) (r : Reader) (m : Made) (back : List Item) → reading what items ≡ Done m back → reads w what items r ≡ come w m (put (tokens_of back) r)
 reads-done w what items r m back is = ap (λ (read : Reading Made). read_on w (record { what = what; taken = items }) r read) is

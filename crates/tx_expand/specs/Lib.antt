@@ -1,6 +1,5 @@
 pub mod Scans
 pub mod Parts
-pub mod Mapped
 pub mod Uses
 pub mod Steps
 pub mod Reader

@@ -1,9 +1,10 @@
 -- What an expansion reads on as, by the scan that it has.
-use Rattle.std.specs.Prelude.{◌≡◌, ◌≤◌, ◌+◌, ℕ, ℤ, List, ◌∷◌, length}
+use Rattle.std.specs.Prelude.{ℕ, ℤ, List, ◌∷◌}
 use Rattle.tx_seen.specs.declared.fed.Want.{Want}
 use Rattle.tx_seen.specs.declared.item.Item.{Item}
-use Rattle.tx_seen.specs.Readings.{Reading, More, Done, next}
+use Rattle.tx_seen.specs.Readings.{Reading, Done, next}
 use Rattle.tx_scan.specs.Rests.{HasTakenBy}
+use Rattle.tx_scan.specs.Settled.{WantsNext}
 use Rattle.tx_scan.specs.IntegerRests as integers
 use Rattle.tx_scan.specs.ControlNames as names
 use Rattle.tx_scan.specs.FileNames as files
@@ -46,7 +47,5 @@ more_needed (part.Test scan) = tests.more_needed scan
 more_needed _ = 0
 
 -- the scan of what has taken these items, and wants its next token so
-pub record IsAt (what : Scanned) (taken : List Item) (want : Want) (scan : Part) : Type 0 where
-  pub reads : HasTakenBy rest held (reading what) scan taken
-  pub wants : reading what taken ≡ More want
-  pub few : more_needed scan ≤ length taken + 1
+abbrev pub IsAt : Scanned → List Item → Want → Part → Type 0
+IsAt what = WantsNext (reading what) (HasTakenBy rest held (reading what)) more_needed

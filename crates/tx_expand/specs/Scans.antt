@@ -27,12 +27,6 @@ pub record Scan : Type 0 where
   pub what : Scanned
   pub taken : List Item
 
--- the tokens among them
-abbrev pub tokens_of : List Item → List Token
-tokens_of [] = []
-tokens_of (Took t ∷ rest) = t.token ∷ tokens_of rest
-tokens_of (Gave v ∷ rest) = tokens_of rest
-
 -- whether what a token begins stands for a size, if it stands for a quantity: a number that a name stands for, what stands at a
 -- place, or at the number that follows (section 413)
 abbrev pub quantity_begun : Beginning → Option Bool

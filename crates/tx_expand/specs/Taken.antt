@@ -1,39 +1,32 @@
 -- How a token is taken by an expansion that reads.
-use Rattle.std.specs.Prelude.{◌≡◌, ◌<◌, ◌≤◌, ℕ, List, length}
+use Rattle.std.specs.Prelude.{◌≡◌, List}
 use Rattle.tx_pending.specs.Elements.{Input, with_tokens}
 use Rattle.tx_seen.specs.declared.fed.Fed.{Fed}
-use Rattle.tx_seen.specs.declared.fed.Fed.TheVariants as fed
 use Rattle.tx_seen.specs.declared.fed.Value.{Value}
 use Rattle.tx_seen.specs.declared.fed.Want.{Want}
 use Rattle.tx_seen.specs.declared.item.Item.{Item}
 use Rattle.tx_seen.specs.declared.place.Place.{Place}
 use Rattle.tx_seen.specs.declared.seen.Seen.{Seen}
-use Rattle.tx_seen.specs.Readings.{More, Need, Done, Wrong, last}
+use Rattle.tx_seen.specs.Readings.{More, Done, Wrong}
 use Rattle.tx_scan.specs.Rests.{HasTakenBy}
-use Rattle.tx_scan.specs.Supplied.{supplied}
+use Rattle.tx_scan.specs.Settled as settled
+use Rattle.tx_scan.specs.Settled.{tokens_of}
 use Rattle.tx_expand.specs.declared.part.Part.{Part}
 use Rattle.tx_expand.specs.declared.types.Made.{Made}
 use Rattle.tx_expand.specs.declared.types.Read.{Read}
 use Rattle.tx_expand.specs.declared.types.Read.TheVariants as read
 use Rattle.tx_expand.specs.declared.types.Scanned.{Scanned}
-use Rattle.tx_expand.specs.Parts.{rest, held, more_needed, IsAt}
-use Rattle.tx_expand.specs.Scans.{Scan, reading, tokens_of}
+use Rattle.tx_expand.specs.Parts.{rest, held, more_needed}
+use Rattle.tx_expand.specs.Scans.{Scan, reading}
 use Rattle.tx_expand.specs.Turns.{joined}
 
 -- the answer says what these items come to, and those that were taken are they
 abbrev pub IsSettled : Scanned → List Item → List Item → Part → Fed Made → Type 0
-IsSettled what items taken scan (fed.More want) = (taken ≡ items) × IsAt what taken want scan
-IsSettled what items taken scan (fed.Need kind) = ⊥
-IsSettled what items taken scan (fed.Done made back) = (taken ≡ items) × (reading what items ≡ Done made (last back items))
-IsSettled what items taken scan (fed.Wrong error) = reading what items ≡ Wrong error
+IsSettled what = settled.IsSettled (reading what) (HasTakenBy rest held (reading what)) more_needed
 
--- where a value is needed, these items are the taken ones and so many values at most
+-- the same; or a value is needed
 abbrev pub IsPending : (Place → Value) → Scanned → List Item → List Item → Part → Fed Made → Type 0
-IsPending at what items taken scan (fed.More want) = IsSettled what items taken scan (fed.More want)
-IsPending at what items taken scan (fed.Need kind) =
-    (count : ℕ) × ((more_needed scan < count) × ((supplied count at (reading what) taken ≡ items) × ((reading what taken ≡ Need kind) × (HasTakenBy rest held (reading what) scan taken × (more_needed scan ≤ length taken)))))
-IsPending at what items taken scan (fed.Done made back) = IsSettled what items taken scan (fed.Done made back)
-IsPending at what items taken scan (fed.Wrong error) = IsSettled what items taken scan (fed.Wrong error)
+IsPending at what = settled.IsPending at (reading what) (HasTakenBy rest held (reading what)) more_needed
 
 -- of these items more is to come; or they come to that, and what wasn't needed is read again; or they are wrong
 abbrev pub IsReadAll : Scan → List Item → Input → Scan → Input → Read → Type 0

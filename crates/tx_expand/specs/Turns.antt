@@ -1,5 +1,5 @@
 -- One turn: a token is read, and what comes of it before another one is needed (TeX: The Program, sections 366 to 380).
-use Rattle.std.specs.Prelude.{◌≡◌, ℕ, suc, Bool, true, false, not, ◌&&◌, ◌||◌, Option, None, Some, List, [], ◌∷◌, ◌++◌, length, ℤ, if◌then◌else◌}
+use Rattle.std.specs.Prelude.{◌≡◌, ℕ, Bool, true, false, not, ◌&&◌, ◌||◌, Option, None, Some, List, [], ◌∷◌, ◌++◌, ℤ, if◌then◌else◌}
 use Rattle.tx_char.specs.declared.tokens.Token.{Token}
 use Rattle.tx_char.specs.declared.tokens.Token.TheVariants as token
 use Rattle.tx_toklist.specs.Bodies.{filled}
@@ -25,7 +25,8 @@ use Rattle.tx_seen.specs.declared.place.Place.{Place}
 use Rattle.tx_seen.specs.declared.seen.Seen.{Seen}
 use Rattle.tx_seen.specs.Seen.{held}
 use Rattle.tx_seen.specs.Readings.{Reading, More, Need, Done, Wrong}
-use Rattle.tx_scan.specs.Supplied.{supplied}
+use Rattle.tx_scan.specs.Settled.{tokens_of}
+use Rattle.tx_scan.specs.Supplied.{with_values}
 use Rattle.tx_cond.specs.declared.types.Conditional.{Conditional}
 use Rattle.tx_cond.specs.declared.types.Conditional.TheVariants.{Testing}
 use Rattle.tx_cond.specs.declared.types.Meet.{Meet}
@@ -48,7 +49,7 @@ use Rattle.tx_expand.specs.declared.types.Scanned.{Scanned}
 use Rattle.tx_expand.specs.declared.types.Scanned.TheVariants as scanned
 use Rattle.tx_expand.specs.declared.types.Wanted.{Wanted}
 use Rattle.tx_expand.specs.Reader.{World, Reader, Turn, Goes, Fails}
-use Rattle.tx_expand.specs.Scans.{Scan, reading, tokens_of}
+use Rattle.tx_expand.specs.Scans.{Scan, reading}
 use Rattle.tx_expand.specs.Uses.{Use, comes_to, with_taken}
 
 abbrev pub with_begun : List Begun → Reader → Reader
@@ -137,7 +138,7 @@ reads w what items r = read_on w (record { what = what; taken = items }) r (read
 
 -- a token joins them, and so do the values that are needed behind it
 abbrev pub joined : (Place → Value) → Scan → Seen → List Item
-joined at scan t = supplied (suc (length (scan.taken ++ Took t ∷ []))) at (reading scan.what) (scan.taken ++ Took t ∷ [])
+joined at scan t = with_values at (reading scan.what) (scan.taken ++ Took t ∷ [])
 
 -- a token joins the use of a macro (section 389)
 abbrev pub use_on : Use → Reader → macro.Use → Turn
@@ -172,7 +173,8 @@ abbrev pub given_to : World → Seen → Reader → List Begun → Turn
 given_to w t r [] = Goes (answer.Got t) r
 given_to w t r (b ∷ outer) = given_by w t (with_begun outer r) b
 
--- whether the tokens of \the belong to the text that the caller takes: where nothing else has begun (section 478)
+-- whether the tokens of \the belong to the text that the caller takes: where it takes such, and nothing else has begun (section
+-- 478)
 abbrev pub for_text : Bool → List Begun → Bool
 for_text text [] = text
 for_text text (b ∷ outer) = false
@@ -280,7 +282,7 @@ token_read w wanted t r = by (refused wanted.text t.meaning r.begun)
   where
     by : Option TexError → Turn
     by (Some error) = Fails error
-    by None = if is_expanding (wanted_by wanted r.begun) then expanded w wanted.text t r t.meaning else given_to w t r r.begun
+    by None = if is_expanding (wanted_by wanted r.begun) then expanded w wanted.takes_the t r t.meaning else given_to w t r r.begun
 
 abbrev pub front_read : World → Wanted → Reader → Next → Turn
 front_read w wanted r (front.Token t) = token_read w wanted (record { token = t; meaning = w.meaning t }) r

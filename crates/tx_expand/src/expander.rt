@@ -1,10 +1,11 @@
 //! The expander.
-ghost use Rattle.std.specs.Prelude.{◌≡◌, [], IfOk, OnOk};
+ghost use Rattle.std.specs.Prelude.{◌≡◌, ◌↔◌, [], IfOk, IsTrue, OnOk};
 ghost use Rattle.tx_expand.specs.Expanding.{reader_of, world_of};
 ghost use Rattle.tx_expand.specs.Turns as turns;
 ghost use Rattle.tx_expand.specs.Turns.{file_ended, turn, IsTurned};
 ghost use Rattle.tx_pending.specs.Elements.{Input};
 
+use crate::kept::{same_begun, share_begun};
 use crate::state::Open;
 use crate::types::{Expanded, Wanted};
 use std::alloc::{AllocError, Global};
@@ -61,6 +62,37 @@ impl Expander {
         ensures { OnOk result (reader_of self.new input.new ≡ turns.opened (reader_of self.old input.old)) }
     {
         self.open.line_came(input)
+    }
+
+    /// Whether the same is open in both, in runs of main files of the same name.
+    pub fn same(&self, other: &Expander) -> bool
+        ensures { IsTrue result ↔ ((self.now.begun.items ≡ other.now.begun.items) × ((self.now.conditionals ≡ other.now.conditionals) × (self.now.job ≡ other.now.job))) }
+    {
+        same_begun(&self.open.begun, &other.open.begun)
+            && self.open.conditionals.same(&other.open.conditionals)
+            && self.open.job.same(&other.open.job)
+    }
+
+    /// The same is open once more. Its only error is want of memory.
+    pub fn share(&self, alloc: Global) -> Result<Expander, AllocError>
+        ensures begun { IfOk result (λ shared. shared.begun.items ≡ self.now.begun.items) }
+        ensures conditionals { IfOk result (λ shared. shared.conditionals ≡ self.now.conditionals) }
+        ensures job { IfOk result (λ shared. shared.job ≡ self.now.job) }
+    {
+        Ok(Expander {
+            open: Open {
+                begun: share_begun(alloc, &self.open.begun)?,
+                conditionals: self.open.conditionals.share()?,
+                job: self.open.job.clone()?,
+            },
+        })
+    }
+
+    /// Whether the first line of a file is awaited.
+    pub fn is_opening(&self) -> bool
+        ensures { result ≡ turns.is_opening self.now.begun.items }
+    {
+        self.open.is_opening()
     }
 
     /// Takes what comes next off the input, and does all that follows before another token is needed. Its only error is want

@@ -28,17 +28,9 @@ use tx_convert::{push_job_name, push_meaning, push_string};
 use tx_eqtb::Eqtb;
 use tx_pending::Pending;
 use tx_prim::{CondWord, Conversion, Expandable, IntegerParameter, Mode, Test};
-use tx_scan::byte;
+use tx_scan::{byte, token_of};
 use tx_seen::{Fed, Meaning, Place, Seen, TexError, Want};
 use tx_toklist::{Macro, TokList, Toks};
-
-/// The token, without what it meant.
-fn token_of(seen: Seen) -> Token
-    ensures { result ≡ seen.token }
-{
-    let Seen { token, meaning: _ } = seen;
-    token
-}
 
 /// The token that the innermost expansion holds back, if it does. Its only error is that no more owners can be counted.
 fn held_back(begun: &VecDeque<Begun>) -> Result<Option<Token>, AllocError>
@@ -62,7 +54,7 @@ fn release(begun: &mut VecDeque<Begun>, input: &mut Pending) -> Result<(), Alloc
     Ok(())
 }
 
-/// Whether the tokens of \the belong to the text that the caller takes.
+/// Whether the tokens of \the belong to the text that the caller takes, which takes such or not.
 fn for_text(text: bool, begun: &VecDeque<Begun>) -> bool
     ensures { result ≡ turns.for_text text begun.now.items }
 {
@@ -532,7 +524,7 @@ impl Open {
             return Ok(Expanded::Wrong(error));
         }
         match self.want(wanted) {
-            Want::Expanded => self.expand(alloc, input, table, mode, wanted.text, token),
+            Want::Expanded => self.expand(alloc, input, table, mode, wanted.takes_the, token),
             Want::Raw => self.take(alloc, input, table, token),
         }
     }
@@ -557,7 +549,7 @@ impl Open {
 }
 
 /// The escape character, if there is one.
-fn escape_of(table: &Eqtb) -> Option<u8>
+pub fn escape_of(table: &Eqtb) -> Option<u8>
     ensures { result ≡ escape_of table.now }
 {
     byte(i64::from(table.number(&Place::Integer(IntegerParameter::Escapechar))))

@@ -5,7 +5,7 @@
 //! does what comes before the first line of a file, and the error where a file ends. Only tested: that the definitions are
 //! Knuth's, on cases worked out by hand, most of them seen in his program (`proofs/Worked.antt`).
 //!
-//! Read `types` and `begun`; `part`, `mapping`, `feeding` and `scanning`; `step` and `using`; then `state`, `expanding` and
+//! Read `types` and `begun`; `part`, `mapping`, `feeding` and `scanning`; `step` and `using`; then `state`, `expanding`, `kept` and
 //! `expander`.
 #![tactic(auto)]
 
@@ -13,6 +13,7 @@ mod begun;
 mod expander;
 mod expanding;
 mod feeding;
+mod kept;
 mod mapping;
 mod part;
 mod scanning;
@@ -23,6 +24,7 @@ mod using;
 
 pub use begun::Begun;
 pub use expander::Expander;
+pub use expanding::escape_of;
 pub use scanning::Scanning;
 pub use types::{Expanded, Made, Printed, Read, Scanned, Wanted};
 pub use using::Using;

@@ -1,7 +1,7 @@
 //! What comes of what was read.
 ghost use Rattle.std.specs.Prelude.{◌≡◌, IfOk};
 ghost use Rattle.tx_convert.specs.Texts.{as_tokens};
-ghost use Rattle.tx_expand.specs.Mapped.{mapped};
+ghost use Rattle.tx_scan.specs.Mapped.{mapped};
 ghost use Rattle.tx_expand.specs.Parts as parts;
 ghost use Rattle.tx_expand.specs.Scans as scans;
 ghost use Rattle.tx_scan.specs.FileNames as files;

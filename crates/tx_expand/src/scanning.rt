@@ -1,13 +1,12 @@
 //! An expansion that reads tokens which are expanded.
-ghost use Rattle.std.specs.Prelude.{◌≡◌, ◌≤◌, ◌+◌, ◌∷◌, ◌++◌, [], List, length, IfOk, OnOk};
-ghost use Rattle.tx_pending.specs.Elements.{with_tokens};
+ghost use Rattle.std.specs.Prelude.{◌≡◌, ◌↔◌, ◌≤◌, ◌+◌, ◌∷◌, ◌++◌, [], List, length, IfOk, IsTrue, OnOk};
 ghost use Rattle.tx_seen.specs.declared.item.Item.{Item};
 ghost use Rattle.tx_seen.specs.declared.item.Item.TheVariants.{Gave};
-ghost use Rattle.tx_seen.specs.Readings.{last, More};
+ghost use Rattle.tx_seen.specs.Readings.{More};
 ghost use Rattle.tx_scan.specs.Rests.{HasTakenBy, IsGivenBy};
 ghost use Rattle.tx_scan.specs.Supplied.{value_for, NeedsFewer};
 ghost use Rattle.tx_expand.specs.Parts.{held, more_needed, rest, IsAt};
-ghost use Rattle.tx_expand.specs.Scans.{reading, tokens_of};
+ghost use Rattle.tx_expand.specs.Scans.{reading};
 ghost use Rattle.tx_expand.specs.Taken.{IsPending, IsRead, IsSettled};
 ghost use Rattle.tx_expand.specs.Turns.{joined};
 
@@ -15,10 +14,9 @@ use crate::part::Part;
 use crate::types::{Made, Read, Scanned};
 use std::alloc::{AllocError, Global};
 use std::marker::Model;
-use tx_char::Token;
 use tx_list::Items;
 use tx_pending::Pending;
-use tx_scan::ControlNameScan;
+use tx_scan::{ControlNameScan, give_back};
 use tx_seen::{Fed, Item, Kind, Quantities, Seen, Want};
 
 /// An expansion that reads. Contracts see what it reads, and the tokens and values that it has taken.
@@ -60,6 +58,25 @@ impl Scanning {
         ensures { result ≡ self.now.what }
     {
         self.what
+    }
+
+    /// Whether both read the same, and have taken the same.
+    pub(crate) fn same(&self, other: &Scanning) -> bool
+        ensures { IsTrue result ↔ (self.now ≡ other.now) }
+    {
+        self.what == other.what && self.taken.same(&other.taken)
+    }
+
+    /// The same once more. Its only error is want of memory.
+    pub(crate) fn share(&self) -> Result<Scanning, AllocError>
+        ensures { IfOk result (λ shared. shared ≡ self.now) }
+    {
+        Ok(Scanning {
+            what: self.what,
+            taken: self.taken.share()?,
+            want: self.want,
+            part: self.part.clone()?,
+        })
     }
 
     /// How it wants its next token.
@@ -183,31 +200,4 @@ fn give<Q: Quantities>(
             Ok(fed)
         }
     }
-}
-
-/// The token, without what it meant.
-fn token_of(seen: Seen) -> Token
-    ensures { result ≡ seen.token }
-{
-    let Seen { token, meaning: _ } = seen;
-    token
-}
-
-/// Puts the last tokens that were taken, so many of them, at the front of the input, in their order; what they meant is
-/// forgotten. Its only error is want of memory.
-fn give_back(taken: &mut Items<Item>, input: &mut Pending, back: usize) -> Result<(), AllocError>
-    ensures { OnOk result (input.new ≡ with_tokens input.old (tokens_of (last back taken.old))) }
-{
-    let mut left = back;
-    while left > 0 {
-        match taken.pop() {
-            Some(Item::Took(seen)) => {
-                input.give_back(token_of(seen))?;
-                left -= 1;
-            }
-            Some(Item::Gave(_)) => {}
-            None => return Ok(()),
-        }
-    }
-    Ok(())
 }

@@ -12,6 +12,8 @@ pub struct Wanted {
     pub want: Want,
     /// Whether it takes a text: a definition, or what is absorbed (TeX: The Program, section 305).
     pub text: bool,
+    /// Whether what \the gives is put into that text as it stands (TeX: The Program, section 478).
+    pub takes_the: bool,
 }
 
 /// What is printed of one token.

@@ -1,5 +1,5 @@
 //! The use of a macro that takes arguments.
-ghost use Rattle.std.specs.Prelude.{◌≡◌, ◌≢◌, [], IfOk};
+ghost use Rattle.std.specs.Prelude.{◌≡◌, ◌≢◌, ◌↔◌, [], IfOk, IsTrue};
 ghost use Rattle.tx_toklist.specs.Macros.{no_parameters};
 ghost use Rattle.tx_expand.specs.Steps.{IsUsed};
 
@@ -52,6 +52,23 @@ impl Using {
             Fed::Done(arguments, _) => Ok(Step::Fits(made, to_share(alloc, arguments)?)),
             Fed::Wrong(error) => Ok(Step::Wrong(error)),
         }
+    }
+
+    /// Whether both are uses of the same macro with the same tokens.
+    pub(crate) fn same(&self, other: &Using) -> bool
+        ensures { IsTrue result ↔ (self.now ≡ other.now) }
+    {
+        self.made.same(&other.made) && self.matcher.same(&other.matcher)
+    }
+
+    /// The same use once more. Its only error is want of memory.
+    pub(crate) fn share(&self) -> Result<Using, AllocError>
+        ensures { IfOk result (λ shared. shared ≡ self.now) }
+    {
+        Ok(Using {
+            made: self.made.share()?,
+            matcher: self.matcher.share()?,
+        })
     }
 }
 
