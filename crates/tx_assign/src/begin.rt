@@ -16,6 +16,8 @@ fn of_primitive(primitive: Primitive) -> Option<Variable>
         Primitive::Dimension(parameter) => Some(Variable::Standing(Place::Dimension(parameter))),
         Primitive::Relax | Primitive::Par | Primitive::End => None,
         Primitive::IgnoreSpaces | Primitive::Interaction(_) => None,
+        Primitive::Definition(_) | Primitive::Text(_) | Primitive::After(_) => None,
+        Primitive::FutureLet => None,
         Primitive::BeginGroup | Primitive::EndGroup => None,
         Primitive::EndCsName => None,
         Primitive::Prefix(_) | Primitive::Let | Primitive::Shorthand(_) => None,

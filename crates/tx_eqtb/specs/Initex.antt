@@ -1,16 +1,17 @@
 -- The table with which INITEX begins.
-use Rattle.std.specs.Prelude.{Bool, ℕ, ℤ, pos, negsuc, ◌+◌, ◌-◌, ◌==◌, ◌&&◌, nat_le, if◌then◌else◌, List, map, replicate}
+use Rattle.std.specs.Prelude.{Bool, ℕ, ℤ, pos, negsuc, ◌+◌, ◌-◌, ◌==◌, ◌&&◌, nat_le, if◌then◌else◌, List, ◌++◌, map, replicate}
 use Rattle.std.specs.Char.{is_ascii_digit}
 use Rattle.std.specs.FinMap.{from_entries}
 use Rattle.tx_char.specs.Category.{initial_codes, is_ascii_letter, numbers_below}
 use Rattle.tx_name.specs.Names.{Names}
 use Rattle.tx_prim.specs.declared.integer.Moment.{Moment}
 use Rattle.tx_prim.specs.Integers.{initial_integer, all_integers}
+use Rattle.tx_prim.specs.Expandables as expandable
 use Rattle.tx_prim.specs.Table.{all, name_of}
 use Rattle.tx_prim.specs.declared.family.CharacterCode.{CharacterCode}
 use Rattle.tx_prim.specs.declared.family.CharacterCode.TheVariants.{LowerCase, UpperCase, SpaceFactor, Math, Delimiter}
 use Rattle.tx_seen.specs.declared.meaning.Meaning.{Meaning}
-use Rattle.tx_seen.specs.declared.meaning.Meaning.TheVariants.{Undefined, Command}
+use Rattle.tx_seen.specs.declared.meaning.Meaning.TheVariants.{Undefined, Command, Expandable}
 use Rattle.tx_eqtb.specs.declared.table.Table.{Table}
 
 -- whether a code is that of A to Z, and of a to z
@@ -33,9 +34,13 @@ initial_code Delimiter code = if code == 46 then pos 0 else negsuc 0
 abbrev pub codes_of : CharacterCode → List ℤ
 codes_of kind = map (initial_code kind) (numbers_below 256)
 
+-- the names of the primitives that are expanded
+abbrev pub expandable_entries : List (List ℕ × Meaning)
+expandable_entries = map (λ e. (expandable.name_of e, Expandable e)) expandable.all
+
 -- each primitive has its name, and every other name is undefined
 abbrev pub initial_names : Names Meaning
-initial_names = from_entries (map (λ p. (name_of p, Command p)) all)
+initial_names = from_entries (map (λ p. (name_of p, Command p)) all ++ expandable_entries)
 
 -- no active character has a meaning, registers are 0, and the parameters begin as their table says
 unfoldable pub initial_table : Moment → Table

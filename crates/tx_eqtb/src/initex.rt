@@ -1,5 +1,6 @@
 //! The table with which INITEX begins.
 ghost use Rattle.std.specs.Prelude.{◌≡◌, pos, map, replicate, IfOk};
+ghost use Rattle.std.specs.FinMap.{from_entries};
 ghost use Rattle.tx_seen.specs.declared.meaning.Meaning.TheVariants.{Undefined};
 ghost use Rattle.tx_prim.specs.Integers.{initial_integer, all_integers};
 ghost use Rattle.tx_eqtb.specs.Initex as spec;
@@ -9,7 +10,7 @@ use crate::table::Table;
 use std::alloc::{AllocError, Global};
 use tx_char::{Codes, ControlName};
 use tx_name::NameMap;
-use tx_prim::{CharacterCode, DimensionParameter, IntegerParameter, Moment, Primitive};
+use tx_prim::{CharacterCode, DimensionParameter, Expandable, IntegerParameter, Moment, Primitive};
 use tx_seen::Meaning;
 
 /// How many registers of a kind, and how many characters there are.
@@ -74,13 +75,30 @@ fn undefined(alloc: Global, count: usize) -> Result<Cells<Meaning>, AllocError>
     Cells::from_vec(vec![in alloc; Meaning::Undefined; count]?)
 }
 
+/// The names of the primitives that are expanded.
+#[tactic(auto, using(crate::proofs::Filled::filled_steps))]
+fn expandable_names(alloc: Global) -> Result<NameMap<Meaning>, AllocError>
+    ensures { IfOk result (λ names. names ≡ from_entries spec.expandable_entries) }
+{
+    let expandables = Expandable::all();
+    let mut names = NameMap::new(alloc)?;
+    let mut left = expandables.len();
+    while left > 0 {
+        left -= 1;
+        let expandable = expandables[left];
+        let name = ControlName::from_slice(alloc, expandable.name())?;
+        names.insert(name, Meaning::Expandable(expandable))?;
+    }
+    Ok(names)
+}
+
 /// The names of all primitives.
 #[tactic(auto, using(crate::proofs::Filled::filled_steps))]
 fn initial_names(alloc: Global) -> Result<NameMap<Meaning>, AllocError>
     ensures { IfOk result (λ names. names ≡ spec.initial_names) }
 {
     let primitives = Primitive::all();
-    let mut names = NameMap::new(alloc)?;
+    let mut names = expandable_names(alloc)?;
     let mut left = primitives.len();
     while left > 0 {
         left -= 1;

@@ -1,7 +1,7 @@
 -- Each primitive is the first of all that has its name.
 use Rattle.std.proofs.Common.{◌≡◌, ℕ, List, [], ◌∷◌, Some, IfSome, cond, true, false, refl}
 use Rattle.tx_prim.specs.declared.primitive.Primitive.{Primitive}
-use Rattle.tx_prim.specs.declared.primitive.Primitive.TheVariants.{Relax, EndCsName, Par, BeginGroup, EndGroup, Prefix, Let, Shorthand, Arithmetic, Numbered, Integer, Dimension, Sized, Rule, Box, Shipout, End, IgnoreSpaces, Interaction}
+use Rattle.tx_prim.specs.declared.primitive.Primitive.TheVariants.{Relax, EndCsName, Par, BeginGroup, EndGroup, Prefix, Let, Shorthand, Arithmetic, Numbered, Integer, Dimension, Sized, Rule, Box, Shipout, End, IgnoreSpaces, Interaction, Definition, Text, After, FutureLet}
 use Rattle.tx_prim.specs.declared.family.Prefix.TheVariants.{Global, Long, Outer}
 use Rattle.tx_prim.specs.declared.family.Interaction.TheVariants.{Batch, Nonstop, Scroll, Errorstop}
 use Rattle.tx_prim.specs.declared.family.Operation.TheVariants.{Advance, Multiply, Divide}
@@ -11,6 +11,9 @@ use Rattle.tx_prim.specs.declared.family.Numbered.TheVariants.{Count, Dimen, Cat
 use Rattle.tx_prim.specs.declared.family.SizeKind.TheVariants.{Kern}
 use Rattle.tx_prim.specs.declared.family.RuleKind.TheVariants.{Vertical}
 use Rattle.tx_prim.specs.declared.family.BoxKind.TheVariants.{Horizontal}
+use Rattle.tx_prim.specs.declared.family.DefinitionKind.TheVariants as definition
+use Rattle.tx_prim.specs.declared.family.TextUse.TheVariants as text
+use Rattle.tx_prim.specs.declared.family.AfterKind.TheVariants as after
 use Rattle.tx_prim.specs.declared.integer.IntegerParameter.{IntegerParameter}
 use Rattle.tx_prim.specs.declared.integer.IntegerParameter.TheVariants.{Pretolerance, Tolerance, Hbadness, Vbadness, Linepenalty, Hyphenpenalty, Exhyphenpenalty, Binoppenalty, Relpenalty, Clubpenalty, Widowpenalty, Displaywidowpenalty, Brokenpenalty, Predisplaypenalty, Postdisplaypenalty, Interlinepenalty, Floatingpenalty, Outputpenalty, Doublehyphendemerits, Finalhyphendemerits, Adjdemerits, Looseness, Pausing, Holdinginserts, Tracingonline, Tracingmacros, Tracingstats, Tracingparagraphs, Tracingpages, Tracingoutput, Tracinglostchars, Tracingcommands, Tracingrestores, Language, Uchyph, Lefthyphenmin, Righthyphenmin, Globaldefs, Defaulthyphenchar, Defaultskewchar, Escapechar, Endlinechar, Newlinechar, Maxdeadcycles, Hangafter, Fam, Mag, Delimiterfactor, Time, Day, Month, Year, Showboxbreadth, Showboxdepth, Errorcontextlines}
 use Rattle.tx_prim.specs.declared.dimension.DimensionParameter.{DimensionParameter}
@@ -139,6 +142,17 @@ found (Interaction Batch) = refl
 found (Interaction Nonstop) = refl
 found (Interaction Scroll) = refl
 found (Interaction Errorstop) = refl
+found (Definition definition.Plain) = refl
+found (Definition definition.Expanded) = refl
+found (Definition definition.Global) = refl
+found (Definition definition.GlobalExpanded) = refl
+found (Text text.Message) = refl
+found (Text text.ErrorMessage) = refl
+found (Text text.UpperCase) = refl
+found (Text text.LowerCase) = refl
+found (After after.Group) = refl
+found (After after.Assignment) = refl
+found FutureLet = refl
 found (Integer p) = integer-found p
 found (Dimension p) = dimension-found p
 

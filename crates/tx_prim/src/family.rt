@@ -89,3 +89,36 @@ pub enum BoxKind {
     /// \hbox: a horizontal one.
     Horizontal,
 }
+
+/// How a macro is defined (The TeXbook, chapter 20).
+#[derive(Clone, Copy, PartialEq, Eq)]
+pub enum DefinitionKind {
+    /// \def.
+    Plain,
+    /// \edef: its body is expanded.
+    Expanded,
+    /// \gdef and \xdef: the same, globally.
+    Global,
+    GlobalExpanded,
+}
+
+/// What a text in braces is for (The TeXbook, chapter 24).
+#[derive(Clone, Copy, PartialEq, Eq)]
+pub enum TextUse {
+    /// \message: to be printed.
+    Message,
+    /// \errmessage: an error of the document's own.
+    ErrorMessage,
+    /// \uppercase and \lowercase: to be read with other letters.
+    UpperCase,
+    LowerCase,
+}
+
+/// What a token is kept for (The TeXbook, chapter 24).
+#[derive(Clone, Copy, PartialEq, Eq)]
+pub enum AfterKind {
+    /// \aftergroup: the end of the group.
+    Group,
+    /// \afterassignment: the next assignment's end.
+    Assignment,
+}

@@ -17,7 +17,8 @@ mod primitive;
 pub use dimension::DimensionParameter;
 pub use expandable::{CondWord, Conversion, Expandable, Test};
 pub use family::{
-    BoxKind, CharacterCode, Interaction, Numbered, Operation, Prefix, RuleKind, Shorthand, SizeKind,
+    AfterKind, BoxKind, CharacterCode, DefinitionKind, Interaction, Numbered, Operation, Prefix,
+    RuleKind, Shorthand, SizeKind, TextUse,
 };
 pub use integer::{IntegerParameter, Moment};
 pub use modes::{Mode, ModeTest, Modes, Standing};

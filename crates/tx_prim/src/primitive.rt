@@ -5,7 +5,8 @@ ghost use Rattle.tx_prim.specs.Table.{all, modes_of, name_of, named};
 
 use crate::dimension::DimensionParameter;
 use crate::family::{
-    BoxKind, CharacterCode, Interaction, Numbered, Operation, Prefix, RuleKind, Shorthand, SizeKind,
+    AfterKind, BoxKind, CharacterCode, DefinitionKind, Interaction, Numbered, Operation, Prefix,
+    RuleKind, Shorthand, SizeKind, TextUse,
 };
 use crate::integer::IntegerParameter;
 use crate::modes::Modes;
@@ -50,10 +51,18 @@ pub enum Primitive {
     IgnoreSpaces,
     /// \batchmode and its kin.
     Interaction(Interaction),
+    /// \def and its kin.
+    Definition(DefinitionKind),
+    /// What takes a text in braces, as \message.
+    Text(TextUse),
+    /// \aftergroup and \afterassignment.
+    After(AfterKind),
+    /// \futurelet.
+    FutureLet,
 }
 
 /// All primitives, in the order of their table.
-const ALL: [Primitive; 110] = [
+const ALL: [Primitive; 121] = [
     Primitive::Relax,
     Primitive::EndCsName,
     Primitive::BeginGroup,
@@ -88,6 +97,17 @@ const ALL: [Primitive; 110] = [
     Primitive::Interaction(Interaction::Nonstop),
     Primitive::Interaction(Interaction::Scroll),
     Primitive::Interaction(Interaction::Errorstop),
+    Primitive::Definition(DefinitionKind::Plain),
+    Primitive::Definition(DefinitionKind::Expanded),
+    Primitive::Definition(DefinitionKind::Global),
+    Primitive::Definition(DefinitionKind::GlobalExpanded),
+    Primitive::Text(TextUse::Message),
+    Primitive::Text(TextUse::ErrorMessage),
+    Primitive::Text(TextUse::UpperCase),
+    Primitive::Text(TextUse::LowerCase),
+    Primitive::After(AfterKind::Group),
+    Primitive::After(AfterKind::Assignment),
+    Primitive::FutureLet,
     Primitive::Integer(IntegerParameter::Pretolerance),
     Primitive::Integer(IntegerParameter::Tolerance),
     Primitive::Integer(IntegerParameter::Hbadness),
@@ -215,6 +235,17 @@ impl Primitive {
             Primitive::Interaction(Interaction::Nonstop) => b"nonstopmode",
             Primitive::Interaction(Interaction::Scroll) => b"scrollmode",
             Primitive::Interaction(Interaction::Errorstop) => b"errorstopmode",
+            Primitive::Definition(DefinitionKind::Plain) => b"def",
+            Primitive::Definition(DefinitionKind::Expanded) => b"edef",
+            Primitive::Definition(DefinitionKind::Global) => b"gdef",
+            Primitive::Definition(DefinitionKind::GlobalExpanded) => b"xdef",
+            Primitive::Text(TextUse::Message) => b"message",
+            Primitive::Text(TextUse::ErrorMessage) => b"errmessage",
+            Primitive::Text(TextUse::UpperCase) => b"uppercase",
+            Primitive::Text(TextUse::LowerCase) => b"lowercase",
+            Primitive::After(AfterKind::Group) => b"aftergroup",
+            Primitive::After(AfterKind::Assignment) => b"afterassignment",
+            Primitive::FutureLet => b"futurelet",
             Primitive::Integer(parameter) => parameter.name(),
             Primitive::Dimension(parameter) => parameter.name(),
         }
@@ -232,6 +263,8 @@ impl Primitive {
             Primitive::Arithmetic(_) | Primitive::Numbered(_) => Modes::All,
             Primitive::Integer(_) | Primitive::Dimension(_) => Modes::All,
             Primitive::IgnoreSpaces | Primitive::Interaction(_) => Modes::All,
+            Primitive::Definition(_) | Primitive::Text(_) => Modes::All,
+            Primitive::After(_) | Primitive::FutureLet => Modes::All,
             Primitive::Sized(_) | Primitive::Box(_) | Primitive::Shipout => Modes::All,
             Primitive::Rule(RuleKind::Vertical) => Modes::NotVertical,
             Primitive::Par => Modes::NotMath,
