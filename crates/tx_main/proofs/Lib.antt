@@ -1,10 +1,13 @@
 pub mod Leaves
 pub mod Sides
-pub mod Reading
 pub mod Settling
 pub mod Stages
 pub mod RuleSteps
-pub mod GivingBack
+pub mod Keeping
 pub mod Ships
 pub mod Taking
+pub mod TextTurns
+pub mod Closing
+pub mod Turning
+pub mod Texting
 mod Worked

@@ -21,7 +21,7 @@ use Rattle.tx_main.specs.declared.scans.RulePart.TheVariants as rule
 use Rattle.tx_main.specs.declared.scans.RuleScan.{RuleScan}
 use Rattle.tx_main.specs.Rules.{letters_of, side_begun_by, side_or_none, named_side, side_named, side_or_end, with_side, rule_sides}
 use Rattle.tx_main.specs.Rests.{rule_part_rest, rule_part_held, rule_rest, rule_held, IsNameFed}
-use Rattle.tx_main.proofs.Reading.{same-read, fed-first}
+use Rattle.tx_scan.proofs.Mappings.{same-read, fed-first}
 use Rattle.tx_main.proofs.Sides.{rule-sides}
 
 -- behind the size of a side that is being read

@@ -1,7 +1,9 @@
 -- Each part of a command reads on as its scan.
-use Rattle.std.proofs.Common.{◌≡◌, ◌≤◌, ◌||◌, ℕ, ℤ, true, false, cond, List, [], ◌∷◌, length, Result, Ok, Err, IfOk, refl, ap, sym, subst, ◌∙◌, arith}
+use Rattle.std.proofs.Common.{◌≡◌, ◌≤◌, ◌||◌, ℕ, ℤ, true, false, cond, List, [], ◌∷◌, ◌++◌, length, Result, Ok, Err, IfOk, refl, ap, sym, subst, ◌∙◌, arith}
 use Rattle.tx_node.specs.declared.rule.Rule.{Rule}
+use Rattle.tx_prim.specs.declared.family.AfterKind.{AfterKind}
 use Rattle.tx_prim.specs.declared.family.BoxKind.{BoxKind}
+use Rattle.tx_prim.specs.declared.family.DefinitionKind.{DefinitionKind}
 use Rattle.tx_prim.specs.declared.family.RuleKind.{RuleKind}
 use Rattle.tx_prim.specs.declared.family.Shorthand.{Shorthand}
 use Rattle.tx_prim.specs.declared.family.SizeKind.{SizeKind}
@@ -14,12 +16,12 @@ use Rattle.tx_seen.specs.declared.fed.Fed.{Fed}
 use Rattle.tx_seen.specs.declared.fed.Fed.TheVariants as fed
 use Rattle.tx_seen.specs.declared.fed.Value.{Value}
 use Rattle.tx_seen.specs.declared.fed.Want.{Want}
-use Rattle.tx_seen.specs.declared.fed.Want.TheVariants.{Expanded}
+use Rattle.tx_seen.specs.declared.fed.Want.TheVariants.{Raw, Expanded}
 use Rattle.tx_seen.specs.declared.item.Item.{Item}
-use Rattle.tx_seen.specs.declared.item.Item.TheVariants.{Took}
+use Rattle.tx_seen.specs.declared.item.Item.TheVariants.{Took, Gave}
 use Rattle.tx_seen.specs.declared.place.Place.{Place}
 use Rattle.tx_seen.specs.declared.seen.Seen.{Seen}
-use Rattle.tx_seen.specs.Readings.{Reading, More, Done, Wrong, next}
+use Rattle.tx_seen.specs.Readings.{Reading, More, Done, Wrong, ending, next}
 use Rattle.tx_scan.specs.Rests.{IsFedBy, IsGivenBy}
 use Rattle.tx_scan.specs.Supplied.{NeedsNoMore, NeedsFewer, NeedsNothing}
 use Rattle.tx_scan.specs.DimensionRests.{begun_size, IsSize}
@@ -36,24 +38,19 @@ use Rattle.tx_main.specs.declared.scans.Stage.TheVariants as stage
 use Rattle.tx_main.specs.declared.types.BoxContext.{BoxContext}
 use Rattle.tx_main.specs.declared.types.BoxContext.TheVariants.{Ship}
 use Rattle.tx_main.specs.declared.types.Command.{Command}
-use Rattle.tx_main.specs.declared.types.Command.TheVariants.{Nothing, Assign}
+use Rattle.tx_main.specs.declared.types.Command.TheVariants.{Nothing, Assign, Keep}
 use Rattle.tx_main.specs.declared.types.Head.{Head}
-use Rattle.tx_main.specs.declared.types.Head.TheVariants.{Fresh, Prefixed, Defining}
+use Rattle.tx_main.specs.declared.types.Head.TheVariants.{Fresh, Prefixed, Defining, Future}
 use Rattle.tx_main.specs.declared.types.Prefixes.{Prefixes}
-use Rattle.tx_main.specs.Commands.{command, command_meant, fresh_command, may_be_prefixed, prefixed_command, assigning, defining, ruling, sizing, box_begin, box_meant, shipped_box, skipping}
+use Rattle.tx_main.specs.Commands.{command, command_meant, future_defining, future_of, future_second, keeping, macro_defining, fresh_command, may_be_prefixed, prefixed_command, assigning, defining, ruling, sizing, box_begin, box_meant, shipped_box, skipping}
 use Rattle.tx_main.specs.Standing.{may_stand}
-use Rattle.tx_main.specs.Mapped.{mapped}
-use Rattle.tx_main.specs.Rests.{command_rest, held, more_needed, stage_rest, stage_held, Begins, GoesOn, IsAssigning, IsBegunBy, IsOn, IsOnAt, IsRuleFed}
+use Rattle.tx_scan.proofs.Answering.{ending-none}
+use Rattle.tx_scan.specs.Mapped.{mapped}
+use Rattle.tx_main.specs.Rests.{command_rest, held, more_needed, second_rest, stage_rest, stage_held, Begins, GoesOn, IsAssigning, IsBegunBy, IsOn, IsOnAt, IsRuleFed}
 use Rattle.tx_main.specs.Rules.{plain_rule}
-use Rattle.tx_main.proofs.Reading.{Rest, read-none, fed-first, mapped-read, mapped-fed, mapped-given, same-read}
+use Rattle.tx_scan.proofs.Mappings.{Rest, read-none, fed-first, mapped-read, mapped-fed, mapped-given, same-read, needs-mapped, fewer-mapped}
 
 -- how many values are needed
-needs-mapped : {A B : Type 0} (f : A → B) (old new : ℕ) (answer : Fed A) → NeedsNoMore old new answer → NeedsNoMore old new (mapped f answer)
-needs-mapped f old new (fed.More want) k = k
-needs-mapped f old new (fed.Need kind) k = k
-needs-mapped f old new (fed.Done value back) k = tt
-needs-mapped f old new (fed.Wrong error) k = tt
-
 needs-least : {A : Type 0} (few most new : ℕ) (answer : Fed A) → few ≤ most → NeedsNoMore few new answer → NeedsNoMore most new answer
 needs-least few most new (fed.More want) h k = omega (arith, h, k)
 needs-least few most new (fed.Need kind) h k = omega (arith, h, k)
@@ -104,12 +101,6 @@ assign-given mode head old new v answer was is k =
 pub assign-needs : (old new : Scans) (answer : Fed Assignment) → old.stage ≡ stage.Assign → new.stage ≡ stage.Assign → NeedsNoMore (assign_needed old.assignment) (assign_needed new.assignment) answer → NeedsNoMore (more_needed old) (more_needed new) (mapped Assign answer)
 assign-needs old new answer was is k = rw (was, is) (needs-mapped Assign (assign_needed old.assignment) (assign_needed new.assignment) answer k)
 
-fewer-mapped : {A B : Type 0} (f : A → B) (old new : ℕ) (answer : Fed A) → NeedsFewer old new answer → NeedsFewer old new (mapped f answer)
-fewer-mapped f old new (fed.More want) k = k
-fewer-mapped f old new (fed.Need kind) k = k
-fewer-mapped f old new (fed.Done value back) k = tt
-fewer-mapped f old new (fed.Wrong error) k = tt
-
 pub assign-fewer : (old new : Scans) (answer : Fed Assignment) → old.stage ≡ stage.Assign → new.stage ≡ stage.Assign → NeedsFewer (assign_needed old.assignment) (assign_needed new.assignment) answer → NeedsFewer (more_needed old) (more_needed new) (mapped Assign answer)
 assign-fewer old new answer was is k = rw (was, is) (fewer-mapped Assign (assign_needed old.assignment) (assign_needed new.assignment) answer k)
 
@@ -123,6 +114,10 @@ pub assigning-is : (s : Stage) → IsAssigning s → s ≡ stage.Assign
 assigning-is stage.Start k = absurd k
 assigning-is stage.Assign k = refl
 assigning-is (stage.Name kind) k = absurd k
+assigning-is (stage.MacroName kind) k = absurd k
+assigning-is stage.FutureName k = absurd k
+assigning-is stage.SecondToken k = absurd k
+assigning-is (stage.KeptToken kind) k = absurd k
 assigning-is (stage.Sized kind) k = absurd k
 assigning-is (stage.Rule kind) k = absurd k
 assigning-is stage.Spaces k = absurd k
@@ -165,6 +160,15 @@ one-token mode head reading t new answer k = record {
 -- the parts that a first token begins
 pub name-begun : (kind : Shorthand) (new : Scans) (want : Want) → defining kind [] ≡ More want → new.stage ≡ stage.Name kind → Begins (defining kind) new (fed.More want)
 name-begun kind new want wants is = λ mode head. record { reads = (wants, rw is (omega arith), λ item more. rw is refl); needs = rw is (omega arith); goes_on = rw is tt }
+
+pub macro-begun : (kind : DefinitionKind) (new : Scans) → new.stage ≡ stage.MacroName kind → Begins (macro_defining kind) new (fed.More Raw)
+macro-begun kind new is = λ mode head. record { reads = (refl, rw is (omega arith), λ item more. rw is refl); needs = rw is (omega arith); goes_on = rw is tt }
+
+pub future-begun : (new : Scans) → new.stage ≡ stage.FutureName → Begins future_defining new (fed.More Raw)
+future-begun new is = λ mode head. record { reads = (refl, rw is (omega arith), λ item more. rw is refl); needs = rw is (omega arith); goes_on = rw is tt }
+
+pub kept-begun : (kind : AfterKind) (new : Scans) → new.stage ≡ stage.KeptToken kind → Begins (keeping kind) new (fed.More Raw)
+kept-begun kind new is = λ mode head. record { reads = (refl, rw is (omega arith), λ item more. rw is refl); needs = rw is (omega arith); goes_on = rw is tt }
 
 pub size-begun : (kind : SizeKind) (new : Scans) → new.stage ≡ stage.Sized kind → new.size ≡ begun_size → Begins (sizing kind) new (fed.More Expanded)
 size-begun kind new is same = λ mode head. record { reads = (refl, rw is (omega arith), λ item more. rw (is, same) refl); needs = rw is (omega arith); goes_on = rw is tt }
@@ -230,6 +234,42 @@ first-prefixed mode head prefixes t new answer e k = rw e (one-token mode (Prefi
 pub first-defining : {E : Type 0} (mode : Mode) (head : Head) (prefixes : Prefixes) (name : Place) (kind : Shorthand) (t : Seen) (new : Scans) (answer : Result (Fed Command) E) → head ≡ Defining prefixes name kind → ((m : Mode) (h : Head) → IfOk answer (IsBegunBy m h 1 (λ more. assigning (Named name kind) (Took t ∷ more)) (Took t ∷ []) new)) → IfOk answer (IsBegunBy mode head 1 (λ more. command mode head (Took t ∷ more)) (Took t ∷ []) new)
 first-defining mode head prefixes name kind t new (Ok answer) e k = rw e (k mode (Defining prefixes name kind))
 first-defining mode head prefixes name kind t new (Err error) e k = tt
+
+-- the first of the two tokens behind \futurelet and its name
+second-reads : (mode : Mode) (head : Head) (first : Seen) (new : Scans) (item : Item) (more : List Item) → new.stage ≡ stage.SecondToken → future_second head first (item ∷ more) ≡ command_rest mode head new (ending (held new) (Took first ∷ [])) item more
+second-reads mode head first new (Took t) more is = rw is refl
+second-reads mode head first new (Gave v) more is = rw is refl
+
+pub first-future : (mode : Mode) (head : Head) (prefixes : Prefixes) (name : Place) (t : Seen) (new : Scans) → head ≡ Future prefixes name → new.stage ≡ stage.SecondToken → IsBegunBy mode head 1 (λ more. command mode head (Took t ∷ more)) (Took t ∷ []) new (fed.More Raw)
+first-future mode head prefixes name t new e is = rw e (record {
+  reads = (refl, rw is (omega arith), λ item more. second-reads mode (Future prefixes name) t new item more is);
+  needs = rw is (omega arith);
+  goes_on = rw is tt;
+})
+
+-- the second of them
+second-back : (head : Head) (behind : List Item) (t : Seen) (more : List Item) → length behind ≤ 1 → second_rest head behind (Took t) more ≡ Done (future_of head t) (ending 2 (behind ++ Took t ∷ []) ++ more)
+second-back head [] t more h = refl
+second-back head (item ∷ []) t more h = refl
+second-back head (item ∷ other ∷ behind) t more h = absurd (omega (arith, h))
+
+pub second-fed : {E : Type 0} (mode : Mode) (head : Head) (t : Seen) (old new : Scans) (answer : Result (Fed Command) E) → old.stage ≡ stage.SecondToken → IfOk answer (λ given. given ≡ fed.Done (future_of head t) 2) → IfOk answer (IsFedBy (command_rest mode head) held old t new)
+second-fed mode head t old new (Ok answer) was is = rw is (λ behind h. (rw was (omega arith), λ more. rw was (second-back head behind t more (rw was at h))))
+second-fed mode head t old new (Err error) was is = tt
+
+-- the token that is kept
+pub kept-fed : {E : Type 0} (mode : Mode) (head : Head) (kind : AfterKind) (t : Seen) (old new : Scans) (answer : Result (Fed Command) E) → old.stage ≡ stage.KeptToken kind → IfOk answer (λ given. given ≡ fed.Done (Keep kind t.token) 0) → IfOk answer (IsFedBy (command_rest mode head) held old t new)
+kept-fed mode head kind t old new (Ok answer) was is = rw is (λ behind h. (omega arith, λ more. rw was (ap (λ (xs : List Item). Done (Keep kind t.token) (xs ++ more)) (sym (ending-none (behind ++ Took t ∷ []))))))
+kept-fed mode head kind t old new (Err error) was is = tt
+
+-- an answer that ends a command
+pub end-needs : {E : Type 0} (few most : ℕ) (c : Command) (back : ℕ) (answer : Result (Fed Command) E) → IfOk answer (λ given. given ≡ fed.Done c back) → IfOk answer (NeedsNoMore few most)
+end-needs few most c back (Ok answer) is = rw is tt
+end-needs few most c back (Err error) is = tt
+
+pub end-goes : {E : Type 0} (new : Scans) (c : Command) (back : ℕ) (answer : Result (Fed Command) E) → IfOk answer (λ given. given ≡ fed.Done c back) → IfOk answer (GoesOn new)
+end-goes new c back (Ok answer) is = rw is tt
+end-goes new c back (Err error) is = tt
 
 -- the box of a \shipout
 pub box-there : (kind : BoxKind) (t : Seen) (new : Scans) (answer : Fed Command) → is_undefined t ≡ false → (is_space t || is_relax t) ≡ false → t.meaning ≡ meaning.Command (primitive.Box kind) → Begins (box_begin kind Ship) new answer → Begins (λ more. shipped_box (Took t ∷ more)) new answer

@@ -1,15 +1,13 @@
 -- What comes of a token by what the open command answers.
 use Rattle.std.proofs.Common.{◌≡◌, List, [], Result, Ok, Err, IfOk, refl, ap, sym, append-nil}
-use Rattle.tx_char.specs.declared.tokens.Token.{Token}
 use Rattle.tx_machine.specs.declared.types.Event.{Event}
 use Rattle.tx_machine.specs.declared.types.Event.TheVariants.{Went}
 use Rattle.tx_pending.specs.Elements.{Input, with_tokens}
 use Rattle.tx_eqtb.specs.Quantities.{value_in}
+use Rattle.tx_expand.specs.Turns.{put}
 use Rattle.tx_seen.specs.declared.error.TexError.{TexError}
 use Rattle.tx_seen.specs.declared.fed.Want.{Want}
 use Rattle.tx_seen.specs.declared.item.Item.{Item}
-use Rattle.tx_seen.specs.declared.meaning.Meaning.{Meaning}
-use Rattle.tx_eqtb.specs.Table.{token_meaning}
 use Rattle.tx_seen.specs.declared.seen.Seen.{Seen}
 use Rattle.tx_seen.specs.Readings.{More, Done, Wrong}
 use Rattle.tx_main.specs.declared.parts.Phase.TheVariants.{Running}
@@ -23,7 +21,8 @@ use Rattle.tx_main.specs.Outcomes.{Fails, leaves}
 use Rattle.tx_main.specs.State.{TexState}
 use Rattle.tx_main.specs.Meanings.{IsStepped, state_of}
 use Rattle.tx_main.specs.Taken.{joined, IsTaken}
-use Rattle.tx_main.specs.Turns.{given_back, joining, scanned, taking}
+use Rattle.tx_scan.specs.Settled.{tokens_of}
+use Rattle.tx_main.specs.Turns.{joining, scanned, taking}
 
 -- the items of the open command with one more token
 abbrev pub items_with : TexState → Seen → List Item
@@ -35,7 +34,7 @@ joins-more s t want is = ap (scanned s (items_with s t)) is
 pub joins-wrong : (s : TexState) (t : Seen) (e : TexError) → command s.mode s.head (items_with s t) ≡ Wrong e → joining s (items_with s t) ≡ Fails e
 joins-wrong s t e is = ap (scanned s (items_with s t)) is
 
-pub joins-whole : (s : TexState) (t : Seen) (c : Command) (behind : List Item) → command s.mode s.head (items_with s t) ≡ Done c behind → joining s (items_with s t) ≡ effect (record s { taken = []; input = with_tokens s.input (given_back behind) }) c
+pub joins-whole : (s : TexState) (t : Seen) (c : Command) (behind : List Item) → command s.mode s.head (items_with s t) ≡ Done c behind → joining s (items_with s t) ≡ effect (record s { taken = []; reader = put (tokens_of behind) s.reader }) c
 joins-whole s t c behind is = ap (scanned s (items_with s t)) is
 
 -- the state once a token is taken
@@ -51,7 +50,7 @@ pub takes-wrong : (s new : State) (scan : Begun) (input : Input) (t : Seen) (e :
 takes-wrong s new scan input t e event k did =
     rw (joins-wrong (state_of s) t e k) (record { event_is = did.event_is; state_is = did.state_is; said_is = did.said_is })
 
-whole-by : (s new : State) (t : Seen) (c : Command) (behind : List Item) (event : Event) → command s.scan.mode s.scan.head (items_with (state_of s) t) ≡ Done c behind → IsStepped (effect (record (state_of s) { taken = []; input = with_tokens s.input (given_back behind) }) c) (fed_state s (record s.scan { taken = [] }) (with_tokens s.input (given_back behind))) event new → IsStepped (taking (state_of s) t) s event new
+whole-by : (s new : State) (t : Seen) (c : Command) (behind : List Item) (event : Event) → command s.scan.mode s.scan.head (items_with (state_of s) t) ≡ Done c behind → IsStepped (effect (record (state_of s) { taken = []; reader = put (tokens_of behind) (state_of s).reader }) c) (fed_state s (record s.scan { taken = [] }) (with_tokens s.input (tokens_of behind))) event new → IsStepped (taking (state_of s) t) s event new
 whole-by s new t c behind event is did =
     rw (joins-whole (state_of s) t c behind is) (record { event_is = did.event_is; state_is = did.state_is; said_is = did.said_is })
 

@@ -19,6 +19,15 @@ use Rattle.tx_prim.specs.declared.modes.Mode.{Mode}
 use Rattle.tx_prim.specs.contracts.modes.Mode as mode
 use Rattle.tx_main.specs.declared.parts.Due.{Due}
 use Rattle.tx_main.specs.contracts.parts.Due as due
+use Rattle.tx_cond.specs.declared.types.Conditional.{Conditional}
+use Rattle.tx_cond.specs.contracts.types.Conditional as conditional
+use Rattle.tx_expand.specs.declared.begun.Begun.{Begun}
+use Rattle.tx_expand.specs.contracts.begun.Begun as begun
+use Rattle.tx_expand.specs.Reader.{Reader}
+use Rattle.tx_main.specs.declared.parts.KeptToken.{KeptToken}
+use Rattle.tx_main.specs.contracts.parts.KeptToken as kept_token
+use Rattle.tx_main.specs.declared.parts.OpenText.{OpenText}
+use Rattle.tx_main.specs.contracts.parts.OpenText as open_text
 use Rattle.tx_main.specs.declared.parts.OpenBox.{OpenBox}
 use Rattle.tx_main.specs.contracts.parts.OpenBox as open_box
 use Rattle.tx_main.specs.declared.types.Head.{Head}
@@ -50,22 +59,33 @@ element_code = code_by (Token ⊎ (Token ⊎ (ℕ ⊎ (List ℕ × ReadState))))
 abbrev input_code : Coded Input
 input_code = code_by (List Element × Bool) (coded× (coded_list element_code) coded_bool) (λ i. (i.elements, i.closing)) (λ p. record { elements = p.0; closing = p.1 }) (λ _. refl)
 
+abbrev reader_code : Coded Reader
+reader_code = code_by
+    (Input × (List Begun × (List Conditional × List ℕ)))
+    (coded× input_code (coded× (coded_list begun.the_row.coded) (coded× (coded_list conditional.the_row.coded) (coded_list coded_ℕ))))
+    (λ r. (r.input, (r.begun, (r.conditionals, r.job))))
+    (λ p. record { input = p.0; begun = p.1.0; conditionals = p.1.1.0; job = p.1.1.1 })
+    (λ _. refl)
+
 abbrev state_code : Coded TexState
 state_code = code_by
-    (List Due × (Input × (Head × (List Item × (Mode × (List ListItem × (List OpenBox × (Eqtb × Option ℤ))))))))
-    (coded× (coded_list due.the_row.coded) (coded× input_code (coded× head.the_row.coded (coded× (coded_list item.the_row.coded) (coded× mode.the_row.coded
-    (coded× (coded_list item_code) (coded× (coded_list open_box.the_row.coded) (coded× eqtb.the_row.coded (coded_option coded_ℤ)))))))))
-    (λ s. (s.due, (s.input, (s.head, (s.taken, (s.mode, (s.list, (s.boxes, (s.table, s.magnification)))))))))
+    (List Due × (ℕ × (Reader × (Option OpenText × (Head × (List Item × (Mode × (List ListItem × (List OpenBox × (Eqtb × (List KeptToken × (Option Token × (Option ℤ)))))))))))))
+    (coded× (coded_list due.the_row.coded) (coded× coded_ℕ (coded× reader_code (coded× (coded_option open_text.the_row.coded) (coded× head.the_row.coded (coded× (coded_list item.the_row.coded) (coded× mode.the_row.coded (coded× (coded_list item_code) (coded× (coded_list open_box.the_row.coded) (coded× eqtb.the_row.coded (coded× (coded_list kept_token.the_row.coded) (coded× (coded_option token.the_row.coded) (coded_option coded_ℤ)))))))))))))
+    (λ s. (s.due, (s.files, (s.reader, (s.text, (s.head, (s.taken, (s.mode, (s.list, (s.boxes, (s.table, (s.after_groups, (s.after_assignment, s.magnification)))))))))))))
     (λ p. record {
       due = p.0;
-      input = p.1.0;
-      head = p.1.1.0;
-      taken = p.1.1.1.0;
-      mode = p.1.1.1.1.0;
-      list = p.1.1.1.1.1.0;
-      boxes = p.1.1.1.1.1.1.0;
-      table = p.1.1.1.1.1.1.1.0;
-      magnification = p.1.1.1.1.1.1.1.1;
+      files = p.1.0;
+      reader = p.1.1.0;
+      text = p.1.1.1.0;
+      head = p.1.1.1.1.0;
+      taken = p.1.1.1.1.1.0;
+      mode = p.1.1.1.1.1.1.0;
+      list = p.1.1.1.1.1.1.1.0;
+      boxes = p.1.1.1.1.1.1.1.1.0;
+      table = p.1.1.1.1.1.1.1.1.1.0;
+      after_groups = p.1.1.1.1.1.1.1.1.1.1.0;
+      after_assignment = p.1.1.1.1.1.1.1.1.1.1.1.0;
+      magnification = p.1.1.1.1.1.1.1.1.1.1.1.1;
     })
     (λ _. refl)
 

@@ -3,7 +3,9 @@
 use Rattle.std.specs.Prelude.{ℕ, ◌∷◌, [], ◌||◌, Bool, true, false, not, List, if◌then◌else◌}
 use Rattle.tx_char.specs.declared.category.Cat.{Cat}
 use Rattle.tx_char.specs.declared.category.Cat.TheVariants as category
+use Rattle.tx_prim.specs.declared.family.AfterKind.{AfterKind}
 use Rattle.tx_prim.specs.declared.family.BoxKind.{BoxKind}
+use Rattle.tx_prim.specs.declared.family.DefinitionKind.{DefinitionKind}
 use Rattle.tx_prim.specs.declared.family.RuleKind.{RuleKind}
 use Rattle.tx_prim.specs.declared.family.Shorthand.{Shorthand}
 use Rattle.tx_prim.specs.declared.family.SizeKind.{SizeKind}
@@ -11,12 +13,13 @@ use Rattle.tx_prim.specs.declared.modes.Mode.{Mode}
 use Rattle.tx_prim.specs.declared.primitive.Primitive.{Primitive}
 use Rattle.tx_prim.specs.declared.primitive.Primitive.TheVariants as primitive
 use Rattle.tx_seen.specs.declared.error.TexError.TheVariants.{Undefined, NoAssignment, NotAllowed, MisplacedAlignment, MissingBox, BadName}
-use Rattle.tx_seen.specs.declared.fed.Want.TheVariants.{Expanded}
+use Rattle.tx_seen.specs.declared.fed.Want.TheVariants.{Raw, Expanded}
 use Rattle.tx_seen.specs.declared.item.Item.{Item}
 use Rattle.tx_seen.specs.declared.item.Item.TheVariants.{Took, Gave}
 use Rattle.tx_seen.specs.declared.meaning.Meaning.{Meaning}
 use Rattle.tx_seen.specs.declared.meaning.Meaning.TheVariants as meaning
 use Rattle.tx_seen.specs.declared.place.Place.TheVariants as place
+use Rattle.tx_seen.specs.declared.seen.Seen.{Seen}
 use Rattle.tx_seen.specs.Seen.{is_space, is_relax}
 use Rattle.tx_seen.specs.Readings.{Reading, More, Done, Wrong, next}
 use Rattle.tx_scan.specs.Dimensions.{dimension}
@@ -25,13 +28,13 @@ use Rattle.tx_scan.specs.Integers.{expanded}
 use Rattle.tx_assign.specs.declared.types.Assigning.{Assigning}
 use Rattle.tx_assign.specs.declared.types.Assigning.TheVariants as assign
 use Rattle.tx_assign.specs.declared.types.Variable.TheVariants.{Numbered, Standing}
-use Rattle.tx_assign.specs.Assignments.{assignment}
+use Rattle.tx_assign.specs.Assignments.{assignment, let_to}
 use Rattle.tx_main.specs.declared.types.BoxContext.{BoxContext}
 use Rattle.tx_main.specs.declared.types.BoxContext.TheVariants.{Append, Ship}
 use Rattle.tx_main.specs.declared.types.Command.{Command}
-use Rattle.tx_main.specs.declared.types.Command.TheVariants.{Nothing, Space, Character, BeginGroup, EndGroup, BeginSemiSimple, EndSemiSimple, Prefix, Define, Assign, Sized, Rule, BeginBox, End, Interact}
+use Rattle.tx_main.specs.declared.types.Command.TheVariants.{Nothing, Space, Character, BeginGroup, EndGroup, BeginSemiSimple, EndSemiSimple, Prefix, Define, Assign, Sized, Rule, BeginBox, End, Interact, DefineMacro, BeginText, DefineFuture, Keep}
 use Rattle.tx_main.specs.declared.types.Head.{Head}
-use Rattle.tx_main.specs.declared.types.Head.TheVariants.{Fresh, Prefixed, Defining}
+use Rattle.tx_main.specs.declared.types.Head.TheVariants.{Fresh, Prefixed, Defining, Future}
 use Rattle.tx_main.specs.declared.types.Prefixes.{Prefixes}
 use Rattle.tx_main.specs.Rules.{plain_rule, rule_sides}
 use Rattle.tx_main.specs.Standing.{may_stand}
@@ -64,6 +67,20 @@ skipping (Took t ∷ rest) = expanded t (if is_space t then skipping rest else D
 -- the name that \chardef or its kin defines
 abbrev pub defining : Shorthand → List Item → Reading Command
 defining kind items = next (name items) (λ defined behind. Done (Define defined kind) behind)
+
+-- the name that \def or its kin defines
+abbrev pub macro_defining : DefinitionKind → List Item → Reading Command
+macro_defining kind items = next (name items) (λ defined behind. Done (DefineMacro defined kind) behind)
+
+-- the name that \futurelet defines
+abbrev pub future_defining : List Item → Reading Command
+future_defining items = next (name items) (λ defined behind. Done (DefineFuture defined) behind)
+
+-- the token that is kept for later
+abbrev pub keeping : AfterKind → List Item → Reading Command
+keeping kind [] = More Raw
+keeping kind (Gave v ∷ rest) = Wrong NotAllowed
+keeping kind (Took t ∷ rest) = Done (Keep kind t.token) rest
 
 -- the size of a kern
 abbrev pub sizing : SizeKind → List Item → Reading Command
@@ -113,6 +130,10 @@ family_command primitive.Shipout rest = shipped_box rest
 family_command primitive.End rest = Done End rest
 family_command primitive.IgnoreSpaces rest = skipping rest
 family_command (primitive.Interaction kind) rest = Done (Interact kind) rest
+family_command (primitive.Definition kind) rest = macro_defining kind rest
+family_command (primitive.Text purpose) rest = Done (BeginText purpose) rest
+family_command (primitive.After kind) rest = keeping kind rest
+family_command primitive.FutureLet rest = future_defining rest
 
 -- the command whose first token means this; what is expanded is none, and comes expanded, and what \noexpand held does nothing
 abbrev pub command_meant : Meaning → List Item → Reading Command
@@ -133,7 +154,7 @@ fresh_command mode [] = More Expanded
 fresh_command mode (Gave v ∷ rest) = Wrong NotAllowed
 fresh_command mode (Took t ∷ rest) = if may_stand mode t.meaning then command_meant t.meaning rest else Wrong NotAllowed
 
--- \long and \outer stand before definitions alone, and there is none yet
+-- \long and \outer stand before definitions alone
 abbrev pub want_definition : Prefixes → Bool
 want_definition prefixes = prefixes.long || prefixes.outer
 
@@ -158,6 +179,10 @@ is_prefixable prefixes primitive.Shipout = false
 is_prefixable prefixes primitive.End = false
 is_prefixable prefixes primitive.IgnoreSpaces = false
 is_prefixable prefixes (primitive.Interaction kind) = not (want_definition prefixes)
+is_prefixable prefixes (primitive.Definition kind) = true
+is_prefixable prefixes (primitive.Text purpose) = false
+is_prefixable prefixes (primitive.After kind) = false
+is_prefixable prefixes primitive.FutureLet = not (want_definition prefixes)
 
 -- what has no meaning, or is expanded, is let through, since carrying it out is an error of its own
 abbrev pub may_be_prefixed : Prefixes → Meaning → Bool
@@ -182,8 +207,25 @@ prefixed_command prefixes (Took t ∷ rest) =
     else if may_be_prefixed prefixes t.meaning then command_meant t.meaning rest
     else Wrong NoAssignment
 
+-- behind \futurelet and its name: the name is to mean what the second of two tokens means, and both are read again (TeX: The
+-- Program, section 1221)
+abbrev pub future_of : Head → Seen → Command
+future_of (Future prefixes defined) t = Assign (let_to defined t)
+future_of other t = Nothing
+
+abbrev pub future_second : Head → Seen → List Item → Reading Command
+future_second head first [] = More Raw
+future_second head first (Gave v ∷ rest) = Wrong NotAllowed
+future_second head first (Took second ∷ rest) = Done (future_of head second) (Took first ∷ Took second ∷ rest)
+
+abbrev pub future : Head → List Item → Reading Command
+future head [] = More Raw
+future head (Gave v ∷ rest) = Wrong NotAllowed
+future head (Took first ∷ rest) = future_second head first rest
+
 -- the command at the front of these items, by what stands before it
 abbrev pub command : Mode → Head → List Item → Reading Command
 command mode Fresh items = fresh_command mode items
 command mode (Prefixed prefixes) items = prefixed_command prefixes items
 command mode (Defining prefixes defined kind) items = assigning (assign.Named defined kind) items
+command mode (Future prefixes defined) items = future (Future prefixes defined) items

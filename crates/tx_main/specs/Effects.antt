@@ -1,5 +1,6 @@
 -- What each command does, once it is whole (TeX: The Program, parts 45 to 49): a line for each family.
-use Rattle.std.specs.Prelude.{ℕ, true, false, nat_lt, List, [], ◌∷◌, ◌++◌, length, Option, Some, None, Result, Ok, Err, codes, decimal, if◌then◌else◌}
+use Rattle.std.specs.Prelude.{ℕ, Bool, true, false, ◌||◌, ◌==◌, nat_lt, List, [], ◌∷◌, ◌++◌, length, map, Option, Some, None, Result, Ok, Err, codes, decimal, if◌then◌else◌}
+use Rattle.tx_char.specs.declared.tokens.Token.{Token}
 use Rattle.tx_node.specs.declared.pack.PackError.{PackError}
 use Rattle.tx_node.specs.declared.pack.PackError.TheVariants as pack
 use Rattle.tx_node.specs.Items.{Item, rule, kern, space, box_item, HBox}
@@ -7,8 +8,17 @@ use Rattle.tx_node.specs.Packing.{natural}
 use Rattle.tx_eqtb.specs.declared.eqtb.Eqtb.{Eqtb}
 use Rattle.tx_eqtb.specs.declared.groups.GroupKind.{GroupKind}
 use Rattle.tx_eqtb.specs.declared.groups.GroupKind.TheVariants as kind
-use Rattle.tx_eqtb.specs.Stack.{opened, closed, kind_of}
+use Rattle.tx_eqtb.specs.declared.entry.Entry.TheVariants.{Means}
+use Rattle.tx_eqtb.specs.Stack.{opened, closed, kind_of, assigned as table_assigned}
+use Rattle.tx_expand.specs.Expanding.{escape_of}
+use Rattle.tx_expand.specs.Turns.{put}
+use Rattle.tx_prim.specs.declared.family.AfterKind.{AfterKind}
+use Rattle.tx_prim.specs.declared.family.AfterKind.TheVariants as after
 use Rattle.tx_prim.specs.declared.family.BoxKind.{BoxKind}
+use Rattle.tx_prim.specs.declared.family.DefinitionKind.{DefinitionKind}
+use Rattle.tx_prim.specs.declared.family.TextUse.{TextUse}
+use Rattle.tx_prim.specs.declared.family.TextUse.TheVariants as purposes
+use Rattle.tx_prim.specs.declared.primitive.Primitive.TheVariants.{Relax}
 use Rattle.tx_prim.specs.declared.family.BoxKind.TheVariants as box
 use Rattle.tx_prim.specs.declared.family.Prefix.{Prefix as APrefix}
 use Rattle.tx_prim.specs.declared.family.Prefix.TheVariants.{Global, Long, Outer}
@@ -17,18 +27,29 @@ use Rattle.tx_prim.specs.declared.family.SizeKind.TheVariants.{Kern}
 use Rattle.tx_prim.specs.declared.modes.Mode.{Mode}
 use Rattle.tx_prim.specs.declared.modes.Mode.TheVariants as mode
 use Rattle.tx_seen.specs.declared.error.TexError.{TexError}
-use Rattle.tx_seen.specs.declared.error.TexError.TheVariants.{SizeOutOfRange, TooDeep, ExtraGroupEnd, TooManyGroups}
+use Rattle.tx_seen.specs.declared.error.TexError.TheVariants.{SizeOutOfRange, TooDeep, ExtraGroupEnd, TooManyGroups, ErrorMessage}
+use Rattle.tx_seen.specs.declared.meaning.Meaning.TheVariants.{Macro, Command as Command_meaning}
+use Rattle.tx_seen.specs.declared.place.Place.{Place}
+use Rattle.tx_seen.specs.declared.place.Place.TheVariants.{Name}
+use Rattle.tx_assign.specs.declared.types.Change.TheVariants.{Set}
 use Rattle.tx_assign.specs.Changes.{carried_out, relaxed}
+use Rattle.tx_text.specs.Definitions.{Defining as Defined_text}
+use Rattle.tx_toklist.specs.Macros.{Definition}
+use Rattle.tx_toklist.specs.Text.{printed}
 use Rattle.tx_main.specs.declared.types.BoxContext.{BoxContext}
 use Rattle.tx_main.specs.declared.types.BoxContext.TheVariants.{Append, Ship as Ship_context}
 use Rattle.tx_main.specs.declared.types.Command.{Command}
-use Rattle.tx_main.specs.declared.types.Command.TheVariants.{Nothing, Space, Character, BeginGroup, EndGroup, BeginSemiSimple, EndSemiSimple, Prefix, Define, Assign, Sized, Rule, BeginBox, End, Interact}
+use Rattle.tx_main.specs.declared.types.Command.TheVariants.{Nothing, Space, Character, BeginGroup, EndGroup, BeginSemiSimple, EndSemiSimple, Prefix, Define, Assign, Sized, Rule, BeginBox, End, Interact, DefineMacro, BeginText, DefineFuture, Keep}
 use Rattle.tx_main.specs.declared.types.Head.{Head}
-use Rattle.tx_main.specs.declared.types.Head.TheVariants.{Fresh, Prefixed, Defining}
+use Rattle.tx_main.specs.declared.types.Head.TheVariants.{Fresh, Prefixed, Defining, Future}
 use Rattle.tx_main.specs.declared.types.Prefixes.{Prefixes}
 use Rattle.tx_main.specs.declared.parts.Due.TheVariants.{Ship}
+use Rattle.tx_main.specs.declared.parts.KeptToken.{KeptToken}
 use Rattle.tx_main.specs.declared.parts.OpenBox.{OpenBox}
+use Rattle.tx_main.specs.declared.parts.OpenText.{OpenText}
+use Rattle.tx_main.specs.declared.parts.OpenText.TheVariants as texts
 use Rattle.tx_main.specs.State.{TexState}
+use Rattle.tx_main.specs.Texts.{absorbed_text, code_for, definition_text, is_global, token_for}
 use Rattle.tx_main.specs.Outcomes.{Outcome, Leaves, Fails, Ends, leaves}
 
 -- the prefixes that stand before a command
@@ -36,6 +57,7 @@ abbrev pub prefixes_of : Head → Prefixes
 prefixes_of Fresh = record { global = false; long = false; outer = false }
 prefixes_of (Prefixed prefixes) = prefixes
 prefixes_of (Defining prefixes defined kind) = prefixes
+prefixes_of (Future prefixes defined) = prefixes
 
 -- one more of them
 abbrev pub with_prefix : Prefixes → APrefix → Prefixes
@@ -46,10 +68,23 @@ with_prefix prefixes Outer = record prefixes { outer = true }
 abbrev pub prefixing : TexState → APrefix → Outcome
 prefixing s prefix = leaves (record s { head = Prefixed (with_prefix (prefixes_of s.head) prefix) })
 
--- the table changes, if the assignment can be carried out; what stands before the next command is this
-abbrev pub assigning : TexState → Head → Result Eqtb TexError → Outcome
-assigning s head (Err e) = Fails e
-assigning s head (Ok table) = leaves (record s { table = table; head = head })
+-- the table changes, if the assignment can be carried out; behind the name that \chardef or its kin defines its value is to follow
+abbrev pub naming : TexState → Head → Result Eqtb TexError → Outcome
+naming s head (Err e) = Fails e
+naming s head (Ok table) = leaves (record s { table = table; head = head })
+
+-- an assignment is done: what \afterassignment keeps is read next (TeX: The Program, section 1269)
+abbrev pub with_after : TexState → Option Token → TexState
+with_after s None = s
+with_after s (Some t) = record s { after_assignment = None; reader = put (t ∷ []) s.reader }
+
+abbrev pub assigned : TexState → TexState
+assigned s = with_after (record s { head = Fresh; taken = [] }) s.after_assignment
+
+-- the table changes, if the assignment can be carried out
+abbrev pub assigning : TexState → Result Eqtb TexError → Outcome
+assigning s (Err e) = Fails e
+assigning s (Ok table) = leaves (assigned (record s { table = table }))
 
 -- one more node in a list
 abbrev pub adding : TexState → Item → Outcome
@@ -88,9 +123,71 @@ abbrev pub boxing : BoxContext → TexState → Result HBox PackError → Outcom
 boxing context s (Err e) = Fails (pack_error e)
 boxing context s (Ok box) = leaves (using_box context box s)
 
--- closing the innermost group brings back what it changed
+-- what \aftergroup keeps for the end of the innermost of so many groups, the last of those that are left
+abbrev pub kept_for : List KeptToken → ℕ → Option Token
+kept_for [] groups = None
+kept_for (kept ∷ more) groups = if kept.groups == groups then Some kept.token else None
+
+-- all of it, the first first, before these tokens; and what is left behind it
+abbrev pub kept_tokens : ℕ → List KeptToken → List Token → List Token
+kept_tokens groups [] tokens = tokens
+kept_tokens groups (kept ∷ more) tokens = if kept.groups == groups then kept_tokens groups more (kept.token ∷ tokens) else tokens
+
+abbrev pub left_after : ℕ → List KeptToken → List KeptToken
+left_after groups [] = []
+left_after groups (kept ∷ more) = if kept.groups == groups then left_after groups more else kept ∷ more
+
+-- closing the innermost group brings back what it changed, and what \aftergroup keeps for it is read next (section 326)
 abbrev pub closing : TexState → TexState
-closing s = record s { table = closed s.table }
+closing s =
+    record s {
+      table = closed s.table;
+      after_groups = left_after (length s.table.groups) s.after_groups;
+      reader = put (kept_tokens (length s.table.groups) s.after_groups []) s.reader;
+    }
+
+-- a token is kept; outside of groups \aftergroup does nothing (section 280)
+abbrev pub keeping_after : TexState → AfterKind → Token → TexState
+keeping_after s after.Assignment t = record s { after_assignment = Some t }
+keeping_after s after.Group t =
+    if length s.table.groups == 0 then s
+    else record s { after_groups = record { groups = length s.table.groups; token = t } ∷ s.after_groups }
+
+-- the macro of a definition that is whole
+abbrev pub macro_of : Prefixes → Defined_text → Definition
+macro_of prefixes d = record { parameters = d.parameters; signs = d.signs; body = d.body; long = prefixes.long; outer = prefixes.outer }
+
+abbrev pub defining : TexState → Place → DefinitionKind → Defined_text → Outcome
+defining s defined kind d =
+    assigning s (carried_out s.table (record { place = defined; change = Set (Means (Macro (macro_of (prefixes_of s.head) d))) }) ((prefixes_of s.head).global || is_global kind))
+
+-- the line of a message
+unfoldable pub message : List ℕ → List ℕ
+message text = codes "message " ++ (text ++ 10 ∷ [])
+
+abbrev pub printing : TexState → List Token → Outcome
+printing s tokens = Leaves s (message (printed (escape_of s.table) s.table.table.categories tokens))
+
+-- a text is read next, with other letters
+abbrev pub lettering : TexState → Bool → List Token → Outcome
+lettering s upper tokens = leaves (record s { reader = put (map (token_for s.table.table (code_for upper)) tokens) s.reader })
+
+-- what becomes of a text in braces
+abbrev pub using_text : TexState → TextUse → List Token → Outcome
+using_text s purposes.Message tokens = printing s tokens
+using_text s purposes.ErrorMessage tokens = Fails ErrorMessage
+using_text s purposes.UpperCase tokens = lettering s true tokens
+using_text s purposes.LowerCase tokens = lettering s false tokens
+
+-- what becomes of the text that is whole
+abbrev pub ending_text : TexState → Option OpenText → Outcome
+ending_text s None = leaves s
+ending_text s (Some (texts.Definition defined kind d)) = defining (record s { text = None }) defined kind d
+ending_text s (Some (texts.Absorbed purpose a)) = using_text (record s { text = None }) purpose a.tokens
+
+-- the name that \csname has made means \relax from now on, in the innermost group (section 372)
+abbrev pub relaxing : TexState → List ℕ → TexState
+relaxing s name = record s { table = table_assigned s.table (Name name) (Means (Command_meaning Relax)) }
 
 -- of a box's list the box is made, in the list around it
 abbrev pub closing_box : TexState → List OpenBox → Outcome
@@ -136,10 +233,14 @@ effect s EndGroup = ending s (kind_of s.table)
 effect s BeginSemiSimple = opening s kind.SemiSimple s
 effect s EndSemiSimple = ending_semi_simple s (kind_of s.table)
 effect s (Prefix prefix) = prefixing s prefix
-effect s (Define defined kind) = assigning s (Defining (prefixes_of s.head) defined kind) (carried_out s.table (relaxed defined) (prefixes_of s.head).global)
-effect s (Assign a) = assigning s Fresh (carried_out s.table a (prefixes_of s.head).global)
+effect s (Define defined kind) = naming s (Defining (prefixes_of s.head) defined kind) (carried_out s.table (relaxed defined) (prefixes_of s.head).global)
+effect s (Assign a) = assigning s (carried_out s.table a (prefixes_of s.head).global)
 effect s (Sized Kern size) = adding s (kern size)
 effect s (Rule rules.Vertical r) = adding s (rule r)
 effect s (BeginBox kind context) = opening s (group_of kind) (in_box kind context s)
 effect s End = Ends
-effect s (Interact kind) = leaves (record s { head = Fresh })
+effect s (Interact kind) = leaves (assigned s)
+effect s (DefineMacro defined kind) = leaves (record s { text = Some (definition_text defined kind) })
+effect s (BeginText purpose) = leaves (record s { text = Some (absorbed_text purpose) })
+effect s (DefineFuture defined) = leaves (record s { head = Future (prefixes_of s.head) defined })
+effect s (Keep kind t) = leaves (keeping_after s kind t)

@@ -5,7 +5,7 @@ use Rattle.tx_machine.specs.declared.types.AskKind.{AskKind}
 use Rattle.tx_machine.specs.declared.types.Reply.{Reply}
 use Rattle.tx_machine.specs.Machine.{Stepped, IsLawful, Ready, Awaits, mode_after}
 use Rattle.tx_main.specs.declared.parts.Due.{Due}
-use Rattle.tx_main.specs.declared.parts.Due.TheVariants.{OpenMain, MainAbsent, FileEnded, MainClosed, Ship}
+use Rattle.tx_main.specs.declared.parts.Due.TheVariants.{OpenMain, FileAbsent, FileEnded, MainClosed, Ship}
 use Rattle.tx_main.specs.Outcomes.{Outcome, Leaves, Asks, Ships, Fails, Ends, stepped}
 use Rattle.tx_machine.specs.Same.{same-tells}
 use Rattle.tx_main.specs.Codes.{meaning_code}
@@ -26,7 +26,7 @@ stepped-leads Ends = refl
 due-costs : (due : List Due) → 1 ≤ due_cost due
 due-costs [] = omega arith
 due-costs (OpenMain name ∷ due) = omega arith
-due-costs (MainAbsent ∷ due) = omega arith
+due-costs (FileAbsent ∷ due) = omega arith
 due-costs (FileEnded ∷ due) = omega arith
 due-costs (MainClosed ∷ due) = omega arith
 due-costs (Ship box ∷ due) = omega arith

@@ -1,13 +1,13 @@
 pub mod Rules
 pub mod Standing
 pub mod Commands
-pub mod Mapped
 pub mod Rests
 pub mod Begun
 pub mod Pages
 pub mod State
 pub mod Outcomes
 pub mod Codes
+pub mod Texts
 pub mod Effects
 pub mod Turns
 pub mod Taken

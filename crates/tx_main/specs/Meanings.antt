@@ -1,6 +1,7 @@
 -- What the code's state means.
 use Rattle.std.specs.Prelude.{◌≡◌, ◌++◌}
 use Rattle.tx_machine.specs.declared.types.Event.{Event}
+use Rattle.tx_expand.specs.Expanding.{reader_of}
 use Rattle.tx_main.specs.declared.state.State.{State}
 use Rattle.tx_main.specs.Outcomes.{Outcome, stepped}
 use Rattle.tx_main.specs.State.{TexState, Meaning, meaning_in}
@@ -9,13 +10,17 @@ use Rattle.tx_main.specs.State.{TexState, Meaning, meaning_in}
 abbrev pub state_of : State → TexState
 state_of s = record {
   due = s.due;
-  input = s.input;
+  files = s.files;
+  reader = reader_of s.expander s.input;
+  text = s.text;
   head = s.scan.head;
   taken = s.scan.taken;
   mode = s.scan.mode;
   list = s.list;
   boxes = s.boxes;
   table = s.table;
+  after_groups = s.after_groups;
+  after_assignment = s.after_assignment;
   magnification = s.magnification;
 }
 

@@ -1,14 +1,17 @@
 -- What reading on gives, by what a scan still needs: a scan that is fed token by token means the rest of what it reads.
-use Rattle.std.specs.Prelude.{◌≤◌, ◌<◌, ◌+◌, ℕ, List, [], ◌∷◌, ◌++◌, length}
+use Rattle.std.specs.Prelude.{◌≡◌, ◌≤◌, ◌<◌, ◌+◌, ℕ, List, [], ◌∷◌, ◌++◌, length}
 use Rattle.tx_node.specs.declared.rule.Rule.{Rule}
 use Rattle.tx_prim.specs.declared.modes.Mode.{Mode}
 use Rattle.tx_seen.specs.declared.fed.Fed.{Fed}
 use Rattle.tx_seen.specs.declared.fed.Fed.TheVariants as fed
 use Rattle.tx_seen.specs.declared.item.Item.{Item}
-use Rattle.tx_seen.specs.declared.item.Item.TheVariants.{Took}
+use Rattle.tx_seen.specs.declared.error.TexError.TheVariants.{NotAllowed}
+use Rattle.tx_seen.specs.declared.fed.Want.{Want}
+use Rattle.tx_seen.specs.declared.item.Item.TheVariants.{Took, Gave}
 use Rattle.tx_seen.specs.declared.seen.Seen.{Seen}
-use Rattle.tx_seen.specs.Readings.{Reading, Done, next}
+use Rattle.tx_seen.specs.Readings.{Reading, Done, Wrong, next}
 use Rattle.tx_scan.specs.Rests.{HasTakenBy, IsRead}
+use Rattle.tx_scan.specs.Settled.{WantsNext}
 use Rattle.tx_scan.specs.Supplied.{NeedsNoMore}
 use Rattle.tx_scan.specs.declared.scans.KeyScan.{KeyScan}
 use Rattle.tx_scan.specs.Keywords.{rest as key_rest, held as key_held}
@@ -25,7 +28,7 @@ use Rattle.tx_main.specs.declared.scans.Scans.{Scans}
 use Rattle.tx_main.specs.declared.scans.Stage.{Stage}
 use Rattle.tx_main.specs.declared.scans.Stage.TheVariants as stage
 use Rattle.tx_main.specs.Rules.{letters_of, side_if, side_or_end, with_side, rule_sides}
-use Rattle.tx_main.specs.Commands.{command, defining, box_begin, shipped_box, skipping}
+use Rattle.tx_main.specs.Commands.{command, defining, macro_defining, future_defining, future_of, keeping, box_begin, shipped_box, skipping}
 
 -- the rest of a rule by the part that comes next
 abbrev pub rule_part_rest : RulePart → RuleScan → List Item → Item → List Item → Reading Rule
@@ -63,11 +66,20 @@ IsRuleFed scan (fed.Need kind) = ⊥
 IsRuleFed scan (fed.Done rule back) = Unit {0}
 IsRuleFed scan (fed.Wrong error) = Unit {0}
 
+-- the second of two tokens that are read again
+abbrev pub second_rest : Head → List Item → Item → List Item → Reading Command
+second_rest head behind (Gave v) more = Wrong NotAllowed
+second_rest head behind (Took t) more = Done (future_of head t) (behind ++ Took t ∷ more)
+
 -- the rest of a command by the part that comes next
 abbrev pub stage_rest : Mode → Head → Stage → Scans → List Item → Item → List Item → Reading Command
 stage_rest mode head stage.Start scans behind item more = command mode head (item ∷ more)
 stage_rest mode head stage.Assign scans behind item more = next (assign_rest scans.assignment behind item more) (λ a behind. Done (Assign a) behind)
 stage_rest mode head (stage.Name kind) scans behind item more = defining kind (item ∷ more)
+stage_rest mode head (stage.MacroName kind) scans behind item more = macro_defining kind (item ∷ more)
+stage_rest mode head stage.FutureName scans behind item more = future_defining (item ∷ more)
+stage_rest mode head stage.SecondToken scans behind item more = second_rest head behind item more
+stage_rest mode head (stage.KeptToken kind) scans behind item more = keeping kind (item ∷ more)
 stage_rest mode head (stage.Sized kind) scans behind item more = next (dimen_rest scans.size behind item more) (λ size behind. Done (Sized kind size) behind)
 stage_rest mode head (stage.Rule kind) scans behind item more = next (rule_rest scans.rule behind item more) (λ rule behind. Done (Rule_command kind rule) behind)
 stage_rest mode head stage.ShippedBox scans behind item more = shipped_box (item ∷ more)
@@ -81,6 +93,7 @@ command_rest mode head scans behind item more = stage_rest mode head scans.stage
 abbrev pub stage_held : Stage → Scans → ℕ
 stage_held stage.Assign scans = assign_held scans.assignment
 stage_held (stage.Rule kind) scans = rule_held scans.rule
+stage_held stage.SecondToken scans = 1
 stage_held _ scans = 0
 
 abbrev pub held : Scans → ℕ
@@ -125,8 +138,7 @@ pub record IsBegunBy (mode : Mode) (head : Head) (count : ℕ) (reading : List I
 abbrev pub Begins : (List Item → Reading Command) → Scans → Fed Command → Type 0
 Begins reading new answer = (mode : Mode) (head : Head) → IsBegunBy mode head 0 reading [] new answer
 
--- the scans of a command, in this mode and behind this head, that has taken these items
-pub record IsAt (mode : Mode) (head : Head) (taken : List Item) (scans : Scans) : Type 0 where
-  pub reads : HasTakenBy (command_rest mode head) held (command mode head) scans taken
+-- the scans of a command, in this mode and behind this head, that has taken these items and wants its next token so
+pub record IsAt (mode : Mode) (head : Head) (taken : List Item) (want : Want) (scans : Scans) : Type 0 where
+  pub at : WantsNext (command mode head) (HasTakenBy (command_rest mode head) held (command mode head)) more_needed taken want scans
   pub goes_on : IsOn scans
-  pub few : more_needed scans ≤ length taken + 1

@@ -68,6 +68,10 @@ adds_to_list primitive.Shipout = false
 adds_to_list primitive.End = false
 adds_to_list primitive.IgnoreSpaces = false
 adds_to_list (primitive.Interaction kind) = false
+adds_to_list (primitive.Definition kind) = false
+adds_to_list (primitive.Text purpose) = false
+adds_to_list (primitive.After kind) = false
+adds_to_list primitive.FutureLet = false
 
 -- nothing can be added to the pages' list yet
 abbrev pub is_there : Mode → Meaning → Bool

@@ -1,18 +1,23 @@
 -- What TeX's state means: plain data (TeX: The Program, parts 15, 19 and 22).
 use Rattle.std.specs.Prelude.{ℕ, ℤ, List, [], ◌∷◌, Option, None}
+use Rattle.tx_char.specs.declared.tokens.Token.{Token}
 use Rattle.tx_eqtb.specs.declared.eqtb.Eqtb.{Eqtb}
 use Rattle.tx_eqtb.specs.Initex.{initial_table}
 use Rattle.tx_machine.specs.declared.types.Date.{Date}
 use Rattle.tx_machine.specs.declared.types.AskKind.{AskKind}
 use Rattle.tx_machine.specs.Machine.{Mode as Machine_mode, Ready, Awaits, Halted as Machine_halted}
 use Rattle.tx_node.specs.Items.{Item as ListItem}
-use Rattle.tx_pending.specs.Elements.{Input, no_input}
+use Rattle.tx_expand.specs.Expanding.{reader as reader_with}
+use Rattle.tx_expand.specs.Reader.{Reader}
+use Rattle.tx_pending.specs.Elements.{no_input}
 use Rattle.tx_prim.specs.declared.modes.Mode.{Mode}
 use Rattle.tx_prim.specs.declared.modes.Mode.TheVariants.{Vertical}
 use Rattle.tx_seen.specs.declared.item.Item.{Item}
 use Rattle.tx_main.specs.declared.parts.Due.{Due}
 use Rattle.tx_main.specs.declared.parts.Due.TheVariants.{OpenMain}
+use Rattle.tx_main.specs.declared.parts.KeptToken.{KeptToken}
 use Rattle.tx_main.specs.declared.parts.OpenBox.{OpenBox}
+use Rattle.tx_main.specs.declared.parts.OpenText.{OpenText}
 use Rattle.tx_main.specs.declared.parts.Phase.{Phase}
 use Rattle.tx_main.specs.declared.parts.Phase.TheVariants.{Running, Waiting, Halted}
 use Rattle.tx_main.specs.declared.types.Head.{Head}
@@ -23,8 +28,13 @@ use Rattle.tx_main.specs.Pages.{moment_of}
 pub record TexState : Type 0 where
   -- the pieces of work that come first, the next one first
   pub due : List Due
-  -- what is read before another line is asked for
-  pub input : Input
+  -- how many files are open
+  pub files : ℕ
+  -- what stands between the files and the commands: what is read before another line is asked for, the expansions that have
+  -- begun, and the conditionals that are open
+  pub reader : Reader
+  -- the text that is being taken, if one is
+  pub text : Option OpenText
   -- what stands before the open command, and the tokens and values that it has taken since
   pub head : Head
   pub taken : List Item
@@ -35,6 +45,9 @@ pub record TexState : Type 0 where
   pub boxes : List OpenBox
   -- meanings, codes, registers and parameters, with the open groups
   pub table : Eqtb
+  -- the tokens that \aftergroup keeps, the last first, and the one that \afterassignment keeps
+  pub after_groups : List KeptToken
+  pub after_assignment : Option Token
   -- the magnification, once a page has it
   pub magnification : Option ℤ
 
@@ -58,12 +71,16 @@ mode_of Stops = Machine_halted
 abbrev pub first_state : Date → List ℕ → TexState
 first_state date main = record {
   due = OpenMain main ∷ [];
-  input = no_input;
+  files = 0;
+  reader = reader_with [] no_input [] main;
+  text = None;
   head = Fresh;
   taken = [];
   mode = Vertical;
   list = [];
   boxes = [];
   table = record { table = initial_table (moment_of date); groups = [] };
+  after_groups = [];
+  after_assignment = None;
   magnification = None;
 }

@@ -1,5 +1,5 @@
 -- How a command is taken off the input.
-use Rattle.std.specs.Prelude.{◌≡◌, ◌<◌, ◌≤◌, ℕ, suc, List, [], ◌∷◌, ◌++◌, length}
+use Rattle.std.specs.Prelude.{◌≡◌, List, [], ◌∷◌, ◌++◌}
 use Rattle.tx_pending.specs.Elements.{Input, with_tokens}
 use Rattle.tx_seen.specs.declared.fed.Fed.{Fed}
 use Rattle.tx_seen.specs.declared.fed.Fed.TheVariants as fed
@@ -9,9 +9,11 @@ use Rattle.tx_seen.specs.declared.item.Item.{Item}
 use Rattle.tx_seen.specs.declared.item.Item.TheVariants.{Took}
 use Rattle.tx_seen.specs.declared.place.Place.{Place}
 use Rattle.tx_seen.specs.declared.seen.Seen.{Seen}
-use Rattle.tx_seen.specs.Readings.{More, Need, Done, Wrong, last}
+use Rattle.tx_seen.specs.Readings.{More, Done, Wrong}
 use Rattle.tx_scan.specs.Rests.{HasTakenBy}
-use Rattle.tx_scan.specs.Supplied.{supplied}
+use Rattle.tx_scan.specs.Settled as settled
+use Rattle.tx_scan.specs.Settled.{tokens_of}
+use Rattle.tx_scan.specs.Supplied.{with_values}
 use Rattle.tx_main.specs.declared.scans.Scans.{Scans}
 use Rattle.tx_main.specs.declared.scans.Taken.{Taken}
 use Rattle.tx_main.specs.declared.scans.Taken.TheVariants as taken
@@ -20,12 +22,11 @@ use Rattle.tx_main.specs.declared.types.Head.{Head}
 use Rattle.tx_prim.specs.declared.modes.Mode.{Mode}
 use Rattle.tx_main.specs.Begun.{Begun}
 use Rattle.tx_main.specs.Commands.{command}
-use Rattle.tx_main.specs.Rests.{command_rest, held, more_needed, IsAt}
-use Rattle.tx_main.specs.Turns.{given_back}
+use Rattle.tx_main.specs.Rests.{command_rest, held, more_needed}
 
 -- a token, and the values that the command needs behind it, as a table has them, join what it has taken
 abbrev pub joined : (Place → Value) → Mode → Head → List Item → Seen → List Item
-joined at mode head taken t = supplied (suc (length (taken ++ Took t ∷ []))) at (command mode head) (taken ++ Took t ∷ [])
+joined at mode head taken t = with_values at (command mode head) (taken ++ Took t ∷ [])
 
 -- an answer that ends the command, where no token is given back
 abbrev pub IsEnd : Fed Command → Type 0
@@ -36,26 +37,18 @@ IsEnd (fed.Wrong error) = Unit {0}
 
 -- the answer says what these items are of a command, and those that were taken are they, or give the same tokens back
 abbrev pub IsSettled : Mode → Head → List Item → List Item → Scans → Fed Command → Type 0
-IsSettled mode head items taken scans (fed.More want) = (command mode head items ≡ More want) × ((taken ≡ items) × IsAt mode head taken scans)
-IsSettled mode head items taken scans (fed.Need kind) = ⊥
-IsSettled mode head items taken scans (fed.Done c back) = (command mode head items ≡ Done c (last back items)) × (given_back (last back taken) ≡ given_back (last back items))
-IsSettled mode head items taken scans (fed.Wrong error) = command mode head items ≡ Wrong error
+IsSettled mode head = settled.IsSettled (command mode head) (HasTakenBy (command_rest mode head) held (command mode head)) more_needed
 
--- the answer says what the taken items are of a command; where a value is needed, these items are the taken ones and so many
--- values at most
+-- the same; or a value is needed
 abbrev pub IsPending : (Place → Value) → Mode → Head → List Item → List Item → Scans → Fed Command → Type 0
-IsPending at mode head items taken scans (fed.More want) = IsSettled mode head items taken scans (fed.More want)
-IsPending at mode head items taken scans (fed.Need kind) =
-    (count : ℕ) × ((more_needed scans < count) × ((supplied count at (command mode head) taken ≡ items) × ((command mode head taken ≡ Need kind) × (HasTakenBy (command_rest mode head) held (command mode head) scans taken × (more_needed scans ≤ length taken)))))
-IsPending at mode head items taken scans (fed.Done c back) = IsSettled mode head items taken scans (fed.Done c back)
-IsPending at mode head items taken scans (fed.Wrong error) = IsSettled mode head items taken scans (fed.Wrong error)
+IsPending at mode head = settled.IsPending at (command mode head) (HasTakenBy (command_rest mode head) held (command mode head)) more_needed
 
 -- of these items the command isn't whole yet, or it is, and what it didn't need is read again, or it is wrong
 abbrev pub IsTakenAll : Begun → List Item → Input → Begun → Input → Taken → Type 0
 IsTakenAll old items before new after taken.More =
     ((want : Want) × (command old.mode old.head items ≡ More want)) × ((new ≡ record old { taken = items }) × (after ≡ before))
 IsTakenAll old items before new after (taken.Whole c) =
-    (behind : List Item) × ((command old.mode old.head items ≡ Done c behind) × ((new ≡ record old { taken = [] }) × (after ≡ with_tokens before (given_back behind))))
+    (behind : List Item) × ((command old.mode old.head items ≡ Done c behind) × ((new ≡ record old { taken = [] }) × (after ≡ with_tokens before (tokens_of behind))))
 IsTakenAll old items before new after (taken.Wrong e) = command old.mode old.head items ≡ Wrong e
 
 -- one more token

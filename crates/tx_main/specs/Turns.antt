@@ -1,79 +1,117 @@
--- One turn of TeX: due work, the ask for a line, or one token (TeX: The Program, sections 1030, 343 and 360).
-use Rattle.std.specs.Prelude.{ℕ, suc, ℤ, true, false, List, [], ◌∷◌, ◌++◌, length, Some, Result, Ok, Err, if◌then◌else◌}
+-- One turn of TeX: due work, the ask for a line, or one token and its expansion (TeX: The Program, sections 1030, 343, 360 and 366).
+use Rattle.std.specs.Prelude.{ℕ, suc, ℤ, Bool, true, false, List, [], ◌∷◌, ◌++◌, Option, None, Some, is_some, Result, Ok, Err, if◌then◌else◌}
 use Rattle.tx_char.specs.declared.tokens.Token.{Token}
 use Rattle.tx_seen.specs.declared.item.Item.{Item}
-use Rattle.tx_seen.specs.declared.item.Item.TheVariants.{Took, Gave}
+use Rattle.tx_seen.specs.declared.item.Item.TheVariants.{Took}
 use Rattle.tx_seen.specs.declared.seen.Seen.{Seen}
-use Rattle.tx_seen.specs.Seen.{held}
+use Rattle.tx_seen.specs.declared.fed.Want.{Want}
+use Rattle.tx_seen.specs.declared.fed.Want.TheVariants.{Expanded}
 use Rattle.tx_dvi.specs.Page.{Page}
 use Rattle.tx_lex.specs.Line.{seen_line}
 use Rattle.tx_machine.specs.declared.types.AskKind.{AskKind}
 use Rattle.tx_machine.specs.declared.types.AskKind.TheVariants.{Open as Opening, Line as ReadingOn, Close as Closing}
 use Rattle.tx_machine.specs.declared.types.Ask.TheVariants.{Open, Line, Close}
 use Rattle.tx_machine.specs.declared.types.Reply.{Reply}
-use Rattle.tx_machine.specs.declared.types.Reply.TheVariants.{Absent, Line as ReplyLine, Ended, Closed}
+use Rattle.tx_machine.specs.declared.types.Reply.TheVariants.{Found, Absent, Line as ReplyLine, Ended, Closed}
 use Rattle.tx_machine.specs.Machine.{Formatter, Stepped}
-use Rattle.tx_seen.specs.declared.error.TexError.TheVariants.{InvalidCharacter, SizeOutOfRange, FileAbsent, BadMagnification, NoEnd}
+use Rattle.tx_seen.specs.declared.error.TexError.{TexError}
+use Rattle.tx_seen.specs.declared.error.TexError.TheVariants.{SizeOutOfRange, FileAbsent, BadMagnification, NoEnd}
 use Rattle.tx_main.specs.declared.parts.Due.{Due}
-use Rattle.tx_main.specs.declared.parts.Due.TheVariants.{OpenMain, MainAbsent, FileEnded, MainClosed, Ship}
+use Rattle.tx_main.specs.declared.parts.Due.TheVariants.{OpenMain, FileAbsent as Due_file_absent, FileEnded, MainClosed, Ship}
+use Rattle.tx_main.specs.declared.parts.OpenText.{OpenText}
 use Rattle.tx_main.specs.declared.types.Command.{Command}
 use Rattle.tx_node.specs.Counts.{box_count, ended}
 use Rattle.tx_ship.specs.declared.error.ShipError.{ShipError}
-use Rattle.tx_pending.specs.declared.next.Next.{Next}
-use Rattle.tx_pending.specs.declared.next.Next.TheVariants.{Token as Next_token, Held as Next_held, Marker, Used, E1}
-use Rattle.tx_pending.specs.Elements.{Step, with_line, with_tokens, step as next_of}
+use Rattle.tx_expand.specs.declared.types.Expanded.{Expanded as Answer}
+use Rattle.tx_expand.specs.declared.types.Expanded.TheVariants as answer
+use Rattle.tx_expand.specs.declared.types.Wanted.{Wanted}
+use Rattle.tx_expand.specs.Expanding.{reader as reader_with, world_of}
+use Rattle.tx_expand.specs.Reader.{Turn, Goes, Fails as Turn_fails}
+use Rattle.tx_expand.specs.Turns.{file_ended, is_opening, opened, put, turn}
+use Rattle.tx_pending.specs.Elements.{with_line}
 use Rattle.tx_prim.specs.declared.integer.IntegerParameter.TheVariants.{Mag}
-use Rattle.tx_eqtb.specs.Table.{token_meaning}
 use Rattle.tx_eqtb.specs.Quantities.{value_in}
-use Rattle.tx_scan.specs.Supplied.{supplied}
+use Rattle.tx_scan.specs.Settled.{tokens_of}
+use Rattle.tx_scan.specs.Supplied.{with_values}
 use Rattle.tx_main.specs.Pages.{integer, line_end, page_of, may_be}
 use Rattle.tx_main.specs.Commands.{command}
-use Rattle.tx_main.specs.Effects.{effect}
+use Rattle.tx_main.specs.Effects.{effect, ending_text, relaxing}
 use Rattle.tx_seen.specs.Readings.{Reading, More, Need, Done, Wrong}
 use Rattle.tx_main.specs.Outcomes.{Outcome, Asks, Ships, Fails, Ends, leaves, stepped}
 use Rattle.tx_machine.specs.Same.{same_by}
 use Rattle.tx_main.specs.Codes.{meaning_code}
+use Rattle.tx_main.specs.Texts.{is_whole, text_wanted, with_given, with_token}
 use Rattle.tx_main.specs.State.{TexState, Meaning, Runs, Waits, Stops, mode_of, first_state}
-
--- the tokens among items, as they are read again
-abbrev pub given_back : List Item → List Token
-given_back [] = []
-given_back (Took t ∷ rest) = t.token ∷ given_back rest
-given_back (Gave v ∷ rest) = given_back rest
 
 -- what comes of these items: the command goes on, or is wrong, or takes effect, and what it didn't need is read again
 abbrev pub scanned : TexState → List Item → Reading Command → Outcome
 scanned s items (More want) = leaves (record s { taken = items })
 scanned s items (Need kind) = leaves (record s { taken = items })
 scanned s items (Wrong error) = Fails error
-scanned s items (Done c behind) = effect (record s { taken = []; input = with_tokens s.input (given_back behind) }) c
+scanned s items (Done c behind) = effect (record s { taken = []; reader = put (tokens_of behind) s.reader }) c
 
 -- a token, and the values that the open command needs behind it, join what that has taken
 abbrev pub joining : TexState → List Item → Outcome
 joining s items = scanned s items (command s.mode s.head items)
 
 abbrev pub supplying : TexState → List Item → Outcome
-supplying s items = joining s (supplied (suc (length items)) (value_in s.table) (command s.mode s.head) items)
+supplying s items = joining s (with_values (value_in s.table) (command s.mode s.head) items)
 
 abbrev pub taking : TexState → Seen → Outcome
 taking s t = supplying s (s.taken ++ Took t ∷ [])
 
--- a token with its meaning
-abbrev pub seen_in : TexState → Token → Seen
-seen_in s t = record { token = t; meaning = token_meaning s.table.table t }
+-- a token joins the text that is open, which takes effect once it is whole
+abbrev pub texting : TexState → Result OpenText TexError → Outcome
+texting s (Err error) = Fails error
+texting s (Ok text) = if is_whole text then ending_text s (Some text) else leaves (record s { text = Some text })
 
--- what comes of what the input gives next. Where a line is used up the next one is asked for, or behind \endinput the file
--- is closed; nothing puts a marker into the input, and one would be passed over
-abbrev pub read : TexState → Next → Outcome
-read s (Next_token t) = taking s (seen_in s t)
-read s (Next_held t) = taking s (held (seen_in s t))
-read s Marker = leaves s
-read s (Used false) = Asks Line s
-read s (Used true) = Asks Close s
-read s E1 = Fails InvalidCharacter
+-- a token joins the open text, or else the open command
+abbrev pub taken_by : TexState → Seen → Option OpenText → Outcome
+taken_by s t None = taking s t
+taken_by s t (Some text) = texting s (with_token text t)
 
-abbrev pub reads : TexState → Step → Outcome
-reads s step = read (record s { input = step.left }) step.next
+-- tokens that \the gives belong to the open text
+abbrev pub given_to_text : TexState → List Token → Option OpenText → Outcome
+given_to_text s tokens None = leaves s
+given_to_text s tokens (Some text) = leaves (record s { text = Some (with_given text tokens) })
+
+-- what is taken next: what the open text wants, or else the open command
+abbrev pub want_of : Reading Command → Want
+want_of (More want) = want
+want_of other = Expanded
+
+abbrev pub wanted_by : TexState → Option OpenText → Wanted
+wanted_by s None = record { want = want_of (command s.mode s.head s.taken); text = false; takes_the = false }
+wanted_by s (Some text) = text_wanted text
+
+-- the innermost file has ended: it is closed, unless something is open within which no file may end (section 336)
+abbrev pub closed_unless : TexState → Option TexError → Outcome
+closed_unless s (Some error) = Fails error
+closed_unless s None = Asks Close s
+
+abbrev pub closes : TexState → Outcome
+closes s = closed_unless s (file_ended (is_some s.text) s.reader)
+
+-- what comes of what the expander answers. Where a line is used up the next one is asked for, or behind \endinput the file is
+-- closed; nothing puts a marker into the input, and one would be passed over
+abbrev pub answered : TexState → Answer → Outcome
+answered s (answer.Got t) = taken_by s t s.text
+answered s (answer.Text tokens) = given_to_text s tokens s.text
+answered s answer.Went = leaves s
+answered s (answer.Relaxes name) = leaves (relaxing s name)
+answered s answer.Marked = leaves s
+answered s (answer.Used false) = Asks Line s
+answered s (answer.Used true) = closes s
+answered s (answer.Asks name) = Asks (Open name) s
+answered s (answer.Wrong error) = Fails error
+
+-- what comes of a turn of the expander
+abbrev pub turned : TexState → Turn → Outcome
+turned s (Goes answer left) = answered (record s { reader = left }) answer
+turned s (Turn_fails error) = Fails error
+
+abbrev pub reads : TexState → Outcome
+reads s = turned s (turn (world_of s.table s.mode) (wanted_by s s.text) s.reader)
 
 -- a page of a box, with the magnification
 abbrev pub ships_with : TexState → ℤ → Result Page ShipError → Outcome
@@ -87,14 +125,14 @@ ships s mag page = if may_be s.magnification mag then ships_with s mag page else
 -- the next piece of due work
 abbrev pub works : TexState → Due → Outcome
 works s (OpenMain name) = Asks (Open name) s
-works s MainAbsent = Fails FileAbsent
-works s FileEnded = Asks Close s
+works s Due_file_absent = Fails FileAbsent
+works s FileEnded = closes s
 works s MainClosed = Fails NoEnd
 works s (Ship box) = ships s (integer s.table.table Mag) (page_of s.table.table box)
 
 -- due work comes first
 abbrev pub goes_on : TexState → List Due → Outcome
-goes_on s [] = reads s (next_of s.table.table.categories s.input)
+goes_on s [] = reads s
 goes_on s (work ∷ due) = works (record s { due = due }) work
 
 -- what comes of a turn; a run that isn't ready for one has ended
@@ -116,12 +154,30 @@ abbrev pub cost : Meaning → ℕ
 cost (Runs s) = due_cost s.due
 cost _ = 1
 
--- what a reply brings: a line, or due work
+-- a line stands in front
+abbrev pub lined : TexState → List ℕ → TexState
+lined s bytes =
+    record s { reader = opened (reader_with s.reader.begun (with_line s.reader.input (seen_line bytes (line_end s.table.table))) s.reader.conditionals s.reader.job) }
+
+-- a file has no further line; one that \input opened and that has none at all has an empty one (section 538)
+abbrev pub lines_ended : TexState → TexState
+lines_ended s = if is_opening s.reader.begun then lined s [] else record s { due = FileEnded ∷ s.due }
+
+-- one more file is open, or one less; the last of them is the main file
+abbrev pub file_opened : TexState → TexState
+file_opened s = record s { files = suc s.files }
+
+abbrev pub file_closed : TexState → ℕ → TexState
+file_closed s (suc (suc files)) = record s { files = suc files }
+file_closed s files = record s { files = 0; due = MainClosed ∷ s.due }
+
+-- what a reply brings: a line, a file more or less, or due work
 abbrev pub replied : TexState → AskKind → Reply → TexState
-replied s Opening Absent = record s { due = MainAbsent ∷ s.due }
-replied s ReadingOn (ReplyLine bytes) = record s { input = with_line s.input (seen_line bytes (line_end s.table.table)) }
-replied s ReadingOn Ended = record s { due = FileEnded ∷ s.due }
-replied s Closing Closed = record s { due = MainClosed ∷ s.due }
+replied s Opening Found = file_opened s
+replied s Opening Absent = record s { due = Due_file_absent ∷ s.due }
+replied s ReadingOn (ReplyLine bytes) = lined s bytes
+replied s ReadingOn Ended = lines_ended s
+replied s Closing Closed = file_closed s s.files
 replied s kind reply = s
 
 abbrev pub takes : Meaning → Reply → Meaning

@@ -1,29 +1,28 @@
 //! Commands, taken off the input token by token (TeX: The Program, part 46).
-ghost use Rattle.std.specs.Prelude.{◌≡◌, ◌↔◌, ◌<◌, ◌≤◌, ◌∷◌, ◌++◌, [], ℕ, List, length, IfOk, OnOk, IsTrue};
+ghost use Rattle.std.specs.Prelude.{◌≡◌, ◌↔◌, ◌<◌, ◌≤◌, ◌+◌, ◌∷◌, ◌++◌, [], ℕ, List, length, IfOk, OnOk, IsTrue};
 ghost use Rattle.tx_eqtb.specs.Quantities.{value_in};
-ghost use Rattle.tx_pending.specs.Elements.{with_tokens};
 ghost use Rattle.tx_prim.specs.declared.modes.Mode.{Mode};
 ghost use Rattle.tx_seen.specs.declared.item.Item.{Item};
 ghost use Rattle.tx_seen.specs.declared.item.Item.TheVariants.{Gave};
-ghost use Rattle.tx_seen.specs.Readings.{last};
-ghost use Rattle.tx_scan.specs.Rests.{IsGivenBy};
+ghost use Rattle.tx_seen.specs.Readings.{More};
+ghost use Rattle.tx_scan.specs.Rests.{HasTakenBy, IsGivenBy};
 ghost use Rattle.tx_scan.specs.Supplied.{value_for, NeedsFewer};
 ghost use Rattle.tx_main.specs.declared.types.Head.{Head};
+ghost use Rattle.tx_main.specs.Commands as commands;
 ghost use Rattle.tx_main.specs.Effects.{prefixes_of};
-ghost use Rattle.tx_main.specs.Rests.{command_rest, held, more_needed, GoesOn, IsAssigning, IsAt};
+ghost use Rattle.tx_main.specs.Rests.{command_rest, held, more_needed, GoesOn, IsAssigning, IsOn};
 ghost use Rattle.tx_main.specs.Taken.{joined, IsEnd, IsPending, IsSettled, IsTaken};
-ghost use Rattle.tx_main.specs.Turns.{given_back};
 
 use crate::scans::{Scans, Stage, Taken};
 use crate::types::{Command, Head, Prefixes};
 use std::alloc::{AllocError, Global};
 use std::marker::Model;
-use tx_char::Token;
 use tx_eqtb::Eqtb;
 use tx_list::{Items, Kept};
 use tx_pending::Pending;
 use tx_prim::{Mode, Prefix, Shorthand};
-use tx_seen::{Fed, Item, Kind, Place, Quantities, Seen};
+use tx_scan::give_back;
+use tx_seen::{Fed, Item, Kind, Place, Quantities, Seen, Want};
 
 /// A command that is being taken off the input. Contracts see the mode, what stands before the command, and the tokens and
 /// values that were taken since it began.
@@ -32,6 +31,8 @@ pub struct CommandScan {
     mode: Mode,
     head: Head,
     taken: Items<Item>,
+    /// How the next token is wanted.
+    want: Want,
     scans: Scans,
 }
 
@@ -43,7 +44,7 @@ impl Model for CommandScan {
 
     ghost view = { λ s. record { mode = s.mode; head = s.head; taken = s.taken } };
 
-    ghost invariant = { λ s. IsAt s.mode s.head s.taken s.scans };
+    ghost invariant = { λ s. IsAt s.mode s.head s.taken s.want s.scans };
 }
 
 impl CommandScan {
@@ -55,8 +56,16 @@ impl CommandScan {
             mode,
             head: Head::Fresh,
             taken: Items::new(alloc),
+            want: Want::Expanded,
             scans: Scans::new(alloc),
         }
+    }
+
+    /// How the command wants its next token.
+    pub fn want(&self) -> Want
+        ensures { commands.command self.now.mode self.now.head self.now.taken ≡ More result }
+    {
+        self.want
     }
 
     /// The mode.
@@ -76,7 +85,8 @@ impl CommandScan {
                 long: false,
                 outer: false,
             },
-            Head::Prefixed(prefixes) | Head::Defining(prefixes, _, _) => *prefixes,
+            Head::Prefixed(prefixes) | Head::Defining(prefixes, _, _) | Head::Future(prefixes, _) =>
+                *prefixes,
         }
     }
 
@@ -85,6 +95,7 @@ impl CommandScan {
         ensures { self.new ≡ record { mode = mode; head = self.old.head; taken = [] } }
     {
         self.mode = mode;
+        self.want = begun_want(&self.head);
         restart(&mut self.taken, &mut self.scans);
     }
 
@@ -93,6 +104,7 @@ impl CommandScan {
         ensures { self.new ≡ record { mode = self.old.mode; head = head; taken = [] } }
     {
         self.head = head;
+        self.want = begun_want(&self.head);
         restart(&mut self.taken, &mut self.scans);
     }
 
@@ -101,6 +113,7 @@ impl CommandScan {
         ensures { self.new ≡ record { mode = self.old.mode; head = Head.Fresh; taken = [] } }
     {
         if self.is_fresh() {
+            self.want = Want::Expanded;
             restart(&mut self.taken, &mut self.scans);
         } else {
             self.begin_behind(Head::Fresh);
@@ -141,23 +154,39 @@ impl CommandScan {
             token,
         );
         match fed {
-            Ok(Fed::More(_)) => Ok(Taken::More),
+            Ok(Fed::More(want)) => {
+                self.want = want;
+                Ok(Taken::More)
+            }
             Ok(Fed::Need(_)) => unreachable!(),
             Ok(Fed::Done(command, back)) => {
                 let given = give_back(&mut self.taken, input, back);
+                self.want = begun_want(&self.head);
                 restart(&mut self.taken, &mut self.scans);
                 given?;
                 Ok(Taken::Whole(command))
             }
             Ok(Fed::Wrong(error)) => {
+                self.want = begun_want(&self.head);
                 restart(&mut self.taken, &mut self.scans);
                 Ok(Taken::Wrong(error))
             }
             Err(error) => {
+                self.want = begun_want(&self.head);
                 restart(&mut self.taken, &mut self.scans);
                 Err(error)
             }
         }
+    }
+}
+
+/// How the first token behind this is wanted.
+fn begun_want(head: &Head) -> Want
+    ensures { (mode : Mode) → commands.command mode head.now [] ≡ More result }
+{
+    match head {
+        Head::Fresh | Head::Prefixed(_) | Head::Defining(_, _, _) => Want::Expanded,
+        Head::Future(_, _) => Want::Raw,
     }
 }
 
@@ -191,8 +220,11 @@ fn take(
     table: &Eqtb,
     token: Seen,
 ) -> Result<Fed<Command>, AllocError>
-    requires { IsAt mode head.now taken.old scans.old }
-    ensures { IfOk result (IsSettled mode head.now (joined (value_in table.now) mode head.now taken.old token) taken.new scans.new) }
+    requires reads { HasTakenBy (command_rest mode head.now) held (commands.command mode head.now) scans.old taken.old }
+    requires on { IsOn scans.old }
+    requires few { more_needed scans.old ≤ length taken.old + 1 }
+    ensures settled { IfOk result (IsSettled mode head.now (joined (value_in table.now) mode head.now taken.old token) taken.new scans.new) }
+    ensures on { IfOk result (GoesOn scans.new) }
 {
     let fed = scans.feed(mode, head, &token)?;
     match fed {
@@ -219,7 +251,8 @@ fn settle(
     fed: Fed<Command>,
 ) -> Result<Fed<Command>, AllocError>
     requires { GoesOn scans.old fed }
-    ensures { (mode : Mode) (head : Head) (items : List Item) → IsPending (value_in table.now) mode head items taken.old scans.old fed → IfOk result (IsSettled mode head items taken.new scans.new) }
+    ensures settled { (mode : Mode) (head : Head) (items : List Item) → IsPending (value_in table.now) mode head items taken.old scans.old fed → IfOk result (IsSettled mode head items taken.new scans.new) }
+    ensures on { IfOk result (GoesOn scans.new) }
 {
     let mut fed = fed;
     loop {
@@ -253,33 +286,6 @@ fn give(
     }
 }
 
-/// The token, without what it meant.
-fn token_of(seen: Seen) -> Token
-    ensures { result ≡ seen.token }
-{
-    let Seen { token, meaning: _ } = seen;
-    token
-}
-
-/// Puts the last tokens that were taken, so many of them, at the front of the input, in their order; what they meant is
-/// forgotten. Its only error is want of memory.
-fn give_back(taken: &mut Items<Item>, input: &mut Pending, back: usize) -> Result<(), AllocError>
-    ensures { OnOk result (input.new ≡ with_tokens input.old (given_back (last back taken.old))) }
-{
-    let mut left = back;
-    while left > 0 {
-        match taken.pop() {
-            Some(Item::Took(seen)) => {
-                input.give_back(token_of(seen))?;
-                left -= 1;
-            }
-            Some(Item::Gave(_)) => {}
-            None => return Ok(()),
-        }
-    }
-    Ok(())
-}
-
 /// A clone has taken the same. Its only error is want of memory.
 impl Clone for CommandScan {
     ghost is_clone = { λ source copy. copy ≡ source };
@@ -289,6 +295,7 @@ impl Clone for CommandScan {
             mode: self.mode,
             head: self.head.share()?,
             taken: self.taken.clone()?,
+            want: self.want,
             scans: self.scans.clone()?,
         })
     }

@@ -1,26 +1,38 @@
 //! What each command does, once it is whole (TeX: The Program, parts 45 to 49).
-ghost use Rattle.std.specs.Prelude.{◌≡◌, ◌++◌, [], Some, IfOk, OnOk};
+ghost use Rattle.std.specs.Prelude.{◌≡◌, ◌++◌, ◌||◌, [], Some, IfOk, OnOk};
 ghost use Rattle.tx_node.specs.Nodes.{item_of};
 ghost use Rattle.tx_node.specs.Packing.{natural};
 ghost use Rattle.tx_assign.specs.Changes.{carried_out};
 ghost use Rattle.tx_eqtb.specs.Stack.{kind_of};
+ghost use Rattle.tx_pending.specs.Elements.{with_tokens};
 ghost use Rattle.tx_main.specs.Effects as effects;
 ghost use Rattle.tx_main.specs.Outcomes.{Fails, Ends, leaves};
 ghost use Rattle.tx_main.specs.Meanings.{IsStepped, meaning_of, state_of};
 
-use crate::parts::{Due, OpenBox, Phase};
+use crate::letters::with_letters;
+use crate::parts::{Due, KeptToken, OpenBox, OpenText, Phase};
 use crate::state::State;
+use crate::text::{code_for, is_global};
 use crate::types::{BoxContext, Command, Head, Prefixes};
 use itoa::Buffer;
 use std::alloc::{AllocError, Global};
 use std::mem;
-use tx_assign::{Assignment, Carried, relaxed};
+use tx_assign::{Assignment, Carried, Change, relaxed};
 use tx_bytes::Bytes;
-use tx_eqtb::{GroupKind, OpenError};
+use tx_char::{ControlName, Token};
+use tx_eqtb::{Entry, GroupKind, OpenError};
+use tx_expand::escape_of;
+use tx_list::Stack;
 use tx_machine::{Event, Stop};
 use tx_node::{BoxNode, Node, Nodes, PackError, Rule, hbox};
-use tx_prim::{BoxKind, Interaction, Mode, Prefix, RuleKind, Shorthand, SizeKind};
-use tx_seen::{Place, TexError};
+use tx_pending::Pending;
+use tx_prim::{
+    AfterKind, BoxKind, DefinitionKind, Interaction, Mode, Prefix, Primitive, RuleKind, Shorthand,
+    SizeKind, TextUse,
+};
+use tx_seen::{Meaning, Place, TexError};
+use tx_text::{DefinitionScan, TextScan};
+use tx_toklist::{TokList, Toks, text_of};
 
 /// The run ends by an error.
 pub fn fail(s: &mut State, error: TexError) -> Event
@@ -124,16 +136,57 @@ fn enter_box(
     Ok(())
 }
 
-/// Closes the innermost group, of this kind, and nothing else.
-fn close_group(s: &mut State, kind: GroupKind) -> Event
+/// The token that \aftergroup keeps for the end of the innermost of so many groups, the last of those that are left. Its only
+/// error is that no more owners of a name can be counted.
+fn kept_for(after_groups: &Stack<KeptToken>, groups: usize) -> Result<Option<Token>, AllocError>
+    ensures { IfOk result (λ kept. kept ≡ effects.kept_for after_groups.now groups) }
+{
+    match after_groups.first() {
+        Some(kept) if kept.groups == groups => Ok(Some(kept.token.clone()?)),
+        _ => Ok(None),
+    }
+}
+
+/// What \aftergroup keeps for the end of the innermost of so many groups is read next. Its only error is want of memory.
+fn release_kept(
+    after_groups: &mut Stack<KeptToken>,
+    input: &mut Pending,
+    groups: usize,
+) -> Result<(), AllocError>
+    ensures left { OnOk result (after_groups.new ≡ effects.left_after groups after_groups.old) }
+    ensures input { OnOk result (input.new ≡ with_tokens input.old (effects.kept_tokens groups after_groups.old [])) }
+{
+    while let Some(token) = kept_for(after_groups, groups)? {
+        after_groups.pop();
+        input.give_back(token)?;
+    }
+    Ok(())
+}
+
+/// Leaves the innermost group, of this kind: what it changed comes back, and what \aftergroup keeps for its end is read next.
+/// Its only error is want of memory.
+fn leave_group(s: &mut State, kind: GroupKind) -> Result<(), AllocError>
+    requires { kind_of s.old.table ≡ Some kind }
+    ensures state { OnOk result (state_of s.new ≡ effects.closing (state_of s.old)) }
+    ensures phase { OnOk result (s.new.phase ≡ s.old.phase) }
+    ensures said { OnOk result (s.new.said ≡ s.old.said) }
+{
+    let groups = s.table.depth();
+    release_kept(&mut s.after_groups, &mut s.input, groups)?;
+    match s.table.close_group(kind) {
+        Ok(()) => Ok(()),
+        Err(_) => unreachable!(),
+    }
+}
+
+/// Closes the innermost group, of this kind, and nothing else. Its only error is want of memory.
+fn close_group(s: &mut State, kind: GroupKind) -> Result<Event, AllocError>
     requires running { s.old.phase ≡ Phase.Running }
     requires kind { kind_of s.old.table ≡ Some kind }
-    ensures { IsStepped (leaves (effects.closing (state_of s.old))) s.old result s.new }
+    ensures { IfOk result (λ event. IsStepped (leaves (effects.closing (state_of s.old))) s.old event s.new) }
 {
-    match s.table.close_group(kind) {
-        Ok(()) => Event::Went,
-        Err(_) => fail(s, TexError::ExtraGroupEnd),
-    }
+    leave_group(s, kind)?;
+    Ok(Event::Went)
 }
 
 /// An end-group token: closes the innermost group, which brings back what it changed; of the list of a box a box is made.
@@ -143,20 +196,20 @@ fn end_group(alloc: Global, s: &mut State) -> Result<Event, AllocError>
     ensures { IfOk result (λ event. IsStepped (effects.effect (state_of s.old) Command.EndGroup) s.old event s.new) }
 {
     match s.table.kind() {
-        Some(GroupKind::Simple) => Ok(close_group(s, GroupKind::Simple)),
+        Some(GroupKind::Simple) => close_group(s, GroupKind::Simple),
         Some(GroupKind::HorizontalBox) => end_box(alloc, s),
         Some(GroupKind::SemiSimple) | None => Ok(fail(s, TexError::ExtraGroupEnd)),
     }
 }
 
 /// \endgroup.
-fn end_semi_simple(s: &mut State) -> Event
+fn end_semi_simple(s: &mut State) -> Result<Event, AllocError>
     requires running { s.old.phase ≡ Phase.Running }
-    ensures { IsStepped (effects.effect (state_of s.old) Command.EndSemiSimple) s.old result s.new }
+    ensures { IfOk result (λ event. IsStepped (effects.effect (state_of s.old) Command.EndSemiSimple) s.old event s.new) }
 {
     match s.table.kind() {
         Some(GroupKind::SemiSimple) => close_group(s, GroupKind::SemiSimple),
-        _ => fail(s, TexError::ExtraGroupEnd),
+        _ => Ok(fail(s, TexError::ExtraGroupEnd)),
     }
 }
 
@@ -167,9 +220,7 @@ fn end_box(alloc: Global, s: &mut State) -> Result<Event, AllocError>
     requires kind { kind_of s.old.table ≡ Some GroupKind.HorizontalBox }
     ensures { IfOk result (λ event. IsStepped (effects.closing_box (effects.closing (state_of s.old)) s.old.boxes) s.old event s.new) }
 {
-    if s.table.close_group(GroupKind::HorizontalBox).is_err() {
-        return Ok(fail(s, TexError::ExtraGroupEnd));
-    }
+    leave_group(s, GroupKind::HorizontalBox)?;
     match s.boxes.pop() {
         None => Ok(fail(s, TexError::ExtraGroupEnd)),
         Some(
@@ -276,6 +327,29 @@ fn define(s: &mut State, defined: Place, kind: Shorthand) -> Result<Event, Alloc
     }
 }
 
+/// An assignment is done: what \afterassignment keeps is read next. Its only error is want of memory.
+fn end_assignment(s: &mut State) -> Result<Event, AllocError>
+    requires { s.old.phase ≡ Phase.Running }
+    ensures { IfOk result (λ event. IsStepped (leaves (effects.assigned (state_of s.old))) s.old event s.new) }
+{
+    if let Some(token) = mem::replace(&mut s.after_assignment, None) {
+        s.input.give_back(token)?;
+    }
+    s.scan.begin_fresh();
+    Ok(Event::Went)
+}
+
+/// An assignment, global by its prefixes or not. Its only further error is want of memory.
+fn assign_so(s: &mut State, assignment: Assignment, global: bool) -> Result<Event, AllocError>
+    requires { s.old.phase ≡ Phase.Running }
+    ensures { IfOk result (λ event. IsStepped (effects.assigning (state_of s.old) (carried_out s.old.table assignment global)) s.old event s.new) }
+{
+    match tx_assign::carry_out(&mut s.table, assignment, global)? {
+        Carried::Done => end_assignment(s),
+        Carried::Refused(error) => Ok(fail(s, error)),
+    }
+}
+
 /// An assignment.
 fn assign(s: &mut State, assignment: Assignment) -> Result<Event, AllocError>
     requires running { s.old.phase ≡ Phase.Running }
@@ -283,13 +357,160 @@ fn assign(s: &mut State, assignment: Assignment) -> Result<Event, AllocError>
     ensures { IfOk result (λ event. IsStepped (effects.effect (state_of s.old) (Command.Assign assignment)) s.old event s.new) }
 {
     let global = s.scan.prefixes().global;
-    match tx_assign::carry_out(&mut s.table, assignment, global)? {
-        Carried::Done => {
-            s.scan.begin_fresh();
-            Ok(Event::Went)
+    assign_so(s, assignment, global)
+}
+
+/// \futurelet and the name that it defines.
+fn define_future(s: &mut State, defined: Place) -> Event
+    requires running { s.old.phase ≡ Phase.Running }
+    requires between { s.old.scan.taken ≡ [] }
+    ensures { IsStepped (effects.effect (state_of s.old) (Command.DefineFuture defined)) s.old result s.new }
+{
+    let prefixes = s.scan.prefixes();
+    s.scan.begin_behind(Head::Future(prefixes, defined));
+    Event::Went
+}
+
+/// The token of \aftergroup or \afterassignment is kept. Its only error is want of memory.
+fn keep(s: &mut State, kind: AfterKind, token: Token) -> Result<Event, AllocError>
+    requires { s.old.phase ≡ Phase.Running }
+    ensures { IfOk result (λ event. IsStepped (effects.effect (state_of s.old) (Command.Keep kind token)) s.old event s.new) }
+{
+    match kind {
+        AfterKind::Assignment => s.after_assignment = Some(token),
+        AfterKind::Group => {
+            let groups = s.table.depth();
+            if groups > 0 {
+                s.after_groups.push(KeptToken { groups, token })?;
+            }
         }
-        Carried::Refused(error) => Ok(fail(s, error)),
     }
+    Ok(Event::Went)
+}
+
+/// \def or its kin and the name that it defines: its text begins.
+fn define_macro(alloc: Global, s: &mut State, defined: Place, kind: DefinitionKind) -> Event
+    requires { s.old.phase ≡ Phase.Running }
+    ensures { IsStepped (effects.effect (state_of s.old) (Command.DefineMacro defined kind)) s.old result s.new }
+{
+    s.text = Some(OpenText::definition(alloc, defined, kind));
+    Event::Went
+}
+
+/// \message or its kin: its text begins.
+fn begin_text(alloc: Global, s: &mut State, purpose: TextUse) -> Event
+    requires { s.old.phase ≡ Phase.Running }
+    ensures { IsStepped (effects.effect (state_of s.old) (Command.BeginText purpose)) s.old result s.new }
+{
+    s.text = Some(OpenText::absorbed(alloc, purpose));
+    Event::Went
+}
+
+/// The place means the macro of a definition that is whole. Its only further error is want of memory.
+fn end_definition(
+    alloc: Global,
+    s: &mut State,
+    defined: Place,
+    kind: DefinitionKind,
+    scan: DefinitionScan,
+) -> Result<Event, AllocError>
+    requires { s.old.phase ≡ Phase.Running }
+    ensures { IfOk result (λ event. IsStepped (effects.defining (state_of s.old) defined kind scan) s.old event s.new) }
+{
+    let prefixes = s.scan.prefixes();
+    let made = scan.into_macro(alloc, prefixes.long, prefixes.outer)?;
+    let assignment = Assignment {
+        place: defined,
+        change: Change::Set(Entry::Means(Meaning::Macro(made))),
+    };
+    assign_so(s, assignment, prefixes.global || is_global(kind))
+}
+
+/// Puts the line of a message into the transcript. Its only error is want of memory.
+#[tactic(auto, unfolding(crate::specs::Effects::message))]
+fn report_message(said: &mut Bytes, text: &[u8]) -> Result<(), AllocError>
+    ensures { OnOk result (said.new ≡ said.old ++ effects.message text.now) }
+{
+    said.append(b"message ")?;
+    said.append(text)?;
+    said.append(b"\n")
+}
+
+/// Prints the text of \message. Its only error is want of memory.
+fn print_message(alloc: Global, s: &mut State, tokens: &Toks) -> Result<Event, AllocError>
+    requires { s.old.phase ≡ Phase.Running }
+    ensures { IfOk result (λ event. IsStepped (effects.printing (state_of s.old) tokens.now) s.old event s.new) }
+{
+    let text = text_of(
+        alloc,
+        tokens.as_slice(),
+        escape_of(&s.table),
+        s.table.categories(),
+    )?;
+    report_message(&mut s.said, text.as_slice())?;
+    Ok(Event::Went)
+}
+
+/// The text of \uppercase or \lowercase is read next, with other letters. Its only error is want of memory.
+fn change_letters(
+    alloc: Global,
+    s: &mut State,
+    upper: bool,
+    tokens: Toks,
+) -> Result<Event, AllocError>
+    requires { s.old.phase ≡ Phase.Running }
+    ensures { IfOk result (λ event. IsStepped (effects.lettering (state_of s.old) upper tokens) s.old event s.new) }
+{
+    let changed = with_letters(alloc, &s.table, code_for(upper), tokens)?;
+    s.input
+        .push_list(TokList::from_toks(alloc, changed)?, false)?;
+    Ok(Event::Went)
+}
+
+/// What becomes of a text in braces that is whole. Its only further error is want of memory.
+fn use_text(
+    alloc: Global,
+    s: &mut State,
+    purpose: TextUse,
+    scan: TextScan,
+) -> Result<Event, AllocError>
+    requires { s.old.phase ≡ Phase.Running }
+    ensures { IfOk result (λ event. IsStepped (effects.using_text (state_of s.old) purpose scan.tokens) s.old event s.new) }
+{
+    let tokens = scan.into_tokens();
+    match purpose {
+        TextUse::Message => print_message(alloc, s, &tokens),
+        TextUse::ErrorMessage => Ok(fail(s, TexError::ErrorMessage)),
+        TextUse::UpperCase => change_letters(alloc, s, true, tokens),
+        TextUse::LowerCase => change_letters(alloc, s, false, tokens),
+    }
+}
+
+/// What becomes of the text that is whole. Its only further error is want of memory.
+pub fn end_text(alloc: Global, s: &mut State) -> Result<Event, AllocError>
+    requires { s.old.phase ≡ Phase.Running }
+    ensures { IfOk result (λ event. IsStepped (effects.ending_text (state_of s.old) s.old.text) s.old event s.new) }
+{
+    match mem::replace(&mut s.text, None) {
+        None => Ok(Event::Went),
+        Some(OpenText::Definition(defined, kind, scan)) => {
+            end_definition(alloc, s, defined, kind, scan)
+        }
+        Some(OpenText::Absorbed(purpose, scan)) => use_text(alloc, s, purpose, scan),
+    }
+}
+
+/// The name that \csname has made means \relax from now on, locally (TeX: The Program, section 372). Its only error is want of
+/// memory.
+pub fn relax_name(s: &mut State, name: ControlName) -> Result<Event, AllocError>
+    requires { s.old.phase ≡ Phase.Running }
+    ensures { IfOk result (λ event. IsStepped (leaves (effects.relaxing (state_of s.old) name)) s.old event s.new) }
+{
+    s.table.assign(
+        Place::Name(name),
+        Entry::Means(Meaning::Command(Primitive::Relax)),
+    )?;
+    Ok(Event::Went)
 }
 
 /// A space token.
@@ -324,14 +545,13 @@ fn use_rule(s: &mut State, kind: RuleKind, rule: Rule) -> Result<Event, AllocErr
 }
 
 /// \batchmode or its kin: an assignment of which nothing comes.
-fn interact(s: &mut State, kind: Interaction) -> Event
+fn interact(s: &mut State, kind: Interaction) -> Result<Event, AllocError>
     requires running { s.old.phase ≡ Phase.Running }
     requires between { s.old.scan.taken ≡ [] }
-    ensures { IsStepped (effects.effect (state_of s.old) (Command.Interact kind)) s.old result s.new }
+    ensures { IfOk result (λ event. IsStepped (effects.effect (state_of s.old) (Command.Interact kind)) s.old event s.new) }
 {
     let _nothing = kind;
-    s.scan.begin_fresh();
-    Event::Went
+    end_assignment(s)
 }
 
 /// The run ends as \end does it.
@@ -364,7 +584,7 @@ pub fn carry_out(alloc: Global, s: &mut State, command: Command) -> Result<Event
         Command::BeginGroup => open(s, GroupKind::Simple),
         Command::EndGroup => end_group(alloc, s),
         Command::BeginSemiSimple => open(s, GroupKind::SemiSimple),
-        Command::EndSemiSimple => Ok(end_semi_simple(s)),
+        Command::EndSemiSimple => end_semi_simple(s),
         Command::Prefix(found) => Ok(prefix(s, found)),
         Command::Define(defined, kind) => define(s, defined, kind),
         Command::Assign(assignment) => assign(s, assignment),
@@ -372,6 +592,10 @@ pub fn carry_out(alloc: Global, s: &mut State, command: Command) -> Result<Event
         Command::Rule(kind, rule) => use_rule(s, kind, rule),
         Command::BeginBox(kind, context) => open_box(alloc, s, kind, context),
         Command::End => Ok(finish(s)),
-        Command::Interact(kind) => Ok(interact(s, kind)),
+        Command::Interact(kind) => interact(s, kind),
+        Command::DefineMacro(defined, kind) => Ok(define_macro(alloc, s, defined, kind)),
+        Command::BeginText(purpose) => Ok(begin_text(alloc, s, purpose)),
+        Command::DefineFuture(defined) => Ok(define_future(s, defined)),
+        Command::Keep(kind, token) => keep(s, kind, token),
     }
 }

@@ -1,5 +1,5 @@
 //! What can be kept of the parts of a state: each can be shared, and compared exactly.
-use crate::parts::{Due, OpenBox};
+use crate::parts::{Due, KeptToken, OpenBox, OpenText};
 use crate::types::Head;
 use std::alloc::AllocError;
 use tx_list::Kept;
@@ -9,7 +9,7 @@ impl Kept for Due {
     fn share(&self) -> Result<Self, AllocError> {
         match self {
             Due::OpenMain(name) => Ok(Due::OpenMain(name.clone()?)),
-            Due::MainAbsent => Ok(Due::MainAbsent),
+            Due::FileAbsent => Ok(Due::FileAbsent),
             Due::FileEnded => Ok(Due::FileEnded),
             Due::MainClosed => Ok(Due::MainClosed),
             Due::Ship(shipped) => Ok(Due::Ship(shipped.clone()?)),
@@ -19,7 +19,7 @@ impl Kept for Due {
     fn same(&self, other: &Self) -> bool {
         match (self, other) {
             (Due::OpenMain(one), Due::OpenMain(other)) => one.as_slice() == other.as_slice(),
-            (Due::MainAbsent, Due::MainAbsent) => true,
+            (Due::FileAbsent, Due::FileAbsent) => true,
             (Due::FileEnded, Due::FileEnded) => true,
             (Due::MainClosed, Due::MainClosed) => true,
             (Due::Ship(one), Due::Ship(other)) => same_box(one, other),
@@ -42,6 +42,44 @@ impl Kept for OpenBox {
     }
 }
 
+impl Kept for OpenText {
+    fn share(&self) -> Result<Self, AllocError> {
+        match self {
+            OpenText::Definition(defined, kind, scan) => Ok(OpenText::Definition(
+                defined.clone()?,
+                *kind,
+                scan.share()?,
+            )),
+            OpenText::Absorbed(purpose, scan) => Ok(OpenText::Absorbed(*purpose, scan.share()?)),
+        }
+    }
+
+    fn same(&self, other: &Self) -> bool {
+        match (self, other) {
+            (OpenText::Definition(defined, kind, one), OpenText::Definition(also, like, other)) => {
+                kind == like && defined.same(also) && one.same(other)
+            }
+            (OpenText::Absorbed(purpose, one), OpenText::Absorbed(like, other)) => {
+                purpose == like && one.same(other)
+            }
+            _ => false,
+        }
+    }
+}
+
+impl Kept for KeptToken {
+    fn share(&self) -> Result<Self, AllocError> {
+        Ok(KeptToken {
+            groups: self.groups,
+            token: self.token.clone()?,
+        })
+    }
+
+    fn same(&self, other: &Self) -> bool {
+        self.groups == other.groups && self.token.same(&other.token)
+    }
+}
+
 impl Kept for Head {
     fn share(&self) -> Result<Self, AllocError> {
         match self {
@@ -52,6 +90,7 @@ impl Kept for Head {
                 defined.clone()?,
                 *kind,
             )),
+            Head::Future(prefixes, defined) => Ok(Head::Future(*prefixes, defined.clone()?)),
         }
     }
 
@@ -61,6 +100,9 @@ impl Kept for Head {
             (Head::Prefixed(one), Head::Prefixed(other)) => one == other,
             (Head::Defining(one, defined, kind), Head::Defining(other, also, like)) => {
                 one == other && kind == like && defined.same(also)
+            }
+            (Head::Future(one, defined), Head::Future(other, also)) => {
+                one == other && defined.same(also)
             }
             _ => false,
         }

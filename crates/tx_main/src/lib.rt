@@ -4,13 +4,14 @@
 //! and the reading are TeX's, on documents that Knuth's TeX reads alike.
 //!
 //! Read `types`; how commands are taken off tokens: `standing`, `scans`, `rule`, `mapping`, `stage` and `command`; then
-//! `parts`, `state`, `effects`, `page`, `turn` and `machine`; last `clones`, `kept`, `share` and `same`.
+//! `parts`, `text`, `letters`, `state`, `effects`, `page`, `turn` and `machine`; last `clones`, `kept`, `share` and `same`.
 #![tactic(auto)]
 
 mod clones;
 mod command;
 mod effects;
 mod kept;
+mod letters;
 mod machine;
 mod mapping;
 mod page;
@@ -22,6 +23,7 @@ mod share;
 mod stage;
 mod standing;
 mod state;
+mod text;
 mod turn;
 mod types;
 

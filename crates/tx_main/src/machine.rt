@@ -14,6 +14,7 @@ use std::alloc::{AllocError, Global};
 use std::mem;
 use tx_bytes::Bytes;
 use tx_eqtb::Eqtb;
+use tx_expand::Expander;
 use tx_files::Name;
 use tx_list::Stack;
 use tx_machine::{Date, Event, Machine, Reply, Steps};
@@ -43,11 +44,16 @@ impl Machine for Tex {
         Ok(State {
             phase: Phase::Running,
             due: Stack::one(alloc, Due::OpenMain(main.clone()?))?,
+            files: 0,
             input: Pending::new(alloc),
+            expander: Expander::new(alloc, main.clone()?.into_bytes()),
+            text: None,
             scan: CommandScan::new(alloc, Mode::Vertical),
             list: Nodes::new(alloc),
             boxes: Stack::new(alloc),
             table: Eqtb::new(alloc, &moment_of(date))?,
+            after_groups: Stack::new(alloc),
+            after_assignment: None,
             magnification: None,
             said: Bytes::new(alloc),
         })

@@ -1,12 +1,12 @@
 //! What becomes of a command by what the scan of its last part answers.
 ghost use Rattle.std.specs.Prelude.{◌≡◌};
 ghost use Rattle.tx_scan.specs.DimensionRests.{IsSize};
-ghost use Rattle.tx_main.specs.Mapped.{mapped};
+ghost use Rattle.tx_scan.specs.Mapped.{mapped};
 
 use crate::types::{BoxContext, Command};
 use tx_assign::Assignment;
 use tx_node::Rule;
-use tx_prim::{BoxKind, RuleKind, Shorthand, SizeKind};
+use tx_prim::{BoxKind, DefinitionKind, RuleKind, Shorthand, SizeKind};
 use tx_seen::{Fed, Place};
 
 /// An assignment.
@@ -29,6 +29,30 @@ pub fn defined(shorthand: Shorthand, fed: Fed<Place>) -> Fed<Command>
         Fed::More(want) => Fed::More(want),
         Fed::Need(kind) => Fed::Need(kind),
         Fed::Done(name, back) => Fed::Done(Command::Define(name, shorthand), back),
+        Fed::Wrong(error) => Fed::Wrong(error),
+    }
+}
+
+/// The name that \def or its kin defines.
+pub fn macro_defined(kind: DefinitionKind, fed: Fed<Place>) -> Fed<Command>
+    ensures { result ≡ mapped (λ name. Command.DefineMacro name kind) fed }
+{
+    match fed {
+        Fed::More(want) => Fed::More(want),
+        Fed::Need(kind) => Fed::Need(kind),
+        Fed::Done(name, back) => Fed::Done(Command::DefineMacro(name, kind), back),
+        Fed::Wrong(error) => Fed::Wrong(error),
+    }
+}
+
+/// The name that \futurelet defines.
+pub fn future_defined(fed: Fed<Place>) -> Fed<Command>
+    ensures { result ≡ mapped Command.DefineFuture fed }
+{
+    match fed {
+        Fed::More(want) => Fed::More(want),
+        Fed::Need(kind) => Fed::Need(kind),
+        Fed::Done(name, back) => Fed::Done(Command::DefineFuture(name), back),
         Fed::Wrong(error) => Fed::Wrong(error),
     }
 }

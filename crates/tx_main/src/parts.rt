@@ -1,17 +1,20 @@
-//! The parts of TeX's state that are plain choices: what is due, which boxes are open, what the state waits for.
+//! The parts of TeX's state that are plain choices: what is due, which boxes are open, which text is, what the state waits for.
 use crate::types::BoxContext;
+use tx_char::Token;
 use tx_files::Name;
 use tx_machine::AskKind;
 use tx_node::{BoxNode, Nodes};
-use tx_prim::Mode;
+use tx_prim::{DefinitionKind, Mode, TextUse};
+use tx_seen::Place;
+use tx_text::{DefinitionScan, TextScan};
 
 /// A piece of work that comes before reading.
 #[derive(Drop)]
 pub enum Due {
     /// To ask for the main file.
     OpenMain(Name),
-    /// The main file is absent.
-    MainAbsent,
+    /// The main file, or that of \input, is absent.
+    FileAbsent,
     /// The innermost file has no further line and is to be closed.
     FileEnded,
     /// The main file is closed, and no \end came.
@@ -29,6 +32,23 @@ pub struct OpenBox {
     pub list: Nodes,
     /// The mode around it.
     pub mode: Mode,
+}
+
+/// A text that is being taken, and what it is for.
+#[derive(Drop)]
+pub enum OpenText {
+    /// The parameter text and the body of the macro that this place is to mean.
+    Definition(Place, DefinitionKind, DefinitionScan),
+    /// A text in braces.
+    Absorbed(TextUse, TextScan),
+}
+
+/// A token that \aftergroup keeps.
+#[derive(Drop)]
+pub struct KeptToken {
+    /// How many groups were open then.
+    pub groups: usize,
+    pub token: Token,
 }
 
 /// What a state is ready for.

@@ -1,21 +1,78 @@
 //! Whether two states mean the same. What is cheap to compare is compared first.
 ghost use Rattle.std.specs.Prelude.{◌≡◌, ◌↔◌, IsTrue};
+ghost use Rattle.tx_expand.specs.Expanding.{reader_of};
 ghost use Rattle.tx_main.specs.Meanings.{meaning_of, state_of};
 
-use crate::parts::Phase;
+use crate::parts::{OpenText, Phase};
 use crate::state::State;
+use tx_char::Token;
+use tx_list::Kept;
+
+/// Whether the same text is being taken, or none.
+fn same_text(one: &Option<OpenText>, other: &Option<OpenText>) -> bool
+    ensures { IsTrue result ↔ (one.now ≡ other.now) }
+{
+    match (one, other) {
+        (Some(text), Some(other_text)) => text.same(other_text),
+        (None, None) => true,
+        _ => false,
+    }
+}
+
+/// Whether both are the same token, or none.
+fn same_token(one: &Option<Token>, other: &Option<Token>) -> bool
+    ensures { IsTrue result ↔ (one.now ≡ other.now) }
+{
+    match (one, other) {
+        (Some(token), Some(other_token)) => token.same(other_token),
+        (None, None) => true,
+        _ => false,
+    }
+}
+
+/// Whether both read the same, with the same expansions and conditionals begun.
+fn same_reader(one: &State, other: &State) -> bool
+    ensures { IsTrue result ↔ (reader_of one.now.expander one.now.input ≡ reader_of other.now.expander other.now.input) }
+{
+    one.expander.same(&other.expander) && one.input.same(&other.input)
+}
+
+/// Whether the same is due and the same is begun.
+fn same_begun(one: &State, other: &State) -> bool
+    ensures { IsTrue result ↔ ((one.now.due ≡ other.now.due) × ((one.now.files ≡ other.now.files) × ((one.now.scan ≡ other.now.scan) × (one.now.text ≡ other.now.text)))) }
+{
+    one.due.same(&other.due)
+        && one.files == other.files
+        && one.scan.same(&other.scan)
+        && same_text(&one.text, &other.text)
+}
+
+/// Whether the same tokens are kept for later.
+fn same_kept(one: &State, other: &State) -> bool
+    ensures { IsTrue result ↔ ((one.now.after_groups ≡ other.now.after_groups) × (one.now.after_assignment ≡ other.now.after_assignment)) }
+{
+    one.after_groups.same(&other.after_groups)
+        && same_token(&one.after_assignment, &other.after_assignment)
+}
+
+/// Whether the same lists are built, with the same table.
+fn same_lists(one: &State, other: &State) -> bool
+    ensures { IsTrue result ↔ ((one.now.list ≡ other.now.list) × ((one.now.boxes ≡ other.now.boxes) × ((one.now.magnification ≡ other.now.magnification) × (one.now.table ≡ other.now.table)))) }
+{
+    one.list.same(&other.list)
+        && one.boxes.same(&other.boxes)
+        && one.magnification == other.magnification
+        && one.table.same(&other.table)
+}
 
 /// Whether two states mean the same, where both are ready or wait for the same.
 fn same_parts(one: &State, other: &State) -> bool
     ensures { IsTrue result ↔ (state_of one.now ≡ state_of other.now) }
 {
-    one.due.same(&other.due)
-        && one.scan.same(&other.scan)
-        && one.list.same(&other.list)
-        && one.input.same(&other.input)
-        && one.boxes.same(&other.boxes)
-        && one.magnification == other.magnification
-        && one.table.same(&other.table)
+    same_begun(one, other)
+        && same_reader(one, other)
+        && same_kept(one, other)
+        && same_lists(one, other)
 }
 
 /// Whether two states mean the same; of one that is done for nothing else matters.

@@ -2,7 +2,7 @@
 use crate::types::{BoxContext, Command, Side};
 use tx_assign::AssignScan;
 use tx_node::Rule;
-use tx_prim::{BoxKind, RuleKind, Shorthand, SizeKind};
+use tx_prim::{AfterKind, BoxKind, DefinitionKind, RuleKind, Shorthand, SizeKind};
 use tx_scan::{DimenScan, KeyScan};
 use tx_seen::TexError;
 
@@ -36,6 +36,14 @@ pub enum Stage {
     Assign,
     /// The name that \chardef or its kin defines.
     Name(Shorthand),
+    /// The name that \def or its kin defines.
+    MacroName(DefinitionKind),
+    /// The name that \futurelet defines.
+    FutureName,
+    /// The second of the two tokens behind that.
+    SecondToken,
+    /// The token that is kept for this.
+    KeptToken(AfterKind),
     /// The size of which this is made.
     Sized(SizeKind),
     /// The sides of a rule of this kind.

@@ -8,14 +8,15 @@ ghost use Rattle.tx_assign.specs.Assignments.{assignment};
 ghost use Rattle.tx_main.specs.Commands as commands;
 ghost use Rattle.tx_main.specs.Rests.{command_rest, held, more_needed, Begins, GoesOn, IsAssigning, IsBegunBy, IsOn};
 
-use crate::mapping::{assigned, begun_box, defined, ruled, sized};
+use crate::mapping::{assigned, begun_box, defined, future_defined, macro_defined, ruled, sized};
 use crate::scans::{RuleScan, Scans, Stage};
 use crate::standing::{may_be_prefixed, may_stand};
 use crate::types::{BoxContext, Command, Head, Prefixes};
 use std::alloc::{AllocError, Global};
-use tx_assign::{AssignScan, Assigning, Variable};
+use tx_assign::{AssignScan, Assigning, Assignment, Change, Variable};
 use tx_char::Cat;
-use tx_prim::{BoxKind, Mode, Primitive, RuleKind, Shorthand, SizeKind};
+use tx_eqtb::Entry;
+use tx_prim::{AfterKind, BoxKind, Mode, Primitive, RuleKind, Shorthand, SizeKind};
 use tx_scan::{BraceScan, DimenScan, NameScan};
 use tx_seen::{Fed, Meaning, Place, Seen, TexError, Value, Want};
 
@@ -40,6 +41,32 @@ fn character(scans: &Scans, code: u8, category: Cat) -> Fed<Command>
         | Cat::Comment
         | Cat::Invalid => Fed::Wrong(TexError::NotAllowed),
     }
+}
+
+/// The second of the two tokens behind the name that \futurelet defines, which is to mean what it means; both are read again.
+/// Its only error is that no more owners of a name or a meaning can be counted.
+fn feed_second(head: &Head, token: &Seen) -> Result<Fed<Command>, AllocError>
+    ensures { IfOk result (λ fed. fed ≡ Fed.Done (commands.future_of head.now token.now) 2) }
+{
+    match head {
+        Head::Future(_, name) => Ok(Fed::Done(
+            Command::Assign(Assignment {
+                place: name.clone()?,
+                change: Change::Set(Entry::Means(token.meaning.clone()?)),
+            }),
+            2,
+        )),
+        Head::Fresh | Head::Prefixed(_) | Head::Defining(_, _, _) => {
+            Ok(Fed::Done(Command::Nothing, 2))
+        }
+    }
+}
+
+/// The token of \aftergroup or \afterassignment. Its only error is that no more owners of a name can be counted.
+fn feed_kept(kind: AfterKind, token: &Seen) -> Result<Fed<Command>, AllocError>
+    ensures { IfOk result (λ fed. fed ≡ Fed.Done (Command.Keep kind token.now.token) 0) }
+{
+    Ok(Fed::Done(Command::Keep(kind, token.token.clone()?), 0))
 }
 
 impl Scans {
@@ -71,6 +98,10 @@ impl Scans {
             Stage::Start => self.feed_first(mode, head, token),
             Stage::Assign => Ok(assigned(self.assignment.feed(token)?)),
             Stage::Name(kind) => Ok(defined(kind, NameScan::new().feed(token)?)),
+            Stage::MacroName(kind) => Ok(macro_defined(kind, NameScan::new().feed(token)?)),
+            Stage::FutureName => Ok(future_defined(NameScan::new().feed(token)?)),
+            Stage::SecondToken => feed_second(head, token),
+            Stage::KeptToken(kind) => feed_kept(kind, token),
             Stage::Sized(kind) => Ok(sized(kind, self.size.feed(token)?)),
             Stage::Rule(kind) => Ok(ruled(kind, self.rule.feed(token)?)),
             Stage::ShippedBox => Ok(self.feed_box(token)),
@@ -104,6 +135,7 @@ impl Scans {
             Head::Fresh => Ok(self.feed_fresh(mode, token)),
             Head::Prefixed(prefixes) => Ok(self.feed_prefixed(*prefixes, token)),
             Head::Defining(_, name, kind) => self.feed_defining(name, *kind, token),
+            Head::Future(_, _) => Ok(self.on(Stage::SecondToken, Want::Raw)),
         }
     }
 
@@ -198,6 +230,10 @@ impl Scans {
             Primitive::End => Fed::Done(Command::End, 0),
             Primitive::IgnoreSpaces => self.on(Stage::Spaces, Want::Expanded),
             Primitive::Interaction(kind) => Fed::Done(Command::Interact(kind), 0),
+            Primitive::Definition(kind) => self.on(Stage::MacroName(kind), Want::Raw),
+            Primitive::Text(purpose) => Fed::Done(Command::BeginText(purpose), 0),
+            Primitive::After(kind) => self.on(Stage::KeptToken(kind), Want::Raw),
+            Primitive::FutureLet => self.on(Stage::FutureName, Want::Raw),
         }
     }
 

@@ -62,7 +62,11 @@ fn adds_to_list(primitive: Primitive) -> bool
         | Primitive::Shipout
         | Primitive::End
         | Primitive::IgnoreSpaces
-        | Primitive::Interaction(_) => false,
+        | Primitive::Interaction(_)
+        | Primitive::Definition(_)
+        | Primitive::Text(_)
+        | Primitive::After(_)
+        | Primitive::FutureLet => false,
     }
 }
 
@@ -105,8 +109,9 @@ fn is_prefixable(prefixes: Prefixes, primitive: Primitive) -> bool
     ensures { result ≡ commands.is_prefixable prefixes primitive }
 {
     match primitive {
-        Primitive::Prefix(_) => true,
+        Primitive::Prefix(_) | Primitive::Definition(_) => true,
         Primitive::Let
+        | Primitive::FutureLet
         | Primitive::Shorthand(_)
         | Primitive::Arithmetic(_)
         | Primitive::Numbered(_)
@@ -123,7 +128,9 @@ fn is_prefixable(prefixes: Prefixes, primitive: Primitive) -> bool
         | Primitive::Box(_)
         | Primitive::Shipout
         | Primitive::End
-        | Primitive::IgnoreSpaces => false,
+        | Primitive::IgnoreSpaces
+        | Primitive::Text(_)
+        | Primitive::After(_) => false,
     }
 }
 

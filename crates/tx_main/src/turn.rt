@@ -1,31 +1,30 @@
-//! One turn: due work, the ask for a line, or one token (TeX: The Program, sections 1030, 343 and 360).
-ghost use Rattle.std.specs.Prelude.{◌≡◌, ◌∷◌, IfOk, OnOk};
+//! One turn: due work, the ask for a line, or one token and its expansion (TeX: The Program, sections 1030, 343, 360 and 366).
+ghost use Rattle.std.specs.Prelude.{◌≡◌, true, is_some, IfOk, OnOk};
 ghost use Rattle.tx_machine.specs.Machine.{kind_of, Ready};
-ghost use Rattle.tx_pending.specs.Elements.{step as next_of};
 ghost use Rattle.tx_prim.specs.declared.integer.IntegerParameter.TheVariants.{Mag};
-ghost use Rattle.tx_seen.specs.Seen.{held};
 ghost use Rattle.tx_ship.specs.Pages.{IsMag};
 ghost use Rattle.tx_main.specs.Pages.{integer as magnification_in, page_of};
 ghost use Rattle.tx_main.specs.State.{Runs, mode_of};
 ghost use Rattle.tx_main.specs.Outcomes.{Asks};
+ghost use Rattle.tx_main.specs.Texts.{IsTextAnswered};
 ghost use Rattle.tx_main.specs.Turns as turns;
 ghost use Rattle.tx_main.specs.Meanings.{IsStepped, meaning_of, state_of};
 
-use crate::effects::{carry_out, fail};
+use crate::effects::{carry_out, end_text, fail, relax_name};
 use crate::page::{integer, line_end, may_be, ship_params};
-use crate::parts::{Due, Phase};
+use crate::parts::{Due, OpenText, Phase};
 use crate::scans::Taken;
 use crate::state::State;
 use std::alloc::{AllocError, Global};
-use tx_char::Token;
+use tx_expand::{Expanded, Wanted};
 use tx_lex::line_text;
 use tx_list::Stack;
 use tx_machine::{Ask, AskKind, Event, Reply};
 use tx_node::BoxNode;
-use tx_pending::Next;
 use tx_prim::IntegerParameter;
-use tx_seen::{Seen, TexError};
+use tx_seen::{Fed, Seen, TexError, Want};
 use tx_ship::{ShipError, body};
+use tx_toklist::Toks;
 
 /// The turn ends with an ask.
 fn ask(s: &mut State, kind: AskKind, ask: Ask) -> Event
@@ -36,16 +35,8 @@ fn ask(s: &mut State, kind: AskKind, ask: Ask) -> Event
     Event::Asks(ask)
 }
 
-/// A token with its meaning. Its only error is that no more owners of a macro can be counted.
-fn seen_in(s: &State, token: Token) -> Result<Seen, AllocError>
-    ensures { IfOk result (λ seen. seen ≡ turns.seen_in (state_of s.now) token) }
-{
-    let meaning = s.table.meaning(&token)?;
-    Ok(Seen { token, meaning })
-}
-
 /// A token joins the open command.
-fn take(alloc: Global, s: &mut State, seen: Seen) -> Result<Event, AllocError>
+fn take_command(alloc: Global, s: &mut State, seen: Seen) -> Result<Event, AllocError>
     requires { s.old.phase ≡ Phase.Running }
     ensures { IfOk result (λ event. IsStepped (turns.taking (state_of s.old) seen) s.old event s.new) }
 {
@@ -56,37 +47,107 @@ fn take(alloc: Global, s: &mut State, seen: Seen) -> Result<Event, AllocError>
     }
 }
 
-/// A token joins the open command with its meaning.
-fn take_token(alloc: Global, s: &mut State, token: Token) -> Result<Event, AllocError>
-    requires { s.old.phase ≡ Phase.Running }
-    ensures { IfOk result (λ event. IsStepped (turns.taking (state_of s.old) (turns.seen_in (state_of s.old) token)) s.old event s.new) }
+/// What a text answers to a token that joins it, if one is open. Its only error is want of memory.
+fn feed_text(alloc: Global, text: &mut Option<OpenText>, seen: Seen) -> Result<Fed<()>, AllocError>
+    ensures { IfOk result (λ fed. IsTextAnswered text.old seen fed text.new) }
 {
-    let seen = seen_in(s, token)?;
-    take(alloc, s, seen)
+    match text {
+        Some(text) => text.feed(alloc, seen),
+        None => Ok(Fed::More(Want::Raw)),
+    }
 }
 
-/// So does one that \noexpand holds.
-fn take_held(alloc: Global, s: &mut State, token: Token) -> Result<Event, AllocError>
-    requires { s.old.phase ≡ Phase.Running }
-    ensures { IfOk result (λ event. IsStepped (turns.taking (state_of s.old) (held (turns.seen_in (state_of s.old) token))) s.old event s.new) }
+/// A token joins the open text.
+fn take_text(alloc: Global, s: &mut State, seen: Seen) -> Result<Event, AllocError>
+    requires running { s.old.phase ≡ Phase.Running }
+    requires text { is_some s.old.text ≡ true }
+    ensures { IfOk result (λ event. IsStepped (turns.taken_by (state_of s.old) seen s.old.text) s.old event s.new) }
 {
-    let seen = seen_in(s, token)?;
-    take(alloc, s, seen.held())
+    match feed_text(alloc, &mut s.text, seen)? {
+        Fed::More(_) => Ok(Event::Went),
+        Fed::Need(_) => unreachable!(),
+        Fed::Done(_, _) => end_text(alloc, s),
+        Fed::Wrong(error) => Ok(fail(s, error)),
+    }
 }
 
-/// Reads the next token, or asks for the next line, or for the file to be closed.
+/// A token joins the open text, or else the open command.
+fn take(alloc: Global, s: &mut State, seen: Seen) -> Result<Event, AllocError>
+    requires { s.old.phase ≡ Phase.Running }
+    ensures { IfOk result (λ event. IsStepped (turns.taken_by (state_of s.old) seen s.old.text) s.old event s.new) }
+{
+    if s.text.is_some() {
+        take_text(alloc, s, seen)
+    } else {
+        take_command(alloc, s, seen)
+    }
+}
+
+/// Tokens that \the gives belong to the open text. Its only error is want of memory.
+fn put_text(s: &mut State, tokens: Toks) -> Result<Event, AllocError>
+    requires { s.old.phase ≡ Phase.Running }
+    ensures { IfOk result (λ event. IsStepped (turns.given_to_text (state_of s.old) tokens s.old.text) s.old event s.new) }
+{
+    let mut tokens = tokens;
+    if let Some(text) = &mut s.text {
+        text.put(&mut tokens)?;
+    }
+    Ok(Event::Went)
+}
+
+/// What is taken next.
+fn wanted(s: &State) -> Wanted
+    ensures { result ≡ turns.wanted_by (state_of s.now) s.now.text }
+{
+    match &s.text {
+        Some(text) => text.wanted(),
+        None => Wanted {
+            want: s.scan.want(),
+            text: false,
+            takes_the: false,
+        },
+    }
+}
+
+/// The innermost file has ended: the ask for it to be closed, if it may end here.
+fn close(s: &mut State) -> Event
+    requires { s.old.phase ≡ Phase.Running }
+    ensures { IsStepped (turns.closes (state_of s.old)) s.old result s.new }
+{
+    match s.expander.ended(s.text.is_some()) {
+        Some(error) => fail(s, error),
+        None => ask(s, AskKind::Close, Ask::Close),
+    }
+}
+
+/// Does what the expander's answer asks for. Its only error is want of memory.
+fn heed(alloc: Global, s: &mut State, answer: Expanded) -> Result<Event, AllocError>
+    requires { s.old.phase ≡ Phase.Running }
+    ensures { IfOk result (λ event. IsStepped (turns.answered (state_of s.old) answer) s.old event s.new) }
+{
+    match answer {
+        Expanded::Got(seen) => take(alloc, s, seen),
+        Expanded::Text(tokens) => put_text(s, tokens),
+        Expanded::Went | Expanded::Marked => Ok(Event::Went),
+        Expanded::Relaxes(name) => relax_name(s, name),
+        Expanded::Used(false) => Ok(ask(s, AskKind::Line, Ask::Line)),
+        Expanded::Used(true) => Ok(close(s)),
+        Expanded::Asks(name) => Ok(ask(s, AskKind::Open, Ask::Open(name))),
+        Expanded::Wrong(error) => Ok(fail(s, error)),
+    }
+}
+
+/// Takes one turn of the expander, and what it answers. Its only error is want of memory.
 fn read(alloc: Global, s: &mut State) -> Result<Event, AllocError>
     requires { s.old.phase ≡ Phase.Running }
-    ensures { IfOk result (λ event. IsStepped (turns.reads (state_of s.old) (next_of s.old.table.table.categories s.old.input)) s.old event s.new) }
+    ensures { IfOk result (λ event. IsStepped (turns.reads (state_of s.old)) s.old event s.new) }
 {
-    match s.input.next(alloc, s.table.categories())? {
-        Next::Token(token) => take_token(alloc, s, token),
-        Next::Held(token) => take_held(alloc, s, token),
-        Next::Marker => Ok(Event::Went),
-        Next::Used { close: false } => Ok(ask(s, AskKind::Line, Ask::Line)),
-        Next::Used { close: true } => Ok(ask(s, AskKind::Close, Ask::Close)),
-        Next::E1 => Ok(fail(s, TexError::InvalidCharacter)),
-    }
+    let wanted = wanted(s);
+    let mode = s.scan.mode();
+    let answer = s
+        .expander
+        .turn(alloc, &mut s.input, &s.table, mode, wanted)?;
+    heed(alloc, s, answer)
 }
 
 /// Ships a box with the magnification.
@@ -150,8 +211,8 @@ fn work(alloc: Global, s: &mut State, due: Due) -> Result<Event, AllocError>
 {
     match due {
         Due::OpenMain(name) => Ok(ask(s, AskKind::Open, Ask::Open(name.into_bytes()))),
-        Due::MainAbsent => Ok(fail(s, TexError::FileAbsent)),
-        Due::FileEnded => Ok(ask(s, AskKind::Close, Ask::Close)),
+        Due::FileAbsent => Ok(fail(s, TexError::FileAbsent)),
+        Due::FileEnded => Ok(close(s)),
         Due::MainClosed => Ok(fail(s, TexError::NoEnd)),
         Due::Ship(shipped) => ship_box(alloc, s, &shipped),
     }
@@ -182,6 +243,59 @@ pub fn turn(alloc: Global, s: &mut State) -> Result<Event, AllocError>
     }
 }
 
+/// A new line stands in front. Its only error is want of memory.
+fn put_line(alloc: Global, s: &mut State, raw: &[u8]) -> Result<(), AllocError>
+    ensures state { OnOk result (state_of s.new ≡ turns.lined (state_of s.old) raw.now) }
+    ensures phase { OnOk result (s.new.phase ≡ s.old.phase) }
+    ensures said { OnOk result (s.new.said ≡ s.old.said) }
+{
+    let line = line_text(alloc, raw, line_end(&s.table))?;
+    s.input.push_line(alloc, line)?;
+    s.expander.line_came(&mut s.input)
+}
+
+/// The innermost file has no further line; one without any has an empty one, if it isn't the main file (TeX: The Program, section
+/// 538). Its only error is want of memory.
+fn end_lines(alloc: Global, s: &mut State) -> Result<(), AllocError>
+    ensures state { OnOk result (state_of s.new ≡ turns.lines_ended (state_of s.old)) }
+    ensures phase { OnOk result (s.new.phase ≡ s.old.phase) }
+    ensures said { OnOk result (s.new.said ≡ s.old.said) }
+{
+    if s.expander.is_opening() {
+        put_line(alloc, s, b"")
+    } else {
+        s.due.push(Due::FileEnded)
+    }
+}
+
+/// One more file is open. Its only error is that no more can be counted.
+fn open_file(s: &mut State) -> Result<(), AllocError>
+    ensures state { OnOk result (state_of s.new ≡ turns.file_opened (state_of s.old)) }
+    ensures phase { OnOk result (s.new.phase ≡ s.old.phase) }
+    ensures said { OnOk result (s.new.said ≡ s.old.said) }
+{
+    match s.files.checked_add(1) {
+        Some(files) => {
+            s.files = files;
+            Ok(())
+        }
+        None => Err(AllocError),
+    }
+}
+
+/// The innermost file is closed. Its only error is want of memory.
+fn close_file(s: &mut State) -> Result<(), AllocError>
+    ensures state { OnOk result (state_of s.new ≡ turns.file_closed (state_of s.old) s.old.files) }
+    ensures phase { OnOk result (s.new.phase ≡ s.old.phase) }
+    ensures said { OnOk result (s.new.said ≡ s.old.said) }
+{
+    s.files = s.files.saturating_sub(1);
+    if s.files == 0 {
+        s.due.push(Due::MainClosed)?;
+    }
+    Ok(())
+}
+
 /// What a reply brings, to a state that waits for one of this kind. Its only error is want of memory.
 fn hear(alloc: Global, s: &mut State, kind: AskKind, reply: &Reply) -> Result<(), AllocError>
     requires { s.old.phase ≡ Phase.Running }
@@ -189,16 +303,13 @@ fn hear(alloc: Global, s: &mut State, kind: AskKind, reply: &Reply) -> Result<()
     ensures said { OnOk result (s.new.said ≡ s.old.said) }
 {
     match (kind, reply) {
-        (AskKind::Open, Reply::Absent) => s.due.push(Due::MainAbsent)?,
-        (AskKind::Line, Reply::Line(bytes)) => {
-            let line = line_text(alloc, bytes.as_slice(), line_end(&s.table))?;
-            s.input.push_line(alloc, line)?;
-        }
-        (AskKind::Line, Reply::Ended) => s.due.push(Due::FileEnded)?,
-        (AskKind::Close, Reply::Closed) => s.due.push(Due::MainClosed)?,
-        _ => {}
+        (AskKind::Open, Reply::Found) => open_file(s),
+        (AskKind::Open, Reply::Absent) => s.due.push(Due::FileAbsent),
+        (AskKind::Line, Reply::Line(bytes)) => put_line(alloc, s, bytes.as_slice()),
+        (AskKind::Line, Reply::Ended) => end_lines(alloc, s),
+        (AskKind::Close, Reply::Closed) => close_file(s),
+        _ => Ok(()),
     }
-    Ok(())
 }
 
 /// Takes a reply. Its only error is want of memory.

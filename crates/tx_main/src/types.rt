@@ -1,7 +1,10 @@
 //! What commands are, once they are read whole, and what may stand before them.
 use tx_assign::Assignment;
+use tx_char::Token;
 use tx_node::Rule;
-use tx_prim::{BoxKind, Interaction, Prefix, RuleKind, Shorthand, SizeKind};
+use tx_prim::{
+    AfterKind, BoxKind, DefinitionKind, Interaction, Prefix, RuleKind, Shorthand, SizeKind, TextUse,
+};
 use tx_seen::Place;
 
 /// A side of a rule.
@@ -38,6 +41,8 @@ pub enum Head {
     Prefixed(Prefixes),
     /// \chardef or its kin, with its prefixes and the name that it defines: what the name is to stand for is to follow.
     Defining(Prefixes, Place, Shorthand),
+    /// \futurelet, with its prefixes and the name that it defines: two tokens are to follow.
+    Future(Prefixes, Place),
 }
 
 /// A command with all that belongs to it.
@@ -71,4 +76,12 @@ pub enum Command {
     End,
     /// `\batchmode` and its kin, assignments that nothing comes of.
     Interact(Interaction),
+    /// `\def` or its kin and the name that it defines, whose parameter text and body are to follow.
+    DefineMacro(Place, DefinitionKind),
+    /// `\message` or its kin, whose text is to follow.
+    BeginText(TextUse),
+    /// `\futurelet` and the name that it defines.
+    DefineFuture(Place),
+    /// `\aftergroup` or `\afterassignment` and its token.
+    Keep(AfterKind, Token),
 }

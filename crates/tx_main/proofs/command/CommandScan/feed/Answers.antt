@@ -10,13 +10,13 @@ use Rattle.tx_main.proofs.command.CommandScan.feed.Goals as goal
 
 pub returns-in-Ok-More : goal.returns-in-Ok-More
 returns-in-Ok-More c =
-    let settled = rw c.in-Ok-More.field-0-is at c.in-Ok-More.ensures in
+    let settled = rw c.in-Ok-More.field-0-is at c.in-Ok-More.ensures.settled in
     let begun : List Item → Begun = λ taken. record { mode = c.self.inside.mode; head = c.self.inside.head; taken = taken } in
-    rw (← c.self.view_is) ((c.in-Ok-More.field-0-0, settled.0), (ap begun settled.1.0, refl))
+    rw (← c.self.view_is) ((c.in-Ok-More.want, rw settled.0 at settled.1.wants), (ap begun settled.0, refl))
 
 pub returns-in_ok-given-in-Ok-Done : goal.returns-in_ok-given-in-Ok-Done
 returns-in_ok-given-in-Ok-Done c =
-    let settled = rw c.in-Ok-Done.field-0-is at c.in-Ok-Done.ensures in
+    let settled = rw c.in-Ok-Done.field-0-is at c.in-Ok-Done.ensures.settled in
     let items : List Item = joined (value_in c.args.table.now) c.self.inside.mode c.self.inside.head c.self.inside.taken c.args.token in
     let begun : List Item → Begun = λ taken. record { mode = c.self.inside.mode; head = c.self.inside.head; taken = taken } in
     rw (← c.self.view_is) (
@@ -25,4 +25,4 @@ returns-in_ok-given-in-Ok-Done c =
     )
 
 pub returns-in-Ok-Wrong : goal.returns-in-Ok-Wrong
-returns-in-Ok-Wrong c = rw (← c.self.view_is) (rw c.in-Ok-Wrong.field-0-is at c.in-Ok-Wrong.ensures)
+returns-in-Ok-Wrong c = rw (← c.self.view_is) (rw c.in-Ok-Wrong.field-0-is at c.in-Ok-Wrong.ensures.settled)

@@ -1,7 +1,7 @@
 use Rattle.std.proofs.Common.{refl, ap, ◌∙◌}
 use Rattle.tx_seen.specs.declared.fed.Want.TheVariants.{Raw}
 use Rattle.tx_main.specs.declared.types.BoxContext.TheVariants.{Append}
-use Rattle.tx_main.proofs.Stages.{name-begun, size-begun, rule-begun, box-begun, shipped-begun, spaces-begun}
+use Rattle.tx_main.proofs.Stages.{future-begun, kept-begun, macro-begun, name-begun, size-begun, rule-begun, box-begun, shipped-begun, spaces-begun}
 use Rattle.tx_main.proofs.scans.Scans.begin_primitive.Goals as goal
 
 pub returns-in-Let : goal.returns-in-Let
@@ -41,3 +41,12 @@ returns-in-Shipout c = rw (c.in-Shipout.is, c.on-in-Shipout.ensures.answer) (shi
 
 pub returns-in-IgnoreSpaces : goal.returns-in-IgnoreSpaces
 returns-in-IgnoreSpaces c = rw (c.in-IgnoreSpaces.is, c.on-in-IgnoreSpaces.ensures.answer) (spaces-begun c.on-in-IgnoreSpaces.new.self (ap (λ scans. scans.stage) c.on-in-IgnoreSpaces.ensures.scans))
+
+pub returns-in-Definition : goal.returns-in-Definition
+returns-in-Definition c = rw (c.in-Definition.is, c.on-in-Definition.ensures.answer) (macro-begun c.in-Definition.kind c.on-in-Definition.new.self (ap (λ scans. scans.stage) c.on-in-Definition.ensures.scans))
+
+pub returns-in-After : goal.returns-in-After
+returns-in-After c = rw (c.in-After.is, c.on-in-After.ensures.answer) (kept-begun c.in-After.kind c.on-in-After.new.self (ap (λ scans. scans.stage) c.on-in-After.ensures.scans))
+
+pub returns-in-FutureLet : goal.returns-in-FutureLet
+returns-in-FutureLet c = rw (c.in-FutureLet.is, c.on-in-FutureLet.ensures.answer) (future-begun c.on-in-FutureLet.new.self (ap (λ scans. scans.stage) c.on-in-FutureLet.ensures.scans))

@@ -3,9 +3,9 @@ use Rattle.tx_scan.specs.DimensionRests.{rest as dimen_rest}
 use Rattle.tx_scan.specs.GrammarRests.{held_none, name_rest, brace_rest}
 use Rattle.tx_assign.specs.Rests.{rest as assign_rest, held as assign_held}
 use Rattle.tx_main.specs.declared.scans.Stage.TheVariants as stage
-use Rattle.tx_main.specs.declared.types.Command.TheVariants.{Assign, Define, Sized, Rule, BeginBox}
+use Rattle.tx_main.specs.declared.types.Command.TheVariants.{Assign, Define, DefineFuture, DefineMacro, Sized, Rule, BeginBox}
 use Rattle.tx_main.specs.Rests.{rule_rest, rule_held}
-use Rattle.tx_main.proofs.Stages.{part-fed, part-needs, part-goes, size-goes, rule-goes, assign-needs, assign-goes, start-fed, start-needs, start-goes, box-fed, space-fed}
+use Rattle.tx_main.proofs.Stages.{part-fed, part-needs, part-goes, size-goes, rule-goes, assign-needs, assign-goes, start-fed, start-needs, start-goes, box-fed, space-fed, end-goes, end-needs, kept-fed, second-fed}
 use Rattle.tx_main.proofs.scans.Scans.feed.Goals as goal
 
 pub returns-in-Start-clause-fed : goal.returns-in-Start-clause-fed
@@ -98,3 +98,45 @@ returns-in-Spaces-clause-needs c = part-needs c.args.self.now c.args.self.now c.
 
 pub returns-in-Spaces-clause-on : goal.returns-in-Spaces-clause-on
 returns-in-Spaces-clause-on c = (c.feed_space.ensures c.args.mode c.args.head.now).goes_on
+
+pub returns-in_ok-feed-in-MacroName-clause-fed : goal.returns-in_ok-feed-in-MacroName-clause-fed
+returns-in_ok-feed-in-MacroName-clause-fed c =
+    rw c.macro_defined.ensures
+    (part-fed name_rest held_none (λ name. DefineMacro name c.in-MacroName.kind) (stage.MacroName c.in-MacroName.kind) c.args.mode c.args.head.now c.new-in-MacroName.result c.feed-in-MacroName.new.self c.args.self.now _ c.args.token.now c.in_ok-feed-in-MacroName.field-0 c.in-MacroName.is c.in-MacroName.is
+    (λ behind item more. refl) refl (λ behind item more. refl) refl c.in_ok-feed-in-MacroName.ensures.part)
+
+pub returns-in_ok-feed-in-MacroName-clause-needs : goal.returns-in_ok-feed-in-MacroName-clause-needs
+returns-in_ok-feed-in-MacroName-clause-needs c = part-needs c.args.self.now _ c.macro_defined.result (rw c.in-MacroName.is refl)
+
+pub returns-in_ok-feed-in-MacroName-clause-on : goal.returns-in_ok-feed-in-MacroName-clause-on
+returns-in_ok-feed-in-MacroName-clause-on c = rw c.macro_defined.ensures (part-goes (λ name. DefineMacro name c.in-MacroName.kind) (stage.MacroName c.in-MacroName.kind) c.args.self.now c.in_ok-feed-in-MacroName.field-0 c.in-MacroName.is tt c.in_ok-feed-in-MacroName.ensures.nothing)
+
+pub returns-in_ok-feed-in-FutureName-clause-fed : goal.returns-in_ok-feed-in-FutureName-clause-fed
+returns-in_ok-feed-in-FutureName-clause-fed c =
+    rw c.future_defined.ensures
+    (part-fed name_rest held_none DefineFuture stage.FutureName c.args.mode c.args.head.now c.new-in-FutureName.result c.feed-in-FutureName.new.self c.args.self.now _ c.args.token.now c.in_ok-feed-in-FutureName.field-0 c.in-FutureName.is c.in-FutureName.is
+    (λ behind item more. refl) refl (λ behind item more. refl) refl c.in_ok-feed-in-FutureName.ensures.part)
+
+pub returns-in_ok-feed-in-FutureName-clause-needs : goal.returns-in_ok-feed-in-FutureName-clause-needs
+returns-in_ok-feed-in-FutureName-clause-needs c = part-needs c.args.self.now _ c.future_defined.result (rw c.in-FutureName.is refl)
+
+pub returns-in_ok-feed-in-FutureName-clause-on : goal.returns-in_ok-feed-in-FutureName-clause-on
+returns-in_ok-feed-in-FutureName-clause-on c = rw c.future_defined.ensures (part-goes DefineFuture stage.FutureName c.args.self.now c.in_ok-feed-in-FutureName.field-0 c.in-FutureName.is tt c.in_ok-feed-in-FutureName.ensures.nothing)
+
+pub returns-in-SecondToken-clause-fed : goal.returns-in-SecondToken-clause-fed
+returns-in-SecondToken-clause-fed c = second-fed c.args.mode c.args.head.now c.args.token.now c.args.self.now c.args.self.now c.feed_second.result c.in-SecondToken.is c.feed_second.ensures
+
+pub returns-in-SecondToken-clause-needs : goal.returns-in-SecondToken-clause-needs
+returns-in-SecondToken-clause-needs c = end-needs _ _ _ _ c.feed_second.result c.feed_second.ensures
+
+pub returns-in-SecondToken-clause-on : goal.returns-in-SecondToken-clause-on
+returns-in-SecondToken-clause-on c = end-goes c.args.self.now _ _ c.feed_second.result c.feed_second.ensures
+
+pub returns-in-KeptToken-clause-fed : goal.returns-in-KeptToken-clause-fed
+returns-in-KeptToken-clause-fed c = kept-fed c.args.mode c.args.head.now c.in-KeptToken.kind c.args.token.now c.args.self.now c.args.self.now c.feed_kept.result c.in-KeptToken.is c.feed_kept.ensures
+
+pub returns-in-KeptToken-clause-needs : goal.returns-in-KeptToken-clause-needs
+returns-in-KeptToken-clause-needs c = end-needs _ _ _ _ c.feed_kept.result c.feed_kept.ensures
+
+pub returns-in-KeptToken-clause-on : goal.returns-in-KeptToken-clause-on
+returns-in-KeptToken-clause-on c = end-goes c.args.self.now _ _ c.feed_kept.result c.feed_kept.ensures

@@ -1,5 +1,5 @@
 use Rattle.tx_main.proofs.Taking.{takes-more, takes-wrong, takes-whole}
-use Rattle.tx_main.proofs.turn.take.Goals as goal
+use Rattle.tx_main.proofs.turn.take_command.Goals as goal
 
 pub returns-in-More : goal.returns-in-More
 returns-in-More c =

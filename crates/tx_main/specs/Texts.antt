@@ -1,0 +1,129 @@
+-- Texts that are being taken, each with what it is for (TeX: The Program, sections 473 to 482).
+use Rattle.std.specs.Prelude.{◌≡◌, ℕ, zero, suc, Bool, true, false, List, Option, None, Some, Result, Ok, Err, if◌then◌else◌}
+use Rattle.tx_char.specs.declared.tokens.Token.{Token}
+use Rattle.tx_char.specs.declared.tokens.Token.TheVariants as token
+use Rattle.tx_eqtb.specs.declared.table.Table.{Table}
+use Rattle.tx_eqtb.specs.Table.{number_at}
+use Rattle.tx_expand.specs.declared.types.Wanted.{Wanted}
+use Rattle.tx_prim.specs.declared.family.CharacterCode.{CharacterCode}
+use Rattle.tx_prim.specs.declared.family.CharacterCode.TheVariants as codes
+use Rattle.tx_prim.specs.declared.family.DefinitionKind.{DefinitionKind}
+use Rattle.tx_prim.specs.declared.family.DefinitionKind.TheVariants as kinds
+use Rattle.tx_prim.specs.declared.family.TextUse.{TextUse}
+use Rattle.tx_prim.specs.declared.family.TextUse.TheVariants as purposes
+use Rattle.tx_scan.specs.Integers.{byte_of}
+use Rattle.tx_seen.specs.declared.error.TexError.{TexError}
+use Rattle.tx_seen.specs.declared.fed.Fed.{Fed}
+use Rattle.tx_seen.specs.declared.fed.Fed.TheVariants.{More, Done, Wrong}
+use Rattle.tx_seen.specs.declared.fed.Want.TheVariants.{Raw}
+use Rattle.tx_seen.specs.declared.place.Place.{Place}
+use Rattle.tx_seen.specs.declared.place.Place.TheVariants.{Code}
+use Rattle.tx_seen.specs.declared.seen.Seen.{Seen}
+use Rattle.tx_text.specs.declared.stages.Stage.{Stage}
+use Rattle.tx_text.specs.declared.stages.Stage.TheVariants.{Whole}
+use Rattle.tx_text.specs.declared.stages.TextStage.{TextStage}
+use Rattle.tx_text.specs.declared.stages.TextStage.TheVariants.{Ended}
+use Rattle.tx_text.specs.Absorbed as absorbed
+use Rattle.tx_text.specs.Absorbed.{Absorbing}
+use Rattle.tx_text.specs.Definitions as definition
+use Rattle.tx_text.specs.Definitions.{Defining}
+use Rattle.tx_main.specs.declared.parts.OpenText.{OpenText}
+use Rattle.tx_main.specs.declared.parts.OpenText.TheVariants as texts
+
+-- \edef and \xdef expand the body, \gdef and \xdef are global (The TeXbook, chapter 20)
+abbrev pub expands_body : DefinitionKind → Bool
+expands_body kinds.Plain = false
+expands_body kinds.Expanded = true
+expands_body kinds.Global = false
+expands_body kinds.GlobalExpanded = true
+
+abbrev pub is_global : DefinitionKind → Bool
+is_global kinds.Plain = false
+is_global kinds.Expanded = false
+is_global kinds.Global = true
+is_global kinds.GlobalExpanded = true
+
+-- the text of a message is expanded, that of \uppercase and \lowercase isn't
+abbrev pub expands_text : TextUse → Bool
+expands_text purposes.Message = true
+expands_text purposes.ErrorMessage = true
+expands_text purposes.UpperCase = false
+expands_text purposes.LowerCase = false
+
+-- texts of which nothing is taken
+abbrev pub definition_text : Place → DefinitionKind → OpenText
+definition_text defined kind = texts.Definition defined kind (definition.no_definition (expands_body kind))
+
+abbrev pub absorbed_text : TextUse → OpenText
+absorbed_text purpose = texts.Absorbed purpose (absorbed.no_text (expands_text purpose))
+
+-- what is taken next
+abbrev pub text_wanted : OpenText → Wanted
+text_wanted (texts.Definition defined kind d) = record { want = definition.wanted d d.stage; text = true; takes_the = definition.takes_the d d.stage }
+text_wanted (texts.Absorbed purpose a) = record { want = absorbed.text_wanted a a.stage; text = true; takes_the = absorbed.text_takes_the a a.stage }
+
+-- with tokens that \the gives
+abbrev pub with_given : OpenText → List Token → OpenText
+with_given (texts.Definition defined kind d) tokens = texts.Definition defined kind (definition.puts d tokens)
+with_given (texts.Absorbed purpose a) tokens = texts.Absorbed purpose (absorbed.with_given a tokens)
+
+-- with one more token
+abbrev pub defining_on : Place → DefinitionKind → Result Defining TexError → Result OpenText TexError
+defining_on defined kind (Err error) = Err error
+defining_on defined kind (Ok d) = Ok (texts.Definition defined kind d)
+
+abbrev pub absorbing_on : TextUse → Result Absorbing TexError → Result OpenText TexError
+absorbing_on purpose (Err error) = Err error
+absorbing_on purpose (Ok a) = Ok (texts.Absorbed purpose a)
+
+abbrev pub with_token : OpenText → Seen → Result OpenText TexError
+with_token (texts.Definition defined kind d) t = defining_on defined kind (definition.takes d t d.stage)
+with_token (texts.Absorbed purpose a) t = absorbing_on purpose (absorbed.absorbs a t a.stage)
+
+-- whether it is whole
+abbrev pub is_whole_at : Stage → Bool
+is_whole_at Whole = true
+is_whole_at _ = false
+
+abbrev pub has_ended_at : TextStage → Bool
+has_ended_at Ended = true
+has_ended_at _ = false
+
+abbrev pub is_whole : OpenText → Bool
+is_whole (texts.Definition defined kind d) = is_whole_at d.stage
+is_whole (texts.Absorbed purpose a) = has_ended_at a.stage
+
+-- what a text answers that is this now
+abbrev pub text_answer : OpenText → Fed (Unit {0})
+text_answer text = if is_whole text then Done tt 0 else More (text_wanted text).want
+
+abbrev pub IsTextFed : Result OpenText TexError → Fed (Unit {0}) → OpenText → Type 0
+IsTextFed (Err error) fed new = fed ≡ Wrong error
+IsTextFed (Ok text) fed new = (fed ≡ text_answer text) × (new ≡ text)
+
+-- the same where one may be open
+abbrev pub IsFedSome : Result OpenText TexError → Fed (Unit {0}) → Option OpenText → Type 0
+IsFedSome (Err error) fed new = fed ≡ Wrong error
+IsFedSome (Ok text) fed new = (fed ≡ text_answer text) × (new ≡ Some text)
+
+abbrev pub IsTextAnswered : Option OpenText → Seen → Fed (Unit {0}) → Option OpenText → Type 0
+IsTextAnswered None t fed new = (fed ≡ More Raw) × (new ≡ None)
+IsTextAnswered (Some text) t fed new = IsFedSome (with_token text t) fed new
+
+-- \uppercase and \lowercase put another character for each whose \uccode or \lccode isn't 0, in its category (section 1289)
+abbrev pub code_for : Bool → CharacterCode
+code_for true = codes.UpperCase
+code_for false = codes.LowerCase
+
+abbrev pub letter_for : Table → CharacterCode → ℕ → ℕ
+letter_for table kind code = by (byte_of (number_at table (Code kind code)))
+  where
+    by : Option ℕ → ℕ
+    by None = code
+    by (Some zero) = code
+    by (Some (suc n)) = suc n
+
+abbrev pub token_for : Table → CharacterCode → Token → Token
+token_for table kind (token.Character code category) = token.Character (letter_for table kind code) category
+token_for table kind (token.Name name) = token.Name name
+token_for table kind token.FrozenRelax = token.FrozenRelax

@@ -1,0 +1,111 @@
+//! Texts that are being taken: definitions, and what \message and its kin absorb (TeX: The Program, sections 473 to 482).
+ghost use Rattle.std.specs.Prelude.{◌≡◌, IfOk, OnOk};
+ghost use Rattle.tx_main.specs.Texts as spec;
+ghost use Rattle.tx_main.specs.Texts.{IsTextFed};
+
+use crate::parts::OpenText;
+use std::alloc::{AllocError, Global};
+use tx_expand::Wanted;
+use tx_prim::{CharacterCode, DefinitionKind, TextUse};
+use tx_seen::{Fed, Place, Seen};
+use tx_text::{DefinitionScan, TextScan};
+use tx_toklist::Toks;
+
+/// Whether the body of a definition is expanded.
+fn expands_body(kind: DefinitionKind) -> bool
+    ensures { result ≡ spec.expands_body kind }
+{
+    match kind {
+        DefinitionKind::Plain | DefinitionKind::Global => false,
+        DefinitionKind::Expanded | DefinitionKind::GlobalExpanded => true,
+    }
+}
+
+/// Whether a definition is global by its command.
+pub fn is_global(kind: DefinitionKind) -> bool
+    ensures { result ≡ spec.is_global kind }
+{
+    match kind {
+        DefinitionKind::Plain | DefinitionKind::Expanded => false,
+        DefinitionKind::Global | DefinitionKind::GlobalExpanded => true,
+    }
+}
+
+/// Whether a text is expanded.
+fn expands_text(purpose: TextUse) -> bool
+    ensures { result ≡ spec.expands_text purpose }
+{
+    match purpose {
+        TextUse::Message | TextUse::ErrorMessage => true,
+        TextUse::UpperCase | TextUse::LowerCase => false,
+    }
+}
+
+impl OpenText {
+    /// The parameter text and the body of the macro that this place is to mean; nothing is taken. Takes no memory.
+    pub fn definition(alloc: Global, defined: Place, kind: DefinitionKind) -> OpenText
+        ensures { result ≡ spec.definition_text defined kind }
+    {
+        OpenText::Definition(
+            defined,
+            kind,
+            DefinitionScan::new(alloc, expands_body(kind)),
+        )
+    }
+
+    /// A text in braces of which nothing is taken. Takes no memory.
+    pub fn absorbed(alloc: Global, purpose: TextUse) -> OpenText
+        ensures { result ≡ spec.absorbed_text purpose }
+    {
+        OpenText::Absorbed(purpose, TextScan::new(alloc, expands_text(purpose)))
+    }
+
+    /// What is taken next.
+    pub fn wanted(&self) -> Wanted
+        ensures { result ≡ spec.text_wanted self.now }
+    {
+        match self {
+            OpenText::Definition(_, _, scan) => Wanted {
+                want: scan.want(),
+                text: true,
+                takes_the: scan.takes_the(),
+            },
+            OpenText::Absorbed(_, scan) => Wanted {
+                want: scan.want(),
+                text: true,
+                takes_the: scan.takes_the(),
+            },
+        }
+    }
+
+    /// Takes one more token. Its only further error is want of memory.
+    pub fn feed(&mut self, alloc: Global, seen: Seen) -> Result<Fed<()>, AllocError>
+        ensures { IfOk result (λ fed. IsTextFed (spec.with_token self.old seen) fed self.new) }
+    {
+        match self {
+            OpenText::Definition(_, _, scan) => scan.feed(alloc, seen),
+            OpenText::Absorbed(_, scan) => scan.feed(seen),
+        }
+    }
+
+    /// Puts tokens in that \the gives, none of which is looked at. Its only error is want of memory.
+    pub fn put(&mut self, tokens: &mut Toks) -> Result<(), AllocError>
+        ensures { OnOk result (self.new ≡ spec.with_given self.old tokens.old) }
+    {
+        match self {
+            OpenText::Definition(_, _, scan) => scan.put(tokens),
+            OpenText::Absorbed(_, scan) => scan.put(tokens),
+        }
+    }
+}
+
+/// The code that tells which character stands for one in a text with other letters.
+pub fn code_for(upper: bool) -> CharacterCode
+    ensures { result ≡ spec.code_for upper }
+{
+    if upper {
+        CharacterCode::UpperCase
+    } else {
+        CharacterCode::LowerCase
+    }
+}
