@@ -1,0 +1,38 @@
+"""The program and Knuth's TeX under callgrind, for the benchmarks of whole documents."""
+import os
+import re
+import shutil
+import subprocess
+import tempfile
+
+TOP = os.path.join(os.path.dirname(os.path.abspath(__file__)), "..")
+PROGRAM = os.path.join(TOP, "crates", "vortex", "out", "vortex")
+OURS = [PROGRAM] + "run --date 2024-5-17-570 --out a --pages 10000 --budget 1000000000 main.tex".split()
+KNUTHS = ["tex", "-ini", "-interaction=batchmode", "main.tex"]
+
+
+def is_there():
+    """Whether all that is needed is installed."""
+    return all(shutil.which(name) for name in ["valgrind", "callgrind_annotate", "rt", "tex"])
+
+
+def build():
+    """The program is built, and so proved, unless that is done."""
+    subprocess.run([os.path.join(TOP, "vortex"), "--version"], capture_output=True)
+
+
+def instructions(command, document, profile=os.devnull):
+    """How many instructions a command takes for a document."""
+    valgrind = ["valgrind", "--tool=callgrind", f"--callgrind-out-file={profile}"]
+    with tempfile.TemporaryDirectory() as folder:
+        with open(os.path.join(folder, "main.tex"), "w") as file:
+            file.write(document)
+        done = subprocess.run(valgrind + command, cwd=folder, capture_output=True, stdin=subprocess.DEVNULL)
+    return int(re.search(rb"Collected : (\d+)", done.stderr)[1])
+
+
+def functions(profile):
+    """The lines of a profile's costliest functions."""
+    text = subprocess.run(["callgrind_annotate", profile], capture_output=True).stdout.decode()
+    lines = [line for line in text.splitlines() if re.match(r"\s*[\d,]+ +\(", line)]
+    return [re.sub(r"\?\?\?:|\[/.*", "", line).strip() for line in lines[1:13]]

@@ -1,0 +1,177 @@
+"""What the program and Knuth's TeX say of a document, and whether that is the same: for check-macros and check-plain.
+
+A document's messages stand between `|*` and `*|`, so that they are found in TeX's log. What is meant to differ isn't looked
+at: a message prints a parameter character once, and puts no blank behind a name that is no word; at the end of a file the
+error comes before the file is closed. A document that meets a limit or what isn't there yet is compared up to there.
+"""
+import os
+import re
+import resource
+import subprocess
+
+FILE = 1000000
+
+# What Knuth's TeX says of each error, by our number; the first that fits is it.
+ERRORS = [
+    (9, "OWN|No room"),
+    (1, "Text line contains an invalid character"),
+    (2, "Undefined control sequence"),
+    (3, "Missing number|Improper alphabetic constant"),
+    (4, "Illegal unit of measure|Missing = inserted for "),
+    (5, "Bad (character|register) code|Bad mathchar|Invalid code"),
+    (6, "Dimension too large"),
+    (7, "Number too big"),
+    (8, "Huge page cannot be shipped out|Arithmetic overflow"),
+    (10, "You can't use a prefix|You can't use `\\\\long'|You can't use .* after "),
+    (11, r"Too many }'s|Extra }, or forgotten|Extra \\endgroup|Missing } inserted|Missing \\endgroup inserted"),
+    (12, "Use of .* doesn't match"),
+    (13, "Paragraph ended before "),
+    (14, "Argument of .* has an extra }"),
+    (15, r"Extra \\(else|or|fi)"),
+    (16, "Incomplete "),
+    (17, "File ended while|Forbidden control sequence"),
+    (18, r"Missing \{ inserted"),
+    (19, "Missing control sequence inserted"),
+    (20, "I can't find file"),
+    (22, "Parameters must be numbered|You already have nine|Illegal parameter number"),
+    (23, r"Missing \\endcsname inserted|Extra \\endcsname"),
+    (24, "You can't use |Missing [$] inserted"),
+    (32, "Misplaced "),
+    (34, "A <box> was supposed"),
+    (36, "Emergency stop"),
+]
+
+
+def ours(program, folder, names):
+    """The line that the program says, and its transcript."""
+    words = [program, "run", "--date", "2024-5-17-570", "--budget", "20000", "--out", "a", *names]
+    said = subprocess.run(words, cwd=folder, capture_output=True).stdout.decode("latin-1")
+    log = b""
+    if os.path.exists(os.path.join(folder, "a.log")):
+        with open(os.path.join(folder, "a.log"), "rb") as file:
+            log = file.read()
+    return said, log
+
+
+def shown_as_knuth(data):
+    """Bytes as TeX prints them."""
+    return "".join(chr(code) if 32 <= code < 127 else f"^^{chr(code ^ 64)}" if code < 128 else f"^^{code:02x}" for code in data)
+
+
+def as_knuth(log):
+    """A transcript as TeX's log would have it."""
+    found = []
+    for line in log.split(b"\n"):
+        if line.startswith(b"message "):
+            found.append(shown_as_knuth(line[8:]))
+        elif line.startswith(b"missing character "):
+            found.append(f"Missing character: There is no {shown_as_knuth(bytes([int(line.split()[2])]))} in font nullfont!")
+    return "\n".join(found)
+
+
+def events(log):
+    """What a log says, in order: texts of messages without what is meant to differ, and missing characters."""
+    found = []
+    for text, character in re.findall(r"\|\*(.*?)\*\||There is no (\S+| ) in font nullfont!", log, re.S):
+        if character:
+            found.append("missing " + character)
+        else:
+            text = re.sub(r"\(\./b\.tex|\[[-.0-9]*\]| |\n", "", text.replace("\\csname\\endcsname", "\\"))
+            found.append(re.sub("#+", "#", text))
+    return found
+
+
+def short_files():
+    """What never ends writes no endless file."""
+    resource.setrlimit(resource.RLIMIT_FSIZE, (FILE, FILE))
+
+
+def knuths(folder):
+    """What TeX's log says: texts and codes, the first error with its file and line, and whether it met a limit."""
+    words = ["tex", "-ini", "-interaction=nonstopmode", "-halt-on-error", "-file-line-error", "main.tex"]
+    place = {"max_print_line": "1000000", "TEXINPUTS": ".", "error_line": "254", "half_error_line": "200"}
+    try:
+        none = subprocess.DEVNULL
+        subprocess.run(words, cwd=folder, stdin=none, stdout=none, stderr=none, env={**os.environ, **place}, timeout=2, preexec_fn=short_files)
+    except subprocess.TimeoutExpired:
+        return None
+    with open(os.path.join(folder, "main.log"), encoding="latin-1") as file:
+        log = file.read()
+    if len(log) >= FILE:
+        return None
+    first = re.search(r"^(?:! |(?:\./)?([a-z.]+):(\d+): )(.*)$", log, re.M)
+    before = log[: first.start()].split("\nRunaway ")[0] if first else log
+    found = events(before)
+    if first and "capacity exceeded" in first[3]:
+        return None
+    number = first and next((number for number, pattern in ERRORS if re.match(pattern, first[3])), first[3])
+    return found, first and (number, first[1], int(first[2] or 0), first[3])
+
+
+def counts(folder, name):
+    """The counts of each page of a DVI file."""
+    path = os.path.join(folder, name)
+    if not os.path.exists(path):
+        return []
+    with open(path, "rb") as file:
+        data = file.read()
+    four = lambda at: int.from_bytes(data[at:at + 4], "big", signed=True)
+    # A run that an error ended may leave a file without an end.
+    at, found = four(four(len(data.rstrip(b"\xdf")) - 5) + 1) if data.endswith(b"\xdf" * 4) else -1, []
+    while 0 <= at:
+        found.append([four(at + 1 + 4 * k) for k in range(10)])
+        at = min(four(at + 41), at - 1)
+    return found[::-1]
+
+
+def first_difference(mine, theirs):
+    """Where two lists first differ, in words."""
+    at = next((k for k, (one, other) in enumerate(zip(mine, theirs)) if one != other), min(len(mine), len(theirs)))
+    return f"text {at + 1} is {mine[at:at + 1]}, Knuth's TeX {theirs[at:at + 1]}"
+
+
+def compare(said, log, theirs, our_counts, their_counts, whole=False):
+    """What is wrong, nothing where all agrees, or all up to a limit or to what isn't there yet; whole: neither is met."""
+    mine = events(as_knuth(log))
+    end = re.search(r"run: (\d+) pages, (?:(end|budget|page limit)|error (\d+)(?: at (\S+) line (\d+))?)", said)
+    if not end:
+        return f"it said {said!r}"
+    if theirs is None:
+        return None if end[2] == "budget" else "Knuth's TeX met a limit"
+    found, error = theirs
+    both = error and error[0] == 24 and mine == found
+    stopped = end[2] == "budget" or end[3] == "26" or end[3] == "24" and not both
+    if stopped and not whole:
+        found = found[: len(mine)]
+        return None if found == mine else f"up to {end[0]}: {first_difference(mine, found)}"
+    if mine != found:
+        return f"{first_difference(mine, found)} {error}; {end[0]}"
+    if (end[3] is None) != (error is None):
+        return f"{end[0]}, Knuth's TeX {error}"
+    if error:
+        number = int(end[3])
+        if number == 36 and error[0] == 36:
+            return None
+        if number != error[0]:
+            return f"{end[0]}, Knuth's TeX {error}"
+        at_end = number == 16 and "Incomplete" in error[3] or "File ended" in error[3]
+        if not at_end and (end[4], int(end[5] or 0)) != (error[1], error[2]):
+            return f"{end[0]}, Knuth's TeX {error}"
+    elif our_counts != their_counts:
+        return f"pages {our_counts}, Knuth's TeX {their_counts}"
+    return None
+
+
+def put(folder, files):
+    for name in os.listdir(folder):
+        os.remove(os.path.join(folder, name))
+    for name, text in files.items():
+        with open(os.path.join(folder, name), "w", encoding="latin-1") as file:
+            file.write(text)
+
+
+def tried(program, folder, files, whole=False):
+    """What is wrong with a document, nothing where the program and Knuth's TeX agree; its first file is the main one."""
+    put(folder, files)
+    said, log = ours(program, folder, files)
+    return compare(said, log, knuths(folder), counts(folder, "a.dvi"), counts(folder, "main.dvi"), whole)
