@@ -26,8 +26,8 @@ use Rattle.tx_scan.specs.Dimensions.{dimension}
 use Rattle.tx_scan.specs.Integers.{integer}
 use Rattle.tx_seen.specs.declared.fed.Value.{Value}
 use Rattle.tx_assign.specs.declared.types.Purpose.{Purpose}
-use Rattle.tx_assign.specs.Targets.{takes_size}
-use Rattle.tx_assign.specs.Assignments.{value, valued, sized, operand, behind_place}
+use Rattle.tx_assign.specs.Targets.{takes_list, takes_size}
+use Rattle.tx_assign.specs.Assignments.{list_value, value, valued, sized, operand, behind_place}
 use Rattle.tx_assign.specs.Rests.{by_rest, behind_by, IsAssigning}
 use Rattle.tx_assign.specs.Rests as rests
 
@@ -138,12 +138,13 @@ pub by-first : {E : Type 0} (o : Option Operation) (operation : Operation) (p : 
 by-first o operation p word t new answer e w k = rw e (rw w at k)
 
 -- no value is needed there
-given-if : (b : Bool) (purpose : Purpose) (p : Place) (v : Value) (more : List Item) → (if b then next (dimension (Gave v ∷ more)) (sized purpose p) else next (integer (Gave v ∷ more)) (valued purpose p)) ≡ Wrong MissingNumber
-given-if true purpose p v more = refl
-given-if false purpose p v more = refl
+given-if : (l b : Bool) (purpose : Purpose) (p : Place) (v : Value) (more : List Item) → (if l then list_value p (Gave v ∷ more) else (if b then next (dimension (Gave v ∷ more)) (sized purpose p) else next (integer (Gave v ∷ more)) (valued purpose p))) ≡ Wrong MissingNumber
+given-if true b purpose p v more = refl
+given-if false true purpose p v more = refl
+given-if false false purpose p v more = refl
 
 value-given : (purpose : Purpose) (p : Place) (v : Value) (more : List Item) → value purpose p (Gave v ∷ more) ≡ Wrong MissingNumber
-value-given purpose p v more = given-if (takes_size purpose p) purpose p v more
+value-given purpose p v more = given-if (takes_list purpose p) (takes_size purpose p) purpose p v more
 
 letters-given : (read : ℕ) (word : List ℕ) (operation : Operation) (p : Place) (v : Value) (more : List Item) → next (letters word (Gave v ∷ more) (Gave v ∷ more)) (behind_by (suc read) operation p) ≡ Wrong MissingNumber
 letters-given read [] operation p v more = value-given (Compute operation) p v more

@@ -27,8 +27,8 @@ use Rattle.tx_assign.specs.declared.types.Purpose.{Purpose}
 use Rattle.tx_assign.specs.declared.types.Variable.{Variable}
 use Rattle.tx_assign.specs.declared.types.Variable.TheVariants.{Standing}
 use Rattle.tx_assign.specs.Beginnings.{variable_of, is_changeable}
-use Rattle.tx_assign.specs.Targets.{takes_size}
-use Rattle.tx_assign.specs.Assignments.{arithmetic, behind_number, behind_place, left_side, sized, value, valued}
+use Rattle.tx_assign.specs.Targets.{takes_list, takes_size}
+use Rattle.tx_assign.specs.Assignments.{arithmetic, behind_number, behind_place, left_side, number_value, sized, value, valued}
 use Rattle.tx_assign.specs.Rests.{rest, held, IsAssigning, IsFed}
 
 -- what a stage reads of a token is what reading on gives
@@ -43,11 +43,15 @@ fed-at-all few reading old new t (Ok answer) h same k = λ behind.
 fed-at-all few reading old new t (Err e) h same k = tt
 
 -- a value by its kind
-pub value-size : (purpose : Purpose) (p : Place) (items : List Item) → takes_size purpose p ≡ true → value purpose p items ≡ next (dimension items) (sized purpose p)
+pub value-size : (purpose : Purpose) (p : Place) (items : List Item) → takes_size purpose p ≡ true → number_value purpose p items ≡ next (dimension items) (sized purpose p)
 value-size purpose p items e = rw e refl
 
-pub value-integer : (purpose : Purpose) (p : Place) (items : List Item) → takes_size purpose p ≡ false → value purpose p items ≡ next (integer items) (valued purpose p)
+pub value-integer : (purpose : Purpose) (p : Place) (items : List Item) → takes_size purpose p ≡ false → number_value purpose p items ≡ next (integer items) (valued purpose p)
 value-integer purpose p items e = rw e refl
+
+pub value-number : (purpose : Purpose) (p : Place) (t : Seen) (new : AssignScan) (answer : Fed Assignment) → takes_list purpose p ≡ false → IsAssigning 0 (λ more. number_value purpose p more) t new answer → IsAssigning 0 (λ more. value purpose p more) t new answer
+value-number purpose p t new answer e k =
+    same-answer rest held 0 (λ more. value purpose p more) (λ more. number_value purpose p more) t new answer (λ more. rw e refl) k
 
 -- the answer behind a value that was needed, where no token is held
 pub answer-passed : (reading : List Item → Reading Assignment) (t : Seen) (new : AssignScan) (answer : Fed Assignment) → IsAssigning 0 reading t new answer → IsPassed rest held reading [] 0 new answer
@@ -71,14 +75,14 @@ pub side-placed : (operation : Operation) (side : Variable) (p q : Place) (t : S
 side-placed operation side p q t new answer e f k = rw e (rw f at k)
 
 -- the value by a scan of which nothing is read
-pub value-by-size : {E : Type 0} (purpose : Purpose) (p : Place) (scan : DimenScan) (t : Seen) (new : AssignScan) (answer : Result (Fed Assignment) E) → takes_size purpose p ≡ true → scan ≡ sizes.begun_size → IfOk answer (λ a. (behind : List Item) → IsAssigning (sizes.most scan) (λ more. next (sizes.rest scan behind (Took t) more) (sized purpose p)) t new a) → IfOk answer (IsAssigning 0 (λ more. value purpose p (Took t ∷ more)) t new)
+pub value-by-size : {E : Type 0} (purpose : Purpose) (p : Place) (scan : DimenScan) (t : Seen) (new : AssignScan) (answer : Result (Fed Assignment) E) → takes_size purpose p ≡ true → scan ≡ sizes.begun_size → IfOk answer (λ a. (behind : List Item) → IsAssigning (sizes.most scan) (λ more. next (sizes.rest scan behind (Took t) more) (sized purpose p)) t new a) → IfOk answer (IsAssigning 0 (λ more. number_value purpose p (Took t ∷ more)) t new)
 value-by-size purpose p scan t new (Ok answer) e b k =
-    same-answer rest held 0 (λ more. value purpose p (Took t ∷ more)) (λ more. next (dimension (Took t ∷ more)) (sized purpose p)) t new answer (λ more. value-size purpose p (Took t ∷ more) e) ((rw b at k) [])
+    same-answer rest held 0 (λ more. number_value purpose p (Took t ∷ more)) (λ more. next (dimension (Took t ∷ more)) (sized purpose p)) t new answer (λ more. value-size purpose p (Took t ∷ more) e) ((rw b at k) [])
 value-by-size purpose p scan t new (Err error) e b k = tt
 
-pub value-by-integer : {E : Type 0} (purpose : Purpose) (p : Place) (scan : IntScan) (t : Seen) (new : AssignScan) (answer : Result (Fed Assignment) E) → takes_size purpose p ≡ false → scan ≡ integers.begun_integer → IfOk answer (λ a. (behind : List Item) → IsAssigning (integers.most scan) (λ more. next (integers.rest scan behind (Took t) more) (valued purpose p)) t new a) → IfOk answer (IsAssigning 0 (λ more. value purpose p (Took t ∷ more)) t new)
+pub value-by-integer : {E : Type 0} (purpose : Purpose) (p : Place) (scan : IntScan) (t : Seen) (new : AssignScan) (answer : Result (Fed Assignment) E) → takes_size purpose p ≡ false → scan ≡ integers.begun_integer → IfOk answer (λ a. (behind : List Item) → IsAssigning (integers.most scan) (λ more. next (integers.rest scan behind (Took t) more) (valued purpose p)) t new a) → IfOk answer (IsAssigning 0 (λ more. number_value purpose p (Took t ∷ more)) t new)
 value-by-integer purpose p scan t new (Ok answer) e b k =
-    same-answer rest held 0 (λ more. value purpose p (Took t ∷ more)) (λ more. next (integer (Took t ∷ more)) (valued purpose p)) t new answer (λ more. value-integer purpose p (Took t ∷ more) e) ((rw b at k) [])
+    same-answer rest held 0 (λ more. number_value purpose p (Took t ∷ more)) (λ more. next (integer (Took t ∷ more)) (valued purpose p)) t new answer (λ more. value-integer purpose p (Took t ∷ more) e) ((rw b at k) [])
 value-by-integer purpose p scan t new (Err error) e b k = tt
 
 -- what \advance changes

@@ -1,32 +1,35 @@
 -- Assignments, as items at the front of a list (The TeXbook, chapter 24; TeX: The Program, part 49).
-use Rattle.std.specs.Prelude.{ℕ, ℤ, Bool, true, false, codes, List, [], ◌∷◌, Option, Some, None, if◌then◌else◌}
+use Rattle.std.specs.Prelude.{ℕ, ℤ, Bool, true, false, codes, List, [], ◌∷◌, ◌||◌, Option, Some, None, if◌then◌else◌}
 use Rattle.tx_char.specs.Character.{character}
 use Rattle.tx_prim.specs.declared.family.Numbered.{Numbered}
 use Rattle.tx_prim.specs.declared.family.Operation.{Operation}
 use Rattle.tx_seen.specs.declared.place.Place.{Place}
-use Rattle.tx_seen.specs.declared.error.TexError.TheVariants.{MissingNumber, MissingName, NumberOutOfRange, NoAssignment}
+use Rattle.tx_seen.specs.declared.error.TexError.TheVariants.{MissingNumber, MissingName, MissingBeginGroup, NumberOutOfRange, NoAssignment}
 use Rattle.tx_seen.specs.declared.fed.Want.TheVariants.{Raw, Expanded}
 use Rattle.tx_seen.specs.declared.item.Item.{Item}
 use Rattle.tx_seen.specs.declared.item.Item.TheVariants.{Took, Gave}
 use Rattle.tx_seen.specs.declared.seen.Seen.{Seen}
 use Rattle.tx_seen.specs.Places.{place_of}
-use Rattle.tx_seen.specs.Seen.{is_space, is_other, is_key}
+use Rattle.tx_seen.specs.Seen.{is_begin_group, is_space, is_relax, is_other, is_key}
 use Rattle.tx_seen.specs.Readings.{Reading, More, Done, Wrong, next}
 use Rattle.tx_scan.specs.Integers.{integer, byte_of, expanded}
 use Rattle.tx_scan.specs.Dimensions.{dimension}
 use Rattle.tx_scan.specs.Grammars.{equals, name}
 use Rattle.tx_scan.specs.Keywords.{keyword}
+use Rattle.tx_scan.specs.Lists.{list_begun}
+use Rattle.tx_scan.specs.declared.scans.ListBegun.{ListBegun}
+use Rattle.tx_scan.specs.declared.scans.ListBegun.TheVariants as list
 use Rattle.tx_eqtb.specs.declared.entry.Entry.TheVariants.{Means}
 use Rattle.tx_assign.specs.declared.types.Assigning.{Assigning}
 use Rattle.tx_assign.specs.declared.types.Assigning.TheVariants as assigning
 use Rattle.tx_assign.specs.declared.types.Assignment.{Assignment}
 use Rattle.tx_assign.specs.declared.types.Change.TheVariants as change
 use Rattle.tx_assign.specs.declared.types.Purpose.{Purpose}
-use Rattle.tx_assign.specs.declared.types.Purpose.TheVariants.{Set, Define, Compute}
+use Rattle.tx_assign.specs.declared.types.Purpose.TheVariants.{Set, Define, Compute, Copy}
 use Rattle.tx_assign.specs.declared.types.Variable.{Variable}
 use Rattle.tx_assign.specs.declared.types.Variable.TheVariants.{Numbered as Left_numbered, Standing as Left_standing}
 use Rattle.tx_assign.specs.Beginnings.{variable_of, is_changeable}
-use Rattle.tx_assign.specs.Targets.{takes_size, purpose_bounds, is_within, change_by, change_by_size}
+use Rattle.tx_assign.specs.Targets.{takes_list, takes_size, purpose_bounds, is_within, change_by, change_by_size}
 
 -- a size, and a number that is within the range of its purpose
 abbrev pub sized : Purpose → Place → ℤ → List Item → Reading Assignment
@@ -37,10 +40,28 @@ valued purpose place n rest =
     if is_within (purpose_bounds purpose place) n then Done (record { place = place; change = change_by purpose place n }) rest
     else Wrong NumberOutOfRange
 
+-- a list of tokens: the one that a token stands for, or a text, which begins with a begin-group token (section 1227)
+abbrev pub listed : Place → ListBegun → Seen → List Item → Reading Assignment
+listed place (list.At other) t rest = Done (record { place = place; change = change.Copy other }) rest
+listed place list.Register t rest = next (integer rest) (valued Copy place)
+listed place list.Nothing t rest =
+    if is_begin_group t then Done (record { place = place; change = change.Text }) rest else Wrong MissingBeginGroup
+
+-- with spaces and \relax before it (section 1226)
+abbrev pub list_value : Place → List Item → Reading Assignment
+list_value place [] = More Expanded
+list_value place (Gave v ∷ rest) = Wrong MissingNumber
+list_value place (Took t ∷ rest) =
+    expanded t (if is_space t || is_relax t then list_value place rest else listed place (list_begun t.meaning) t rest)
+
+-- a number or a size
+abbrev pub number_value : Purpose → Place → List Item → Reading Assignment
+number_value purpose place items =
+    if takes_size purpose place then next (dimension items) (sized purpose place) else next (integer items) (valued purpose place)
+
 -- the value
 abbrev pub value : Purpose → Place → List Item → Reading Assignment
-value purpose place items =
-    if takes_size purpose place then next (dimension items) (sized purpose place) else next (integer items) (valued purpose place)
+value purpose place items = if takes_list purpose place then list_value place items else number_value purpose place items
 
 -- an optional `=` and the value
 abbrev pub given : Purpose → Place → List Item → Reading Assignment

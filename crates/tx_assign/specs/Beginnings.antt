@@ -1,11 +1,12 @@
 -- Left sides of assignments (The TeXbook, chapter 24; TeX: The Program, sections 1208 to 1211 and 1237).
-use Rattle.std.specs.Prelude.{Bool, true, false, Option, Some, None}
+use Rattle.std.specs.Prelude.{Bool, true, false, not, Option, Some, None}
 use Rattle.tx_prim.specs.declared.primitive.Primitive.{Primitive}
 use Rattle.tx_prim.specs.declared.primitive.Primitive.TheVariants as primitive
 use Rattle.tx_prim.specs.declared.family.Numbered.TheVariants as number
 use Rattle.tx_seen.specs.declared.place.Place.TheVariants as place
 use Rattle.tx_seen.specs.declared.meaning.Meaning.{Meaning}
-use Rattle.tx_seen.specs.declared.meaning.Meaning.TheVariants.{Undefined, Command, Character, CharacterNumber, MathNumber, CountRegister, DimenRegister, Expandable, Macro, Held}
+use Rattle.tx_seen.specs.declared.meaning.Meaning.TheVariants.{Undefined, Command, Character, CharacterNumber, MathNumber, CountRegister, DimenRegister, ToksRegister, Expandable, Macro, Held}
+use Rattle.tx_seen.specs.Places.{is_list}
 use Rattle.tx_assign.specs.declared.types.Variable.{Variable}
 use Rattle.tx_assign.specs.declared.types.Variable.TheVariants.{Numbered, Standing}
 
@@ -14,6 +15,7 @@ abbrev pub primitive_variable : Primitive → Option Variable
 primitive_variable (primitive.Numbered kind) = Some (Numbered kind)
 primitive_variable (primitive.Integer parameter) = Some (Standing (place.Integer parameter))
 primitive_variable (primitive.Dimension parameter) = Some (Standing (place.Dimension parameter))
+primitive_variable (primitive.Tokens parameter) = Some (Standing (place.Tokens parameter))
 primitive_variable primitive.Relax = None
 primitive_variable primitive.EndCsName = None
 primitive_variable primitive.Par = None
@@ -40,6 +42,7 @@ abbrev pub variable_of : Meaning → Option Variable
 variable_of (Command primitive) = primitive_variable primitive
 variable_of (CountRegister number) = Some (Standing (place.Count number))
 variable_of (DimenRegister number) = Some (Standing (place.Dimen number))
+variable_of (ToksRegister number) = Some (Standing (place.Toks number))
 variable_of Undefined = None
 variable_of (Character code category) = None
 variable_of (CharacterNumber number) = None
@@ -48,10 +51,11 @@ variable_of (Expandable e) = None
 variable_of (Macro m) = None
 variable_of Held = None
 
--- \advance and its kin change registers and parameters, but no codes
+-- \advance and its kin change registers and parameters, but no codes and no lists of tokens
 abbrev pub is_changeable : Variable → Bool
-is_changeable (Standing place) = true
+is_changeable (Standing place) = not (is_list place)
 is_changeable (Numbered number.Count) = true
 is_changeable (Numbered number.Dimen) = true
+is_changeable (Numbered number.Toks) = false
 is_changeable (Numbered number.Category) = false
 is_changeable (Numbered (number.Code code)) = false

@@ -1,24 +1,30 @@
 -- How an assignment is carried out on the table (TeX: The Program, sections 1211 to 1218 and 1236 to 1240).
-use Rattle.std.specs.Prelude.{◌≡◌, ℤ, pos, zero, ◌+ℤ◌, ◌*ℤ◌, int_div, int_lt, unsigned_abs, Bool, true, false, nat_le, Result, Ok, Err, if◌then◌else◌}
+use Rattle.std.specs.Prelude.{◌≡◌, ℤ, pos, zero, ◌+ℤ◌, ◌*ℤ◌, int_div, int_lt, unsigned_abs, List, [], ◌∷◌, ◌++◌, Bool, true, false, nat_le, Result, Ok, Err, if◌then◌else◌}
+use Rattle.tx_char.specs.Character.{character}
+use Rattle.tx_char.specs.declared.category.Cat.TheVariants.{BeginGroup, EndGroup}
+use Rattle.tx_char.specs.declared.tokens.Token.{Token}
+use Rattle.tx_char.specs.declared.tokens.Token.TheVariants.{Character}
 use Rattle.tx_num.specs.Limits.{limit}
 use Rattle.tx_num.specs.declared.limits.Range.{Range}
 use Rattle.tx_num.specs.declared.limits.Range.TheVariants.{Integer as Range_integer, Dimen as Range_dimen}
 use Rattle.tx_prim.specs.declared.integer.IntegerParameter.TheVariants.{Globaldefs}
+use Rattle.tx_prim.specs.declared.tokens.TokenParameter.TheVariants.{Output}
 use Rattle.tx_eqtb.specs.declared.entry.Entry.{Entry}
-use Rattle.tx_eqtb.specs.declared.entry.Entry.TheVariants.{Means, Number}
+use Rattle.tx_eqtb.specs.declared.entry.Entry.TheVariants.{Means, Number, Tokens}
 use Rattle.tx_eqtb.specs.declared.eqtb.Eqtb.{Eqtb}
 use Rattle.tx_seen.specs.declared.place.Place.{Place}
 use Rattle.tx_seen.specs.declared.place.Place.TheVariants.{Integer}
+use Rattle.tx_seen.specs.declared.place.Place.TheVariants as place
 use Rattle.tx_eqtb.specs.declared.table.Table.{Table}
-use Rattle.tx_eqtb.specs.Table.{number_at}
+use Rattle.tx_eqtb.specs.Table.{number_at, tokens_at}
 use Rattle.tx_eqtb.specs.Stack.{assigned, assigned_everywhere}
 use Rattle.tx_seen.specs.declared.error.TexError.{TexError}
-use Rattle.tx_seen.specs.declared.error.TexError.TheVariants.{ArithmeticOverflow}
+use Rattle.tx_seen.specs.declared.error.TexError.TheVariants.{ArithmeticOverflow, MissingBeginGroup}
 use Rattle.tx_assign.specs.declared.types.Assignment.{Assignment}
 use Rattle.tx_assign.specs.declared.types.Carried.{Carried}
 use Rattle.tx_assign.specs.declared.types.Carried.TheVariants.{Done as Carried_done, Refused}
 use Rattle.tx_assign.specs.declared.types.Change.{Change}
-use Rattle.tx_assign.specs.declared.types.Change.TheVariants.{Set, Compute}
+use Rattle.tx_assign.specs.declared.types.Change.TheVariants.{Set, Compute, Copy, Text}
 use Rattle.tx_prim.specs.declared.family.Operation.{Operation}
 use Rattle.tx_prim.specs.declared.family.Operation.TheVariants.{Advance, Multiply, Divide}
 use Rattle.tx_prim.specs.declared.primitive.Primitive.TheVariants.{Relax}
@@ -48,13 +54,12 @@ result Advance range n m = computed range (n +ℤ m)
 result Multiply range n m = computed range (n *ℤ m)
 result Divide range n m = quotient range n m
 
--- what stands at a place after a change, by the number that stood there
-abbrev pub changed : Range → ℤ → Change → Result Entry TexError
-changed range n (Set value) = Ok value
-changed range n (Compute operation m) = result operation range n m
-
+-- what stands at a place after a change, by what stood there; a text has to be taken before
 abbrev pub changed_entry : Table → Place → Change → Result Entry TexError
-changed_entry table place change = changed (range_of place) (number_at table place) change
+changed_entry table place (Set value) = Ok value
+changed_entry table place (Compute operation m) = result operation (range_of place) (number_at table place) m
+changed_entry table place (Copy other) = Ok (Tokens (tokens_at table other))
+changed_entry table place Text = Err MissingBeginGroup
 
 abbrev pub assigned_by : Bool → Eqtb → Place → Entry → Eqtb
 assigned_by true stack place value = assigned_everywhere stack place value
@@ -72,6 +77,19 @@ carried_out stack a global = carried_to stack a global (changed_entry stack.tabl
 abbrev pub IsCarried : Eqtb → Assignment → Bool → Eqtb → Carried → Type 0
 IsCarried old a global new Carried_done = carried_out old a global ≡ Ok new
 IsCarried old a global new (Refused e) = (carried_out old a global ≡ Err e) × (new ≡ old)
+
+-- a list of tokens in braces, unless it is empty
+abbrev pub in_braces : List Token → List Token
+in_braces [] = []
+in_braces (t ∷ ts) = Character (character "{") BeginGroup ∷ (t ∷ ts) ++ Character (character "}") EndGroup ∷ []
+
+-- a text as it stands at a place: that of \output is in braces (section 1226)
+abbrev pub stored : Place → List Token → List Token
+stored (place.Tokens Output) tokens = in_braces tokens
+stored other tokens = tokens
+
+abbrev pub with_text : Place → List Token → Assignment
+with_text place tokens = record { place = place; change = Set (Tokens (stored place tokens)) }
 
 -- a place is to mean \relax
 abbrev pub relaxed : Place → Assignment

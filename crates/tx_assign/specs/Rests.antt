@@ -21,7 +21,7 @@ use Rattle.tx_assign.specs.declared.types.Assignment.{Assignment}
 use Rattle.tx_assign.specs.declared.scan.AssignScan.{AssignScan}
 use Rattle.tx_assign.specs.declared.scan.AssignStage.{AssignStage}
 use Rattle.tx_assign.specs.declared.scan.AssignStage.TheVariants as stage
-use Rattle.tx_assign.specs.Assignments.{assignment, arithmetic, behind_number, given, let_behind_equals, let_behind_name, let_token, operand, sized, value, valued}
+use Rattle.tx_assign.specs.Assignments.{assignment, arithmetic, behind_number, given, let_behind_equals, let_behind_name, let_token, list_value, operand, sized, value, valued}
 
 -- the token behind the number of a register that waits for a value, if one is held
 abbrev pub held_items : ℕ → Option Seen → List Item
@@ -49,6 +49,7 @@ stage_rest (stage.Number kind operation) scan behind item more = next (integers.
 stage_rest (stage.Equals purpose) scan behind item more = given purpose scan.place (item ∷ more)
 stage_rest (stage.By operation word) scan behind item more = by_rest word operation scan.place item more
 stage_rest (stage.Integer purpose) scan behind item more = next (integers.rest scan.integer behind item more) (valued purpose scan.place)
+stage_rest stage.List scan behind item more = list_value scan.place (item ∷ more)
 stage_rest (stage.Size purpose) scan behind item more = next (sizes.rest scan.size behind item more) (sized purpose scan.place)
 
 abbrev pub rest : AssignScan → List Item → Item → List Item → Reading Assignment

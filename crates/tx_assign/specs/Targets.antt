@@ -10,14 +10,14 @@ use Rattle.tx_seen.specs.declared.place.Place.{Place}
 use Rattle.tx_seen.specs.declared.place.Place.TheVariants as place
 use Rattle.tx_seen.specs.declared.meaning.Meaning.{Meaning}
 use Rattle.tx_seen.specs.declared.meaning.Meaning.TheVariants as meaning
-use Rattle.tx_seen.specs.Places.{is_size}
+use Rattle.tx_seen.specs.Places.{is_list, is_size}
 use Rattle.tx_eqtb.specs.declared.entry.Entry.{Entry}
 use Rattle.tx_eqtb.specs.declared.entry.Entry.TheVariants.{Means, InCategory, Number}
 use Rattle.tx_assign.specs.declared.types.Bounds.{Bounds}
 use Rattle.tx_assign.specs.declared.types.Change.{Change}
 use Rattle.tx_assign.specs.declared.types.Change.TheVariants as change
 use Rattle.tx_assign.specs.declared.types.Purpose.{Purpose}
-use Rattle.tx_assign.specs.declared.types.Purpose.TheVariants.{Set, Define, Compute}
+use Rattle.tx_assign.specs.declared.types.Purpose.TheVariants.{Set, Define, Compute, Copy}
 
 -- whether the value of an assignment is a size: what multiplies or divides is a number
 abbrev pub takes_size : Purpose → Place → Bool
@@ -26,6 +26,14 @@ takes_size (Define kind) place = false
 takes_size (Compute Advance) place = is_size place
 takes_size (Compute Multiply) place = false
 takes_size (Compute Divide) place = false
+takes_size Copy place = false
+
+-- whether it is a list of tokens
+abbrev pub takes_list : Purpose → Place → Bool
+takes_list Set place = is_list place
+takes_list (Define kind) place = false
+takes_list (Compute operation) place = false
+takes_list Copy place = false
 
 abbrev bounds : ℤ → ℤ → Bounds
 bounds least greatest = record { least = least; greatest = greatest }
@@ -51,6 +59,7 @@ place_bounds other = all_integers
 abbrev pub name_bounds : Shorthand → Bounds
 name_bounds shorthand.CountRegister = up_to 255
 name_bounds shorthand.DimenRegister = up_to 255
+name_bounds shorthand.ToksRegister = up_to 255
 name_bounds shorthand.Character = up_to 255
 name_bounds shorthand.MathCharacter = up_to 32767
 
@@ -59,6 +68,7 @@ abbrev pub purpose_bounds : Purpose → Place → Bounds
 purpose_bounds Set place = place_bounds place
 purpose_bounds (Define kind) place = name_bounds kind
 purpose_bounds (Compute operation) place = all_integers
+purpose_bounds Copy place = up_to 255
 
 abbrev pub is_within : Bounds → ℤ → Bool
 is_within b n = int_le b.least n && int_le n b.greatest
@@ -79,6 +89,7 @@ entry_at other n = Number n
 abbrev pub meaning_by : Shorthand → ℤ → Meaning
 meaning_by shorthand.CountRegister n = meaning.CountRegister (unsigned_abs n)
 meaning_by shorthand.DimenRegister n = meaning.DimenRegister (unsigned_abs n)
+meaning_by shorthand.ToksRegister n = meaning.ToksRegister (unsigned_abs n)
 meaning_by shorthand.Character n = meaning.CharacterNumber (unsigned_abs n)
 meaning_by shorthand.MathCharacter n = meaning.MathNumber (unsigned_abs n)
 
@@ -87,9 +98,11 @@ abbrev pub change_by : Purpose → Place → ℤ → Change
 change_by Set place n = change.Set (entry_at place n)
 change_by (Define kind) place n = change.Set (Means (meaning_by kind n))
 change_by (Compute operation) place n = change.Compute operation n
+change_by Copy at n = change.Copy (place.Toks (unsigned_abs n))
 
 -- what becomes of it by a size
 abbrev pub change_by_size : Purpose → ℤ → Change
 change_by_size Set size = change.Set (Number size)
 change_by_size (Define kind) size = change.Set (Number size)
 change_by_size (Compute operation) size = change.Compute operation size
+change_by_size Copy size = change.Set (Number size)

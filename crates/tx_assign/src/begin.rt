@@ -14,6 +14,7 @@ fn of_primitive(primitive: Primitive) -> Option<Variable>
         Primitive::Numbered(kind) => Some(Variable::Numbered(kind)),
         Primitive::Integer(parameter) => Some(Variable::Standing(Place::Integer(parameter))),
         Primitive::Dimension(parameter) => Some(Variable::Standing(Place::Dimension(parameter))),
+        Primitive::Tokens(parameter) => Some(Variable::Standing(Place::Tokens(parameter))),
         Primitive::Relax | Primitive::Par | Primitive::End => None,
         Primitive::IgnoreSpaces | Primitive::Interaction(_) => None,
         Primitive::Definition(_) | Primitive::Text(_) | Primitive::After(_) => None,
@@ -35,20 +36,22 @@ impl Variable {
             Meaning::Command(primitive) => of_primitive(*primitive),
             Meaning::CountRegister(number) => Some(Variable::Standing(Place::Count(*number))),
             Meaning::DimenRegister(number) => Some(Variable::Standing(Place::Dimen(*number))),
+            Meaning::ToksRegister(number) => Some(Variable::Standing(Place::Toks(*number))),
             Meaning::Undefined | Meaning::Character(_, _) => None,
             Meaning::CharacterNumber(_) | Meaning::MathNumber(_) => None,
             Meaning::Expandable(_) | Meaning::Macro(_) | Meaning::Held => None,
         }
     }
 
-    /// Whether \advance and its kin may change it: registers and parameters, but no codes (TeX: The Program, section 1237).
+    /// Whether \advance and its kin may change it: registers and parameters, but no codes and no lists of tokens (TeX: The Program, section 1237).
     pub(crate) fn is_changeable(&self) -> bool
         ensures { result ≡ spec.is_changeable self.now }
     {
         match self {
-            Variable::Standing(_) => true,
+            Variable::Standing(place) => !place.is_list(),
             Variable::Numbered(Numbered::Count | Numbered::Dimen) => true,
             Variable::Numbered(Numbered::Category | Numbered::Code(_)) => false,
+            Variable::Numbered(Numbered::Toks) => false,
         }
     }
 }

@@ -5,11 +5,13 @@ ghost use Rattle.tx_assign.specs.Changes as spec;
 ghost use Rattle.tx_assign.specs.Changes.{IsCarried};
 
 use crate::types::{Assignment, Carried, Change};
-use std::alloc::AllocError;
+use std::alloc::{AllocError, Global};
+use tx_char::{Cat, Token};
 use tx_eqtb::{Entry, Eqtb};
 use tx_num::{Range, x_over_n};
-use tx_prim::{IntegerParameter, Operation, Primitive};
+use tx_prim::{IntegerParameter, Operation, Primitive, TokenParameter};
 use tx_seen::{Meaning, Place, TexError};
+use tx_toklist::{TokList, Toks};
 
 /// Whether an assignment is global, with this value of \globaldefs.
 fn is_global(globaldefs: i32, prefixed: bool) -> bool
@@ -87,18 +89,24 @@ fn calculated(
     }
 }
 
-/// What stands at a place of the table after a change.
-fn changed_entry(table: &Eqtb, place: &Place, change: Change) -> Result<Entry, TexError>
-    ensures { result ≡ spec.changed_entry table.now.table place.now change }
+/// What stands at a place of the table after a change. Its only further error is want of memory.
+fn changed_entry(
+    table: &Eqtb,
+    place: &Place,
+    change: Change,
+) -> Result<Result<Entry, TexError>, AllocError>
+    ensures { IfOk result (λ entry. entry ≡ spec.changed_entry table.now.table place.now change) }
 {
     match change {
-        Change::Set(entry) => Ok(entry),
-        Change::Compute(operation, operand) => calculated(
+        Change::Set(entry) => Ok(Ok(entry)),
+        Change::Compute(operation, operand) => Ok(calculated(
             operation,
             range_of(place),
             table.number(place),
             operand,
-        ),
+        )),
+        Change::Copy(other) => Ok(Ok(Entry::Tokens(table.tokens(&other)?))),
+        Change::Text => Ok(Err(TexError::MissingBeginGroup)),
     }
 }
 
@@ -113,8 +121,43 @@ pub fn relaxed(place: Place) -> Assignment
     }
 }
 
-/// Carries an assignment out, with \global before it or not; it is refused where a result leaves its range or a divisor is
-/// 0, and then nothing has changed. After want of memory, its only error, the table may only be dropped.
+/// A list of tokens in braces, unless it is empty. Its only error is want of memory.
+fn in_braces(alloc: Global, tokens: Toks) -> Result<Toks, AllocError>
+    ensures { IfOk result (λ braced. braced ≡ spec.in_braces tokens) }
+{
+    if tokens.is_empty() {
+        return Ok(tokens);
+    }
+    let mut tokens = tokens;
+    let mut braced = Toks::one(alloc, Token::Character(b'{', Cat::BeginGroup))?;
+    braced.append(&mut tokens)?;
+    braced.push(Token::Character(b'}', Cat::EndGroup))?;
+    Ok(braced)
+}
+
+/// A text as it stands at a place. Its only error is want of memory.
+fn stored(alloc: Global, place: &Place, tokens: Toks) -> Result<Toks, AllocError>
+    ensures { IfOk result (λ list. list ≡ spec.stored place.now tokens) }
+{
+    match place {
+        Place::Tokens(TokenParameter::Output) => in_braces(alloc, tokens),
+        _ => Ok(tokens),
+    }
+}
+
+/// The assignment by which a text stands at a place (TeX: The Program, section 1226). Its only error is want of memory.
+pub fn with_text(alloc: Global, place: Place, tokens: Toks) -> Result<Assignment, AllocError>
+    ensures { IfOk result (λ assignment. assignment ≡ spec.with_text place tokens) }
+{
+    let list = TokList::from_toks(alloc, stored(alloc, &place, tokens)?)?;
+    Ok(Assignment {
+        place,
+        change: Change::Set(Entry::Tokens(list)),
+    })
+}
+
+/// Carries an assignment out, with \global before it or not; it is refused where a result leaves its range, a divisor is 0, or
+/// its text isn't there, and then nothing has changed. After want of memory, its only error, the table may only be dropped.
 pub fn carry_out(
     table: &mut Eqtb,
     assignment: Assignment,
@@ -123,7 +166,7 @@ pub fn carry_out(
     ensures ok { IfOk result (IsCarried table.old assignment global table.new) }
 {
     let Assignment { place, change } = assignment;
-    let entry = match changed_entry(table, &place, change) {
+    let entry = match changed_entry(table, &place, change)? {
         Ok(entry) => entry,
         Err(error) => return Ok(Carried::Refused(error)),
     };

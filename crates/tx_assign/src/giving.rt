@@ -44,7 +44,7 @@ impl AssignScan {
             AssignStage::Operand(_) => Ok(Fed::Wrong(TexError::NoAssignment)),
             AssignStage::Equals(_) => Ok(Fed::Wrong(TexError::MissingNumber)),
             AssignStage::By(_, _) => Ok(Fed::Wrong(TexError::MissingNumber)),
-            AssignStage::Size(_) => Ok(Fed::Wrong(TexError::MissingNumber)),
+            AssignStage::Size(_) | AssignStage::List => Ok(Fed::Wrong(TexError::MissingNumber)),
         }
     }
 

@@ -7,13 +7,14 @@
 //! alike.
 //!
 //! Read `types` and `begin`, what stands on left sides; `target`, in what ranges values are; `scan`, `stage`, `naming`,
-//! `values` and `giving`, how an assignment is read; and `carrying`, how it is carried out. Scans of numbers are tx_scan's.
+//! `values`, `lists` and `giving`, how an assignment is read; and `carrying`, how it is carried out. Scans of numbers are tx_scan's.
 #![tactic(auto)]
 
 mod begin;
 mod carrying;
 mod clones;
 mod giving;
+mod lists;
 mod naming;
 mod scan;
 mod stage;
@@ -21,6 +22,6 @@ mod target;
 mod types;
 mod values;
 
-pub use carrying::{carry_out, relaxed};
+pub use carrying::{carry_out, relaxed, with_text};
 pub use scan::AssignScan;
 pub use types::{Assigning, Assignment, Carried, Change, Purpose, Variable};

@@ -28,6 +28,8 @@ pub enum AssignStage {
     Integer(Purpose),
     /// A size.
     Size(Purpose),
+    /// A list of tokens, with spaces and \relax before it.
+    List,
 }
 
 /// An assignment that is being scanned.

@@ -101,6 +101,7 @@ impl AssignScan {
             AssignStage::By(operation, word) => self.feed_by(operation, word, token),
             AssignStage::Integer(purpose) => self.feed_integer(purpose, token),
             AssignStage::Size(purpose) => self.feed_size(purpose, token),
+            AssignStage::List => self.feed_list(token),
         }
     }
 

@@ -53,7 +53,8 @@ fn name_bounds(kind: Shorthand) -> Bounds
     ensures { result ≡ spec.name_bounds kind }
 {
     match kind {
-        Shorthand::CountRegister | Shorthand::DimenRegister | Shorthand::Character => up_to(255),
+        Shorthand::CountRegister | Shorthand::DimenRegister | Shorthand::ToksRegister => up_to(255),
+        Shorthand::Character => up_to(255),
         Shorthand::MathCharacter => up_to(32767),
     }
 }
@@ -84,6 +85,7 @@ fn meaning_by(kind: Shorthand, number: i64) -> Meaning
     match kind {
         Shorthand::CountRegister => Meaning::CountRegister(number as u8),
         Shorthand::DimenRegister => Meaning::DimenRegister(number as u8),
+        Shorthand::ToksRegister => Meaning::ToksRegister(number as u8),
         Shorthand::Character => Meaning::CharacterNumber(number as u8),
         Shorthand::MathCharacter => Meaning::MathNumber(number as u16),
     }
@@ -97,6 +99,17 @@ impl Purpose {
         match self {
             Purpose::Set | Purpose::Compute(Operation::Advance) => place.is_size(),
             Purpose::Define(_) | Purpose::Compute(Operation::Multiply | Operation::Divide) => false,
+            Purpose::Copy => false,
+        }
+    }
+
+    /// Whether it takes a list of tokens, at a place.
+    pub(crate) fn takes_list(self, place: &Place) -> bool
+        ensures { result ≡ spec.takes_list self place.now }
+    {
+        match self {
+            Purpose::Set => place.is_list(),
+            Purpose::Define(_) | Purpose::Compute(_) | Purpose::Copy => false,
         }
     }
 
@@ -108,6 +121,7 @@ impl Purpose {
             Purpose::Set => place_bounds(place),
             Purpose::Define(kind) => name_bounds(kind),
             Purpose::Compute(_) => all_integers(),
+            Purpose::Copy => up_to(255),
         }
     }
 
@@ -128,6 +142,7 @@ impl Purpose {
             Purpose::Set => Change::Set(entry_at(place, number)),
             Purpose::Define(kind) => Change::Set(Entry::Means(meaning_by(kind, number))),
             Purpose::Compute(operation) => Change::Compute(operation, number as i32),
+            Purpose::Copy => Change::Copy(Place::Toks(number as u8)),
         }
     }
 
@@ -138,7 +153,9 @@ impl Purpose {
         ensures { result ≡ spec.change_by_size self size }
     {
         match self {
-            Purpose::Set | Purpose::Define(_) => Change::Set(Entry::Number(size as i32)),
+            Purpose::Set | Purpose::Define(_) | Purpose::Copy => {
+                Change::Set(Entry::Number(size as i32))
+            }
             Purpose::Compute(operation) => Change::Compute(operation, size as i32),
         }
     }

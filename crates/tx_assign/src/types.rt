@@ -34,6 +34,8 @@ pub enum Purpose {
     Define(Shorthand),
     /// This is done with it to the number there.
     Compute(Operation),
+    /// The list of tokens of the register of this number is to stand there.
+    Copy,
 }
 
 /// The numbers from the least to the greatest.
@@ -50,6 +52,10 @@ pub enum Change {
     Set(Entry),
     /// This is done to its number with another one.
     Compute(Operation, i32),
+    /// It has the list of tokens that stands at this place.
+    Copy(Place),
+    /// It has the text that follows, whose begin-group token is taken.
+    Text,
 }
 
 /// What carrying an assignment out gives.

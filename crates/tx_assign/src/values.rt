@@ -8,7 +8,7 @@ ghost use Rattle.tx_scan.specs.Rests.{IsEnd};
 ghost use Rattle.tx_scan.specs.Supplied.{NeedsNoMore};
 ghost use Rattle.tx_scan.specs.IntegerRests as integers;
 ghost use Rattle.tx_scan.specs.DimensionRests as sizes;
-ghost use Rattle.tx_assign.specs.Assignments.{behind_number, sized, value, valued};
+ghost use Rattle.tx_assign.specs.Assignments.{behind_number, number_value, sized, value, valued};
 ghost use Rattle.tx_assign.specs.Rests.{IsAssigning, IsFed, more_needed};
 
 use crate::scan::{AssignScan, AssignStage};
@@ -23,6 +23,18 @@ impl AssignScan {
     /// A value comes next.
     pub(crate) fn to_value(&mut self, purpose: Purpose) -> Fed<Assignment>
         ensures answer { (t : Seen) → IsAssigning 0 (λ more. value purpose self.old.place more) t self.new result }
+        ensures needed { NeedsNoMore (integers.waiting self.old.integer) (more_needed self.new) result }
+    {
+        if purpose.takes_list(&self.place) {
+            self.on(AssignStage::List)
+        } else {
+            self.to_number(purpose)
+        }
+    }
+
+    /// A number or a size comes next.
+    fn to_number(&mut self, purpose: Purpose) -> Fed<Assignment>
+        ensures answer { (t : Seen) → IsAssigning 0 (λ more. number_value purpose self.old.place more) t self.new result }
         ensures needed { NeedsNoMore (integers.waiting self.old.integer) (more_needed self.new) result }
     {
         if purpose.takes_size(&self.place) {
@@ -41,6 +53,18 @@ impl AssignScan {
         token: &Seen,
     ) -> Result<Fed<Assignment>, AllocError>
         ensures answer { IfOk result (IsAssigning 0 (λ more. value purpose self.old.place (Took token.now ∷ more)) token.now self.new) }
+        ensures needed { IfOk result (NeedsNoMore (integers.waiting self.old.integer) (more_needed self.new)) }
+    {
+        if purpose.takes_list(&self.place) {
+            self.feed_list(token)
+        } else {
+            self.feed_first(purpose, token)
+        }
+    }
+
+    /// The first token of a number or a size.
+    fn feed_first(&mut self, purpose: Purpose, token: &Seen) -> Result<Fed<Assignment>, AllocError>
+        ensures answer { IfOk result (IsAssigning 0 (λ more. number_value purpose self.old.place (Took token.now ∷ more)) token.now self.new) }
         ensures needed { IfOk result (NeedsNoMore (integers.waiting self.old.integer) (more_needed self.new)) }
     {
         if purpose.takes_size(&self.place) {

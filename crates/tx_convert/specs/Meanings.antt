@@ -111,6 +111,7 @@ meaning_text escape categories (meaning.CharacterNumber n) = escaped escape (cod
 meaning_text escape categories (meaning.MathNumber n) = escaped escape (codes "mathchar") ++ hexadecimal n
 meaning_text escape categories (meaning.CountRegister n) = escaped escape (codes "count") ++ register n
 meaning_text escape categories (meaning.DimenRegister n) = escaped escape (codes "dimen") ++ register n
+meaning_text escape categories (meaning.ToksRegister n) = escaped escape (codes "toks") ++ register n
 meaning_text escape categories (meaning.Expandable e) = escaped escape (expandable.name_of e)
 meaning_text escape categories (meaning.Macro m) = macro_text escape categories m
 meaning_text escape categories meaning.Held = escaped escape (codes "relax")

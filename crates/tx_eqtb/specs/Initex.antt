@@ -1,5 +1,5 @@
 -- The table with which INITEX begins.
-use Rattle.std.specs.Prelude.{Bool, ℕ, ℤ, pos, negsuc, ◌+◌, ◌-◌, ◌==◌, ◌&&◌, nat_le, if◌then◌else◌, List, ◌++◌, map, replicate}
+use Rattle.std.specs.Prelude.{Bool, ℕ, ℤ, pos, negsuc, ◌+◌, ◌-◌, ◌==◌, ◌&&◌, nat_le, if◌then◌else◌, List, [], ◌++◌, map, replicate}
 use Rattle.std.specs.Char.{is_ascii_digit}
 use Rattle.std.specs.FinMap.{from_entries}
 use Rattle.tx_char.specs.Category.{initial_codes, is_ascii_letter, numbers_below}
@@ -42,7 +42,7 @@ expandable_entries = map (λ e. (expandable.name_of e, Expandable e)) expandable
 abbrev pub initial_names : Names Meaning
 initial_names = from_entries (map (λ p. (name_of p, Command p)) all ++ expandable_entries)
 
--- no active character has a meaning, registers are 0, and the parameters begin as their table says
+-- no active character has a meaning, registers are 0, lists of tokens empty, and the parameters begin as their table says
 unfoldable pub initial_table : Moment → Table
 initial_table begun = record {
   names = initial_names;
@@ -57,4 +57,6 @@ initial_table begun = record {
   delimiters = codes_of Delimiter;
   integers = map (initial_integer begun) all_integers;
   dimensions = replicate 21 (pos 0);
+  token_registers = replicate 256 [];
+  token_parameters = replicate 9 [];
 }

@@ -4,12 +4,12 @@ use Rattle.tx_char.specs.Category.{category, number_of}
 use Rattle.tx_seen.specs.declared.fed.Value.{Value}
 use Rattle.tx_seen.specs.declared.fed.Value.TheVariants.{Int, Dimen as Size}
 use Rattle.tx_seen.specs.declared.place.Place.{Place}
-use Rattle.tx_seen.specs.declared.place.Place.TheVariants.{Name, Active, Count, Dimen, Category, Code, Integer, Dimension}
+use Rattle.tx_seen.specs.declared.place.Place.TheVariants.{Name, Active, Count, Dimen, Toks, Category, Code, Integer, Dimension, Tokens}
 use Rattle.tx_eqtb.specs.declared.eqtb.Eqtb.{Eqtb}
 use Rattle.tx_eqtb.specs.Table.{number_at}
 
 -- a size at the registers and the parameters that hold one, in scaled points; the number of a category; the number that
--- stands at any other place, and 0 at a name, where none does (TeX: The Program, section 413)
+-- stands at any other place, and 0 at a name and a list of tokens, where none does (TeX: The Program, section 413)
 abbrev pub value_in : Eqtb → Place → Value
 value_in e (Dimen number) = Size (number_at e.table (Dimen number))
 value_in e (Dimension parameter) = Size (number_at e.table (Dimension parameter))
@@ -19,3 +19,5 @@ value_in e (Code kind code) = Int (number_at e.table (Code kind code))
 value_in e (Integer parameter) = Int (number_at e.table (Integer parameter))
 value_in e (Name name) = Int (number_at e.table (Name name))
 value_in e (Active code) = Int (number_at e.table (Active code))
+value_in e (Toks number) = Int (number_at e.table (Toks number))
+value_in e (Tokens parameter) = Int (number_at e.table (Tokens parameter))

@@ -1,5 +1,5 @@
 -- What stands at the places of a table, and how that changes.
-use Rattle.std.specs.Prelude.{◌≡◌, ℕ, ℤ, pos, List, unwrap_or, slice_get, slice_set}
+use Rattle.std.specs.Prelude.{◌≡◌, ℕ, ℤ, pos, List, [], unwrap_or, slice_get, slice_set}
 use Rattle.std.specs.FinMap.{get, insert, remove}
 use Rattle.tx_char.specs.declared.category.Cat.{Cat}
 use Rattle.tx_char.specs.declared.category.Cat.TheVariants as category
@@ -9,13 +9,14 @@ use Rattle.tx_name.specs.Names.{Names}
 use Rattle.tx_prim.specs.declared.primitive.Primitive.TheVariants.{Relax}
 use Rattle.tx_prim.specs.Integers.{integer_number}
 use Rattle.tx_prim.specs.Dimensions.{dimension_number}
+use Rattle.tx_prim.specs.Tokens.{token_number}
 use Rattle.tx_prim.specs.declared.family.CharacterCode.TheVariants.{LowerCase, UpperCase, SpaceFactor, Math, Delimiter}
 use Rattle.tx_seen.specs.declared.place.Place.{Place}
-use Rattle.tx_seen.specs.declared.place.Place.TheVariants.{Name, Active, Count, Dimen, Category, Code, Integer, Dimension}
+use Rattle.tx_seen.specs.declared.place.Place.TheVariants.{Name, Active, Count, Dimen, Toks, Category, Code, Integer, Dimension, Tokens}
 use Rattle.tx_seen.specs.declared.meaning.Meaning.{Meaning}
 use Rattle.tx_seen.specs.declared.meaning.Meaning.TheVariants.{Undefined, Command, Character}
 use Rattle.tx_eqtb.specs.declared.entry.Entry.{Entry}
-use Rattle.tx_eqtb.specs.declared.entry.Entry.TheVariants.{Means, InCategory, Number}
+use Rattle.tx_eqtb.specs.declared.entry.Entry.TheVariants.{Means, InCategory, Number, Tokens as Listed}
 use Rattle.tx_eqtb.specs.declared.table.Table.{Table}
 
 -- the meaning of a name: undefined where it has no entry
@@ -48,6 +49,15 @@ number_at table (Integer parameter) = number_of table.integers (integer_number p
 number_at table (Dimension parameter) = number_of table.dimensions (dimension_number parameter)
 number_at table other = pos 0
 
+-- the list of tokens of a register or a parameter, and the one that stands at a place; an empty one where none stands
+abbrev pub list_of : List (List Token) → ℕ → List Token
+list_of lists at = unwrap_or (slice_get lists at) []
+
+abbrev pub tokens_at : Table → Place → List Token
+tokens_at table (Toks number) = list_of table.token_registers number
+tokens_at table (Tokens parameter) = list_of table.token_parameters (token_number parameter)
+tokens_at table other = []
+
 -- what a token means (TeX: The Program, part 20): a name and an active character what the table says, any other character
 -- itself, and the frozen \relax what \relax means at the beginning
 abbrev pub token_meaning : Table → Token → Meaning
@@ -56,7 +66,7 @@ token_meaning table (token.Character code category.Active) = active_meaning tabl
 token_meaning table (token.Character code other) = Character code other
 token_meaning table token.FrozenRelax = Command Relax
 
--- the table with a meaning, a category or a number at a place, all else as it was
+-- the table with a meaning, a category, a number or a list of tokens at a place, all else as it was
 abbrev pub with_meaning_at : Table → Place → Meaning → Table
 with_meaning_at table (Name name) meaning = record table { names = with_meaning table.names name meaning }
 with_meaning_at table (Active code) meaning = record table { active = slice_set table.active code meaning }
@@ -78,11 +88,17 @@ abbrev pub with_category_at : Table → Place → Cat → Table
 with_category_at table (Category code) category = record table { categories = slice_set table.categories code category }
 with_category_at table other category = table
 
+abbrev pub with_tokens_at : Table → Place → List Token → Table
+with_tokens_at table (Toks number) tokens = record table { token_registers = slice_set table.token_registers number tokens }
+with_tokens_at table (Tokens parameter) tokens = record table { token_parameters = slice_set table.token_parameters (token_number parameter) tokens }
+with_tokens_at table other tokens = table
+
 -- the table with an entry at a place that it fits
 unfoldable pub with_entry : Table → Place → Entry → Table
 with_entry table place (Means meaning) = with_meaning_at table place meaning
 with_entry table place (InCategory category) = with_category_at table place category
 with_entry table place (Number value) = with_number_at table place value
+with_entry table place (Listed tokens) = with_tokens_at table place tokens
 
 -- all characters have the same codes in two tables
 pub record HasSameCodes (some other : Table) : Type 0 where

@@ -7,6 +7,7 @@ use std::marker::Model;
 use std::rc::Rc;
 use tx_list::{Kept, same_items};
 use tx_seen::Meaning;
+use tx_toklist::TokList;
 
 /// A value of which many are copied at once.
 pub trait Cell: Kept {
@@ -26,6 +27,13 @@ impl Cell for i32 {
 impl Cell for Meaning {
     fn twins(alloc: Global, values: &[Meaning]) -> Result<Vec<Meaning>, AllocError> {
         share_meanings(alloc, values)
+    }
+}
+
+/// So are lists of tokens.
+impl Cell for TokList {
+    fn twins(alloc: Global, values: &[TokList]) -> Result<Vec<TokList>, AllocError> {
+        share_lists(alloc, values)
     }
 }
 
@@ -87,6 +95,11 @@ impl<T: Cell> Cells<T> {
         set_in(&mut self.values, number, value)
     }
 
+    /// Where its memory comes from.
+    pub fn allocator(&self) -> Global {
+        *self.values.by_number.allocator()
+    }
+
     /// Whether both hold the same values.
     pub fn same(&self, other: &Cells<T>) -> bool
         ensures { IsTrue result ↔ (self.now ≡ other.now) }
@@ -125,6 +138,17 @@ fn share_meanings(alloc: Global, meanings: &[Meaning]) -> Result<Vec<Meaning>, A
     let mut twins = Vec::with_capacity(alloc, meanings.len())?;
     for meaning in meanings {
         twins.push(meaning.share()?)?;
+    }
+    Ok(twins)
+}
+
+/// Second lists of tokens, equal to these.
+fn share_lists(alloc: Global, lists: &[TokList]) -> Result<Vec<TokList>, AllocError>
+    ensures { IfOk result (λ twins. twins.items ≡ lists.now) }
+{
+    let mut twins = Vec::with_capacity(alloc, lists.len())?;
+    for list in lists {
+        twins.push(list.share()?)?;
     }
     Ok(twins)
 }

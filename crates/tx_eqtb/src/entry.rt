@@ -4,6 +4,7 @@ ghost use Rattle.std.specs.Prelude.{◌≡◌};
 use std::alloc::AllocError;
 use tx_char::Cat;
 use tx_seen::Meaning;
+use tx_toklist::TokList;
 
 /// What a place of the table is given: each place holds entries of one kind.
 #[derive(Drop)]
@@ -14,9 +15,11 @@ pub enum Entry {
     InCategory(Cat),
     /// At a register, a code and a parameter: an integer, or a dimension in scaled points.
     Number(i32),
+    /// At a register and a parameter that is a list of tokens.
+    Tokens(TokList),
 }
 
-/// A clone is the same entry. Its only error is that no more owners of a meaning can be counted.
+/// A clone is the same entry. Its only error is that no more owners of a meaning or a list can be counted.
 impl Clone for Entry {
     ghost is_clone = { λ source copy. copy ≡ source };
 
@@ -25,6 +28,7 @@ impl Clone for Entry {
             Entry::Means(meaning) => Ok(Entry::Means(meaning.clone()?)),
             Entry::InCategory(category) => Ok(Entry::InCategory(*category)),
             Entry::Number(number) => Ok(Entry::Number(*number)),
+            Entry::Tokens(tokens) => Ok(Entry::Tokens(tokens.share()?)),
         }
     }
 }

@@ -1,17 +1,22 @@
 //! The table with which INITEX begins.
-ghost use Rattle.std.specs.Prelude.{◌≡◌, pos, map, replicate, IfOk};
+ghost use Rattle.std.specs.Prelude.{◌≡◌, [], pos, map, replicate, IfOk};
 ghost use Rattle.std.specs.FinMap.{from_entries};
 ghost use Rattle.tx_seen.specs.declared.meaning.Meaning.TheVariants.{Undefined};
 ghost use Rattle.tx_prim.specs.Integers.{initial_integer, all_integers};
 ghost use Rattle.tx_eqtb.specs.Initex as spec;
 
 use crate::cells::Cells;
+use crate::reading::no_tokens;
 use crate::table::Table;
 use std::alloc::{AllocError, Global};
 use tx_char::{Codes, ControlName};
 use tx_name::NameMap;
-use tx_prim::{CharacterCode, DimensionParameter, Expandable, IntegerParameter, Moment, Primitive};
+use tx_prim::{
+    CharacterCode, DimensionParameter, Expandable, IntegerParameter, Moment, Primitive,
+    TokenParameter,
+};
 use tx_seen::Meaning;
+use tx_toklist::TokList;
 
 /// How many registers of a kind, and how many characters there are.
 const ALL: usize = 256;
@@ -75,6 +80,14 @@ fn undefined(alloc: Global, count: usize) -> Result<Cells<Meaning>, AllocError>
     Cells::from_vec(vec![in alloc; Meaning::Undefined; count]?)
 }
 
+/// As many empty lists of tokens.
+fn empty_lists(alloc: Global, count: usize) -> Result<Cells<TokList>, AllocError>
+    ensures { IfOk result (λ lists. lists ≡ replicate count []) }
+{
+    let empty = no_tokens(alloc)?;
+    Cells::from_vec(vec![in alloc; empty; count]?)
+}
+
 /// The names of the primitives that are expanded.
 #[tactic(auto, using(crate::proofs::Filled::filled_steps))]
 fn expandable_names(alloc: Global) -> Result<NameMap<Meaning>, AllocError>
@@ -127,5 +140,7 @@ pub fn initial_table(alloc: Global, begun: &Moment) -> Result<Table, AllocError>
         delimiters: initial_codes(alloc, CharacterCode::Delimiter)?,
         integers: initial_integers(alloc, begun)?,
         dimensions: zeros(alloc, DimensionParameter::COUNT)?,
+        token_registers: empty_lists(alloc, ALL)?,
+        token_parameters: empty_lists(alloc, TokenParameter::COUNT)?,
     })
 }

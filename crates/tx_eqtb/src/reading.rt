@@ -1,14 +1,15 @@
 //! Reading the table, comparing two, and making a second one.
-ghost use Rattle.std.specs.Prelude.{◌≡◌, ◌↔◌, IsTrue, IfOk};
+ghost use Rattle.std.specs.Prelude.{◌≡◌, ◌↔◌, [], IsTrue, IfOk};
 ghost use Rattle.tx_eqtb.specs.Table as spec;
 ghost use Rattle.tx_eqtb.specs.Table.{HasSameCodes};
 
 use crate::cells::Cells;
 use crate::table::Table;
-use std::alloc::AllocError;
+use std::alloc::{AllocError, Global};
 use tx_char::{Cat, ControlName, Token};
 use tx_prim::{CharacterCode, Primitive};
 use tx_seen::{Meaning, Place};
+use tx_toklist::{TokList, Toks};
 
 /// A register, a code or a parameter.
 fn number_of(numbers: &Cells<i32>, at: usize) -> i32
@@ -17,6 +18,23 @@ fn number_of(numbers: &Cells<i32>, at: usize) -> i32
     match numbers.get(at) {
         Some(number) => *number,
         None => 0,
+    }
+}
+
+/// An empty list. Its only error is want of memory.
+pub(crate) fn no_tokens(alloc: Global) -> Result<TokList, AllocError>
+    ensures { IfOk result (λ tokens. tokens ≡ []) }
+{
+    TokList::from_toks(alloc, Toks::new(alloc))
+}
+
+/// A list of a register or a parameter. Its only error is want of memory.
+fn list_of(lists: &Cells<TokList>, at: usize) -> Result<TokList, AllocError>
+    ensures { IfOk result (λ tokens. tokens ≡ spec.list_of lists.now at) }
+{
+    match lists.get(at) {
+        Some(list) => list.share(),
+        None => no_tokens(lists.allocator()),
     }
 }
 
@@ -48,6 +66,19 @@ impl Table {
             Place::Integer(parameter) => number_of(&self.integers, parameter.number()),
             Place::Dimension(parameter) => number_of(&self.dimensions, parameter.number()),
             Place::Name(_) | Place::Active(_) | Place::Category(_) => 0,
+            Place::Toks(_) | Place::Tokens(_) => 0,
+        }
+    }
+
+    /// The list of tokens that stands at a place, of which one more owner is answered, and an empty one where none stands. Its
+    /// only error is want of memory.
+    pub fn tokens(&self, place: &Place) -> Result<TokList, AllocError>
+        ensures { IfOk result (λ tokens. tokens ≡ spec.tokens_at self.now place.now) }
+    {
+        match place {
+            Place::Toks(number) => list_of(&self.token_registers, *number as usize),
+            Place::Tokens(parameter) => list_of(&self.token_parameters, parameter.number()),
+            _ => no_tokens(self.token_registers.allocator()),
         }
     }
 
@@ -91,6 +122,8 @@ impl Table {
             && self.dimens.same(&other.dimens)
             && self.integers.same(&other.integers)
             && self.dimensions.same(&other.dimensions)
+            && self.token_registers.same(&other.token_registers)
+            && self.token_parameters.same(&other.token_parameters)
             && self.categories.same(&other.categories)
             && self.active.same(&other.active)
             && self.same_codes(other)
@@ -125,6 +158,8 @@ impl Table {
             delimiters: self.delimiters.share()?,
             integers: self.integers.share()?,
             dimensions: self.dimensions.share()?,
+            token_registers: self.token_registers.share()?,
+            token_parameters: self.token_parameters.share()?,
         })
     }
 }

@@ -2,7 +2,7 @@
 ghost use Rattle.std.specs.Prelude.{◌≡◌, ◌↔◌, ◌≤◌, [], length, Some, Ok, Err, IsOk, IsTrue, IfOk, IfErr, OnOk, OnErr};
 ghost use Rattle.tx_eqtb.specs.Initex.{initial_table};
 ghost use Rattle.tx_eqtb.specs.Stack.{assigned, assigned_everywhere, closed, kind_of, opened};
-ghost use Rattle.tx_eqtb.specs.Table.{active_meaning, meaning_of, number_at, token_meaning};
+ghost use Rattle.tx_eqtb.specs.Table.{active_meaning, meaning_of, number_at, token_meaning, tokens_at};
 ghost use Rattle.tx_char.specs.Category.{category};
 
 use crate::entry::Entry;
@@ -15,6 +15,7 @@ use std::alloc::{AllocError, Global};
 use tx_char::{Cat, Codes, ControlName, Token};
 use tx_prim::Moment;
 use tx_seen::{Meaning, Place};
+use tx_toklist::TokList;
 
 /// How many groups can be open.
 const MOST_GROUPS: usize = 255;
@@ -37,6 +38,14 @@ impl Eqtb {
         ensures { result ≡ number_at self.now.table place.now }
     {
         self.table.number(place)
+    }
+
+    /// The list of tokens that stands at a place, a register or a parameter, of which one more owner is answered; an empty one
+    /// where none stands. Its only error is want of memory.
+    pub fn tokens(&self, place: &Place) -> Result<TokList, AllocError>
+        ensures { IfOk result (λ tokens. tokens ≡ tokens_at self.now.table place.now) }
+    {
+        self.table.tokens(place)
     }
 
     /// The category of a character.

@@ -4,6 +4,7 @@ use crate::cells::Cells;
 use tx_char::Codes;
 use tx_name::NameMap;
 use tx_seen::Meaning;
+use tx_toklist::TokList;
 
 /// What stands at each place. A name that has no entry is undefined.
 #[derive(Drop)]
@@ -20,4 +21,6 @@ pub struct Table {
     pub(crate) delimiters: Cells<i32>,
     pub(crate) integers: Cells<i32>,
     pub(crate) dimensions: Cells<i32>,
+    pub(crate) token_registers: Cells<TokList>,
+    pub(crate) token_parameters: Cells<TokList>,
 }

@@ -15,6 +15,7 @@ impl Quantities for Eqtb {
                 Value::Int(i64::from(self.number(place)))
             }
             Place::Name(_) | Place::Active(_) => Value::Int(i64::from(self.number(place))),
+            Place::Toks(_) | Place::Tokens(_) => Value::Int(i64::from(self.number(place))),
         }
     }
 }

@@ -1,6 +1,6 @@
 //! Writing into the table.
 ghost use Rattle.std.specs.Prelude.{◌≡◌, OnOk};
-ghost use Rattle.tx_eqtb.specs.Table.{with_category_at, with_entry, with_meaning, with_meaning_at, with_number_at};
+ghost use Rattle.tx_eqtb.specs.Table.{with_category_at, with_entry, with_meaning, with_meaning_at, with_number_at, with_tokens_at};
 
 use crate::entry::Entry;
 use crate::table::Table;
@@ -9,6 +9,7 @@ use tx_char::{Cat, ControlName};
 use tx_name::NameMap;
 use tx_prim::CharacterCode;
 use tx_seen::{Meaning, Place};
+use tx_toklist::TokList;
 
 /// Gives a name a meaning. After want of memory, its only error, the names may only be dropped.
 fn set_name(
@@ -49,6 +50,7 @@ impl Table {
             Place::Integer(parameter) => self.integers.set(parameter.number(), value),
             Place::Dimension(parameter) => self.dimensions.set(parameter.number(), value),
             Place::Name(_) | Place::Active(_) | Place::Category(_) => Ok(()),
+            Place::Toks(_) | Place::Tokens(_) => Ok(()),
         }
     }
 
@@ -73,6 +75,17 @@ impl Table {
         }
     }
 
+    /// Gives a register or a parameter a list of tokens.
+    fn set_tokens(&mut self, place: &Place, tokens: TokList) -> Result<(), AllocError>
+        ensures { OnOk result (self.new ≡ with_tokens_at self.old place.now tokens) }
+    {
+        match place {
+            Place::Toks(number) => self.token_registers.set(*number as usize, tokens),
+            Place::Tokens(parameter) => self.token_parameters.set(parameter.number(), tokens),
+            _ => Ok(()),
+        }
+    }
+
     /// Gives a place an entry; one of another kind than stands there changes nothing.
     #[tactic(auto, unfolding(crate::specs::Table::with_entry))]
     pub fn set(&mut self, place: &Place, value: Entry) -> Result<(), AllocError>
@@ -82,6 +95,7 @@ impl Table {
             Entry::Means(meaning) => self.set_meaning(place, meaning),
             Entry::InCategory(category) => self.set_category(place, category),
             Entry::Number(number) => self.set_number(place, number),
+            Entry::Tokens(tokens) => self.set_tokens(place, tokens),
         }
     }
 }

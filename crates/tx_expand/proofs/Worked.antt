@@ -14,10 +14,10 @@ use Rattle.tx_prim.specs.declared.expandable.Conversion.TheVariants as kind
 use Rattle.tx_prim.specs.declared.expandable.CondWord.TheVariants as word
 use Rattle.tx_prim.specs.declared.primitive.Primitive.TheVariants.{Relax, EndCsName, Numbered}
 use Rattle.tx_seen.specs.declared.error.TexError.{TexError}
-use Rattle.tx_seen.specs.declared.error.TexError.TheVariants.{Undefined, ExtraConditionalWord, BadName, IncompleteText, IncompleteConditional}
+use Rattle.tx_seen.specs.declared.error.TexError.TheVariants.{Undefined, MissingNumber, NumberOutOfRange, ExtraConditionalWord, BadName, IncompleteText, IncompleteConditional}
 use Rattle.tx_seen.specs.declared.fed.Value.TheVariants.{Int}
 use Rattle.tx_seen.specs.declared.fed.Want.TheVariants.{Expanded}
-use Rattle.tx_prim.specs.declared.family.Numbered.TheVariants.{Count}
+use Rattle.tx_prim.specs.declared.family.Numbered.TheVariants.{Count, Toks}
 use Rattle.tx_seen.specs.declared.meaning.Meaning.{Meaning}
 use Rattle.tx_seen.specs.declared.meaning.Meaning.TheVariants as meaning
 use Rattle.tx_expand.specs.declared.types.Expanded.{Expanded as Answer}
@@ -82,7 +82,8 @@ named_by n =
     cond (same_text n (codes "endinput")) (meaning.Expandable x.EndInput) (
     cond (same_text n (codes "ifx")) (meaning.Expandable (x.Test tests.Same)) (
     cond (same_text n (codes "count")) (meaning.Command (Numbered Count)) (
-    cond (same_text n (codes "relax")) (meaning.Command Relax) meaning.Undefined)))))))))))))))))))))))))))
+    cond (same_text n (codes "toks")) (meaning.Command (Numbered Toks)) (
+    cond (same_text n (codes "relax")) (meaning.Command Relax) meaning.Undefined))))))))))))))))))))))))))))
 
 abbrev means : Token → Meaning
 means (token.Name n) = named_by n
@@ -90,7 +91,7 @@ means (token.Character c category) = meaning.Character c category
 means token.FrozenRelax = meaning.Command Relax
 
 abbrev around : World
-around = record { meaning = means; value = λ p. Int (pos 7); codes = []; escape = Some 92; mode = Vertical }
+around = record { meaning = means; value = λ p. Int (pos 7); tokens = λ p. token.Name (codes "a") ∷ []; codes = []; escape = Some 92; mode = Vertical }
 
 abbrev reads : List Token → Reader
 reads tokens = record { input = record { elements = map Given tokens; closing = false }; begun = []; conditionals = []; job = codes "texput.tex" }
@@ -170,6 +171,21 @@ named = refl
 -- \ifnum1<2 y\else n\fi z
 tested : run 40 (reads (cs (codes "ifnum") ∷ other 49 ∷ other 60 ∷ other 50 ∷ token.Character 32 Space ∷ letter 121 ∷ cs (codes "else") ∷ letter 110 ∷ cs (codes "fi") ∷ letter 122 ∷ [])) ≡ All (letter 121 ∷ letter 122 ∷ [])
 tested = refl
+
+-- \the\toks1 z, whose list is \a
+a_list : run 20 (reads (cs (codes "the") ∷ cs (codes "toks") ∷ other 49 ∷ token.Character 32 Space ∷ letter 122 ∷ [])) ≡ All (letter 120 ∷ letter 121 ∷ letter 122 ∷ [])
+a_list = refl
+
+-- in a text \a isn't expanded
+a_list_in_a_text : run_wanted wants_text 20 (reads (cs (codes "the") ∷ cs (codes "toks") ∷ other 49 ∷ token.Character 32 Space ∷ letter 122 ∷ [])) ≡ All (cs (codes "a") ∷ letter 122 ∷ [])
+a_list_in_a_text = refl
+
+-- \the\toks256 and \number\toks1
+no_such_list : run 20 (reads (cs (codes "the") ∷ cs (codes "toks") ∷ other 50 ∷ other 53 ∷ other 54 ∷ token.Character 32 Space ∷ [])) ≡ Stopped [] NumberOutOfRange
+no_such_list = refl
+
+a_list_is_no_number : run 20 (reads (cs (codes "number") ∷ cs (codes "toks") ∷ other 49 ∷ [])) ≡ Stopped [] MissingNumber
+a_list_is_no_number = refl
 
 -- \expandafter \expandafter \expandafter \b \c z
 three_after : run 60 (reads ((cs (codes "expandafter")) ∷ (cs (codes "expandafter")) ∷ (cs (codes "expandafter")) ∷ (cs (codes "b")) ∷ (cs (codes "c")) ∷ (letter 122) ∷ [])) ≡ All ((letter 120) ∷ (letter 120) ∷ (letter 121) ∷ (letter 122) ∷ [])

@@ -7,7 +7,7 @@ use Rattle.tx_seen.specs.declared.place.Place.TheVariants.{Integer}
 use Rattle.tx_scan.specs.Integers.{byte_of}
 use Rattle.tx_eqtb.specs.declared.eqtb.Eqtb.{Eqtb}
 use Rattle.tx_eqtb.specs.Quantities.{value_in}
-use Rattle.tx_eqtb.specs.Table.{number_at, token_meaning}
+use Rattle.tx_eqtb.specs.Table.{number_at, token_meaning, tokens_at}
 use Rattle.tx_cond.specs.declared.types.Conditional.{Conditional}
 use Rattle.tx_expand.specs.declared.begun.Begun.{Begun}
 use Rattle.tx_expand.specs.declared.state.Open.{Open}
@@ -25,4 +25,4 @@ abbrev pub escape_of : Eqtb → Option ℕ
 escape_of e = byte_of (number_at e.table (Integer Escapechar))
 
 abbrev pub world_of : Eqtb → Mode → World
-world_of e mode = record { meaning = token_meaning e.table; value = value_in e; codes = e.table.categories; escape = escape_of e; mode = mode }
+world_of e mode = record { meaning = token_meaning e.table; value = value_in e; tokens = tokens_at e.table; codes = e.table.categories; escape = escape_of e; mode = mode }

@@ -20,11 +20,12 @@ use Rattle.tx_expand.specs.declared.types.Made.TheVariants as made
 use Rattle.tx_expand.specs.declared.types.Scanned.{Scanned}
 use Rattle.tx_expand.specs.Scans.{quantity_tokens, reading, shown, the}
 
--- an integer as it is printed
+-- what comes of an integer
 abbrev pub printed : Figures → ℤ → Made
 printed figures.Decimal n = made.Puts (as_tokens (number_text n))
 printed figures.Roman n = made.Puts (as_tokens (roman_text n))
 printed (figures.Quantity text size) n = shown text (quantity_tokens size n)
+printed (figures.Register text) n = made.Register text n
 
 -- the rest, by the scan
 abbrev pub rest : Part → List Item → Item → List Item → Reading Made

@@ -13,10 +13,11 @@ use Rattle.tx_cond.specs.declared.types.Conditional.{Conditional}
 use Rattle.tx_expand.specs.declared.begun.Begun.{Begun}
 use Rattle.tx_expand.specs.declared.types.Expanded.{Expanded}
 
--- what is around: what tokens mean and what stands at places, the categories, the escape character if there is one, the mode
+-- what is around: what tokens mean, what values and which lists of tokens stand at places, the categories, the escape character if there is one, the mode
 pub record World : Type 0 where
   pub meaning : Token → Meaning
   pub value : Place → Value
+  pub tokens : Place → List Token
   pub codes : List Cat
   pub escape : Option ℕ
   pub mode : Mode

@@ -6,11 +6,15 @@ use Rattle.tx_seen.specs.declared.error.TexError.TheVariants.{NoAssignment}
 use Rattle.tx_seen.specs.declared.fed.Want.TheVariants.{Expanded}
 use Rattle.tx_seen.specs.declared.item.Item.{Item}
 use Rattle.tx_seen.specs.declared.item.Item.TheVariants.{Took, Gave}
+use Rattle.tx_seen.specs.declared.seen.Seen.{Seen}
 use Rattle.tx_seen.specs.Places.{is_size, place_of}
 use Rattle.tx_seen.specs.Readings.{Reading, More, Done, Wrong, next}
 use Rattle.tx_scan.specs.declared.scans.Beginning.{Beginning}
 use Rattle.tx_scan.specs.declared.scans.Beginning.TheVariants as begin
+use Rattle.tx_scan.specs.declared.scans.ListBegun.{ListBegun}
+use Rattle.tx_scan.specs.declared.scans.ListBegun.TheVariants as list
 use Rattle.tx_scan.specs.Beginnings.{beginning}
+use Rattle.tx_scan.specs.Lists.{list_begun}
 use Rattle.tx_scan.specs.Integers.{integer}
 use Rattle.tx_scan.specs.ControlNames.{control_name}
 use Rattle.tx_scan.specs.FileNames.{file_name, input_name}
@@ -50,11 +54,17 @@ abbrev pub quantity : Bool → Option Bool → List Item → Reading Made
 quantity text None items = Wrong NoAssignment
 quantity text (Some size) items = next (integer items) (λ n rest. Done (shown text (quantity_tokens size n)) rest)
 
+-- the list of tokens that a token stands for, or a quantity (section 465)
+abbrev pub shown_by : Bool → ListBegun → Seen → List Item → Reading Made
+shown_by text (list.At place) t rest = Done (made.List text place) rest
+shown_by text list.Register t rest = next (integer rest) (λ n rest. Done (made.Register text n) rest)
+shown_by text list.Nothing t rest = quantity text (quantity_begun (beginning t)) (Took t ∷ rest)
+
 -- what stands behind \the, with its value
 abbrev pub the : Bool → List Item → Reading Made
 the text [] = More Expanded
 the text (Gave v ∷ rest) = Wrong NoAssignment
-the text (Took t ∷ rest) = quantity text (quantity_begun (beginning t)) (Took t ∷ rest)
+the text (Took t ∷ rest) = shown_by text (list_begun t.meaning) t rest
 
 -- what these items come to
 abbrev pub reading : Scanned → List Item → Reading Made

@@ -13,7 +13,7 @@ use Rattle.tx_prim.specs.declared.expandable.Expandable.TheVariants as expandabl
 use Rattle.tx_prim.specs.declared.expandable.Test.{Test}
 use Rattle.tx_prim.specs.declared.expandable.Test.TheVariants as tests
 use Rattle.tx_seen.specs.declared.error.TexError.{TexError}
-use Rattle.tx_seen.specs.declared.error.TexError.TheVariants.{Undefined, InvalidCharacter, ExtraConditionalWord, IncompleteConditional, IncompleteText}
+use Rattle.tx_seen.specs.declared.error.TexError.TheVariants.{Undefined, InvalidCharacter, NumberOutOfRange, ExtraConditionalWord, IncompleteConditional, IncompleteText}
 use Rattle.tx_seen.specs.declared.fed.Want.{Want}
 use Rattle.tx_seen.specs.declared.fed.Want.TheVariants.{Raw, Expanded}
 use Rattle.tx_seen.specs.declared.fed.Value.{Value}
@@ -22,9 +22,11 @@ use Rattle.tx_seen.specs.declared.item.Item.TheVariants.{Took}
 use Rattle.tx_seen.specs.declared.meaning.Meaning.{Meaning}
 use Rattle.tx_seen.specs.declared.meaning.Meaning.TheVariants as meaning
 use Rattle.tx_seen.specs.declared.place.Place.{Place}
+use Rattle.tx_seen.specs.declared.place.Place.TheVariants as place
 use Rattle.tx_seen.specs.declared.seen.Seen.{Seen}
 use Rattle.tx_seen.specs.Seen.{held}
 use Rattle.tx_seen.specs.Readings.{Reading, More, Need, Done, Wrong}
+use Rattle.tx_scan.specs.Integers.{byte_of}
 use Rattle.tx_scan.specs.Settled.{tokens_of}
 use Rattle.tx_scan.specs.Supplied.{with_values}
 use Rattle.tx_cond.specs.declared.types.Conditional.{Conditional}
@@ -117,10 +119,22 @@ abbrev pub named : List ℕ → Meaning → Reader → Turn
 named name meaning.Undefined r = Goes (answer.Relaxes name) r
 named name other r = Goes answer.Went r
 
+-- a list of tokens is put in, or belongs to the text that the caller takes (section 467)
+abbrev pub listed : Bool → List Token → Reader → Turn
+listed false tokens r = replaced tokens r
+listed true tokens r = Goes (answer.Text tokens) (released r)
+
+-- that of a register of \toks
+abbrev pub register_listed : World → Bool → Option ℕ → Reader → Turn
+register_listed w text None r = Fails NumberOutOfRange
+register_listed w text (Some number) r = listed text (w.tokens (place.Toks number)) r
+
 -- what comes of what was read
 abbrev pub come : World → Made → Reader → Turn
 come w (made.Puts tokens) r = replaced tokens r
 come w (made.Gives tokens) r = Goes (answer.Text tokens) (released r)
+come w (made.List text place) r = listed text (w.tokens place) r
+come w (made.Register text n) r = register_listed w text (byte_of n) r
 come w (made.Names name) r = named name (w.meaning (token.Name name)) (released (put (token.Name name ∷ []) r))
 come w (made.Decides value) r = decided value r
 come w (made.Opens name) r = Goes (answer.Asks name) (with_begun (begun.Opening ∷ r.begun) r)

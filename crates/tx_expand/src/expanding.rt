@@ -6,11 +6,12 @@ ghost use Rattle.tx_cond.specs.declared.types.Conditional.{Conditional};
 ghost use Rattle.tx_cond.specs.Skipping.{item_of, passing};
 ghost use Rattle.tx_convert.specs.Texts.{as_tokens};
 ghost use Rattle.tx_eqtb.specs.Quantities.{value_in};
+ghost use Rattle.tx_eqtb.specs.Table.{tokens_at};
 ghost use Rattle.tx_pending.specs.Elements.{Input};
 ghost use Rattle.tx_prim.specs.declared.modes.Mode.{Mode as Any_mode};
 ghost use Rattle.tx_expand.specs.Expanding.{escape_of, reader, reader_of, world_of};
 ghost use Rattle.tx_expand.specs.Turns as turns;
-ghost use Rattle.tx_expand.specs.Turns.{begins, come, decided, ended, expanded, expands, given_by, given_to, joined, met_word, reads, released, replaced, skips_on, text_of, token_read, use_on, uses, IsTurned};
+ghost use Rattle.tx_expand.specs.Turns.{begins, come, decided, ended, expanded, expands, given_by, given_to, joined, listed, met_word, reads, released, replaced, skips_on, text_of, token_read, use_on, uses, IsTurned};
 ghost use Rattle.tx_expand.specs.Uses.{comes_to, with_taken};
 
 use crate::begun::Begun;
@@ -167,6 +168,28 @@ impl Open {
         }
     }
 
+    /// The list of tokens at a place stands in the place of an expansion that has ended, or belongs to the text that the caller
+    /// takes. Its only error is want of memory.
+    fn list(
+        &mut self,
+        alloc: Global,
+        input: &mut Pending,
+        table: &Eqtb,
+        text: bool,
+        place: &Place,
+    ) -> Result<Expanded, AllocError>
+        ensures { IfOk result (IsTurned (listed text (tokens_at table.now.table place.now) (reader_of self.old input.old)) (reader_of self.new input.new)) }
+    {
+        let tokens = table.tokens(place)?;
+        if text {
+            release(&mut self.begun, input)?;
+            Ok(Expanded::Text(Toks::from_slice(alloc, tokens.as_slice())?))
+        } else {
+            input.push_list(tokens, false)?;
+            self.went(input)
+        }
+    }
+
     /// What comes of what was read. Its only error is want of memory.
     fn come(
         &mut self,
@@ -183,6 +206,11 @@ impl Open {
                 release(&mut self.begun, input)?;
                 Ok(Expanded::Text(tokens))
             }
+            Made::List(text, place) => self.list(alloc, input, table, text, &place),
+            Made::Register(text, number) => match byte(number) {
+                Some(number) => self.list(alloc, input, table, text, &Place::Toks(number)),
+                None => Ok(Expanded::Wrong(TexError::NumberOutOfRange)),
+            },
             Made::Names(name) => self.name(input, table, name),
             Made::Decides(value) => self.decide(input, value),
             Made::Opens(name) => {

@@ -5,7 +5,7 @@ ghost use Rattle.tx_seen.specs.Readings.{Answers};
 ghost use Rattle.tx_scan.specs.Rests.{HasTakenBy, IsFedBy, IsGivenBy, IsRead};
 ghost use Rattle.tx_scan.specs.Supplied.{NeedsFewer, NeedsNoMore};
 ghost use Rattle.tx_expand.specs.Parts.{held, more_needed, rest};
-ghost use Rattle.tx_expand.specs.Scans.{quantity_begun, reading, the};
+ghost use Rattle.tx_expand.specs.Scans.{quantity, quantity_begun, reading, the};
 ghost use Rattle.tx_scan.specs.Beginnings as beginnings;
 
 use crate::mapping::{decided, named, opened, printed};
@@ -13,7 +13,9 @@ use crate::part::{Figures, Part};
 use crate::types::{Made, Scanned};
 use std::alloc::{AllocError, Global};
 use tx_cond::TestScan;
-use tx_scan::{Beginning, ControlNameScan, FileNameScan, IntScan, beginning};
+use tx_scan::{
+    Beginning, ControlNameScan, FileNameScan, IntScan, ListBegun, beginning, list_begun,
+};
 use tx_seen::{Fed, Place, Seen, TexError, Value, Want};
 
 /// Whether what a token begins stands for a size, if it stands for a quantity.
@@ -85,6 +87,26 @@ impl Part {
         token: &Seen,
     ) -> Result<Fed<Made>, AllocError>
         ensures fed { IfOk result (IsRead rest held 1 (λ more. the text (Took token.now ∷ more)) (Took token.now ∷ []) self.new) }
+        ensures needs { IfOk result (NeedsNoMore 0 (more_needed self.new)) }
+    {
+        match list_begun(&token.meaning) {
+            ListBegun::At(place) => Ok(Fed::Done(Made::List(text, place), 0)),
+            ListBegun::Register => {
+                *self = Part::Integer(IntScan::new(alloc), Figures::Register { text });
+                Ok(Fed::More(Want::Expanded))
+            }
+            ListBegun::Nothing => self.feed_number(alloc, text, token),
+        }
+    }
+
+    /// Takes the token behind \the, where it begins no list of tokens. Its only error is want of memory.
+    fn feed_number(
+        &mut self,
+        alloc: Global,
+        text: bool,
+        token: &Seen,
+    ) -> Result<Fed<Made>, AllocError>
+        ensures fed { IfOk result (IsRead rest held 1 (λ more. quantity text (quantity_begun (beginnings.beginning token.now)) (Took token.now ∷ more)) (Took token.now ∷ []) self.new) }
         ensures needs { IfOk result (NeedsNoMore 0 (more_needed self.new)) }
     {
         let Some(size) = quantity_begun_by(token) else {

@@ -95,6 +95,7 @@ fn made_of(alloc: Global, figures: Figures, number: i64) -> Result<Made, AllocEr
             push_number(&mut tokens, number)?;
             Ok(shown(text, tokens))
         }
+        Figures::Register { text } => Ok(Made::Register(text, number)),
     }
 }
 

@@ -2,7 +2,7 @@
 use tx_cond::TestScan;
 use tx_scan::{ControlNameScan, FileNameScan, IntScan};
 
-/// How an integer is printed.
+/// How an integer is printed, or what it tells.
 #[derive(Clone, Copy, PartialEq, Eq)]
 pub enum Figures {
     /// In decimal digits.
@@ -12,6 +12,8 @@ pub enum Figures {
     /// As what stands at a place, with its unit where that is a size; whether its tokens belong to the text that the caller
     /// takes.
     Quantity { text: bool, size: bool },
+    /// It tells a register of \toks, whose list of tokens stands in its place; whether these belong to that text.
+    Register { text: bool },
 }
 
 /// The scan of what an expansion reads.

@@ -2,7 +2,7 @@
 use tx_bytes::Bytes;
 use tx_char::ControlName;
 use tx_prim::{Mode, Test};
-use tx_seen::{Seen, TexError, Want};
+use tx_seen::{Place, Seen, TexError, Want};
 use tx_toklist::Toks;
 
 /// What the caller takes.
@@ -49,6 +49,10 @@ pub enum Made {
     Puts(Toks),
     /// They belong to the text that the caller takes, and aren't expanded again.
     Gives(Toks),
+    /// The list of tokens at this place does the one or the other; whether it belongs to that text.
+    List(bool, Place),
+    /// So does that of the register of \toks of this number.
+    Register(bool, i64),
     /// This name stands in its place, and means \relax from now on if it had no meaning.
     Names(ControlName),
     /// The innermost test has this value.

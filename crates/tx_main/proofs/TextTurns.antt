@@ -76,6 +76,7 @@ takes-text-more s (Some text) t want new running is k = texts-more s (with_token
 ends-alike : (s : State) (text : OpenText) → ending_text (state_of (text_state s (Some text))) (Some text) ≡ ending_text (state_of s) (Some text)
 ends-alike s (texts.Definition defined kind d) = refl
 ends-alike s (texts.Absorbed purpose a) = refl
+ends-alike s (texts.List place a) = refl
 
 stepped-alike : {E : Type 0} (s new : State) (text : OpenText) (answer : Result Event E) → is_whole text ≡ true → IfOk answer (λ event. IsStepped (ending_text (state_of (text_state s (Some text))) (Some text)) (text_state s (Some text)) event new) → IfOk answer (λ event. IsStepped (texting (state_of s) (Ok text)) s event new)
 stepped-alike s new text (Ok event) is did =

@@ -18,7 +18,7 @@ use Rattle.tx_text.specs.Definitions as definition
 use Rattle.tx_text.specs.Definitions.{Defining, IsTaken}
 use Rattle.tx_main.specs.declared.parts.OpenText.{OpenText}
 use Rattle.tx_main.specs.declared.parts.OpenText.TheVariants as texts
-use Rattle.tx_main.specs.Texts.{IsTextFed, absorbing_on, defining_on, has_ended_at, is_whole_at, with_token}
+use Rattle.tx_main.specs.Texts.{IsTextFed, absorbing_on, defining_on, has_ended_at, is_whole_at, listing_on, with_token}
 
 definition-answers : (d : Defining) (s : Stage) → definition.answer d s ≡ cond (is_whole_at s) (Done tt 0) (More (definition.wanted d s))
 definition-answers d stage.Heading = refl
@@ -40,6 +40,10 @@ absorbed-fed : (purpose : TextUse) (r : Result Absorbing TexError) (fed : Fed (U
 absorbed-fed purpose (Err error) fed new k = k
 absorbed-fed purpose (Ok a) fed new k = (k.0 ∙ text-answers a a.stage, ap (λ (a : Absorbing). texts.Absorbed purpose a) k.1)
 
+list-fed : (place : Place) (r : Result Absorbing TexError) (fed : Fed (Unit {0})) (new : Absorbing) → IsAbsorbed r fed new → IsTextFed (listing_on place r) fed (texts.List place new)
+list-fed place (Err error) fed new k = k
+list-fed place (Ok a) fed new k = (k.0 ∙ text-answers a a.stage, ap (λ (a : Absorbing). texts.List place a) k.1)
+
 -- the same of a text that this is, where memory may be wanting
 if-definition-fed : (defined : Place) (kind : DefinitionKind) (r : Result Defining TexError) (got : Result (Fed (Unit {0})) AllocError) (new : Defining) → IfOk got (λ fed. IsTaken r fed new) → IfOk got (λ fed. IsTextFed (defining_on defined kind r) fed (texts.Definition defined kind new))
 if-definition-fed defined kind r (Err error) new k = tt
@@ -49,8 +53,15 @@ if-absorbed-fed : (purpose : TextUse) (r : Result Absorbing TexError) (got : Res
 if-absorbed-fed purpose r (Err error) new k = tt
 if-absorbed-fed purpose r (Ok fed) new k = absorbed-fed purpose r fed new k
 
+if-list-fed : (place : Place) (r : Result Absorbing TexError) (got : Result (Fed (Unit {0})) AllocError) (new : Absorbing) → IfOk got (λ fed. IsAbsorbed r fed new) → IfOk got (λ fed. IsTextFed (listing_on place r) fed (texts.List place new))
+if-list-fed place r (Err error) new k = tt
+if-list-fed place r (Ok fed) new k = list-fed place r fed new k
+
 pub definition-answered : (text : OpenText) (t : Seen) (defined : Place) (kind : DefinitionKind) (d new : Defining) (got : Result (Fed (Unit {0})) AllocError) → text ≡ texts.Definition defined kind d → IfOk got (λ fed. IsTaken (definition.takes d t d.stage) fed new) → IfOk got (λ fed. IsTextFed (with_token text t) fed (texts.Definition defined kind new))
 definition-answered text t defined kind d new got is k = rw is (if-definition-fed defined kind (definition.takes d t d.stage) got new k)
 
 pub absorbed-answered : (text : OpenText) (t : Seen) (purpose : TextUse) (a new : Absorbing) (got : Result (Fed (Unit {0})) AllocError) → text ≡ texts.Absorbed purpose a → IfOk got (λ fed. IsAbsorbed (absorbed.absorbs a t a.stage) fed new) → IfOk got (λ fed. IsTextFed (with_token text t) fed (texts.Absorbed purpose new))
 absorbed-answered text t purpose a new got is k = rw is (if-absorbed-fed purpose (absorbed.absorbs a t a.stage) got new k)
+
+pub list-answered : (text : OpenText) (t : Seen) (place : Place) (a new : Absorbing) (got : Result (Fed (Unit {0})) AllocError) → text ≡ texts.List place a → IfOk got (λ fed. IsAbsorbed (absorbed.absorbs a t a.stage) fed new) → IfOk got (λ fed. IsTextFed (with_token text t) fed (texts.List place new))
+list-answered text t place a new got is k = rw is (if-list-fed place (absorbed.absorbs a t a.stage) got new k)

@@ -123,6 +123,7 @@ family_command (primitive.Arithmetic operation) rest = assigning (assign.Arithme
 family_command (primitive.Numbered kind) rest = assigning (assign.Variable (Numbered kind)) rest
 family_command (primitive.Integer parameter) rest = assigning (assign.Variable (Standing (place.Integer parameter))) rest
 family_command (primitive.Dimension parameter) rest = assigning (assign.Variable (Standing (place.Dimension parameter))) rest
+family_command (primitive.Tokens parameter) rest = assigning (assign.Variable (Standing (place.Tokens parameter))) rest
 family_command (primitive.Sized kind) rest = sizing kind rest
 family_command (primitive.Rule kind) rest = ruling kind rest
 family_command (primitive.Box kind) rest = box_begin kind Append rest
@@ -147,6 +148,7 @@ command_meant (meaning.CharacterNumber code) rest = Done (Character code) rest
 command_meant (meaning.MathNumber number) rest = Wrong NotAllowed
 command_meant (meaning.CountRegister number) rest = assigning (assign.Variable (Standing (place.Count number))) rest
 command_meant (meaning.DimenRegister number) rest = assigning (assign.Variable (Standing (place.Dimen number))) rest
+command_meant (meaning.ToksRegister number) rest = assigning (assign.Variable (Standing (place.Toks number))) rest
 
 -- a command that nothing stands before
 abbrev pub fresh_command : Mode → List Item → Reading Command
@@ -172,6 +174,7 @@ is_prefixable prefixes (primitive.Arithmetic operation) = not (want_definition p
 is_prefixable prefixes (primitive.Numbered kind) = not (want_definition prefixes)
 is_prefixable prefixes (primitive.Integer parameter) = not (want_definition prefixes)
 is_prefixable prefixes (primitive.Dimension parameter) = not (want_definition prefixes)
+is_prefixable prefixes (primitive.Tokens parameter) = not (want_definition prefixes)
 is_prefixable prefixes (primitive.Sized kind) = false
 is_prefixable prefixes (primitive.Rule kind) = false
 is_prefixable prefixes (primitive.Box kind) = false
@@ -193,6 +196,7 @@ may_be_prefixed prefixes (meaning.CharacterNumber code) = false
 may_be_prefixed prefixes (meaning.MathNumber number) = false
 may_be_prefixed prefixes (meaning.CountRegister number) = not (want_definition prefixes)
 may_be_prefixed prefixes (meaning.DimenRegister number) = not (want_definition prefixes)
+may_be_prefixed prefixes (meaning.ToksRegister number) = not (want_definition prefixes)
 may_be_prefixed prefixes (meaning.Expandable e) = true
 may_be_prefixed prefixes (meaning.Macro m) = true
 may_be_prefixed prefixes meaning.Held = false

@@ -24,15 +24,20 @@ use Rattle.tx_prim.specs.declared.family.Prefix.{Prefix as APrefix}
 use Rattle.tx_prim.specs.declared.family.Prefix.TheVariants.{Global, Long, Outer}
 use Rattle.tx_prim.specs.declared.family.RuleKind.TheVariants as rules
 use Rattle.tx_prim.specs.declared.family.SizeKind.TheVariants.{Kern}
+use Rattle.tx_prim.specs.declared.tokens.TokenParameter.{TokenParameter}
+use Rattle.tx_prim.specs.declared.tokens.TokenParameter.TheVariants.{Everyhbox}
+use Rattle.tx_eqtb.specs.Table.{tokens_at}
 use Rattle.tx_prim.specs.declared.modes.Mode.{Mode}
 use Rattle.tx_prim.specs.declared.modes.Mode.TheVariants as mode
 use Rattle.tx_seen.specs.declared.error.TexError.{TexError}
 use Rattle.tx_seen.specs.declared.error.TexError.TheVariants.{SizeOutOfRange, TooDeep, ExtraGroupEnd, TooManyGroups, ErrorMessage}
 use Rattle.tx_seen.specs.declared.meaning.Meaning.TheVariants.{Macro, Command as Command_meaning}
 use Rattle.tx_seen.specs.declared.place.Place.{Place}
-use Rattle.tx_seen.specs.declared.place.Place.TheVariants.{Name}
-use Rattle.tx_assign.specs.declared.types.Change.TheVariants.{Set}
-use Rattle.tx_assign.specs.Changes.{carried_out, relaxed}
+use Rattle.tx_seen.specs.declared.place.Place.TheVariants.{Name, Tokens}
+use Rattle.tx_assign.specs.declared.types.Assignment.{Assignment}
+use Rattle.tx_assign.specs.declared.types.Change.{Change}
+use Rattle.tx_assign.specs.declared.types.Change.TheVariants.{Set, Compute, Copy, Text}
+use Rattle.tx_assign.specs.Changes.{carried_out, relaxed, with_text}
 use Rattle.tx_text.specs.Definitions.{Defining as Defined_text}
 use Rattle.tx_toklist.specs.Macros.{Definition}
 use Rattle.tx_toklist.specs.Text.{printed}
@@ -49,7 +54,7 @@ use Rattle.tx_main.specs.declared.parts.OpenBox.{OpenBox}
 use Rattle.tx_main.specs.declared.parts.OpenText.{OpenText}
 use Rattle.tx_main.specs.declared.parts.OpenText.TheVariants as texts
 use Rattle.tx_main.specs.State.{TexState}
-use Rattle.tx_main.specs.Texts.{absorbed_text, code_for, definition_text, is_global, token_for}
+use Rattle.tx_main.specs.Texts.{absorbed_text, code_for, definition_text, is_global, list_text, token_for}
 use Rattle.tx_main.specs.Outcomes.{Outcome, Leaves, Fails, Ends, leaves}
 
 -- the prefixes that stand before a command
@@ -85,6 +90,17 @@ assigned s = with_after (record s { head = Fresh; taken = [] }) s.after_assignme
 abbrev pub assigning : TexState → Result Eqtb TexError → Outcome
 assigning s (Err e) = Fails e
 assigning s (Ok table) = leaves (assigned (record s { table = table }))
+
+-- the list of tokens that is to stand at a place is taken first
+abbrev pub in_list : TexState → Place → TexState
+in_list s place = record s { text = Some (list_text place) }
+
+-- an assignment, by its change
+abbrev pub assigning_now : TexState → Assignment → Change → Outcome
+assigning_now s a Text = leaves (in_list s a.place)
+assigning_now s a (Set entry) = assigning s (carried_out s.table a (prefixes_of s.head).global)
+assigning_now s a (Compute operation n) = assigning s (carried_out s.table a (prefixes_of s.head).global)
+assigning_now s a (Copy other) = assigning s (carried_out s.table a (prefixes_of s.head).global)
 
 -- one more node in a list
 abbrev pub adding : TexState → Item → Outcome
@@ -161,6 +177,10 @@ abbrev pub defining : TexState → Place → DefinitionKind → Defined_text →
 defining s defined kind d =
     assigning s (carried_out s.table (record { place = defined; change = Set (Means (Macro (macro_of (prefixes_of s.head) d))) }) ((prefixes_of s.head).global || is_global kind))
 
+-- a list of tokens that is whole stands at its place
+abbrev pub listing : TexState → Place → List Token → Outcome
+listing s place tokens = assigning s (carried_out s.table (with_text place tokens) (prefixes_of s.head).global)
+
 -- the line of a message
 unfoldable pub message : List ℕ → List ℕ
 message text = codes "message " ++ (text ++ 10 ∷ [])
@@ -184,6 +204,7 @@ abbrev pub ending_text : TexState → Option OpenText → Outcome
 ending_text s None = leaves s
 ending_text s (Some (texts.Definition defined kind d)) = defining (record s { text = None }) defined kind d
 ending_text s (Some (texts.Absorbed purpose a)) = using_text (record s { text = None }) purpose a.tokens
+ending_text s (Some (texts.List place a)) = listing (record s { text = None }) place a.tokens
 
 -- the name that \csname has made means \relax from now on, in the innermost group (section 372)
 abbrev pub relaxing : TexState → List ℕ → TexState
@@ -219,9 +240,19 @@ mode_in box.Horizontal = mode.RestrictedHorizontal
 abbrev pub begun_box : BoxContext → TexState → OpenBox
 begun_box context s = record { context = context; list = s.list; mode = s.mode }
 
+-- the tokens with which its list begins (section 1083)
+abbrev pub every_in : BoxKind → TokenParameter
+every_in box.Horizontal = Everyhbox
+
 -- the state in which its list begins
 abbrev pub in_box : BoxKind → BoxContext → TexState → TexState
-in_box kind context s = record s { boxes = begun_box context s ∷ s.boxes; list = []; mode = mode_in kind }
+in_box kind context s =
+    record s {
+      boxes = begun_box context s ∷ s.boxes;
+      list = [];
+      mode = mode_in kind;
+      reader = put (tokens_at s.table.table (Tokens (every_in kind))) s.reader;
+    }
 
 -- the effect of each command
 abbrev pub effect : TexState → Command → Outcome
@@ -234,7 +265,7 @@ effect s BeginSemiSimple = opening s kind.SemiSimple s
 effect s EndSemiSimple = ending_semi_simple s (kind_of s.table)
 effect s (Prefix prefix) = prefixing s prefix
 effect s (Define defined kind) = naming s (Defining (prefixes_of s.head) defined kind) (carried_out s.table (relaxed defined) (prefixes_of s.head).global)
-effect s (Assign a) = assigning s (carried_out s.table a (prefixes_of s.head).global)
+effect s (Assign a) = assigning_now s a a.change
 effect s (Sized Kern size) = adding s (kern size)
 effect s (Rule rules.Vertical r) = adding s (rule r)
 effect s (BeginBox kind context) = opening s (group_of kind) (in_box kind context s)

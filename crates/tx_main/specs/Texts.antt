@@ -57,15 +57,20 @@ definition_text defined kind = texts.Definition defined kind (definition.no_defi
 abbrev pub absorbed_text : TextUse → OpenText
 absorbed_text purpose = texts.Absorbed purpose (absorbed.no_text (expands_text purpose))
 
+abbrev pub list_text : Place → OpenText
+list_text place = texts.List place absorbed.begun_text
+
 -- what is taken next
 abbrev pub text_wanted : OpenText → Wanted
 text_wanted (texts.Definition defined kind d) = record { want = definition.wanted d d.stage; text = true; takes_the = definition.takes_the d d.stage }
 text_wanted (texts.Absorbed purpose a) = record { want = absorbed.text_wanted a a.stage; text = true; takes_the = absorbed.text_takes_the a a.stage }
+text_wanted (texts.List place a) = record { want = absorbed.text_wanted a a.stage; text = true; takes_the = absorbed.text_takes_the a a.stage }
 
 -- with tokens that \the gives
 abbrev pub with_given : OpenText → List Token → OpenText
 with_given (texts.Definition defined kind d) tokens = texts.Definition defined kind (definition.puts d tokens)
 with_given (texts.Absorbed purpose a) tokens = texts.Absorbed purpose (absorbed.with_given a tokens)
+with_given (texts.List place a) tokens = texts.List place (absorbed.with_given a tokens)
 
 -- with one more token
 abbrev pub defining_on : Place → DefinitionKind → Result Defining TexError → Result OpenText TexError
@@ -76,9 +81,14 @@ abbrev pub absorbing_on : TextUse → Result Absorbing TexError → Result OpenT
 absorbing_on purpose (Err error) = Err error
 absorbing_on purpose (Ok a) = Ok (texts.Absorbed purpose a)
 
+abbrev pub listing_on : Place → Result Absorbing TexError → Result OpenText TexError
+listing_on place (Err error) = Err error
+listing_on place (Ok a) = Ok (texts.List place a)
+
 abbrev pub with_token : OpenText → Seen → Result OpenText TexError
 with_token (texts.Definition defined kind d) t = defining_on defined kind (definition.takes d t d.stage)
 with_token (texts.Absorbed purpose a) t = absorbing_on purpose (absorbed.absorbs a t a.stage)
+with_token (texts.List place a) t = listing_on place (absorbed.absorbs a t a.stage)
 
 -- whether it is whole
 abbrev pub is_whole_at : Stage → Bool
@@ -92,6 +102,7 @@ has_ended_at _ = false
 abbrev pub is_whole : OpenText → Bool
 is_whole (texts.Definition defined kind d) = is_whole_at d.stage
 is_whole (texts.Absorbed purpose a) = has_ended_at a.stage
+is_whole (texts.List place a) = has_ended_at a.stage
 
 -- what a text answers that is this now
 abbrev pub text_answer : OpenText → Fed (Unit {0})

@@ -17,7 +17,7 @@ use crate::types::{BoxContext, Command, Head, Prefixes};
 use itoa::Buffer;
 use std::alloc::{AllocError, Global};
 use std::mem;
-use tx_assign::{Assignment, Carried, Change, relaxed};
+use tx_assign::{Assignment, Carried, Change, relaxed, with_text};
 use tx_bytes::Bytes;
 use tx_char::{ControlName, Token};
 use tx_eqtb::{Entry, GroupKind, OpenError};
@@ -28,7 +28,7 @@ use tx_node::{BoxNode, Node, Nodes, PackError, Rule, hbox};
 use tx_pending::Pending;
 use tx_prim::{
     AfterKind, BoxKind, DefinitionKind, Interaction, Mode, Prefix, Primitive, RuleKind, Shorthand,
-    SizeKind, TextUse,
+    SizeKind, TextUse, TokenParameter,
 };
 use tx_seen::{Meaning, Place, TexError};
 use tx_text::{DefinitionScan, TextScan};
@@ -93,6 +93,15 @@ fn mode_in(kind: BoxKind) -> Mode
     }
 }
 
+/// The list of tokens with which a box's list begins.
+fn every_in(kind: BoxKind) -> TokenParameter
+    ensures { result ≡ effects.every_in kind }
+{
+    match kind {
+        BoxKind::Horizontal => TokenParameter::Everyhbox,
+    }
+}
+
 /// Begins a box.
 fn open_box(
     alloc: Global,
@@ -125,6 +134,8 @@ fn enter_box(
     ensures phase { OnOk result (s.new.phase ≡ s.old.phase) }
     ensures said { OnOk result (s.new.said ≡ s.old.said) }
 {
+    let every = s.table.tokens(&Place::Tokens(every_in(kind)))?;
+    s.input.push_list(every, false)?;
     let list = mem::replace(&mut s.list, Nodes::new(alloc));
     let mode = s.scan.mode();
     s.boxes.push(OpenBox {
@@ -350,14 +361,27 @@ fn assign_so(s: &mut State, assignment: Assignment, global: bool) -> Result<Even
     }
 }
 
-/// An assignment.
-fn assign(s: &mut State, assignment: Assignment) -> Result<Event, AllocError>
+/// An assignment, or the begin of its text.
+fn assign(alloc: Global, s: &mut State, assignment: Assignment) -> Result<Event, AllocError>
     requires running { s.old.phase ≡ Phase.Running }
     requires between { s.old.scan.taken ≡ [] }
     ensures { IfOk result (λ event. IsStepped (effects.effect (state_of s.old) (Command.Assign assignment)) s.old event s.new) }
 {
     let global = s.scan.prefixes().global;
-    assign_so(s, assignment, global)
+    let Assignment { place, change } = assignment;
+    match change {
+        Change::Text => Ok(begin_list(alloc, s, place)),
+        change => assign_so(s, Assignment { place, change }, global),
+    }
+}
+
+/// The list of tokens that is to stand at this place begins.
+fn begin_list(alloc: Global, s: &mut State, place: Place) -> Event
+    requires { s.old.phase ≡ Phase.Running }
+    ensures { IsStepped (leaves (effects.in_list (state_of s.old) place)) s.old result s.new }
+{
+    s.text = Some(OpenText::list(alloc, place));
+    Event::Went
 }
 
 /// \futurelet and the name that it defines.
@@ -424,6 +448,15 @@ fn end_definition(
         change: Change::Set(Entry::Means(Meaning::Macro(made))),
     };
     assign_so(s, assignment, prefixes.global || is_global(kind))
+}
+
+/// The list of tokens that is whole stands at this place. Its only further error is want of memory.
+fn end_list(alloc: Global, s: &mut State, place: Place, scan: TextScan) -> Result<Event, AllocError>
+    requires { s.old.phase ≡ Phase.Running }
+    ensures { IfOk result (λ event. IsStepped (effects.listing (state_of s.old) place scan.tokens) s.old event s.new) }
+{
+    let global = s.scan.prefixes().global;
+    assign_so(s, with_text(alloc, place, scan.into_tokens())?, global)
 }
 
 /// Puts the line of a message into the transcript. Its only error is want of memory.
@@ -497,6 +530,7 @@ pub fn end_text(alloc: Global, s: &mut State) -> Result<Event, AllocError>
             end_definition(alloc, s, defined, kind, scan)
         }
         Some(OpenText::Absorbed(purpose, scan)) => use_text(alloc, s, purpose, scan),
+        Some(OpenText::List(place, scan)) => end_list(alloc, s, place, scan),
     }
 }
 
@@ -587,7 +621,7 @@ pub fn carry_out(alloc: Global, s: &mut State, command: Command) -> Result<Event
         Command::EndSemiSimple => end_semi_simple(s),
         Command::Prefix(found) => Ok(prefix(s, found)),
         Command::Define(defined, kind) => define(s, defined, kind),
-        Command::Assign(assignment) => assign(s, assignment),
+        Command::Assign(assignment) => assign(alloc, s, assignment),
         Command::Sized(kind, size) => use_size(s, kind, size),
         Command::Rule(kind, rule) => use_rule(s, kind, rule),
         Command::BeginBox(kind, context) => open_box(alloc, s, kind, context),

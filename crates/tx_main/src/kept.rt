@@ -51,6 +51,7 @@ impl Kept for OpenText {
                 scan.share()?,
             )),
             OpenText::Absorbed(purpose, scan) => Ok(OpenText::Absorbed(*purpose, scan.share()?)),
+            OpenText::List(place, scan) => Ok(OpenText::List(place.clone()?, scan.share()?)),
         }
     }
 
@@ -61,6 +62,9 @@ impl Kept for OpenText {
             }
             (OpenText::Absorbed(purpose, one), OpenText::Absorbed(like, other)) => {
                 purpose == like && one.same(other)
+            }
+            (OpenText::List(place, one), OpenText::List(also, other)) => {
+                place.same(also) && one.same(other)
             }
             _ => false,
         }

@@ -41,6 +41,8 @@ pub enum OpenText {
     Definition(Place, DefinitionKind, DefinitionScan),
     /// A text in braces.
     Absorbed(TextUse, TextScan),
+    /// The list of tokens that is to stand at this place.
+    List(Place, TextScan),
 }
 
 /// A token that \aftergroup keeps.

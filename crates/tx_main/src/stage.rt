@@ -193,6 +193,7 @@ impl Scans {
             Meaning::MathNumber(_) => Fed::Wrong(TexError::NotAllowed),
             Meaning::CountRegister(number) => self.begin_place(Place::Count(*number)),
             Meaning::DimenRegister(number) => self.begin_place(Place::Dimen(*number)),
+            Meaning::ToksRegister(number) => self.begin_place(Place::Toks(*number)),
         }
     }
 
@@ -214,6 +215,7 @@ impl Scans {
             Primitive::Numbered(kind) => self.begin_variable(Variable::Numbered(kind)),
             Primitive::Integer(parameter) => self.begin_place(Place::Integer(parameter)),
             Primitive::Dimension(parameter) => self.begin_place(Place::Dimension(parameter)),
+            Primitive::Tokens(parameter) => self.begin_place(Place::Tokens(parameter)),
             Primitive::Sized(kind) => {
                 self.size.restart();
                 self.on(Stage::Sized(kind), Want::Expanded)

@@ -33,6 +33,7 @@ fn modes_of_meaning(meaning: &Meaning) -> Modes
 {
     match meaning {
         Meaning::Undefined | Meaning::CountRegister(_) | Meaning::DimenRegister(_) => Modes::All,
+        Meaning::ToksRegister(_) => Modes::All,
         Meaning::Command(primitive) => primitive.modes(),
         Meaning::Character(_, category) => modes_of_category(*category),
         Meaning::CharacterNumber(_) => Modes::NotVertical,
@@ -59,6 +60,7 @@ fn adds_to_list(primitive: Primitive) -> bool
         | Primitive::Numbered(_)
         | Primitive::Integer(_)
         | Primitive::Dimension(_)
+        | Primitive::Tokens(_)
         | Primitive::Shipout
         | Primitive::End
         | Primitive::IgnoreSpaces
@@ -117,6 +119,7 @@ fn is_prefixable(prefixes: Prefixes, primitive: Primitive) -> bool
         | Primitive::Numbered(_)
         | Primitive::Integer(_)
         | Primitive::Dimension(_)
+        | Primitive::Tokens(_)
         | Primitive::Interaction(_) => !want_definition(prefixes),
         Primitive::Relax
         | Primitive::EndCsName
@@ -142,6 +145,7 @@ pub fn may_be_prefixed(prefixes: Prefixes, meaning: &Meaning) -> bool
     match meaning {
         Meaning::Undefined => true,
         Meaning::CountRegister(_) | Meaning::DimenRegister(_) => !want_definition(prefixes),
+        Meaning::ToksRegister(_) => !want_definition(prefixes),
         Meaning::Command(primitive) => is_prefixable(prefixes, *primitive),
         Meaning::Character(_, _) | Meaning::CharacterNumber(_) | Meaning::MathNumber(_) => false,
         Meaning::Expandable(_) | Meaning::Macro(_) => true,

@@ -1,4 +1,4 @@
-//! Texts that are being taken: definitions, and what \message and its kin absorb (TeX: The Program, sections 473 to 482).
+//! Texts that are being taken: definitions, lists of tokens, and what \message and its kin absorb (TeX: The Program, sections 473 to 482).
 ghost use Rattle.std.specs.Prelude.{◌≡◌, IfOk, OnOk};
 ghost use Rattle.tx_main.specs.Texts as spec;
 ghost use Rattle.tx_main.specs.Texts.{IsTextFed};
@@ -60,6 +60,13 @@ impl OpenText {
         OpenText::Absorbed(purpose, TextScan::new(alloc, expands_text(purpose)))
     }
 
+    /// The list of tokens that is to stand at this place; its begin-group token is taken. Takes no memory.
+    pub fn list(alloc: Global, place: Place) -> OpenText
+        ensures { result ≡ spec.list_text place }
+    {
+        OpenText::List(place, TextScan::begun(alloc))
+    }
+
     /// What is taken next.
     pub fn wanted(&self) -> Wanted
         ensures { result ≡ spec.text_wanted self.now }
@@ -75,6 +82,11 @@ impl OpenText {
                 text: true,
                 takes_the: scan.takes_the(),
             },
+            OpenText::List(_, scan) => Wanted {
+                want: scan.want(),
+                text: true,
+                takes_the: scan.takes_the(),
+            },
         }
     }
 
@@ -85,6 +97,7 @@ impl OpenText {
         match self {
             OpenText::Definition(_, _, scan) => scan.feed(alloc, seen),
             OpenText::Absorbed(_, scan) => scan.feed(seen),
+            OpenText::List(_, scan) => scan.feed(seen),
         }
     }
 
@@ -95,6 +108,7 @@ impl OpenText {
         match self {
             OpenText::Definition(_, _, scan) => scan.put(tokens),
             OpenText::Absorbed(_, scan) => scan.put(tokens),
+            OpenText::List(_, scan) => scan.put(tokens),
         }
     }
 }

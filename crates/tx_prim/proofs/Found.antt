@@ -1,13 +1,13 @@
 -- Each primitive is the first of all that has its name.
 use Rattle.std.proofs.Common.{◌≡◌, ℕ, List, [], ◌∷◌, Some, IfSome, cond, true, false, refl}
 use Rattle.tx_prim.specs.declared.primitive.Primitive.{Primitive}
-use Rattle.tx_prim.specs.declared.primitive.Primitive.TheVariants.{Relax, EndCsName, Par, BeginGroup, EndGroup, Prefix, Let, Shorthand, Arithmetic, Numbered, Integer, Dimension, Sized, Rule, Box, Shipout, End, IgnoreSpaces, Interaction, Definition, Text, After, FutureLet}
+use Rattle.tx_prim.specs.declared.primitive.Primitive.TheVariants.{Relax, EndCsName, Par, BeginGroup, EndGroup, Prefix, Let, Shorthand, Arithmetic, Numbered, Integer, Dimension, Tokens, Sized, Rule, Box, Shipout, End, IgnoreSpaces, Interaction, Definition, Text, After, FutureLet}
 use Rattle.tx_prim.specs.declared.family.Prefix.TheVariants.{Global, Long, Outer}
 use Rattle.tx_prim.specs.declared.family.Interaction.TheVariants.{Batch, Nonstop, Scroll, Errorstop}
 use Rattle.tx_prim.specs.declared.family.Operation.TheVariants.{Advance, Multiply, Divide}
-use Rattle.tx_prim.specs.declared.family.Shorthand.TheVariants.{CountRegister, DimenRegister, Character, MathCharacter}
+use Rattle.tx_prim.specs.declared.family.Shorthand.TheVariants.{CountRegister, DimenRegister, ToksRegister, Character, MathCharacter}
 use Rattle.tx_prim.specs.declared.family.CharacterCode.TheVariants.{LowerCase, UpperCase, SpaceFactor, Math, Delimiter}
-use Rattle.tx_prim.specs.declared.family.Numbered.TheVariants.{Count, Dimen, Category, Code}
+use Rattle.tx_prim.specs.declared.family.Numbered.TheVariants.{Count, Dimen, Toks, Category, Code}
 use Rattle.tx_prim.specs.declared.family.SizeKind.TheVariants.{Kern}
 use Rattle.tx_prim.specs.declared.family.RuleKind.TheVariants.{Vertical}
 use Rattle.tx_prim.specs.declared.family.BoxKind.TheVariants.{Horizontal}
@@ -18,14 +18,17 @@ use Rattle.tx_prim.specs.declared.integer.IntegerParameter.{IntegerParameter}
 use Rattle.tx_prim.specs.declared.integer.IntegerParameter.TheVariants.{Pretolerance, Tolerance, Hbadness, Vbadness, Linepenalty, Hyphenpenalty, Exhyphenpenalty, Binoppenalty, Relpenalty, Clubpenalty, Widowpenalty, Displaywidowpenalty, Brokenpenalty, Predisplaypenalty, Postdisplaypenalty, Interlinepenalty, Floatingpenalty, Outputpenalty, Doublehyphendemerits, Finalhyphendemerits, Adjdemerits, Looseness, Pausing, Holdinginserts, Tracingonline, Tracingmacros, Tracingstats, Tracingparagraphs, Tracingpages, Tracingoutput, Tracinglostchars, Tracingcommands, Tracingrestores, Language, Uchyph, Lefthyphenmin, Righthyphenmin, Globaldefs, Defaulthyphenchar, Defaultskewchar, Escapechar, Endlinechar, Newlinechar, Maxdeadcycles, Hangafter, Fam, Mag, Delimiterfactor, Time, Day, Month, Year, Showboxbreadth, Showboxdepth, Errorcontextlines}
 use Rattle.tx_prim.specs.declared.dimension.DimensionParameter.{DimensionParameter}
 use Rattle.tx_prim.specs.declared.dimension.DimensionParameter.TheVariants.{Hfuzz, Vfuzz, Overfullrule, Emergencystretch, Hsize, Vsize, Maxdepth, Splitmaxdepth, Boxmaxdepth, Lineskiplimit, Delimitershortfall, Nulldelimiterspace, Scriptspace, Mathsurround, Predisplaysize, Displaywidth, Displayindent, Parindent, Hangindent, Hoffset, Voffset}
+use Rattle.tx_prim.specs.declared.tokens.TokenParameter.{TokenParameter}
+use Rattle.tx_prim.specs.declared.tokens.TokenParameter.TheVariants.{Output, Everypar, Everymath, Everydisplay, Everyhbox, Everyvbox, Everyjob, Everycr, Errhelp}
 use Rattle.tx_prim.specs.Integers.{integer_name}
 use Rattle.tx_prim.specs.Dimensions.{dimension_name}
+use Rattle.tx_prim.specs.Tokens.{token_name}
 use Rattle.std.specs.Str.{bytes_eq}
 use Rattle.std.specs.Cmp.Lexicographic.{bytes_decides}
 use Rattle.tx_prim.specs.Table.{all, line_of, name_of, named}
 
 integer-found : (p : IntegerParameter) → named all (name_of (Integer p)) ≡ Some (Integer p)
-unfolding all line_of integer_name dimension_name
+unfolding all line_of integer_name dimension_name token_name
 integer-found Pretolerance = refl
 integer-found Tolerance = refl
 integer-found Hbadness = refl
@@ -83,7 +86,7 @@ integer-found Showboxdepth = refl
 integer-found Errorcontextlines = refl
 
 dimension-found : (p : DimensionParameter) → named all (name_of (Dimension p)) ≡ Some (Dimension p)
-unfolding all line_of integer_name dimension_name
+unfolding all line_of integer_name dimension_name token_name
 dimension-found Hfuzz = refl
 dimension-found Vfuzz = refl
 dimension-found Overfullrule = refl
@@ -106,8 +109,20 @@ dimension-found Hangindent = refl
 dimension-found Hoffset = refl
 dimension-found Voffset = refl
 
+token-found : (p : TokenParameter) → named all (name_of (Tokens p)) ≡ Some (Tokens p)
+unfolding all line_of integer_name dimension_name token_name
+token-found Output = refl
+token-found Everypar = refl
+token-found Everymath = refl
+token-found Everydisplay = refl
+token-found Everyhbox = refl
+token-found Everyvbox = refl
+token-found Everyjob = refl
+token-found Everycr = refl
+token-found Errhelp = refl
+
 pub found : (p : Primitive) → named all (name_of p) ≡ Some p
-unfolding all line_of integer_name dimension_name
+unfolding all line_of integer_name dimension_name token_name
 found Relax = refl
 found EndCsName = refl
 found BeginGroup = refl
@@ -119,8 +134,10 @@ found (Arithmetic Multiply) = refl
 found (Arithmetic Divide) = refl
 found (Numbered Count) = refl
 found (Numbered Dimen) = refl
+found (Numbered Toks) = refl
 found (Shorthand CountRegister) = refl
 found (Shorthand DimenRegister) = refl
+found (Shorthand ToksRegister) = refl
 found (Shorthand Character) = refl
 found (Shorthand MathCharacter) = refl
 found (Numbered Category) = refl
@@ -155,6 +172,7 @@ found (After after.Assignment) = refl
 found FutureLet = refl
 found (Integer p) = integer-found p
 found (Dimension p) = dimension-found p
+found (Tokens p) = token-found p
 
 -- what is found has the name
 pub has-name : (primitives : List Primitive) (name : List ℕ) → IfSome (named primitives name) (λ p. name_of p ≡ name)

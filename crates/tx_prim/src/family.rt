@@ -32,9 +32,10 @@ pub enum Operation {
 /// What a name is made to mean by a number (TeX: The Program, section 1222).
 #[derive(Clone, Copy, PartialEq, Eq)]
 pub enum Shorthand {
-    /// \countdef and \dimendef: a register.
+    /// \countdef, \dimendef and \toksdef: a register.
     CountRegister,
     DimenRegister,
+    ToksRegister,
     /// \chardef: a character.
     Character,
     /// \mathchardef: a character of mathematics.
@@ -63,6 +64,8 @@ pub enum Numbered {
     Count,
     /// The registers of \dimen.
     Dimen,
+    /// The registers of \toks.
+    Toks,
     /// \catcode of a character.
     Category,
     /// Another code of a character.

@@ -4,7 +4,7 @@
 //! Proved: each primitive's name and modes are those of one table, and the name leads back to it. Only tested: that the
 //! table is Knuth's, against `tex -ini`.
 //!
-//! Read `modes`, `family`, `integer` and `dimension`, then `primitive`, and `expandable`, those that are expanded.
+//! Read `modes`, `family`, `integer`, `dimension` and `tokens`, then `primitive`, and `expandable`, those that are expanded.
 #![tactic(auto)]
 
 mod dimension;
@@ -13,6 +13,7 @@ mod family;
 mod integer;
 mod modes;
 mod primitive;
+mod tokens;
 
 pub use dimension::DimensionParameter;
 pub use expandable::{CondWord, Conversion, Expandable, Test};
@@ -23,3 +24,4 @@ pub use family::{
 pub use integer::{IntegerParameter, Moment};
 pub use modes::{Mode, ModeTest, Modes, Standing};
 pub use primitive::Primitive;
+pub use tokens::TokenParameter;

@@ -10,6 +10,7 @@ use crate::family::{
 };
 use crate::integer::IntegerParameter;
 use crate::modes::Modes;
+use crate::tokens::TokenParameter;
 
 /// A primitive of TeX: a command that isn't defined by others, and with which INITEX begins (The TeXbook, chapters 24 to
 /// 26). The primitives of one family are one variant.
@@ -37,6 +38,7 @@ pub enum Primitive {
     /// A parameter.
     Integer(IntegerParameter),
     Dimension(DimensionParameter),
+    Tokens(TokenParameter),
     /// What takes a dimension, as \kern.
     Sized(SizeKind),
     /// A rule, as \vrule.
@@ -62,7 +64,7 @@ pub enum Primitive {
 }
 
 /// All primitives, in the order of their table.
-const ALL: [Primitive; 121] = [
+const ALL: [Primitive; 132] = [
     Primitive::Relax,
     Primitive::EndCsName,
     Primitive::BeginGroup,
@@ -74,8 +76,10 @@ const ALL: [Primitive; 121] = [
     Primitive::Arithmetic(Operation::Divide),
     Primitive::Numbered(Numbered::Count),
     Primitive::Numbered(Numbered::Dimen),
+    Primitive::Numbered(Numbered::Toks),
     Primitive::Shorthand(Shorthand::CountRegister),
     Primitive::Shorthand(Shorthand::DimenRegister),
+    Primitive::Shorthand(Shorthand::ToksRegister),
     Primitive::Shorthand(Shorthand::Character),
     Primitive::Shorthand(Shorthand::MathCharacter),
     Primitive::Numbered(Numbered::Category),
@@ -184,6 +188,15 @@ const ALL: [Primitive; 121] = [
     Primitive::Dimension(DimensionParameter::Hangindent),
     Primitive::Dimension(DimensionParameter::Hoffset),
     Primitive::Dimension(DimensionParameter::Voffset),
+    Primitive::Tokens(TokenParameter::Output),
+    Primitive::Tokens(TokenParameter::Everypar),
+    Primitive::Tokens(TokenParameter::Everymath),
+    Primitive::Tokens(TokenParameter::Everydisplay),
+    Primitive::Tokens(TokenParameter::Everyhbox),
+    Primitive::Tokens(TokenParameter::Everyvbox),
+    Primitive::Tokens(TokenParameter::Everyjob),
+    Primitive::Tokens(TokenParameter::Everycr),
+    Primitive::Tokens(TokenParameter::Errhelp),
 ];
 
 impl Primitive {
@@ -212,8 +225,10 @@ impl Primitive {
             Primitive::Arithmetic(Operation::Divide) => b"divide",
             Primitive::Numbered(Numbered::Count) => b"count",
             Primitive::Numbered(Numbered::Dimen) => b"dimen",
+            Primitive::Numbered(Numbered::Toks) => b"toks",
             Primitive::Shorthand(Shorthand::CountRegister) => b"countdef",
             Primitive::Shorthand(Shorthand::DimenRegister) => b"dimendef",
+            Primitive::Shorthand(Shorthand::ToksRegister) => b"toksdef",
             Primitive::Shorthand(Shorthand::Character) => b"chardef",
             Primitive::Shorthand(Shorthand::MathCharacter) => b"mathchardef",
             Primitive::Numbered(Numbered::Category) => b"catcode",
@@ -248,6 +263,7 @@ impl Primitive {
             Primitive::FutureLet => b"futurelet",
             Primitive::Integer(parameter) => parameter.name(),
             Primitive::Dimension(parameter) => parameter.name(),
+            Primitive::Tokens(parameter) => parameter.name(),
         }
     }
 
@@ -261,7 +277,7 @@ impl Primitive {
             Primitive::EndCsName => Modes::All,
             Primitive::Prefix(_) | Primitive::Let | Primitive::Shorthand(_) => Modes::All,
             Primitive::Arithmetic(_) | Primitive::Numbered(_) => Modes::All,
-            Primitive::Integer(_) | Primitive::Dimension(_) => Modes::All,
+            Primitive::Integer(_) | Primitive::Dimension(_) | Primitive::Tokens(_) => Modes::All,
             Primitive::IgnoreSpaces | Primitive::Interaction(_) => Modes::All,
             Primitive::Definition(_) | Primitive::Text(_) => Modes::All,
             Primitive::After(_) | Primitive::FutureLet => Modes::All,

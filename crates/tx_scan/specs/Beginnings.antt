@@ -4,6 +4,8 @@ use Rattle.tx_char.specs.Character.{character}
 use Rattle.tx_char.specs.declared.category.Cat.TheVariants.{Space, Letter, Other}
 use Rattle.tx_char.specs.declared.tokens.Token.{Token}
 use Rattle.tx_char.specs.declared.tokens.Token.TheVariants as token
+use Rattle.tx_prim.specs.declared.family.Numbered.{Numbered}
+use Rattle.tx_prim.specs.declared.family.Numbered.TheVariants.{Count, Dimen, Toks, Category, Code}
 use Rattle.tx_prim.specs.declared.primitive.Primitive.{Primitive}
 use Rattle.tx_prim.specs.declared.primitive.Primitive.TheVariants as primitive
 use Rattle.tx_seen.specs.declared.error.TexError.TheVariants.{MissingNumber, Undefined}
@@ -40,11 +42,20 @@ digit radix t = below (base radix) (figure t.token)
 abbrev pub no_number : Beginning
 no_number = begin.Nothing MissingNumber
 
+-- a number stands for what stands there, unless that is a list of tokens
+abbrev pub begun_by_number : Numbered → Beginning
+begun_by_number Count = begin.Numbered Count
+begun_by_number Dimen = begin.Numbered Dimen
+begun_by_number Toks = no_number
+begun_by_number Category = begin.Numbered Category
+begun_by_number (Code code) = begin.Numbered (Code code)
+
 -- a primitive stands for a parameter's value, or for what stands at the number behind it
 abbrev pub begun_by_command : Primitive → Beginning
 begun_by_command (primitive.Integer parameter) = begin.At (place.Integer parameter)
 begun_by_command (primitive.Dimension parameter) = begin.At (place.Dimension parameter)
-begun_by_command (primitive.Numbered kind) = begin.Numbered kind
+begun_by_command (primitive.Numbered kind) = begun_by_number kind
+begun_by_command (primitive.Tokens parameter) = no_number
 begun_by_command primitive.Relax = no_number
 begun_by_command primitive.EndCsName = no_number
 begun_by_command primitive.Par = no_number
@@ -77,6 +88,7 @@ begun_by_meaning (meaning.CharacterNumber n) = begin.Number n
 begun_by_meaning (meaning.MathNumber n) = begin.Number n
 begun_by_meaning (meaning.CountRegister n) = begin.At (place.Count n)
 begun_by_meaning (meaning.DimenRegister n) = begin.At (place.Dimen n)
+begun_by_meaning (meaning.ToksRegister n) = no_number
 begun_by_meaning (meaning.Expandable e) = no_number
 begun_by_meaning (meaning.Macro m) = no_number
 begun_by_meaning meaning.Held = no_number

@@ -5,7 +5,7 @@ ghost use Rattle.tx_scan.specs.Dimensions.{is_decimal};
 
 use crate::scans::{Beginning, Radix};
 use tx_char::{Cat, Token};
-use tx_prim::Primitive;
+use tx_prim::{Numbered, Primitive};
 use tx_seen::{Meaning, Place, Seen, TexError};
 
 impl Radix {
@@ -63,6 +63,17 @@ fn nothing() -> Beginning
     Beginning::Nothing(TexError::MissingNumber)
 }
 
+/// What a number of this kind begins: no number stands for a list of tokens.
+fn begun_by_number(kind: Numbered) -> Beginning
+    ensures { result ≡ spec.begun_by_number kind }
+{
+    match kind {
+        Numbered::Count | Numbered::Dimen => Beginning::Numbered(kind),
+        Numbered::Category | Numbered::Code(_) => Beginning::Numbered(kind),
+        Numbered::Toks => nothing(),
+    }
+}
+
 /// What a primitive begins.
 fn begun_by_command(command: Primitive) -> Beginning
     ensures { result ≡ spec.begun_by_command command }
@@ -70,7 +81,8 @@ fn begun_by_command(command: Primitive) -> Beginning
     match command {
         Primitive::Integer(parameter) => Beginning::At(Place::Integer(parameter)),
         Primitive::Dimension(parameter) => Beginning::At(Place::Dimension(parameter)),
-        Primitive::Numbered(kind) => Beginning::Numbered(kind),
+        Primitive::Numbered(kind) => begun_by_number(kind),
+        Primitive::Tokens(_) => nothing(),
         Primitive::Relax | Primitive::Par | Primitive::End => nothing(),
         Primitive::IgnoreSpaces | Primitive::Interaction(_) => nothing(),
         Primitive::Definition(_) | Primitive::Text(_) | Primitive::After(_) => nothing(),
@@ -98,6 +110,7 @@ fn begun_by_meaning(meaning: &Meaning) -> Beginning
         Meaning::MathNumber(number) => Beginning::Number(*number),
         Meaning::CountRegister(number) => Beginning::At(Place::Count(*number)),
         Meaning::DimenRegister(number) => Beginning::At(Place::Dimen(*number)),
+        Meaning::ToksRegister(_) => nothing(),
         Meaning::Expandable(_) | Meaning::Macro(_) | Meaning::Held => nothing(),
     }
 }

@@ -6,7 +6,7 @@
 //! Proved: each scan answers exactly what its grammar gives of all tokens and values that were taken; an integer's answers
 //! are final. Only tested: that the grammars are Knuth's, on numbers, keywords and names that his program reads alike.
 //!
-//! Read `scans` and `beginnings`, then `integer`, `dimension`, `keyword` and `grammars`; `spellings`, `control_name` and
+//! Read `scans`, `beginnings` and `lists`, then `integer`, `dimension`, `keyword` and `grammars`; `spellings`, `control_name` and
 //! `file_name`; and `supplying`, `giving_back` and `laws`.
 #![tactic(auto)]
 
@@ -21,6 +21,7 @@ mod grammars;
 mod integer;
 mod keyword;
 mod laws;
+mod lists;
 mod outers;
 mod scans;
 mod spellings;
@@ -31,6 +32,9 @@ pub use file_name::input_name;
 pub use giving_back::{give_back, token_of};
 pub use integer::byte;
 pub use laws::integers_are_read_from_the_left;
-pub use scans::{Beginning, BraceScan, DimenScan, EqualsScan, IntScan, KeyScan, NameScan};
+pub use lists::list_begun;
+pub use scans::{
+    Beginning, BraceScan, DimenScan, EqualsScan, IntScan, KeyScan, ListBegun, NameScan,
+};
 pub use spellings::{ControlNameScan, FileNameScan};
 pub use supplying::{Needs, supply};

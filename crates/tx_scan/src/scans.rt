@@ -48,6 +48,17 @@ pub enum Beginning {
     Nothing(TexError),
 }
 
+/// Which list of tokens a token stands for.
+#[derive(Drop)]
+pub enum ListBegun {
+    /// None.
+    Nothing,
+    /// What stands at this place.
+    At(Place),
+    /// A register, whose number follows.
+    Register,
+}
+
 /// The digits of a constant that are read, by the number for which they stand.
 #[derive(Clone, Copy)]
 pub struct Constant {

@@ -9,6 +9,7 @@ use Rattle.tx_seen.specs.declared.place.Place.TheVariants as place
 abbrev pub place_of : Numbered → ℕ → Place
 place_of number.Count n = place.Count n
 place_of number.Dimen n = place.Dimen n
+place_of number.Toks n = place.Toks n
 place_of number.Category n = place.Category n
 place_of (number.Code code) n = place.Code code n
 
@@ -17,3 +18,9 @@ abbrev pub is_size : Place → Bool
 is_size (place.Dimen n) = true
 is_size (place.Dimension parameter) = true
 is_size other = false
+
+-- whether a list of tokens stands there
+abbrev pub is_list : Place → Bool
+is_list (place.Toks n) = true
+is_list (place.Tokens parameter) = true
+is_list other = false

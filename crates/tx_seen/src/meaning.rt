@@ -24,6 +24,8 @@ pub enum Meaning {
     CountRegister(u8),
     /// A register of \dimen, by \dimendef.
     DimenRegister(u8),
+    /// A register of \toks, by \toksdef.
+    ToksRegister(u8),
     /// A primitive that is expanded.
     Expandable(Expandable),
     /// A macro, which any number of names share.
@@ -46,6 +48,7 @@ impl Clone for Meaning {
             Meaning::MathNumber(number) => Ok(Meaning::MathNumber(*number)),
             Meaning::CountRegister(number) => Ok(Meaning::CountRegister(*number)),
             Meaning::DimenRegister(number) => Ok(Meaning::DimenRegister(*number)),
+            Meaning::ToksRegister(number) => Ok(Meaning::ToksRegister(*number)),
             Meaning::Expandable(expandable) => Ok(Meaning::Expandable(*expandable)),
             Meaning::Macro(shared) => Ok(Meaning::Macro(shared.share()?)),
             Meaning::Held => Ok(Meaning::Held),
@@ -69,6 +72,7 @@ impl Kept for Meaning {
             (Meaning::MathNumber(one), Meaning::MathNumber(other)) => one == other,
             (Meaning::CountRegister(one), Meaning::CountRegister(other)) => one == other,
             (Meaning::DimenRegister(one), Meaning::DimenRegister(other)) => one == other,
+            (Meaning::ToksRegister(one), Meaning::ToksRegister(other)) => one == other,
             (Meaning::Expandable(one), Meaning::Expandable(other)) => one == other,
             (Meaning::Macro(one), Meaning::Macro(other)) => one.same(other),
             (Meaning::Held, Meaning::Held) => true,

@@ -24,6 +24,10 @@ pub record Absorbing : Type 0 where
 abbrev pub no_text : Bool → Absorbing
 no_text expanded = record { expanded = expanded; tokens = []; stage = Filler }
 
+-- the begin-group token of a text that isn't expanded is taken
+abbrev pub begun_text : Absorbing
+begun_text = record { expanded = false; tokens = []; stage = Inside 0 }
+
 -- spaces and \relax may stand before the begin-group token, which must be there; a name that means one is too (section 403)
 abbrev pub filler_takes : Absorbing → Seen → Result Absorbing TexError
 filler_takes a t =

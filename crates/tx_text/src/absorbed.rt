@@ -1,7 +1,7 @@
 //! A balanced text.
 ghost use Rattle.std.specs.Prelude.{◌≡◌, ◌↔◌, IfOk, IsTrue, OnOk};
 ghost use Rattle.tx_text.specs.Absorbed as spec;
-ghost use Rattle.tx_text.specs.Absorbed.{IsAbsorbed, no_text};
+ghost use Rattle.tx_text.specs.Absorbed.{IsAbsorbed, begun_text, no_text};
 
 use crate::signs::{begins_group, ends_group};
 use crate::stages::TextStage;
@@ -37,6 +37,17 @@ impl TextScan {
             expanded,
             tokens: Toks::new(alloc),
             stage: TextStage::Filler,
+        }
+    }
+
+    /// A text that isn't expanded, behind its begin-group token; takes no memory.
+    pub fn begun(alloc: Global) -> TextScan
+        ensures { result ≡ begun_text }
+    {
+        TextScan {
+            expanded: false,
+            tokens: Toks::new(alloc),
+            stage: TextStage::Inside(0),
         }
     }
 

@@ -17,4 +17,6 @@ returns c i = record {
   delimiters = c.in_ok-initial_codes-5.ensures i;
   integers = c.in_ok-initial_integers.ensures i;
   dimensions = c.in_ok-zeros-3.ensures i;
+  token_registers = c.in_ok-empty_lists.ensures i;
+  token_parameters = c.in_ok-empty_lists-2.ensures i;
 }

@@ -17,4 +17,5 @@ returns-in-Wrong c =
     (rw c.in-Wrong.is at c.in_ok-feed_text.ensures) c.fail.ensures
 
 pub unreachable-requires : goal.unreachable-requires
-unreachable-requires c = needs-none c.args.s.now.text c.args.seen c.in-Need.field-0 c.feed_text.new.text (rw c.in-Need.is at c.in_ok-feed_text.ensures)
+unreachable-requires c =
+    needs-none c.args.s.now.text c.args.seen c.in-Need.field-0 c.feed_text.new.text (rw c.in-Need.is at c.in_ok-feed_text.ensures)

@@ -11,3 +11,6 @@ returns-in-CountRegister c = rw c.in-CountRegister.is c.begin_place.ensures
 
 pub returns-in-DimenRegister : goal.returns-in-DimenRegister
 returns-in-DimenRegister c = rw c.in-DimenRegister.is c.begin_place-in-DimenRegister.ensures
+
+pub returns-in-ToksRegister : goal.returns-in-ToksRegister
+returns-in-ToksRegister c = rw c.in-ToksRegister.is c.begin_place-in-ToksRegister.ensures

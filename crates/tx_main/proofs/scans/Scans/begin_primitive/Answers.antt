@@ -19,6 +19,9 @@ returns-in-Integer c = rw c.in-Integer.is c.begin_place.ensures
 pub returns-in-Dimension : goal.returns-in-Dimension
 returns-in-Dimension c = rw c.in-Dimension.is c.begin_place-in-Dimension.ensures
 
+pub returns-in-Tokens : goal.returns-in-Tokens
+returns-in-Tokens c = rw c.in-Tokens.is c.begin_place-in-Tokens.ensures
+
 pub returns-in-Shorthand : goal.returns-in-Shorthand
 returns-in-Shorthand c = rw (c.in-Shorthand.is, c.on.ensures.answer) (name-begun c.in-Shorthand.kind c.on.new.self Raw refl (ap (λ scans. scans.stage) c.on.ensures.scans))
 

@@ -1,6 +1,6 @@
 use Rattle.std.proofs.Common.{rules}
 use Rattle.tx_assign.proofs.Steps.{value-by-size, value-by-integer}
-use Rattle.tx_assign.proofs.scan.AssignScan.feed_value.Goals as goal
+use Rattle.tx_assign.proofs.scan.AssignScan.feed_first.Goals as goal
 
 pub returns-then-takes_size-clause-answer : goal.returns-then-takes_size-clause-answer
 returns-then-takes_size-clause-answer c =

@@ -1,6 +1,6 @@
 use Rattle.std.proofs.Common.{◌∙◌, sym}
 use Rattle.tx_expand.proofs.PartSteps.{quantity-printed}
-use Rattle.tx_expand.proofs.part.Part.feed_quantity.Goals as goal
+use Rattle.tx_expand.proofs.part.Part.feed_number.Goals as goal
 
 pub returns-clause-fed : goal.returns-clause-fed
 returns-clause-fed c =
