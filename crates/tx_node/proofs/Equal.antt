@@ -1,11 +1,16 @@
 -- Items are equal only where what they are made of is.
-use Rattle.std.proofs.Common.{◌≡◌, ◌↔◌, ℕ, ◌<◌, List, [], ◌∷◌, length, get_or, refl, sym, ap, ◌∙◌, arith, IsTrue}
+use Rattle.std.proofs.Common.{◌≡◌, ◌↔◌, ℕ, ℤ, pos, ◌<◌, List, [], ◌∷◌, length, get_or, refl, sym, ap, ◌∙◌, arith, IsTrue}
 use Rattle.std.proofs.Common.{Bool, false}
 use Rattle.std.proofs.lemmas.List.{get_or-map}
+use Rattle.tx_num.specs.Glue.{GlueSpec}
+use Rattle.tx_node.specs.declared.head.BoxHead.{BoxHead}
 use Rattle.tx_node.specs.declared.node.Node.{Node}
-use Rattle.tx_node.specs.Nodes.{item_of, list_of}
+use Rattle.tx_node.specs.declared.plain.Leaders.{Leaders}
+use Rattle.tx_node.specs.declared.plain.LeadersKind.{LeadersKind}
 use Rattle.tx_node.specs.declared.rule.Rule.{Rule}
-use Rattle.tx_node.specs.Items.{Item, rule, kern, space, box, Items, none, more, HBox, items_of, box_item}
+use Rattle.tx_node.specs.declared.plain.Plain.TheVariants.{Penalty}
+use Rattle.tx_node.specs.Nodes.{item_of, list_of}
+use Rattle.tx_node.specs.Items.{Item, plain, shared, boxed, Items, none, more, PackedBox, items_of, box_item}
 
 -- the items of a box, as a list
 abbrev pub list_from : Items → List Item
@@ -16,38 +21,51 @@ pub list-back : (list : List Item) → list_from (items_of list) ≡ list
 list-back [] = refl
 list-back (item ∷ rest) = ap (λ xs. item ∷ xs) (list-back rest)
 
-abbrev rule_part : Rule → Item → Rule
-rule_part other (rule r) = r
-rule_part other (kern w) = other
-rule_part other space = other
-rule_part other (box w h d inner) = other
+abbrev box_part : PackedBox → Item → PackedBox
+box_part other (plain p) = other
+box_part other (shared s) = other
+box_part other (boxed shift head inner) = record { head = head; list = list_from inner }
 
-pub same-rule : (a b : Rule) → rule a ≡ rule b → a ≡ b
-same-rule a b e = ap (rule_part a) e
+back : (shift : ℤ) (a : PackedBox) → box_part a (box_item shift a) ≡ a
+back shift a = ap (λ xs. record { head = a.head; list = xs }) (list-back a.list)
 
-abbrev box_part : HBox → Item → HBox
-box_part other (rule r) = other
-box_part other (kern w) = other
-box_part other space = other
-box_part other (box w h d inner) = record { width = w; height = h; depth = d; list = list_from inner }
-
-back : (a : HBox) → box_part a (box_item a) ≡ a
-back a = ap (λ xs. record { width = a.width; height = a.height; depth = a.depth; list = xs }) (list-back a.list)
-
-pub same-box : (a b : HBox) → box_item a ≡ box_item b → a ≡ b
-same-box a b e = sym (back a) ∙ ap (box_part a) e ∙ ap (λ xs. record { width = b.width; height = b.height; depth = b.depth; list = xs }) (list-back b.list)
-
-pub same-rules : {x y : Item} {told : Bool} (a b : Rule) → x ≡ rule a → y ≡ rule b → (IsTrue told ↔ (a ≡ b)) → (IsTrue told ↔ (x ≡ y))
-same-rules a b x_is y_is same = ((λ t. x_is ∙ ap rule (same.0 t) ∙ sym y_is), (λ e. same.1 (same-rule a b (sym x_is ∙ e ∙ y_is))))
-
-pub same-boxes : {x y : Item} {told : Bool} (a b : HBox) → x ≡ box_item a → y ≡ box_item b → (IsTrue told ↔ (a ≡ b)) → (IsTrue told ↔ (x ≡ y))
-same-boxes a b x_is y_is same = ((λ t. x_is ∙ ap box_item (same.0 t) ∙ sym y_is), (λ e. same.1 (same-box a b (sym x_is ∙ e ∙ y_is))))
+pub same-box : (s t : ℤ) (a b : PackedBox) → box_item s a ≡ box_item t b → a ≡ b
+same-box s t a b e = sym (back s a) ∙ ap (box_part a) e ∙ ap (λ xs. record { head = b.head; list = xs }) (list-back b.list)
 
 -- equal lists have equal items at a place
 pub same-items : (xs ys : List Node) (i : ℕ) (d e : Node) → i < length xs → i < length ys → list_of xs ≡ list_of ys → item_of (get_or xs i d) ≡ item_of (get_or ys i e)
-same-items xs ys i d e h k same = sym (get_or-map item_of xs i d space h) ∙ ap (λ list. get_or list i space) same ∙ get_or-map item_of ys i e space k
+same-items xs ys i d e h k same =
+    sym (get_or-map item_of xs i d (plain (Penalty (pos 0))) h) ∙ ap (λ list. get_or list i (plain (Penalty (pos 0)))) same
+    ∙ get_or-map item_of ys i e (plain (Penalty (pos 0))) k
 
 pub differ : (xs ys : List Node) (i : ℕ) {x y : Node} {told : Bool} → i < length xs → length xs ≡ length ys → x ≡ get_or xs i x → y ≡ get_or ys i y → told ≡ false
     → (item_of x ≡ item_of y → IsTrue told) → list_of xs ≡ list_of ys → IsTrue false
 differ xs ys i {x} {y} h long x_is y_is isnt same equal =
     sym isnt ∙ same (ap item_of x_is ∙ same-items xs ys i x y h (omega (arith, h, long)) equal ∙ ap item_of (sym y_is))
+
+abbrev leaders_of : LeadersKind → GlueSpec → Rule → Leaders
+leaders_of kind glue rule = record { kind = kind; glue = glue; rule = rule }
+
+-- leaders of one kind and glue are equal where their rules are
+pub same-leaders : (a b : Leaders) {told : Bool} → a.kind ≡ b.kind → a.glue ≡ b.glue → (IsTrue told ↔ (a.rule ≡ b.rule)) → (IsTrue told ↔ (a ≡ b))
+same-leaders a b kinds glues rules = (
+  (λ t. ap (λ kind. leaders_of kind a.glue a.rule) kinds ∙ ap (λ glue. leaders_of b.kind glue a.rule) glues ∙ ap (λ rule. leaders_of b.kind b.glue rule) (rules.0 t)),
+  (λ e. rules.1 (ap (λ (l : Leaders). l.rule) e)),
+)
+
+abbrev packed_of : BoxHead → List Item → PackedBox
+packed_of head list = record { head = head; list = list }
+
+-- boxes of one head are equal where their lists are
+pub same-lists : (a b : PackedBox) {xs ys : List Item} {told : Bool} → xs ≡ a.list → ys ≡ b.list → a.head ≡ b.head → (IsTrue told ↔ (xs ≡ ys)) → (IsTrue told ↔ (a ≡ b))
+same-lists a b xs_is ys_is heads lists = (
+  (λ t. ap (λ head. packed_of head a.list) heads ∙ ap (λ list. packed_of b.head list) (sym xs_is ∙ lists.0 t ∙ ys_is)),
+  (λ e. lists.1 (xs_is ∙ ap (λ (box : PackedBox). box.list) e ∙ sym ys_is)),
+)
+
+-- boxes that are shifted by the same are equal as items where they are equal
+pub same-boxes : {x y : Item} {told : Bool} (s t : ℤ) (a b : PackedBox) → x ≡ box_item s a → y ≡ box_item t b → s ≡ t → (IsTrue told ↔ (a ≡ b)) → (IsTrue told ↔ (x ≡ y))
+same-boxes s t a b x_is y_is shifts same = (
+  (λ told. x_is ∙ ap (λ shift. box_item shift a) shifts ∙ ap (box_item t) (same.0 told) ∙ sym y_is),
+  (λ e. same.1 (same-box s t a b (sym x_is ∙ e ∙ y_is))),
+)

@@ -1,6 +1,6 @@
 -- How deep boxes nest, and how many nodes they hold.
 use Rattle.std.specs.Prelude.{ℕ, suc, ◌+◌, ◌-◌, ◌^◌, min, max}
-use Rattle.tx_node.specs.Items.{Item, Items, none, more, rule, kern, space, box, HBox, items_of}
+use Rattle.tx_node.specs.Items.{Item, Items, none, more, plain, shared, boxed, PackedBox, items_of}
 
 -- how deep boxes nest in a list: 0 where there is none, 1 where no box has a box in it
 abbrev mutual
@@ -9,10 +9,9 @@ abbrev mutual
   nesting_of (more item rest) = max (item_nesting item) (nesting_of rest)
 
   pub item_nesting : Item → ℕ
-  item_nesting (rule r) = 0
-  item_nesting (kern w) = 0
-  item_nesting space = 0
-  item_nesting (box w h d inner) = suc (nesting_of inner)
+  item_nesting (plain p) = 0
+  item_nesting (shared s) = 0
+  item_nesting (boxed shift head inner) = suc (nesting_of inner)
 
 -- how many nodes a list holds, with all that its boxes hold; a box is a node itself
 abbrev mutual
@@ -21,16 +20,15 @@ abbrev mutual
   count_of (more item rest) = item_count item + count_of rest
 
   pub item_count : Item → ℕ
-  item_count (rule r) = 1
-  item_count (kern w) = 1
-  item_count space = 1
-  item_count (box w h d inner) = suc (count_of inner)
+  item_count (plain p) = 1
+  item_count (shared s) = 1
+  item_count (boxed shift head inner) = suc (count_of inner)
 
 -- the same of a box, itself counted
-abbrev pub box_nesting : HBox → ℕ
+abbrev pub box_nesting : PackedBox → ℕ
 box_nesting b = suc (nesting_of (items_of b.list))
 
-abbrev pub box_count : HBox → ℕ
+abbrev pub box_count : PackedBox → ℕ
 box_count b = suc (count_of (items_of b.list))
 
 -- where counts end

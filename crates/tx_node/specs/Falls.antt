@@ -3,7 +3,7 @@ use Rattle.std.specs.Prelude.{◌≤◌, suc, max, List, [], ◌∷◌}
 use Rattle.std.proofs.Common.{arith}
 use denote.Param.Weighed.{most}
 use Rattle.tx_node.specs.declared.node.Node.{Node}
-use Rattle.tx_node.specs.declared.node.Node.TheVariants.{Rule, Kern, Space, Box}
+use Rattle.tx_node.specs.declared.node.Node.TheVariants.{Plain, Shared, Box}
 use Rattle.tx_node.specs.declared.node.BoxNode.TheDeep.{deep-Node}
 use Rattle.tx_node.specs.Items.{items_of}
 use Rattle.tx_node.specs.Counts.{count_of}
@@ -11,7 +11,6 @@ use Rattle.tx_node.specs.Nodes.{list_of}
 
 pub falls : (nodes : List Node) → max (most deep-Node nodes) 0 ≤ suc (count_of (items_of (list_of nodes)))
 falls [] = omega arith
-falls (Rule r ∷ rest) = omega (arith, falls rest)
-falls (Kern w ∷ rest) = omega (arith, falls rest)
-falls (Space ∷ rest) = omega (arith, falls rest)
-falls (Box b ∷ rest) = omega (arith, falls rest)
+falls (Plain p ∷ rest) = omega (arith, falls rest)
+falls (Shared s ∷ rest) = omega (arith, falls rest)
+falls (Box shift b ∷ rest) = omega (arith, falls rest)

@@ -1,25 +1,25 @@
--- Horizontal lists, boxes in them, and what these are in code (TeX: The Program, part 10).
+-- Lists, boxes in them, and what these are in code (TeX: The Program, part 10).
 use Rattle.std.specs.Prelude.{ℤ, List, [], ◌∷◌}
-use Rattle.tx_node.specs.declared.rule.Rule.{Rule}
+use Rattle.tx_node.specs.declared.head.BoxHead.{BoxHead}
+use Rattle.tx_node.specs.declared.plain.Plain.{Plain}
+use Rattle.tx_node.specs.declared.plain.Shared.{Shared}
 
--- an item of a horizontal list; a box has its width, height and depth in sp, and the list that it was made of
+-- an item of a list: one without a list of its own, small or large, or a box, which is shifted by so many sp (down in a
+-- horizontal list, to the right in a vertical one) and has a head and the list that it was made of
 mutual
   pub data Item : Type 0 where
-    rule : Rule → Item
-    kern : ℤ → Item
-    space : Item
-    box : ℤ → ℤ → ℤ → Items → Item
+    plain : Plain → Item
+    shared : Shared → Item
+    boxed : ℤ → BoxHead → Items → Item
 
   -- items in their order: none, or one and those behind it
   pub data Items : Type 0 where
     none : Items
     more : Item → Items → Items
 
--- a box by itself
-pub record HBox : Type 0 where
-  pub width : ℤ
-  pub height : ℤ
-  pub depth : ℤ
+-- a box by itself, which isn't shifted
+pub record PackedBox : Type 0 where
+  pub head : BoxHead
   pub list : List Item
 
 -- a list, as the items of a box
@@ -27,6 +27,6 @@ abbrev pub items_of : List Item → Items
 items_of [] = none
 items_of (item ∷ rest) = more item (items_of rest)
 
--- a box, as an item
-abbrev pub box_item : HBox → Item
-box_item b = box b.width b.height b.depth (items_of b.list)
+-- a box, as an item that is shifted by so much
+abbrev pub box_item : ℤ → PackedBox → Item
+box_item shift b = boxed shift b.head (items_of b.list)

@@ -1,6 +1,7 @@
 pub mod Items
 pub mod Codes
 pub mod Counts
-pub mod Packing
+pub mod Sizes
+pub mod Setting
 pub mod Falls
 pub mod Nodes

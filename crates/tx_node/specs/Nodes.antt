@@ -1,23 +1,30 @@
 -- What nodes and boxes are in code.
-use Rattle.std.specs.Prelude.{◌≡◌, ◌≤◌, ℕ, suc, List, map}
+use Rattle.std.specs.Prelude.{◌≡◌, ◌≤◌, ℕ, suc, true, pos, List, map}
+use Rattle.tx_node.specs.declared.head.BoxHead.{BoxHead}
 use Rattle.tx_node.specs.declared.node.Node.{Node}
-use Rattle.tx_node.specs.declared.node.Node.TheVariants.{Rule, Kern, Space, Box}
-use Rattle.tx_node.specs.Items.{Item, rule, kern, space, box_item, items_of}
+use Rattle.tx_node.specs.declared.node.Node.TheVariants.{Plain, Shared, Box}
+use Rattle.tx_node.specs.Items.{Item, plain, shared, box_item, items_of}
 use Rattle.tx_node.specs.Counts.{nesting_of, count_of, ended}
+use Rattle.tx_node.specs.Setting.{IsSet, sums_fit}
 
 -- the item that a node is
 abbrev pub item_of : Node → Item
-item_of (Rule r) = rule r
-item_of (Kern w) = kern w
-item_of Space = space
-item_of (Box shared) = box_item shared.value
+item_of (Plain p) = plain p
+item_of (Shared s) = shared s.value
+item_of (Box shift b) = box_item shift b.value
 
 -- the list that nodes are
 abbrev pub list_of : List Node → List Item
 list_of nodes = map item_of nodes
 
--- what a box keeps beside its list: how deep it nests, at most 500, and its count of nodes
-pub record IsKept (nesting count : ℕ) (list : List Item) : Type 0 where
+-- what holds of the list and the head of each box: boxes nest at most 500 deep, and its glue is set by what it has of it
+pub record IsBox (head : BoxHead) (list : List Item) : Type 0 where
+  pub nesting : suc (nesting_of (items_of list)) ≤ 500
+  pub is_set : IsSet head.setting
+  pub sums : sums_fit head.setting (pos 0) (items_of list) ≡ true
+
+-- what a box keeps beside its list: how deep it nests, and its count of nodes
+pub record IsKept (head : BoxHead) (nesting count : ℕ) (list : List Item) : Type 0 where
   pub nesting_is : nesting ≡ suc (nesting_of (items_of list))
-  pub within : nesting ≤ 500
   pub count_is : count ≡ ended (suc (count_of (items_of list)))
+  pub is_box : IsBox head list

@@ -1,21 +1,27 @@
-//! Horizontal lists and the boxes that are packed of them (TeX: The Program, parts 10 and 33). A box keeps how deep boxes
-//! nest in it and how many nodes it holds; clones of a list share its boxes. It stands on no other part of the engine.
+//! Lists and the boxes that are packed of them (TeX: The Program, part 10). A box keeps how deep boxes nest in it and how
+//! many nodes it holds; clones of a list share its boxes, and clones of a box its list.
 //!
-//! Proved: a list is packed to its natural size exactly as defined, with each error where it belongs. Only tested: sizes
-//! worked out by hand.
+//! Proved: a list is what was put into it, a box keeps its head and its list, and its glue is set by what it has of it.
+//! Where items stand once glue is set is defined here, in specs/, for all who place them. Only tested: nothing.
 //!
-//! Modules in reading order: `rule`, `node`, `nodes`, `same`, `measure`, `pack`.
+//! Modules in reading order: `rule`, `plain`, `head`, `node`, `nodes`, `measure`, `same`, `sizes`, `setting`.
 #![tactic(auto)]
 
+mod head;
 mod measure;
 mod node;
 mod nodes;
-mod pack;
+mod plain;
 mod rule;
 mod same;
+mod setting;
+mod sizes;
 
+pub use head::{BoxHead, Change, Direction, GlueSet, Setting};
 pub use node::{BoxNode, Node};
 pub use nodes::Nodes;
-pub use pack::{PackError, hbox};
+pub use plain::{KernKind, Leaders, LeadersKind, Plain, Shared};
 pub use rule::Rule;
 pub use same::{same_box, same_list};
+pub use setting::glue_part;
+pub use sizes::side;

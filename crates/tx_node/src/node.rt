@@ -1,42 +1,47 @@
-//! Nodes of horizontal lists, and boxes, which nest.
-ghost use Rattle.std.specs.Prelude.{◌≡◌, ◌≤◌, IfOk};
+//! Nodes of lists, and boxes, which nest.
+ghost use Rattle.std.specs.Prelude.{◌≡◌, ◌≤◌, ◌<◌, ◌^◌, pos, true, unsigned_abs, IfOk};
 
-use crate::rule::Rule;
+use crate::head::{BoxHead, Direction, Setting};
+use crate::plain::{Plain, Shared};
 use std::alloc::{AllocError, Global};
 use std::marker::Model;
 use std::rc::Rc;
 
-/// A horizontal list, packed: its width, height and depth in sp, and the list. It keeps how deep boxes nest in it and
-/// how many nodes it holds. Contracts see a record of its sizes and its list.
+/// A list that was packed: its head and the list, which clones share. It keeps how deep boxes nest in it and how many nodes
+/// it holds. Contracts see a record of its head and its list.
 #[cycle(node)]
 #[derive(Drop)]
 pub struct BoxNode {
-    pub(crate) width: i32,
-    pub(crate) height: i32,
-    pub(crate) depth: i32,
+    pub(crate) head: BoxHead,
+    pub(crate) held: Rc<Held>,
+}
+
+/// The list of a box, how deep this box nests, and how many nodes it is, itself counted.
+#[cycle(node)]
+#[derive(Drop)]
+pub struct Held {
     pub(crate) nesting: u16,
     pub(crate) count: u64,
     pub(crate) list: Vec<Node>,
 }
 
-/// One item of a horizontal list. Contracts see the item that `item_of` gives.
+/// One item of a list. Contracts see the item that `item_of` gives.
 #[cycle(node)]
 #[derive(Drop)]
 pub enum Node {
-    /// A rule.
-    Rule(Rule),
-    /// A kern of so many sp.
-    Kern(i32),
-    /// The glue that a space gives in \nullfont: no width, no stretch, no shrink.
-    Space,
-    /// A box, which clones of the node share.
-    Box(Rc<BoxNode>),
+    /// A small item without a list.
+    Plain(Plain),
+    /// A larger one, which clones of the node share.
+    Shared(Rc<Shared>),
+    /// A box, which clones of the node share, and by how many sp it is shifted: down in a horizontal list, to the right in a
+    /// vertical one.
+    Box(i32, Rc<BoxNode>),
 }
 
 impl Model for BoxNode {
-    ghost use Rattle.tx_node.specs.Items.{HBox};
+    ghost use Rattle.tx_node.specs.Items.{PackedBox};
 
-    ghost Value = { HBox };
+    ghost Value = { PackedBox };
 
     ghost use Rattle.tx_node.specs.Codes.{box_code};
 
@@ -45,45 +50,88 @@ impl Model for BoxNode {
     ghost use Rattle.tx_node.specs.Nodes.{list_of, IsKept};
     ghost use Rattle.tx_node.specs.Counts.{box_count};
 
-    ghost view = { λ b. record {
-      width = b.width;
-      height = b.height;
-      depth = b.depth;
-      list = list_of b.list.items;
-    } };
+    ghost view = { λ b. record { head = b.head; list = list_of b.held.value.list.items } };
 
-    ghost invariant = { λ b. IsKept b.nesting b.count (list_of b.list.items) };
+    ghost invariant = { λ b. IsKept b.head b.held.value.nesting b.held.value.count (list_of b.held.value.list.items) };
 
     ghost size = { box_count };
 
+    ghost use Rattle.std.proofs.Common.{arith};
     ghost use Rattle.tx_node.specs.Falls.{falls};
 
-    ghost size_decreases = { λ b h. falls b.list.items };
+    ghost size_decreases = { λ b h. omega (arith, falls b.held.value.list.items) };
 }
 
 impl BoxNode {
-    ghost use Rattle.tx_node.specs.Nodes.{list_of};
+    ghost use Rattle.tx_node.specs.Nodes.{list_of, IsBox};
+    ghost use Rattle.tx_node.specs.Items.{items_of};
     ghost use Rattle.tx_node.specs.Counts.{box_nesting, box_count, ended};
+    ghost use Rattle.tx_node.specs.Setting.{IsSet, sums_fit};
+
+    /// What the box is beside its list.
+    pub fn head(&self) -> BoxHead
+        ensures { result ≡ self.now.head }
+    {
+        self.head
+    }
+
+    /// Which way its list goes.
+    pub fn direction(&self) -> Direction
+        ensures { result ≡ self.now.head.direction }
+    {
+        self.head.direction
+    }
 
     /// The width, in sp.
     pub fn width(&self) -> i32
-        ensures { result ≡ self.now.width }
+        ensures { result ≡ self.now.head.width }
     {
-        self.width
+        self.head.width
     }
 
     /// The height, in sp.
     pub fn height(&self) -> i32
-        ensures { result ≡ self.now.height }
+        ensures { result ≡ self.now.head.height }
     {
-        self.height
+        self.head.height
     }
 
     /// The depth, in sp.
     pub fn depth(&self) -> i32
-        ensures { result ≡ self.now.depth }
+        ensures { result ≡ self.now.head.depth }
     {
-        self.depth
+        self.head.depth
+    }
+
+    /// How its glue is set: by something that it has, whose sum up to each place of its list is a dimension.
+    pub fn setting(&self) -> Setting
+        ensures value { result ≡ self.now.head.setting }
+        ensures is_set { IsSet result }
+        ensures sums { sums_fit result (pos 0) (items_of self.now.list) ≡ true }
+    {
+        let _ = &self.held;
+        self.head.setting
+    }
+
+    /// Gives the box another width, in sp; its list isn't packed anew, nor copied.
+    pub fn set_width(&mut self, width: i32)
+        ensures { self.new ≡ record self.old { head = record self.old.head { width = width } } }
+    {
+        self.head.width = width;
+    }
+
+    /// Gives it another height, in sp.
+    pub fn set_height(&mut self, height: i32)
+        ensures { self.new ≡ record self.old { head = record self.old.head { height = height } } }
+    {
+        self.head.height = height;
+    }
+
+    /// Gives it another depth, in sp.
+    pub fn set_depth(&mut self, depth: i32)
+        ensures { self.new ≡ record self.old { head = record self.old.head { depth = depth } } }
+    {
+        self.head.depth = depth;
     }
 
     /// How deep boxes nest, this one counted: 1 where it has no box in it, at most 500.
@@ -91,71 +139,60 @@ impl BoxNode {
         ensures value { result ≡ box_nesting self.now }
         ensures most { result ≤ 500 }
     {
-        self.nesting
+        self.held.nesting
     }
 
     /// How many nodes there are, this one and all that it holds; counts end at 2^64-1.
     pub fn count(&self) -> u64
         ensures { result ≡ ended (box_count self.now) }
     {
-        self.count
+        self.held.count
     }
 
     /// The list, lent.
     pub fn list(&self) -> &[Node]
         ensures { list_of result.now ≡ self.now.list }
     {
-        self.list.as_slice()
+        self.held.list.as_slice()
+    }
+}
+
+/// A clone is the same box, and shares its list.
+impl Clone for BoxNode {
+    ghost is_clone = { λ source copy. copy ≡ source };
+
+    fn clone(&self) -> Result<Self, AllocError> {
+        Ok(BoxNode {
+            head: self.head,
+            held: self.held.clone()?,
+        })
     }
 }
 
 impl Node {
+    ghost use Rattle.tx_node.specs.declared.plain.Shared.{Shared as Large};
     ghost use Rattle.tx_node.specs.Nodes.{item_of};
-    ghost use Rattle.tx_node.specs.Items.{box_item};
-    ghost use Rattle.tx_node.specs.Packing.{item_width, item_height, item_depth};
+    ghost use Rattle.tx_node.specs.Items.{shared, box_item};
     ghost use Rattle.tx_node.specs.Counts.{item_nesting, item_count, ended};
+    ghost use Rattle.tx_node.specs.Sizes.{advance};
 
-    /// A box, as a node. Its only error is want of memory.
-    pub fn from_box(alloc: Global, packed: BoxNode) -> Result<Node, AllocError>
-        ensures { IfOk result (λ node. item_of node ≡ box_item packed) }
+    /// A larger item without a list, as a node. Its only error is want of memory.
+    pub fn from_shared(alloc: Global, item: Shared) -> Result<Node, AllocError>
+        ensures { IfOk result (λ node. item_of node ≡ shared item) }
     {
-        match Rc::new(alloc, packed) {
-            Ok(shared) => Ok(Node::Box(shared)),
+        match Rc::new(alloc, item) {
+            Ok(inner) => Ok(Node::Shared(inner)),
             Err(_) => Err(AllocError),
         }
     }
 
-    /// How far the node moves the reference point to the right, in sp.
-    pub fn width(&self) -> i32
-        ensures { result ≡ item_width (item_of self.now) }
+    /// A box that is shifted by so many sp, as a node. Its only error is want of memory.
+    pub fn from_box(alloc: Global, shift: i32, packed: BoxNode) -> Result<Node, AllocError>
+        ensures { IfOk result (λ node. item_of node ≡ box_item shift packed) }
     {
-        match self {
-            Node::Rule(rule) => rule.width,
-            Node::Kern(size) => *size,
-            Node::Space => 0,
-            Node::Box(inner) => inner.width(),
-        }
-    }
-
-    /// The height that the node asks of the box that it stands in, in sp; a side that runs asks for none.
-    pub fn height(&self) -> i32
-        ensures { result ≡ item_height (item_of self.now) }
-    {
-        match self {
-            Node::Rule(rule) => rule.height.unwrap_or(0),
-            Node::Box(inner) => inner.height(),
-            _ => 0,
-        }
-    }
-
-    /// The depth that the node asks of the box that it stands in, in sp.
-    pub fn depth(&self) -> i32
-        ensures { result ≡ item_depth (item_of self.now) }
-    {
-        match self {
-            Node::Rule(rule) => rule.depth.unwrap_or(0),
-            Node::Box(inner) => inner.depth(),
-            _ => 0,
+        match Rc::new(alloc, packed) {
+            Ok(inner) => Ok(Node::Box(shift, inner)),
+            Err(_) => Err(AllocError),
         }
     }
 
@@ -165,8 +202,8 @@ impl Node {
         ensures most { result ≤ 500 }
     {
         match self {
-            Node::Box(inner) => inner.nesting(),
-            _ => 0,
+            Node::Plain(_) | Node::Shared(_) => 0,
+            Node::Box(_, inner) => inner.nesting(),
         }
     }
 
@@ -175,8 +212,8 @@ impl Node {
         ensures { result ≡ ended (item_count (item_of self.now)) }
     {
         match self {
-            Node::Box(inner) => inner.count(),
-            _ => 1,
+            Node::Plain(_) | Node::Shared(_) => 1,
+            Node::Box(_, inner) => inner.count(),
         }
     }
 }
@@ -189,10 +226,9 @@ impl Clone for Node {
 
     fn clone(&self) -> Result<Self, AllocError> {
         match self {
-            Node::Rule(rule) => Ok(Node::Rule(*rule)),
-            Node::Kern(size) => Ok(Node::Kern(*size)),
-            Node::Space => Ok(Node::Space),
-            Node::Box(shared) => Ok(Node::Box(shared.clone()?)),
+            Node::Plain(item) => Ok(Node::Plain(*item)),
+            Node::Shared(item) => Ok(Node::Shared(item.clone()?)),
+            Node::Box(shift, inner) => Ok(Node::Box(*shift, inner.clone()?)),
         }
     }
 }

@@ -1,13 +1,18 @@
-//! Horizontal lists.
-ghost use Rattle.std.specs.Prelude.{◌≡◌, ◌↔◌, ◌∷◌, ◌++◌, [], length, IsTrue, IfOk, OnOk, OnErr};
-ghost use Rattle.tx_node.specs.Nodes.{item_of, list_of};
+//! Lists, and boxes made of them.
+ghost use Rattle.std.specs.Prelude.{◌≡◌, ◌↔◌, ◌≤◌, ◌∷◌, ◌++◌, [], suc, length, IsTrue, IfOk, OnOk, OnErr, MatchOption};
+ghost use Rattle.tx_node.specs.Nodes.{item_of, list_of, IsBox};
+ghost use Rattle.tx_node.specs.Items.{items_of};
+ghost use Rattle.tx_node.specs.Counts.{nesting_of, count_of, ended};
 
-use crate::node::{BoxNode, Node};
+use crate::head::BoxHead;
+use crate::measure::{counted, deepest};
+use crate::node::{BoxNode, Held, Node};
 use crate::same::same_list;
 use std::alloc::{AllocError, Global};
 use std::marker::Model;
+use std::rc::Rc;
 
-/// A horizontal list. Contracts see the list of its items.
+/// A list. Contracts see the list of its items.
 #[derive(Drop)]
 pub struct Nodes {
     items: Vec<Node>,
@@ -61,6 +66,21 @@ impl Nodes {
         self.items.len()
     }
 
+    /// How deep the boxes of the list nest: 0 where there is none, at most 500.
+    pub fn nesting(&self) -> u16
+        ensures value { result ≡ nesting_of (items_of self.now) }
+        ensures most { result ≤ 500 }
+    {
+        deepest(&self.items)
+    }
+
+    /// How many nodes there are, with all that they hold; counts end at 2^64-1.
+    pub fn count(&self) -> u64
+        ensures { result ≡ ended (count_of (items_of self.now)) }
+    {
+        counted(&self.items)
+    }
+
     /// Puts a node at the end. After want of memory nothing has changed.
     pub fn push(&mut self, node: Node) -> Result<(), AllocError>
         ensures ok { OnOk result (self.new ≡ self.old ++ item_of node ∷ []) }
@@ -68,6 +88,13 @@ impl Nodes {
     {
         self.items.push(node)?;
         Ok(())
+    }
+
+    /// Takes the last node away, None where there is none.
+    pub fn pop(&mut self) -> Option<Node>
+        ensures { MatchOption result ((self.old ≡ []) × (self.new ≡ [])) (λ node. self.old ≡ self.new ++ item_of node ∷ []) }
+    {
+        self.items.pop()
     }
 
     /// Whether both have the same items.
@@ -89,22 +116,6 @@ impl Clone for Nodes {
     }
 }
 
-/// A clone is the same box, and shares the boxes in it. Its only error is want of memory.
-impl Clone for BoxNode {
-    ghost is_clone = { λ source copy. copy ≡ source };
-
-    fn clone(&self) -> Result<Self, AllocError> {
-        Ok(BoxNode {
-            width: self.width,
-            height: self.height,
-            depth: self.depth,
-            nesting: self.nesting,
-            count: self.count,
-            list: shared(&self.list)?,
-        })
-    }
-}
-
 /// The same items, in a list of their own that shares their boxes.
 fn shared(nodes: &Vec<Node>) -> Result<Vec<Node>, AllocError>
     ensures { IfOk result (λ copy. list_of copy.items ≡ list_of nodes.now.items) }
@@ -114,4 +125,31 @@ fn shared(nodes: &Vec<Node>) -> Result<Vec<Node>, AllocError>
         copy.push(node.clone()?)?;
     }
     Ok(copy)
+}
+
+impl BoxNode {
+    /// A list in a box with this head. Its only error is want of memory.
+    pub fn new(alloc: Global, head: BoxHead, list: Nodes) -> Result<BoxNode, AllocError>
+        requires { IsBox head list }
+        ensures { IfOk result (λ made. made ≡ record { head = head; list = list }) }
+    {
+        let held = Held {
+            nesting: list.nesting() + 1,
+            count: list.count().saturating_add(1),
+            list: list.into_vec(),
+        };
+        match Rc::new(alloc, held) {
+            Ok(held) => Ok(BoxNode { head, held }),
+            Err(_) => Err(AllocError),
+        }
+    }
+
+    /// The list of the box, which stays as it is where a clone shares it. Its only error is want of memory.
+    pub fn into_nodes(self) -> Result<Nodes, AllocError>
+        ensures { IfOk result (λ list. list ≡ self.list) }
+    {
+        Ok(Nodes {
+            items: shared(&self.held.list)?,
+        })
+    }
 }

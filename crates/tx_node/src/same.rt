@@ -1,9 +1,12 @@
-//! Whether two boxes or lists are equal. Counts are compared before what they count.
+//! Whether two boxes or lists are equal. Counts and sizes are compared before what they belong to.
 ghost use Rattle.std.specs.Prelude.{◌≡◌, ◌↔◌, IsTrue};
 ghost use Rattle.tx_node.specs.Nodes.{item_of, list_of};
 
+use crate::head::{BoxHead, Change, Direction, GlueSet, Setting};
 use crate::node::{BoxNode, Node};
+use crate::plain::{Leaders, LeadersKind, Shared};
 use crate::rule::Rule;
+use tx_num::Glue;
 
 /// Whether two sides are equal.
 fn same_side(a: Option<i32>, b: Option<i32>) -> bool
@@ -12,7 +15,7 @@ fn same_side(a: Option<i32>, b: Option<i32>) -> bool
     match (a, b) {
         (None, None) => true,
         (Some(a), Some(b)) => a == b,
-        _ => false,
+        (None, Some(_)) | (Some(_), None) => false,
     }
 }
 
@@ -20,7 +23,95 @@ fn same_side(a: Option<i32>, b: Option<i32>) -> bool
 fn same_rule(a: Rule, b: Rule) -> bool
     ensures { IsTrue result ↔ (a ≡ b) }
 {
-    a.width == b.width && same_side(a.height, b.height) && same_side(a.depth, b.depth)
+    same_side(a.width, b.width) && same_side(a.height, b.height) && same_side(a.depth, b.depth)
+}
+
+/// Whether two kinds of leaders are equal.
+fn same_kind(a: LeadersKind, b: LeadersKind) -> bool
+    ensures { IsTrue result ↔ (a ≡ b) }
+{
+    a == b
+}
+
+/// Whether two glues are equal.
+fn same_glue(a: Glue, b: Glue) -> bool
+    ensures { IsTrue result ↔ (a ≡ b) }
+{
+    a.width() == b.width()
+        && a.stretch() == b.stretch()
+        && a.stretch_order() == b.stretch_order()
+        && a.shrink() == b.shrink()
+        && a.shrink_order() == b.shrink_order()
+}
+
+/// Whether two ways of setting glue are equal.
+fn same_glue_set(a: GlueSet, b: GlueSet) -> bool
+    ensures { IsTrue result ↔ (a ≡ b) }
+{
+    same_change(a.change, b.change)
+        && a.order == b.order
+        && a.total == b.total
+        && a.excess == b.excess
+}
+
+fn same_change(a: Change, b: Change) -> bool
+    ensures { IsTrue result ↔ (a ≡ b) }
+{
+    a == b
+}
+
+fn same_setting(a: Setting, b: Setting) -> bool
+    ensures { IsTrue result ↔ (a ≡ b) }
+{
+    match (a, b) {
+        (Setting::Natural, Setting::Natural) => true,
+        (Setting::Set(a), Setting::Set(b)) => same_glue_set(a, b),
+        (Setting::Natural, Setting::Set(_)) | (Setting::Set(_), Setting::Natural) => false,
+    }
+}
+
+fn same_direction(a: Direction, b: Direction) -> bool
+    ensures { IsTrue result ↔ (a ≡ b) }
+{
+    a == b
+}
+
+/// Whether two boxes are equal beside their lists.
+fn same_head(a: BoxHead, b: BoxHead) -> bool
+    ensures { IsTrue result ↔ (a ≡ b) }
+{
+    same_direction(a.direction, b.direction)
+        && a.width == b.width
+        && a.height == b.height
+        && a.depth == b.depth
+        && same_setting(a.setting, b.setting)
+}
+
+/// Whether two leaders are equal.
+fn same_leaders(a: Leaders, b: Leaders) -> bool
+    ensures { IsTrue result ↔ (a ≡ b) }
+{
+    if !same_kind(a.kind, b.kind) {
+        return false;
+    }
+    if !same_glue(a.glue, b.glue) {
+        return false;
+    }
+    same_rule(a.rule, b.rule)
+}
+
+/// Whether two larger items are equal.
+fn same_shared(a: &Shared, b: &Shared) -> bool
+    ensures { IsTrue result ↔ (a.now ≡ b.now) }
+{
+    match (a, b) {
+        (Shared::Rule(a), Shared::Rule(b)) => same_rule(*a, *b),
+        (Shared::Leaders(a), Shared::Leaders(b)) => same_leaders(*a, *b),
+        (Shared::Special(a), Shared::Special(b)) => a.same(b),
+        (Shared::Rule(_), Shared::Leaders(_) | Shared::Special(_))
+        | (Shared::Leaders(_), Shared::Rule(_) | Shared::Special(_))
+        | (Shared::Special(_), Shared::Rule(_) | Shared::Leaders(_)) => false,
+    }
 }
 
 /// Whether two nodes are the same item.
@@ -29,11 +120,12 @@ pub fn same_node(a: &Node, b: &Node) -> bool
     ensures { IsTrue result ↔ (item_of a.now ≡ item_of b.now) }
 {
     match (a, b) {
-        (Node::Rule(a), Node::Rule(b)) => same_rule(*a, *b),
-        (Node::Kern(a), Node::Kern(b)) => a == b,
-        (Node::Space, Node::Space) => true,
-        (Node::Box(a), Node::Box(b)) => same_box(a, b),
-        _ => false,
+        (Node::Plain(a), Node::Plain(b)) => a == b,
+        (Node::Shared(a), Node::Shared(b)) => same_shared(a, b),
+        (Node::Box(s, a), Node::Box(t, b)) => *s == *t && same_box(a, b),
+        (Node::Plain(_), Node::Shared(_) | Node::Box(_, _))
+        | (Node::Shared(_), Node::Plain(_) | Node::Box(_, _))
+        | (Node::Box(_, _), Node::Plain(_) | Node::Shared(_)) => false,
     }
 }
 
@@ -42,11 +134,13 @@ pub fn same_node(a: &Node, b: &Node) -> bool
 pub fn same_box(a: &BoxNode, b: &BoxNode) -> bool
     ensures { IsTrue result ↔ (a.now ≡ b.now) }
 {
-    a.count() == b.count()
-        && a.width() == b.width()
-        && a.height() == b.height()
-        && a.depth() == b.depth()
-        && same_list(&a.list, &b.list)
+    if a.count() != b.count() {
+        return false;
+    }
+    if !same_head(a.head(), b.head()) {
+        return false;
+    }
+    same_list(a.list(), b.list())
 }
 
 /// Whether two lists have the same items.

@@ -1,7 +1,13 @@
-use Rattle.std.proofs.Common.{ap}
+use Rattle.std.proofs.Common.{ℕ, ◌<◌, ◌≡◌, subst, sym, ap, ◌∙◌, arith}
+use Rattle.std.proofs.lemmas.Grind.{common_steps}
 use Rattle.tx_node.specs.Nodes.{item_of}
-use Rattle.tx_node.proofs.Equal.{same-rules, same-boxes, differ}
+use Rattle.tx_node.proofs.Equal.{differ, same-boxes, same-lists}
+use Rattle.tx_node.proofs.Measures.{node_measure, to-item}
 use Rattle.tx_node.proofs.same.+same.Goals as goal
+
+pub same_list-same_node-requires : goal.same_list-same_node-requires
+same_list-same_node-requires t c =
+    (subst (λ (n : ℕ). node_measure c.index-a-i.result < n) c.decreases (to-item c.args.a.now c.loop-i.i c.loop-i-test.true c.index-a-i.is), tt)
 
 pub same_list-returns-then-not-same_node : goal.same_list-returns-then-not-same_node
 same_list-returns-then-not-same_node t c = (
@@ -9,9 +15,13 @@ same_list-returns-then-not-same_node t c = (
   differ c.args.a.now c.args.b.now c.loop-i.i c.loop-i-test.true c.loop-i.invariant.long c.index-a-i.is c.index-b-i.is c.if-not-same_node.true c.same_node.ensures.1,
 )
 
-pub same_node-returns-in-Rule-Rule : goal.same_node-returns-in-Rule-Rule
-same_node-returns-in-Rule-Rule t c = same-rules c.in-Rule-Rule.a c.in-Rule-Rule.b (ap item_of c.in-Rule-Rule.is-0) (ap item_of c.in-Rule-Rule.is-1) c.same_rule.ensures
+pub same_box-returns : goal.same_box-returns
+same_box-returns t c =
+    same-lists c.args.a.now c.args.b.now c.list.ensures c.list-2.ensures (sym c.head.ensures ∙ c.same_head.ensures.0 c.if-not-same_head.false ∙ c.head-2.ensures) c.same_list.ensures
 
-pub same_node-returns-in-Box-Box : goal.same_node-returns-in-Box-Box
-same_node-returns-in-Box-Box t c =
-    same-boxes c.deref.result.now c.deref-in-Box-Box.result.now (rw c.deref.ensures (ap item_of c.in-Box-Box.is-0)) (rw c.deref-in-Box-Box.ensures (ap item_of c.in-Box-Box.is-1)) c.same_box.ensures
+pub same_node-returns-then-s-t : goal.same_node-returns-then-s-t
+same_node-returns-then-s-t t c =
+    let shifts : c.in-Box-Box.s ≡ c.in-Box-Box.t = grind (arith, common_steps) in
+    same-boxes c.in-Box-Box.s c.in-Box-Box.t c.deref-then-s-t.result.now c.deref-then-s-t-2.result.now
+    (rw c.deref-then-s-t.ensures (ap item_of c.in-Box-Box.is-0)) (rw c.deref-then-s-t-2.ensures (ap item_of c.in-Box-Box.is-1))
+    shifts c.same_box.ensures

@@ -1,0 +1,58 @@
+-- How far items reach (TeX: The Program, sections 622 to 635).
+use Rattle.std.specs.Prelude.{ℤ, pos, ◌+ℤ◌, Option, Some, None}
+use Rattle.std.specs.Option.{unwrap_or}
+use Rattle.tx_num.specs.Glue.{GlueSpec}
+use Rattle.tx_node.specs.declared.head.BoxHead.{BoxHead}
+use Rattle.tx_node.specs.declared.head.Direction.{Direction}
+use Rattle.tx_node.specs.declared.head.Direction.TheVariants.{Horizontal, Vertical}
+use Rattle.tx_node.specs.declared.plain.Plain.{Plain}
+use Rattle.tx_node.specs.declared.plain.Plain.TheVariants.{Kern, Glue, Penalty}
+use Rattle.tx_node.specs.declared.plain.Shared.{Shared}
+use Rattle.tx_node.specs.declared.plain.Shared.TheVariants.{Rule, Leaders, Special}
+use Rattle.tx_node.specs.declared.rule.Rule.{Rule as RuleSides}
+use Rattle.tx_node.specs.Items.{Item, plain, shared, boxed}
+
+-- the side of a rule, nothing where it runs
+abbrev pub side : Option ℤ → ℤ
+side given = unwrap_or given (pos 0)
+
+-- the glue of an item: glue by itself, or that of leaders
+abbrev pub plain_glue : Plain → Option GlueSpec
+plain_glue (Kern kind size) = None
+plain_glue (Glue g) = Some g
+plain_glue (Penalty n) = None
+
+abbrev pub shared_glue : Shared → Option GlueSpec
+shared_glue (Rule r) = None
+shared_glue (Leaders l) = Some l.glue
+shared_glue (Special text) = None
+
+abbrev pub glue_of_item : Item → Option GlueSpec
+glue_of_item (plain p) = plain_glue p
+glue_of_item (shared s) = shared_glue s
+glue_of_item (boxed shift head inner) = None
+
+-- how far a rule and a box reach in a list of this direction
+abbrev pub rule_advance : Direction → RuleSides → ℤ
+rule_advance Horizontal r = side r.width
+rule_advance Vertical r = side r.height +ℤ side r.depth
+
+abbrev pub box_advance : Direction → BoxHead → ℤ
+box_advance Horizontal head = head.width
+box_advance Vertical head = head.height +ℤ head.depth
+
+-- how far an item moves the reference point naturally: to the right in a horizontal list, down in a vertical one
+abbrev pub plain_advance : Plain → ℤ
+plain_advance (Kern kind size) = size
+plain_advance (Glue g) = g.width
+plain_advance (Penalty n) = pos 0
+
+abbrev pub shared_advance : Direction → Shared → ℤ
+shared_advance direction (Rule r) = rule_advance direction r
+shared_advance direction (Leaders l) = l.glue.width
+shared_advance direction (Special text) = pos 0
+
+abbrev pub advance : Direction → Item → ℤ
+advance direction (plain p) = plain_advance p
+advance direction (shared s) = shared_advance direction s
+advance direction (boxed shift head inner) = box_advance direction head

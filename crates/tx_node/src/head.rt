@@ -1,0 +1,46 @@
+//! What a box is beside its list.
+
+/// Which way the items of a list follow one another.
+#[derive(Clone, Copy, Debug, PartialEq, Eq)]
+pub enum Direction {
+    /// To the right, as in \hbox.
+    Horizontal,
+    /// Down, as in \vbox.
+    Vertical,
+}
+
+/// Which part of its glue a box sets.
+#[derive(Clone, Copy, Debug, PartialEq, Eq)]
+pub enum Change {
+    Stretch,
+    Shrink,
+}
+
+/// How glue is set that isn't left natural: which part of it, of which order (0 to 3: normal, fil, fill, filll), how much of
+/// it the list has in all, and how far the list has to grow, less than 0 where it has to shrink. In sp.
+#[derive(Clone, Copy, Debug, PartialEq, Eq)]
+pub struct GlueSet {
+    pub change: Change,
+    pub order: u8,
+    pub total: i32,
+    pub excess: i32,
+}
+
+/// How the glue of a box is set (TeX: The Program, sections 135 and 619).
+#[derive(Clone, Copy, Debug, PartialEq, Eq)]
+pub enum Setting {
+    /// All of it is as wide as it is naturally.
+    Natural,
+    /// One order of it stretches or shrinks.
+    Set(GlueSet),
+}
+
+/// A box beside its list: which way this goes, width, height and depth in sp, and how its glue is set.
+#[derive(Clone, Copy, Debug, PartialEq, Eq)]
+pub struct BoxHead {
+    pub direction: Direction,
+    pub width: i32,
+    pub height: i32,
+    pub depth: i32,
+    pub setting: Setting,
+}

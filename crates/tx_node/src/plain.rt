@@ -1,0 +1,54 @@
+//! Items that hold no list: those that a node keeps in itself, and those that it shares.
+use crate::rule::Rule;
+use tx_bytes::Bytes;
+use tx_num::Glue;
+
+/// Where a kern comes from (TeX: The Program, section 155).
+#[derive(Clone, Copy, Debug, PartialEq, Eq)]
+pub enum KernKind {
+    /// From a font's table, or from TeX itself.
+    Implicit,
+    /// From \kern.
+    Explicit,
+}
+
+/// A small item, which its node holds.
+#[derive(Clone, Copy, PartialEq, Eq)]
+pub enum Plain {
+    /// A kern of so many sp.
+    Kern(KernKind, i32),
+    /// Glue.
+    Glue(Glue),
+    /// A penalty for a break at this place.
+    Penalty(i32),
+}
+
+/// How the copies of leaders are spread (TeX: The Program, section 149).
+#[derive(Clone, Copy, Debug, PartialEq, Eq)]
+pub enum LeadersKind {
+    /// \leaders.
+    Aligned,
+    /// \cleaders.
+    Centered,
+    /// \xleaders.
+    Expanded,
+}
+
+/// Leaders: glue that is filled with a rule.
+#[derive(Clone, Copy)]
+pub struct Leaders {
+    pub kind: LeadersKind,
+    pub glue: Glue,
+    pub rule: Rule,
+}
+
+/// A larger item, which clones of its node share.
+#[derive(Drop)]
+pub enum Shared {
+    /// A rule.
+    Rule(Rule),
+    /// Leaders.
+    Leaders(Leaders),
+    /// The bytes of a \special.
+    Special(Bytes),
+}

@@ -1,0 +1,108 @@
+//! How far items reach.
+ghost use Rattle.std.specs.Prelude.{◌≡◌, ◌≤◌, ◌^◌, unsigned_abs};
+ghost use Rattle.tx_node.specs.Nodes.{item_of};
+ghost use Rattle.tx_node.specs.Sizes as spec;
+
+use crate::head::{BoxHead, Direction};
+use crate::node::Node;
+use crate::plain::{Plain, Shared};
+use crate::rule::Rule;
+use tx_num::Glue;
+
+/// A side of a rule, nothing where it runs.
+pub fn side(given: Option<i32>) -> i32
+    ensures { result ≡ spec.side given }
+{
+    given.unwrap_or(0)
+}
+
+/// How far a rule reaches in a list of this direction, in sp.
+fn rule_advance(direction: Direction, rule: Rule) -> i64
+    ensures value { result ≡ spec.rule_advance direction rule }
+    ensures size { unsigned_abs result ≤ 2 ^ 32 }
+{
+    match direction {
+        Direction::Horizontal => i64::from(side(rule.width)),
+        Direction::Vertical => i64::from(side(rule.height)) + i64::from(side(rule.depth)),
+    }
+}
+
+impl BoxHead {
+    /// How far the box reaches in a list of this direction, in sp.
+    pub fn advance(&self, direction: Direction) -> i64
+        ensures value { result ≡ spec.box_advance direction self.now }
+        ensures size { unsigned_abs result ≤ 2 ^ 32 }
+    {
+        match direction {
+            Direction::Horizontal => i64::from(self.width),
+            Direction::Vertical => i64::from(self.height) + i64::from(self.depth),
+        }
+    }
+}
+
+/// How far a small item moves the reference point naturally, in sp.
+fn plain_advance(item: Plain) -> i64
+    ensures value { result ≡ spec.plain_advance item }
+    ensures size { unsigned_abs result ≤ 2 ^ 32 }
+{
+    match item {
+        Plain::Kern(_, size) => i64::from(size),
+        Plain::Glue(glue) => glue.width(),
+        Plain::Penalty(_) => 0,
+    }
+}
+
+/// How far a larger item does, in a list of this direction.
+fn shared_advance(direction: Direction, item: &Shared) -> i64
+    ensures value { result ≡ spec.shared_advance direction item.now }
+    ensures size { unsigned_abs result ≤ 2 ^ 32 }
+{
+    match item {
+        Shared::Rule(rule) => rule_advance(direction, *rule),
+        Shared::Leaders(leaders) => leaders.glue.width(),
+        Shared::Special(_) => 0,
+    }
+}
+
+impl Node {
+    /// How far the node moves the reference point naturally, in sp: to the right in a horizontal list, down in a vertical one.
+    pub fn advance(&self, direction: Direction) -> i64
+        ensures value { result ≡ spec.advance direction (item_of self.now) }
+        ensures size { unsigned_abs result ≤ 2 ^ 32 }
+    {
+        match self {
+            Node::Plain(item) => plain_advance(*item),
+            Node::Shared(item) => shared_advance(direction, item),
+            Node::Box(_, inner) => inner.head().advance(direction),
+        }
+    }
+
+    /// Its glue, or that of the leaders that it is.
+    pub fn glue(&self) -> Option<Glue>
+        ensures { result ≡ spec.glue_of_item (item_of self.now) }
+    {
+        match self {
+            Node::Plain(item) => plain_glue(*item),
+            Node::Shared(item) => shared_glue(item),
+            Node::Box(_, _) => None,
+        }
+    }
+}
+
+fn plain_glue(item: Plain) -> Option<Glue>
+    ensures { result ≡ spec.plain_glue item }
+{
+    match item {
+        Plain::Kern(_, _) | Plain::Penalty(_) => None,
+        Plain::Glue(glue) => Some(glue),
+    }
+}
+
+fn shared_glue(item: &Shared) -> Option<Glue>
+    ensures { result ≡ spec.shared_glue item.now }
+{
+    match item {
+        Shared::Rule(_) | Shared::Special(_) => None,
+        Shared::Leaders(leaders) => Some(leaders.glue),
+    }
+}

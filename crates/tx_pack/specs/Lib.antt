@@ -1,0 +1,4 @@
+pub mod Sums
+pub mod Stretching
+pub mod Verdicts
+pub mod Packing

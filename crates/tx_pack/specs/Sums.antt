@@ -1,0 +1,156 @@
+-- What a list asks of the box that it is packed in: sums over its items (TeX: The Program, sections 649 to 656 and 668 to 671).
+use Rattle.std.specs.Prelude.{Bool, ◌&&◌, nat_lt, ◌^◌, ℤ, pos, ◌+ℤ◌, ◌-ℤ◌, unsigned_abs, List, fold, Option, Some, None, if◌then◌else◌}
+use Rattle.std.specs.Int.{int_max}
+use Rattle.std.specs.Option.{option_and_then}
+use Rattle.tx_num.specs.Glue.{GlueSpec, IsDimension}
+use Rattle.tx_node.specs.declared.head.Change.{Change}
+use Rattle.tx_node.specs.declared.head.Change.TheVariants.{Stretch, Shrink}
+use Rattle.tx_node.specs.declared.head.Direction.{Direction}
+use Rattle.tx_node.specs.declared.head.Direction.TheVariants.{Horizontal, Vertical}
+use Rattle.tx_node.specs.declared.plain.Plain.{Plain}
+use Rattle.tx_node.specs.declared.plain.Plain.TheVariants.{Kern, Glue, Penalty}
+use Rattle.tx_node.specs.declared.plain.Shared.{Shared}
+use Rattle.tx_node.specs.declared.plain.Shared.TheVariants.{Rule, Leaders, Special}
+use Rattle.tx_node.specs.Items.{Item, plain, shared, boxed}
+use Rattle.tx_node.specs.Sizes.{side, advance, glue_of_item}
+use Rattle.tx_node.specs.Setting.{glue_part}
+use Rattle.tx_pack.specs.declared.sums.Orders.{Orders}
+use Rattle.tx_pack.specs.declared.sums.Sums.{Sums}
+
+-- the height and the depth that an item asks of a horizontal list's box; leaders ask for those of their rule, and a box that is
+-- shifted down for less height and more depth
+abbrev pub shared_height : Shared → ℤ
+shared_height (Rule r) = side r.height
+shared_height (Leaders l) = side l.rule.height
+shared_height (Special text) = pos 0
+
+abbrev pub shared_depth : Shared → ℤ
+shared_depth (Rule r) = side r.depth
+shared_depth (Leaders l) = side l.rule.depth
+shared_depth (Special text) = pos 0
+
+abbrev pub height_asked : Item → ℤ
+height_asked (plain p) = pos 0
+height_asked (shared s) = shared_height s
+height_asked (boxed shift head inner) = head.height -ℤ shift
+
+abbrev pub depth_asked : Item → ℤ
+depth_asked (plain p) = pos 0
+depth_asked (shared s) = shared_depth s
+depth_asked (boxed shift head inner) = head.depth +ℤ shift
+
+-- the width that an item asks of a vertical list's box
+abbrev pub shared_width : Shared → ℤ
+shared_width (Rule r) = side r.width
+shared_width (Leaders l) = side l.rule.width
+shared_width (Special text) = pos 0
+
+abbrev pub width_asked : Item → ℤ
+width_asked (plain p) = pos 0
+width_asked (shared s) = shared_width s
+width_asked (boxed shift head inner) = head.width +ℤ shift
+
+-- the depth of a vertical list whose last item this is, where it was so deep before: that of a box or rule; none behind glue and
+-- kerns; penalties and specials change nothing
+abbrev pub plain_left : ℤ → Plain → ℤ
+plain_left depth (Kern kind size) = pos 0
+plain_left depth (Glue g) = pos 0
+plain_left depth (Penalty n) = depth
+
+abbrev pub shared_left : ℤ → Shared → ℤ
+shared_left depth (Rule r) = side r.depth
+shared_left depth (Leaders l) = pos 0
+shared_left depth (Special text) = depth
+
+abbrev pub depth_left : ℤ → Item → ℤ
+depth_left depth (plain p) = plain_left depth p
+depth_left depth (shared s) = shared_left depth s
+depth_left depth (boxed shift head inner) = head.depth
+
+-- stretch or shrink by order, with that of more glue
+abbrev pub with_glue : Change → Option GlueSpec → Orders → Orders
+with_glue change None orders = orders
+with_glue change (Some g) orders = record {
+  normal = orders.normal +ℤ glue_part change 0 g;
+  fil = orders.fil +ℤ glue_part change 1 g;
+  fill = orders.fill +ℤ glue_part change 2 g;
+  filll = orders.filll +ℤ glue_part change 3 g;
+}
+
+-- the sums of a horizontal list with one more item: widths add up, the greatest height and depth count
+abbrev pub beside : Sums → Item → Sums
+beside sums item = record {
+  width = sums.width +ℤ advance Horizontal item;
+  height = int_max sums.height (height_asked item);
+  depth = int_max sums.depth (depth_asked item);
+  stretch = with_glue Stretch (glue_of_item item) sums.stretch;
+  shrink = with_glue Shrink (glue_of_item item) sums.shrink;
+}
+
+-- the height of a vertical list with one more item, in which all depths are but the last
+abbrev pub height_below : Sums → Item → ℤ
+height_below sums item = sums.height +ℤ sums.depth +ℤ advance Vertical item -ℤ depth_left sums.depth item
+
+-- the sums of a vertical list with one more item: heights and depths add up, but the last depth, which stands by itself
+abbrev pub below : Sums → Item → Sums
+below sums item = record {
+  width = int_max sums.width (width_asked item);
+  height = height_below sums item;
+  depth = depth_left sums.depth item;
+  stretch = with_glue Stretch (glue_of_item item) sums.stretch;
+  shrink = with_glue Shrink (glue_of_item item) sums.shrink;
+}
+
+abbrev pub joined : Direction → Sums → Item → Sums
+joined Horizontal sums item = beside sums item
+joined Vertical sums item = below sums item
+
+abbrev pub no_orders : Orders
+no_orders = record { normal = pos 0; fil = pos 0; fill = pos 0; filll = pos 0 }
+
+-- the sums of the empty list
+abbrev pub nothing : Sums
+nothing = record { width = pos 0; height = pos 0; depth = pos 0; stretch = no_orders; shrink = no_orders }
+
+-- a size that is a dimension
+abbrev pub fits : ℤ → Bool
+fits size = nat_lt (unsigned_abs size) (2 ^ 30)
+
+-- what an item asks across its list are dimensions, and so are all sums
+abbrev pub asked_fit : Direction → Item → Bool
+asked_fit Horizontal item = fits (height_asked item) && fits (depth_asked item)
+asked_fit Vertical item = fits (width_asked item)
+
+abbrev pub orders_fit : Orders → Bool
+orders_fit orders = (fits orders.normal && fits orders.fil) && (fits orders.fill && fits orders.filll)
+
+abbrev pub sizes_fit : Sums → Bool
+sizes_fit sums = (fits sums.width && fits sums.height) && fits sums.depth
+
+abbrev pub all_fit : Sums → Bool
+all_fit sums = sizes_fit sums && (orders_fit sums.stretch && orders_fit sums.shrink)
+
+-- the sums with one more item, None where one of them is no dimension
+abbrev pub joined_if_fit : Direction → Sums → Item → Option Sums
+joined_if_fit direction sums item = if asked_fit direction item && all_fit (joined direction sums item) then Some (joined direction sums item) else None
+
+-- the sums of a list, None where one of them is no dimension behind some item
+abbrev pub with_item : Direction → Option Sums → Item → Option Sums
+with_item direction sums item = option_and_then (λ s. joined_if_fit direction s item) sums
+
+abbrev pub sums_of : Direction → List Item → Option Sums
+sums_of direction list = fold (with_item direction) (Some nothing) list
+
+-- sums that are dimensions
+pub record AreSmall (orders : Orders) : Type 0 where
+  pub normal : IsDimension orders.normal
+  pub fil : IsDimension orders.fil
+  pub fill : IsDimension orders.fill
+  pub filll : IsDimension orders.filll
+
+pub record IsSmall (sums : Sums) : Type 0 where
+  pub width : IsDimension sums.width
+  pub height : IsDimension sums.height
+  pub depth : IsDimension sums.depth
+  pub stretch : AreSmall sums.stretch
+  pub shrink : AreSmall sums.shrink

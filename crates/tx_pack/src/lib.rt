@@ -1,0 +1,18 @@
+//! Packing lists into boxes of a size, with glue set by exact fractions (TeX: The Program, part 33).
+//!
+//! Proved: a box's sizes, how its glue is set, how bad that is, what is said of it and the rule at an overfull list's end
+//! are exactly as defined, and so is each error. Only tested: sizes and badnesses that Knuth's TeX gives.
+//!
+//! Modules in reading order: `types`, `sums`, `asked`, `stretching`, `verdicts`, `reports`, `packing`.
+#![tactic(auto)]
+
+mod asked;
+mod packing;
+mod reports;
+mod stretching;
+mod sums;
+mod types;
+mod verdicts;
+
+pub use packing::{hpack, vpack};
+pub use types::{Goal, PackError, PackParams, Packed};
