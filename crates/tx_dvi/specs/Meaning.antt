@@ -10,6 +10,17 @@ pub record PlacedRule : Type 0 where
   pub height : ℤ
   pub width : ℤ
 
+-- a special: how far right and down it stands, and its bytes
+pub record PlacedSpecial : Type 0 where
+  pub h : ℤ
+  pub v : ℤ
+  pub text : List ℕ
+
+-- what the reader of a page meets
+pub data Placed : Type 0 where
+  ruled : PlacedRule → Placed
+  noted : PlacedSpecial → Placed
+
 -- where the reader of a page is, and its four amounts of movement
 pub record Registers : Type 0 where
   pub h : ℤ
@@ -19,23 +30,28 @@ pub record Registers : Type 0 where
   pub y : ℤ
   pub z : ℤ
 
--- the reader: its registers, those that were pushed, the last one first, the rules that it met, and the first bytes of a
--- command that isn't whole
+-- the reader: its registers, those that were pushed, the last one first, what it met, and the first bytes of a command that
+-- isn't whole
 pub record Reader : Type 0 where
   pub now : Registers
   pub stack : List Registers
-  pub rules : List PlacedRule
+  pub met : List Placed
   pub begun : List ℕ
 
 -- the number that some bytes are, the highest first, in two's complement
 abbrev pub signed : ℕ → List ℕ → ℤ
 signed n bytes = twos_complement n (big_number n bytes)
 
--- how many bytes follow the first one of a command, None where it begins none of these: set_rule 132, put_rule 137, nop 138,
--- push 141, pop 142; right1 to right4 from 143, w0 to w4 from 147, x0 to x4 from 152, down1 to down4 from 157, y0 to y4
--- from 161, z0 to z4 from 166
-abbrev pub operands : ℕ → Option ℕ
-operands opcode =
+-- how many bytes follow the first one of a special whose length has n bytes: these, and once they are there as many more as
+-- they say
+abbrev pub special_operands : ℕ → List ℕ → ℕ
+special_operands n bytes = if nat_lt n (length bytes) then n + big_number n (drop 1 bytes) else n
+
+-- how many bytes follow the first one of a command of which these bytes are there, None where it begins none of these:
+-- set_rule 132, put_rule 137, nop 138, push 141, pop 142; right1 to right4 from 143, w0 to w4 from 147, x0 to x4 from 152,
+-- down1 to down4 from 157, y0 to y4 from 161, z0 to z4 from 166; xxx1 to xxx4, the specials, from 239
+abbrev pub operands : ℕ → List ℕ → Option ℕ
+operands opcode bytes =
     if opcode == 132 || opcode == 137 then Some 8
     else if opcode == 138 || opcode == 141 || opcode == 142 then Some 0
     else if nat_lt opcode 143 then None
@@ -45,6 +61,8 @@ operands opcode =
     else if nat_le opcode 160 then Some (opcode - 156)
     else if nat_le opcode 165 then Some (opcode - 161)
     else if nat_le opcode 170 then Some (opcode - 166)
+    else if nat_lt opcode 239 then None
+    else if nat_le opcode 242 then Some (special_operands (opcode - 238) bytes)
     else None
 
 -- to the right and down
@@ -69,12 +87,18 @@ moved opcode size r =
     else down_by size (record r { z = size })
 
 -- a rule is met where both its sides are positive
-abbrev pub rule_met : ℤ → ℤ → ℤ → ℤ → List PlacedRule
+abbrev pub rule_met : ℤ → ℤ → ℤ → ℤ → List Placed
 rule_met h v height width =
-    if is_positive height then (if is_positive width then record { h = h; v = v; height = height; width = width } ∷ [] else []) else []
+    if is_positive height then (if is_positive width then ruled (record { h = h; v = v; height = height; width = width }) ∷ [] else []) else []
+
+abbrev pub special_met : ℤ → ℤ → List ℕ → List Placed
+special_met h v text = noted (record { h = h; v = v; text = text }) ∷ []
 
 abbrev pub with_rule : ℤ → ℤ → Reader → Reader
-with_rule height width r = record r { rules = r.rules ++ rule_met r.now.h r.now.v height width }
+with_rule height width r = record r { met = r.met ++ rule_met r.now.h r.now.v height width }
+
+abbrev pub with_special : List ℕ → Reader → Reader
+with_special text r = record r { met = r.met ++ special_met r.now.h r.now.v text }
 
 abbrev pub with_registers : Registers → Reader → Reader
 with_registers now r = record r { now = now }
@@ -96,6 +120,7 @@ carried_out opcode bytes r =
     else if opcode == 138 then Some r
     else if opcode == 141 then Some (record r { stack = r.now ∷ r.stack })
     else if opcode == 142 then popped r.stack r
+    else if nat_le 239 opcode then Some (with_special (drop (opcode - 238) bytes) r)
     else Some (with_registers (moved opcode (signed (length bytes) bytes) r.now) r)
 
 -- the bytes of a command: it is carried out once all of them are there
@@ -107,17 +132,18 @@ when_whole (Some more) bytes r =
 -- one byte more
 abbrev pub read : Option Reader → ℕ → Option Reader
 read None byte = None
-read (Some r) byte = let bytes : List ℕ = r.begun ++ byte ∷ [] in when_whole (operands (get_or bytes 0 0)) bytes r
+read (Some r) byte = let bytes : List ℕ = r.begun ++ byte ∷ [] in when_whole (operands (get_or bytes 0 0) bytes) bytes r
 
--- the rules of a page, where its last command is whole and all that was pushed is popped
-abbrev pub rules_met : Option Reader → Option (List PlacedRule)
-rules_met None = None
-rules_met (Some r) = if length r.stack + length r.begun == 0 then Some r.rules else None
+-- what was met on a page, where its last command is whole and all that was pushed is popped
+abbrev pub all_met : Option Reader → Option (List Placed)
+all_met None = None
+all_met (Some r) = if length r.stack + length r.begun == 0 then Some r.met else None
 
 -- a page begins at its left upper corner, with nothing pushed
 abbrev pub page_start : Reader
-page_start = record { now = record { h = pos 0; v = pos 0; w = pos 0; x = pos 0; y = pos 0; z = pos 0 }; stack = []; rules = []; begun = [] }
+page_start = record { now = record { h = pos 0; v = pos 0; w = pos 0; x = pos 0; y = pos 0; z = pos 0 }; stack = []; met = []; begun = [] }
 
--- what the commands of a page mean: its rules, in the order in which they are met; None where they are none of the commands above
-unfoldable pub meaning : List ℕ → Option (List PlacedRule)
-meaning body = rules_met (fold read (Some page_start) body)
+-- what the commands of a page mean: its rules and specials, in the order in which they are met; None where they are none of the
+-- commands above
+unfoldable pub meaning : List ℕ → Option (List Placed)
+meaning body = all_met (fold read (Some page_start) body)

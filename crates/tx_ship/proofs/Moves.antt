@@ -1,13 +1,13 @@
 -- What the reader of a page does at a movement and at a rule.
-use Rattle.std.proofs.Common.{◌≡◌, ◌==◌, ℕ, ◌+◌, ◌-◌, ◌^◌, ◌<◌, ℤ, pos, ◌+ℤ◌, Bool, true, false, cond, nat_lt, unsigned_abs, List, [], ◌∷◌, drop, Some, refl, ap, ◌∙◌, arith}
+use Rattle.std.proofs.Common.{◌≡◌, ◌==◌, ℕ, ◌+◌, ◌-◌, ◌^◌, ◌<◌, ℤ, pos, ◌+ℤ◌, Bool, true, false, cond, nat_lt, unsigned_abs, List, [], ◌∷◌, ◌++◌, drop, Some, refl, ap, ◌∙◌, arith}
 use Rattle.std.proofs.lemmas.Bool.{ltb-true, eqb-true}
 use Rattle.std.proofs.lemmas.Int.{ints}
 use Rattle.tx_dvi.specs.Dvi.{four_bytes}
-use Rattle.tx_dvi.specs.Meaning.{Registers, PlacedRule, right_by, down_by, rule_set}
+use Rattle.tx_dvi.specs.Meaning.{Registers, Placed, right_by, down_by, rule_set, with_rule}
 use Rattle.tx_dvi.proofs.Reading as dvi
 use Rattle.tx_dvi.proofs.Reading.{run, reader}
 use Rattle.tx_dvi.proofs.SignedBack.{signed-back1, signed-back2, signed-back3, signed-back4}
-use Rattle.tx_ship.specs.Commands.{movement, movement_size, right, down, set_rule}
+use Rattle.tx_ship.specs.Commands.{movement, movement_size, right, down}
 
 -- a movement by its size
 data Sized (by : ℤ) : Type 0 where
@@ -44,37 +44,41 @@ still shortest by e = ap (λ b. cond b [] ((shortest + (movement_size by - 1)) �
 nothing : (by : ℤ) → (unsigned_abs by == 0) ≡ true → by ≡ pos 0
 nothing by e = let zero_is : unsigned_abs by ≡ 0 = eqb-true _ _ e in omega (arith, ints, zero_is)
 
-module _ (now : Registers) (stack : List Registers) (rules : List PlacedRule) where
-  pub run-right : (by : ℤ) → unsigned_abs by < 2 ^ 31 → run (Some (reader now stack rules)) (right by) ≡ Some (reader (right_by by now) stack rules)
+module _ (now : Registers) (stack : List Registers) (met : List Placed) where
+  pub run-right : (by : ℤ) → unsigned_abs by < 2 ^ 31 → run (Some (reader now stack met)) (right by) ≡ Some (reader (right_by by now) stack met)
   run-right by h = cases (unsigned_abs by == 0) refl
     where
-      of_size : (unsigned_abs by == 0) ≡ false → Sized by → run (Some (reader now stack rules)) (right by) ≡ Some (reader (right_by by now) stack rules)
-      of_size some (one is l) = ap (run (Some (reader now stack rules))) (moves 143 by 1 some is) ∙ dvi.run-right1 now stack rules by ∙ ap (λ z. Some (reader (right_by z now) stack rules)) (signed-back1 by l)
-      of_size some (two is l) = ap (run (Some (reader now stack rules))) (moves 143 by 2 some is) ∙ dvi.run-right2 now stack rules by ∙ ap (λ z. Some (reader (right_by z now) stack rules)) (signed-back2 by l)
-      of_size some (three is l) = ap (run (Some (reader now stack rules))) (moves 143 by 3 some is) ∙ dvi.run-right3 now stack rules by ∙ ap (λ z. Some (reader (right_by z now) stack rules)) (signed-back3 by l)
-      of_size some (four is) = ap (run (Some (reader now stack rules))) (moves 143 by 4 some is) ∙ dvi.run-right4 now stack rules by ∙ ap (λ z. Some (reader (right_by z now) stack rules)) (signed-back4 by h)
+      of_size : (unsigned_abs by == 0) ≡ false → Sized by → run (Some (reader now stack met)) (right by) ≡ Some (reader (right_by by now) stack met)
+      of_size some (one is l) = ap (run (Some (reader now stack met))) (moves 143 by 1 some is) ∙ dvi.run-right1 now stack met by ∙ ap (λ z. Some (reader (right_by z now) stack met)) (signed-back1 by l)
+      of_size some (two is l) = ap (run (Some (reader now stack met))) (moves 143 by 2 some is) ∙ dvi.run-right2 now stack met by ∙ ap (λ z. Some (reader (right_by z now) stack met)) (signed-back2 by l)
+      of_size some (three is l) = ap (run (Some (reader now stack met))) (moves 143 by 3 some is) ∙ dvi.run-right3 now stack met by ∙ ap (λ z. Some (reader (right_by z now) stack met)) (signed-back3 by l)
+      of_size some (four is) = ap (run (Some (reader now stack met))) (moves 143 by 4 some is) ∙ dvi.run-right4 now stack met by ∙ ap (λ z. Some (reader (right_by z now) stack met)) (signed-back4 by h)
 
-      cases : (b : Bool) → (unsigned_abs by == 0) ≡ b → run (Some (reader now stack rules)) (right by) ≡ Some (reader (right_by by now) stack rules)
-      cases true e = ap (run (Some (reader now stack rules))) (still 143 by e)
-          ∙ (let same : now.h ≡ now.h +ℤ by = let z = nothing by e in omega (arith, ints, z) in λ i. Some (reader (record now { h = same i }) stack rules))
+      cases : (b : Bool) → (unsigned_abs by == 0) ≡ b → run (Some (reader now stack met)) (right by) ≡ Some (reader (right_by by now) stack met)
+      cases true e = ap (run (Some (reader now stack met))) (still 143 by e)
+          ∙ (let same : now.h ≡ now.h +ℤ by = let z = nothing by e in omega (arith, ints, z) in λ i. Some (reader (record now { h = same i }) stack met))
       cases false e = of_size e (sized by)
 
-  pub run-down : (by : ℤ) → unsigned_abs by < 2 ^ 31 → run (Some (reader now stack rules)) (down by) ≡ Some (reader (down_by by now) stack rules)
+  pub run-down : (by : ℤ) → unsigned_abs by < 2 ^ 31 → run (Some (reader now stack met)) (down by) ≡ Some (reader (down_by by now) stack met)
   run-down by h = cases (unsigned_abs by == 0) refl
     where
-      of_size : (unsigned_abs by == 0) ≡ false → Sized by → run (Some (reader now stack rules)) (down by) ≡ Some (reader (down_by by now) stack rules)
-      of_size some (one is l) = ap (run (Some (reader now stack rules))) (moves 157 by 1 some is) ∙ dvi.run-down1 now stack rules by ∙ ap (λ z. Some (reader (down_by z now) stack rules)) (signed-back1 by l)
-      of_size some (two is l) = ap (run (Some (reader now stack rules))) (moves 157 by 2 some is) ∙ dvi.run-down2 now stack rules by ∙ ap (λ z. Some (reader (down_by z now) stack rules)) (signed-back2 by l)
-      of_size some (three is l) = ap (run (Some (reader now stack rules))) (moves 157 by 3 some is) ∙ dvi.run-down3 now stack rules by ∙ ap (λ z. Some (reader (down_by z now) stack rules)) (signed-back3 by l)
-      of_size some (four is) = ap (run (Some (reader now stack rules))) (moves 157 by 4 some is) ∙ dvi.run-down4 now stack rules by ∙ ap (λ z. Some (reader (down_by z now) stack rules)) (signed-back4 by h)
+      of_size : (unsigned_abs by == 0) ≡ false → Sized by → run (Some (reader now stack met)) (down by) ≡ Some (reader (down_by by now) stack met)
+      of_size some (one is l) = ap (run (Some (reader now stack met))) (moves 157 by 1 some is) ∙ dvi.run-down1 now stack met by ∙ ap (λ z. Some (reader (down_by z now) stack met)) (signed-back1 by l)
+      of_size some (two is l) = ap (run (Some (reader now stack met))) (moves 157 by 2 some is) ∙ dvi.run-down2 now stack met by ∙ ap (λ z. Some (reader (down_by z now) stack met)) (signed-back2 by l)
+      of_size some (three is l) = ap (run (Some (reader now stack met))) (moves 157 by 3 some is) ∙ dvi.run-down3 now stack met by ∙ ap (λ z. Some (reader (down_by z now) stack met)) (signed-back3 by l)
+      of_size some (four is) = ap (run (Some (reader now stack met))) (moves 157 by 4 some is) ∙ dvi.run-down4 now stack met by ∙ ap (λ z. Some (reader (down_by z now) stack met)) (signed-back4 by h)
 
-      cases : (b : Bool) → (unsigned_abs by == 0) ≡ b → run (Some (reader now stack rules)) (down by) ≡ Some (reader (down_by by now) stack rules)
-      cases true e = ap (run (Some (reader now stack rules))) (still 157 by e)
-          ∙ (let same : now.v ≡ now.v +ℤ by = let z = nothing by e in omega (arith, ints, z) in λ i. Some (reader (record now { v = same i }) stack rules))
+      cases : (b : Bool) → (unsigned_abs by == 0) ≡ b → run (Some (reader now stack met)) (down by) ≡ Some (reader (down_by by now) stack met)
+      cases true e = ap (run (Some (reader now stack met))) (still 157 by e)
+          ∙ (let same : now.v ≡ now.v +ℤ by = let z = nothing by e in omega (arith, ints, z) in λ i. Some (reader (record now { v = same i }) stack met))
       cases false e = of_size e (sized by)
 
-  pub run-rule : (height width : ℤ) → unsigned_abs height < 2 ^ 31 → unsigned_abs width < 2 ^ 31
-      → run (Some (reader now stack rules)) (set_rule height width) ≡ Some (rule_set height width (reader now stack rules))
-  unfolding set_rule
-  run-rule height width high wide =
-      dvi.run-set_rule now stack rules height width ∙ (λ i. Some (rule_set (signed-back4 height high i) (signed-back4 width wide i) (reader now stack rules)))
+  pub run-set : (height width : ℤ) → unsigned_abs height < 2 ^ 31 → unsigned_abs width < 2 ^ 31
+      → run (Some (reader now stack met)) (132 ∷ four_bytes height ++ four_bytes width) ≡ Some (rule_set height width (reader now stack met))
+  run-set height width high wide =
+      dvi.run-set_rule now stack met height width ∙ (λ i. Some (rule_set (signed-back4 height high i) (signed-back4 width wide i) (reader now stack met)))
+
+  pub run-put : (height width : ℤ) → unsigned_abs height < 2 ^ 31 → unsigned_abs width < 2 ^ 31
+      → run (Some (reader now stack met)) (137 ∷ four_bytes height ++ four_bytes width) ≡ Some (with_rule height width (reader now stack met))
+  run-put height width high wide =
+      dvi.run-put_rule now stack met height width ∙ (λ i. Some (with_rule (signed-back4 height high i) (signed-back4 width wide i) (reader now stack met)))

@@ -3,7 +3,7 @@ use Rattle.std.proofs.Common.{◌≡◌, ℕ, ◌<◌, ◌≤◌, Bool, true, fa
 use Rattle.std.proofs.lemmas.Bool.{le-leb}
 use Rattle.std.proofs.lemmas.Bool.Decides.{leb_tells}
 use Rattle.tx_dvi.specs.Page.{Page}
-use Rattle.tx_node.specs.Items.{HBox}
+use Rattle.tx_node.specs.Items.{PackedBox}
 use Rattle.tx_ship.specs.declared.params.ShipParams.{ShipParams}
 use Rattle.tx_ship.specs.declared.error.ShipError.{ShipError}
 use Rattle.tx_ship.specs.declared.error.ShipError.TheVariants.{SizeTooLarge, OutsidePage, BodyTooLong}
@@ -11,7 +11,7 @@ use Rattle.tx_ship.specs.Commands.{body_of}
 use Rattle.tx_ship.specs.Within.{page_lies}
 use Rattle.tx_ship.specs.Pages.{sizes_fit, page_of, page_of_body, page_with}
 
-module _ (b : HBox) (params : ShipParams) where
+module _ (b : PackedBox) (params : ShipParams) where
   abbrev tested : Bool → Bool → List ℕ → Result Page ShipError
   tested fit lie body = cond fit (cond lie (page_of_body b params body) (Err OutsidePage)) (Err SizeTooLarge)
 

@@ -1,15 +1,29 @@
--- Steps of the walks over a list, and what a test of places tells.
-use Rattle.std.proofs.Common.{◌≡◌, ◌==◌, ℕ, ◌+◌, ◌<◌, ℤ, ◌+ℤ◌, ◌-ℤ◌, Bool, true, false, not, ◌&&◌, ◌||◌, List, [], ◌∷◌, ◌++◌, length, drop, get_or, refl, sym, ap, ◌∙◌, add-one, append_assoc}
-use Rattle.std.proofs.lemmas.Bool.{leb-true}
-use Rattle.std.proofs.Math.Seq.{drop-cons}
+-- Steps of the walk over a list, and what a test of places tells.
+use Rattle.std.proofs.Common.{◌≡◌, ◌==◌, ℕ, ◌+◌, ◌-◌, ◌<◌, ◌≤◌, ◌^◌, ℤ, unsigned_abs, ◌+ℤ◌, ◌-ℤ◌, Bool, true, false, cond, not, ◌&&◌, List, [], ◌∷◌, ◌++◌, length, take, drop, get_or, refl, sym, ap, ◌∙◌, subst, arith, add-one, append_assoc, Result, Ok, Err}
+use Rattle.std.specs.Prelude.{IsErrAnd}
+use Rattle.std.proofs.lemmas.Bool.{leb-true, ltb-true, eqb-true, eqb-false}
+use Rattle.std.proofs.lemmas.List.{append-nil, length-append, drop_all}
+use Rattle.std.proofs.Math.Seq.{drop-cons, take-append_seam}
 use Rattle.std.proofs.Math.Dec.{eqb-suc-zero}
-use Rattle.tx_ship.specs.Commands.{is_entered}
 use Rattle.tx_node.specs.declared.node.Node.{Node}
-use Rattle.tx_node.specs.Items.{Item, more, items_of}
+use Rattle.tx_node.specs.declared.head.BoxHead.{BoxHead}
+use Rattle.tx_node.specs.declared.head.Direction.{Direction}
+use Rattle.tx_node.specs.declared.head.Direction.TheVariants.{Horizontal, Vertical}
+use Rattle.tx_node.specs.Items.{Item, Items, none, more, PackedBox, box_item, items_of}
+use Rattle.tx_node.specs.Sizes.{advance}
 use Rattle.tx_node.specs.Nodes.{item_of, list_of}
-use Rattle.tx_node.specs.Packing.{item_width}
+use Rattle.tx_node.specs.Setting.{Reach, sums_fit, share}
+use Rattle.tx_ship.specs.declared.error.ShipError.{ShipError}
+use Rattle.tx_ship.specs.declared.places.Point.{Point}
 use Rattle.tx_ship.specs.declared.places.Frame.{Frame}
-use Rattle.tx_ship.specs.Within.{Lies, on_page, edges_lie, list_lies, item_lies}
+use Rattle.tx_ship.specs.declared.places.Cursor.{Cursor}
+use Rattle.tx_ship.specs.declared.places.Sides.{Sides}
+use Rattle.tx_ship.specs.declared.places.Span.{Span}
+use Rattle.tx_ship.specs.declared.places.Stand.{Stand}
+use Rattle.tx_ship.specs.declared.places.CornerRule.{CornerRule}
+use Rattle.tx_ship.specs.Standing.{next, place, span_of, reference, shifted, frame_at}
+use Rattle.tx_ship.specs.Commands.{is_entered, cornered, cursor_at, right, down, way, framed, list_commands, item_commands}
+use Rattle.tx_ship.specs.Within.{Lies, IsReader, IsNearBox, IsOutside, on_page, point_lies, along_lies, edges_lie, box_lies, inside_lies, list_lies, item_lies}
 
 -- both of two tests
 pub both : {a b : Bool} → (a && b) ≡ true → (a ≡ true) × (b ≡ true)
@@ -18,8 +32,8 @@ both {a = true} {b = false} e = absurd (cc)
 both {a = false} {b = true} e = absurd (cc)
 both {a = false} {b = false} e = absurd (cc)
 
--- what the test of the edges tells
-pub lies-is : {at width base height depth : ℤ} → edges_lie at width base height depth ≡ true → Lies at width base height depth
+-- what the tests of the edges and of a point tell
+pub lies-is : {at : Point} {sides : Sides} → edges_lie at sides ≡ true → Lies at sides
 unfolding edges_lie
 lies-is e = record {
   left = leb-true _ _ (both (both e).0).0;
@@ -28,44 +42,143 @@ lies-is e = record {
   bottom = leb-true _ _ (both (both e).1).1;
 }
 
+pub point-is : {at : Point} → point_lies at ≡ true → IsReader (cursor_at at)
+point-is e = record { right = leb-true _ _ (both e).0; down = leb-true _ _ (both e).1 }
+
 -- the list from an item on
 pub items-on : (xs : List Node) (i : ℕ) (x : Node) → i < length xs → x ≡ get_or xs i x → items_of (list_of (drop i xs)) ≡ more (item_of x) (items_of (list_of (drop (i + 1) xs)))
 items-on xs i x h is = ap (λ ys. items_of (list_of ys)) (drop-cons xs i x h) ∙ (λ j. more (item_of (sym is j)) (items_of (list_of (drop (sym (add-one i) j) xs))))
-
--- behind an item that lies on the page, the rest does where all did
-pub lies-on : (xs : List Node) (i : ℕ) {x : Node} (frame : Frame) (at : ℤ) {next : ℤ} {whole : Bool} → i < length xs → x ≡ get_or xs i x
-    → list_lies frame at (items_of (list_of (drop i xs))) ≡ whole → item_lies frame at (item_of x) ≡ true → next ≡ at +ℤ item_width (item_of x)
-    → list_lies frame next (items_of (list_of (drop (i + 1) xs))) ≡ whole
-unfolding list_lies
-lies-on xs i {x} frame at h is so_far here moved =
-    ap (λ z. list_lies frame z (items_of (list_of (drop (i + 1) xs)))) moved
-    ∙ ap (λ b. b && list_lies frame (at +ℤ item_width (item_of x)) (items_of (list_of (drop (i + 1) xs)))) (sym here)
-    ∙ ap (list_lies frame at) (sym (items-on xs i x h is)) ∙ so_far
-
--- the test of the edges, from their places
-pub edges-are : (at width base height depth : ℤ) {right top bottom : ℤ} {told : Bool} → right ≡ at +ℤ width → top ≡ base -ℤ height → bottom ≡ base +ℤ depth
-    → true ≡ (on_page at && on_page right) → told ≡ (on_page top && on_page bottom) → told ≡ edges_lie at width base height depth
-unfolding edges_lie
-edges-are at width base height depth right_is top_is bottom_is across down =
-    down ∙ (λ i. across i && (on_page (top_is i) && on_page (bottom_is i)))
-    ∙ (λ i. (on_page at && on_page (right_is i)) && (on_page (base -ℤ height) && on_page (base +ℤ depth)))
-
--- a box with a list lies where its edges and its list do
-pub when-entered : {entered edges inside told : Bool} → true ≡ entered → true ≡ edges → told ≡ inside → told ≡ (not entered || (edges && inside))
-when-entered {inside = inside} e f g = g ∙ (λ i. not (e i) || (f i && inside))
 
 pub entered-is : (xs : List Node) {list : List Item} {told : Bool} → list_of xs ≡ list → told ≡ (length xs == 0) → not told ≡ is_entered (items_of list)
 entered-is [] is told_is = ap not told_is ∙ ap (λ list. is_entered (items_of list)) is
 entered-is (x ∷ xs) is told_is = ap not (told_is ∙ eqb-suc-zero (length xs)) ∙ ap (λ list. is_entered (items_of list)) is
 
--- three pieces, appended one after another
-pub three-puts : (a : List ℕ) {b c d p q r : List ℕ} (p' q' r' : List ℕ) → b ≡ a ++ p → c ≡ b ++ q → d ≡ c ++ r → p ≡ p' → q ≡ q' → r ≡ r' → d ≡ a ++ ((p' ++ q') ++ r')
-three-puts a p' q' r' first second third p_is q_is r_is =
-    third ∙ (λ i. second i ++ r_is i) ∙ (λ i. (first i ++ q_is i) ++ r') ∙ (λ i. ((a ++ p_is i) ++ q') ++ r')
-    ∙ (λ i. append_assoc a p' q' i ++ r') ∙ append_assoc a (p' ++ q') r'
+-- two pieces, appended one after another
+pub two-puts : (a p q : List ℕ) {b c : List ℕ} → b ≡ a ++ p → c ≡ b ++ q → c ≡ a ++ (p ++ q)
+two-puts a p q first second = second ∙ ap (λ b. b ++ q) first ∙ append_assoc a p q
 
--- an item lies on the page where the list from it on does
-pub lies-here : (xs : List Node) (i : ℕ) {x : Node} (frame : Frame) (at : ℤ) → i < length xs → x ≡ get_or xs i x
-    → list_lies frame at (items_of (list_of (drop i xs))) ≡ true → item_lies frame at (item_of x) ≡ true
+pub way-puts : (a : List ℕ) (from to : Cursor) {b c : List ℕ} → b ≡ a ++ right (to.right -ℤ from.right) → c ≡ b ++ down (to.down -ℤ from.down) → c ≡ a ++ way from to
+unfolding way
+way-puts a from to first second = two-puts a (right (to.right -ℤ from.right)) (down (to.down -ℤ from.down)) first second
+
+-- places, by their parts
+pub span-is : (frame : Frame) (reach : Reach) (item : Item) {from to : ℤ} → from ≡ place frame reach → to ≡ place frame (next frame reach item)
+    → ◌≡◌ {A = Span} (record { from = from; to = to }) (span_of frame reach item)
+span-is frame reach item from_is to_is = λ i. record { from = from_is i; to = to_is i }
+
+pub next-is : (frame : Frame) (reach : Reach) (item : Item) {natural sum : ℤ} → natural ≡ reach.natural +ℤ advance frame.head.direction item → sum ≡ reach.sum +ℤ share frame.head.setting item
+    → ◌≡◌ {A = Reach} (record { natural = natural; sum = sum }) (next frame reach item)
+next-is frame reach item natural_is sum_is = λ i. record { natural = natural_is i; sum = sum_is i }
+
+pub across-is : (frame : Frame) (s : Stand) {direction : Direction} {h v : ℤ} → direction ≡ Horizontal → h ≡ s.from → v ≡ frame.at.v +ℤ s.shift
+    → ◌≡◌ {A = Point} (record { h = h; v = v }) (reference direction frame s)
+across-is frame s e h_is v_is = (λ i. record { h = h_is i; v = v_is i }) ∙ (λ i. reference (sym e i) frame s)
+
+pub along-is : (frame : Frame) (s : Stand) {direction : Direction} {h v : ℤ} → direction ≡ Vertical → h ≡ frame.at.h +ℤ s.shift → v ≡ s.from +ℤ s.height
+    → ◌≡◌ {A = Point} (record { h = h; v = v }) (reference direction frame s)
+along-is frame s e h_is v_is = (λ i. record { h = h_is i; v = v_is i }) ∙ (λ i. reference (sym e i) frame s)
+
+pub shifted-is : (from shift : ℤ) (head : BoxHead) {f s h : ℤ} → f ≡ from → s ≡ shift → h ≡ head.height
+    → ◌≡◌ {A = Stand} (record { from = f; shift = s; height = h }) (shifted from shift head)
+shifted-is from shift head f_is s_is h_is = λ i. record { from = f_is i; shift = s_is i; height = h_is i }
+
+pub cornered-is : (at : Point) (sides : Sides) {across downward height width : ℤ} → across ≡ at.h → downward ≡ at.v +ℤ sides.depth → height ≡ sides.height +ℤ sides.depth → width ≡ sides.width
+    → ◌≡◌ {A = CornerRule} (record { corner = record { right = across; down = downward }; height = height; width = width }) (cornered at sides)
+cornered-is at sides across_is downward_is height_is width_is = λ i. record { corner = record { right = across_is i; down = downward_is i }; height = height_is i; width = width_is i }
+
+-- the test of the upper edge and the lower one, from their places
+pub along-are : (at : Point) (sides : Sides) {top bottom : ℤ} {told : Bool} → true ≡ on_page top → told ≡ on_page bottom → top ≡ at.v -ℤ sides.height → bottom ≡ at.v +ℤ sides.depth
+    → told ≡ along_lies at sides
+along-are at sides over under top_is bottom_is =
+    under ∙ ap on_page bottom_is ∙ (λ i. (over ∙ ap on_page top_is) i && on_page (at.v +ℤ sides.depth))
+
+-- a box that lies on the page is near
+pub near-box : {frame : Frame} {head : BoxHead} {at : Point} → frame ≡ frame_at head at → IsReader (cursor_at at) → IsNearBox frame
+near-box is lies = subst IsNearBox (sym is) (record { h = omega (arith, lies.right); v = omega (arith, lies.down) })
+
+-- an item that is a box lies where this does
+pub box-item-lies : (frame : Frame) (span : Span) (b : PackedBox) {x : Item} {shift : ℤ} {at : Point} → x ≡ box_item shift b → at ≡ reference frame.head.direction frame (shifted span.from shift b.head)
+    → box_lies at b.head (items_of b.list) (inside_lies b at) ≡ item_lies frame span x
 unfolding list_lies
-lies-here xs i {x} frame at h is all = (both (ap (list_lies frame at) (sym (items-on xs i x h is)) ∙ all)).0
+box-item-lies frame span b is at_is = (λ i. box_lies (at_is i) b.head (items_of b.list) (inside_lies b (at_is i))) ∙ ap (item_lies frame span) (sym is)
+
+-- the push of a box, its commands and what closes them
+pub framed-close : (before inner : List ℕ) {pushed put new : List ℕ} {start : ℕ} → pushed ≡ before ++ 141 ∷ [] → start ≡ length pushed → put ≡ pushed ++ inner
+    → new ≡ cond (length put == start) (take (start - 1) put) (put ++ 142 ∷ []) → new ≡ before ++ framed inner
+framed-close before inner {pushed} {put} {new} {start} pushed_is start_is put_is new_is = by inner put_is (length put == start) refl new_is
+  where
+    long : start ≡ length before + 1
+    long = start_is ∙ ap length pushed_is ∙ length-append before (141 ∷ [])
+
+    by : (inner : List ℕ) → put ≡ pushed ++ inner → (b : Bool) → (length put == start) ≡ b → new ≡ cond b (take (start - 1) put) (put ++ 142 ∷ []) → new ≡ before ++ framed inner
+    by [] is true e n =
+        n ∙ (λ i. take (start - 1) ((is ∙ append-nil pushed ∙ pushed_is) i)) ∙ ap (λ k. take k (before ++ 141 ∷ [])) (omega (arith, long)) ∙ take-append_seam before (141 ∷ []) ∙ sym (append-nil before)
+    by [] is false e n = absurd (eqb-false _ _ e (ap length (is ∙ append-nil pushed) ∙ sym start_is))
+    by (x ∷ xs) is true e n =
+        let same : length put ≡ start = eqb-true _ _ e in
+        let more_of : length put ≡ length pushed + length (x ∷ xs) = ap length is ∙ length-append pushed (x ∷ xs) in
+        absurd (omega (arith, same, more_of, start_is))
+    by (x ∷ xs) is false e n =
+        n ∙ (λ i. (is ∙ (λ j. pushed_is j ++ (x ∷ xs))) i ++ 142 ∷ []) ∙ append_assoc (before ++ 141 ∷ []) (x ∷ xs) (142 ∷ []) ∙ append_assoc before (141 ∷ []) ((x ∷ xs) ++ 142 ∷ [])
+
+-- The walk at one item of a list, the commands of which are put from it on.
+module _ (xs : List Node) (i : ℕ) {x : Node} (frame : Frame) (reach : Reach) (here : i < length xs) (is : x ≡ get_or xs i x) where
+  abbrev rest : Items
+  rest = items_of (list_of (drop (i + 1) xs))
+
+  -- behind an item that lies on the page, the rest does where all did
+  pub lies-on : {all : Bool} → list_lies frame reach (items_of (list_of (drop i xs))) ≡ all → item_lies frame (span_of frame reach (item_of x)) (item_of x) ≡ true
+      → list_lies frame (next frame reach (item_of x)) rest ≡ all
+  unfolding list_lies
+  lies-on so_far lies = ap (λ b. b && list_lies frame (next frame reach (item_of x)) rest) (sym lies) ∙ ap (list_lies frame reach) (sym (items-on xs i x here is)) ∙ so_far
+
+  -- the list doesn't where an item doesn't
+  pub lies-not : {all : Bool} → list_lies frame reach (items_of (list_of (drop i xs))) ≡ all → item_lies frame (span_of frame reach (item_of x)) (item_of x) ≡ false → all ≡ false
+  unfolding list_lies
+  lies-not so_far lies = sym so_far ∙ ap (list_lies frame reach) (items-on xs i x here is) ∙ ap (λ b. b && list_lies frame (next frame reach (item_of x)) rest) lies
+
+  -- what is set of the list up to an item and behind it is a dimension
+  pub sums-on : {sum : ℤ} → sum ≡ reach.sum +ℤ share frame.head.setting (item_of x) → sums_fit frame.head.setting reach.sum (items_of (list_of (drop i xs))) ≡ true
+      → (unsigned_abs sum < 2 ^ 30) × (sums_fit frame.head.setting sum rest ≡ true)
+  sums-on sum_is fit =
+      let parts = both (ap (sums_fit frame.head.setting reach.sum) (sym (items-on xs i x here is)) ∙ fit) in
+      (subst (λ z. unsigned_abs z < 2 ^ 30) (sym sum_is) (ltb-true _ _ parts.0), ap (λ z. sums_fit frame.head.setting z rest) sum_is ∙ parts.1)
+
+  -- the commands of the item, and those behind it
+  pub put-on : (cursor next_cursor : Cursor) (body : List ℕ) {all after : List ℕ}
+      → all ≡ body ++ list_commands frame reach cursor (items_of (list_of (drop i xs)))
+      → after ≡ body ++ (item_commands frame (span_of frame reach (item_of x)) cursor (item_of x)).0
+      → next_cursor ≡ (item_commands frame (span_of frame reach (item_of x)) cursor (item_of x)).1
+      → all ≡ after ++ list_commands frame (next frame reach (item_of x)) next_cursor rest
+  unfolding list_commands
+  put-on cursor next_cursor body so_far put moved =
+      let span : Span = span_of frame reach (item_of x) in
+      so_far ∙ ap (λ items. body ++ list_commands frame reach cursor items) (items-on xs i x here is)
+      ∙ sym (append_assoc body (item_commands frame span cursor (item_of x)).0 (list_commands frame (next frame reach (item_of x)) (item_commands frame span cursor (item_of x)).1 rest))
+      ∙ (λ j. sym put j ++ list_commands frame (next frame reach (item_of x)) (sym moved j) rest)
+
+-- a box that isn't entered has no commands
+pub not-entered : (frame : Frame) (reach : Reach) (cursor : Cursor) (items : Items) → false ≡ is_entered items → list_commands frame reach cursor items ≡ []
+unfolding list_commands
+not-entered frame reach cursor none e = refl
+not-entered frame reach cursor (more item rest) e = absurd (cc)
+
+-- where a part lies outside, the whole does
+pub outside-on : {e : ShipError} {part whole : Bool} → (part ≡ false → whole ≡ false) → IsOutside e part → IsOutside e whole
+outside-on so told = λ not_memory. ((told not_memory).0, so (told not_memory).1)
+
+-- what is so of an error is so of the result that has it
+pub on-err : {T E : Type 0} (r : Result T E) (e : E) (IsSo : Result T E → Type 0) → IsErrAnd r (λ x. x ≡ e) → IsSo (Err e) → IsSo r
+on-err (Ok value) e IsSo same so = absurd same
+on-err (Err x) e IsSo same so = subst (λ y. IsSo (Err y)) (sym same) so
+
+-- where no item is left, all is put, and lies on the page
+pub put-end : (xs : List Node) (i : ℕ) (frame : Frame) (reach : Reach) (cursor : Cursor) (body : List ℕ) {all : List ℕ} → length xs ≤ i
+    → all ≡ body ++ list_commands frame reach cursor (items_of (list_of (drop i xs))) → body ≡ all
+unfolding list_commands
+put-end xs i frame reach cursor body h all_is =
+    sym (all_is ∙ ap (λ ys. body ++ list_commands frame reach cursor (items_of (list_of ys))) (drop_all i xs h) ∙ append-nil body)
+
+pub lies-end : (xs : List Node) (i : ℕ) (frame : Frame) (reach : Reach) {all : Bool} → length xs ≤ i → list_lies frame reach (items_of (list_of (drop i xs))) ≡ all → all ≡ true
+unfolding list_lies
+lies-end xs i frame reach h so_far = sym so_far ∙ ap (λ ys. list_lies frame reach (items_of (list_of ys))) (drop_all i xs h)

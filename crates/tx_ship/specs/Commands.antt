@@ -1,12 +1,20 @@
--- The commands of a page (TeX: The Program, sections 607 and 615 to 640; the DVI standard).
-use Rattle.std.specs.Prelude.{ℕ, Bool, true, false, suc, ◌+◌, ◌-◌, ◌^◌, ◌==◌, ◌&&◌, nat_lt, max, ℤ, pos, ◌+ℤ◌, ◌-ℤ◌, unsigned_abs, List, [], ◌∷◌, ◌++◌, drop, if◌then◌else◌}
-use Rattle.std.specs.Option.{unwrap_or}
+-- The commands of a page (TeX: The Program, sections 607, 615 to 640 and 1368; the DVI standard).
+use Rattle.std.specs.Prelude.{ℕ, Bool, true, false, suc, ◌+◌, ◌-◌, ◌^◌, ◌==◌, ◌&&◌, nat_lt, min, max, ℤ, pos, ◌+ℤ◌, ◌-ℤ◌, unsigned_abs, List, [], ◌∷◌, ◌++◌, length, drop, if◌then◌else◌}
 use Rattle.std.specs.Int.{is_positive}
 use Rattle.tx_dvi.specs.Dvi.{four_bytes}
-use Rattle.tx_node.specs.declared.rule.Rule.{Rule}
-use Rattle.tx_node.specs.Items.{Item, rule, kern, space, box, Items, none, more, HBox, items_of}
+use Rattle.tx_node.specs.declared.head.Direction.{Direction}
+use Rattle.tx_node.specs.declared.head.Direction.TheVariants.{Horizontal, Vertical}
+use Rattle.tx_node.specs.declared.plain.Shared.{Shared}
+use Rattle.tx_node.specs.declared.plain.Shared.TheVariants.{Rule, Leaders, Special}
+use Rattle.tx_node.specs.Items.{Item, plain, shared, boxed, Items, none, more, PackedBox, items_of}
+use Rattle.tx_node.specs.Setting.{Reach, begun}
+use Rattle.tx_ship.specs.declared.places.Point.{Point}
 use Rattle.tx_ship.specs.declared.places.Frame.{Frame}
+use Rattle.tx_ship.specs.declared.places.Span.{Span}
+use Rattle.tx_ship.specs.declared.places.Sides.{Sides}
 use Rattle.tx_ship.specs.declared.places.Cursor.{Cursor}
+use Rattle.tx_ship.specs.declared.places.CornerRule.{CornerRule}
+use Rattle.tx_ship.specs.Standing.{next, span_of, size_of, reference, upright, shifted, rule_sides, leaders_sides, frame_at, page_frame}
 
 -- the fewest bytes that hold a movement with its sign
 abbrev pub movement_size : ℤ → ℕ
@@ -29,65 +37,120 @@ right by = movement 143 by
 abbrev pub down : ℤ → List ℕ
 down by = movement 157 by
 
--- set_rule, with its height and width
-unfoldable pub set_rule : ℤ → ℤ → List ℕ
-set_rule height width = 132 ∷ four_bytes height ++ four_bytes width
+-- from one point to another
+unfoldable pub way : Cursor → Cursor → List ℕ
+way from to = right (to.right -ℤ from.right) ++ down (to.down -ℤ from.down)
+
+-- the cursor at a point
+abbrev pub cursor_at : Point → Cursor
+cursor_at at = record { right = at.h; down = at.v }
+
+-- a rule's command with its height and width: set_rule, 132, in a horizontal list, put_rule, 137, in a vertical one
+abbrev pub rule_opcode : Direction → ℕ
+rule_opcode Horizontal = 132
+rule_opcode Vertical = 137
+
+unfoldable pub rule_bytes : Direction → CornerRule → List ℕ
+rule_bytes direction r = rule_opcode direction ∷ four_bytes r.height ++ four_bytes r.width
+
+-- set_rule moves the reader to the right by the rule's width, put_rule leaves it at the corner
+abbrev pub behind_rule : Direction → CornerRule → Cursor
+behind_rule Horizontal r = record r.corner { right = r.corner.right +ℤ r.width }
+behind_rule Vertical r = r.corner
+
+-- a rule by its lower left corner
+abbrev pub cornered : Point → Sides → CornerRule
+cornered at sides = record {
+  corner = record { right = at.h; down = at.v +ℤ sides.depth };
+  height = sides.height +ℤ sides.depth;
+  width = sides.width;
+}
+
+-- a rule is mentioned only where both its sides are positive
+abbrev pub is_visible : CornerRule → Bool
+is_visible r = is_positive r.width && is_positive r.height
+
+-- a rule, and the cursor behind it
+unfoldable pub rule_item : Direction → Cursor → CornerRule → List ℕ × Cursor
+rule_item direction cursor r =
+    if is_visible r then (way cursor r.corner ++ rule_bytes direction r, behind_rule direction r) else ([], cursor)
+
+-- a special: xxx1, 239, with its length in one byte, or xxx4, 242, with its length in four; a longer text than four bytes
+-- tell stands on no page
+unfoldable pub special : List ℕ → List ℕ
+special text =
+    if nat_lt (length text) 256 then 239 ∷ length text ∷ text
+    else 242 ∷ four_bytes (pos (min (length text) 2147483647)) ++ text
+
+-- a special at a point, where the reader stays
+abbrev pub special_item : Cursor → Cursor → List ℕ → List ℕ × Cursor
+special_item cursor at text = (way cursor at ++ special text, at)
 
 -- push and pop round the commands of a box in a list; a push directly followed by its pop is dropped
 abbrev pub framed : List ℕ → List ℕ
 framed [] = []
 framed (first ∷ others) = 141 ∷ (first ∷ others) ++ 142 ∷ []
 
--- the cursor behind an item that the file doesn't mention, or that it pushes and pops round
-abbrev pub passed : Cursor → ℤ → Cursor
-passed cursor width = record cursor { at = cursor.at +ℤ width }
+-- in a vertical list the reader goes down to the baseline of a box before the push, and stays there behind the pop
+abbrev pub approach : Direction → Cursor → Cursor → List ℕ
+approach Horizontal cursor at = []
+approach Vertical cursor at = down (at.down -ℤ cursor.down)
 
--- the cursor behind a rule, which moves the reader to the right by its width, from a point that is so far down
-abbrev pub behind_rule : Cursor → ℤ → ℤ → Cursor
-behind_rule cursor width corner = record { at = cursor.at +ℤ width; right = cursor.at +ℤ width; down = corner }
-
--- a rule is mentioned only where both its sides are positive
-abbrev pub is_visible : ℤ → ℤ → Bool
-is_visible width height = is_positive width && is_positive height
-
--- where the reader has to go, and the rule; its lower left corner is so far down
-abbrev pub rule_commands : Cursor → ℤ → ℤ → ℤ → List ℕ
-rule_commands cursor corner height width = right (cursor.at -ℤ cursor.right) ++ down (corner -ℤ cursor.down) ++ set_rule height width
-
--- a rule of a list, and the cursor behind it
-unfoldable pub rule_item : Frame → Cursor → ℤ → ℤ → ℤ → List ℕ × Cursor
-rule_item frame cursor width height depth =
-    if is_visible width (height +ℤ depth)
-    then (rule_commands cursor (frame.base +ℤ depth) (height +ℤ depth) width, behind_rule cursor width (frame.base +ℤ depth))
-    else ([], passed cursor width)
-
--- a side of a rule: a side that runs goes as far as the box that the rule stands in
-abbrev pub height_in : Frame → Rule → ℤ
-height_in frame r = unwrap_or r.height frame.height
-
-abbrev pub depth_in : Frame → Rule → ℤ
-depth_in frame r = unwrap_or r.depth frame.depth
-
--- the frame of a box in a list: its sizes, on the same baseline
-abbrev pub inner_frame : Frame → ℤ → ℤ → Frame
-inner_frame frame height depth = record { height = height; depth = depth; base = frame.base }
-
--- the commands of a list from a cursor on, and those of an item with the cursor behind it
-unfoldable mutual
-  pub list_commands : Frame → Cursor → Items → List ℕ
-  list_commands frame cursor none = []
-  list_commands frame cursor (more item rest) = (item_commands frame cursor item).0 ++ list_commands frame (item_commands frame cursor item).1 rest
-
-  pub item_commands : Frame → Cursor → Item → List ℕ × Cursor
-  item_commands frame cursor (rule r) = rule_item frame cursor r.width (height_in frame r) (depth_in frame r)
-  item_commands frame cursor (kern w) = ([], passed cursor w)
-  item_commands frame cursor space = ([], passed cursor (pos 0))
-  item_commands frame cursor (box w h d inner) = (framed (list_commands (inner_frame frame h d) cursor inner), passed cursor w)
+abbrev pub approached : Direction → Cursor → Cursor → Cursor
+approached Horizontal cursor at = cursor
+approached Vertical cursor at = record cursor { down = at.down }
 
 -- TeX enters a box whose list isn't empty, and passes over another
 abbrev pub is_entered : Items → Bool
 is_entered none = false
 is_entered (more item rest) = true
+
+-- a box with its reference point there, where `inside` are the commands of its list, and the cursor behind it
+abbrev pub box_item : Direction → Cursor → Cursor → Bool → List ℕ → List ℕ × Cursor
+box_item direction cursor at entered inside =
+    if entered then (approach direction cursor at ++ framed inside, approached direction cursor at) else ([], cursor)
+
+-- a rule of a list
+abbrev pub rule_commands : Frame → Span → Cursor → Sides → List ℕ × Cursor
+rule_commands frame span cursor sides =
+    rule_item frame.head.direction cursor (cornered (reference frame.head.direction frame (upright span.from sides.height)) sides)
+
+-- a special of a list
+abbrev pub special_commands : Frame → Span → Cursor → List ℕ → List ℕ × Cursor
+special_commands frame span cursor text = special_item cursor (cursor_at (reference frame.head.direction frame (upright span.from (pos 0)))) text
+
+-- an item without a list of its own; leaders are a rule where their glue is longer than nothing
+abbrev pub shared_commands : Frame → Span → Cursor → Shared → List ℕ × Cursor
+shared_commands frame span cursor (Rule r) = rule_commands frame span cursor (rule_sides frame.head.direction frame.head r)
+shared_commands frame span cursor (Leaders l) =
+    if is_positive (size_of span)
+    then rule_commands frame span cursor (leaders_sides frame.head.direction frame.head l.rule (size_of span))
+    else ([], cursor)
+shared_commands frame span cursor (Special text) = special_commands frame span cursor text
+
+-- the commands of a list from a cursor on, and those of an item with the cursor behind it
+unfoldable mutual
+  pub list_commands : Frame → Reach → Cursor → Items → List ℕ
+  list_commands frame reach cursor none = []
+  list_commands frame reach cursor (more item rest) =
+      (item_commands frame (span_of frame reach item) cursor item).0
+      ++ list_commands frame (next frame reach item) (item_commands frame (span_of frame reach item) cursor item).1 rest
+
+  pub item_commands : Frame → Span → Cursor → Item → List ℕ × Cursor
+  item_commands frame span cursor (plain p) = ([], cursor)
+  item_commands frame span cursor (shared s) = shared_commands frame span cursor s
+  item_commands frame span cursor (boxed shift head inner) =
+      let at : Point = reference frame.head.direction frame (shifted span.from shift head) in
+      box_item frame.head.direction cursor (cursor_at at) (is_entered inner)
+      (list_commands (frame_at head at) begun (approached frame.head.direction cursor (cursor_at at)) inner)
+
+-- those of the list of a box with its reference point there, and of the box in a list of this direction
+abbrev pub inside : PackedBox → Point → Cursor → List ℕ
+inside b at cursor = list_commands (frame_at b.head at) begun cursor (items_of b.list)
+
+abbrev pub box_commands : Direction → Cursor → Point → PackedBox → List ℕ × Cursor
+box_commands direction cursor at b =
+    box_item direction cursor (cursor_at at) (is_entered (items_of b.list)) (inside b at (approached direction cursor (cursor_at at)))
 
 -- how deep the boxes nest that TeX enters
 unfoldable mutual
@@ -96,23 +159,14 @@ unfoldable mutual
   level_of (more item rest) = max (item_level item) (level_of rest)
 
   pub item_level : Item → ℕ
-  item_level (rule r) = 0
-  item_level (kern w) = 0
-  item_level space = 0
-  item_level (box w h d inner) = if is_entered inner then suc (level_of inner) else 0
-
--- the frame of a box on a baseline
-abbrev pub frame_of : HBox → ℤ → Frame
-frame_of b base = record { height = b.height; depth = b.depth; base = base }
-
--- the box of a page stands with its left upper corner at the two offsets, so its baseline is further down by its height
-abbrev pub page_frame : HBox → ℤ → Frame
-page_frame b voffset = frame_of b (voffset +ℤ b.height)
+  item_level (plain p) = 0
+  item_level (shared s) = 0
+  item_level (boxed shift head inner) = if is_entered inner then suc (level_of inner) else 0
 
 -- the reader of a page begins at the left upper corner
-abbrev pub page_cursor : ℤ → Cursor
-page_cursor hoffset = record { at = hoffset; right = pos 0; down = pos 0 }
+abbrev pub page_cursor : Cursor
+page_cursor = record { right = pos 0; down = pos 0 }
 
 -- the commands of a page
-abbrev pub body_of : HBox → ℤ → ℤ → List ℕ
-body_of b hoffset voffset = list_commands (page_frame b voffset) (page_cursor hoffset) (items_of b.list)
+abbrev pub body_of : PackedBox → ℤ → ℤ → List ℕ
+body_of b hoffset voffset = list_commands (page_frame b hoffset voffset) begun page_cursor (items_of b.list)

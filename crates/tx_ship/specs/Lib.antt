@@ -1,3 +1,4 @@
+pub mod Standing
 pub mod Commands
 pub mod Within
 pub mod Placing

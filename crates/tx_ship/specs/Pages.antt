@@ -3,7 +3,7 @@ use Rattle.std.specs.Prelude.{ℕ, Bool, ◌&&◌, nat_le, int_le, ℤ, pos, ◌
 use Rattle.std.specs.Int.{int_max}
 use Rattle.tx_dvi.specs.declared.page.DateParameters.{DateParameters}
 use Rattle.tx_dvi.specs.Page.{Page}
-use Rattle.tx_node.specs.Items.{HBox, items_of}
+use Rattle.tx_node.specs.Items.{PackedBox, items_of}
 use Rattle.tx_ship.specs.declared.params.ShipParams.{ShipParams}
 use Rattle.tx_ship.specs.declared.error.ShipError.{ShipError}
 use Rattle.tx_ship.specs.declared.error.ShipError.TheVariants.{SizeTooLarge, OutsidePage, BodyTooLong}
@@ -15,21 +15,21 @@ abbrev pub fits : ℤ → Bool
 fits size = int_le size (pos 1073741823)
 
 -- how high and how wide a page is
-abbrev pub page_height : HBox → ShipParams → ℤ
-page_height b params = params.voffset +ℤ b.height +ℤ b.depth
+abbrev pub page_height : PackedBox → ShipParams → ℤ
+page_height b params = params.voffset +ℤ b.head.height +ℤ b.head.depth
 
-abbrev pub page_width : HBox → ShipParams → ℤ
-page_width b params = params.hoffset +ℤ b.width
+abbrev pub page_width : PackedBox → ShipParams → ℤ
+page_width b params = params.hoffset +ℤ b.head.width
 
-abbrev pub sizes_fit : HBox → ShipParams → Bool
-sizes_fit b params = (fits b.height && fits b.depth) && (fits (page_height b params) && fits (page_width b params))
+abbrev pub sizes_fit : PackedBox → ShipParams → Bool
+sizes_fit b params = (fits b.head.height && fits b.head.depth) && (fits (page_height b params) && fits (page_width b params))
 
 -- the date that the parameters are
 abbrev pub date_of : ShipParams → DateParameters
 date_of params = record { year = params.year; month = params.month; day = params.day; time = params.time }
 
 -- the page with these commands
-abbrev pub page_with : HBox → ShipParams → List ℕ → Page
+abbrev pub page_with : PackedBox → ShipParams → List ℕ → Page
 page_with b params body = record {
   body = body;
   counts = params.counts;
@@ -41,11 +41,11 @@ page_with b params body = record {
 }
 
 -- a body has at most 200,000 bytes
-abbrev pub page_of_body : HBox → ShipParams → List ℕ → Result Page ShipError
+abbrev pub page_of_body : PackedBox → ShipParams → List ℕ → Result Page ShipError
 page_of_body b params body = if nat_le (length body) 200000 then Ok (page_with b params body) else Err BodyTooLong
 
 -- the page of a box, or the first thing that keeps it from being one
-unfoldable pub page_of : HBox → ShipParams → Result Page ShipError
+unfoldable pub page_of : PackedBox → ShipParams → Result Page ShipError
 page_of b params =
     if sizes_fit b params
     then (if page_lies b params.hoffset params.voffset then page_of_body b params (body_of b params.hoffset params.voffset) else Err OutsidePage)

@@ -1,24 +1,50 @@
--- Where the rules of a box lie on a page.
-use Rattle.std.specs.Prelude.{ℤ, ◌+ℤ◌, List, [], ◌++◌}
-use Rattle.tx_dvi.specs.Meaning.{PlacedRule, rule_met}
-use Rattle.tx_node.specs.Items.{Item, rule, kern, space, box, Items, none, more, HBox, items_of}
-use Rattle.tx_node.specs.Packing.{item_width}
+-- Where the rules and specials of a box lie on a page.
+use Rattle.std.specs.Prelude.{ℤ, pos, ◌+ℤ◌, ℕ, List, [], ◌++◌, if◌then◌else◌}
+use Rattle.std.specs.Int.{is_positive}
+use Rattle.tx_dvi.specs.Meaning.{Placed, rule_met, special_met}
+use Rattle.tx_node.specs.declared.plain.Shared.{Shared}
+use Rattle.tx_node.specs.declared.plain.Shared.TheVariants.{Rule, Leaders, Special}
+use Rattle.tx_node.specs.Items.{Item, plain, shared, boxed, Items, none, more, PackedBox, items_of}
+use Rattle.tx_node.specs.Setting.{Reach, begun}
+use Rattle.tx_ship.specs.declared.places.Point.{Point}
 use Rattle.tx_ship.specs.declared.places.Frame.{Frame}
-use Rattle.tx_ship.specs.Commands.{height_in, depth_in, inner_frame, page_frame}
+use Rattle.tx_ship.specs.declared.places.Span.{Span}
+use Rattle.tx_ship.specs.declared.places.Sides.{Sides}
+use Rattle.tx_ship.specs.Standing.{next, span_of, size_of, reference, upright, shifted, rule_sides, leaders_sides, frame_at, page_frame}
 
--- the rules of a list that begins so far right, in a box of this height, depth and baseline: each item stands behind those
--- before it, and what a box holds begins where the box does
+-- a rule by its reference point, seen where both its sides are positive
+abbrev pub placed_rule : Point → Sides → List Placed
+placed_rule at sides = rule_met at.h (at.v +ℤ sides.depth) (sides.height +ℤ sides.depth) sides.width
+
+-- a rule of a list
+abbrev pub placed_in : Frame → Span → Sides → List Placed
+placed_in frame span sides = placed_rule (reference frame.head.direction frame (upright span.from sides.height)) sides
+
+-- a special by the point where it stands
+abbrev pub placed_special : Point → List ℕ → List Placed
+placed_special at text = special_met at.h at.v text
+
+-- an item without a list of its own; leaders are a rule where their glue is longer than nothing
+abbrev pub placed_shared : Frame → Span → Shared → List Placed
+placed_shared frame span (Rule r) = placed_in frame span (rule_sides frame.head.direction frame.head r)
+placed_shared frame span (Leaders l) =
+    if is_positive (size_of span)
+    then placed_in frame span (leaders_sides frame.head.direction frame.head l.rule (size_of span))
+    else []
+placed_shared frame span (Special text) = placed_special (reference frame.head.direction frame (upright span.from (pos 0))) text
+
+-- what a list holds, in a box on the page: each item stands behind those before it, as the glue of the box is set
 unfoldable mutual
-  pub placed_list : Frame → ℤ → Items → List PlacedRule
-  placed_list frame at none = []
-  placed_list frame at (more item rest) = placed_item frame at item ++ placed_list frame (at +ℤ item_width item) rest
+  pub placed_list : Frame → Reach → Items → List Placed
+  placed_list frame reach none = []
+  placed_list frame reach (more item rest) = placed_item frame (span_of frame reach item) item ++ placed_list frame (next frame reach item) rest
 
-  pub placed_item : Frame → ℤ → Item → List PlacedRule
-  placed_item frame at (rule r) = rule_met at (frame.base +ℤ depth_in frame r) (height_in frame r +ℤ depth_in frame r) r.width
-  placed_item frame at (kern w) = []
-  placed_item frame at space = []
-  placed_item frame at (box w h d inner) = placed_list (inner_frame frame h d) at inner
+  pub placed_item : Frame → Span → Item → List Placed
+  placed_item frame span (plain p) = []
+  placed_item frame span (shared s) = placed_shared frame span s
+  placed_item frame span (boxed shift head inner) =
+      placed_list (frame_at head (reference frame.head.direction frame (shifted span.from shift head))) begun inner
 
--- the rules of a box whose left upper corner stands at the two offsets
-abbrev pub placed : HBox → ℤ → ℤ → List PlacedRule
-placed b hoffset voffset = placed_list (page_frame b voffset) hoffset (items_of b.list)
+-- the rules and specials of a box whose left upper corner stands at the two offsets
+abbrev pub placed : PackedBox → ℤ → ℤ → List Placed
+placed b hoffset voffset = placed_list (page_frame b hoffset voffset) begun (items_of b.list)

@@ -1,39 +1,156 @@
-//! What a list takes from the box that it stands in.
-ghost use Rattle.std.specs.Prelude.{◌≡◌};
+//! Where the items of a list stand on the page.
+ghost use Rattle.std.specs.Prelude.{◌≡◌, ◌≤◌, ◌<◌, ◌+◌, ◌^◌, pos, true, unsigned_abs};
 ghost use Rattle.tx_node.specs.Items.{items_of};
-ghost use Rattle.tx_ship.specs.Commands as spec;
+ghost use Rattle.tx_node.specs.Nodes.{item_of};
+ghost use Rattle.tx_node.specs.Setting.{IsSet, sums_fit};
+ghost use Rattle.tx_ship.specs.Commands.{is_entered as entered_spec};
+ghost use Rattle.tx_ship.specs.Standing as spec;
+ghost use Rattle.tx_ship.specs.Within as within;
 
-use crate::places::Frame;
-use tx_node::{BoxNode, Rule};
+use crate::places::{Frame, Point, Reached, Sides, Span, Stand};
+use tx_node::{BoxHead, BoxNode, Direction, Node, Rule, side};
 
-/// The height of a rule: the one that was given, or as far as the box goes.
-pub fn height_in(frame: Frame, rule: Rule) -> i32
-    ensures { result ≡ spec.height_in frame rule }
+/// Where the list of a box begins: at its left edge, or at its upper one.
+fn start_of(frame: Frame) -> i128
+    requires { within.IsNearBox frame }
+    ensures value { result ≡ spec.start_of frame.head.direction frame }
+    ensures near { unsigned_abs result ≤ 2 ^ 67 }
 {
-    rule.height.unwrap_or(frame.height)
+    match frame.head.direction {
+        Direction::Horizontal => frame.at.h,
+        Direction::Vertical => frame.at.v - i128::from(frame.head.height),
+    }
 }
 
-/// The depth of a rule: the one that was given, or as far as the box goes.
-pub fn depth_in(frame: Frame, rule: Rule) -> i32
-    ensures { result ≡ spec.depth_in frame rule }
+/// Where an item stands behind so much of the list, once its glue is set.
+pub fn place(frame: Frame, reached: Reached) -> i128
+    requires near { within.IsNearBox frame }
+    requires is_set { IsSet frame.head.setting }
+    requires natural { unsigned_abs reached.natural ≤ 2 ^ 97 }
+    requires sum { unsigned_abs reached.sum < 2 ^ 30 }
+    ensures value { result ≡ spec.place frame (spec.reach_of reached) }
+    ensures near { unsigned_abs result ≤ 2 ^ 99 }
 {
-    rule.depth.unwrap_or(frame.depth)
+    let moved = i128::from(frame.head.setting.moved(reached.sum));
+    start_of(frame) + (reached.natural + moved)
 }
 
-/// The frame of a box on a baseline that is so far down.
-pub fn frame_of(inner: &BoxNode, base: i128) -> Frame
-    ensures { result ≡ spec.frame_of inner.now base }
+/// How far the list has come behind an item, whose part of what is set leaves the sum a dimension.
+pub fn behind(frame: Frame, reached: Reached, node: &Node) -> Reached
+    requires natural { unsigned_abs reached.natural ≤ 2 ^ 96 }
+    requires sum { unsigned_abs reached.sum < 2 ^ 30 }
+    ensures value { spec.reach_of result ≡ spec.next frame (spec.reach_of reached) (item_of node.now) }
+    ensures near { unsigned_abs result.natural ≤ unsigned_abs reached.natural + 2 ^ 32 }
+{
+    Reached {
+        natural: reached.natural + i128::from(node.advance(frame.head.direction)),
+        sum: reached.sum + frame.head.setting.share(node),
+    }
+}
+
+/// The reference point of an item.
+pub fn reference(frame: Frame, stand: Stand) -> Point
+    requires near { within.IsNearBox frame }
+    requires from { unsigned_abs stand.from ≤ 2 ^ 99 }
+    requires shift { unsigned_abs stand.shift ≤ 2 ^ 31 }
+    requires height { unsigned_abs stand.height ≤ 2 ^ 100 }
+    ensures value { result ≡ spec.reference frame.head.direction frame stand }
+    ensures near { within.IsNear result }
+{
+    match frame.head.direction {
+        Direction::Horizontal => Point {
+            h: stand.from,
+            v: frame.at.v + stand.shift,
+        },
+        Direction::Vertical => Point {
+            h: frame.at.h + stand.shift,
+            v: stand.from + stand.height,
+        },
+    }
+}
+
+/// The sides of a rule, which run as far as the box across its list.
+pub fn rule_sides(head: BoxHead, rule: Rule) -> Sides
+    ensures value { result ≡ spec.rule_sides head.direction head rule }
+    ensures near { within.IsNearSides result }
+{
+    match head.direction {
+        Direction::Horizontal => Sides {
+            width: i128::from(side(rule.width)),
+            height: i128::from(rule.height.unwrap_or(head.height)),
+            depth: i128::from(rule.depth.unwrap_or(head.depth)),
+        },
+        Direction::Vertical => Sides {
+            width: i128::from(rule.width.unwrap_or(head.width)),
+            height: i128::from(side(rule.height)),
+            depth: i128::from(side(rule.depth)),
+        },
+    }
+}
+
+/// How long an item is, once glue is set.
+pub fn size_of(span: Span) -> i128
+    requires { within.IsNearSpan span }
+    ensures value { result ≡ spec.size_of span }
+    ensures near { unsigned_abs result ≤ 2 ^ 100 }
+{
+    span.to - span.from
+}
+
+/// Those of a rule that fills leaders from here to there.
+pub fn leaders_sides(head: BoxHead, rule: Rule, span: Span) -> Sides
+    requires { within.IsNearSpan span }
+    ensures value { result ≡ spec.leaders_sides head.direction head rule (spec.size_of span) }
+    ensures near { within.IsNearSides result }
+{
+    let size = size_of(span);
+    match head.direction {
+        Direction::Horizontal => Sides {
+            width: size,
+            height: i128::from(rule.height.unwrap_or(head.height)),
+            depth: i128::from(rule.depth.unwrap_or(head.depth)),
+        },
+        Direction::Vertical => Sides {
+            width: i128::from(rule.width.unwrap_or(head.width)),
+            height: size,
+            depth: 0,
+        },
+    }
+}
+
+/// The sides of a box.
+pub fn box_sides(inner: &BoxNode) -> Sides
+    ensures value { result ≡ spec.box_sides inner.now.head }
+    ensures near { within.IsNearSides result }
+{
+    Sides {
+        width: i128::from(inner.width()),
+        height: i128::from(inner.height()),
+        depth: i128::from(inner.depth()),
+    }
+}
+
+/// A box with its reference point there, which sets its glue by what its list has of it.
+pub fn frame_at(inner: &BoxNode, at: Point) -> Frame
+    ensures value { result ≡ spec.frame_at inner.now.head at }
+    ensures is_set { IsSet result.head.setting }
+    ensures sums { sums_fit result.head.setting (pos 0) (items_of inner.now.list) ≡ true }
 {
     Frame {
-        height: inner.height(),
-        depth: inner.depth(),
-        base,
+        head: BoxHead {
+            direction: inner.direction(),
+            width: inner.width(),
+            height: inner.height(),
+            depth: inner.depth(),
+            setting: inner.setting(),
+        },
+        at,
     }
 }
 
 /// Whether TeX enters a box: its list isn't empty.
 pub fn is_entered(inner: &BoxNode) -> bool
-    ensures { result ≡ spec.is_entered (items_of inner.now.list) }
+    ensures { result ≡ entered_spec (items_of inner.now.list) }
 {
     !inner.list().is_empty()
 }

@@ -29,8 +29,8 @@ fn node_level(node: &Node) -> u16
     ensures within { result ≤ item_nesting (item_of node.now) }
 {
     match node {
-        Node::Box(inner) => box_level(inner),
-        _ => 0,
+        Node::Plain(_) | Node::Shared(_) => 0,
+        Node::Box(_, inner) => box_level(inner),
     }
 }
 

@@ -1,20 +1,20 @@
 //! A box as a page.
-ghost use Rattle.std.specs.Prelude.{◌≡◌, ◌≢◌, ◌≤◌, ◌^◌, ◌+ℤ◌, pos, true, unsigned_abs, length, is_some, IfSome, IfOk, IfErr, Ok, Err, Some};
+ghost use Rattle.std.specs.Prelude.{◌≡◌, ◌≢◌, ◌≤◌, ◌^◌, ◌+ℤ◌, pos, true, unsigned_abs, length, is_some, IfSome, IfOk, IfErr, OnOk, Ok, Err, Some};
 ghost use Rattle.std.specs.Int.{int_max};
 ghost use Rattle.tx_dvi.specs.Meaning.{meaning};
 ghost use Rattle.tx_ship.specs.declared.error.ShipError.TheVariants.{OutOfMemory};
 ghost use Rattle.tx_ship.specs.Commands.{body_of};
-ghost use Rattle.tx_ship.specs.Within.{page_lies};
+ghost use Rattle.tx_ship.specs.Standing.{page_frame};
+ghost use Rattle.tx_ship.specs.Within.{page_lies, IsNear, IsOutside};
 ghost use Rattle.tx_ship.specs.Placing.{placed};
 ghost use Rattle.tx_ship.specs.Pages as spec;
 
 use crate::error::ShipError;
-use crate::frames::frame_of;
+use crate::frames::is_entered;
 use crate::level::list_level;
-use crate::list::put_list;
+use crate::list::{box_lies, put_inside};
 use crate::params::ShipParams;
-use crate::places::Cursor;
-use crate::within::{box_lies, further};
+use crate::places::{Cursor, Point};
 use std::alloc::{AllocError, Global};
 use tx_bytes::Bytes;
 use tx_dvi::{DateParameters, PageBody, PageParts};
@@ -40,24 +40,24 @@ fn page_size(size: i128) -> Option<i32>
 
 /// How far down the baseline of the box of a page lies.
 fn page_base(node: &BoxNode, params: &ShipParams) -> i128
-    ensures value { result ≡ params.now.voffset +ℤ node.now.height }
+    ensures value { result ≡ params.now.voffset +ℤ node.now.head.height }
     ensures near { unsigned_abs result ≤ 2 ^ 65 }
 {
-    further(i128::from(params.voffset), node.height())
+    i128::from(params.voffset) + i128::from(node.height())
 }
 
 fn page_height(node: &BoxNode, params: &ShipParams) -> Option<i32>
     ensures fits { is_some result ≡ spec.fits (spec.page_height node.now params.now) }
     ensures value { IfSome result (λ kept. kept ≡ int_max (pos 0) (spec.page_height node.now params.now)) }
 {
-    page_size(further(page_base(node, params), node.depth()))
+    page_size(page_base(node, params) + i128::from(node.depth()))
 }
 
 fn page_width(node: &BoxNode, params: &ShipParams) -> Option<i32>
     ensures fits { is_some result ≡ spec.fits (spec.page_width node.now params.now) }
     ensures value { IfSome result (λ kept. kept ≡ int_max (pos 0) (spec.page_width node.now params.now)) }
 {
-    page_size(further(i128::from(params.hoffset), node.width()))
+    page_size(i128::from(params.hoffset) + i128::from(node.width()))
 }
 
 /// The sizes of a page, each at least 0: its height, with its depth, and its width.
@@ -81,26 +81,32 @@ fn page_sizes(node: &BoxNode, params: &ShipParams) -> Option<PageSizes>
     Some(PageSizes { height, width })
 }
 
-/// Whether all lies on the page that a box holds.
-fn lies(node: &BoxNode, params: &ShipParams) -> bool
-    ensures { result ≡ page_lies node.now params.now.hoffset params.now.voffset }
+/// Where the reference point of the box of a page lies.
+fn page_point(node: &BoxNode, params: &ShipParams) -> Point
+    ensures value { result ≡ (page_frame node.now params.now.hoffset params.now.voffset).at }
+    ensures near { IsNear result }
 {
-    box_lies(node, page_base(node, params), i128::from(params.hoffset))
+    Point {
+        h: i128::from(params.hoffset),
+        v: page_base(node, params),
+    }
 }
 
-/// The commands of a page on which all lies that the box holds.
-fn page_commands(alloc: Global, node: &BoxNode, params: &ShipParams) -> Result<Vec<u8>, AllocError>
-    requires { page_lies node.now params.now.hoffset params.now.voffset ≡ true }
-    ensures { IfOk result (λ body. body.items ≡ body_of node.now params.now.hoffset params.now.voffset) }
+/// The commands of a page. `OutsidePage` comes exactly where something that the box holds lies outside, or the box itself.
+fn page_commands(alloc: Global, node: &BoxNode, params: &ShipParams) -> Result<Vec<u8>, ShipError>
+    ensures lies { OnOk result (page_lies node.now params.now.hoffset params.now.voffset ≡ true) }
+    ensures outside { IfErr result (λ e. IsOutside e (page_lies node.now params.now.hoffset params.now.voffset)) }
+    ensures commands { IfOk result (λ body. body.items ≡ body_of node.now params.now.hoffset params.now.voffset) }
 {
     let mut body = Vec::new(alloc);
-    let frame = frame_of(node, page_base(node, params));
-    let cursor = Cursor {
-        at: i128::from(params.hoffset),
-        right: 0,
-        down: 0,
-    };
-    put_list(&mut body, node.list(), frame, cursor)?;
+    if !is_entered(node) {
+        return Ok(body);
+    }
+    let at = page_point(node, params);
+    if !box_lies(node, at) {
+        return Err(ShipError::OutsidePage);
+    }
+    put_inside(&mut body, node, at, Cursor { right: 0, down: 0 })?;
     Ok(body)
 }
 
@@ -151,9 +157,9 @@ fn page_with(node: &BoxNode, params: &ShipParams, sizes: PageSizes, commands: By
 }
 
 /// The body of the page on which a box is shipped. `SizeTooLarge` comes exactly where its height or depth, its height plus
-/// its depth plus \voffset or its width plus \hoffset is past 2^30-1; else `OutsidePage` exactly where a rule or a box with
-/// a list lies, in whole or part, past 2^30-1 to a side; else `BodyTooLong` exactly where the body has more than 200,000
-/// bytes. The body's commands mean the rules of the box, at their places.
+/// its depth plus \voffset or its width plus \hoffset is past 2^30-1; else `OutsidePage` exactly where a rule, a special or a
+/// box with a list lies, in whole or part, past 2^30-1 to a side; else `BodyTooLong` exactly where the body has more than
+/// 200,000 bytes. The body's commands mean the rules and specials of the box, at their places.
 pub fn body(alloc: Global, node: &BoxNode, params: &ShipParams) -> Result<PageBody, ShipError>
     requires { spec.IsMag params.now.mag }
     ensures page { IfOk result (λ page. spec.page_of node.now params.now ≡ Ok page) }
@@ -163,9 +169,6 @@ pub fn body(alloc: Global, node: &BoxNode, params: &ShipParams) -> Result<PageBo
     let Some(sizes) = page_sizes(node, params) else {
         return Err(ShipError::SizeTooLarge);
     };
-    if !lies(node, params) {
-        return Err(ShipError::OutsidePage);
-    }
     let commands = Bytes::from_vec(page_commands(alloc, node, params)?);
     if commands.len() > MAX_BODY {
         return Err(ShipError::BodyTooLong);

@@ -1,68 +1,86 @@
-use Rattle.std.proofs.Common.{◌≡◌, ℕ, ◌<◌, ◌++◌, length, ◌∙◌, sym, ap, arith, subst, to_z, of_z}
-use Rattle.std.specs.Int.{w32, w128}
-use Rattle.std.proofs.lemmas.List.{append-nil}
+use Rattle.std.proofs.Common.{◌≡◌, ℕ, ◌<◌, ◌++◌, pos, ◌∙◌, sym, ap, arith, subst, IfErr, to_z, of_z}
+use Rattle.std.specs.Int.{w128}
 use Rattle.std.proofs.lemmas.Int.{ints}
+use Rattle.tx_node.specs.Items.{PackedBox, items_of}
+use Rattle.tx_node.specs.Nodes.{item_of, list_of}
+use Rattle.tx_node.specs.Setting.{begun, sums_fit}
+use Rattle.std.proofs.Common.{drop, ◌+◌}
+use Rattle.tx_ship.specs.Commands.{list_commands, item_commands}
+use Rattle.tx_ship.specs.Standing.{reach_of, place, next, reference}
+use Rattle.tx_ship.specs.Within.{IsOutside, box_lies, inside_lies, list_lies, item_lies}
 use Rattle.tx_ship.proofs.Measures.{node_measure, list_measure, to-item, to-list}
-use Rattle.tx_ship.proofs.Steps.{lies-on, lies-here, lies-is}
-use Rattle.tx_ship.proofs.Puts.{next-at, put-on, put-end, rule-lies, not-entered, entered-lies, framed-close}
-use Rattle.tx_node.specs.Items.{items_of}
-use Rattle.tx_node.specs.Nodes.{item_of}
-use Rattle.tx_ship.specs.Commands.{framed, frame_of, list_commands}
-use Rattle.tx_ship.specs.Within.{list_lies}
+use Rattle.tx_ship.proofs.Steps.{near-box, shifted-is, span-is, box-item-lies, lies-on, lies-not, lies-end, sums-on, put-on, put-end, outside-on, on-err}
 use Rattle.tx_ship.proofs.list.+put.Goals as goal
 
+pub put_inside-put_list-requires : goal.put_inside-put_list-requires
+put_inside-put_list-requires t c = (
+  subst (λ (n : ℕ). list_measure c.list.result.now < n) c.decreases (to-list c.args.inner.now c.list.result.now c.list.ensures),
+  (
+    c.frame_at.ensures.is_set,
+    (
+      (λ i. sums_fit c.frame_at.result.head.setting (pos 0) (items_of (c.list.ensures i))) ∙ c.frame_at.ensures.sums,
+      (near-box c.frame_at.ensures.value c.requires.at_on_page, c.requires.on_page),
+    ),
+  ),
+)
+
+pub put_node-returns-in-Box-clause-outside : goal.put_node-returns-in-Box-clause-outside
+put_node-returns-in-Box-clause-outside t c =
+    let b : PackedBox = c.in-Box.inner.value in
+    let from_is : to_z w128 (of_z w128 c.args.span.from) ≡ c.args.span.from = omega (arith, ints, c.requires.span_near.from) in
+    let shift_is : to_z w128 (of_z w128 c.from.result) ≡ c.in-Box.shift = omega (arith, ints, c.from.ensures, c.from.type_inv) in
+    let tall : c.height.result ≡ b.head.height = c.height.ensures ∙ ap (λ (x : PackedBox). x.head.height) c.deref-in-Box.ensures in
+    let height_is : to_z w128 (of_z w128 c.from-in-Box.result) ≡ b.head.height = omega (arith, ints, c.from-in-Box.ensures, c.height.type_inv, tall) in
+    let at_is = c.reference.ensures.value ∙ ap (reference c.args.frame.head.direction c.args.frame) (shifted-is c.args.span.from c.in-Box.shift b.head from_is shift_is height_is) in
+    subst (λ lies. IfErr c.put_box.result (λ e. IsOutside e lies))
+    (ap (λ (x : PackedBox). box_lies c.reference.result x.head (items_of x.list) (inside_lies x c.reference.result)) c.deref-in-Box-2.ensures
+    ∙ box-item-lies c.args.frame c.args.span b (ap item_of c.in-Box.is) at_is) c.put_box.ensures.outside
+
 pub put_list-put_node-requires : goal.put_list-put_node-requires
-put_list-put_node-requires t c =
-    let m = to-item c.args.list.now c.loop-node.node-index c.loop-node-test.true c.node-item.is in (
-      subst (λ (n : ℕ). node_measure c.node-item.result < n) c.decreases m,
-      (
-        lies-here c.args.list.now c.loop-node.node-index c.args.frame c.loop-node.cursor.at c.loop-node-test.true c.node-item.is c.loop-node.invariant.lies,
-        (omega (arith, c.loop-node.invariant.bound, c.loop-node-test.true), (c.requires.base, c.loop-node.invariant.on_page)),
-      ),
-    )
+put_list-put_node-requires t c = (
+  subst (λ (n : ℕ). node_measure c.node-item.result < n) c.decreases (to-item c.args.list.now c.loop-node.node-index c.loop-node-test.true c.node-item.is),
+  (c.requires.near, (record { from = c.loop-node.invariant.near; to = omega (arith, ints, c.place-to.ensures.near) }, c.loop-node.invariant.on_page)),
+)
+
+pub put_list-returns-in_err-cursor-clause-outside : goal.put_list-returns-in_err-cursor-clause-outside
+put_list-returns-in_err-cursor-clause-outside t c =
+    let reach = reach_of c.loop-node.reached in
+    let item = item_of c.node-item.result in
+    let to_is : to_z w128 (of_z w128 c.place-to.result) ≡ c.place-to.result = omega (arith, ints, c.place-to.ensures.near) in
+    let span = span-is c.args.frame reach item c.loop-node.invariant.from (to_is ∙ c.place-to.ensures.value ∙ ap (place c.args.frame) c.behind-reached.ensures.value) in
+    on-err c.from_residual.result c.in_err-cursor.field-0.0 (λ r. IfErr r (λ e. IsOutside e (list_lies c.args.frame begun (items_of (list_of c.args.list.now))))) c.from_residual.ensures.1
+    (outside-on (lies-not c.args.list.now c.loop-node.node-index c.args.frame reach c.loop-node-test.true c.node-item.is c.loop-node.invariant.lies)
+    (subst (λ s. IsOutside c.in_err-cursor.field-0.0 (item_lies c.args.frame s item)) span c.in_err-cursor.ensures.outside))
 
 pub put_list-loop-node-preserved : goal.put_list-loop-node-preserved
 put_list-loop-node-preserved t c =
+    let reach = reach_of c.loop-node.reached in
+    let item = item_of c.node-item.result in
+    let next_is : reach_of c.behind-reached.result ≡ next c.args.frame reach item = c.behind-reached.ensures.value in
+    let to_is : to_z w128 (of_z w128 c.place-to.result) ≡ c.place-to.result = omega (arith, ints, c.place-to.ensures.near) in
+    let span = span-is c.args.frame reach item c.loop-node.invariant.from (to_is ∙ c.place-to.ensures.value ∙ ap (place c.args.frame) next_is) in
+    let sums = sums-on c.args.list.now c.loop-node.node-index c.args.frame reach c.loop-node-test.true c.node-item.is (ap (λ r. r.sum) next_is) c.loop-node.invariant.sums in
+    let rest = items_of (list_of (drop (c.loop-node.node-index + 1) c.args.list.now)) in
     record {
-      lies = lies-on c.args.list.now c.loop-node.node-index c.args.frame c.loop-node.cursor.at c.loop-node-test.true c.node-item.is c.loop-node.invariant.lies
-          (lies-here c.args.list.now c.loop-node.node-index c.args.frame c.loop-node.cursor.at c.loop-node-test.true c.node-item.is c.loop-node.invariant.lies)
-          (ap (λ k. k.at) c.in_ok-cursor.ensures.next ∙ next-at c.args.frame c.loop-node.cursor _);
-      bound = omega (arith, c.in_ok-cursor.ensures.near, c.loop-node.invariant.bound);
-      on_page = c.in_ok-cursor.ensures.on_page;
-      commands = put-on c.args.list.now c.loop-node.node-index c.args.frame c.loop-node.cursor _ _ c.loop-node-test.true c.node-item.is c.loop-node.invariant.commands c.in_ok-cursor.ensures.commands c.in_ok-cursor.ensures.next;
+      sums = sums.1;
+      small = sums.0;
+      natural = omega (arith, c.behind-reached.ensures.near, c.loop-node.invariant.natural);
+      from = to_is ∙ c.place-to.ensures.value;
+      near = omega (arith, ints, c.place-to.ensures.near);
+      on_page = c.in_ok-cursor.ensures.still;
+      lies = ap (λ r. list_lies c.args.frame r rest) next_is
+          ∙ lies-on c.args.list.now c.loop-node.node-index c.args.frame reach c.loop-node-test.true c.node-item.is c.loop-node.invariant.lies
+          (ap (λ s. item_lies c.args.frame s item) (sym span) ∙ c.in_ok-cursor.ensures.lies);
+      commands = put-on c.args.list.now c.loop-node.node-index c.args.frame reach c.loop-node-test.true c.node-item.is c.loop-node.cursor c.in_ok-cursor.cursor c.loop-node.body.items
+          c.loop-node.invariant.commands (c.in_ok-cursor.ensures.commands ∙ (λ i. c.loop-node.body.items ++ (item_commands c.args.frame (span i) c.loop-node.cursor item).0))
+          (c.in_ok-cursor.ensures.next ∙ (λ i. (item_commands c.args.frame (span i) c.loop-node.cursor item).1))
+          ∙ ap (λ r. c.put_node.new.body.items ++ list_commands c.args.frame r c.in_ok-cursor.cursor rest) (sym next_is);
     }
 
-pub put_list-returns : goal.put_list-returns
-put_list-returns t c = put-end c.args.list.now c.loop-node.node-index c.args.frame c.loop-node.cursor _ (omega (arith, c.loop-node-test.false)) c.loop-node.invariant.commands
+pub put_list-returns-clause-lies : goal.put_list-returns-clause-lies
+put_list-returns-clause-lies t c =
+    lies-end c.args.list.now c.loop-node.node-index c.args.frame (reach_of c.loop-node.reached) (omega (arith, c.loop-node-test.false)) c.loop-node.invariant.lies
 
-pub put_node-put_rule_of-requires-clause-lies : goal.put_node-put_rule_of-requires-clause-lies
-put_node-put_rule_of-requires-clause-lies t c =
-    let wide : to_z w32 (of_z w32 c.in-Rule.rule.width) ≡ c.in-Rule.rule.width = omega (arith, ints) in
-    let high : to_z w32 (of_z w32 c.height_in-height.result) ≡ c.height_in-height.result = omega (arith, ints, c.height_in-height.type_inv) in
-    let deep : to_z w32 (of_z w32 c.depth_in-depth.result) ≡ c.depth_in-depth.result = omega (arith, ints, c.depth_in-depth.type_inv) in
-    rule-lies c.args.frame c.args.cursor.at _ _ _ c.in-Rule.rule (ap item_of c.in-Rule.is) wide (high ∙ c.height_in-height.ensures) (deep ∙ c.depth_in-depth.ensures) c.requires.lies
-
-pub put_box-returns-then-not-is_entered : goal.put_box-returns-then-not-is_entered
-put_box-returns-then-not-is_entered t c =
-    sym (ap (λ xs. c.args.body.now.items ++ framed xs) (not-entered _ _ _ c.if-not-is_entered.ensures) ∙ append-nil c.args.body.now.items)
-
-pub put_box-put_list-requires : goal.put_box-put_list-requires
-put_box-put_list-requires t c =
-    let base_is : to_z w128 (of_z w128 c.args.base) ≡ c.args.base = omega (arith, ints, c.requires.base) in
-    let frame_is : c.frame_of.result ≡ frame_of c.args.inner.now c.args.base = c.frame_of.ensures ∙ ap (frame_of c.args.inner.now) base_is in
-    let lies = entered-lies c.if-not-is_entered.ensures c.requires.lies in
-    let edges = lies-is lies.0 in (
-      subst (λ (n : ℕ). list_measure c.list.result.now < n) c.decreases (to-list c.args.inner.now c.list.result.now c.list.ensures),
-      (
-        (λ i. list_lies (frame_is i) c.args.cursor.at (items_of (c.list.ensures i))) ∙ lies.1,
-        (omega (arith, edges.left), (rw frame_is c.requires.base, c.requires.on_page)),
-      ),
-    )
-
-pub put_box-returns : goal.put_box-returns
-put_box-returns t c =
-    framed-close c.args.body.now.items _ c.in_ok-push.ensures.items (ap length c.as_slice-start.ensures.value)
-    (c.in_ok-put_list.ensures ∙ (λ i. c.push.new.self.items ++ list_commands (frame_is i) c.args.cursor (items_of (c.list.ensures i)))) c.in_ok-close.ensures
-  where
-    frame_is : c.frame_of.result ≡ frame_of c.args.inner.now c.args.base
-    frame_is = let base_is : to_z w128 (of_z w128 c.args.base) ≡ c.args.base = omega (arith, ints, c.requires.base) in c.frame_of.ensures ∙ ap (frame_of c.args.inner.now) base_is
+pub put_list-returns-clause-commands : goal.put_list-returns-clause-commands
+put_list-returns-clause-commands t c =
+    put-end c.args.list.now c.loop-node.node-index c.args.frame (reach_of c.loop-node.reached) c.loop-node.cursor c.loop-node.body.items (omega (arith, c.loop-node-test.false)) c.loop-node.invariant.commands

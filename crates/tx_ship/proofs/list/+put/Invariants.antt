@@ -1,9 +1,11 @@
-use Rattle.std.proofs.Common.{◌≡◌, ◌≤◌, ◌+◌, ◌*◌, ◌^◌, ◌++◌, true, drop, unsigned_abs}
+use Rattle.std.proofs.Common.{◌≡◌, ◌≤◌, ◌<◌, ◌*◌, ◌^◌, ◌++◌, true, drop, unsigned_abs}
 use Rattle.tx_node.specs.Items.{items_of}
 use Rattle.tx_node.specs.Nodes.{list_of}
+use Rattle.tx_node.specs.Setting.{begun, sums_fit}
 use Rattle.tx_ship.specs.Commands.{list_commands}
+use Rattle.tx_ship.specs.Standing.{reach_of, place}
 use Rattle.tx_ship.specs.Within.{list_lies, IsReader}
-use Rattle.tx_ship.proofs.Measures.{list_measure, node_measure, box_measure}
+use Rattle.tx_ship.proofs.Measures.{list_measure, node_measure, box_measure, framed_measure, inside_measure}
 use Rattle.tx_ship.proofs.list.+put.Given as goal
 
 abbrev pub decreases-put_list : goal.decreases-put_list
@@ -15,10 +17,21 @@ decreases-put_node l = node_measure l.node.now
 abbrev pub decreases-put_box : goal.decreases-put_box
 decreases-put_box l = box_measure l.inner.now
 
+abbrev pub decreases-put_framed : goal.decreases-put_framed
+decreases-put_framed l = framed_measure l.inner.now
+
+abbrev pub decreases-put_inside : goal.decreases-put_inside
+decreases-put_inside l = inside_measure l.inner.now
+
 abbrev pub invariant-put_list-loop-node : goal.invariant-put_list-loop-node
 invariant-put_list-loop-node l = record {
-  lies : list_lies l.frame l.cursor.at (items_of (list_of (drop l.node-index l.list))) ≡ true;
-  bound : unsigned_abs l.cursor.at ≤ 2 ^ 64 + l.node-index * 2 ^ 31;
+  sums : sums_fit l.frame.head.setting l.reached.sum (items_of (list_of (drop l.node-index l.list))) ≡ true;
+  small : unsigned_abs l.reached.sum < 2 ^ 30;
+  natural : unsigned_abs l.reached.natural ≤ l.node-index * 2 ^ 32;
+  from : l.from ≡ place l.frame (reach_of l.reached);
+  near : unsigned_abs l.from ≤ 2 ^ 99;
   on_page : IsReader l.cursor;
-  commands : l.initial.body.items ++ list_commands l.frame l.fn.start (items_of (list_of l.list)) ≡ l.body.items ++ list_commands l.frame l.cursor (items_of (list_of (drop l.node-index l.list)));
+  lies : list_lies l.frame (reach_of l.reached) (items_of (list_of (drop l.node-index l.list))) ≡ list_lies l.frame begun (items_of (list_of l.list));
+  commands : l.initial.body.items ++ list_commands l.frame begun l.fn.start (items_of (list_of l.list))
+      ≡ l.body.items ++ list_commands l.frame (reach_of l.reached) l.cursor (items_of (list_of (drop l.node-index l.list)));
 }

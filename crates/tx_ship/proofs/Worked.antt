@@ -1,0 +1,132 @@
+-- The definitions at pages that Knuth's TeX ships with the same bytes, and at lines whose places were worked out by hand.
+use Rattle.std.proofs.Common.{◌≡◌, ℕ, ℤ, pos, negsuc, List, [], ◌∷◌, Some, None, refl}
+use Rattle.tx_node.specs.declared.head.BoxHead.{BoxHead}
+use Rattle.tx_node.specs.declared.head.Change.TheVariants.{Stretch, Shrink}
+use Rattle.tx_node.specs.declared.head.Direction.{Direction}
+use Rattle.tx_node.specs.declared.head.Direction.TheVariants.{Horizontal, Vertical}
+use Rattle.tx_node.specs.declared.head.Setting.{Setting}
+use Rattle.tx_node.specs.declared.head.Setting.TheVariants.{Natural, Set}
+use Rattle.tx_node.specs.declared.plain.KernKind.TheVariants.{Explicit}
+use Rattle.tx_node.specs.declared.plain.LeadersKind.TheVariants.{Aligned}
+use Rattle.tx_node.specs.declared.plain.Plain.TheVariants.{Kern, Glue, Penalty}
+use Rattle.tx_node.specs.declared.plain.Shared.TheVariants.{Rule, Leaders, Special}
+use Rattle.tx_node.specs.declared.rule.Rule.{Rule as RuleSides}
+use Rattle.tx_node.specs.Items.{Item, plain, shared, boxed, items_of}
+use Rattle.tx_dvi.specs.Dvi.{four_bytes}
+use Rattle.tx_dvi.specs.Meaning.{Placed, ruled, noted}
+use Rattle.tx_ship.specs.Commands.{body_of, list_commands, rule_item, rule_bytes, way, movement, special}
+use Rattle.tx_ship.specs.Placing.{placed, placed_list}
+
+-- sizes and items
+abbrev rule_of : ℕ → ℕ → ℕ → Item
+rule_of width height depth = shared (Rule (record { width = Some (pos width); height = Some (pos height); depth = Some (pos depth) }))
+
+abbrev kern_of : ℕ → Item
+kern_of size = plain (Kern Explicit (pos size))
+
+-- stretch of this order, shrink of the normal one
+abbrev glue : ℤ → ℕ → ℕ → ℕ → Item
+glue width stretch order shrink = plain (Glue (record { width = width; stretch = pos stretch; stretch_order = order; shrink = pos shrink; shrink_order = 0 }))
+
+abbrev leaders : RuleSides → ℤ → ℕ → ℕ → Item
+leaders r width stretch order =
+    shared (Leaders (record { kind = Aligned; glue = record { width = width; stretch = pos stretch; stretch_order = order; shrink = pos 0; shrink_order = 0 }; rule = r }))
+
+abbrev head : Direction → ℕ → ℕ → ℕ → Setting → BoxHead
+head direction width height depth setting = record { direction = direction; width = pos width; height = pos height; depth = pos depth; setting = setting }
+
+abbrev box : ℤ → BoxHead → List Item → Item
+box shift h list = boxed shift h (items_of list)
+
+abbrev page : BoxHead → List Item → List ℕ
+page h list = body_of (record { head = h; list = list }) (pos 0) (pos 0)
+
+-- \vbox{\hrule width 3pt height 1pt depth 0pt}
+rule-page : page (head Vertical 196608 65536 0 Natural) (rule_of 196608 65536 0 ∷ []) ≡ 159 ∷ 1 ∷ 0 ∷ 0 ∷ 137 ∷ 0 ∷ 1 ∷ 0 ∷ 0 ∷ 0 ∷ 3 ∷ 0 ∷ 0 ∷ []
+unfolding list_commands rule_item rule_bytes way movement four_bytes
+rule-page = refl
+
+-- \vbox{\hbox{\vrule width 40pt height 5pt depth 0pt}}
+line-page : page (head Vertical 2621440 327680 0 Natural) (box (pos 0) (head Horizontal 2621440 327680 0 Natural) (rule_of 2621440 327680 0 ∷ []) ∷ [])
+    ≡ 159 ∷ 5 ∷ 0 ∷ 0 ∷ 141 ∷ 132 ∷ 0 ∷ 5 ∷ 0 ∷ 0 ∷ 0 ∷ 40 ∷ 0 ∷ 0 ∷ 142 ∷ []
+unfolding list_commands rule_item rule_bytes way movement four_bytes
+line-page = refl
+
+-- \hbox to 4sp with three times \hskip 0sp plus 1sp and a rule of 1sp
+abbrev loose : Item
+loose = glue (pos 0) 1 0 1
+
+abbrev three : List Item
+three = loose ∷ rule_of 1 1 0 ∷ loose ∷ rule_of 1 1 0 ∷ loose ∷ rule_of 1 1 0 ∷ []
+
+abbrev stretched : ℕ → Setting
+stretched excess = Set (record { change = Stretch; order = 0; total = pos 3; excess = pos excess })
+
+set-page : page (head Horizontal 4 1 0 (stretched 1)) three
+    ≡ 157 ∷ 1 ∷ 132 ∷ 0 ∷ 0 ∷ 0 ∷ 1 ∷ 0 ∷ 0 ∷ 0 ∷ 1 ∷ 143 ∷ 1 ∷ 132 ∷ 0 ∷ 0 ∷ 0 ∷ 1 ∷ 0 ∷ 0 ∷ 0 ∷ 1 ∷ 132 ∷ 0 ∷ 0 ∷ 0 ∷ 1 ∷ 0 ∷ 0 ∷ 0 ∷ 1 ∷ []
+unfolding list_commands rule_item rule_bytes way movement four_bytes
+set-page = refl
+
+-- \vbox{\moveright 7sp\hbox{..}\kern 10sp\moveleft 5sp\hbox{}\vskip 4sp\hrule ..}
+column-page : page (head Vertical 9 19 6 Natural)
+    (box (pos 7) (head Horizontal 2 3 1 Natural) (rule_of 2 3 1 ∷ []) ∷ kern_of 10 ∷ box (negsuc 4) (head Horizontal 0 0 0 Natural) [] ∷ glue (pos 4) 0 0 0
+    ∷ rule_of 9 2 6 ∷ [])
+    ≡ 157 ∷ 3 ∷ 141 ∷ 143 ∷ 7 ∷ 157 ∷ 1 ∷ 132 ∷ 0 ∷ 0 ∷ 0 ∷ 4 ∷ 0 ∷ 0 ∷ 0 ∷ 2 ∷ 142 ∷ 157 ∷ 23 ∷ 137 ∷ 0 ∷ 0 ∷ 0 ∷ 8 ∷ 0 ∷ 0 ∷ 0 ∷ 9 ∷ []
+unfolding list_commands rule_item rule_bytes way movement four_bytes
+column-page = refl
+
+-- \hbox{\kern 7sp\special{ab}\raise 3sp\hbox{..}\lower 4sp\vbox{..}\penalty 5 \vrule ..}
+special-page : page (head Horizontal 24 9 4 Natural)
+    (kern_of 7 ∷ shared (Special (97 ∷ 98 ∷ [])) ∷ box (negsuc 2) (head Horizontal 3 2 0 Natural) (kern_of 1 ∷ rule_of 2 2 0 ∷ [])
+    ∷ box (pos 4) (head Vertical 6 6 0 Natural) (rule_of 6 1 0 ∷ kern_of 5 ∷ []) ∷ plain (Penalty (pos 5)) ∷ rule_of 8 9 0 ∷ [])
+    ≡ 143 ∷ 7 ∷ 157 ∷ 9 ∷ 239 ∷ 2 ∷ 97 ∷ 98 ∷ 141 ∷ 143 ∷ 1 ∷ 157 ∷ 253 ∷ 132 ∷ 0 ∷ 0 ∷ 0 ∷ 2 ∷ 0 ∷ 0 ∷ 0 ∷ 2 ∷ 142
+    ∷ 141 ∷ 143 ∷ 3 ∷ 157 ∷ 255 ∷ 137 ∷ 0 ∷ 0 ∷ 0 ∷ 1 ∷ 0 ∷ 0 ∷ 0 ∷ 6 ∷ 142 ∷ 143 ∷ 9 ∷ 132 ∷ 0 ∷ 0 ∷ 0 ∷ 9 ∷ 0 ∷ 0 ∷ 0 ∷ 8 ∷ []
+unfolding list_commands rule_item rule_bytes way movement four_bytes special
+special-page = refl
+
+-- \hbox to 100sp{\leaders\vrule height 2sp depth 1sp\hskip 10sp plus 1fil\kern 3sp\leaders\hrule height 4sp depth 0sp\hskip 5sp}
+across-page : page (head Horizontal 100 4 1 (Set (record { change = Stretch; order = 1; total = pos 65536; excess = pos 82 })))
+    (leaders (record { width = Some (pos 26214); height = Some (pos 2); depth = Some (pos 1) }) (pos 10) 65536 1 ∷ kern_of 3
+    ∷ leaders (record { width = None; height = Some (pos 4); depth = Some (pos 0) }) (pos 5) 0 0 ∷ [])
+    ≡ 157 ∷ 5 ∷ 132 ∷ 0 ∷ 0 ∷ 0 ∷ 3 ∷ 0 ∷ 0 ∷ 0 ∷ 92 ∷ 143 ∷ 3 ∷ 157 ∷ 255 ∷ 132 ∷ 0 ∷ 0 ∷ 0 ∷ 4 ∷ 0 ∷ 0 ∷ 0 ∷ 5 ∷ []
+unfolding list_commands rule_item rule_bytes way movement four_bytes
+across-page = refl
+
+-- \vbox to 100sp{\leaders\hrule width 6sp\vskip 10sp plus 1fil\kern 3sp\special{}\leaders\hrule\vskip -5sp\hrule height 1sp}
+down-page : page (head Vertical 6 100 0 (Set (record { change = Stretch; order = 1; total = pos 65536; excess = pos 91 })))
+    (leaders (record { width = Some (pos 6); height = Some (pos 26214); depth = Some (pos 0) }) (pos 10) 65536 1 ∷ kern_of 3 ∷ shared (Special [])
+    ∷ leaders (record { width = None; height = Some (pos 26214); depth = Some (pos 0) }) (negsuc 4) 0 0
+    ∷ shared (Rule (record { width = None; height = Some (pos 1); depth = Some (pos 0) })) ∷ [])
+    ≡ 157 ∷ 101 ∷ 137 ∷ 0 ∷ 0 ∷ 0 ∷ 101 ∷ 0 ∷ 0 ∷ 0 ∷ 6 ∷ 157 ∷ 3 ∷ 239 ∷ 0 ∷ 157 ∷ 252 ∷ 137 ∷ 0 ∷ 0 ∷ 0 ∷ 1 ∷ 0 ∷ 0 ∷ 0 ∷ 6 ∷ []
+unfolding list_commands rule_item rule_bytes way movement four_bytes special
+down-page = refl
+
+-- Five lines of the same three rules, each behind glue: the places of the rules, where the glue has to grow by so much in all.
+-- Glue that was rounded by itself would leave the last rule of each line off.
+abbrev rights : List Placed → List ℤ
+rights [] = []
+rights (ruled r ∷ rest) = r.h ∷ rights rest
+rights (noted s ∷ rest) = s.h ∷ rights rest
+
+abbrev line : Setting → List ℤ
+line setting = rights (placed (record { head = head Horizontal 3 1 0 setting; list = three }) (pos 0) (pos 0))
+
+by-1 : line (stretched 1) ≡ pos 0 ∷ pos 2 ∷ pos 3 ∷ []
+unfolding placed_list
+by-1 = refl
+
+by-2 : line (stretched 2) ≡ pos 1 ∷ pos 2 ∷ pos 4 ∷ []
+unfolding placed_list
+by-2 = refl
+
+by-4 : line (stretched 4) ≡ pos 1 ∷ pos 4 ∷ pos 6 ∷ []
+unfolding placed_list
+by-4 = refl
+
+by-5 : line (stretched 5) ≡ pos 2 ∷ pos 4 ∷ pos 7 ∷ []
+unfolding placed_list
+by-5 = refl
+
+by-minus_1 : line (Set (record { change = Shrink; order = 0; total = pos 3; excess = negsuc 0 })) ≡ pos 0 ∷ pos 0 ∷ pos 1 ∷ []
+unfolding placed_list
+by-minus_1 = refl
