@@ -1,0 +1,10 @@
+pub mod Examples
+pub mod Members
+pub mod Order
+pub mod Kept
+pub mod Links
+pub mod Levels
+pub mod Summing
+pub mod Shapes
+pub mod Costs
+pub mod Offering

@@ -1,0 +1,4 @@
+use Rattle.tx_linebreak.proofs.chains.Chains.+is_below.Given as goal
+
+abbrev pub decreases-is_below : goal.decreases-is_below
+decreases-is_below l = l.chain

@@ -1,0 +1,66 @@
+-- One chain for each candidate: the programme of dynamic steps, by which the best of all chains is found without looking at
+-- each. No public clause speaks of it.
+use Rattle.std.specs.Prelude.{◌≡◌, ℕ, zero, suc, ◌-◌, ◌==◌, ℤ, Bool, true, false, not, ◌&&◌, if◌then◌else◌, List, [], ◌∷◌, ◌++◌, filter, length, Option, None, Some}
+use Rattle.tx_linebreak.specs.declared.line.Candidate.{Candidate}
+use Rattle.tx_linebreak.specs.Breaks.{penalty_at}
+use Rattle.tx_linebreak.specs.Lines.{Attempt}
+use Rattle.tx_linebreak.specs.Classes.{class_number}
+use Rattle.tx_linebreak.specs.Chains.{Chain, candidate_of, chains_of, dies_at, from_living}
+use Rattle.tx_linebreak.specs.Chosen.{IsBest, beats, best_of}
+
+-- two places are the same
+abbrev pub same_place : Option ℕ → Option ℕ → Bool
+same_place None None = true
+same_place None (Some q) = false
+same_place (Some p) None = false
+same_place (Some p) (Some q) = p == q
+
+-- two candidates are the same
+abbrev pub same_candidate : Candidate → Candidate → Bool
+same_candidate c d = same_place c.place d.place && c.lines == d.lines && class_number c.class == class_number d.class
+
+-- the better one of two chains, the second where neither beats the other
+abbrev pub better : Chain → Chain → Chain
+better chain other = if beats chain other then chain else other
+
+-- chains, of which no two end with the same candidate, with one more: of its candidate the better one stays
+abbrev pub offered : List Chain → Chain → List Chain
+offered [] chain = chain ∷ []
+offered (other ∷ others) chain =
+    if same_candidate (candidate_of other) (candidate_of chain) then better chain other ∷ others
+    else other ∷ offered others chain
+
+-- with some more
+abbrev pub all_offered : List Chain → List Chain → List Chain
+all_offered others [] = others
+all_offered others (chain ∷ chains) = all_offered (offered others chain) chains
+
+-- the chains kept behind a place, of those kept before it: those whose candidates don't die there, and one for each candidate
+-- that is made there
+abbrev pub kept_by : Attempt → ℕ → Option ℤ → List Chain → List Chain
+kept_by a place None kept = kept
+kept_by a place (Some penalty) kept =
+    filter (λ chain. not (dies_at a (candidate_of chain) place)) kept ++ all_offered [] (from_living a place penalty kept)
+
+-- the chains kept before a place: one for each candidate that lives there
+abbrev pub kept_before : Attempt → ℕ → List Chain
+kept_before a zero = [] ∷ []
+kept_before a (suc place) = kept_by a place (penalty_at a.params a.pass a.pieces place) (kept_before a place)
+
+-- the chains that end at the list's end, made of those kept before it
+abbrev pub last_by : Attempt → ℕ → Option ℤ → List Chain → List Chain
+last_by a place None kept = []
+last_by a place (Some penalty) kept = from_living a place penalty kept
+
+unfoldable pub last_chains : Attempt → List Chain
+last_chains a =
+    let last = length a.pieces - 1 in last_by a last (penalty_at a.params a.pass a.pieces last) (kept_before a last)
+
+-- the best of these is the best of all chains; and where there is none, there is no chain
+abbrev pub FindsBest : Attempt → Option Chain → Type 0
+FindsBest a None = chains_of a ≡ []
+FindsBest a (Some chain) = IsBest a chain
+
+-- it is enough to keep one chain for each candidate
+abbrev pub OneIsEnough : Attempt → Type 0
+OneIsEnough a = FindsBest a (best_of (last_chains a))

@@ -1,0 +1,11 @@
+pub mod Breaks
+pub mod Totals
+pub mod Sums
+pub mod Classes
+pub mod Lines
+pub mod Chains
+pub mod Chosen
+pub mod Steps
+pub mod Kept
+pub mod Shared
+pub mod Tasks

@@ -1,0 +1,38 @@
+-- Chains that share their beginnings, as a list of links. No public clause speaks of it.
+use Rattle.std.specs.Prelude.{◌≡◌, ℕ, suc, ◌<◌, List, [], ◌∷◌, ◌++◌, length, fold, slice_index_or}
+use Rattle.tx_linebreak.specs.declared.link.Link.{Link}
+use Rattle.tx_linebreak.specs.Chains.{Chain}
+use Rattle.tx_linebreak.specs.Chosen.{total}
+
+-- the chain of a number among chains
+abbrev pub chain_at : List Chain → ℕ → Chain
+chain_at chains number = slice_index_or chains number []
+
+-- the chain of a link: its line behind one of the chains
+abbrev pub chain_of : List Chain → Link → Chain
+chain_of chains link = link.line ∷ chain_at chains link.before
+
+-- chains, and that of a link behind them
+abbrev pub with_link : List Chain → Link → List Chain
+with_link chains link = chains ++ chain_of chains link ∷ []
+
+-- the chains of links: the empty one, and one for each link
+unfoldable pub chains_in : List Link → List Chain
+chains_in links = fold with_link ([] ∷ []) links
+
+-- a link stands behind one of the chains, and knows the demerits of its own
+pub record IsMade (chains : List Chain) (link : Link) : Type 0 where
+  pub within : link.before < length chains
+  pub total_is : link.total ≡ total (chain_of chains link)
+
+-- a chain is that of a link, behind a chain of a lesser number
+pub record IsLinkOf (chains : List Chain) (number : ℕ) (link : Link) : Type 0 where
+  pub earlier : link.before < number
+  pub chain_is : chain_at chains number ≡ chain_of chains link
+  pub total_is : link.total ≡ total (chain_at chains number)
+
+-- what holds of the links of chains
+pub record IsShared (links : List Link) : Type 0 where
+  pub length_is : length (chains_in links) ≡ suc (length links)
+  pub start_is : chain_at (chains_in links) 0 ≡ []
+  pub links_are : (k : ℕ) (d : Link) → k < length links → IsLinkOf (chains_in links) (suc k) (slice_index_or links k d)

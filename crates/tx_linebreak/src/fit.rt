@@ -1,0 +1,131 @@
+//! How a line fits, and its demerits (TeX: The Program, sections 851 to 859).
+ghost use Rattle.std.specs.Prelude.{◌≡◌, ◌<◌, ◌≤◌, ◌^◌, ◌≤ℤ◌, pos, length};
+ghost use Rattle.tx_num.specs.Badness.{badness_of, badness_of_ratio, ratio_of};
+ghost use Rattle.tx_linebreak.specs.Lines.{fit_of, line_width, shrunk, shrunk_class, stretched, stretched_class};
+ghost use Rattle.tx_linebreak.specs.Totals.{IsWithin};
+
+use crate::line::Fit;
+use crate::params::LineShape;
+use crate::piece::Class;
+use crate::totals::Totals;
+
+/// The badness of what can't be set at all.
+const INFINITELY_BAD: u32 = 10_000;
+
+/// The shape of a line, by the number of lines before it.
+pub(crate) fn line_shape(shape: &[LineShape], lines: usize) -> LineShape
+    requires { 0 < length shape.now }
+    ensures { result.width ≡ line_width shape.now lines }
+{
+    let last = shape.len() - 1;
+    shape[lines.min(last)]
+}
+
+/// The badness of glue that can move by `s` and has to move by `t`, as `tx_num::badness` has it of smaller sizes.
+fn badness(t: i128, s: i128) -> u32
+    requires { pos 0 ≤ℤ t }
+    ensures value { result ≡ badness_of t s }
+    ensures bound { result ≤ 10000 }
+{
+    if t == 0 {
+        return 0;
+    }
+    if s <= 0 {
+        return INFINITELY_BAD;
+    }
+    badness_at(ratio(t.unsigned_abs(), s.unsigned_abs()))
+}
+
+/// How often `s` goes into `t`, times 297, whose cube is about 100 times 2^18.
+fn ratio(t: u128, s: u128) -> u128
+    requires { 0 < s }
+    ensures { result ≡ ratio_of t s }
+{
+    if t <= 7_230_584 {
+        297 * t / s
+    } else if s >= 1_663_497 {
+        t / (s / 297)
+    } else {
+        t
+    }
+}
+
+fn badness_at(ratio: u128) -> u32
+    ensures value { result ≡ badness_of_ratio ratio }
+    ensures bound { result ≤ 10000 }
+{
+    if ratio > 1290 {
+        return INFINITELY_BAD;
+    }
+    ((ratio * ratio * ratio + 131_072) / 262_144) as u32
+}
+
+/// How a line of this shape with these totals fits.
+pub(crate) fn fit(shape: &LineShape, totals: &Totals) -> Fit
+    requires { IsWithin (2 ^ 120) totals.now }
+    ensures { result ≡ fit_of shape.now.width totals.now }
+{
+    let width = i128::from(shape.width);
+    if totals.width < width {
+        stretched(totals, width - totals.width)
+    } else {
+        shrunk(totals, totals.width - width)
+    }
+}
+
+/// How a line fits that is too short by so much.
+fn stretched(totals: &Totals, excess: i128) -> Fit
+    requires { pos 0 ≤ℤ excess }
+    ensures { result ≡ stretched totals.now excess }
+{
+    if totals.fil != 0 || totals.fill != 0 || totals.filll != 0 {
+        return Fit::Set {
+            badness: 0,
+            class: Class::Decent,
+        };
+    }
+    let badness = badness(excess, totals.stretch);
+    Fit::Set {
+        badness,
+        class: stretched_class(badness),
+    }
+}
+
+/// How a line fits that is too long by so much, or just fits.
+fn shrunk(totals: &Totals, excess: i128) -> Fit
+    requires { pos 0 ≤ℤ excess }
+    ensures { result ≡ shrunk totals.now excess }
+{
+    if totals.shrink < excess {
+        return Fit::Overfull;
+    }
+    let badness = badness(excess, totals.shrink);
+    Fit::Set {
+        badness,
+        class: shrunk_class(badness),
+    }
+}
+
+/// The class of a line that is stretched.
+fn stretched_class(badness: u32) -> Class
+    ensures { result ≡ stretched_class badness }
+{
+    if badness > 99 {
+        Class::VeryLoose
+    } else if badness > 12 {
+        Class::Loose
+    } else {
+        Class::Decent
+    }
+}
+
+/// The class of a line that is shrunk.
+fn shrunk_class(badness: u32) -> Class
+    ensures { result ≡ shrunk_class badness }
+{
+    if badness > 12 {
+        Class::Tight
+    } else {
+        Class::Decent
+    }
+}

@@ -1,0 +1,37 @@
+//! The chains that are made at a break, one for each candidate.
+ghost use Rattle.std.specs.Prelude.{◌≡◌, map, position, All, OnOk};
+ghost use Rattle.tx_linebreak.specs.Kept.{offered};
+ghost use Rattle.tx_linebreak.specs.Shared.{IsMade, chain_of};
+ghost use Rattle.tx_linebreak.specs.Steps.{line_level};
+
+use crate::chains::Chains;
+use crate::line::Line;
+use crate::link::Link;
+use std::alloc::AllocError;
+
+/// The first of some links whose line ends with the candidate of this one.
+fn place_of(links: &[Link], line: &Line) -> Option<usize>
+    ensures { result ≡ position (λ link. line_level link.line line.now) links.now }
+{
+    links.iter().position(|link| link.line.is_level(line))
+}
+
+/// Offers a chain to others: of its candidate the better one stays. After want of memory nothing has changed.
+pub(crate) fn offer(chains: &Chains, links: &mut Vec<Link>, link: Link) -> Result<(), AllocError>
+    requires links { All (IsMade chains.now) links.old.items }
+    requires link { IsMade chains.now link }
+    ensures offered { OnOk result (map (chain_of chains.now) links.new.items ≡ offered (map (chain_of chains.now) links.old.items) (chain_of chains.now link)) }
+    ensures made { OnOk result (All (IsMade chains.now) links.new.items) }
+{
+    match place_of(links.as_slice(), &link.line) {
+        None => {
+            links.push(link)?;
+        }
+        Some(at) => {
+            if chains.beats(&link, &links[at]) {
+                links[at] = link;
+            }
+        }
+    }
+    Ok(())
+}

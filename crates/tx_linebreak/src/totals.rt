@@ -1,0 +1,136 @@
+//! How wide pieces are together, and how far they stretch and shrink.
+ghost use Rattle.std.specs.Prelude.{◌≡◌, ◌≤◌, ◌+ℤ◌, ◌-ℤ◌, ◌^◌, unsigned_abs, IfOk};
+ghost use Rattle.tx_linebreak.specs.Totals.{IsWithin, both, glue_totals, less, piece_totals, rigid};
+ghost use Rattle.tx_linebreak.specs.Sums.{AreSums};
+
+use crate::piece::Piece;
+use std::alloc::{AllocError, Global};
+use tx_num::Glue;
+
+/// The sums of widths, of stretch by its orders, and of shrink, in sp.
+#[derive(Clone, Copy)]
+pub(crate) struct Totals {
+    pub width: i128,
+    pub stretch: i128,
+    pub fil: i128,
+    pub fill: i128,
+    pub filll: i128,
+    pub shrink: i128,
+}
+
+impl Totals {
+    /// A width that can't move.
+    pub fn rigid(width: i32) -> Totals
+        ensures value { result ≡ rigid width }
+        ensures small { IsWithin (2 ^ 31) result }
+    {
+        Totals {
+            width: i128::from(width),
+            stretch: 0,
+            fil: 0,
+            fill: 0,
+            filll: 0,
+            shrink: 0,
+        }
+    }
+
+    /// What glue has.
+    pub fn of_glue(glue: &Glue) -> Totals
+        ensures value { result ≡ glue_totals glue.now }
+        ensures small { IsWithin (2 ^ 31) result }
+    {
+        let mut totals = Totals::rigid(0);
+        totals.width = i128::from(glue.width());
+        let stretch = i128::from(glue.stretch());
+        match glue.stretch_order() {
+            0 => totals.stretch = stretch,
+            1 => totals.fil = stretch,
+            2 => totals.fill = stretch,
+            _ => totals.filll = stretch,
+        }
+        totals.shrink = i128::from(glue.shrink());
+        totals
+    }
+
+    /// What a piece has, where it isn't a break.
+    pub fn of_piece(piece: &Piece) -> Totals
+        ensures value { result ≡ piece_totals piece.now }
+        ensures small { IsWithin (2 ^ 31) result }
+    {
+        match piece {
+            Piece::Solid(width) => Totals::rigid(*width),
+            Piece::Kern(width) => Totals::rigid(*width),
+            Piece::Glue(glue) => Totals::of_glue(glue),
+            Piece::Penalty(_) => Totals::rigid(0),
+            Piece::Discretionary(_) => Totals::rigid(0),
+            Piece::MathOn(width) => Totals::rigid(*width),
+            Piece::MathOff(width) => Totals::rigid(*width),
+        }
+    }
+
+    /// Both together.
+    pub fn plus(&self, other: &Totals) -> Totals
+        requires some { IsWithin (2 ^ 120) self.now }
+        requires others { IsWithin (2 ^ 120) other.now }
+        ensures { result ≡ both self.now other.now }
+    {
+        Totals {
+            width: sum(self.width, other.width),
+            stretch: sum(self.stretch, other.stretch),
+            fil: sum(self.fil, other.fil),
+            fill: sum(self.fill, other.fill),
+            filll: sum(self.filll, other.filll),
+            shrink: sum(self.shrink, other.shrink),
+        }
+    }
+
+    /// These without the others.
+    pub fn minus(&self, other: &Totals) -> Totals
+        requires some { IsWithin (2 ^ 120) self.now }
+        requires others { IsWithin (2 ^ 120) other.now }
+        ensures { result ≡ less self.now other.now }
+    {
+        Totals {
+            width: difference(self.width, other.width),
+            stretch: difference(self.stretch, other.stretch),
+            fil: difference(self.fil, other.fil),
+            fill: difference(self.fill, other.fill),
+            filll: difference(self.filll, other.filll),
+            shrink: difference(self.shrink, other.shrink),
+        }
+    }
+}
+
+/// The sum of two sizes.
+fn sum(a: i128, b: i128) -> i128
+    requires a { unsigned_abs a ≤ 2 ^ 120 }
+    requires b { unsigned_abs b ≤ 2 ^ 120 }
+    ensures value { result ≡ a +ℤ b }
+    ensures small { unsigned_abs result ≤ 2 ^ 121 }
+{
+    a + b
+}
+
+/// The difference of two sizes.
+fn difference(a: i128, b: i128) -> i128
+    requires a { unsigned_abs a ≤ 2 ^ 120 }
+    requires b { unsigned_abs b ≤ 2 ^ 120 }
+    ensures value { result ≡ a -ℤ b }
+    ensures small { unsigned_abs result ≤ 2 ^ 121 }
+{
+    a - b
+}
+
+/// The totals of the pieces before each place, up to all of them.
+pub(crate) fn running_sums(alloc: Global, pieces: &[Piece]) -> Result<Vec<Totals>, AllocError>
+    ensures { IfOk result (λ sums. AreSums sums.items pieces.now) }
+{
+    let mut total = Totals::rigid(0);
+    let mut sums = Vec::new(alloc);
+    sums.push(total)?;
+    for piece in pieces {
+        total = total.plus(&Totals::of_piece(piece));
+        sums.push(total)?;
+    }
+    Ok(sums)
+}
