@@ -22,7 +22,7 @@ use Rattle.tx_assign.specs.declared.scan.AssignScan.{AssignScan}
 use Rattle.tx_assign.specs.declared.scan.AssignStage.TheVariants as stage
 use Rattle.tx_assign.specs.declared.types.Assignment.{Assignment}
 use Rattle.tx_assign.specs.declared.types.Purpose.TheVariants.{Compute}
-use Rattle.tx_scan.specs.Dimensions.{dimension}
+use Rattle.tx_scan.specs.Dimensions.{dimension, lengths}
 use Rattle.tx_scan.specs.Integers.{integer}
 use Rattle.tx_seen.specs.declared.fed.Value.{Value}
 use Rattle.tx_assign.specs.declared.types.Purpose.{Purpose}
@@ -138,7 +138,7 @@ pub by-first : {E : Type 0} (o : Option Operation) (operation : Operation) (p : 
 by-first o operation p word t new answer e w k = rw e (rw w at k)
 
 -- no value is needed there
-given-if : (l b : Bool) (purpose : Purpose) (p : Place) (v : Value) (more : List Item) → (if l then list_value p (Gave v ∷ more) else (if b then next (dimension (Gave v ∷ more)) (sized purpose p) else next (integer (Gave v ∷ more)) (valued purpose p))) ≡ Wrong MissingNumber
+given-if : (l b : Bool) (purpose : Purpose) (p : Place) (v : Value) (more : List Item) → (if l then list_value p (Gave v ∷ more) else (if b then next (dimension lengths (Gave v ∷ more)) (sized purpose p) else next (integer (Gave v ∷ more)) (valued purpose p))) ≡ Wrong MissingNumber
 given-if true b purpose p v more = refl
 given-if false true purpose p v more = refl
 given-if false false purpose p v more = refl

@@ -16,7 +16,7 @@ use Rattle.tx_scan.specs.declared.scans.IntScan.{IntScan}
 use Rattle.tx_scan.specs.declared.scans.DimenScan.{DimenScan}
 use Rattle.tx_scan.specs.Rests.{HasTakenBy, IsPassed, IsGivenBy}
 use Rattle.tx_scan.specs.Integers.{integer, byte_of}
-use Rattle.tx_scan.specs.Dimensions.{dimension}
+use Rattle.tx_scan.specs.Dimensions.{dimension, lengths}
 use Rattle.tx_scan.specs.IntegerRests as integers
 use Rattle.tx_scan.specs.DimensionRests as sizes
 use Rattle.tx_scan.proofs.Answering.{same-answer, given-answers}
@@ -43,7 +43,7 @@ fed-at-all few reading old new t (Ok answer) h same k = λ behind.
 fed-at-all few reading old new t (Err e) h same k = tt
 
 -- a value by its kind
-pub value-size : (purpose : Purpose) (p : Place) (items : List Item) → takes_size purpose p ≡ true → number_value purpose p items ≡ next (dimension items) (sized purpose p)
+pub value-size : (purpose : Purpose) (p : Place) (items : List Item) → takes_size purpose p ≡ true → number_value purpose p items ≡ next (dimension lengths items) (sized purpose p)
 value-size purpose p items e = rw e refl
 
 pub value-integer : (purpose : Purpose) (p : Place) (items : List Item) → takes_size purpose p ≡ false → number_value purpose p items ≡ next (integer items) (valued purpose p)
@@ -75,9 +75,9 @@ pub side-placed : (operation : Operation) (side : Variable) (p q : Place) (t : S
 side-placed operation side p q t new answer e f k = rw e (rw f at k)
 
 -- the value by a scan of which nothing is read
-pub value-by-size : {E : Type 0} (purpose : Purpose) (p : Place) (scan : DimenScan) (t : Seen) (new : AssignScan) (answer : Result (Fed Assignment) E) → takes_size purpose p ≡ true → scan ≡ sizes.begun_size → IfOk answer (λ a. (behind : List Item) → IsAssigning (sizes.most scan) (λ more. next (sizes.rest scan behind (Took t) more) (sized purpose p)) t new a) → IfOk answer (IsAssigning 0 (λ more. number_value purpose p (Took t ∷ more)) t new)
+pub value-by-size : {E : Type 0} (purpose : Purpose) (p : Place) (scan : DimenScan) (t : Seen) (new : AssignScan) (answer : Result (Fed Assignment) E) → takes_size purpose p ≡ true → scan ≡ sizes.begun_size lengths → IfOk answer (λ a. (behind : List Item) → IsAssigning (sizes.most scan) (λ more. next (sizes.rest scan behind (Took t) more) (sized purpose p)) t new a) → IfOk answer (IsAssigning 0 (λ more. number_value purpose p (Took t ∷ more)) t new)
 value-by-size purpose p scan t new (Ok answer) e b k =
-    same-answer rest held 0 (λ more. number_value purpose p (Took t ∷ more)) (λ more. next (dimension (Took t ∷ more)) (sized purpose p)) t new answer (λ more. value-size purpose p (Took t ∷ more) e) ((rw b at k) [])
+    same-answer rest held 0 (λ more. number_value purpose p (Took t ∷ more)) (λ more. next (dimension lengths (Took t ∷ more)) (sized purpose p)) t new answer (λ more. value-size purpose p (Took t ∷ more) e) ((rw b at k) [])
 value-by-size purpose p scan t new (Err error) e b k = tt
 
 pub value-by-integer : {E : Type 0} (purpose : Purpose) (p : Place) (scan : IntScan) (t : Seen) (new : AssignScan) (answer : Result (Fed Assignment) E) → takes_size purpose p ≡ false → scan ≡ integers.begun_integer → IfOk answer (λ a. (behind : List Item) → IsAssigning (integers.most scan) (λ more. next (integers.rest scan behind (Took t) more) (valued purpose p)) t new a) → IfOk answer (IsAssigning 0 (λ more. number_value purpose p (Took t ∷ more)) t new)

@@ -13,7 +13,8 @@ use Rattle.tx_seen.specs.Places.{place_of}
 use Rattle.tx_seen.specs.Seen.{is_begin_group, is_space, is_relax, is_other, is_key}
 use Rattle.tx_seen.specs.Readings.{Reading, More, Done, Wrong, next}
 use Rattle.tx_scan.specs.Integers.{integer, byte_of, expanded}
-use Rattle.tx_scan.specs.Dimensions.{dimension}
+use Rattle.tx_scan.specs.Dimensions.{dimension, lengths}
+use Rattle.tx_scan.specs.declared.scans.Measure.{Measure}
 use Rattle.tx_scan.specs.Grammars.{equals, name}
 use Rattle.tx_scan.specs.Keywords.{keyword}
 use Rattle.tx_scan.specs.Lists.{list_begun}
@@ -32,8 +33,8 @@ use Rattle.tx_assign.specs.Beginnings.{variable_of, is_changeable}
 use Rattle.tx_assign.specs.Targets.{takes_list, takes_size, purpose_bounds, is_within, change_by, change_by_size}
 
 -- a size, and a number that is within the range of its purpose
-abbrev pub sized : Purpose → Place → ℤ → List Item → Reading Assignment
-sized purpose place size rest = Done (record { place = place; change = change_by_size purpose size }) rest
+abbrev pub sized : Purpose → Place → Measure → List Item → Reading Assignment
+sized purpose place measure rest = Done (record { place = place; change = change_by_size purpose measure.size }) rest
 
 abbrev pub valued : Purpose → Place → ℤ → List Item → Reading Assignment
 valued purpose place n rest =
@@ -57,7 +58,7 @@ list_value place (Took t ∷ rest) =
 -- a number or a size
 abbrev pub number_value : Purpose → Place → List Item → Reading Assignment
 number_value purpose place items =
-    if takes_size purpose place then next (dimension items) (sized purpose place) else next (integer items) (valued purpose place)
+    if takes_size purpose place then next (dimension lengths items) (sized purpose place) else next (integer items) (valued purpose place)
 
 -- the value
 abbrev pub value : Purpose → Place → List Item → Reading Assignment

@@ -10,6 +10,7 @@ use Rattle.tx_seen.specs.Readings.{Reading, Wrong, next}
 use Rattle.tx_scan.specs.Grammars.{name}
 use Rattle.tx_scan.specs.Rests.{HasTakenBy, IsAnswer}
 use Rattle.tx_scan.specs.IntegerRests as integers
+use Rattle.tx_scan.specs.Dimensions.{lengths}
 use Rattle.tx_scan.specs.DimensionRests as sizes
 use Rattle.tx_scan.specs.declared.scans.KeyScan.{KeyScan}
 use Rattle.tx_scan.specs.Keywords as words
@@ -90,7 +91,7 @@ IsFed old t new answer = (behind : List Item) → IsAssigning 1 (λ more. rest o
 
 -- the scan at the beginning of this stage
 abbrev pub at_stage : AssignStage → Place → AssignScan
-at_stage s p = record { stage = s; place = p; integer = integers.begun_integer; size = sizes.begun_size; behind = None }
+at_stage s p = record { stage = s; place = p; integer = integers.begun_integer; size = sizes.begun_size lengths; behind = None }
 
 -- the scan of no assignment yet
 abbrev pub no_assignment : AssignScan

@@ -35,7 +35,7 @@ impl AssignScan {
             stage: AssignStage::LetName,
             place: unread(),
             integer: IntScan::new(alloc),
-            size: DimenScan::new(alloc),
+            size: DimenScan::new(alloc, false, false),
             behind: None,
         }
     }
@@ -70,7 +70,7 @@ impl AssignScan {
         self.stage = stage;
         self.place = place;
         self.integer.restart();
-        self.size.restart();
+        self.size.restart(false, false);
         self.behind = None;
     }
 

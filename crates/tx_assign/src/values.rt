@@ -15,7 +15,7 @@ use crate::scan::{AssignScan, AssignStage};
 use crate::types::{Assignment, Purpose};
 use std::alloc::AllocError;
 use tx_prim::{Numbered, Operation};
-use tx_scan::byte;
+use tx_scan::{Measure, byte};
 use tx_seen::{Fed, Place, Seen, TexError};
 
 // The only error of each of these is want of memory.
@@ -38,7 +38,7 @@ impl AssignScan {
         ensures needed { NeedsNoMore (integers.waiting self.old.integer) (more_needed self.new) result }
     {
         if purpose.takes_size(&self.place) {
-            self.size.restart();
+            self.size.restart(false, false);
             self.on(AssignStage::Size(purpose))
         } else {
             self.integer.restart();
@@ -68,7 +68,7 @@ impl AssignScan {
         ensures needed { IfOk result (NeedsNoMore (integers.waiting self.old.integer) (more_needed self.new)) }
     {
         if purpose.takes_size(&self.place) {
-            self.size.restart();
+            self.size.restart(false, false);
             self.feed_size(purpose, token)
         } else {
             self.integer.restart();
@@ -124,7 +124,7 @@ impl AssignScan {
         match self.size.feed(token)? {
             Fed::More(want) => Ok(Fed::More(want)),
             Fed::Need(kind) => Ok(Fed::Need(kind)),
-            Fed::Done(size, back) => self.end_size(purpose, size, back),
+            Fed::Done(measure, back) => self.end_size(purpose, measure, back),
             Fed::Wrong(error) => Ok(Fed::Wrong(error)),
         }
     }
@@ -133,14 +133,14 @@ impl AssignScan {
     fn end_size(
         &self,
         purpose: Purpose,
-        size: i64,
+        measure: Measure,
         back: usize,
     ) -> Result<Fed<Assignment>, AllocError>
-        requires low { neg_ℤ (pos 1073741823) ≤ℤ size }
-        requires high { size ≤ℤ pos 1073741823 }
-        ensures { IfOk result (IsEnd (λ more. sized purpose self.now.place size more) back) }
+        requires low { neg_ℤ (pos 1073741823) ≤ℤ measure.size }
+        requires high { measure.size ≤ℤ pos 1073741823 }
+        ensures { IfOk result (IsEnd (λ more. sized purpose self.now.place measure more) back) }
     {
-        let change = purpose.change_by_size(size);
+        let change = purpose.change_by_size(measure.size);
         let place = self.place.clone()?;
         Ok(Fed::Done(Assignment { place, change }, back))
     }

@@ -27,9 +27,9 @@ size-stage (dimen.Digits constant) = lit≤ tt
 size-stage (dimen.Fraction whole) = lit≤ tt
 size-stage dimen.Character = lit≤ tt
 size-stage (dimen.AfterCharacter code) = lit≤ tt
-size-stage (dimen.Unit whole) = lit≤ tt
-size-stage (dimen.SecondLetter whole unit letter) = lit≤ tt
+size-stage (dimen.Unit whole letters) = lit≤ tt
 size-stage (dimen.AfterUnit whole unit) = lit≤ tt
+size-stage (dimen.AfterFil whole order) = lit≤ tt
 
 pub most-size : (scan : DimenScan) → sizes.most scan ≤ 1
 most-size scan = size-stage scan.stage

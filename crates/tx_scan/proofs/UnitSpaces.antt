@@ -1,5 +1,5 @@
 -- The token that ends a factor may as well be read with the unit, since spaces before a unit don't count.
-use Rattle.std.proofs.Common.{◌≡◌, ℕ, Bool, true, false, ◌&&◌, None, Some, ℤ, List, [], ◌∷◌, ◌++◌, ◌+◌, take, refl}
+use Rattle.std.proofs.Common.{◌≡◌, ℕ, Bool, true, false, ◌&&◌, None, Some, List, [], ◌∷◌, ◌++◌, ◌+◌, take, refl}
 use Rattle.tx_num.specs.Decimals.{fraction_of}
 use Rattle.tx_seen.specs.declared.seen.Seen.{Seen}
 use Rattle.tx_seen.specs.declared.fed.Fed.{Fed}
@@ -11,48 +11,51 @@ use Rattle.tx_seen.specs.declared.item.Item.TheVariants.{Took}
 use Rattle.tx_seen.specs.Readings.{next}
 use Rattle.tx_scan.specs.declared.scans.Constant.{Constant}
 use Rattle.tx_scan.specs.declared.scans.Radix.TheVariants.{Decimal}
+use Rattle.tx_scan.specs.declared.scans.Units.{Units}
+use Rattle.tx_scan.specs.declared.scans.Measure.{Measure}
+use Rattle.tx_scan.specs.declared.scans.Letters.TheVariants.{Nothing}
 use Rattle.tx_scan.specs.declared.scans.DimenScan.{DimenScan}
 use Rattle.tx_scan.specs.declared.scans.DimenStage.TheVariants as stage
 use Rattle.tx_scan.specs.Beginnings.{digit}
 use Rattle.tx_scan.specs.Integers.{ended_by}
-use Rattle.tx_scan.specs.Dimensions.{factor_ended, is_decimal, unit_name, unit_rest, factored, counted}
+use Rattle.tx_scan.specs.Dimensions.{factor_ended, is_decimal, measured, factored, counted}
 use Rattle.tx_scan.specs.GrammarRests.{held_none}
 use Rattle.tx_scan.specs.DimensionRests.{rest, most, IsFed, IsUnit}
 use Rattle.tx_scan.proofs.Answering.{same-answer}
 use Rattle.tx_scan.proofs.KeptDigits.{fraction-digit}
 
-factor-ends-by : (negative : Bool) (whole : ℕ) (digits : List ℕ) (t : Seen) (more : List Item) (u s : Bool) → is_undefined t ≡ u → is_space t ≡ s → next (factor_ended whole digits t more) (factored negative) ≡ next (unit_name (Took t ∷ more)) (unit_rest negative whole (fraction_of digits))
-factor-ends-by negative whole digits t more true s u e = rw u refl
-factor-ends-by negative whole digits t more false true u e = rw (u, e) refl
-factor-ends-by negative whole digits t more false false u e = simp (u, e) refl
+factor-ends-by : (units : Units) (negative : Bool) (whole : ℕ) (digits : List ℕ) (t : Seen) (more : List Item) (u s : Bool) → is_undefined t ≡ u → is_space t ≡ s → next (factor_ended whole digits t more) (factored units negative) ≡ measured units negative whole (fraction_of digits) Nothing (Took t ∷ more)
+factor-ends-by units negative whole digits t more true s u e = rw u refl
+factor-ends-by units negative whole digits t more false true u e = rw (u, e) refl
+factor-ends-by units negative whole digits t more false false u e = simp (u, e) refl
 
-counted-ends-by : (negative : Bool) (code : ℕ) (t : Seen) (more : List Item) (u s : Bool) → is_undefined t ≡ u → is_space t ≡ s → next (ended_by code t more) (counted negative) ≡ next (unit_name (Took t ∷ more)) (unit_rest negative code (fraction_of []))
-counted-ends-by negative code t more true s u e = rw u refl
-counted-ends-by negative code t more false true u e = rw (u, e) refl
-counted-ends-by negative code t more false false u e = simp (u, e) refl
+counted-ends-by : (units : Units) (negative : Bool) (code : ℕ) (t : Seen) (more : List Item) (u s : Bool) → is_undefined t ≡ u → is_space t ≡ s → next (ended_by code t more) (counted units negative) ≡ measured units negative code (fraction_of []) Nothing (Took t ∷ more)
+counted-ends-by units negative code t more true s u e = rw u refl
+counted-ends-by units negative code t more false true u e = rw (u, e) refl
+counted-ends-by units negative code t more false false u e = simp (u, e) refl
 
 -- behind whole units
-pub whole-ends : (old new : DimenScan) (constant : Constant) (digits : List ℕ) (t : Seen) (answer : Fed ℤ) → old.stage ≡ stage.Digits constant → IsUnit old.negative constant.number digits t new answer → digits ≡ [] → digit constant.radix t ≡ None → (is_decimal constant.radix && is_point t) ≡ false → IsFed old t new answer
+pub whole-ends : (old new : DimenScan) (constant : Constant) (digits : List ℕ) (t : Seen) (answer : Fed Measure) → old.stage ≡ stage.Digits constant → IsUnit old.units old.negative constant.number digits Nothing t new answer → digits ≡ [] → digit constant.radix t ≡ None → (is_decimal constant.radix && is_point t) ≡ false → IsFed old t new answer
 whole-ends old new constant digits t answer s k e d p = λ behind.
-    same-answer rest held_none (most old) (λ more. rest old behind (Took t) more) (λ more. next (unit_name (Took t ∷ more)) (unit_rest old.negative constant.number (fraction_of digits))) t new answer
-    (λ more. rw (s, d, p, e) (factor-ends-by old.negative constant.number [] t more (is_undefined t) (is_space t) refl refl)) (rw s k)
+    same-answer rest held_none (most old) (λ more. rest old behind (Took t) more) (λ more. measured old.units old.negative constant.number (fraction_of digits) Nothing (Took t ∷ more)) t new answer
+    (λ more. rw (s, d, p, e) (factor-ends-by old.units old.negative constant.number [] t more (is_undefined t) (is_space t) refl refl)) (rw s k)
 
 -- behind a fraction
-pub fraction-ends : (old new : DimenScan) (whole : ℕ) (t : Seen) (answer : Fed ℤ) → old.stage ≡ stage.Fraction whole → IsUnit old.negative whole old.digits t new answer → digit Decimal t ≡ None → IsFed old t new answer
+pub fraction-ends : (old new : DimenScan) (whole : ℕ) (t : Seen) (answer : Fed Measure) → old.stage ≡ stage.Fraction whole → IsUnit old.units old.negative whole old.digits Nothing t new answer → digit Decimal t ≡ None → IsFed old t new answer
 fraction-ends old new whole t answer s k d = λ behind.
-    same-answer rest held_none (most old) (λ more. rest old behind (Took t) more) (λ more. next (unit_name (Took t ∷ more)) (unit_rest old.negative whole (fraction_of old.digits))) t new answer
-    (λ more. rw (s, d) (factor-ends-by old.negative whole old.digits t more (is_undefined t) (is_space t) refl refl)) (rw s k)
+    same-answer rest held_none (most old) (λ more. rest old behind (Took t) more) (λ more. measured old.units old.negative whole (fraction_of old.digits) Nothing (Took t ∷ more)) t new answer
+    (λ more. rw (s, d) (factor-ends-by old.units old.negative whole old.digits t more (is_undefined t) (is_space t) refl refl)) (rw s k)
 
 -- behind a character's code
-pub character-ends : (old new : DimenScan) (code whole : ℕ) (digits : List ℕ) (t : Seen) (answer : Fed ℤ) → old.stage ≡ stage.AfterCharacter code → IsUnit old.negative whole digits t new answer → whole ≡ code → digits ≡ [] → IsFed old t new answer
+pub character-ends : (old new : DimenScan) (code whole : ℕ) (digits : List ℕ) (t : Seen) (answer : Fed Measure) → old.stage ≡ stage.AfterCharacter code → IsUnit old.units old.negative whole digits Nothing t new answer → whole ≡ code → digits ≡ [] → IsFed old t new answer
 character-ends old new code whole digits t answer s k w e = λ behind.
-    same-answer rest held_none (most old) (λ more. rest old behind (Took t) more) (λ more. next (unit_name (Took t ∷ more)) (unit_rest old.negative whole (fraction_of digits))) t new answer
-    (λ more. rw (s, w, e) (counted-ends-by old.negative code t more (is_undefined t) (is_space t) refl refl)) (rw s k)
+    same-answer rest held_none (most old) (λ more. rest old behind (Took t) more) (λ more. measured old.units old.negative whole (fraction_of digits) Nothing (Took t ∷ more)) t new answer
+    (λ more. rw (s, w, e) (counted-ends-by old.units old.negative code t more (is_undefined t) (is_space t) refl refl)) (rw s k)
 
 -- one more digit of a fraction
 pub fraction-goes-on : (old : DimenScan) (whole d : ℕ) (digits : List ℕ) (t : Seen) → old.stage ≡ stage.Fraction whole → digit Decimal t ≡ Some d → take 17 digits ≡ take 17 (old.digits ++ (48 + d) ∷ []) → IsFed old t (record old { digits = digits }) (fed.More Expanded)
 fraction-goes-on old whole d digits t s v h = λ behind. (
-  rw s (fraction-digit old.negative whole old.digits digits t d [] v h),
+  rw s (fraction-digit old.units old.negative whole old.digits digits t d [] v h),
   refl,
-  λ item more. rw s (fraction-digit old.negative whole old.digits digits t d (item ∷ more) v h),
+  λ item more. rw s (fraction-digit old.units old.negative whole old.digits digits t d (item ∷ more) v h),
 )

@@ -1,10 +1,9 @@
 -- Dimensions (The TeXbook, chapters 10 and 24; TeX: The Program, sections 448 to 458).
-use Rattle.std.specs.Prelude.{ℕ, ◌+◌, ◌*◌, ◌∷◌, [], ◌++◌, ◌&&◌, Bool, true, false, not, nat_le, ℤ, List, Option, Some, None, if◌then◌else◌}
+use Rattle.std.specs.Prelude.{ℕ, ◌+◌, ◌*◌, ◌∷◌, [], ◌++◌, ◌&&◌, Bool, true, false, not, nat_le, List, Option, Some, None, if◌then◌else◌}
 use Rattle.tx_num.specs.Fractions.{signed}
 use Rattle.tx_num.specs.Decimals.{fraction_of}
 use Rattle.tx_num.specs.Units.{size_of}
-use Rattle.tx_num.specs.declared.units.PhysicalUnit.{PhysicalUnit}
-use Rattle.tx_num.specs.declared.units.PhysicalUnit.TheVariants.{Point, ScaledPoint}
+use Rattle.tx_num.specs.declared.units.PhysicalUnit.TheVariants.{Point, Pica, Inch, BigPoint, Centimetre, Millimetre, DidotPoint, Cicero, ScaledPoint}
 use Rattle.tx_char.specs.Character.{character}
 use Rattle.tx_seen.specs.declared.error.TexError.TheVariants.{MissingNumber, MissingUnit, DimensionTooLarge}
 use Rattle.tx_seen.specs.declared.fed.Want.TheVariants.{Expanded}
@@ -15,6 +14,16 @@ use Rattle.tx_seen.specs.declared.item.Item.TheVariants.{Took, Gave}
 use Rattle.tx_seen.specs.Readings.{Reading, More, Done, Wrong, next}
 use Rattle.tx_scan.specs.declared.scans.Radix.{Radix}
 use Rattle.tx_scan.specs.declared.scans.Radix.TheVariants.{Octal, Decimal, Hexadecimal}
+use Rattle.tx_scan.specs.declared.scans.Units.{Units}
+use Rattle.tx_scan.specs.declared.scans.Order.{Order}
+use Rattle.tx_scan.specs.declared.scans.Order.TheVariants.{Normal, Fil, Fill, Filll}
+use Rattle.tx_scan.specs.declared.scans.Measure.{Measure}
+use Rattle.tx_scan.specs.declared.scans.UnitName.{UnitName}
+use Rattle.tx_scan.specs.declared.scans.UnitName.TheVariants.{Physical, Mathematical, Quad, XHeight}
+use Rattle.tx_scan.specs.declared.scans.Letters.{Letters}
+use Rattle.tx_scan.specs.declared.scans.Letters.TheVariants.{Nothing, P, I, B, C, M, D, S, E, F, Fi}
+use Rattle.tx_scan.specs.declared.scans.Spelled.{Spelled}
+use Rattle.tx_scan.specs.declared.scans.Spelled.TheVariants.{On, Whole, Infinite, No}
 use Rattle.tx_scan.specs.declared.scans.Beginning.{Beginning}
 use Rattle.tx_scan.specs.declared.scans.Beginning.TheVariants as begin
 use Rattle.tx_scan.specs.Beginnings.{base, digit, beginning}
@@ -68,59 +77,142 @@ first_unit radix (Took t ∷ rest) = units_from (digit radix t) t rest
     units_from None t rest = expanded t (Wrong MissingNumber)
     units_from (Some d) t rest = whole_units radix d rest
 
--- the second letter of a unit's name
-abbrev pub second_letter : ℕ → PhysicalUnit → List Item → Reading PhysicalUnit
-second_letter c unit [] = More Expanded
-second_letter c unit (Gave v ∷ rest) = Wrong MissingNumber
-second_letter c unit (Took t ∷ rest) = expanded t (if is_key c t then Done unit rest else Wrong MissingUnit)
+-- what the next letter makes of a name: p begins pt and pc, i in, b bp, c cm and cc, d dd, s sp, e em and ex, f fil, and m is
+-- for mm, or for mu where that alone may stand
+abbrev pub letter_on : Units → Letters → Seen → Spelled
+letter_on units Nothing t =
+    if units.infinite && is_key (character "f") t then On F
+    else if is_key (character "m") t then On M
+    else if units.mu then No
+    else if is_key (character "p") t then On P
+    else if is_key (character "i") t then On I
+    else if is_key (character "b") t then On B
+    else if is_key (character "c") t then On C
+    else if is_key (character "d") t then On D
+    else if is_key (character "s") t then On S
+    else if is_key (character "e") t then On E
+    else No
+letter_on units P t =
+    if is_key (character "t") t then Whole (Physical Point)
+    else if is_key (character "c") t then Whole (Physical Pica)
+    else No
+letter_on units I t = if is_key (character "n") t then Whole (Physical Inch) else No
+letter_on units B t = if is_key (character "p") t then Whole (Physical BigPoint) else No
+letter_on units C t =
+    if is_key (character "m") t then Whole (Physical Centimetre)
+    else if is_key (character "c") t then Whole (Physical Cicero)
+    else No
+letter_on units M t =
+    if units.mu then (if is_key (character "u") t then Whole Mathematical else No)
+    else if is_key (character "m") t then Whole (Physical Millimetre)
+    else No
+letter_on units D t = if is_key (character "d") t then Whole (Physical DidotPoint) else No
+letter_on units S t = if is_key (character "p") t then Whole (Physical ScaledPoint) else No
+letter_on units E t =
+    if is_key (character "m") t then Whole Quad
+    else if is_key (character "x") t then Whole XHeight
+    else No
+letter_on units F t = if is_key (character "i") t then On Fi else No
+letter_on units Fi t = if is_key (character "l") t then Infinite else No
 
--- `pt` or `sp`, in small or capital letters, with spaces before it
-abbrev pub unit_name : List Item → Reading PhysicalUnit
-unit_name [] = More Expanded
-unit_name (Gave v ∷ rest) = Wrong MissingNumber
-unit_name (Took t ∷ rest) = expanded t (
-    if is_space t then unit_name rest
-    else if is_key (character "p") t then second_letter (character "t") Point rest
-    else if is_key (character "s") t then second_letter (character "p") ScaledPoint rest
-    else Wrong MissingUnit)
+-- whether no letter is read
+abbrev pub is_unread : Letters → Bool
+is_unread Nothing = true
+is_unread _ = false
+
+-- a unit that is named; None: fil
+abbrev pub spelled : (Letters → Reading (Option UnitName)) → Spelled → List Item → Reading (Option UnitName)
+spelled on (On letters) rest = on letters
+spelled on (Whole unit) rest = Done (Some unit) rest
+spelled on Infinite rest = Done None rest
+spelled on No rest = Wrong MissingUnit
+
+-- the name of a unit behind these letters of it, small or capital, with spaces before the first
+abbrev pub unit_name : Units → Letters → List Item → Reading (Option UnitName)
+unit_name units letters [] = More Expanded
+unit_name units letters (Gave v ∷ rest) = Wrong MissingNumber
+unit_name units letters (Took t ∷ rest) = expanded t (
+    if is_unread letters && is_space t then unit_name units letters rest
+    else spelled (λ more. unit_name units more rest) (letter_on units letters t) rest)
+
+-- so many whole units and 65536ths of one; em and ex are those of \nullfont, which has none
+abbrev pub size_in : UnitName → ℕ → ℕ → ℕ
+size_in (Physical unit) whole part = size_of unit whole part
+size_in Mathematical whole part = size_of Point whole part
+size_in Quad whole part = 0
+size_in XHeight whole part = 0
 
 -- a size in sp, if it isn't too large
-abbrev pub sized : Bool → ℕ → List Item → Reading ℤ
-sized negative size behind = if nat_le size 1073741823 then Done (signed negative size) behind else Wrong DimensionTooLarge
+abbrev pub sized : Bool → ℕ → Order → List Item → Reading Measure
+sized negative size order behind =
+    if nat_le size 1073741823 then Done (record { size = signed negative size; order = order }) behind else Wrong DimensionTooLarge
 
 -- an optional space behind the unit ends the dimension of so many whole units and 65536ths of one
-abbrev pub unit_rest : Bool → ℕ → ℕ → PhysicalUnit → List Item → Reading ℤ
+abbrev pub unit_rest : Bool → ℕ → ℕ → UnitName → List Item → Reading Measure
 unit_rest negative whole part unit [] = More Expanded
 unit_rest negative whole part unit (Gave v ∷ rest) = Wrong MissingNumber
-unit_rest negative whole part unit (Took t ∷ rest) = expanded t (sized negative (size_of unit whole part) (unless_space t ++ rest))
+unit_rest negative whole part unit (Took t ∷ rest) = expanded t (sized negative (size_in unit whole part) Normal (unless_space t ++ rest))
+
+-- one more l makes a size more infinite; there is nothing behind filll
+abbrev pub raised : Order → Option Order
+raised Normal = Some Fil
+raised Fil = Some Fill
+raised Fill = Some Filll
+raised Filll = None
+
+abbrev pub more_infinite : Option Order → (Order → Reading Measure) → Reading Measure
+more_infinite None on = Wrong MissingUnit
+more_infinite (Some order) on = on order
+
+-- spaces and l's behind fil are a part of it
+abbrev pub fil_rest : Bool → ℕ → ℕ → Order → List Item → Reading Measure
+fil_rest negative whole part order [] = More Expanded
+fil_rest negative whole part order (Gave v ∷ rest) = Wrong MissingNumber
+fil_rest negative whole part order (Took t ∷ rest) = expanded t (
+    if is_space t then fil_rest negative whole part order rest
+    else if is_key (character "l") t then more_infinite (raised order) (λ more. fil_rest negative whole part more rest)
+    else sized negative (size_of Point whole part) order (Took t ∷ rest))
+
+-- what stands behind a unit's name
+abbrev pub unit_ended : Bool → ℕ → ℕ → Option UnitName → List Item → Reading Measure
+unit_ended negative whole part None rest = fil_rest negative whole part Fil rest
+unit_ended negative whole part (Some unit) rest = unit_rest negative whole part unit rest
+
+-- the unit, and what stands behind it
+abbrev pub measured : Units → Bool → ℕ → ℕ → Letters → List Item → Reading Measure
+measured units negative whole part letters items = next (unit_name units letters items) (unit_ended negative whole part)
 
 -- the unit behind a factor
-abbrev pub factored : Bool → Factor → List Item → Reading ℤ
-factored negative f rest = next (unit_name (f.behind ++ rest)) (unit_rest negative f.whole (fraction_of f.digits))
+abbrev pub factored : Units → Bool → Factor → List Item → Reading Measure
+factored units negative f rest = measured units negative f.whole (fraction_of f.digits) Nothing (f.behind ++ rest)
 
 -- the unit behind a constant that has no fraction
-abbrev pub counted : Bool → Ended → List Item → Reading ℤ
-counted negative c rest = factored negative (record { whole = c.number; digits = []; behind = c.behind }) rest
+abbrev pub counted : Units → Bool → Ended → List Item → Reading Measure
+counted units negative c rest = factored units negative (record { whole = c.number; digits = []; behind = c.behind }) rest
 
 -- what a token begins, with the sign, or how reading goes on
-abbrev pub size_begun : Bool → (Bool → Reading ℤ) → List Item → Beginning → Reading ℤ
-size_begun negative on rest begin.Plus = on negative
-size_begun negative on rest begin.Minus = on (not negative)
-size_begun negative on rest (begin.Digit d) = next (whole_units Decimal d rest) (factored negative)
-size_begun negative on rest (begin.Digits radix) = next (first_unit radix rest) (factored negative)
-size_begun negative on rest begin.Point = next (fraction 0 [] rest) (factored negative)
-size_begun negative on rest begin.Character = next (character_code rest) (counted negative)
-size_begun negative on rest (begin.Number n) = Wrong MissingNumber
-size_begun negative on rest (begin.At place) = Wrong MissingNumber
-size_begun negative on rest (begin.Numbered kind) = Wrong MissingNumber
-size_begun negative on rest (begin.Nothing error) = Wrong error
+abbrev pub size_begun : Units → Bool → (Bool → Reading Measure) → List Item → Beginning → Reading Measure
+size_begun units negative on rest begin.Plus = on negative
+size_begun units negative on rest begin.Minus = on (not negative)
+size_begun units negative on rest (begin.Digit d) = next (whole_units Decimal d rest) (factored units negative)
+size_begun units negative on rest (begin.Digits radix) = next (first_unit radix rest) (factored units negative)
+size_begun units negative on rest begin.Point = next (fraction 0 [] rest) (factored units negative)
+size_begun units negative on rest begin.Character = next (character_code rest) (counted units negative)
+size_begun units negative on rest (begin.Number n) = Wrong MissingNumber
+size_begun units negative on rest (begin.At place) = Wrong MissingNumber
+size_begun units negative on rest (begin.Numbered kind) = Wrong MissingNumber
+size_begun units negative on rest (begin.Nothing error) = Wrong error
 
--- a dimension with its signs, whose sign so far is this, in sp
-abbrev pub size_signs : Bool → List Item → Reading ℤ
-size_signs negative [] = More Expanded
-size_signs negative (Gave v ∷ rest) = Wrong MissingNumber
-size_signs negative (Took t ∷ rest) = size_begun negative (λ negative. size_signs negative rest) rest (beginning t)
+-- a dimension with its signs, whose sign so far is this
+abbrev pub size_signs : Units → Bool → List Item → Reading Measure
+size_signs units negative [] = More Expanded
+size_signs units negative (Gave v ∷ rest) = Wrong MissingNumber
+size_signs units negative (Took t ∷ rest) = size_begun units negative (λ negative. size_signs units negative rest) rest (beginning t)
 
--- a dimension, in sp, and an optional space behind it
-abbrev pub dimension : List Item → Reading ℤ
-dimension items = size_signs false items
+-- a dimension in such units, and an optional space behind it
+abbrev pub dimension : Units → List Item → Reading Measure
+dimension units items = size_signs units false items
+
+-- units of length alone, none of them infinite
+abbrev pub lengths : Units
+lengths = record { mu = false; infinite = false }

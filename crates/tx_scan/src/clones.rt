@@ -21,6 +21,7 @@ impl Clone for DimenScan {
 
     fn clone(&self) -> Result<Self, AllocError> {
         Ok(DimenScan {
+            units: self.units,
             negative: self.negative,
             stage: self.stage,
             digits: self.digits.clone()?,

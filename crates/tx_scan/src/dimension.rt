@@ -6,6 +6,7 @@ ghost use Rattle.tx_seen.specs.declared.item.Item.{Item};
 ghost use Rattle.tx_seen.specs.declared.item.Item.TheVariants.{Took};
 ghost use Rattle.tx_seen.specs.Readings.{Answers};
 ghost use Rattle.tx_scan.specs.Dimensions.{dimension, is_decimal};
+ghost use Rattle.tx_scan.specs.declared.scans.Units.{Units as Units_of_size};
 ghost use Rattle.tx_scan.specs.Rests.{IsFedBy};
 ghost use Rattle.tx_scan.specs.GrammarRests.{held_none};
 ghost use Rattle.tx_scan.specs.DimensionRests.{HasTaken, IsFed, IsSize, IsUnit, begun_size, rest};
@@ -13,29 +14,36 @@ ghost use Rattle.tx_scan.specs.DimensionRests.{HasTaken, IsFed, IsSize, IsUnit, 
 use crate::beginnings::{beginning, digit};
 use crate::fraction::Digits;
 use crate::integer::{character_named, first, longer};
-use crate::scans::{Beginning, Constant, DimenScan, DimenStage, Radix};
+use crate::scans::{
+    Beginning, Constant, DimenScan, DimenStage, Letters, Measure, Order, Radix, Spelled, UnitName,
+    Units,
+};
+use crate::units::{is_unread, letter_on, raised, size_in};
 use std::alloc::{AllocError, Global};
 use tx_num::PhysicalUnit;
 use tx_seen::{Fed, Seen, TexError, Want};
 
 impl DimenScan {
-    /// The scan of a dimension of which nothing is read. It takes no memory.
-    pub fn new(alloc: Global) -> DimenScan
-        ensures scan { result ≡ begun_size }
-        ensures taken { HasTaken result [] }
+    /// The scan of a dimension of which nothing is read: in mu alone or in all other units, with the infinite ones or without.
+    /// It takes no memory.
+    pub fn new(alloc: Global, mu: bool, infinite: bool) -> DimenScan
+        ensures scan { result ≡ begun_size (record { mu = mu; infinite = infinite }) }
+        ensures taken { HasTaken (record { mu = mu; infinite = infinite }) result [] }
     {
         DimenScan {
+            units: Units { mu, infinite },
             negative: false,
             stage: DimenStage::Signs,
             digits: Digits::new(alloc),
         }
     }
 
-    /// Forgets what was read, in the memory that it has.
-    pub fn restart(&mut self)
-        ensures scan { self.new ≡ begun_size }
-        ensures taken { HasTaken self.new [] }
+    /// Forgets what was read, in the memory that it has, for a dimension in such units.
+    pub fn restart(&mut self, mu: bool, infinite: bool)
+        ensures scan { self.new ≡ begun_size (record { mu = mu; infinite = infinite }) }
+        ensures taken { HasTaken (record { mu = mu; infinite = infinite }) self.new [] }
     {
+        self.units = Units { mu, infinite };
         self.negative = false;
         self.stage = DimenStage::Signs;
         self.digits.clear();
@@ -43,8 +51,8 @@ impl DimenScan {
 
     /// Takes one token, at first and after More; it needs no value. The answer is what reading gives of all that was
     /// taken. Its only error is want of memory.
-    pub fn feed(&mut self, token: &Seen) -> Result<Fed<i64>, AllocError>
-        ensures answer { (taken : List Item) → HasTaken self.old taken → IfOk result (Answers dimension HasTaken (taken ++ Took token.now ∷ []) self.new) }
+    pub fn feed(&mut self, token: &Seen) -> Result<Fed<Measure>, AllocError>
+        ensures answer { (units : Units_of_size) → (taken : List Item) → HasTaken units self.old taken → IfOk result (Answers (dimension units) (HasTaken units) (taken ++ Took token.now ∷ []) self.new) }
         ensures part { IfOk result (IsFedBy rest held_none self.old token.now self.new) }
         ensures fed { IfOk result (IsFed self.old token.now self.new) }
         ensures size { IfOk result IsSize }
@@ -53,7 +61,7 @@ impl DimenScan {
     }
 
     /// What it is behind one more token. Its only error is want of memory.
-    fn behind(&mut self, token: &Seen) -> Result<Fed<i64>, AllocError>
+    fn behind(&mut self, token: &Seen) -> Result<Fed<Measure>, AllocError>
         ensures fed { IfOk result (IsFed self.old token.now self.new) }
         ensures size { IfOk result IsSize }
     {
@@ -64,16 +72,14 @@ impl DimenScan {
             DimenStage::Fraction(whole) => self.feed_fraction(whole, token),
             DimenStage::Character => Ok(self.feed_character(token)),
             DimenStage::AfterCharacter(code) => Ok(self.feed_after_character(code, token)),
-            DimenStage::Unit(whole) => Ok(self.feed_unit(whole, token)),
-            DimenStage::SecondLetter(whole, unit, letter) => {
-                Ok(self.feed_second_letter(whole, unit, letter, token))
-            }
+            DimenStage::Unit(whole, letters) => Ok(self.feed_unit(whole, letters, token)),
             DimenStage::AfterUnit(whole, unit) => Ok(self.feed_end(whole, unit, token)),
+            DimenStage::AfterFil(whole, order) => Ok(self.feed_fil(whole, order, token)),
         }
     }
 
     /// The scan goes on with this stage, for which the next token is expanded.
-    fn on(&mut self, stage: DimenStage) -> Fed<i64>
+    fn on(&mut self, stage: DimenStage) -> Fed<Measure>
         ensures scan { self.new ≡ record self.old { stage = stage } }
         ensures answer { result ≡ Fed.More Want.Expanded }
     {
@@ -82,7 +88,7 @@ impl DimenScan {
     }
 
     /// Signs and spaces, or what begins the factor.
-    fn feed_sign(&mut self, token: &Seen) -> Fed<i64>
+    fn feed_sign(&mut self, token: &Seen) -> Fed<Measure>
         requires { self.old.stage ≡ DimenStage.Signs }
         ensures fed { IsFed self.old token.now self.new result }
         ensures size { IsSize result }
@@ -111,7 +117,7 @@ impl DimenScan {
     }
 
     /// The first digit of an octal or hexadecimal factor.
-    fn feed_first_digit(&mut self, radix: Radix, token: &Seen) -> Fed<i64>
+    fn feed_first_digit(&mut self, radix: Radix, token: &Seen) -> Fed<Measure>
         requires { self.old.stage ≡ DimenStage.FirstDigit radix }
         ensures fed { IsFed self.old token.now self.new result }
         ensures size { IsSize result }
@@ -127,7 +133,7 @@ impl DimenScan {
     }
 
     /// One more digit of whole units, or what ends them.
-    fn feed_digit(&mut self, constant: Constant, token: &Seen) -> Fed<i64>
+    fn feed_digit(&mut self, constant: Constant, token: &Seen) -> Fed<Measure>
         requires { self.old.stage ≡ DimenStage.Digits constant }
         ensures fed { IsFed self.old token.now self.new result }
         ensures size { IsSize result }
@@ -142,24 +148,24 @@ impl DimenScan {
         if begins_fraction(constant.radix, token) {
             return self.on(DimenStage::Fraction(constant.number));
         }
-        self.feed_unit(constant.number, token)
+        self.feed_unit(constant.number, Letters::Nothing, token)
     }
 
     /// One more digit of a fraction, or what ends it.
-    fn feed_fraction(&mut self, whole: u32, token: &Seen) -> Result<Fed<i64>, AllocError>
+    fn feed_fraction(&mut self, whole: u32, token: &Seen) -> Result<Fed<Measure>, AllocError>
         requires { self.old.stage ≡ DimenStage.Fraction whole }
         ensures fed { IfOk result (IsFed self.old token.now self.new) }
         ensures size { IfOk result IsSize }
     {
         let Some(digit) = digit(Radix::Decimal, token) else {
-            return Ok(self.feed_unit(whole, token));
+            return Ok(self.feed_unit(whole, Letters::Nothing, token));
         };
         self.digits.push(digit)?;
         Ok(Fed::More(Want::Expanded))
     }
 
     /// The character behind a backquote.
-    fn feed_character(&mut self, token: &Seen) -> Fed<i64>
+    fn feed_character(&mut self, token: &Seen) -> Fed<Measure>
         requires { self.old.stage ≡ DimenStage.Character }
         ensures fed { IsFed self.old token.now self.new result }
         ensures size { IsSize result }
@@ -171,59 +177,36 @@ impl DimenScan {
     }
 
     /// An optional space behind a character's code.
-    fn feed_after_character(&mut self, code: u8, token: &Seen) -> Fed<i64>
+    fn feed_after_character(&mut self, code: u8, token: &Seen) -> Fed<Measure>
         requires { self.old.stage ≡ DimenStage.AfterCharacter code }
         ensures fed { IsFed self.old token.now self.new result }
         ensures size { IsSize result }
     {
         self.digits.clear();
-        self.feed_unit(u32::from(code), token)
+        self.feed_unit(u32::from(code), Letters::Nothing, token)
     }
 
-    /// Spaces, or the first letter of a unit.
-    fn feed_unit(&mut self, whole: u32, token: &Seen) -> Fed<i64>
-        ensures fed { IsUnit self.old.negative whole self.old.digits token.now self.new result }
+    /// One more letter of a unit's name, or a space before it.
+    fn feed_unit(&mut self, whole: u32, letters: Letters, token: &Seen) -> Fed<Measure>
+        ensures fed { IsUnit self.old.units self.old.negative whole self.old.digits letters token.now self.new result }
         ensures size { IsSize result }
     {
         if token.is_undefined() {
             return Fed::Wrong(TexError::Undefined);
         }
-        if token.is_space() {
-            return self.on(DimenStage::Unit(whole));
+        if is_unread(letters) && token.is_space() {
+            return self.on(DimenStage::Unit(whole, letters));
         }
-        if token.is_key(b'p') {
-            return self.on(DimenStage::SecondLetter(whole, PhysicalUnit::Point, b't'));
-        }
-        if token.is_key(b's') {
-            return self.on(DimenStage::SecondLetter(whole, PhysicalUnit::ScaledPoint, b'p'));
-        }
-        Fed::Wrong(TexError::MissingUnit)
-    }
-
-    /// The second letter of a unit.
-    fn feed_second_letter(
-        &mut self,
-        whole: u32,
-        unit: PhysicalUnit,
-        letter: u8,
-        token: &Seen,
-    ) -> Fed<i64>
-        requires { self.old.stage ≡ DimenStage.SecondLetter whole unit letter }
-        ensures fed { IsFed self.old token.now self.new result }
-        ensures size { IsSize result }
-    {
-        if token.is_undefined() {
-            return Fed::Wrong(TexError::Undefined);
-        }
-        if token.is_key(letter) {
-            self.on(DimenStage::AfterUnit(whole, unit))
-        } else {
-            Fed::Wrong(TexError::MissingUnit)
+        match letter_on(self.units, letters, token) {
+            Spelled::On(letters) => self.on(DimenStage::Unit(whole, letters)),
+            Spelled::Whole(unit) => self.on(DimenStage::AfterUnit(whole, unit)),
+            Spelled::Infinite => self.on(DimenStage::AfterFil(whole, Order::Fil)),
+            Spelled::No => Fed::Wrong(TexError::MissingUnit),
         }
     }
 
     /// An optional space behind the unit; the dimension is whole.
-    fn feed_end(&mut self, whole: u32, unit: PhysicalUnit, token: &Seen) -> Fed<i64>
+    fn feed_end(&mut self, whole: u32, unit: UnitName, token: &Seen) -> Fed<Measure>
         requires { self.old.stage ≡ DimenStage.AfterUnit whole unit }
         ensures fed { IsFed self.old token.now self.new result }
         ensures size { IsSize result }
@@ -231,14 +214,45 @@ impl DimenScan {
         if token.is_undefined() {
             return Fed::Wrong(TexError::Undefined);
         }
-        match unit.to_scaled(whole, self.digits.value()) {
+        match size_in(unit, whole, self.digits.value()) {
             Ok(size) => {
                 let size = signed_size(self.negative, size);
+                let measure = Measure {
+                    size,
+                    order: Order::Normal,
+                };
                 if token.is_space() {
-                    Fed::Done(size, 0)
+                    Fed::Done(measure, 0)
                 } else {
-                    Fed::Done(size, 1)
+                    Fed::Done(measure, 1)
                 }
+            }
+            Err(_) => Fed::Wrong(TexError::DimensionTooLarge),
+        }
+    }
+
+    /// A space behind `fil`, or an l of it, or what is behind it all.
+    fn feed_fil(&mut self, whole: u32, order: Order, token: &Seen) -> Fed<Measure>
+        requires { self.old.stage ≡ DimenStage.AfterFil whole order }
+        ensures fed { IsFed self.old token.now self.new result }
+        ensures size { IsSize result }
+    {
+        if token.is_undefined() {
+            return Fed::Wrong(TexError::Undefined);
+        }
+        if token.is_space() {
+            return Fed::More(Want::Expanded);
+        }
+        if token.is_key(b'l') {
+            return match raised(order) {
+                Some(order) => self.on(DimenStage::AfterFil(whole, order)),
+                None => Fed::Wrong(TexError::MissingUnit),
+            };
+        }
+        match PhysicalUnit::Point.to_scaled(whole, self.digits.value()) {
+            Ok(size) => {
+                let size = signed_size(self.negative, size);
+                Fed::Done(Measure { size, order }, 1)
             }
             Err(_) => Fed::Wrong(TexError::DimensionTooLarge),
         }

@@ -26,6 +26,7 @@ mod outers;
 mod scans;
 mod spellings;
 mod supplying;
+mod units;
 
 pub use beginnings::beginning;
 pub use file_name::input_name;
@@ -34,7 +35,8 @@ pub use integer::byte;
 pub use laws::integers_are_read_from_the_left;
 pub use lists::list_begun;
 pub use scans::{
-    Beginning, BraceScan, DimenScan, EqualsScan, IntScan, KeyScan, ListBegun, NameScan,
+    Beginning, BraceScan, DimenScan, EqualsScan, IntScan, KeyScan, ListBegun, Measure, NameScan,
+    Order, Units,
 };
 pub use spellings::{ControlNameScan, FileNameScan};
 pub use supplying::{Needs, supply};

@@ -113,6 +113,72 @@ pub struct BraceScan {}
 #[derive(Clone, Copy)]
 pub struct NameScan {}
 
+/// In which units a dimension is told.
+#[derive(Clone, Copy, PartialEq, Eq)]
+pub struct Units {
+    /// Whether `mu` stands in place of all others (The TeXbook, chapter 18).
+    pub mu: bool,
+    /// Whether `fil`, `fill` and `filll` may stand too (chapter 12).
+    pub infinite: bool,
+}
+
+/// How infinite a size is (The TeXbook, chapter 12), the least first.
+#[derive(Clone, Copy, PartialEq, Eq)]
+pub enum Order {
+    Normal,
+    Fil,
+    Fill,
+    Filll,
+}
+
+/// A dimension: so many scaled points, or so many 65536ths of `mu`, or of this infinite unit.
+#[derive(Clone, Copy, PartialEq, Eq)]
+pub struct Measure {
+    pub size: i64,
+    pub order: Order,
+}
+
+/// A unit by its name, but for the infinite ones.
+#[derive(Clone, Copy, PartialEq, Eq)]
+pub enum UnitName {
+    /// One of the same size everywhere.
+    Physical(PhysicalUnit),
+    /// `mu`, in which only glue and kerns of mathematics are told.
+    Mathematical,
+    /// `em` and `ex`, which a font has.
+    Quad,
+    XHeight,
+}
+
+/// What is read of a unit's name.
+#[derive(Clone, Copy, PartialEq, Eq)]
+pub enum Letters {
+    Nothing,
+    P,
+    I,
+    B,
+    C,
+    M,
+    D,
+    S,
+    E,
+    F,
+    Fi,
+}
+
+/// What one more letter makes of a unit's name.
+#[derive(Clone, Copy, PartialEq, Eq)]
+pub enum Spelled {
+    /// These letters, behind which more are needed.
+    On(Letters),
+    /// This unit.
+    Whole(UnitName),
+    /// `fil`.
+    Infinite,
+    /// No name.
+    No,
+}
+
 /// The part of a dimension that comes next.
 #[derive(Clone, Copy)]
 pub enum DimenStage {
@@ -128,17 +194,18 @@ pub enum DimenStage {
     Character,
     /// An optional space behind a character with this code.
     AfterCharacter(u8),
-    /// Spaces, and the first letter of a unit behind so many whole ones.
-    Unit(u32),
-    /// This letter, the second of the unit.
-    SecondLetter(u32, PhysicalUnit, u8),
+    /// The letters of a unit's name behind these, where so many whole ones are told; spaces before the first.
+    Unit(u32, Letters),
     /// An optional space behind the unit.
-    AfterUnit(u32, PhysicalUnit),
+    AfterUnit(u32, UnitName),
+    /// Spaces behind `fil`, and letters that make it more infinite.
+    AfterFil(u32, Order),
 }
 
 /// A dimension that is being scanned.
 #[derive(Drop)]
 pub struct DimenScan {
+    pub(crate) units: Units,
     /// Whether the signs so far make it negative.
     pub(crate) negative: bool,
     pub(crate) stage: DimenStage,

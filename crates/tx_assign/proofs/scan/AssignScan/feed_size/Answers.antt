@@ -1,4 +1,4 @@
-use Rattle.std.proofs.Common.{rules, to_z, of_z, w64}
+use Rattle.std.proofs.Common.{rules}
 use Rattle.tx_scan.specs.DimensionRests as sizes
 use Rattle.tx_scan.specs.GrammarRests.{held_none}
 use Rattle.tx_seen.specs.declared.item.Item.TheVariants.{Took}
@@ -14,7 +14,7 @@ returns-in-More-clause-answer c =
 
 pub returns-in-Done-clause-answer : goal.returns-in-Done-clause-answer
 returns-in-Done-clause-answer c =
-    end-all sizes.rest held_none (sizes.most c.args.self.now.size) (λ behind more. sizes.rest c.args.self.now.size behind (Took c.args.token.now) more) (sized c.args.purpose c.args.self.now.place) c.args.token.now c.feed.new.self (record c.args.self.now { stage = Size c.args.purpose; size = c.feed.new.self }) c.in-Done.size (to_z w64 (of_z w64 c.in-Done.size)) c.in-Done.back c.end_size.result
+    end-all sizes.rest held_none (sizes.most c.args.self.now.size) (λ behind more. sizes.rest c.args.self.now.size behind (Took c.args.token.now) more) (sized c.args.purpose c.args.self.now.place) c.args.token.now c.feed.new.self (record c.args.self.now { stage = Size c.args.purpose; size = c.feed.new.self }) c.in-Done.measure c.in-Done.measure c.in-Done.back c.end_size.result
     (rw c.in-Done.is at c.in_ok-want.ensures.fed) (search rules) c.end_size.ensures
 
 pub returns-in-Wrong-clause-answer : goal.returns-in-Wrong-clause-answer

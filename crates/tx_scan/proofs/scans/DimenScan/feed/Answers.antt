@@ -9,5 +9,5 @@ pub returns-clause-part : goal.returns-clause-part
 returns-clause-part c = fed-part-ok rest held_none c.args.self.now c.behind.new.self (most c.args.self.now) c.args.token.now c.behind.result (most-size c.args.self.now) c.behind.ensures.fed
 
 pub returns-clause-answer : goal.returns-clause-answer
-returns-clause-answer c = λ taken h.
-    fed-answers-ok rest held_none dimension c.args.self.now c.behind.new.self taken c.args.token.now c.behind.result h (returns-clause-part c)
+returns-clause-answer c = λ units taken h.
+    fed-answers-ok rest held_none (dimension units) c.args.self.now c.behind.new.self taken c.args.token.now c.behind.result h (returns-clause-part c)

@@ -1,0 +1,168 @@
+//! The names of units, letter by letter (TeX: The Program, sections 453 to 458).
+ghost use Rattle.std.specs.Prelude.{◌≡◌, ◌≤◌, ◌<◌, pos, if◌then◌else◌, IfOk, MatchResult};
+ghost use Rattle.tx_seen.specs.Seen.{is_key};
+ghost use Rattle.tx_scan.specs.Dimensions as spec;
+
+use crate::scans::{Letters, Order, Spelled, UnitName, Units};
+use tx_num::{Overflow, PhysicalUnit};
+use tx_seen::Seen;
+
+/// Whether no letter is read.
+pub(crate) fn is_unread(letters: Letters) -> bool
+    ensures { result ≡ spec.is_unread letters }
+{
+    matches!(letters, Letters::Nothing)
+}
+
+/// The letters where this one is there.
+fn on_if(there: bool, letters: Letters) -> Spelled
+    ensures { result ≡ (if there then Spelled.On letters else Spelled.No) }
+{
+    if there {
+        Spelled::On(letters)
+    } else {
+        Spelled::No
+    }
+}
+
+/// The unit where its last letter is there.
+fn whole_if(there: bool, unit: UnitName) -> Spelled
+    ensures { result ≡ (if there then Spelled.Whole unit else Spelled.No) }
+{
+    if there {
+        Spelled::Whole(unit)
+    } else {
+        Spelled::No
+    }
+}
+
+/// The one of two units whose last letter is there.
+fn either(token: &Seen, one: u8, unit: UnitName, other: u8, otherwise: UnitName) -> Spelled
+    ensures { result ≡ (if is_key one token.now then Spelled.Whole unit else if is_key other token.now then Spelled.Whole otherwise else Spelled.No) }
+{
+    if token.is_key(one) {
+        return Spelled::Whole(unit);
+    }
+    whole_if(token.is_key(other), otherwise)
+}
+
+/// What the first letter begins.
+fn first_letter(units: Units, token: &Seen) -> Spelled
+    ensures { result ≡ spec.letter_on units Letters.Nothing token.now }
+{
+    if units.infinite && token.is_key(b'f') {
+        return Spelled::On(Letters::F);
+    }
+    if token.is_key(b'm') {
+        return Spelled::On(Letters::M);
+    }
+    if units.mu {
+        return Spelled::No;
+    }
+    if token.is_key(b'p') {
+        return Spelled::On(Letters::P);
+    }
+    if token.is_key(b'i') {
+        return Spelled::On(Letters::I);
+    }
+    if token.is_key(b'b') {
+        return Spelled::On(Letters::B);
+    }
+    if token.is_key(b'c') {
+        return Spelled::On(Letters::C);
+    }
+    if token.is_key(b'd') {
+        return Spelled::On(Letters::D);
+    }
+    if token.is_key(b's') {
+        return Spelled::On(Letters::S);
+    }
+    on_if(token.is_key(b'e'), Letters::E)
+}
+
+/// What an m begins that stands for so much by the next letter.
+fn behind_m(units: Units, token: &Seen) -> Spelled
+    ensures { result ≡ spec.letter_on units Letters.M token.now }
+{
+    if units.mu {
+        return whole_if(token.is_key(b'u'), UnitName::Mathematical);
+    }
+    whole_if(
+        token.is_key(b'm'),
+        UnitName::Physical(PhysicalUnit::Millimetre),
+    )
+}
+
+/// What the next letter makes of a name.
+pub(crate) fn letter_on(units: Units, letters: Letters, token: &Seen) -> Spelled
+    ensures { result ≡ spec.letter_on units letters token.now }
+{
+    match letters {
+        Letters::Nothing => first_letter(units, token),
+        Letters::P => either(
+            token,
+            b't',
+            UnitName::Physical(PhysicalUnit::Point),
+            b'c',
+            UnitName::Physical(PhysicalUnit::Pica),
+        ),
+        Letters::I => whole_if(token.is_key(b'n'), UnitName::Physical(PhysicalUnit::Inch)),
+        Letters::B => whole_if(
+            token.is_key(b'p'),
+            UnitName::Physical(PhysicalUnit::BigPoint),
+        ),
+        Letters::C => either(
+            token,
+            b'm',
+            UnitName::Physical(PhysicalUnit::Centimetre),
+            b'c',
+            UnitName::Physical(PhysicalUnit::Cicero),
+        ),
+        Letters::M => behind_m(units, token),
+        Letters::D => whole_if(
+            token.is_key(b'd'),
+            UnitName::Physical(PhysicalUnit::DidotPoint),
+        ),
+        Letters::S => whole_if(
+            token.is_key(b'p'),
+            UnitName::Physical(PhysicalUnit::ScaledPoint),
+        ),
+        Letters::E => either(token, b'm', UnitName::Quad, b'x', UnitName::XHeight),
+        Letters::F => on_if(token.is_key(b'i'), Letters::Fi),
+        Letters::Fi => {
+            if token.is_key(b'l') {
+                Spelled::Infinite
+            } else {
+                Spelled::No
+            }
+        }
+    }
+}
+
+/// One more l makes a size more infinite.
+pub(crate) fn raised(order: Order) -> Option<Order>
+    ensures { result ≡ spec.raised order }
+{
+    match order {
+        Order::Normal => Some(Order::Fil),
+        Order::Fil => Some(Order::Fill),
+        Order::Fill => Some(Order::Filll),
+        Order::Filll => None,
+    }
+}
+
+/// So many whole units and 65536ths of one, in sp or in 65536ths of a unit that isn't physical. `Overflow` exactly where the
+/// size is past the limit of a dimension.
+pub(crate) fn size_in(unit: UnitName, whole: u32, part: u32) -> Result<i64, Overflow>
+    requires { part ≤ 65536 }
+    ensures value { IfOk result (λ size. size ≡ pos (spec.size_in unit whole part)) }
+    ensures overflow { MatchResult result
+        (λ _. spec.size_in unit whole part ≤ 1073741823)
+        (λ _. 1073741823 < spec.size_in unit whole part) }
+{
+    match unit {
+        UnitName::Physical(unit) => unit.to_scaled(whole, part),
+        UnitName::Mathematical => PhysicalUnit::Point.to_scaled(whole, part),
+        UnitName::Quad | UnitName::XHeight => Ok(0),
+    }
+}
