@@ -1,1 +1,2 @@
 mod Tables
+pub mod Words

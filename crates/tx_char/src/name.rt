@@ -54,7 +54,7 @@ impl ControlName {
     pub fn same(&self, other: &ControlName) -> bool
         ensures { IsTrue result ↔ (self.now ≡ other.now) }
     {
-        self.as_slice() == other.as_slice()
+        self.letters.as_ref().same(other.letters.as_ref())
     }
 }
 

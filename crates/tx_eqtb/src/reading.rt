@@ -103,6 +103,7 @@ impl Table {
     }
 
     /// What a token means. Its only error is that no more owners of a meaning can be counted.
+    #[inline(always)]
     pub fn meaning(&self, token: &Token) -> Result<Meaning, AllocError>
         ensures { IfOk result (λ meaning. meaning ≡ spec.token_meaning self.now token.now) }
     {

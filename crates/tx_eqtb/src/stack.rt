@@ -71,6 +71,7 @@ impl Eqtb {
 
     /// What a token means: a name and an active character what the table says, any other character itself, and the frozen
     /// \relax what \relax means at the beginning. Its only error is that no more owners of a meaning can be counted.
+    #[inline(always)]
     pub fn meaning(&self, token: &Token) -> Result<Meaning, AllocError>
         ensures { IfOk result (λ meaning. meaning ≡ token_meaning self.now.table token.now) }
     {

@@ -1,5 +1,5 @@
 -- What a turn comes to by what was read.
-use Rattle.std.proofs.Common.{◌≡◌, ◌<◌, ◌+◌, ◌-◌, ℕ, zero, suc, Bool, true, false, None, List, [], ◌∷◌, ◌++◌, drop, refl, ap, sym, ◌∙◌, add-one, drop-cons, get_or, length}
+use Rattle.std.proofs.Common.{◌≡◌, ◌<◌, ◌+◌, ◌-◌, ℕ, zero, suc, Bool, true, false, None, List, [], ◌∷◌, ◌++◌, drop, refl, ap, sym, ◌∙◌, add-one, drop-cons, get_or, length, Result, Ok, Err, IfOk}
 use Rattle.tx_char.specs.declared.category.Cat.{Cat}
 use Rattle.tx_char.specs.declared.tokens.Token.{Token}
 use Rattle.tx_pending.specs.declared.next.Next.{Next}
@@ -17,17 +17,25 @@ use Rattle.tx_toklist.specs.Macros.{Definition}
 use Rattle.tx_expand.specs.declared.types.Wanted.{Wanted}
 use Rattle.tx_seen.specs.declared.item.Item.{Item}
 use Rattle.tx_seen.specs.Readings.{Reading, Done, last, next}
-use Rattle.tx_cond.specs.Skipping.{Passing, Inside, Ended, Refused, IsPassed}
+use Rattle.tx_cond.specs.Conditionals.{meeting}
+use Rattle.tx_cond.specs.Skipping.{Passing, Inside, Ended, Refused, IsPassed, item_of, passing}
+use Rattle.tx_prim.specs.declared.expandable.CondWord.{CondWord}
+use Rattle.tx_seen.specs.declared.fed.Value.{Value}
+use Rattle.tx_seen.specs.declared.place.Place.{Place}
 use Rattle.tx_expand.specs.declared.begun.Begun.{Begun}
+use Rattle.tx_expand.specs.declared.begun.Begun.TheVariants as begun
 use Rattle.tx_expand.specs.declared.types.Expanded.TheVariants as answer
 use Rattle.tx_expand.specs.declared.types.Made.{Made}
+use Rattle.tx_expand.specs.declared.types.Read.{Read}
+use Rattle.tx_expand.specs.declared.types.Read.TheVariants as read
 use Rattle.tx_expand.specs.declared.types.Scanned.{Scanned}
 use Rattle.tx_expand.specs.declared.state.Open.{Open}
 use Rattle.tx_expand.specs.Expanding.{reader_of}
-use Rattle.tx_expand.specs.Reader.{World, Reader}
+use Rattle.tx_expand.specs.Reader.{World, Reader, Fails}
 use Rattle.tx_scan.specs.Settled.{tokens_of}
-use Rattle.tx_expand.specs.Scans.{reading}
-use Rattle.tx_expand.specs.Turns.{come, expanded, finds, given_to, is_finding, put, read_on, reads, refused, front_read, is_opening, skips_on, token_read, turn, wanted_by, IsTurned}
+use Rattle.tx_expand.specs.Scans.{Scan, reading}
+use Rattle.tx_expand.specs.Taken.{IsPassedFirst, IsRead, IsReadBegun, IsReadFirst}
+use Rattle.tx_expand.specs.Turns.{come, expanded, finds, given_to, is_finding, is_scanning, is_skipping, joined, met_word, put, read_on, reads, refused, front_read, is_opening, skips_on, token_read, turn, wanted_by, with_begun, IsTurned}
 
 pub reads-done : (w : World) (what : Scanned) (items : List Item) (r : Reader) (m : Made) (back : List Item) → reading what items ≡ Done m back → reads w what items r ≡ come w m (put (tokens_of back) r)
 reads-done w what items r m back is = ap (λ (read : Reading Made). read_on w (record { what = what; taken = items }) r read) is
@@ -44,11 +52,73 @@ none-last back = drop-none (0 - back) [] refl
 pub whole-at-once : (what : Scanned) (m : Made) (back : ℕ) → ((more : List Item) → reading what more ≡ Done m (last back [] ++ more)) → reading what [] ≡ Done m []
 whole-at-once what m back k = k [] ∙ ap (λ (items : List Item). Done m (items ++ [])) (none-last back)
 
--- skipped text that breaks off
-pub skipping-wrong : (p : Passing) (t : Token) (r now : Reader) (error : TexError) (inside : ℕ) → IsPassed p (fed.Wrong error) inside → IsTurned (skips_on t r p) now (answer.Wrong error)
-skipping-wrong (Inside next) t r now error inside k = absurd (let is = k.0 in cc)
-skipping-wrong (Ended word) t r now error inside k = absurd (cc)
-skipping-wrong (Refused e) t r now error inside k = let same : error ≡ e = cc in ap (λ (x : TexError). answer.Wrong x) same
+-- what reads tokens that are expanded, if the innermost expansion does
+is-scanning : (bs : List Begun) → is_scanning bs ≡ true → (scan : Scan) × ((outer : List Begun) × (bs ≡ begun.Scanning scan ∷ outer))
+is-scanning [] is = absurd (cc)
+is-scanning (begun.Use u ∷ outer) is = absurd (cc)
+is-scanning (begun.After ∷ outer) is = absurd (cc)
+is-scanning (begun.Before t ∷ outer) is = absurd (cc)
+is-scanning (begun.Hold ∷ outer) is = absurd (cc)
+is-scanning (begun.Print what ∷ outer) is = absurd (cc)
+is-scanning (begun.Scanning scan ∷ outer) is = (scan, (outer, refl))
+is-scanning (begun.Skipping depth ∷ outer) is = absurd (cc)
+is-scanning (begun.Opening ∷ outer) is = absurd (cc)
+
+-- a token joins it
+pub reads-on : {E : Type 0} (at : Place → Value) (b : Begun) (scan new : Scan) (t : Seen) (before after : Input) (given : Result Read E) → b ≡ begun.Scanning scan → IfOk given (IsRead at scan t before new after) → IfOk given (IsReadBegun at b t before (begun.Scanning new) after)
+reads-on at b scan new t before after (Ok read) is k = λ other also. let same : other ≡ scan = cc in (new, (refl, rw same k))
+reads-on at b scan new t before after (Err e) is k = tt
+
+-- a token makes it whole
+pub scanned-made : (w : World) (t : Seen) (r : Reader) (new outer : List Begun) (after : Input) (made : Made) → is_scanning r.begun ≡ true → IsReadFirst w.value r.begun t r.input new after (read.Made made) → outer ≡ drop 1 new → given_to w t r r.begun ≡ come w made (record { input = after; begun = outer; conditionals = r.conditionals; job = r.job })
+scanned-made w t r new outer after made is k rest =
+    let first = is-scanning r.begun is in
+    let scan : Scan = first.0 in
+    let items : List Item = joined w.value scan t in
+    let joins = k scan first.1.0 first.1.1 in
+    let around : outer ≡ first.1.0 = rest ∙ ap (λ (bs : List Begun). drop 1 bs) joins.1.0 in
+    let goes : reads w scan.what items (with_begun first.1.0 r) ≡ come w made (put (tokens_of joins.1.1.0) (with_begun first.1.0 r)) = reads-done w scan.what items (with_begun first.1.0 r) made joins.1.1.0 joins.1.1.1.0 in
+    rw (first.1.1, joins.1.1.1.1, around) goes
+
+-- skipped text, if the innermost expansion is that
+is-skipping : (bs : List Begun) → is_skipping bs ≡ true → (depth : ℕ) × ((outer : List Begun) × (bs ≡ begun.Skipping depth ∷ outer))
+is-skipping [] is = absurd (cc)
+is-skipping (begun.Use u ∷ outer) is = absurd (cc)
+is-skipping (begun.After ∷ outer) is = absurd (cc)
+is-skipping (begun.Before t ∷ outer) is = absurd (cc)
+is-skipping (begun.Hold ∷ outer) is = absurd (cc)
+is-skipping (begun.Print what ∷ outer) is = absurd (cc)
+is-skipping (begun.Scanning scan ∷ outer) is = absurd (cc)
+is-skipping (begun.Skipping depth ∷ outer) is = (depth, (outer, refl))
+is-skipping (begun.Opening ∷ outer) is = absurd (cc)
+
+-- what an item makes of it, by the answer
+passed-word : (p : Passing) (t : Token) (r : Reader) (word : CondWord) (back left : ℕ) → IsPassed p (fed.Done word back) left → skips_on t r p ≡ met_word t r (meeting r.conditionals word)
+passed-word (Inside next) t r word back left k = absurd (let is = k.0 in cc)
+passed-word (Ended other) t r word back left k = let same : other ≡ word = cc in ap (λ (w : CondWord). met_word t r (meeting r.conditionals w)) same
+passed-word (Refused error) t r word back left k = absurd (cc)
+
+passed-wrong : (p : Passing) (t : Token) (r : Reader) (error : TexError) (left : ℕ) → IsPassed p (fed.Wrong error) left → skips_on t r p ≡ Fails error
+passed-wrong (Inside next) t r error left k = absurd (let is = k.0 in cc)
+passed-wrong (Ended word) t r error left k = absurd (cc)
+passed-wrong (Refused other) t r error left k = let same : other ≡ error = cc in ap (λ (e : TexError). Fails e) same
+
+-- a word ends it
+pub skipped-word : (w : World) (t : Seen) (r : Reader) (new outer : List Begun) (word : CondWord) (back : ℕ) → is_skipping r.begun ≡ true → IsPassedFirst r.begun (item_of t.meaning) new (fed.Done word back) → outer ≡ drop 1 new → given_to w t r r.begun ≡ met_word t.token (with_begun outer r) (meeting r.conditionals word)
+skipped-word w t r new outer word back is k rest =
+    let first = is-skipping r.begun is in
+    let passed = k first.0 first.1.0 first.1.1 in
+    let around : outer ≡ first.1.0 = rest ∙ ap (λ (bs : List Begun). drop 1 bs) passed.1.0 in
+    let goes : skips_on t.token (with_begun first.1.0 r) (passing first.0 (item_of t.meaning)) ≡ met_word t.token (with_begun first.1.0 r) (meeting r.conditionals word) = passed-word (passing first.0 (item_of t.meaning)) t.token (with_begun first.1.0 r) word back passed.0 passed.1.1 in
+    rw (first.1.1, around) goes
+
+-- it breaks off
+pub skipped-wrong : (w : World) (t : Seen) (r left : Reader) (new : List Begun) (error : TexError) → is_skipping r.begun ≡ true → IsPassedFirst r.begun (item_of t.meaning) new (fed.Wrong error) → IsTurned (given_to w t r r.begun) left (answer.Wrong error)
+skipped-wrong w t r left new error is k =
+    let first = is-skipping r.begun is in
+    let passed = k first.0 first.1.0 first.1.1 in
+    let fails : skips_on t.token (with_begun first.1.0 r) (passing first.0 (item_of t.meaning)) ≡ Fails error = passed-wrong (passing first.0 (item_of t.meaning)) t.token (with_begun first.1.0 r) error passed.0 passed.1.1 in
+    rw (first.1.1, fails) refl
 
 -- whether a file's name is being read, place by place
 finding-rest : (b : Begun) (outer : List Begun) (all : Bool) → finds b ≡ false → is_finding (b ∷ outer) ≡ all → is_finding outer ≡ all

@@ -207,7 +207,8 @@ relax_put_in = refl
 skipped_within : run 60 (reads ((cs (codes "iffalse")) ∷ (cs (codes "iftrue")) ∷ (letter 97) ∷ (cs (codes "else")) ∷ (letter 98) ∷ (cs (codes "fi")) ∷ (letter 99) ∷ (cs (codes "else")) ∷ (letter 100) ∷ (cs (codes "fi")) ∷ [])) ≡ All ((letter 100) ∷ [])
 skipped_within = refl
 
--- \csname z z \endcsname
+-- \csname z z \endcsname; the answer is an error of these cases alone, where nobody gives the name the meaning of \relax before
+-- it is read: who reads by the expander is told of the name, and assigns that (TeX: The Program, section 372)
 name_without_meaning : run 60 (reads ((cs (codes "csname")) ∷ (letter 122) ∷ (letter 122) ∷ (cs (codes "endcsname")) ∷ [])) ≡ Stopped ([]) Undefined
 name_without_meaning = refl
 

@@ -1,5 +1,8 @@
 -- How a token is taken by an expansion that reads.
-use Rattle.std.specs.Prelude.{◌≡◌, List}
+use Rattle.std.specs.Prelude.{◌≡◌, ℕ, List, ◌∷◌}
+use Rattle.tx_cond.specs.declared.types.SkipItem.{SkipItem}
+use Rattle.tx_cond.specs.Skipping.{passing, IsPassed}
+use Rattle.tx_prim.specs.declared.expandable.CondWord.{CondWord}
 use Rattle.tx_pending.specs.Elements.{Input, with_tokens}
 use Rattle.tx_seen.specs.declared.fed.Fed.{Fed}
 use Rattle.tx_seen.specs.declared.fed.Value.{Value}
@@ -11,6 +14,8 @@ use Rattle.tx_seen.specs.Readings.{More, Done, Wrong}
 use Rattle.tx_scan.specs.Rests.{HasTakenBy}
 use Rattle.tx_scan.specs.Settled as settled
 use Rattle.tx_scan.specs.Settled.{tokens_of}
+use Rattle.tx_expand.specs.declared.begun.Begun.{Begun}
+use Rattle.tx_expand.specs.declared.begun.Begun.TheVariants as begun
 use Rattle.tx_expand.specs.declared.part.Part.{Part}
 use Rattle.tx_expand.specs.declared.types.Made.{Made}
 use Rattle.tx_expand.specs.declared.types.Read.{Read}
@@ -39,3 +44,23 @@ IsReadAll old items before new after (read.Wrong error) = reading old.what items
 -- one more token
 abbrev pub IsRead : (Place → Value) → Scan → Seen → Input → Scan → Input → Read → Type 0
 IsRead at old t before new after answer = IsReadAll old (joined at old t) before new after answer
+
+-- one more token, of an expansion that reads
+abbrev pub IsReadBegun : (Place → Value) → Begun → Seen → Input → Begun → Input → Read → Type 0
+IsReadBegun at old t before new after answer =
+    (scan : Scan) → old ≡ begun.Scanning scan → (left : Scan) × ((new ≡ begun.Scanning left) × IsRead at scan t before left after answer)
+
+-- the innermost expansion is that: those around it stay as they are
+abbrev pub IsReadFirst : (Place → Value) → List Begun → Seen → Input → List Begun → Input → Read → Type 0
+IsReadFirst at old t before new after answer =
+    (scan : Scan) (outer : List Begun) → old ≡ begun.Scanning scan ∷ outer → (left : Scan) × ((new ≡ begun.Scanning left ∷ outer) × IsRead at scan t before left after answer)
+
+-- one more item of text that is skipped
+abbrev pub IsPassedBegun : Begun → SkipItem → Begun → Fed CondWord → Type 0
+IsPassedBegun old item new answer =
+    (depth : ℕ) → old ≡ begun.Skipping depth → (left : ℕ) × ((new ≡ begun.Skipping left) × IsPassed (passing depth item) answer left)
+
+-- the innermost expansion is that: those around it stay as they are
+abbrev pub IsPassedFirst : List Begun → SkipItem → List Begun → Fed CondWord → Type 0
+IsPassedFirst old item new answer =
+    (depth : ℕ) (outer : List Begun) → old ≡ begun.Skipping depth ∷ outer → (left : ℕ) × ((new ≡ begun.Skipping left ∷ outer) × IsPassed (passing depth item) answer left)

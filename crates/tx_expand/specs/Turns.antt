@@ -187,6 +187,24 @@ abbrev pub given_to : World → Seen → Reader → List Begun → Turn
 given_to w t r [] = Goes (answer.Got t) r
 given_to w t r (b ∷ outer) = given_by w t (with_begun outer r) b
 
+-- whether an expansion reads tokens that are expanded, or skips text: each takes any number of tokens
+abbrev pub scans : Begun → Bool
+scans (begun.Scanning scan) = true
+scans other = false
+
+abbrev pub skips : Begun → Bool
+skips (begun.Skipping depth) = true
+skips other = false
+
+-- whether the innermost one does
+abbrev pub is_scanning : List Begun → Bool
+is_scanning [] = false
+is_scanning (b ∷ outer) = scans b
+
+abbrev pub is_skipping : List Begun → Bool
+is_skipping [] = false
+is_skipping (b ∷ outer) = skips b
+
 -- whether the tokens of \the belong to the text that the caller takes: where it takes such, and nothing else has begun (section
 -- 478)
 abbrev pub for_text : Bool → List Begun → Bool

@@ -1,17 +1,18 @@
 //! What a token makes of what is open.
-ghost use Rattle.std.specs.Prelude.{◌≡◌, ◌∷◌, [], Bool, List, ℕ, IfOk, OnOk};
+ghost use Rattle.std.specs.Prelude.{◌≡◌, ◌∷◌, [], Bool, true, false, List, ℕ, IfOk, OnOk};
 ghost use Rattle.tx_char.specs.declared.tokens.Token.{Token as Any_token};
 ghost use Rattle.tx_cond.specs.Conditionals.{meeting};
 ghost use Rattle.tx_cond.specs.declared.types.Conditional.{Conditional};
-ghost use Rattle.tx_cond.specs.Skipping.{item_of, passing};
 ghost use Rattle.tx_convert.specs.Texts.{as_tokens};
 ghost use Rattle.tx_eqtb.specs.Quantities.{value_in};
 ghost use Rattle.tx_eqtb.specs.Table.{tokens_at};
 ghost use Rattle.tx_pending.specs.Elements.{Input};
 ghost use Rattle.tx_prim.specs.declared.modes.Mode.{Mode as Any_mode};
 ghost use Rattle.tx_expand.specs.Expanding.{escape_of, reader, reader_of, world_of};
+ghost use Rattle.tx_expand.specs.Reader.{World};
+ghost use Rattle.tx_expand.specs.Taken.{IsPassedBegun, IsPassedFirst, IsReadBegun, IsReadFirst};
 ghost use Rattle.tx_expand.specs.Turns as turns;
-ghost use Rattle.tx_expand.specs.Turns.{begins, come, decided, ended, expanded, expands, given_by, given_to, joined, listed, met_word, reads, released, replaced, skips_on, text_of, token_read, use_on, uses, IsTurned};
+ghost use Rattle.tx_expand.specs.Turns.{begins, come, decided, ended, expanded, expands, given_by, given_to, listed, met_word, reads, released, replaced, text_of, token_read, use_on, uses, IsTurned};
 ghost use Rattle.tx_expand.specs.Uses.{comes_to, with_taken};
 
 use crate::begun::Begun;
@@ -80,6 +81,70 @@ fn finds(begun: &Begun) -> bool
         Begun::Scanning(scanning) => matches!(scanning.what(), Scanned::File),
         _ => false,
     }
+}
+
+/// Whether the innermost expansion reads tokens that are expanded.
+fn is_scanning(begun: &VecDeque<Begun>) -> bool
+    ensures { result ≡ turns.is_scanning begun.now.items }
+{
+    matches!(begun.front(), Some(Begun::Scanning(_)))
+}
+
+/// Whether text is skipped.
+fn is_skipping(begun: &VecDeque<Begun>) -> bool
+    ensures { result ≡ turns.is_skipping begun.now.items }
+{
+    matches!(begun.front(), Some(Begun::Skipping(_)))
+}
+
+/// A token joins what an expansion reads. Its only error is want of memory.
+fn read_by(
+    alloc: Global,
+    begun: &mut Begun,
+    input: &mut Pending,
+    table: &Eqtb,
+    token: Seen,
+) -> Result<Read, AllocError>
+    requires { turns.scans begun.old ≡ true }
+    ensures { IfOk result (IsReadBegun (value_in table.now) begun.old token input.old begun.new input.new) }
+{
+    match begun {
+        Begun::Scanning(scanning) => scanning.feed(alloc, table, input, token),
+        _ => unreachable!(),
+    }
+}
+
+/// An item joins the text that is skipped. Its only error is that no more open conditionals can be counted.
+fn skip_by(begun: &mut Begun, item: SkipItem) -> Result<Fed<CondWord>, AllocError>
+    requires { turns.skips begun.old ≡ true }
+    ensures { IfOk result (IsPassedBegun begun.old item begun.new) }
+{
+    match begun {
+        Begun::Skipping(skipper) => skipper.feed(item),
+        _ => unreachable!(),
+    }
+}
+
+/// A token joins what the innermost expansion reads, where it stands. Its only error is want of memory.
+fn feed_scan(
+    alloc: Global,
+    begun: &mut VecDeque<Begun>,
+    input: &mut Pending,
+    table: &Eqtb,
+    token: Seen,
+) -> Result<Read, AllocError>
+    requires { turns.is_scanning begun.old.items ≡ true }
+    ensures { IfOk result (IsReadFirst (value_in table.now) begun.old.items token input.old begun.new.items input.new) }
+{
+    read_by(alloc, &mut begun[0], input, table, token)
+}
+
+/// An item joins the text that is skipped, where that stands. Its only error is that no more open conditionals can be counted.
+fn feed_skipper(begun: &mut VecDeque<Begun>, item: SkipItem) -> Result<Fed<CondWord>, AllocError>
+    requires { turns.is_skipping begun.old.items ≡ true }
+    ensures { IfOk result (IsPassedFirst begun.old.items item begun.new.items) }
+{
+    skip_by(&mut begun[0], item)
 }
 
 impl Open {
@@ -233,7 +298,7 @@ impl Open {
         let (part, fed) = Part::begin(alloc, what);
         match fed {
             Fed::More(want) => {
-                self.begin(Begun::Scanning(Scanning::new(alloc, what, want, part)))
+                self.begin(Begun::Scanning(Scanning::new(alloc, what, want, part)?))
             }
             Fed::Need(_) => unreachable!(),
             Fed::Done(made, _) => self.come(alloc, input, table, made),
@@ -241,21 +306,23 @@ impl Open {
         }
     }
 
-    /// A token joins what an expansion reads. Its only error is want of memory.
+    /// A token joins what the innermost expansion reads. Its only error is want of memory.
     fn scan_on(
         &mut self,
         alloc: Global,
         input: &mut Pending,
         table: &Eqtb,
-        scanning: Scanning,
         token: Seen,
     ) -> Result<Expanded, AllocError>
-        ensures { (any : Any_mode) → IfOk result (IsTurned (reads (world_of table.now any) scanning.what (joined (value_in table.now) scanning token) (reader_of self.old input.old)) (reader_of self.new input.new)) }
+        requires { turns.is_scanning self.old.begun.items ≡ true }
+        ensures { (any : Any_mode) → IfOk result (IsTurned (given_to (world_of table.now any) token (reader_of self.old input.old) self.old.begun.items) (reader_of self.new input.new)) }
     {
-        let mut scanning = scanning;
-        match scanning.feed(alloc, table, input, token)? {
-            Read::More => self.begin(Begun::Scanning(scanning)),
-            Read::Made(made) => self.come(alloc, input, table, made),
+        match feed_scan(alloc, &mut self.begun, input, table, token)? {
+            Read::More => Ok(Expanded::Went),
+            Read::Made(made) => {
+                self.begun.pop_front();
+                self.come(alloc, input, table, made)
+            }
             Read::Wrong(error) => Ok(Expanded::Wrong(error)),
         }
     }
@@ -280,20 +347,18 @@ impl Open {
         }
     }
 
-    /// Skipped text takes a token. Its only error is want of memory.
-    fn skip_on(
-        &mut self,
-        input: &mut Pending,
-        skipper: Skipper,
-        token: Seen,
-    ) -> Result<Expanded, AllocError>
-        ensures { IfOk result (IsTurned (skips_on token.token (reader_of self.old input.old) (passing skipper (item_of token.meaning))) (reader_of self.new input.new)) }
+    /// A token joins skipped text. Its only error is want of memory.
+    fn skip_on(&mut self, input: &mut Pending, token: Seen) -> Result<Expanded, AllocError>
+        requires { turns.is_skipping self.old.begun.items ≡ true }
+        ensures { (w : World) → IfOk result (IsTurned (given_to w token (reader_of self.old input.old) self.old.begun.items) (reader_of self.new input.new)) }
     {
-        let mut skipper = skipper;
-        match skipper.feed(SkipItem::of(&token.meaning))? {
-            Fed::More(_) => self.begin(Begun::Skipping(skipper)),
+        match feed_skipper(&mut self.begun, SkipItem::of(&token.meaning))? {
+            Fed::More(_) => Ok(Expanded::Went),
             Fed::Need(_) => unreachable!(),
-            Fed::Done(word, _) => self.meet(input, token_of(token), word),
+            Fed::Done(word, _) => {
+                self.begun.pop_front();
+                self.meet(input, token_of(token), word)
+            }
             Fed::Wrong(error) => Ok(Expanded::Wrong(error)),
         }
     }
@@ -334,13 +399,19 @@ impl Open {
     ) -> Result<Expanded, AllocError>
         ensures { (any : Any_mode) → IfOk result (IsTurned (given_to (world_of table.now any) token (reader_of self.old input.old) self.old.begun.items) (reader_of self.new input.new)) }
     {
+        if is_scanning(&self.begun) {
+            return self.scan_on(alloc, input, table, token);
+        }
+        if is_skipping(&self.begun) {
+            return self.skip_on(input, token);
+        }
         match self.begun.pop_front() {
             Some(begun) => self.take_by(alloc, input, table, begun, token),
             None => Ok(Expanded::Got(token)),
         }
     }
 
-    /// An expansion takes a token. Its only error is want of memory.
+    /// An expansion that neither reads nor skips takes a token. Its only error is want of memory.
     fn take_by(
         &mut self,
         alloc: Global,
@@ -349,6 +420,8 @@ impl Open {
         begun: Begun,
         token: Seen,
     ) -> Result<Expanded, AllocError>
+        requires scans { turns.scans begun ≡ false }
+        requires skips { turns.skips begun ≡ false }
         ensures { (any : Any_mode) → IfOk result (IsTurned (given_by (world_of table.now any) token (reader_of self.old input.old) begun) (reader_of self.new input.new)) }
     {
         match begun {
@@ -364,8 +437,7 @@ impl Open {
                 self.went(input)
             }
             Begun::Print(what) => self.print(alloc, input, table, what, &token),
-            Begun::Scanning(scanning) => self.scan_on(alloc, input, table, scanning, token),
-            Begun::Skipping(skipper) => self.skip_on(input, skipper, token),
+            Begun::Scanning(_) | Begun::Skipping(_) => unreachable!(),
             Begun::Opening => self.begin(Begun::Opening),
         }
     }
@@ -383,6 +455,7 @@ impl Open {
     }
 
     /// The expansion of a primitive, whose token is this. Its only error is want of memory.
+    #[inline(never)]
     fn expand_primitive(
         &mut self,
         alloc: Global,
@@ -466,6 +539,7 @@ impl Open {
     }
 
     /// The expansion of a token; what isn't expanded is taken. Its only error is want of memory.
+    #[inline(always)]
     fn expand(
         &mut self,
         alloc: Global,
@@ -489,6 +563,7 @@ impl Open {
     }
 
     /// How the next token is wanted.
+    #[inline(always)]
     fn want(&self, wanted: Wanted) -> Want
         ensures { result ≡ turns.wanted_by wanted self.now.begun.items }
     {
@@ -527,6 +602,7 @@ impl Open {
     }
 
     /// The error that an \outer macro is here.
+    #[inline(always)]
     fn refused(&self, text: bool, meaning: &Meaning) -> Option<TexError>
         ensures { result ≡ turns.refused text meaning.now self.now.begun.items }
     {
@@ -537,6 +613,7 @@ impl Open {
     }
 
     /// A token is read. Its only error is want of memory.
+    #[inline(always)]
     pub(crate) fn read(
         &mut self,
         alloc: Global,

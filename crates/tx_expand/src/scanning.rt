@@ -19,13 +19,14 @@ use tx_pending::Pending;
 use tx_scan::{ControlNameScan, give_back};
 use tx_seen::{Fed, Item, Kind, Quantities, Seen, Want};
 
-/// An expansion that reads. Contracts see what it reads, and the tokens and values that it has taken.
+/// An expansion that reads. Contracts see what it reads, and the tokens and values that it has taken. The scan of what it reads
+/// stands on its own, so that little is moved where other expansions begin and end.
 #[derive(Drop)]
 pub struct Scanning {
     what: Scanned,
     taken: Items<Item>,
     want: Want,
-    part: Part,
+    part: Box<Part>,
 }
 
 impl Model for Scanning {
@@ -36,21 +37,26 @@ impl Model for Scanning {
 
     ghost view = { λ s. record { what = s.what; taken = s.taken } };
 
-    ghost invariant = { λ s. IsAt s.what s.taken s.want s.part };
+    ghost invariant = { λ s. IsAt s.what s.taken s.want s.part.value };
 }
 
 impl Scanning {
-    /// One that has taken nothing, and wants its first token so. Takes no memory.
-    pub(crate) fn new(alloc: Global, what: Scanned, want: Want, part: Part) -> Scanning
+    /// One that has taken nothing, and wants its first token so. Its only error is want of memory.
+    pub(crate) fn new(
+        alloc: Global,
+        what: Scanned,
+        want: Want,
+        part: Part,
+    ) -> Result<Scanning, AllocError>
         requires { IsAt what [] want part }
-        ensures { result ≡ record { what = what; taken = [] } }
+        ensures { IfOk result (λ scanning. scanning ≡ record { what = what; taken = [] }) }
     {
-        Scanning {
+        Ok(Scanning {
             what,
             taken: Items::new(alloc),
             want,
-            part,
-        }
+            part: Box::new(alloc, part)?,
+        })
     }
 
     /// What it reads.

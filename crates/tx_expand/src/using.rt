@@ -16,7 +16,7 @@ use tx_toklist::{Item, Lists, Macro, TokList};
 #[derive(Drop)]
 pub struct Using {
     made: Macro,
-    matcher: Matcher,
+    matcher: Box<Matcher>,
 }
 
 impl Model for Using {
@@ -25,9 +25,9 @@ impl Model for Using {
 
     ghost Value = { Use };
 
-    ghost view = { λ u. record { definition = u.made; taken = u.matcher.taken } };
+    ghost view = { λ u. record { definition = u.made; taken = u.matcher.value.taken } };
 
-    ghost invariant = { λ u. (u.matcher.definition ≡ u.made) × (u.matcher.goes_on ≡ true) };
+    ghost invariant = { λ u. (u.matcher.value.definition ≡ u.made) × (u.matcher.value.goes_on ≡ true) };
 }
 
 impl Using {
@@ -36,7 +36,7 @@ impl Using {
         requires { made.parameters ≢ no_parameters }
         ensures { IfOk result (λ u. u ≡ record { definition = made; taken = [] }) }
     {
-        let matcher = Matcher::new(alloc, &made)?;
+        let matcher = Box::new(alloc, Matcher::new(alloc, &made)?)?;
         Ok(Using { made, matcher })
     }
 
@@ -58,7 +58,7 @@ impl Using {
     pub(crate) fn same(&self, other: &Using) -> bool
         ensures { IsTrue result ↔ (self.now ≡ other.now) }
     {
-        self.made.same(&other.made) && self.matcher.same(&other.matcher)
+        self.made.same(&other.made) && self.matcher.as_ref().same(other.matcher.as_ref())
     }
 
     /// The same use once more. Its only error is want of memory.
@@ -67,7 +67,7 @@ impl Using {
     {
         Ok(Using {
             made: self.made.share()?,
-            matcher: self.matcher.share()?,
+            matcher: self.matcher.clone()?,
         })
     }
 }

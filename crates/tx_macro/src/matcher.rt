@@ -96,3 +96,12 @@ impl Matcher {
         })
     }
 }
+
+/// A clone has taken the same. Its only error is want of memory.
+impl Clone for Matcher {
+    ghost is_clone = { λ source copy. copy ≡ source };
+
+    fn clone(&self) -> Result<Self, AllocError> {
+        self.share()
+    }
+}

@@ -147,6 +147,7 @@ impl Pending {
 }
 
 /// Takes the sources away of which nothing is left, so that they don't pile up where macros end with macros.
+#[inline(always)]
 fn drop_spent(stack: &mut Vec<Source>)
     ensures same { stack_elements stack.new.items ≡ stack_elements stack.old.items }
     ensures ready { IsReady stack.new.items }
