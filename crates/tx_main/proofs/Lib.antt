@@ -1,8 +1,3 @@
-pub mod Leaves
-pub mod Sides
-pub mod Settling
-pub mod Stages
-pub mod RuleSteps
 pub mod Keeping
 pub mod Ships
 pub mod Taking
@@ -10,4 +5,3 @@ pub mod TextTurns
 pub mod Closing
 pub mod Turning
 pub mod Texting
-mod Worked

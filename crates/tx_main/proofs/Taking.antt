@@ -11,16 +11,16 @@ use Rattle.tx_seen.specs.declared.item.Item.{Item}
 use Rattle.tx_seen.specs.declared.seen.Seen.{Seen}
 use Rattle.tx_seen.specs.Readings.{More, Done, Wrong}
 use Rattle.tx_main.specs.declared.parts.Phase.TheVariants.{Running}
-use Rattle.tx_main.specs.declared.scans.Taken.TheVariants as taken
+use Rattle.tx_command.specs.declared.scans.Taken.TheVariants as taken
 use Rattle.tx_main.specs.declared.state.State.{State}
-use Rattle.tx_main.specs.declared.types.Command.{Command}
-use Rattle.tx_main.specs.Begun.{Begun}
-use Rattle.tx_main.specs.Commands.{command}
+use Rattle.tx_command.specs.declared.types.Command.{Command}
+use Rattle.tx_command.specs.Begun.{Begun}
+use Rattle.tx_command.specs.Commands.{command}
 use Rattle.tx_main.specs.Effects.{effect}
 use Rattle.tx_main.specs.Outcomes.{Fails, leaves}
 use Rattle.tx_main.specs.State.{TexState}
 use Rattle.tx_main.specs.Meanings.{IsStepped, state_of}
-use Rattle.tx_main.specs.Taken.{joined, IsTaken}
+use Rattle.tx_command.specs.Taken.{joined, IsTaken}
 use Rattle.tx_scan.specs.Settled.{tokens_of}
 use Rattle.tx_main.specs.Turns.{joining, scanned, taking}
 

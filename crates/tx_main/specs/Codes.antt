@@ -30,8 +30,8 @@ use Rattle.tx_main.specs.declared.parts.OpenText.{OpenText}
 use Rattle.tx_main.specs.contracts.parts.OpenText as open_text
 use Rattle.tx_main.specs.declared.parts.OpenBox.{OpenBox}
 use Rattle.tx_main.specs.contracts.parts.OpenBox as open_box
-use Rattle.tx_main.specs.declared.types.Head.{Head}
-use Rattle.tx_main.specs.contracts.types.Head as head
+use Rattle.tx_command.specs.declared.types.Head.{Head}
+use Rattle.tx_command.specs.contracts.types.Head as head
 use Rattle.tx_main.specs.State.{TexState, Meaning, Runs, Waits, Stops}
 
 -- elements of the pending input

@@ -1,10 +1,16 @@
 -- What each command does, once it is whole (TeX: The Program, parts 45 to 49): a line for each family.
-use Rattle.std.specs.Prelude.{ℕ, Bool, true, false, ◌||◌, ◌==◌, nat_lt, List, [], ◌∷◌, ◌++◌, length, map, Option, Some, None, Result, Ok, Err, codes, decimal, if◌then◌else◌}
+use Rattle.std.specs.Prelude.{ℕ, pos, Bool, true, false, ◌||◌, ◌==◌, nat_lt, List, [], ◌∷◌, ◌++◌, length, map, Option, Some, None, Result, Ok, Err, codes, decimal, if◌then◌else◌}
 use Rattle.tx_char.specs.declared.tokens.Token.{Token}
-use Rattle.tx_node.specs.declared.pack.PackError.{PackError}
-use Rattle.tx_node.specs.declared.pack.PackError.TheVariants as pack
-use Rattle.tx_node.specs.Items.{Item, rule, kern, space, box_item, HBox}
-use Rattle.tx_node.specs.Packing.{natural}
+use Rattle.tx_num.specs.Glue.{glue_of}
+use Rattle.tx_node.specs.declared.plain.KernKind.TheVariants.{Explicit}
+use Rattle.tx_node.specs.declared.plain.Plain.TheVariants as small
+use Rattle.tx_node.specs.declared.plain.Shared.TheVariants as large
+use Rattle.tx_node.specs.Items.{Item, plain, shared, box_item, PackedBox}
+use Rattle.tx_pack.specs.declared.types.Goal.TheVariants as goals
+use Rattle.tx_pack.specs.declared.types.PackError.{PackError}
+use Rattle.tx_pack.specs.declared.types.PackError.TheVariants as pack
+use Rattle.tx_pack.specs.declared.types.Packed.{Packed}
+use Rattle.tx_pack.specs.Packing.{hpacked}
 use Rattle.tx_eqtb.specs.declared.eqtb.Eqtb.{Eqtb}
 use Rattle.tx_eqtb.specs.declared.groups.GroupKind.{GroupKind}
 use Rattle.tx_eqtb.specs.declared.groups.GroupKind.TheVariants as kind
@@ -41,13 +47,14 @@ use Rattle.tx_assign.specs.Changes.{carried_out, relaxed, with_text}
 use Rattle.tx_text.specs.Definitions.{Defining as Defined_text}
 use Rattle.tx_toklist.specs.Macros.{Definition}
 use Rattle.tx_toklist.specs.Text.{printed}
-use Rattle.tx_main.specs.declared.types.BoxContext.{BoxContext}
-use Rattle.tx_main.specs.declared.types.BoxContext.TheVariants.{Append, Ship as Ship_context}
-use Rattle.tx_main.specs.declared.types.Command.{Command}
-use Rattle.tx_main.specs.declared.types.Command.TheVariants.{Nothing, Space, Character, BeginGroup, EndGroup, BeginSemiSimple, EndSemiSimple, Prefix, Define, Assign, Sized, Rule, BeginBox, End, Interact, DefineMacro, BeginText, DefineFuture, Keep}
-use Rattle.tx_main.specs.declared.types.Head.{Head}
-use Rattle.tx_main.specs.declared.types.Head.TheVariants.{Fresh, Prefixed, Defining, Future}
-use Rattle.tx_main.specs.declared.types.Prefixes.{Prefixes}
+use Rattle.tx_command.specs.declared.types.BoxContext.{BoxContext}
+use Rattle.tx_command.specs.declared.types.BoxContext.TheVariants.{Append, Ship as Ship_context}
+use Rattle.tx_command.specs.declared.types.Command.{Command}
+use Rattle.tx_command.specs.declared.types.Command.TheVariants.{Nothing, Space, Character, BeginGroup, EndGroup, BeginSemiSimple, EndSemiSimple, Prefix, Define, Assign, Sized, Rule, BeginBox, End, Interact, DefineMacro, BeginText, DefineFuture, Keep}
+use Rattle.tx_command.specs.declared.types.Head.{Head}
+use Rattle.tx_command.specs.declared.types.Head.TheVariants.{Fresh, Prefixed, Defining, Future}
+use Rattle.tx_command.specs.declared.types.Prefixes.{Prefixes}
+use Rattle.tx_command.specs.Commands.{prefixes_of}
 use Rattle.tx_main.specs.declared.parts.Due.TheVariants.{Ship}
 use Rattle.tx_main.specs.declared.parts.KeptToken.{KeptToken}
 use Rattle.tx_main.specs.declared.parts.OpenBox.{OpenBox}
@@ -57,14 +64,7 @@ use Rattle.tx_main.specs.State.{TexState}
 use Rattle.tx_main.specs.Texts.{absorbed_text, code_for, definition_text, is_global, list_text, token_for}
 use Rattle.tx_main.specs.Outcomes.{Outcome, Leaves, Fails, Ends, leaves}
 
--- the prefixes that stand before a command
-abbrev pub prefixes_of : Head → Prefixes
-prefixes_of Fresh = record { global = false; long = false; outer = false }
-prefixes_of (Prefixed prefixes) = prefixes
-prefixes_of (Defining prefixes defined kind) = prefixes
-prefixes_of (Future prefixes defined) = prefixes
-
--- one more of them
+-- one more prefix
 abbrev pub with_prefix : Prefixes → APrefix → Prefixes
 with_prefix prefixes Global = record prefixes { global = true }
 with_prefix prefixes Long = record prefixes { long = true }
@@ -106,6 +106,10 @@ assigning_now s a (Copy other) = assigning s (carried_out s.table a (prefixes_of
 abbrev pub adding : TexState → Item → Outcome
 adding s item = leaves (record s { list = s.list ++ item ∷ [] })
 
+-- the glue that a space gives in \nullfont, which has none
+abbrev pub space : Item
+space = plain (small.Glue (glue_of (pos 0) (pos 0) 0 (pos 0) 0))
+
 -- a space is nothing in a vertical list
 abbrev pub spacing : Mode → TexState → Outcome
 spacing mode.Vertical s = leaves s
@@ -124,20 +128,25 @@ abbrev pub opening : TexState → GroupKind → TexState → Outcome
 opening s kind inside =
     if nat_lt (length s.table.groups) 255 then leaves (record inside { table = opened s.table kind }) else Fails TooManyGroups
 
--- a list that can't be packed
+-- a list in a box of its natural size, which is never bad, whatever the parameters
+abbrev pub natural : List Item → Result Packed PackError
+natural list = hpacked list goals.Natural (record { badness = pos 0; fuzz = pos 0; overfull_rule = pos 0 })
+
+-- a list that can't be packed; packing never ends by want of memory
 abbrev pub pack_error : PackError → TexError
 pack_error pack.SizeOutOfRange = SizeOutOfRange
 pack_error pack.TooDeep = TooDeep
+pack_error pack.OutOfMemory = SizeOutOfRange
 
 -- a box is appended to the list around it, or is to be shipped
-abbrev pub using_box : BoxContext → HBox → TexState → TexState
-using_box Append box s = record s { list = s.list ++ box_item box ∷ [] }
+abbrev pub using_box : BoxContext → PackedBox → TexState → TexState
+using_box Append box s = record s { list = s.list ++ box_item (pos 0) box ∷ [] }
 using_box Ship_context box s = record s { due = Ship box ∷ s.due }
 
 -- what becomes of a list that was packed, in the list around it
-abbrev pub boxing : BoxContext → TexState → Result HBox PackError → Outcome
+abbrev pub boxing : BoxContext → TexState → Result Packed PackError → Outcome
 boxing context s (Err e) = Fails (pack_error e)
-boxing context s (Ok box) = leaves (using_box context box s)
+boxing context s (Ok made) = leaves (using_box context made.node s)
 
 -- what \aftergroup keeps for the end of the innermost of so many groups, the last of those that are left
 abbrev pub kept_for : List KeptToken → ℕ → Option Token
@@ -266,8 +275,8 @@ effect s EndSemiSimple = ending_semi_simple s (kind_of s.table)
 effect s (Prefix prefix) = prefixing s prefix
 effect s (Define defined kind) = naming s (Defining (prefixes_of s.head) defined kind) (carried_out s.table (relaxed defined) (prefixes_of s.head).global)
 effect s (Assign a) = assigning_now s a a.change
-effect s (Sized Kern size) = adding s (kern size)
-effect s (Rule rules.Vertical r) = adding s (rule r)
+effect s (Sized Kern size) = adding s (plain (small.Kern Explicit size))
+effect s (Rule rules.Vertical r) = adding s (shared (large.Rule r))
 effect s (BeginBox kind context) = opening s (group_of kind) (in_box kind context s)
 effect s End = Ends
 effect s (Interact kind) = leaves (assigned s)

@@ -1,8 +1,3 @@
-pub mod Rules
-pub mod Standing
-pub mod Commands
-pub mod Rests
-pub mod Begun
 pub mod Pages
 pub mod State
 pub mod Outcomes
@@ -10,6 +5,5 @@ pub mod Codes
 pub mod Texts
 pub mod Effects
 pub mod Turns
-pub mod Taken
 pub mod Meanings
 pub mod Lawful

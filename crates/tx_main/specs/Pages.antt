@@ -2,7 +2,7 @@
 use Rattle.std.specs.Prelude.{ℕ, ℤ, pos, negsuc, Bool, true, ◌&&◌, nat_lt, int_le, List, [], ◌∷◌, Option, Some, None, Result, if◌then◌else◌}
 use Rattle.tx_dvi.specs.Page.{Page}
 use Rattle.tx_machine.specs.declared.types.Date.{Date}
-use Rattle.tx_node.specs.Items.{HBox}
+use Rattle.tx_node.specs.Items.{PackedBox}
 use Rattle.tx_prim.specs.declared.integer.Moment.{Moment}
 use Rattle.tx_prim.specs.declared.integer.IntegerParameter.{IntegerParameter}
 use Rattle.tx_prim.specs.declared.integer.IntegerParameter.TheVariants.{Endlinechar, Mag, Year, Month, Day, Time}
@@ -47,7 +47,7 @@ ship_params table = record {
 }
 
 -- the page of a box
-abbrev pub page_of : Table → HBox → Result Page ShipError
+abbrev pub page_of : Table → PackedBox → Result Page ShipError
 page_of table box = ship.page_of box (ship_params table)
 
 -- a page's magnification is 1 to 32768, and that of the first page

@@ -20,8 +20,8 @@ use Rattle.tx_main.specs.declared.parts.OpenBox.{OpenBox}
 use Rattle.tx_main.specs.declared.parts.OpenText.{OpenText}
 use Rattle.tx_main.specs.declared.parts.Phase.{Phase}
 use Rattle.tx_main.specs.declared.parts.Phase.TheVariants.{Running, Waiting, Halted}
-use Rattle.tx_main.specs.declared.types.Head.{Head}
-use Rattle.tx_main.specs.declared.types.Head.TheVariants.{Fresh}
+use Rattle.tx_command.specs.declared.types.Head.{Head}
+use Rattle.tx_command.specs.declared.types.Head.TheVariants.{Fresh}
 use Rattle.tx_main.specs.Pages.{moment_of}
 
 -- all that the next turns can depend on

@@ -19,7 +19,7 @@ use Rattle.tx_seen.specs.declared.error.TexError.TheVariants.{SizeOutOfRange, Fi
 use Rattle.tx_main.specs.declared.parts.Due.{Due}
 use Rattle.tx_main.specs.declared.parts.Due.TheVariants.{OpenMain, FileAbsent as Due_file_absent, FileEnded, MainClosed, Ship}
 use Rattle.tx_main.specs.declared.parts.OpenText.{OpenText}
-use Rattle.tx_main.specs.declared.types.Command.{Command}
+use Rattle.tx_command.specs.declared.types.Command.{Command}
 use Rattle.tx_node.specs.Counts.{box_count, ended}
 use Rattle.tx_ship.specs.declared.error.ShipError.{ShipError}
 use Rattle.tx_expand.specs.declared.types.Expanded.{Expanded as Answer}
@@ -34,7 +34,7 @@ use Rattle.tx_eqtb.specs.Quantities.{value_in}
 use Rattle.tx_scan.specs.Settled.{tokens_of}
 use Rattle.tx_scan.specs.Supplied.{with_values}
 use Rattle.tx_main.specs.Pages.{integer, line_end, page_of, may_be}
-use Rattle.tx_main.specs.Commands.{command}
+use Rattle.tx_command.specs.Commands.{command}
 use Rattle.tx_main.specs.Effects.{effect, ending_text, relaxing}
 use Rattle.tx_seen.specs.Readings.{Reading, More, Need, Done, Wrong}
 use Rattle.tx_main.specs.Outcomes.{Outcome, Asks, Ships, Fails, Ends, leaves, stepped}

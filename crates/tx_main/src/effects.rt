@@ -1,7 +1,7 @@
 //! What each command does, once it is whole (TeX: The Program, parts 45 to 49).
-ghost use Rattle.std.specs.Prelude.{◌≡◌, ◌++◌, ◌||◌, [], Some, IfOk, OnOk};
+ghost use Rattle.std.specs.Prelude.{◌≡◌, ◌≢◌, ◌++◌, ◌||◌, [], Some, Ok, Err, IfOk, IfErr, OnOk};
+ghost use Rattle.tx_pack.specs.declared.types.PackError.TheVariants.{OutOfMemory};
 ghost use Rattle.tx_node.specs.Nodes.{item_of};
-ghost use Rattle.tx_node.specs.Packing.{natural};
 ghost use Rattle.tx_assign.specs.Changes.{carried_out};
 ghost use Rattle.tx_eqtb.specs.Stack.{kind_of};
 ghost use Rattle.tx_pending.specs.Elements.{with_tokens};
@@ -13,18 +13,20 @@ use crate::letters::with_letters;
 use crate::parts::{Due, KeptToken, OpenBox, OpenText, Phase};
 use crate::state::State;
 use crate::text::{code_for, is_global};
-use crate::types::{BoxContext, Command, Head, Prefixes};
 use itoa::Buffer;
 use std::alloc::{AllocError, Global};
 use std::mem;
 use tx_assign::{Assignment, Carried, Change, relaxed, with_text};
 use tx_bytes::Bytes;
 use tx_char::{ControlName, Token};
+use tx_command::{BoxContext, Command, Head, Prefixes};
 use tx_eqtb::{Entry, GroupKind, OpenError};
 use tx_expand::escape_of;
 use tx_list::Stack;
 use tx_machine::{Event, Stop};
-use tx_node::{BoxNode, Node, Nodes, PackError, Rule, hbox};
+use tx_node::{BoxNode, KernKind, Node, Nodes, Plain, Rule, Shared};
+use tx_num::Glue;
+use tx_pack::{Goal, PackError, PackParams, Packed, hpack};
 use tx_pending::Pending;
 use tx_prim::{
     AfterKind, BoxKind, DefinitionKind, Interaction, Mode, Prefix, Primitive, RuleKind, Shorthand,
@@ -248,14 +250,17 @@ fn end_box(alloc: Global, s: &mut State) -> Result<Event, AllocError>
     }
 }
 
-/// The error that keeps a list from being packed.
-fn pack_error(error: PackError) -> TexError
-    ensures { result ≡ effects.pack_error error }
+/// A list in a box of its natural size.
+fn natural(alloc: Global, list: Nodes) -> Result<Packed, PackError>
+    ensures packed { IfOk result (λ made. effects.natural list ≡ Ok made) }
+    ensures error { IfErr result (λ e. e ≢ OutOfMemory → effects.natural list ≡ Err e) }
 {
-    match error {
-        PackError::SizeOutOfRange => TexError::SizeOutOfRange,
-        PackError::TooDeep => TexError::TooDeep,
-    }
+    let params = PackParams {
+        badness: 0,
+        fuzz: 0,
+        overfull_rule: 0,
+    };
+    hpack(alloc, list, Goal::Natural, &params)
 }
 
 /// Makes a box of a list.
@@ -266,11 +271,13 @@ fn close_box(
     inner: Nodes,
 ) -> Result<Event, AllocError>
     requires running { s.old.phase ≡ Phase.Running }
-    ensures { IfOk result (λ event. IsStepped (effects.boxing context (state_of s.old) (natural inner)) s.old event s.new) }
+    ensures { IfOk result (λ event. IsStepped (effects.boxing context (state_of s.old) (effects.natural inner)) s.old event s.new) }
 {
-    match hbox(inner) {
-        Err(error) => Ok(fail(s, pack_error(error))),
-        Ok(made) => use_box(alloc, s, context, made),
+    match natural(alloc, inner) {
+        Ok(made) => use_box(alloc, s, context, made.node),
+        Err(PackError::SizeOutOfRange) => Ok(fail(s, TexError::SizeOutOfRange)),
+        Err(PackError::TooDeep) => Ok(fail(s, TexError::TooDeep)),
+        Err(PackError::OutOfMemory) => Err(AllocError),
     }
 }
 
@@ -285,7 +292,7 @@ fn use_box(
     ensures { IfOk result (λ event. IsStepped (leaves (effects.using_box context made (state_of s.old))) s.old event s.new) }
 {
     match context {
-        BoxContext::Append => s.list.push(Node::from_box(alloc, made)?)?,
+        BoxContext::Append => s.list.push(Node::from_box(alloc, 0, made)?)?,
         BoxContext::Ship => s.due.push(Due::Ship(made))?,
     }
     Ok(Event::Went)
@@ -553,7 +560,10 @@ fn space(s: &mut State) -> Result<Event, AllocError>
     ensures { IfOk result (λ event. IsStepped (effects.effect (state_of s.old) Command.Space) s.old event s.new) }
 {
     match s.scan.mode() {
-        Mode::Horizontal | Mode::RestrictedHorizontal => add(s, Node::Space),
+        Mode::Horizontal | Mode::RestrictedHorizontal => add(
+            s,
+            Node::Plain(Plain::Glue(Glue::zero())),
+        ),
         Mode::Vertical | Mode::InternalVertical | Mode::Math | Mode::DisplayMath => Ok(Event::Went),
     }
 }
@@ -564,17 +574,20 @@ fn use_size(s: &mut State, kind: SizeKind, size: i32) -> Result<Event, AllocErro
     ensures { IfOk result (λ event. IsStepped (effects.effect (state_of s.old) (Command.Sized kind size)) s.old event s.new) }
 {
     match kind {
-        SizeKind::Kern => add(s, Node::Kern(size)),
+        SizeKind::Kern => add(s, Node::Plain(Plain::Kern(KernKind::Explicit, size))),
     }
 }
 
 /// A rule.
-fn use_rule(s: &mut State, kind: RuleKind, rule: Rule) -> Result<Event, AllocError>
+fn use_rule(alloc: Global, s: &mut State, kind: RuleKind, rule: Rule) -> Result<Event, AllocError>
     requires { s.old.phase ≡ Phase.Running }
     ensures { IfOk result (λ event. IsStepped (effects.effect (state_of s.old) (Command.Rule kind rule)) s.old event s.new) }
 {
     match kind {
-        RuleKind::Vertical => add(s, Node::Rule(rule)),
+        RuleKind::Vertical => {
+            let node = Node::from_shared(alloc, Shared::Rule(rule))?;
+            add(s, node)
+        }
     }
 }
 
@@ -623,7 +636,7 @@ pub fn carry_out(alloc: Global, s: &mut State, command: Command) -> Result<Event
         Command::Define(defined, kind) => define(s, defined, kind),
         Command::Assign(assignment) => assign(alloc, s, assignment),
         Command::Sized(kind, size) => use_size(s, kind, size),
-        Command::Rule(kind, rule) => use_rule(s, kind, rule),
+        Command::Rule(kind, rule) => use_rule(alloc, s, kind, rule),
         Command::BeginBox(kind, context) => open_box(alloc, s, kind, context),
         Command::End => Ok(finish(s)),
         Command::Interact(kind) => interact(s, kind),

@@ -5,7 +5,6 @@ ghost use Rattle.tx_main.specs.Meanings.{meaning_of};
 ghost use Rattle.tx_main.specs.Turns.{tex};
 ghost use Rattle.tx_main.specs.Lawful.{tex-lawful};
 
-use crate::command::CommandScan;
 use crate::page::moment_of;
 use crate::parts::{Due, Phase};
 use crate::state::State;
@@ -13,6 +12,7 @@ use crate::{same, share, turn};
 use std::alloc::{AllocError, Global};
 use std::mem;
 use tx_bytes::Bytes;
+use tx_command::CommandScan;
 use tx_eqtb::Eqtb;
 use tx_expand::Expander;
 use tx_files::Name;

@@ -1,6 +1,6 @@
 //! The parts of TeX's state that are plain choices: what is due, which boxes are open, which text is, what the state waits for.
-use crate::types::BoxContext;
 use tx_char::Token;
+use tx_command::BoxContext;
 use tx_files::Name;
 use tx_machine::AskKind;
 use tx_node::{BoxNode, Nodes};

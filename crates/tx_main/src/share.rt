@@ -3,12 +3,12 @@ ghost use Rattle.std.specs.Prelude.{◌≡◌, IfOk};
 ghost use Rattle.tx_expand.specs.Expanding.{reader_of};
 ghost use Rattle.tx_main.specs.Meanings.{meaning_of};
 
-use crate::command::CommandScan;
 use crate::parts::{Due, KeptToken, OpenBox, OpenText};
 use crate::state::State;
 use std::alloc::{AllocError, Global};
 use tx_bytes::Bytes;
 use tx_char::Token;
+use tx_command::CommandScan;
 use tx_eqtb::Eqtb;
 use tx_expand::Expander;
 use tx_list::{Kept, Stack};

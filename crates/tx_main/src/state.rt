@@ -1,8 +1,8 @@
 //! TeX's state, in code.
-use crate::command::CommandScan;
 use crate::parts::{Due, KeptToken, OpenBox, OpenText, Phase};
 use tx_bytes::Bytes;
 use tx_char::Token;
+use tx_command::CommandScan;
 use tx_eqtb::Eqtb;
 use tx_expand::Expander;
 use tx_list::Stack;

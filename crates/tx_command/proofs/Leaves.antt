@@ -1,0 +1,198 @@
+-- What is read leaves no more items than there were.
+use Rattle.std.proofs.Common.{◌≡◌, ℕ, ◌+◌, ◌*◌, ◌≤◌, ◌&&◌, Bool, true, false, cond, not, Option, Some, None, List, [], ◌∷◌, ◌++◌, length, refl, arith}
+use Rattle.std.specs.Prelude.{ℤ, nat_le}
+use Rattle.tx_num.specs.declared.units.PhysicalUnit.TheVariants.{Point}
+use Rattle.tx_num.specs.Decimals.{fraction_of}
+use Rattle.tx_num.specs.Units.{size_of}
+use Rattle.tx_char.specs.Character.{character}
+use Rattle.tx_seen.specs.declared.item.Item.{Item}
+use Rattle.tx_seen.specs.declared.item.Item.TheVariants.{Took, Gave}
+use Rattle.tx_seen.specs.declared.seen.Seen.{Seen}
+use Rattle.tx_seen.specs.Seen.{is_undefined, is_space, is_point, is_key}
+use Rattle.tx_seen.specs.Readings.{Reading, More, Need, Done, Wrong, next}
+use Rattle.tx_scan.specs.declared.scans.Radix.{Radix}
+use Rattle.tx_scan.specs.declared.scans.Radix.TheVariants.{Decimal}
+use Rattle.tx_scan.specs.declared.scans.Beginning.{Beginning}
+use Rattle.tx_scan.specs.declared.scans.Beginning.TheVariants as begin
+use Rattle.tx_scan.specs.Beginnings.{base, digit, beginning}
+use Rattle.tx_scan.specs.Integers.{Ended, unless_space, space_after, code_named, coded, character_code}
+use Rattle.tx_scan.specs.declared.scans.Units.{Units}
+use Rattle.tx_scan.specs.declared.scans.Order.{Order}
+use Rattle.tx_scan.specs.declared.scans.Order.TheVariants.{Normal, Fil}
+use Rattle.tx_scan.specs.declared.scans.Measure.{Measure}
+use Rattle.tx_scan.specs.declared.scans.UnitName.{UnitName}
+use Rattle.tx_scan.specs.declared.scans.Letters.{Letters}
+use Rattle.tx_scan.specs.declared.scans.Letters.TheVariants.{Nothing}
+use Rattle.tx_scan.specs.declared.scans.Spelled.{Spelled}
+use Rattle.tx_scan.specs.declared.scans.Spelled.TheVariants.{On, Whole, Infinite, No}
+use Rattle.tx_scan.specs.Dimensions.{Factor, factor_ended, fraction, is_decimal, whole_units, first_unit, is_unread, letter_on, spelled, unit_name, size_in, sized, unit_rest, raised, more_infinite, fil_rest, unit_ended, factored, counted, size_begun, size_signs, dimension}
+
+-- at most so many items are behind what is read, with those that it keeps itself
+abbrev pub LeavesBy : {A : Type 0} → (A → List Item) → ℕ → Reading A → Type 0
+LeavesBy kept n (More want) = Unit {0}
+LeavesBy kept n (Need kind) = Unit {0}
+LeavesBy kept n (Done a rest) = length (kept a ++ rest) ≤ n
+LeavesBy kept n (Wrong error) = Unit {0}
+
+abbrev none_kept : {A : Type 0} → A → List Item
+none_kept a = []
+
+-- at most so many items are behind what is read
+abbrev pub Leaves : {A : Type 0} → ℕ → Reading A → Type 0
+Leaves n reading = LeavesBy none_kept n reading
+
+leaves-more : {A : Type 0} (kept : A → List Item) (m n : ℕ) (reading : Reading A) → m ≤ n → LeavesBy kept m reading → LeavesBy kept n reading
+leaves-more kept m n (More want) h l = tt
+leaves-more kept m n (Need kind) h l = tt
+leaves-more kept m n (Done a rest) h l = omega arith
+leaves-more kept m n (Wrong error) h l = tt
+
+leaves-if : {A : Type 0} (kept : A → List Item) (n : ℕ) (b : Bool) (x y : Reading A) → LeavesBy kept n x → LeavesBy kept n y → LeavesBy kept n (cond b x y)
+leaves-if kept n true x y p q = p
+leaves-if kept n false x y p q = q
+
+leaves-next : {A B : Type 0} (kept : A → List Item) (also : B → List Item) (m n : ℕ) (reading : Reading A) (on : A → List Item → Reading B) → LeavesBy kept m reading → ((a : A) (rest : List Item) → length (kept a ++ rest) ≤ m → LeavesBy also n (on a rest)) → LeavesBy also n (next reading on)
+leaves-next kept also m n (More want) on l h = tt
+leaves-next kept also m n (Need kind) on l h = tt
+leaves-next kept also m n (Done a rest) on l h = h a rest l
+leaves-next kept also m n (Wrong error) on l h = tt
+
+abbrev behind_number : Ended → List Item
+behind_number c = c.behind
+
+abbrev behind_factor : Factor → List Item
+behind_factor f = f.behind
+
+length-unless-by : (b : Bool) (item : Item) (rest : List Item) → length (cond b [] (item ∷ []) ++ rest) ≤ length (item ∷ rest)
+length-unless-by true item rest = omega arith
+length-unless-by false item rest = omega arith
+
+length-unless : (t : Seen) (rest : List Item) → length (unless_space t ++ rest) ≤ length (Took t ∷ rest)
+length-unless t rest = length-unless-by (is_space t) (Took t) rest
+
+leaves-space : (n : ℕ) (items : List Item) → LeavesBy behind_number (length items) (space_after n items)
+leaves-space n [] = tt
+leaves-space n (Gave v ∷ rest) = tt
+leaves-space n (Took t ∷ rest) = leaves-if behind_number _ (is_undefined t) _ _ tt (length-unless t rest)
+
+leaves-coded : (code : Option ℕ) (rest : List Item) → LeavesBy behind_number (length rest) (coded code rest)
+leaves-coded None rest = tt
+leaves-coded (Some code) rest = leaves-space code rest
+
+leaves-code : (items : List Item) → LeavesBy behind_number (length items) (character_code items)
+leaves-code [] = tt
+leaves-code (Gave v ∷ rest) = tt
+leaves-code (Took t ∷ rest) = leaves-more behind_number (length rest) (length (Took t ∷ rest)) (coded (code_named t.token) rest) (omega arith) (leaves-coded (code_named t.token) rest)
+
+leaves-ended : (whole : ℕ) (digits : List ℕ) (t : Seen) (rest : List Item) → LeavesBy behind_factor (length (Took t ∷ rest)) (factor_ended whole digits t rest)
+leaves-ended whole digits t rest = leaves-if behind_factor _ (is_undefined t) _ _ tt (length-unless t rest)
+
+leaves-fraction-by : (whole : ℕ) (digits : List ℕ) (t : Seen) (rest : List Item) → ((digits : List ℕ) → LeavesBy behind_factor (length rest) (fraction whole digits rest)) → (d : Option ℕ) → digit Decimal t ≡ d → LeavesBy behind_factor (length (Took t ∷ rest)) (fraction whole digits (Took t ∷ rest))
+leaves-fraction-by whole digits t rest on None is = rw is (leaves-ended whole digits t rest)
+leaves-fraction-by whole digits t rest on (Some d) is =
+    rw is (leaves-more behind_factor (length rest) (length (Took t ∷ rest)) (fraction whole (digits ++ (character "0" + d) ∷ []) rest) (omega arith) (on (digits ++ (character "0" + d) ∷ [])))
+
+leaves-fraction : (whole : ℕ) (items : List Item) (digits : List ℕ) → LeavesBy behind_factor (length items) (fraction whole digits items)
+leaves-fraction whole [] digits = tt
+leaves-fraction whole (Gave v ∷ rest) digits = tt
+leaves-fraction whole (Took t ∷ rest) digits = leaves-fraction-by whole digits t rest (leaves-fraction whole rest) (digit Decimal t) refl
+
+leaves-whole-by : (radix : Radix) (n : ℕ) (t : Seen) (rest : List Item) → ((n : ℕ) → LeavesBy behind_factor (length rest) (whole_units radix n rest)) → (d : Option ℕ) → digit radix t ≡ d → LeavesBy behind_factor (length (Took t ∷ rest)) (whole_units radix n (Took t ∷ rest))
+leaves-whole-by radix n t rest on None is =
+    rw is
+    (leaves-if behind_factor _ (is_decimal radix && is_point t) (fraction n [] rest) (factor_ended n [] t rest)
+    (leaves-more behind_factor (length rest) (length (Took t ∷ rest)) (fraction n [] rest) (omega arith) (leaves-fraction n rest []))
+    (leaves-ended n [] t rest))
+leaves-whole-by radix n t rest on (Some d) is =
+    rw is
+    (leaves-if behind_factor _ (nat_le (base radix * n + d) 2147483647) (whole_units radix (base radix * n + d) rest) _
+    (leaves-more behind_factor (length rest) (length (Took t ∷ rest)) (whole_units radix (base radix * n + d) rest) (omega arith) (on (base radix * n + d))) tt)
+
+leaves-whole : (radix : Radix) (items : List Item) (n : ℕ) → LeavesBy behind_factor (length items) (whole_units radix n items)
+leaves-whole radix [] n = tt
+leaves-whole radix (Gave v ∷ rest) n = tt
+leaves-whole radix (Took t ∷ rest) n = leaves-whole-by radix n t rest (leaves-whole radix rest) (digit radix t) refl
+
+leaves-first-by : (radix : Radix) (t : Seen) (rest : List Item) (d : Option ℕ) → digit radix t ≡ d → LeavesBy behind_factor (length (Took t ∷ rest)) (first_unit radix (Took t ∷ rest))
+leaves-first-by radix t rest None is = rw is (leaves-if behind_factor _ (is_undefined t) _ _ tt tt)
+leaves-first-by radix t rest (Some d) is =
+    rw is (leaves-more behind_factor (length rest) (length (Took t ∷ rest)) (whole_units radix d rest) (omega arith) (leaves-whole radix rest d))
+
+leaves-first : (radix : Radix) (items : List Item) → LeavesBy behind_factor (length items) (first_unit radix items)
+leaves-first radix [] = tt
+leaves-first radix (Gave v ∷ rest) = tt
+leaves-first radix (Took t ∷ rest) = leaves-first-by radix t rest (digit radix t) refl
+
+leaves-spelled : (n : ℕ) (on : Letters → Reading (Option UnitName)) (spelling : Spelled) (rest : List Item) → length rest ≤ n → ((letters : Letters) → Leaves n (on letters)) → Leaves n (spelled on spelling rest)
+leaves-spelled n on (On letters) rest h k = k letters
+leaves-spelled n on (Whole unit) rest h k = h
+leaves-spelled n on Infinite rest h k = h
+leaves-spelled n on No rest h k = tt
+
+leaves-unit : (units : Units) (items : List Item) (letters : Letters) → Leaves (length items) (unit_name units letters items)
+leaves-unit units [] letters = tt
+leaves-unit units (Gave v ∷ rest) letters = tt
+leaves-unit units (Took t ∷ rest) letters =
+    let later : (letters : Letters) → Leaves (length (Took t ∷ rest)) (unit_name units letters rest) = λ letters. leaves-more none_kept (length rest) (length (Took t ∷ rest)) (unit_name units letters rest) (omega arith) (leaves-unit units rest letters) in
+    leaves-if none_kept _ (is_undefined t) _ _ tt
+    (leaves-if none_kept _ (is_unread letters && is_space t) _ _ (later letters)
+    (leaves-spelled (length (Took t ∷ rest)) (λ more. unit_name units more rest) (letter_on units letters t) rest (omega arith) later))
+
+leaves-sized : (negative : Bool) (size : ℕ) (order : Order) (behind : List Item) (n : ℕ) → length behind ≤ n → Leaves n (sized negative size order behind)
+leaves-sized negative size order behind n h = leaves-if none_kept n (nat_le size 1073741823) _ _ h tt
+
+leaves-unit-rest : (negative : Bool) (whole part : ℕ) (unit : UnitName) (items : List Item) → Leaves (length items) (unit_rest negative whole part unit items)
+leaves-unit-rest negative whole part unit [] = tt
+leaves-unit-rest negative whole part unit (Gave v ∷ rest) = tt
+leaves-unit-rest negative whole part unit (Took t ∷ rest) =
+    leaves-if none_kept _ (is_undefined t) _ _ tt (leaves-sized negative (size_in unit whole part) Normal (unless_space t ++ rest) _ (length-unless t rest))
+
+leaves-raised : (n : ℕ) (o : Option Order) (on : Order → Reading Measure) → ((order : Order) → Leaves n (on order)) → Leaves n (more_infinite o on)
+leaves-raised n None on k = tt
+leaves-raised n (Some order) on k = k order
+
+leaves-fil : (negative : Bool) (whole part : ℕ) (items : List Item) (order : Order) → Leaves (length items) (fil_rest negative whole part order items)
+leaves-fil negative whole part [] order = tt
+leaves-fil negative whole part (Gave v ∷ rest) order = tt
+leaves-fil negative whole part (Took t ∷ rest) order =
+    let later : (order : Order) → Leaves (length (Took t ∷ rest)) (fil_rest negative whole part order rest) = λ order. leaves-more none_kept (length rest) (length (Took t ∷ rest)) (fil_rest negative whole part order rest) (omega arith) (leaves-fil negative whole part rest order) in
+    leaves-if none_kept _ (is_undefined t) _ _ tt
+    (leaves-if none_kept _ (is_space t) _ _ (later order)
+    (leaves-if none_kept _ (is_key (character "l") t) _ _ (leaves-raised (length (Took t ∷ rest)) (raised order) (λ more. fil_rest negative whole part more rest) later)
+    (leaves-sized negative (size_of Point whole part) order (Took t ∷ rest) (length (Took t ∷ rest)) (omega arith))))
+
+leaves-unit-ended : (negative : Bool) (whole part : ℕ) (unit : Option UnitName) (items : List Item) → Leaves (length items) (unit_ended negative whole part unit items)
+leaves-unit-ended negative whole part None items = leaves-fil negative whole part items Fil
+leaves-unit-ended negative whole part (Some unit) items = leaves-unit-rest negative whole part unit items
+
+leaves-factored : (units : Units) (negative : Bool) (f : Factor) (rest : List Item) (n : ℕ) → length (f.behind ++ rest) ≤ n → Leaves n (factored units negative f rest)
+leaves-factored units negative f rest n h =
+    leaves-next none_kept none_kept (length (f.behind ++ rest)) n (unit_name units Nothing (f.behind ++ rest)) (unit_ended negative f.whole (fraction_of f.digits)) (leaves-unit units (f.behind ++ rest) Nothing)
+    (λ unit behind l. leaves-more none_kept (length behind) n (unit_ended negative f.whole (fraction_of f.digits) unit behind) (omega arith) (leaves-unit-ended negative f.whole (fraction_of f.digits) unit behind))
+
+leaves-begun : (units : Units) (negative : Bool) (on : Bool → Reading Measure) (rest : List Item) (b : Beginning) (n : ℕ) → length rest ≤ n → ((negative : Bool) → Leaves n (on negative)) → Leaves n (size_begun units negative on rest b)
+leaves-begun units negative on rest begin.Plus n h k = k negative
+leaves-begun units negative on rest begin.Minus n h k = k (not negative)
+leaves-begun units negative on rest (begin.Digit d) n h k =
+    leaves-next behind_factor none_kept (length rest) n (whole_units Decimal d rest) (factored units negative) (leaves-whole Decimal rest d) (λ f behind l. leaves-factored units negative f behind n (omega arith))
+leaves-begun units negative on rest (begin.Digits radix) n h k =
+    leaves-next behind_factor none_kept (length rest) n (first_unit radix rest) (factored units negative) (leaves-first radix rest) (λ f behind l. leaves-factored units negative f behind n (omega arith))
+leaves-begun units negative on rest begin.Point n h k =
+    leaves-next behind_factor none_kept (length rest) n (fraction 0 [] rest) (factored units negative) (leaves-fraction 0 rest []) (λ f behind l. leaves-factored units negative f behind n (omega arith))
+leaves-begun units negative on rest begin.Character n h k =
+    leaves-next behind_number none_kept (length rest) n (character_code rest) (counted units negative) (leaves-code rest)
+    (λ c behind l. leaves-factored units negative (record { whole = c.number; digits = []; behind = c.behind }) behind n (omega arith))
+leaves-begun units negative on rest (begin.Number m) n h k = tt
+leaves-begun units negative on rest (begin.At place) n h k = tt
+leaves-begun units negative on rest (begin.Numbered kind) n h k = tt
+leaves-begun units negative on rest (begin.Nothing error) n h k = tt
+
+leaves-signs : (units : Units) (items : List Item) (negative : Bool) → Leaves (length items) (size_signs units negative items)
+leaves-signs units [] negative = tt
+leaves-signs units (Gave v ∷ rest) negative = tt
+leaves-signs units (Took t ∷ rest) negative =
+    leaves-begun units negative (λ negative. size_signs units negative rest) rest (beginning t) (length (Took t ∷ rest)) (omega arith)
+    (λ negative. leaves-more none_kept (length rest) (length (Took t ∷ rest)) (size_signs units negative rest) (omega arith) (leaves-signs units rest negative))
+
+pub leaves-dimension : (units : Units) (items : List Item) → Leaves (length items) (dimension units items)
+leaves-dimension units items = leaves-signs units items false

@@ -1,0 +1,6 @@
+pub mod Leaves
+pub mod Sides
+pub mod Settling
+pub mod Stages
+pub mod RuleSteps
+mod Worked

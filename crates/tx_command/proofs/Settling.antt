@@ -1,0 +1,35 @@
+-- A token that ends a command, and isn't given back, needn't be kept.
+use Rattle.std.proofs.Common.{◌≡◌, ◌≤◌, ◌+◌, List, [], ◌∷◌, ◌++◌, length, ap, sym, ◌∙◌}
+use Rattle.tx_prim.specs.declared.modes.Mode.{Mode}
+use Rattle.tx_seen.specs.declared.fed.Fed.{Fed}
+use Rattle.tx_seen.specs.declared.fed.Fed.TheVariants as fed
+use Rattle.tx_seen.specs.declared.fed.Value.{Value}
+use Rattle.tx_seen.specs.declared.item.Item.{Item}
+use Rattle.tx_seen.specs.declared.item.Item.TheVariants.{Took}
+use Rattle.tx_seen.specs.declared.place.Place.{Place}
+use Rattle.tx_seen.specs.declared.seen.Seen.{Seen}
+use Rattle.tx_seen.specs.Readings.{last, tokens}
+use Rattle.tx_scan.specs.Rests.{HasTakenBy, IsFedBy}
+use Rattle.tx_scan.specs.Settled.{tokens_of}
+use Rattle.tx_scan.specs.Supplied.{NeedsNoMore}
+use Rattle.tx_scan.proofs.Answering.{ending-none}
+use Rattle.tx_scan.proofs.Settling.{token-pending}
+use Rattle.tx_command.specs.declared.scans.Scans.{Scans}
+use Rattle.tx_command.specs.declared.types.Command.{Command}
+use Rattle.tx_command.specs.declared.types.Head.{Head}
+use Rattle.tx_command.specs.Commands.{command}
+use Rattle.tx_command.specs.Rests.{command_rest, held, more_needed}
+use Rattle.tx_command.specs.Taken.{joined, IsEnd, IsSettled, IsPending}
+
+ended-by : (at : Place → Value) (mode : Mode) (head : Head) (items taken now : List Item) (new : Scans) (answer : Fed Command) → IsEnd answer → IsPending at mode head items now new answer → IsSettled mode head items taken new answer
+ended-by at mode head items taken now new (fed.More want) ends p = absurd ends
+ended-by at mode head items taken now new (fed.Need kind) ends p = absurd ends
+ended-by at mode head items taken now new (fed.Done c back) ends p =
+    let none : (xs : List Item) → last back xs ≡ [] = λ xs. ap (λ n. last n xs) ends ∙ ending-none (tokens xs) in
+    (p.0, ap tokens_of (none taken ∙ sym (none items)))
+ended-by at mode head items taken now new (fed.Wrong e) ends p = p
+
+pub token-ends : (at : Place → Value) (mode : Mode) (head : Head) (taken : List Item) (t : Seen) (old new : Scans) (answer : Fed Command) → IsEnd answer → HasTakenBy (command_rest mode head) held (command mode head) old taken → more_needed old ≤ length taken + 1 → IsFedBy (command_rest mode head) held old t new answer → NeedsNoMore (more_needed old) (more_needed new) answer → IsSettled mode head (joined at mode head taken t) taken new answer
+token-ends at mode head taken t old new answer ends reads few fits n =
+    ended-by at mode head (joined at mode head taken t) taken (taken ++ Took t ∷ []) new answer ends
+    (token-pending at (command_rest mode head) held more_needed (command mode head) taken t old new answer reads few fits n)

@@ -1,0 +1,283 @@
+-- Each part of a command reads on as its scan.
+use Rattle.std.proofs.Common.{◌≡◌, ◌≤◌, ◌||◌, ℕ, ℤ, true, false, cond, List, [], ◌∷◌, ◌++◌, length, Result, Ok, Err, IfOk, refl, ap, sym, subst, ◌∙◌, arith}
+use Rattle.tx_node.specs.declared.rule.Rule.{Rule}
+use Rattle.tx_prim.specs.declared.family.AfterKind.{AfterKind}
+use Rattle.tx_prim.specs.declared.family.BoxKind.{BoxKind}
+use Rattle.tx_prim.specs.declared.family.DefinitionKind.{DefinitionKind}
+use Rattle.tx_prim.specs.declared.family.RuleKind.{RuleKind}
+use Rattle.tx_prim.specs.declared.family.Shorthand.{Shorthand}
+use Rattle.tx_prim.specs.declared.family.SizeKind.{SizeKind}
+use Rattle.tx_prim.specs.declared.modes.Mode.{Mode}
+use Rattle.tx_prim.specs.declared.primitive.Primitive.TheVariants as primitive
+use Rattle.tx_seen.specs.declared.error.TexError.TheVariants.{NotAllowed, NoAssignment, Undefined}
+use Rattle.tx_seen.specs.declared.meaning.Meaning.TheVariants as meaning
+use Rattle.tx_seen.specs.Seen.{is_undefined, is_space, is_relax}
+use Rattle.tx_seen.specs.declared.fed.Fed.{Fed}
+use Rattle.tx_seen.specs.declared.fed.Fed.TheVariants as fed
+use Rattle.tx_seen.specs.declared.fed.Value.{Value}
+use Rattle.tx_seen.specs.declared.fed.Want.{Want}
+use Rattle.tx_seen.specs.declared.fed.Want.TheVariants.{Raw, Expanded}
+use Rattle.tx_seen.specs.declared.item.Item.{Item}
+use Rattle.tx_seen.specs.declared.item.Item.TheVariants.{Took, Gave}
+use Rattle.tx_seen.specs.declared.place.Place.{Place}
+use Rattle.tx_seen.specs.declared.seen.Seen.{Seen}
+use Rattle.tx_seen.specs.Readings.{Reading, More, Done, Wrong, ending, next}
+use Rattle.tx_scan.specs.Rests.{IsFedBy, IsGivenBy}
+use Rattle.tx_scan.specs.Supplied.{NeedsNoMore, NeedsFewer, NeedsNothing}
+use Rattle.tx_scan.specs.declared.scans.Measure.{Measure}
+use Rattle.tx_scan.specs.Dimensions.{lengths}
+use Rattle.tx_scan.specs.DimensionRests.{begun_size, IsSize}
+use Rattle.tx_assign.specs.declared.scan.AssignScan.{AssignScan}
+use Rattle.tx_assign.specs.declared.types.Assigning.{Assigning}
+use Rattle.tx_assign.specs.declared.types.Assigning.TheVariants.{Named}
+use Rattle.tx_assign.specs.declared.types.Assignment.{Assignment}
+use Rattle.tx_assign.specs.Assignments.{assignment}
+use Rattle.tx_assign.specs.Rests.{rest as assign_rest, held as assign_held, more_needed as assign_needed, IsBegun}
+use Rattle.tx_command.specs.declared.scans.RulePart.TheVariants as rule
+use Rattle.tx_command.specs.declared.scans.Scans.{Scans}
+use Rattle.tx_command.specs.declared.scans.Stage.{Stage}
+use Rattle.tx_command.specs.declared.scans.Stage.TheVariants as stage
+use Rattle.tx_command.specs.declared.types.BoxContext.{BoxContext}
+use Rattle.tx_command.specs.declared.types.BoxContext.TheVariants.{Ship}
+use Rattle.tx_command.specs.declared.types.Command.{Command}
+use Rattle.tx_command.specs.declared.types.Command.TheVariants.{Nothing, Assign, Keep}
+use Rattle.tx_command.specs.declared.types.Head.{Head}
+use Rattle.tx_command.specs.declared.types.Head.TheVariants.{Fresh, Prefixed, Defining, Future}
+use Rattle.tx_command.specs.declared.types.Prefixes.{Prefixes}
+use Rattle.tx_command.specs.Commands.{command, command_meant, future_defining, future_of, future_second, keeping, macro_defining, fresh_command, may_be_prefixed, prefixed_command, assigning, defining, ruling, sizing, box_begin, box_meant, shipped_box, skipping}
+use Rattle.tx_command.specs.Standing.{may_stand}
+use Rattle.tx_scan.proofs.Answering.{ending-none}
+use Rattle.tx_scan.specs.Mapped.{mapped}
+use Rattle.tx_command.specs.Rests.{command_rest, held, more_needed, second_rest, stage_rest, stage_held, Begins, GoesOn, IsAssigning, IsBegunBy, IsOn, IsOnAt, IsRuleFed}
+use Rattle.tx_command.specs.Rules.{plain_rule}
+use Rattle.tx_scan.proofs.Mappings.{Rest, read-none, fed-first, mapped-read, mapped-fed, mapped-given, same-read, needs-mapped, fewer-mapped}
+
+-- how many values are needed
+needs-least : {A : Type 0} (few most new : ℕ) (answer : Fed A) → few ≤ most → NeedsNoMore few new answer → NeedsNoMore most new answer
+needs-least few most new (fed.More want) h k = omega (arith, h, k)
+needs-least few most new (fed.Need kind) h k = omega (arith, h, k)
+needs-least few most new (fed.Done value back) h k = tt
+needs-least few most new (fed.Wrong error) h k = tt
+
+-- the answers of the scan of a part, as those of commands
+pub part-fed : {S A : Type 0} (part : Rest S A) (part_held : S → ℕ) (f : A → Command) (s : Stage) (mode : Mode) (head : Head) (was is : S) (old new : Scans) (t : Seen) (answer : Fed A) → old.stage ≡ s → new.stage ≡ s → ((behind : List Item) (item : Item) (more : List Item) → stage_rest mode head s old behind item more ≡ next (part was behind item more) (λ a rest. Done (f a) rest)) → stage_held s old ≡ part_held was → ((behind : List Item) (item : Item) (more : List Item) → stage_rest mode head s new behind item more ≡ next (part is behind item more) (λ a rest. Done (f a) rest)) → stage_held s new ≡ part_held is → IsFedBy part part_held was t is answer → IsFedBy (command_rest mode head) held old t new (mapped f answer)
+part-fed part part_held f s mode head was is old new t answer at_old at_new old_reads old_holds new_reads new_holds k =
+    mapped-fed part part_held (command_rest mode head) held f was is old new t answer
+    (λ behind item more. ap (λ s. stage_rest mode head s old behind item more) at_old ∙ old_reads behind item more) (ap (λ s. stage_held s old) at_old ∙ old_holds)
+    (λ behind item more. ap (λ s. stage_rest mode head s new behind item more) at_new ∙ new_reads behind item more) (ap (λ s. stage_held s new) at_new ∙ new_holds) k
+
+pub part-needs : (old new : Scans) (answer : Fed Command) → more_needed new ≡ 0 → NeedsNoMore (more_needed old) (more_needed new) answer
+part-needs old new (fed.More want) none = omega (arith, none)
+part-needs old new (fed.Need kind) none = omega (arith, none)
+part-needs old new (fed.Done c back) none = tt
+part-needs old new (fed.Wrong error) none = tt
+
+on-at : (s : Stage) (new : Scans) → new.stage ≡ s → IsOnAt s new → IsOn new
+on-at s new is on = subst (λ x. IsOnAt x new) (sym is) on
+
+pub part-goes : {A : Type 0} (f : A → Command) (s : Stage) (new : Scans) (answer : Fed A) → new.stage ≡ s → IsOnAt s new → NeedsNothing answer → GoesOn new (mapped f answer)
+part-goes f s new (fed.More want) is on k = on-at s new is on
+part-goes f s new (fed.Need kind) is on k = absurd k
+part-goes f s new (fed.Done a back) is on k = tt
+part-goes f s new (fed.Wrong error) is on k = tt
+
+pub size-goes : (f : Measure → Command) (s : Stage) (new : Scans) (answer : Fed Measure) → new.stage ≡ s → IsOnAt s new → IsSize answer → GoesOn new (mapped f answer)
+size-goes f s new (fed.More want) is on k = on-at s new is on
+size-goes f s new (fed.Need kind) is on k = absurd k
+size-goes f s new (fed.Done a back) is on k = tt
+size-goes f s new (fed.Wrong error) is on k = tt
+
+pub rule-goes : (f : Rule → Command) (kind : RuleKind) (new : Scans) (answer : Fed Rule) → new.stage ≡ stage.Rule kind → IsRuleFed new.rule answer → GoesOn new (mapped f answer)
+rule-goes f kind new (fed.More want) is k = rw is k
+rule-goes f kind new (fed.Need need) is k = absurd k
+rule-goes f kind new (fed.Done a back) is k = tt
+rule-goes f kind new (fed.Wrong error) is k = tt
+
+-- those of the scan of an assignment
+pub assign-given : (mode : Mode) (head : Head) (old new : Scans) (v : Value) (answer : Fed Assignment) → old.stage ≡ stage.Assign → new.stage ≡ stage.Assign → IsGivenBy assign_rest assign_held old.assignment v new.assignment answer → IsGivenBy (command_rest mode head) held old v new (mapped Assign answer)
+assign-given mode head old new v answer was is k =
+    mapped-given assign_rest assign_held (command_rest mode head) held Assign old.assignment new.assignment old new v answer
+    (λ behind item more. ap (λ s. stage_rest mode head s old behind item more) was) (ap (λ s. stage_held s old) was)
+    (λ behind item more. ap (λ s. stage_rest mode head s new behind item more) is) (ap (λ s. stage_held s new) is) k
+
+pub assign-needs : (old new : Scans) (answer : Fed Assignment) → old.stage ≡ stage.Assign → new.stage ≡ stage.Assign → NeedsNoMore (assign_needed old.assignment) (assign_needed new.assignment) answer → NeedsNoMore (more_needed old) (more_needed new) (mapped Assign answer)
+assign-needs old new answer was is k = rw (was, is) (needs-mapped Assign (assign_needed old.assignment) (assign_needed new.assignment) answer k)
+
+pub assign-fewer : (old new : Scans) (answer : Fed Assignment) → old.stage ≡ stage.Assign → new.stage ≡ stage.Assign → NeedsFewer (assign_needed old.assignment) (assign_needed new.assignment) answer → NeedsFewer (more_needed old) (more_needed new) (mapped Assign answer)
+assign-fewer old new answer was is k = rw (was, is) (fewer-mapped Assign (assign_needed old.assignment) (assign_needed new.assignment) answer k)
+
+pub assign-goes : (new : Scans) (answer : Fed Assignment) → new.stage ≡ stage.Assign → GoesOn new (mapped Assign answer)
+assign-goes new (fed.More want) is = rw is tt
+assign-goes new (fed.Need kind) is = rw is tt
+assign-goes new (fed.Done a back) is = tt
+assign-goes new (fed.Wrong error) is = tt
+
+pub assigning-is : (s : Stage) → IsAssigning s → s ≡ stage.Assign
+assigning-is stage.Start k = absurd k
+assigning-is stage.Assign k = refl
+assigning-is (stage.Name kind) k = absurd k
+assigning-is (stage.MacroName kind) k = absurd k
+assigning-is stage.FutureName k = absurd k
+assigning-is stage.SecondToken k = absurd k
+assigning-is (stage.KeptToken kind) k = absurd k
+assigning-is (stage.Sized kind) k = absurd k
+assigning-is (stage.Rule kind) k = absurd k
+assigning-is stage.Spaces k = absurd k
+assigning-is stage.ShippedBox k = absurd k
+assigning-is (stage.BoxBegin kind context) k = absurd k
+
+-- parts that held nothing
+pub start-fed : {E : Type 0} (mode : Mode) (head : Head) (t : Seen) (old new : Scans) (answer : Result (Fed Command) E) → old.stage ≡ stage.Start → IfOk answer (IsBegunBy mode head 1 (λ more. command mode head (Took t ∷ more)) (Took t ∷ []) new) → IfOk answer (IsFedBy (command_rest mode head) held old t new)
+start-fed mode head t old new (Ok answer) was k = fed-first (command_rest mode head) held old t new answer (rw was refl) (rw was k.reads)
+start-fed mode head t old new (Err e) was k = tt
+
+pub box-fed : (mode : Mode) (head : Head) (t : Seen) (old new : Scans) (answer : Fed Command) → old.stage ≡ stage.ShippedBox → IsBegunBy mode head 0 (λ more. shipped_box (Took t ∷ more)) [] new answer → IsFedBy (command_rest mode head) held old t new answer
+box-fed mode head t old new answer was k =
+    fed-first (command_rest mode head) held old t new answer (rw was refl)
+    (rw was (read-none (command_rest mode head) held 1 (λ more. shipped_box (Took t ∷ more)) (Took t ∷ []) new answer k.reads))
+
+pub start-needs : {E : Type 0} (mode : Mode) (head : Head) (t : Seen) (old new : Scans) (answer : Result (Fed Command) E) → old.stage ≡ stage.Start → IfOk answer (IsBegunBy mode head 1 (λ more. command mode head (Took t ∷ more)) (Took t ∷ []) new) → IfOk answer (NeedsNoMore (more_needed old) (more_needed new))
+start-needs mode head t old new (Ok answer) was k = rw was k.needs
+start-needs mode head t old new (Err e) was k = tt
+
+pub start-goes : {E : Type 0} (mode : Mode) (head : Head) (t : Seen) (new : Scans) (answer : Result (Fed Command) E) → IfOk answer (IsBegunBy mode head 1 (λ more. command mode head (Took t ∷ more)) (Took t ∷ []) new) → IfOk answer (GoesOn new)
+start-goes mode head t new (Ok answer) k = k.goes_on
+start-goes mode head t new (Err e) k = tt
+
+pub space-fed : (mode : Mode) (head : Head) (t : Seen) (old new : Scans) (answer : Fed Command) → old.stage ≡ stage.Spaces → IsBegunBy mode head 1 (λ more. skipping (Took t ∷ more)) (Took t ∷ []) new answer → IsFedBy (command_rest mode head) held old t new answer
+space-fed mode head t old new answer was k = fed-first (command_rest mode head) held old t new answer (rw was refl) (rw was k.reads)
+
+-- what reads on alike is begun alike
+alike : (mode : Mode) (head : Head) (count : ℕ) (reading other : List Item → Reading Command) (tokens : List Item) (new : Scans) (answer : Fed Command) → ((more : List Item) → reading more ≡ other more) → IsBegunBy mode head count other tokens new answer → IsBegunBy mode head count reading tokens new answer
+alike mode head count reading other tokens new answer same k =
+    record { reads = same-read (command_rest mode head) held count reading other tokens new answer same k.reads; needs = k.needs; goes_on = k.goes_on }
+
+one-token : (mode : Mode) (head : Head) (reading : List Item → Reading Command) (t : Seen) (new : Scans) (answer : Fed Command) → IsBegunBy mode head 0 reading [] new answer → IsBegunBy mode head 1 reading (Took t ∷ []) new answer
+one-token mode head reading t new answer k = record {
+  reads = read-none (command_rest mode head) held 1 reading (Took t ∷ []) new answer k.reads;
+  needs = needs-least 0 1 (more_needed new) answer (omega arith) k.needs;
+  goes_on = k.goes_on;
+}
+
+-- the parts that a first token begins
+pub name-begun : (kind : Shorthand) (new : Scans) (want : Want) → defining kind [] ≡ More want → new.stage ≡ stage.Name kind → Begins (defining kind) new (fed.More want)
+name-begun kind new want wants is = λ mode head. record { reads = (wants, rw is (omega arith), λ item more. rw is refl); needs = rw is (omega arith); goes_on = rw is tt }
+
+pub macro-begun : (kind : DefinitionKind) (new : Scans) → new.stage ≡ stage.MacroName kind → Begins (macro_defining kind) new (fed.More Raw)
+macro-begun kind new is = λ mode head. record { reads = (refl, rw is (omega arith), λ item more. rw is refl); needs = rw is (omega arith); goes_on = rw is tt }
+
+pub future-begun : (new : Scans) → new.stage ≡ stage.FutureName → Begins future_defining new (fed.More Raw)
+future-begun new is = λ mode head. record { reads = (refl, rw is (omega arith), λ item more. rw is refl); needs = rw is (omega arith); goes_on = rw is tt }
+
+pub kept-begun : (kind : AfterKind) (new : Scans) → new.stage ≡ stage.KeptToken kind → Begins (keeping kind) new (fed.More Raw)
+kept-begun kind new is = λ mode head. record { reads = (refl, rw is (omega arith), λ item more. rw is refl); needs = rw is (omega arith); goes_on = rw is tt }
+
+pub size-begun : (kind : SizeKind) (new : Scans) → new.stage ≡ stage.Sized kind → new.size ≡ begun_size lengths → Begins (sizing kind) new (fed.More Expanded)
+size-begun kind new is same = λ mode head. record { reads = (refl, rw is (omega arith), λ item more. rw (is, same) refl); needs = rw is (omega arith); goes_on = rw is tt }
+
+pub rule-begun : (kind : RuleKind) (new : Scans) → new.stage ≡ stage.Rule kind → new.rule.rule ≡ plain_rule kind → new.rule.part ≡ rule.Start → Begins (ruling kind) new (fed.More Expanded)
+rule-begun kind new is same part = λ mode head. record { reads = (refl, rw (is, part) (omega arith), λ item more. rw (is, part, same) refl); needs = rw is (omega arith); goes_on = rw (is, part) tt }
+
+pub box-begun : (kind : BoxKind) (context : BoxContext) (new : Scans) → new.stage ≡ stage.BoxBegin kind context → Begins (box_begin kind context) new (fed.More Expanded)
+box-begun kind context new is = λ mode head. record { reads = (refl, rw is (omega arith), λ item more. rw is refl); needs = rw is (omega arith); goes_on = rw is tt }
+
+pub shipped-begun : (new : Scans) → new.stage ≡ stage.ShippedBox → Begins shipped_box new (fed.More Expanded)
+shipped-begun new is = λ mode head. record { reads = (refl, rw is (omega arith), λ item more. rw is refl); needs = rw is (omega arith); goes_on = rw is tt }
+
+pub spaces-begun : (new : Scans) → new.stage ≡ stage.Spaces → Begins skipping new (fed.More Expanded)
+spaces-begun new is = λ mode head. record { reads = (refl, rw is (omega arith), λ item more. rw is refl); needs = rw is (omega arith); goes_on = rw is tt }
+
+pub assign-begun : (begun : Assigning) (want : Want) (new : Scans) → assignment begun [] ≡ More want → new.stage ≡ stage.Assign → IsBegun begun new.assignment → assign_needed new.assignment ≤ 1 → Begins (assigning begun) new (fed.More want)
+assign-begun begun want new wants is k few = λ mode head. record {
+  reads = (
+    ap (λ r. next r (λ a behind. Done (Assign a) behind)) wants,
+    rw is (omega (arith, k.0)),
+    λ item more. rw is (ap (λ r. next r (λ a behind. Done (Assign a) behind)) (sym (k.1 _ item more))),
+  );
+  needs = rw is few;
+  goes_on = rw is tt;
+}
+
+-- the first token behind a name that is defined
+pub first-assigned : (mode : Mode) (head : Head) (begun : Assigning) (old : AssignScan) (new : Scans) (t : Seen) (answer : Fed Assignment) → new.stage ≡ stage.Assign → IsBegun begun old → assign_needed old ≤ 1 → IsFedBy assign_rest assign_held old t new.assignment answer → NeedsNoMore (assign_needed old) (assign_needed new.assignment) answer → IsBegunBy mode head 1 (λ more. assigning begun (Took t ∷ more)) (Took t ∷ []) new (mapped Assign answer)
+first-assigned mode head begun old new t answer is k few fits needs =
+    let h : length {A = Item} [] ≤ assign_held old = omega arith in
+    record {
+      reads = same-read (command_rest mode head) held 1 (λ more. assigning begun (Took t ∷ more)) (λ more. next (assign_rest old [] (Took t) more) (λ a rest. Done (Assign a) rest)) (Took t ∷ []) new (mapped Assign answer)
+          (λ more. ap (λ r. next r (λ a rest. Done (Assign a) rest)) (sym (k.1 [] (Took t) more)))
+          (mapped-read assign_rest assign_held (command_rest mode head) held Assign 1 (λ more. assign_rest old [] (Took t) more) (Took t ∷ []) new.assignment new answer
+          (λ behind item more. ap (λ s. stage_rest mode head s new behind item more) is) (ap (λ s. stage_held s new) is) (rw k.0 at (fits [] h)));
+      needs = rw is (needs-mapped Assign 1 (assign_needed new.assignment) answer (needs-least (assign_needed old) 1 (assign_needed new.assignment) answer few needs));
+      goes_on = assign-goes new answer is;
+    }
+
+pub named-begun : (name same : Place) (kind : Shorthand) (scan : AssignScan) → name ≡ same → IsBegun (Named name kind) scan → IsBegun (Named same kind) scan
+named-begun name same kind scan e k = subst (λ n. IsBegun (Named n kind) scan) e k
+
+-- the first token of a command
+pub fresh-stands : (mode : Mode) (t : Seen) (new : Scans) (answer : Fed Command) → may_stand mode t.meaning ≡ true → Begins (command_meant t.meaning) new answer → Begins (λ more. fresh_command mode (Took t ∷ more)) new answer
+fresh-stands mode t new answer h k = λ m head.
+    alike m head 0 (λ more. fresh_command mode (Took t ∷ more)) (λ more. command_meant t.meaning more) [] new answer
+    (λ more. ap (λ b. cond b (command_meant t.meaning more) (Wrong NotAllowed)) h) (k m head)
+
+pub prefixed-stands : (prefixes : Prefixes) (t : Seen) (new : Scans) (answer : Fed Command) → (is_space t || is_relax t) ≡ false → may_be_prefixed prefixes t.meaning ≡ true → Begins (command_meant t.meaning) new answer → Begins (λ more. prefixed_command prefixes (Took t ∷ more)) new answer
+prefixed-stands prefixes t new answer s h k = λ mode head.
+    alike mode head 0 (λ more. prefixed_command prefixes (Took t ∷ more)) (λ more. command_meant t.meaning more) [] new answer
+    (λ more.
+    ap (λ b. cond b (Done Nothing more) (cond (may_be_prefixed prefixes t.meaning) (command_meant t.meaning more) (Wrong NoAssignment))) s
+    ∙ ap (λ b. cond b (command_meant t.meaning more) (Wrong NoAssignment)) h) (k mode head)
+
+pub first-fresh : (mode : Mode) (head : Head) (t : Seen) (new : Scans) (answer : Fed Command) → head ≡ Fresh → Begins (λ more. fresh_command mode (Took t ∷ more)) new answer → IsBegunBy mode head 1 (λ more. command mode head (Took t ∷ more)) (Took t ∷ []) new answer
+first-fresh mode head t new answer e k = rw e (one-token mode Fresh (λ more. fresh_command mode (Took t ∷ more)) t new answer (k mode Fresh))
+
+pub first-prefixed : (mode : Mode) (head : Head) (prefixes : Prefixes) (t : Seen) (new : Scans) (answer : Fed Command) → head ≡ Prefixed prefixes → Begins (λ more. prefixed_command prefixes (Took t ∷ more)) new answer → IsBegunBy mode head 1 (λ more. command mode head (Took t ∷ more)) (Took t ∷ []) new answer
+first-prefixed mode head prefixes t new answer e k = rw e (one-token mode (Prefixed prefixes) (λ more. prefixed_command prefixes (Took t ∷ more)) t new answer (k mode (Prefixed prefixes)))
+
+pub first-defining : {E : Type 0} (mode : Mode) (head : Head) (prefixes : Prefixes) (name : Place) (kind : Shorthand) (t : Seen) (new : Scans) (answer : Result (Fed Command) E) → head ≡ Defining prefixes name kind → ((m : Mode) (h : Head) → IfOk answer (IsBegunBy m h 1 (λ more. assigning (Named name kind) (Took t ∷ more)) (Took t ∷ []) new)) → IfOk answer (IsBegunBy mode head 1 (λ more. command mode head (Took t ∷ more)) (Took t ∷ []) new)
+first-defining mode head prefixes name kind t new (Ok answer) e k = rw e (k mode (Defining prefixes name kind))
+first-defining mode head prefixes name kind t new (Err error) e k = tt
+
+-- the first of the two tokens behind \futurelet and its name
+second-reads : (mode : Mode) (head : Head) (first : Seen) (new : Scans) (item : Item) (more : List Item) → new.stage ≡ stage.SecondToken → future_second head first (item ∷ more) ≡ command_rest mode head new (ending (held new) (Took first ∷ [])) item more
+second-reads mode head first new (Took t) more is = rw is refl
+second-reads mode head first new (Gave v) more is = rw is refl
+
+pub first-future : (mode : Mode) (head : Head) (prefixes : Prefixes) (name : Place) (t : Seen) (new : Scans) → head ≡ Future prefixes name → new.stage ≡ stage.SecondToken → IsBegunBy mode head 1 (λ more. command mode head (Took t ∷ more)) (Took t ∷ []) new (fed.More Raw)
+first-future mode head prefixes name t new e is = rw e (record {
+  reads = (refl, rw is (omega arith), λ item more. second-reads mode (Future prefixes name) t new item more is);
+  needs = rw is (omega arith);
+  goes_on = rw is tt;
+})
+
+-- the second of them
+second-back : (head : Head) (behind : List Item) (t : Seen) (more : List Item) → length behind ≤ 1 → second_rest head behind (Took t) more ≡ Done (future_of head t) (ending 2 (behind ++ Took t ∷ []) ++ more)
+second-back head [] t more h = refl
+second-back head (item ∷ []) t more h = refl
+second-back head (item ∷ other ∷ behind) t more h = absurd (omega (arith, h))
+
+pub second-fed : {E : Type 0} (mode : Mode) (head : Head) (t : Seen) (old new : Scans) (answer : Result (Fed Command) E) → old.stage ≡ stage.SecondToken → IfOk answer (λ given. given ≡ fed.Done (future_of head t) 2) → IfOk answer (IsFedBy (command_rest mode head) held old t new)
+second-fed mode head t old new (Ok answer) was is = rw is (λ behind h. (rw was (omega arith), λ more. rw was (second-back head behind t more (rw was at h))))
+second-fed mode head t old new (Err error) was is = tt
+
+-- the token that is kept
+pub kept-fed : {E : Type 0} (mode : Mode) (head : Head) (kind : AfterKind) (t : Seen) (old new : Scans) (answer : Result (Fed Command) E) → old.stage ≡ stage.KeptToken kind → IfOk answer (λ given. given ≡ fed.Done (Keep kind t.token) 0) → IfOk answer (IsFedBy (command_rest mode head) held old t new)
+kept-fed mode head kind t old new (Ok answer) was is = rw is (λ behind h. (omega arith, λ more. rw was (ap (λ (xs : List Item). Done (Keep kind t.token) (xs ++ more)) (sym (ending-none (behind ++ Took t ∷ []))))))
+kept-fed mode head kind t old new (Err error) was is = tt
+
+-- an answer that ends a command
+pub end-needs : {E : Type 0} (few most : ℕ) (c : Command) (back : ℕ) (answer : Result (Fed Command) E) → IfOk answer (λ given. given ≡ fed.Done c back) → IfOk answer (NeedsNoMore few most)
+end-needs few most c back (Ok answer) is = rw is tt
+end-needs few most c back (Err error) is = tt
+
+pub end-goes : {E : Type 0} (new : Scans) (c : Command) (back : ℕ) (answer : Result (Fed Command) E) → IfOk answer (λ given. given ≡ fed.Done c back) → IfOk answer (GoesOn new)
+end-goes new c back (Ok answer) is = rw is tt
+end-goes new c back (Err error) is = tt
+
+-- the box of a \shipout
+pub box-there : (kind : BoxKind) (t : Seen) (new : Scans) (answer : Fed Command) → is_undefined t ≡ false → (is_space t || is_relax t) ≡ false → t.meaning ≡ meaning.Command (primitive.Box kind) → Begins (box_begin kind Ship) new answer → Begins (λ more. shipped_box (Took t ∷ more)) new answer
+box-there kind t new answer u s m k = λ mode head.
+    alike mode head 0 (λ more. shipped_box (Took t ∷ more)) (λ more. box_begin kind Ship more) [] new answer
+    (λ more.
+    ap (λ b. cond b (Wrong Undefined) (cond (is_space t || is_relax t) (shipped_box more) (box_meant t.meaning more))) u
+    ∙ (ap (λ b. cond b (shipped_box more) (box_meant t.meaning more)) s
+    ∙ ap (λ meaning. box_meant meaning more) m)) (k mode head)

@@ -1,0 +1,101 @@
+-- The definitions, evaluated on commands that were worked out by hand.
+use Rattle.std.proofs.Common.{◌≡◌, ℕ, true, false, Some, None, List, [], ◌∷◌, ◌++◌, map, pos, neg_ℤ, refl, codes}
+use Rattle.tx_char.specs.declared.tokens.Token.TheVariants as token
+use Rattle.tx_char.specs.Category.{initial_category}
+use Rattle.tx_prim.specs.declared.primitive.Primitive.{Primitive}
+use Rattle.tx_prim.specs.declared.primitive.Primitive.TheVariants as primitive
+use Rattle.tx_prim.specs.declared.family.Numbered.TheVariants as number
+use Rattle.tx_prim.specs.declared.family.Operation.TheVariants.{Advance}
+use Rattle.tx_prim.specs.declared.family.Prefix.TheVariants.{Global}
+use Rattle.tx_prim.specs.declared.family.RuleKind.TheVariants.{Vertical as Vertical_rule}
+use Rattle.tx_prim.specs.declared.family.Shorthand.TheVariants as shorthand
+use Rattle.tx_prim.specs.declared.family.SizeKind.TheVariants.{Kern}
+use Rattle.tx_prim.specs.declared.modes.Mode.TheVariants.{Vertical, RestrictedHorizontal}
+use Rattle.tx_prim.specs.Table.{line_of}
+use Rattle.tx_seen.specs.declared.error.TexError.TheVariants.{NumberOutOfRange, NoAssignment, NotAllowed}
+use Rattle.tx_seen.specs.declared.fed.Kind.TheVariants.{Quantity}
+use Rattle.tx_seen.specs.declared.fed.Value.TheVariants.{Int}
+use Rattle.tx_seen.specs.declared.item.Item.{Item}
+use Rattle.tx_seen.specs.declared.item.Item.TheVariants.{Took, Gave}
+use Rattle.tx_seen.specs.declared.meaning.Meaning.TheVariants as meaning
+use Rattle.tx_seen.specs.declared.place.Place.TheVariants.{Count, Dimen, Name}
+use Rattle.tx_seen.specs.Readings.{Need, Done, Wrong}
+use Rattle.tx_eqtb.specs.declared.entry.Entry.TheVariants.{Number, Means}
+use Rattle.tx_assign.specs.declared.types.Change.TheVariants.{Set, Compute}
+use Rattle.tx_command.specs.declared.types.Command.TheVariants as command
+use Rattle.tx_command.specs.declared.types.Head.TheVariants.{Fresh, Prefixed, Defining}
+use Rattle.tx_command.specs.declared.types.Prefixes.{Prefixes}
+use Rattle.tx_command.specs.Commands.{command as read}
+
+-- characters as INITEX reads them
+abbrev plain : List ℕ → List Item
+plain text = map (λ c. Took (record { token = token.Character c (initial_category c); meaning = meaning.Character c (initial_category c) })) text
+
+-- a name that means this primitive
+abbrev named : List ℕ → Primitive → Item
+named name primitive = Took (record { token = token.Name name; meaning = meaning.Command primitive })
+
+abbrev unprefixed : Prefixes
+unprefixed = record { global = false; long = false; outer = false }
+
+a_rule : read RestrictedHorizontal Fresh (named (codes "vrule") (primitive.Rule Vertical_rule) ∷ plain (codes "width 1pt height 2pt depth 0pt.")) ≡ Done (command.Rule Vertical_rule (record { width = Some (pos 65536); height = Some (pos 131072); depth = Some (pos 0) })) (plain (codes "."))
+unfolding line_of
+a_rule = refl
+
+a_side_that_breaks_off : read RestrictedHorizontal Fresh (named (codes "vrule") (primitive.Rule Vertical_rule) ∷ plain (codes " heigho")) ≡ Done (command.Rule Vertical_rule (record { width = Some (pos 26214); height = None; depth = None })) (plain (codes "heigho"))
+unfolding line_of
+a_side_that_breaks_off = refl
+
+a_kern_in_a_vertical_list : read Vertical Fresh (named (codes "kern") (primitive.Sized Kern) ∷ plain (codes "1pt ")) ≡ Wrong NotAllowed
+unfolding line_of
+a_kern_in_a_vertical_list = refl
+
+a_register : read Vertical Fresh (named (codes "count") (primitive.Numbered number.Count) ∷ plain (codes "1=5x")) ≡ Done (command.Assign (record { place = Count 1; change = Set (Number (pos 5)) })) (plain (codes "x"))
+unfolding line_of
+a_register = refl
+
+-- the number of a register that stands in another one
+a_value_that_is_needed : read Vertical Fresh (named (codes "count") (primitive.Numbered number.Count) ∷ named (codes "count") (primitive.Numbered number.Count) ∷ plain (codes "7=")) ≡ Need (Quantity (Count 7))
+unfolding line_of
+a_value_that_is_needed = refl
+
+its_value : read Vertical Fresh ((named (codes "count") (primitive.Numbered number.Count) ∷ named (codes "count") (primitive.Numbered number.Count) ∷ plain (codes "7=")) ++ Gave (Int (pos 3)) ∷ plain (codes "12 ")) ≡ Done (command.Assign (record { place = Count 3; change = Set (Number (pos 12)) })) []
+unfolding line_of
+its_value = refl
+
+a_prefix : read Vertical Fresh (named (codes "global") (primitive.Prefix Global) ∷ []) ≡ Done (command.Prefix Global) []
+unfolding line_of
+a_prefix = refl
+
+an_advance : read Vertical (Prefixed (record { global = true; long = false; outer = false })) (named (codes "advance") (primitive.Arithmetic Advance) ∷ named (codes "count") (primitive.Numbered number.Count) ∷ plain (codes "12 by-3 ")) ≡ Done (command.Assign (record { place = Count 12; change = Compute Advance (neg_ℤ (pos 3)) })) []
+an_advance = refl
+
+a_dimension : read RestrictedHorizontal Fresh (named (codes "dimen") (primitive.Numbered number.Dimen) ∷ plain (codes "7 .5pt ")) ≡ Done (command.Assign (record { place = Dimen 7; change = Set (Number (pos 32768)) })) []
+unfolding line_of
+a_dimension = refl
+
+a_name_that_is_defined : read Vertical Fresh (named (codes "chardef") (primitive.Shorthand shorthand.Character) ∷ named (codes "a") primitive.Relax ∷ []) ≡ Done (command.Define (Name (codes "a")) shorthand.Character) []
+unfolding line_of
+a_name_that_is_defined = refl
+
+its_number : read Vertical (Defining unprefixed (Name (codes "a")) shorthand.Character) (plain (codes "=65 ")) ≡ Done (command.Assign (record { place = Name (codes "a"); change = Set (Means (meaning.CharacterNumber 65)) })) []
+its_number = refl
+
+a_category_of_16 : read Vertical Fresh (named (codes "catcode") (primitive.Numbered number.Category) ∷ plain (codes "`x=16 ")) ≡ Wrong NumberOutOfRange
+unfolding line_of
+a_category_of_16 = refl
+
+a_space_behind_a_prefix : read Vertical (Prefixed (record { global = true; long = false; outer = false })) (plain (codes " ")) ≡ Done command.Nothing []
+a_space_behind_a_prefix = refl
+
+a_letter_behind_a_prefix : read Vertical (Prefixed (record { global = true; long = false; outer = false })) (plain (codes "x")) ≡ Wrong NoAssignment
+a_letter_behind_a_prefix = refl
+
+-- behind \ignorespaces: what ends the spaces is read again, but for what \noexpand holds
+spaces_before_a_letter : read Vertical Fresh (named (codes "ignorespaces") primitive.IgnoreSpaces ∷ plain (codes "  x")) ≡ Done command.Nothing (plain (codes "x"))
+unfolding line_of
+spaces_before_a_letter = refl
+
+spaces_before_a_held_name : read Vertical Fresh (named (codes "ignorespaces") primitive.IgnoreSpaces ∷ plain (codes "  ") ++ Took (record { token = token.Name (codes "a"); meaning = meaning.Held }) ∷ plain (codes "x")) ≡ Done command.Nothing (plain (codes "x"))
+unfolding line_of
+spaces_before_a_held_name = refl

@@ -1,0 +1,55 @@
+use Rattle.std.proofs.Common.{refl, ap, ◌∙◌}
+use Rattle.tx_seen.specs.declared.fed.Want.TheVariants.{Raw}
+use Rattle.tx_command.specs.declared.types.BoxContext.TheVariants.{Append}
+use Rattle.tx_command.proofs.Stages.{future-begun, kept-begun, macro-begun, name-begun, size-begun, rule-begun, box-begun, shipped-begun, spaces-begun}
+use Rattle.tx_command.proofs.scans.Scans.begin_primitive.Goals as goal
+
+pub returns-in-Let : goal.returns-in-Let
+returns-in-Let c = rw c.in-Let.is c.begin_assignment.ensures
+
+pub returns-in-Arithmetic : goal.returns-in-Arithmetic
+returns-in-Arithmetic c = rw c.in-Arithmetic.is c.begin_assignment-in-Arithmetic.ensures
+
+pub returns-in-Numbered : goal.returns-in-Numbered
+returns-in-Numbered c = rw c.in-Numbered.is c.begin_variable.ensures
+
+pub returns-in-Integer : goal.returns-in-Integer
+returns-in-Integer c = rw c.in-Integer.is c.begin_place.ensures
+
+pub returns-in-Dimension : goal.returns-in-Dimension
+returns-in-Dimension c = rw c.in-Dimension.is c.begin_place-in-Dimension.ensures
+
+pub returns-in-Tokens : goal.returns-in-Tokens
+returns-in-Tokens c = rw c.in-Tokens.is c.begin_place-in-Tokens.ensures
+
+pub returns-in-Shorthand : goal.returns-in-Shorthand
+returns-in-Shorthand c = rw (c.in-Shorthand.is, c.on.ensures.answer) (name-begun c.in-Shorthand.kind c.on.new.self Raw refl (ap (λ scans. scans.stage) c.on.ensures.scans))
+
+pub returns-in-Sized : goal.returns-in-Sized
+returns-in-Sized c =
+    rw (c.in-Sized.is, c.on-in-Sized.ensures.answer)
+    (size-begun c.in-Sized.kind c.on-in-Sized.new.self (ap (λ scans. scans.stage) c.on-in-Sized.ensures.scans) (ap (λ scans. scans.size) c.on-in-Sized.ensures.scans ∙ c.restart.ensures.scan))
+
+pub returns-in-Rule : goal.returns-in-Rule
+returns-in-Rule c =
+    rw (c.in-Rule.is, c.on-in-Rule.ensures.answer)
+    (rule-begun c.in-Rule.kind c.on-in-Rule.new.self (ap (λ scans. scans.stage) c.on-in-Rule.ensures.scans)
+    (ap (λ scans. scans.rule.rule) c.on-in-Rule.ensures.scans ∙ c.begin.ensures.rule) (ap (λ scans. scans.rule.part) c.on-in-Rule.ensures.scans ∙ c.begin.ensures.part))
+
+pub returns-in-Box : goal.returns-in-Box
+returns-in-Box c = rw (c.in-Box.is, c.on-in-Box.ensures.answer) (box-begun c.in-Box.kind Append c.on-in-Box.new.self (ap (λ scans. scans.stage) c.on-in-Box.ensures.scans))
+
+pub returns-in-Shipout : goal.returns-in-Shipout
+returns-in-Shipout c = rw (c.in-Shipout.is, c.on-in-Shipout.ensures.answer) (shipped-begun c.on-in-Shipout.new.self (ap (λ scans. scans.stage) c.on-in-Shipout.ensures.scans))
+
+pub returns-in-IgnoreSpaces : goal.returns-in-IgnoreSpaces
+returns-in-IgnoreSpaces c = rw (c.in-IgnoreSpaces.is, c.on-in-IgnoreSpaces.ensures.answer) (spaces-begun c.on-in-IgnoreSpaces.new.self (ap (λ scans. scans.stage) c.on-in-IgnoreSpaces.ensures.scans))
+
+pub returns-in-Definition : goal.returns-in-Definition
+returns-in-Definition c = rw (c.in-Definition.is, c.on-in-Definition.ensures.answer) (macro-begun c.in-Definition.kind c.on-in-Definition.new.self (ap (λ scans. scans.stage) c.on-in-Definition.ensures.scans))
+
+pub returns-in-After : goal.returns-in-After
+returns-in-After c = rw (c.in-After.is, c.on-in-After.ensures.answer) (kept-begun c.in-After.kind c.on-in-After.new.self (ap (λ scans. scans.stage) c.on-in-After.ensures.scans))
+
+pub returns-in-FutureLet : goal.returns-in-FutureLet
+returns-in-FutureLet c = rw (c.in-FutureLet.is, c.on-in-FutureLet.ensures.answer) (future-begun c.on-in-FutureLet.new.self (ap (λ scans. scans.stage) c.on-in-FutureLet.ensures.scans))

@@ -1,0 +1,142 @@
+use Rattle.std.proofs.Common.{refl}
+use Rattle.tx_scan.specs.DimensionRests.{rest as dimen_rest}
+use Rattle.tx_scan.specs.GrammarRests.{held_none, name_rest, brace_rest}
+use Rattle.tx_assign.specs.Rests.{rest as assign_rest, held as assign_held}
+use Rattle.tx_command.specs.declared.scans.Stage.TheVariants as stage
+use Rattle.tx_command.specs.declared.types.Command.TheVariants.{Assign, Define, DefineFuture, DefineMacro, Sized, Rule, BeginBox}
+use Rattle.tx_command.specs.Rests.{rule_rest, rule_held}
+use Rattle.tx_command.proofs.Stages.{part-fed, part-needs, part-goes, size-goes, rule-goes, assign-needs, assign-goes, start-fed, start-needs, start-goes, box-fed, space-fed, end-goes, end-needs, kept-fed, second-fed}
+use Rattle.tx_command.proofs.scans.Scans.feed.Goals as goal
+
+pub returns-in-Start-clause-fed : goal.returns-in-Start-clause-fed
+returns-in-Start-clause-fed c =
+    start-fed c.args.mode c.args.head.now c.args.token.now c.args.self.now c.feed_first.new.self c.feed_first.result c.in-Start.is c.feed_first.ensures
+
+pub returns-in-Start-clause-needs : goal.returns-in-Start-clause-needs
+returns-in-Start-clause-needs c =
+    start-needs c.args.mode c.args.head.now c.args.token.now c.args.self.now c.feed_first.new.self c.feed_first.result c.in-Start.is c.feed_first.ensures
+
+pub returns-in-Start-clause-on : goal.returns-in-Start-clause-on
+returns-in-Start-clause-on c = start-goes c.args.mode c.args.head.now c.args.token.now c.feed_first.new.self c.feed_first.result c.feed_first.ensures
+
+pub returns-in-ShippedBox-clause-fed : goal.returns-in-ShippedBox-clause-fed
+returns-in-ShippedBox-clause-fed c =
+    box-fed c.args.mode c.args.head.now c.args.token.now c.args.self.now c.feed_box.new.self c.feed_box.result c.in-ShippedBox.is (c.feed_box.ensures c.args.mode c.args.head.now)
+
+pub returns-in-ShippedBox-clause-needs : goal.returns-in-ShippedBox-clause-needs
+returns-in-ShippedBox-clause-needs c = rw c.in-ShippedBox.is (c.feed_box.ensures c.args.mode c.args.head.now).needs
+
+pub returns-in-ShippedBox-clause-on : goal.returns-in-ShippedBox-clause-on
+returns-in-ShippedBox-clause-on c = (c.feed_box.ensures c.args.mode c.args.head.now).goes_on
+
+pub returns-in_ok-feed-in-Assign-clause-fed : goal.returns-in_ok-feed-in-Assign-clause-fed
+returns-in_ok-feed-in-Assign-clause-fed c =
+    rw c.assigned.ensures
+    (part-fed assign_rest assign_held Assign stage.Assign c.args.mode c.args.head.now c.args.self.now.assignment c.feed.new.self c.args.self.now _ c.args.token.now c.in_ok-feed-in-Assign.field-0 c.in-Assign.is c.in-Assign.is
+    (λ behind item more. refl) refl (λ behind item more. refl) refl c.in_ok-feed-in-Assign.ensures.part)
+
+pub returns-in_ok-feed-in-Assign-clause-needs : goal.returns-in_ok-feed-in-Assign-clause-needs
+returns-in_ok-feed-in-Assign-clause-needs c = rw c.assigned.ensures (assign-needs c.args.self.now _ c.in_ok-feed-in-Assign.field-0 c.in-Assign.is c.in-Assign.is c.in_ok-feed-in-Assign.ensures.needed)
+
+pub returns-in_ok-feed-in-Assign-clause-on : goal.returns-in_ok-feed-in-Assign-clause-on
+returns-in_ok-feed-in-Assign-clause-on c = rw c.assigned.ensures (assign-goes _ c.in_ok-feed-in-Assign.field-0 c.in-Assign.is)
+
+pub returns-in_ok-feed-in-Name-clause-fed : goal.returns-in_ok-feed-in-Name-clause-fed
+returns-in_ok-feed-in-Name-clause-fed c =
+    rw c.defined.ensures
+    (part-fed name_rest held_none (λ name. Define name c.in-Name.kind) (stage.Name c.in-Name.kind) c.args.mode c.args.head.now c.new.result c.feed-in-Name.new.self c.args.self.now _ c.args.token.now c.in_ok-feed-in-Name.field-0 c.in-Name.is c.in-Name.is
+    (λ behind item more. refl) refl (λ behind item more. refl) refl c.in_ok-feed-in-Name.ensures.part)
+
+pub returns-in_ok-feed-in-Name-clause-needs : goal.returns-in_ok-feed-in-Name-clause-needs
+returns-in_ok-feed-in-Name-clause-needs c = part-needs c.args.self.now _ c.defined.result (rw c.in-Name.is refl)
+
+pub returns-in_ok-feed-in-Name-clause-on : goal.returns-in_ok-feed-in-Name-clause-on
+returns-in_ok-feed-in-Name-clause-on c = rw c.defined.ensures (part-goes (λ name. Define name c.in-Name.kind) (stage.Name c.in-Name.kind) c.args.self.now c.in_ok-feed-in-Name.field-0 c.in-Name.is tt c.in_ok-feed-in-Name.ensures.nothing)
+
+pub returns-in_ok-feed-in-Sized-clause-fed : goal.returns-in_ok-feed-in-Sized-clause-fed
+returns-in_ok-feed-in-Sized-clause-fed c =
+    rw c.sized.ensures
+    (part-fed dimen_rest held_none (λ measure. Sized c.in-Sized.kind measure.size) (stage.Sized c.in-Sized.kind) c.args.mode c.args.head.now c.args.self.now.size c.feed-in-Sized.new.self c.args.self.now _ c.args.token.now c.in_ok-feed-in-Sized.field-0 c.in-Sized.is c.in-Sized.is
+    (λ behind item more. refl) refl (λ behind item more. refl) refl c.in_ok-feed-in-Sized.ensures.part)
+
+pub returns-in_ok-feed-in-Sized-clause-needs : goal.returns-in_ok-feed-in-Sized-clause-needs
+returns-in_ok-feed-in-Sized-clause-needs c = part-needs c.args.self.now _ c.sized.result (rw c.in-Sized.is refl)
+
+pub returns-in_ok-feed-in-Sized-clause-on : goal.returns-in_ok-feed-in-Sized-clause-on
+returns-in_ok-feed-in-Sized-clause-on c = rw c.sized.ensures (size-goes (λ measure. Sized c.in-Sized.kind measure.size) (stage.Sized c.in-Sized.kind) (record c.args.self.now { size = c.feed-in-Sized.new.self }) c.in_ok-feed-in-Sized.field-0 c.in-Sized.is tt c.in_ok-feed-in-Sized.ensures.size)
+
+pub returns-in_ok-feed-in-Rule-clause-fed : goal.returns-in_ok-feed-in-Rule-clause-fed
+returns-in_ok-feed-in-Rule-clause-fed c =
+    rw c.ruled.ensures
+    (part-fed rule_rest rule_held (λ rule. Rule c.in-Rule.kind rule) (stage.Rule c.in-Rule.kind) c.args.mode c.args.head.now c.args.self.now.rule c.feed-in-Rule.new.self c.args.self.now _ c.args.token.now c.in_ok-feed-in-Rule.field-0 c.in-Rule.is c.in-Rule.is
+    (λ behind item more. refl) refl (λ behind item more. refl) refl c.in_ok-feed-in-Rule.ensures.fed)
+
+pub returns-in_ok-feed-in-Rule-clause-needs : goal.returns-in_ok-feed-in-Rule-clause-needs
+returns-in_ok-feed-in-Rule-clause-needs c = part-needs c.args.self.now _ c.ruled.result (rw c.in-Rule.is refl)
+
+pub returns-in_ok-feed-in-Rule-clause-on : goal.returns-in_ok-feed-in-Rule-clause-on
+returns-in_ok-feed-in-Rule-clause-on c = rw c.ruled.ensures (rule-goes (λ rule. Rule c.in-Rule.kind rule) c.in-Rule.kind _ c.in_ok-feed-in-Rule.field-0 c.in-Rule.is c.in_ok-feed-in-Rule.ensures.on)
+
+pub returns-in-BoxBegin-clause-fed : goal.returns-in-BoxBegin-clause-fed
+returns-in-BoxBegin-clause-fed c =
+    rw c.begun_box.ensures
+    (part-fed brace_rest held_none (λ _. BeginBox c.in-BoxBegin.kind c.in-BoxBegin.context) (stage.BoxBegin c.in-BoxBegin.kind c.in-BoxBegin.context) c.args.mode c.args.head.now c.new-in-BoxBegin.result c.feed-in-BoxBegin.new.self c.args.self.now _ c.args.token.now c.feed-in-BoxBegin.result c.in-BoxBegin.is c.in-BoxBegin.is
+    (λ behind item more. refl) refl (λ behind item more. refl) refl c.feed-in-BoxBegin.ensures.part)
+
+pub returns-in-BoxBegin-clause-needs : goal.returns-in-BoxBegin-clause-needs
+returns-in-BoxBegin-clause-needs c = part-needs c.args.self.now _ c.begun_box.result (rw c.in-BoxBegin.is refl)
+
+pub returns-in-BoxBegin-clause-on : goal.returns-in-BoxBegin-clause-on
+returns-in-BoxBegin-clause-on c = rw c.begun_box.ensures (part-goes (λ _. BeginBox c.in-BoxBegin.kind c.in-BoxBegin.context) (stage.BoxBegin c.in-BoxBegin.kind c.in-BoxBegin.context) c.args.self.now c.feed-in-BoxBegin.result c.in-BoxBegin.is tt c.feed-in-BoxBegin.ensures.nothing)
+
+pub returns-in-Spaces-clause-fed : goal.returns-in-Spaces-clause-fed
+returns-in-Spaces-clause-fed c =
+    space-fed c.args.mode c.args.head.now c.args.token.now c.args.self.now c.args.self.now c.feed_space.result c.in-Spaces.is (c.feed_space.ensures c.args.mode c.args.head.now)
+
+pub returns-in-Spaces-clause-needs : goal.returns-in-Spaces-clause-needs
+returns-in-Spaces-clause-needs c = part-needs c.args.self.now c.args.self.now c.feed_space.result (rw c.in-Spaces.is refl)
+
+pub returns-in-Spaces-clause-on : goal.returns-in-Spaces-clause-on
+returns-in-Spaces-clause-on c = (c.feed_space.ensures c.args.mode c.args.head.now).goes_on
+
+pub returns-in_ok-feed-in-MacroName-clause-fed : goal.returns-in_ok-feed-in-MacroName-clause-fed
+returns-in_ok-feed-in-MacroName-clause-fed c =
+    rw c.macro_defined.ensures
+    (part-fed name_rest held_none (λ name. DefineMacro name c.in-MacroName.kind) (stage.MacroName c.in-MacroName.kind) c.args.mode c.args.head.now c.new-in-MacroName.result c.feed-in-MacroName.new.self c.args.self.now _ c.args.token.now c.in_ok-feed-in-MacroName.field-0 c.in-MacroName.is c.in-MacroName.is
+    (λ behind item more. refl) refl (λ behind item more. refl) refl c.in_ok-feed-in-MacroName.ensures.part)
+
+pub returns-in_ok-feed-in-MacroName-clause-needs : goal.returns-in_ok-feed-in-MacroName-clause-needs
+returns-in_ok-feed-in-MacroName-clause-needs c = part-needs c.args.self.now _ c.macro_defined.result (rw c.in-MacroName.is refl)
+
+pub returns-in_ok-feed-in-MacroName-clause-on : goal.returns-in_ok-feed-in-MacroName-clause-on
+returns-in_ok-feed-in-MacroName-clause-on c = rw c.macro_defined.ensures (part-goes (λ name. DefineMacro name c.in-MacroName.kind) (stage.MacroName c.in-MacroName.kind) c.args.self.now c.in_ok-feed-in-MacroName.field-0 c.in-MacroName.is tt c.in_ok-feed-in-MacroName.ensures.nothing)
+
+pub returns-in_ok-feed-in-FutureName-clause-fed : goal.returns-in_ok-feed-in-FutureName-clause-fed
+returns-in_ok-feed-in-FutureName-clause-fed c =
+    rw c.future_defined.ensures
+    (part-fed name_rest held_none DefineFuture stage.FutureName c.args.mode c.args.head.now c.new-in-FutureName.result c.feed-in-FutureName.new.self c.args.self.now _ c.args.token.now c.in_ok-feed-in-FutureName.field-0 c.in-FutureName.is c.in-FutureName.is
+    (λ behind item more. refl) refl (λ behind item more. refl) refl c.in_ok-feed-in-FutureName.ensures.part)
+
+pub returns-in_ok-feed-in-FutureName-clause-needs : goal.returns-in_ok-feed-in-FutureName-clause-needs
+returns-in_ok-feed-in-FutureName-clause-needs c = part-needs c.args.self.now _ c.future_defined.result (rw c.in-FutureName.is refl)
+
+pub returns-in_ok-feed-in-FutureName-clause-on : goal.returns-in_ok-feed-in-FutureName-clause-on
+returns-in_ok-feed-in-FutureName-clause-on c = rw c.future_defined.ensures (part-goes DefineFuture stage.FutureName c.args.self.now c.in_ok-feed-in-FutureName.field-0 c.in-FutureName.is tt c.in_ok-feed-in-FutureName.ensures.nothing)
+
+pub returns-in-SecondToken-clause-fed : goal.returns-in-SecondToken-clause-fed
+returns-in-SecondToken-clause-fed c = second-fed c.args.mode c.args.head.now c.args.token.now c.args.self.now c.args.self.now c.feed_second.result c.in-SecondToken.is c.feed_second.ensures
+
+pub returns-in-SecondToken-clause-needs : goal.returns-in-SecondToken-clause-needs
+returns-in-SecondToken-clause-needs c = end-needs _ _ _ _ c.feed_second.result c.feed_second.ensures
+
+pub returns-in-SecondToken-clause-on : goal.returns-in-SecondToken-clause-on
+returns-in-SecondToken-clause-on c = end-goes c.args.self.now _ _ c.feed_second.result c.feed_second.ensures
+
+pub returns-in-KeptToken-clause-fed : goal.returns-in-KeptToken-clause-fed
+returns-in-KeptToken-clause-fed c = kept-fed c.args.mode c.args.head.now c.in-KeptToken.kind c.args.token.now c.args.self.now c.args.self.now c.feed_kept.result c.in-KeptToken.is c.feed_kept.ensures
+
+pub returns-in-KeptToken-clause-needs : goal.returns-in-KeptToken-clause-needs
+returns-in-KeptToken-clause-needs c = end-needs _ _ _ _ c.feed_kept.result c.feed_kept.ensures
+
+pub returns-in-KeptToken-clause-on : goal.returns-in-KeptToken-clause-on
+returns-in-KeptToken-clause-on c = end-goes c.args.self.now _ _ c.feed_kept.result c.feed_kept.ensures

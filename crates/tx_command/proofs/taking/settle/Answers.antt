@@ -1,0 +1,30 @@
+use Rattle.tx_eqtb.specs.Quantities.{value_in}
+use Rattle.tx_scan.specs.Rests.{HasTakenBy}
+use Rattle.tx_scan.proofs.Settling.{value-pending, pending-settled}
+use Rattle.tx_command.specs.Commands.{command}
+use Rattle.tx_command.specs.Rests.{command_rest, held, more_needed}
+use Rattle.tx_command.proofs.taking.settle.Goals as goal
+
+pub loop-fed-preserved-in_ok-fed-in-Need : goal.loop-fed-preserved-in_ok-fed-in-Need
+loop-fed-preserved-in_ok-fed-in-Need c = record {
+  pending = λ mode head items p.
+      rw c.in_ok-fed-in-Need.ensures.taken
+      (value-pending (value_in c.args.table.now) (command_rest mode head) held more_needed (command mode head) items c.loop-fed.taken c.in-Need.kind c.loop-fed.scans c.give.new.scans c.in_ok-fed-in-Need.fed
+      (rw c.in-Need.is at (c.loop-fed.invariant.pending mode head items p))
+      (c.in_ok-fed-in-Need.ensures.given mode head) c.in_ok-fed-in-Need.ensures.needs);
+  on = c.in_ok-fed-in-Need.ensures.on;
+}
+
+pub loop-fed-preserved : goal.loop-fed-preserved
+loop-fed-preserved c = record {
+  pending = λ mode head items p.
+      rw c.in_ok-fed-in-Need.ensures.taken
+      (value-pending (value_in c.args.table.now) (command_rest mode head) held more_needed (command mode head) items c.loop-fed.taken c.in-Need.kind c.loop-fed.scans c.give.new.scans c.in_ok-fed-in-Need.fed
+      (rw c.in-Need.is at (c.loop-fed.invariant.pending mode head items p))
+      (c.in_ok-fed-in-Need.ensures.given mode head) c.in_ok-fed-in-Need.ensures.needs);
+  on = c.in_ok-fed-in-Need.ensures.on;
+}
+
+pub returns-in_default-clause-settled : goal.returns-in_default-clause-settled
+returns-in_default-clause-settled c = λ mode head items p.
+    pending-settled (value_in c.args.table.now) (command mode head) (HasTakenBy (command_rest mode head) held (command mode head)) more_needed items c.loop-fed.taken c.loop-fed.scans c.loop-fed.fed c.in_default.not-Need (c.loop-fed.invariant.pending mode head items p)

@@ -1,0 +1,26 @@
+use Rattle.tx_eqtb.specs.Quantities.{value_in}
+use Rattle.tx_scan.proofs.Settling.{token-pending}
+use Rattle.tx_command.specs.Commands.{command}
+use Rattle.tx_command.specs.Rests.{command_rest, held, more_needed}
+use Rattle.tx_command.specs.Taken.{joined}
+use Rattle.tx_command.proofs.Settling.{token-ends}
+use Rattle.tx_command.proofs.taking.take.Goals as goal
+
+pub returns-in_ok-push-in-More-clause-settled : goal.returns-in_ok-push-in-More-clause-settled
+returns-in_ok-push-in-More-clause-settled c =
+    rw c.in_ok-push-in-More.ensures.ok
+    (rw c.in-More.is at
+    (token-pending (value_in c.args.table.now) (command_rest c.args.mode c.args.head.now) held more_needed (command c.args.mode c.args.head.now) c.args.taken.now c.args.token c.args.scans.now c.feed.new.self c.in_ok-fed.fed
+    c.requires.reads c.requires.few c.in_ok-fed.ensures.fed c.in_ok-fed.ensures.needs))
+
+pub returns-then-is_end-clause-settled : goal.returns-then-is_end-clause-settled
+returns-then-is_end-clause-settled c =
+    token-ends (value_in c.args.table.now) c.args.mode c.args.head.now c.args.taken.now c.args.token c.args.scans.now c.feed.new.self c.in_ok-fed.fed (c.is_end.ensures.0 c.if-is_end.true)
+    c.requires.reads c.requires.few c.in_ok-fed.ensures.fed c.in_ok-fed.ensures.needs
+
+pub returns-in_ok-push-in_default-clause-settled : goal.returns-in_ok-push-in_default-clause-settled
+returns-in_ok-push-in_default-clause-settled c =
+    c.settle.ensures.settled c.args.mode c.args.head.now (joined (value_in c.args.table.now) c.args.mode c.args.head.now c.args.taken.now c.args.token)
+    (rw c.in_ok-push-in_default.ensures.ok
+    (token-pending (value_in c.args.table.now) (command_rest c.args.mode c.args.head.now) held more_needed (command c.args.mode c.args.head.now) c.args.taken.now c.args.token c.args.scans.now c.feed.new.self c.in_ok-fed.fed
+    c.requires.reads c.requires.few c.in_ok-fed.ensures.fed c.in_ok-fed.ensures.needs))

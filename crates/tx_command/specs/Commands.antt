@@ -1,0 +1,252 @@
+-- The commands, as items at the front of a list (TeX: The Program, part 46 on; The TeXbook, chapters 24 to 26): first the mode, then
+-- what the command takes, by its family.
+use Rattle.std.specs.Prelude.{ℕ, ◌∷◌, [], ◌||◌, Bool, true, false, not, List, if◌then◌else◌}
+use Rattle.tx_char.specs.declared.category.Cat.{Cat}
+use Rattle.tx_char.specs.declared.category.Cat.TheVariants as category
+use Rattle.tx_prim.specs.declared.family.AfterKind.{AfterKind}
+use Rattle.tx_prim.specs.declared.family.BoxKind.{BoxKind}
+use Rattle.tx_prim.specs.declared.family.DefinitionKind.{DefinitionKind}
+use Rattle.tx_prim.specs.declared.family.RuleKind.{RuleKind}
+use Rattle.tx_prim.specs.declared.family.Shorthand.{Shorthand}
+use Rattle.tx_prim.specs.declared.family.SizeKind.{SizeKind}
+use Rattle.tx_prim.specs.declared.modes.Mode.{Mode}
+use Rattle.tx_prim.specs.declared.primitive.Primitive.{Primitive}
+use Rattle.tx_prim.specs.declared.primitive.Primitive.TheVariants as primitive
+use Rattle.tx_seen.specs.declared.error.TexError.TheVariants.{Undefined, NoAssignment, NotAllowed, MisplacedAlignment, MissingBox, BadName}
+use Rattle.tx_seen.specs.declared.fed.Want.TheVariants.{Raw, Expanded}
+use Rattle.tx_seen.specs.declared.item.Item.{Item}
+use Rattle.tx_seen.specs.declared.item.Item.TheVariants.{Took, Gave}
+use Rattle.tx_seen.specs.declared.meaning.Meaning.{Meaning}
+use Rattle.tx_seen.specs.declared.meaning.Meaning.TheVariants as meaning
+use Rattle.tx_seen.specs.declared.place.Place.TheVariants as place
+use Rattle.tx_seen.specs.declared.seen.Seen.{Seen}
+use Rattle.tx_seen.specs.Seen.{is_space, is_relax}
+use Rattle.tx_seen.specs.Readings.{Reading, More, Done, Wrong, next}
+use Rattle.tx_scan.specs.Dimensions.{dimension, lengths}
+use Rattle.tx_scan.specs.Grammars.{left_brace, name}
+use Rattle.tx_scan.specs.Integers.{expanded}
+use Rattle.tx_assign.specs.declared.types.Assigning.{Assigning}
+use Rattle.tx_assign.specs.declared.types.Assigning.TheVariants as assign
+use Rattle.tx_assign.specs.declared.types.Variable.TheVariants.{Numbered, Standing}
+use Rattle.tx_assign.specs.Assignments.{assignment, let_to}
+use Rattle.tx_command.specs.declared.types.BoxContext.{BoxContext}
+use Rattle.tx_command.specs.declared.types.BoxContext.TheVariants.{Append, Ship}
+use Rattle.tx_command.specs.declared.types.Command.{Command}
+use Rattle.tx_command.specs.declared.types.Command.TheVariants.{Nothing, Space, Character, BeginGroup, EndGroup, BeginSemiSimple, EndSemiSimple, Prefix, Define, Assign, Sized, Rule, BeginBox, End, Interact, DefineMacro, BeginText, DefineFuture, Keep}
+use Rattle.tx_command.specs.declared.types.Head.{Head}
+use Rattle.tx_command.specs.declared.types.Head.TheVariants.{Fresh, Prefixed, Defining, Future}
+use Rattle.tx_command.specs.declared.types.Prefixes.{Prefixes}
+use Rattle.tx_command.specs.Rules.{plain_rule, rule_sides}
+use Rattle.tx_command.specs.Standing.{may_stand}
+
+-- an assignment
+abbrev pub assigning : Assigning → List Item → Reading Command
+assigning begun items = next (assignment begun items) (λ a behind. Done (Assign a) behind)
+
+-- the begin-group token of a box
+abbrev pub box_begin : BoxKind → BoxContext → List Item → Reading Command
+box_begin kind context items = next (left_brace items) (λ _ behind. Done (BeginBox kind context) behind)
+
+-- the box that \shipout needs
+abbrev pub box_meant : Meaning → List Item → Reading Command
+box_meant (meaning.Command (primitive.Box kind)) rest = box_begin kind Ship rest
+box_meant _ rest = Wrong MissingBox
+
+-- with spaces and \relax before it
+abbrev pub shipped_box : List Item → Reading Command
+shipped_box [] = More Expanded
+shipped_box (Gave v ∷ rest) = Wrong MissingBox
+shipped_box (Took t ∷ rest) = expanded t (if is_space t || is_relax t then shipped_box rest else box_meant t.meaning rest)
+
+-- whether a token that means this is one that \noexpand holds
+abbrev pub is_held : Meaning → Bool
+is_held meaning.Held = true
+is_held _ = false
+
+-- spaces, which are skipped; what ends them is the next command, and a held token is carried out as it came, so that nothing
+-- comes of it (TeX: The Program, section 1045)
+abbrev pub skipping : List Item → Reading Command
+skipping [] = More Expanded
+skipping (Gave v ∷ rest) = Done Nothing (Gave v ∷ rest)
+skipping (Took t ∷ rest) =
+    expanded t (
+    if is_space t then skipping rest
+    else if is_held t.meaning then Done Nothing rest
+    else Done Nothing (Took t ∷ rest))
+
+-- the name that \chardef or its kin defines
+abbrev pub defining : Shorthand → List Item → Reading Command
+defining kind items = next (name items) (λ defined behind. Done (Define defined kind) behind)
+
+-- the name that \def or its kin defines
+abbrev pub macro_defining : DefinitionKind → List Item → Reading Command
+macro_defining kind items = next (name items) (λ defined behind. Done (DefineMacro defined kind) behind)
+
+-- the name that \futurelet defines
+abbrev pub future_defining : List Item → Reading Command
+future_defining items = next (name items) (λ defined behind. Done (DefineFuture defined) behind)
+
+-- the token that is kept for later
+abbrev pub keeping : AfterKind → List Item → Reading Command
+keeping kind [] = More Raw
+keeping kind (Gave v ∷ rest) = Wrong NotAllowed
+keeping kind (Took t ∷ rest) = Done (Keep kind t.token) rest
+
+-- the size of a kern
+abbrev pub sizing : SizeKind → List Item → Reading Command
+sizing kind items = next (dimension lengths items) (λ measure behind. Done (Sized kind measure.size) behind)
+
+-- the sides of a rule
+abbrev pub ruling : RuleKind → List Item → Reading Command
+ruling kind items = next (rule_sides (plain_rule kind) items) (λ rule behind. Done (Rule kind rule) behind)
+
+-- a character, or a name that \let has made mean one, by its category
+abbrev pub character_command : ℕ → Cat → List Item → Reading Command
+character_command code category.BeginGroup rest = Done BeginGroup rest
+character_command code category.EndGroup rest = Done EndGroup rest
+character_command code category.Space rest = Done Space rest
+character_command code category.Letter rest = Done (Character code) rest
+character_command code category.Other rest = Done (Character code) rest
+character_command code category.AlignmentTab rest = Wrong MisplacedAlignment
+character_command code category.MathShift rest = Wrong NotAllowed
+character_command code category.Superscript rest = Wrong NotAllowed
+character_command code category.Subscript rest = Wrong NotAllowed
+character_command code category.Parameter rest = Wrong NotAllowed
+character_command code category.Escape rest = Wrong NotAllowed
+character_command code category.EndOfLine rest = Wrong NotAllowed
+character_command code category.Ignored rest = Wrong NotAllowed
+character_command code category.Active rest = Wrong NotAllowed
+character_command code category.Comment rest = Wrong NotAllowed
+character_command code category.Invalid rest = Wrong NotAllowed
+
+-- what a primitive takes behind it, by its family
+abbrev pub family_command : Primitive → List Item → Reading Command
+family_command primitive.Relax rest = Done Nothing rest
+family_command primitive.EndCsName rest = Wrong BadName
+family_command primitive.Par rest = Done Nothing rest
+family_command primitive.BeginGroup rest = Done BeginSemiSimple rest
+family_command primitive.EndGroup rest = Done EndSemiSimple rest
+family_command (primitive.Prefix prefix) rest = Done (Prefix prefix) rest
+family_command primitive.Let rest = assigning assign.Let rest
+family_command (primitive.Shorthand kind) rest = defining kind rest
+family_command (primitive.Arithmetic operation) rest = assigning (assign.Arithmetic operation) rest
+family_command (primitive.Numbered kind) rest = assigning (assign.Variable (Numbered kind)) rest
+family_command (primitive.Integer parameter) rest = assigning (assign.Variable (Standing (place.Integer parameter))) rest
+family_command (primitive.Dimension parameter) rest = assigning (assign.Variable (Standing (place.Dimension parameter))) rest
+family_command (primitive.Tokens parameter) rest = assigning (assign.Variable (Standing (place.Tokens parameter))) rest
+family_command (primitive.Sized kind) rest = sizing kind rest
+family_command (primitive.Rule kind) rest = ruling kind rest
+family_command (primitive.Box kind) rest = box_begin kind Append rest
+family_command primitive.Shipout rest = shipped_box rest
+family_command primitive.End rest = Done End rest
+family_command primitive.IgnoreSpaces rest = skipping rest
+family_command (primitive.Interaction kind) rest = Done (Interact kind) rest
+family_command (primitive.Definition kind) rest = macro_defining kind rest
+family_command (primitive.Text purpose) rest = Done (BeginText purpose) rest
+family_command (primitive.After kind) rest = keeping kind rest
+family_command primitive.FutureLet rest = future_defining rest
+
+-- the command whose first token means this; what is expanded is none, and comes expanded, and what \noexpand held does nothing
+abbrev pub command_meant : Meaning → List Item → Reading Command
+command_meant meaning.Undefined rest = Wrong Undefined
+command_meant (meaning.Expandable e) rest = Wrong Undefined
+command_meant (meaning.Macro m) rest = Wrong Undefined
+command_meant meaning.Held rest = Done Nothing rest
+command_meant (meaning.Command primitive) rest = family_command primitive rest
+command_meant (meaning.Character code category) rest = character_command code category rest
+command_meant (meaning.CharacterNumber code) rest = Done (Character code) rest
+command_meant (meaning.MathNumber number) rest = Wrong NotAllowed
+command_meant (meaning.CountRegister number) rest = assigning (assign.Variable (Standing (place.Count number))) rest
+command_meant (meaning.DimenRegister number) rest = assigning (assign.Variable (Standing (place.Dimen number))) rest
+command_meant (meaning.ToksRegister number) rest = assigning (assign.Variable (Standing (place.Toks number))) rest
+
+-- a command that nothing stands before
+abbrev pub fresh_command : Mode → List Item → Reading Command
+fresh_command mode [] = More Expanded
+fresh_command mode (Gave v ∷ rest) = Wrong NotAllowed
+fresh_command mode (Took t ∷ rest) = if may_stand mode t.meaning then command_meant t.meaning rest else Wrong NotAllowed
+
+-- the prefixes that stand before a command
+abbrev pub prefixes_of : Head → Prefixes
+prefixes_of Fresh = record { global = false; long = false; outer = false }
+prefixes_of (Prefixed prefixes) = prefixes
+prefixes_of (Defining prefixes defined kind) = prefixes
+prefixes_of (Future prefixes defined) = prefixes
+
+-- \long and \outer stand before definitions alone
+abbrev pub want_definition : Prefixes → Bool
+want_definition prefixes = prefixes.long || prefixes.outer
+
+-- whether a primitive may stand behind prefixes
+abbrev pub is_prefixable : Prefixes → Primitive → Bool
+is_prefixable prefixes primitive.Relax = false
+is_prefixable prefixes primitive.EndCsName = false
+is_prefixable prefixes primitive.Par = false
+is_prefixable prefixes primitive.BeginGroup = false
+is_prefixable prefixes primitive.EndGroup = false
+is_prefixable prefixes (primitive.Prefix prefix) = true
+is_prefixable prefixes primitive.Let = not (want_definition prefixes)
+is_prefixable prefixes (primitive.Shorthand kind) = not (want_definition prefixes)
+is_prefixable prefixes (primitive.Arithmetic operation) = not (want_definition prefixes)
+is_prefixable prefixes (primitive.Numbered kind) = not (want_definition prefixes)
+is_prefixable prefixes (primitive.Integer parameter) = not (want_definition prefixes)
+is_prefixable prefixes (primitive.Dimension parameter) = not (want_definition prefixes)
+is_prefixable prefixes (primitive.Tokens parameter) = not (want_definition prefixes)
+is_prefixable prefixes (primitive.Sized kind) = false
+is_prefixable prefixes (primitive.Rule kind) = false
+is_prefixable prefixes (primitive.Box kind) = false
+is_prefixable prefixes primitive.Shipout = false
+is_prefixable prefixes primitive.End = false
+is_prefixable prefixes primitive.IgnoreSpaces = false
+is_prefixable prefixes (primitive.Interaction kind) = not (want_definition prefixes)
+is_prefixable prefixes (primitive.Definition kind) = true
+is_prefixable prefixes (primitive.Text purpose) = false
+is_prefixable prefixes (primitive.After kind) = false
+is_prefixable prefixes primitive.FutureLet = not (want_definition prefixes)
+
+-- what has no meaning, or is expanded, is let through, since carrying it out is an error of its own
+abbrev pub may_be_prefixed : Prefixes → Meaning → Bool
+may_be_prefixed prefixes meaning.Undefined = true
+may_be_prefixed prefixes (meaning.Command primitive) = is_prefixable prefixes primitive
+may_be_prefixed prefixes (meaning.Character code category) = false
+may_be_prefixed prefixes (meaning.CharacterNumber code) = false
+may_be_prefixed prefixes (meaning.MathNumber number) = false
+may_be_prefixed prefixes (meaning.CountRegister number) = not (want_definition prefixes)
+may_be_prefixed prefixes (meaning.DimenRegister number) = not (want_definition prefixes)
+may_be_prefixed prefixes (meaning.ToksRegister number) = not (want_definition prefixes)
+may_be_prefixed prefixes (meaning.Expandable e) = true
+may_be_prefixed prefixes (meaning.Macro m) = true
+may_be_prefixed prefixes meaning.Held = false
+
+-- a command behind a prefix: an assignment, with spaces and \relax before it, which do nothing (TeX: The Program, sections 404
+-- and 1211)
+abbrev pub prefixed_command : Prefixes → List Item → Reading Command
+prefixed_command prefixes [] = More Expanded
+prefixed_command prefixes (Gave v ∷ rest) = Wrong NoAssignment
+prefixed_command prefixes (Took t ∷ rest) =
+    if is_space t || is_relax t then Done Nothing rest
+    else if may_be_prefixed prefixes t.meaning then command_meant t.meaning rest
+    else Wrong NoAssignment
+
+-- behind \futurelet and its name: the name is to mean what the second of two tokens means, and both are read again (TeX: The
+-- Program, section 1221)
+abbrev pub future_of : Head → Seen → Command
+future_of (Future prefixes defined) t = Assign (let_to defined t)
+future_of other t = Nothing
+
+abbrev pub future_second : Head → Seen → List Item → Reading Command
+future_second head first [] = More Raw
+future_second head first (Gave v ∷ rest) = Wrong NotAllowed
+future_second head first (Took second ∷ rest) = Done (future_of head second) (Took first ∷ Took second ∷ rest)
+
+abbrev pub future : Head → List Item → Reading Command
+future head [] = More Raw
+future head (Gave v ∷ rest) = Wrong NotAllowed
+future head (Took first ∷ rest) = future_second head first rest
+
+-- the command at the front of these items, by what stands before it
+abbrev pub command : Mode → Head → List Item → Reading Command
+command mode Fresh items = fresh_command mode items
+command mode (Prefixed prefixes) items = prefixed_command prefixes items
+command mode (Defining prefixes defined kind) items = assigning (assign.Named defined kind) items
+command mode (Future prefixes defined) items = future (Future prefixes defined) items

@@ -1,0 +1,6 @@
+pub mod Rules
+pub mod Standing
+pub mod Commands
+pub mod Rests
+pub mod Begun
+pub mod Taken

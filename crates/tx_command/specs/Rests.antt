@@ -1,0 +1,144 @@
+-- What reading on gives, by what a scan still needs: a scan that is fed token by token means the rest of what it reads.
+use Rattle.std.specs.Prelude.{◌≡◌, ◌≤◌, ◌<◌, ◌+◌, ℕ, List, [], ◌∷◌, ◌++◌, length}
+use Rattle.tx_node.specs.declared.rule.Rule.{Rule}
+use Rattle.tx_prim.specs.declared.modes.Mode.{Mode}
+use Rattle.tx_seen.specs.declared.fed.Fed.{Fed}
+use Rattle.tx_seen.specs.declared.fed.Fed.TheVariants as fed
+use Rattle.tx_seen.specs.declared.item.Item.{Item}
+use Rattle.tx_seen.specs.declared.error.TexError.TheVariants.{NotAllowed}
+use Rattle.tx_seen.specs.declared.fed.Want.{Want}
+use Rattle.tx_seen.specs.declared.item.Item.TheVariants.{Took, Gave}
+use Rattle.tx_seen.specs.declared.seen.Seen.{Seen}
+use Rattle.tx_seen.specs.Readings.{Reading, Done, Wrong, next}
+use Rattle.tx_scan.specs.Rests.{HasTakenBy, IsRead}
+use Rattle.tx_scan.specs.Settled.{WantsNext}
+use Rattle.tx_scan.specs.Supplied.{NeedsNoMore}
+use Rattle.tx_scan.specs.declared.scans.KeyScan.{KeyScan}
+use Rattle.tx_scan.specs.Keywords.{rest as key_rest, held as key_held}
+use Rattle.tx_scan.specs.DimensionRests.{rest as dimen_rest}
+use Rattle.tx_assign.specs.Rests.{rest as assign_rest, held as assign_held, more_needed as assign_needed}
+use Rattle.tx_command.specs.declared.types.Command.{Command}
+use Rattle.tx_command.specs.declared.types.Command.TheVariants.{Assign, Sized, Rule as Rule_command}
+use Rattle.tx_command.specs.declared.types.Head.{Head}
+use Rattle.tx_command.specs.declared.types.Side.{Side}
+use Rattle.tx_command.specs.declared.scans.RuleScan.{RuleScan}
+use Rattle.tx_command.specs.declared.scans.RulePart.{RulePart}
+use Rattle.tx_command.specs.declared.scans.RulePart.TheVariants as rule
+use Rattle.tx_command.specs.declared.scans.Scans.{Scans}
+use Rattle.tx_command.specs.declared.scans.Stage.{Stage}
+use Rattle.tx_command.specs.declared.scans.Stage.TheVariants as stage
+use Rattle.tx_command.specs.Rules.{letters_of, side_if, side_or_end, with_side, rule_sides}
+use Rattle.tx_command.specs.Commands.{command, defining, macro_defining, future_defining, future_of, keeping, box_begin, shipped_box, skipping}
+
+-- the rest of a rule by the part that comes next
+abbrev pub rule_part_rest : RulePart → RuleScan → List Item → Item → List Item → Reading Rule
+rule_part_rest rule.Start scan behind item more = rule_sides scan.rule (item ∷ more)
+rule_part_rest (rule.Name side key) scan behind item more = next (next (key_rest (letters_of side) key behind item more) (side_if side)) (side_or_end rule_sides scan.rule)
+rule_part_rest (rule.Size side) scan behind item more = next (dimen_rest scan.size behind item more) (λ measure behind. rule_sides (with_side scan.rule side measure.size) behind)
+
+abbrev pub rule_rest : RuleScan → List Item → Item → List Item → Reading Rule
+rule_rest scan behind item more = rule_part_rest scan.part scan behind item more
+
+-- the letters of a side's name may be given back
+abbrev pub rule_part_held : RulePart → ℕ
+rule_part_held rule.Start = 0
+rule_part_held (rule.Name side key) = key_held key
+rule_part_held (rule.Size side) = 0
+
+abbrev pub rule_held : RuleScan → ℕ
+rule_held scan = rule_part_held scan.part
+
+-- of a name that is being read letters are to come
+abbrev pub IsUnnamed : RulePart → Type 0
+IsUnnamed rule.Start = Unit {0}
+IsUnnamed (rule.Name side key) = key.read < length (letters_of side)
+IsUnnamed (rule.Size side) = Unit {0}
+
+-- an answer to one more token of a side's name, of which so much is read, says what reading on gives
+abbrev pub IsNameFed : Side → KeyScan → Rule → Seen → RuleScan → Fed Rule → Type 0
+IsNameFed side key rule t new answer =
+    (behind : List Item) → length behind ≤ key_held key → IsRead rule_rest rule_held (key_held key + 1) (λ more. next (next (key_rest (letters_of side) key behind (Took t) more) (side_if side)) (side_or_end rule_sides rule)) (behind ++ Took t ∷ []) new answer
+
+-- a rule that isn't whole needs no value, and is so
+abbrev pub IsRuleFed : RuleScan → Fed Rule → Type 0
+IsRuleFed scan (fed.More want) = IsUnnamed scan.part
+IsRuleFed scan (fed.Need kind) = ⊥
+IsRuleFed scan (fed.Done rule back) = Unit {0}
+IsRuleFed scan (fed.Wrong error) = Unit {0}
+
+-- the second of two tokens that are read again
+abbrev pub second_rest : Head → List Item → Item → List Item → Reading Command
+second_rest head behind (Gave v) more = Wrong NotAllowed
+second_rest head behind (Took t) more = Done (future_of head t) (behind ++ Took t ∷ more)
+
+-- the rest of a command by the part that comes next
+abbrev pub stage_rest : Mode → Head → Stage → Scans → List Item → Item → List Item → Reading Command
+stage_rest mode head stage.Start scans behind item more = command mode head (item ∷ more)
+stage_rest mode head stage.Assign scans behind item more = next (assign_rest scans.assignment behind item more) (λ a behind. Done (Assign a) behind)
+stage_rest mode head (stage.Name kind) scans behind item more = defining kind (item ∷ more)
+stage_rest mode head (stage.MacroName kind) scans behind item more = macro_defining kind (item ∷ more)
+stage_rest mode head stage.FutureName scans behind item more = future_defining (item ∷ more)
+stage_rest mode head stage.SecondToken scans behind item more = second_rest head behind item more
+stage_rest mode head (stage.KeptToken kind) scans behind item more = keeping kind (item ∷ more)
+stage_rest mode head (stage.Sized kind) scans behind item more = next (dimen_rest scans.size behind item more) (λ measure behind. Done (Sized kind measure.size) behind)
+stage_rest mode head (stage.Rule kind) scans behind item more = next (rule_rest scans.rule behind item more) (λ rule behind. Done (Rule_command kind rule) behind)
+stage_rest mode head stage.ShippedBox scans behind item more = shipped_box (item ∷ more)
+stage_rest mode head stage.Spaces scans behind item more = skipping (item ∷ more)
+stage_rest mode head (stage.BoxBegin kind context) scans behind item more = box_begin kind context (item ∷ more)
+
+abbrev pub command_rest : Mode → Head → Scans → List Item → Item → List Item → Reading Command
+command_rest mode head scans behind item more = stage_rest mode head scans.stage scans behind item more
+
+-- how many of its tokens may be given back
+abbrev pub stage_held : Stage → Scans → ℕ
+stage_held stage.Assign scans = assign_held scans.assignment
+stage_held (stage.Rule kind) scans = rule_held scans.rule
+stage_held stage.SecondToken scans = 1
+stage_held _ scans = 0
+
+abbrev pub held : Scans → ℕ
+held scans = stage_held scans.stage scans
+
+-- how many values it may need at most, unless more tokens need more; what the first token begins may need one
+abbrev pub stage_needs : Stage → Scans → ℕ
+stage_needs stage.Start scans = 1
+stage_needs stage.Assign scans = assign_needed scans.assignment
+stage_needs _ scans = 0
+
+abbrev pub more_needed : Scans → ℕ
+more_needed scans = stage_needs scans.stage scans
+
+-- only an assignment needs values
+abbrev pub IsAssigning : Stage → Type 0
+IsAssigning stage.Assign = Unit {0}
+IsAssigning _ = ⊥
+
+-- a stage that goes on
+abbrev pub IsOnAt : Stage → Scans → Type 0
+IsOnAt (stage.Rule kind) scans = IsUnnamed scans.rule.part
+IsOnAt _ scans = Unit {0}
+
+abbrev pub IsOn : Scans → Type 0
+IsOn scans = IsOnAt scans.stage scans
+
+abbrev pub GoesOn : Scans → Fed Command → Type 0
+GoesOn new (fed.More want) = IsOn new
+GoesOn new (fed.Need kind) = IsAssigning new.stage
+GoesOn new (fed.Done command back) = Unit {0}
+GoesOn new (fed.Wrong error) = Unit {0}
+
+-- an answer says what reading gives of the items behind these tokens, of which so many may be given back; so many values are
+-- needed at most, and the scans go on
+pub record IsBegunBy (mode : Mode) (head : Head) (count : ℕ) (reading : List Item → Reading Command) (tokens : List Item) (new : Scans) (answer : Fed Command) : Type 0 where
+  pub reads : IsRead (command_rest mode head) held count reading tokens new answer
+  pub needs : NeedsNoMore count (more_needed new) answer
+  pub goes_on : GoesOn new answer
+
+-- the same of the first token of a command, behind which this is read, whatever stands before it
+abbrev pub Begins : (List Item → Reading Command) → Scans → Fed Command → Type 0
+Begins reading new answer = (mode : Mode) (head : Head) → IsBegunBy mode head 0 reading [] new answer
+
+-- the scans of a command, in this mode and behind this head, that has taken these items and wants its next token so
+pub record IsAt (mode : Mode) (head : Head) (taken : List Item) (want : Want) (scans : Scans) : Type 0 where
+  pub at : WantsNext (command mode head) (HasTakenBy (command_rest mode head) held (command mode head)) more_needed taken want scans
+  pub goes_on : IsOn scans

@@ -1,0 +1,24 @@
+//! Commands, taken off the input token by token (TeX: The Program, part 46): whether a command may stand in a mode and behind
+//! prefixes, what its family takes, and what comes of it as data, with nothing carried out.
+//!
+//! Proved: a command is read exactly as the grammar of tokens and values says, with the values that it needs as the table has
+//! them, and the tokens that it didn't need stand before the input again. Only tested: that the grammars are TeX's, on commands
+//! worked out by hand and on documents that Knuth's TeX reads alike.
+//!
+//! Read `types`; `standing`, what may stand where; `scans` and `rule`, what is being read; `mapping` and `stage`, what one
+//! token makes of it; `taking`, whole commands; last `clones` and `kept`.
+#![tactic(auto)]
+
+mod clones;
+mod kept;
+mod mapping;
+mod rule;
+mod scans;
+mod stage;
+mod standing;
+mod taking;
+mod types;
+
+pub use scans::Taken;
+pub use taking::CommandScan;
+pub use types::{BoxContext, Command, Head, Prefixes};

@@ -1,0 +1,96 @@
+//! What becomes of a command by what the scan of its last part answers.
+ghost use Rattle.std.specs.Prelude.{◌≡◌};
+ghost use Rattle.tx_scan.specs.DimensionRests.{IsSize};
+ghost use Rattle.tx_scan.specs.Mapped.{mapped};
+
+use crate::types::{BoxContext, Command};
+use tx_assign::Assignment;
+use tx_node::Rule;
+use tx_prim::{BoxKind, DefinitionKind, RuleKind, Shorthand, SizeKind};
+use tx_scan::Measure;
+use tx_seen::{Fed, Place};
+
+/// An assignment.
+pub fn assigned(fed: Fed<Assignment>) -> Fed<Command>
+    ensures { result ≡ mapped Command.Assign fed }
+{
+    match fed {
+        Fed::More(want) => Fed::More(want),
+        Fed::Need(kind) => Fed::Need(kind),
+        Fed::Done(assignment, back) => Fed::Done(Command::Assign(assignment), back),
+        Fed::Wrong(error) => Fed::Wrong(error),
+    }
+}
+
+/// The name that is defined.
+pub fn defined(shorthand: Shorthand, fed: Fed<Place>) -> Fed<Command>
+    ensures { result ≡ mapped (λ name. Command.Define name shorthand) fed }
+{
+    match fed {
+        Fed::More(want) => Fed::More(want),
+        Fed::Need(kind) => Fed::Need(kind),
+        Fed::Done(name, back) => Fed::Done(Command::Define(name, shorthand), back),
+        Fed::Wrong(error) => Fed::Wrong(error),
+    }
+}
+
+/// The name that \def or its kin defines.
+pub fn macro_defined(kind: DefinitionKind, fed: Fed<Place>) -> Fed<Command>
+    ensures { result ≡ mapped (λ name. Command.DefineMacro name kind) fed }
+{
+    match fed {
+        Fed::More(want) => Fed::More(want),
+        Fed::Need(kind) => Fed::Need(kind),
+        Fed::Done(name, back) => Fed::Done(Command::DefineMacro(name, kind), back),
+        Fed::Wrong(error) => Fed::Wrong(error),
+    }
+}
+
+/// The name that \futurelet defines.
+pub fn future_defined(fed: Fed<Place>) -> Fed<Command>
+    ensures { result ≡ mapped Command.DefineFuture fed }
+{
+    match fed {
+        Fed::More(want) => Fed::More(want),
+        Fed::Need(kind) => Fed::Need(kind),
+        Fed::Done(name, back) => Fed::Done(Command::DefineFuture(name), back),
+        Fed::Wrong(error) => Fed::Wrong(error),
+    }
+}
+
+/// A size of which something is made.
+pub fn sized(size_kind: SizeKind, fed: Fed<Measure>) -> Fed<Command>
+    requires { IsSize fed }
+    ensures { result ≡ mapped (λ measure. Command.Sized size_kind measure.size) fed }
+{
+    match fed {
+        Fed::More(want) => Fed::More(want),
+        Fed::Need(kind) => Fed::Need(kind),
+        Fed::Done(measure, back) => Fed::Done(Command::Sized(size_kind, measure.size as i32), back),
+        Fed::Wrong(error) => Fed::Wrong(error),
+    }
+}
+
+/// A rule.
+pub fn ruled(rule_kind: RuleKind, fed: Fed<Rule>) -> Fed<Command>
+    ensures { result ≡ mapped (λ rule. Command.Rule rule_kind rule) fed }
+{
+    match fed {
+        Fed::More(want) => Fed::More(want),
+        Fed::Need(kind) => Fed::Need(kind),
+        Fed::Done(rule, back) => Fed::Done(Command::Rule(rule_kind, rule), back),
+        Fed::Wrong(error) => Fed::Wrong(error),
+    }
+}
+
+/// The begin-group token of a box.
+pub fn begun_box(box_kind: BoxKind, context: BoxContext, fed: Fed<()>) -> Fed<Command>
+    ensures { result ≡ mapped (λ _. Command.BeginBox box_kind context) fed }
+{
+    match fed {
+        Fed::More(want) => Fed::More(want),
+        Fed::Need(kind) => Fed::Need(kind),
+        Fed::Done(_, back) => Fed::Done(Command::BeginBox(box_kind, context), back),
+        Fed::Wrong(error) => Fed::Wrong(error),
+    }
+}

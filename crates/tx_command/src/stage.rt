@@ -1,0 +1,316 @@
+//! The parts of a command, token by token (TeX: The Program, part 46 on).
+ghost use Rattle.std.specs.Prelude.{◌≡◌, ◌∷◌, [], IfOk};
+ghost use Rattle.tx_seen.specs.declared.item.Item.TheVariants.{Took};
+ghost use Rattle.tx_seen.specs.Readings.{More};
+ghost use Rattle.tx_scan.specs.Rests.{IsFedBy, IsGivenBy};
+ghost use Rattle.tx_scan.specs.Supplied.{NeedsNoMore, NeedsFewer};
+ghost use Rattle.tx_assign.specs.Assignments.{assignment};
+ghost use Rattle.tx_command.specs.Commands as commands;
+ghost use Rattle.tx_command.specs.Rests.{command_rest, held, more_needed, Begins, GoesOn, IsAssigning, IsBegunBy, IsOn};
+
+use crate::mapping::{assigned, begun_box, defined, future_defined, macro_defined, ruled, sized};
+use crate::scans::{RuleScan, Scans, Stage};
+use crate::standing::{may_be_prefixed, may_stand};
+use crate::types::{BoxContext, Command, Head, Prefixes};
+use std::alloc::{AllocError, Global};
+use tx_assign::{AssignScan, Assigning, Assignment, Change, Variable};
+use tx_char::Cat;
+use tx_eqtb::Entry;
+use tx_prim::{AfterKind, BoxKind, Mode, Primitive, RuleKind, Shorthand, SizeKind};
+use tx_scan::{BraceScan, DimenScan, NameScan};
+use tx_seen::{Fed, Meaning, Place, Seen, TexError, Value, Want};
+
+/// Whether a token that means this is one that \noexpand holds.
+fn is_held(meaning: &Meaning) -> bool
+    ensures { result ≡ commands.is_held meaning.now }
+{
+    matches!(meaning, Meaning::Held)
+}
+
+/// What is done with a character, by its category.
+fn character(scans: &Scans, code: u8, category: Cat) -> Fed<Command>
+    ensures { Begins (commands.character_command code category) scans.now result }
+{
+    match category {
+        Cat::BeginGroup => Fed::Done(Command::BeginGroup, 0),
+        Cat::EndGroup => Fed::Done(Command::EndGroup, 0),
+        Cat::Space => Fed::Done(Command::Space, 0),
+        Cat::Letter | Cat::Other => Fed::Done(Command::Character(code), 0),
+        Cat::AlignmentTab => Fed::Wrong(TexError::MisplacedAlignment),
+        Cat::MathShift
+        | Cat::Superscript
+        | Cat::Subscript
+        | Cat::Parameter
+        | Cat::Escape
+        | Cat::EndOfLine
+        | Cat::Ignored
+        | Cat::Active
+        | Cat::Comment
+        | Cat::Invalid => Fed::Wrong(TexError::NotAllowed),
+    }
+}
+
+/// The second of the two tokens behind the name that \futurelet defines, which is to mean what it means; both are read again.
+/// Its only error is that no more owners of a name or a meaning can be counted.
+fn feed_second(head: &Head, token: &Seen) -> Result<Fed<Command>, AllocError>
+    ensures { IfOk result (λ fed. fed ≡ Fed.Done (commands.future_of head.now token.now) 2) }
+{
+    match head {
+        Head::Future(_, name) => Ok(Fed::Done(
+            Command::Assign(Assignment {
+                place: name.clone()?,
+                change: Change::Set(Entry::Means(token.meaning.clone()?)),
+            }),
+            2,
+        )),
+        Head::Fresh | Head::Prefixed(_) | Head::Defining(_, _, _) => {
+            Ok(Fed::Done(Command::Nothing, 2))
+        }
+    }
+}
+
+/// The token of \aftergroup or \afterassignment. Its only error is that no more owners of a name can be counted.
+fn feed_kept(kind: AfterKind, token: &Seen) -> Result<Fed<Command>, AllocError>
+    ensures { IfOk result (λ fed. fed ≡ Fed.Done (Command.Keep kind token.now.token) 0) }
+{
+    Ok(Fed::Done(Command::Keep(kind, token.token.clone()?), 0))
+}
+
+impl Scans {
+    /// The scans of a command of which nothing is read. They take no memory.
+    pub(crate) fn new(alloc: Global) -> Scans
+        ensures { result.stage ≡ Stage.Start }
+    {
+        Scans {
+            stage: Stage::Start,
+            assignment: AssignScan::new(alloc),
+            size: DimenScan::new(alloc, false, false),
+            rule: RuleScan::new(alloc),
+        }
+    }
+
+    /// Takes one token, in this mode and behind this head. Its only error is want of memory.
+    pub(crate) fn feed(
+        &mut self,
+        mode: Mode,
+        head: &Head,
+        token: &Seen,
+    ) -> Result<Fed<Command>, AllocError>
+        requires { IsOn self.old }
+        ensures fed { IfOk result (IsFedBy (command_rest mode head.now) held self.old token.now self.new) }
+        ensures needs { IfOk result (NeedsNoMore (more_needed self.old) (more_needed self.new)) }
+        ensures on { IfOk result (GoesOn self.new) }
+    {
+        match self.stage {
+            Stage::Start => self.feed_first(mode, head, token),
+            Stage::Assign => Ok(assigned(self.assignment.feed(token)?)),
+            Stage::Name(kind) => Ok(defined(kind, NameScan::new().feed(token)?)),
+            Stage::MacroName(kind) => Ok(macro_defined(kind, NameScan::new().feed(token)?)),
+            Stage::FutureName => Ok(future_defined(NameScan::new().feed(token)?)),
+            Stage::SecondToken => feed_second(head, token),
+            Stage::KeptToken(kind) => feed_kept(kind, token),
+            Stage::Sized(kind) => Ok(sized(kind, self.size.feed(token)?)),
+            Stage::Rule(kind) => Ok(ruled(kind, self.rule.feed(token)?)),
+            Stage::ShippedBox => Ok(self.feed_box(token)),
+            Stage::Spaces => Ok(self.feed_space(token)),
+            Stage::BoxBegin(kind, context) => {
+                Ok(begun_box(kind, context, BraceScan::new().feed(token)))
+            }
+        }
+    }
+
+    /// Takes the value that an assignment needs. Its only error is want of memory.
+    pub(crate) fn give(&mut self, value: &Value) -> Result<Fed<Command>, AllocError>
+        requires { IsAssigning self.old.stage }
+        ensures given { (mode : Mode) (head : Head) → IfOk result (IsGivenBy (command_rest mode head) held self.old value.now self.new) }
+        ensures needs { IfOk result (NeedsFewer (more_needed self.old) (more_needed self.new)) }
+        ensures on { IfOk result (GoesOn self.new) }
+    {
+        Ok(assigned(self.assignment.give(value)?))
+    }
+
+    /// The first token of a command. Its only error is want of memory.
+    fn feed_first(
+        &mut self,
+        mode: Mode,
+        head: &Head,
+        token: &Seen,
+    ) -> Result<Fed<Command>, AllocError>
+        ensures { IfOk result (IsBegunBy mode head.now 1 (λ more. commands.command mode head.now (Took token.now ∷ more)) (Took token.now ∷ []) self.new) }
+    {
+        match head {
+            Head::Fresh => Ok(self.feed_fresh(mode, token)),
+            Head::Prefixed(prefixes) => Ok(self.feed_prefixed(*prefixes, token)),
+            Head::Defining(_, name, kind) => self.feed_defining(name, *kind, token),
+            Head::Future(_, _) => Ok(self.on(Stage::SecondToken, Want::Raw)),
+        }
+    }
+
+    /// The first token of a command that nothing stands before.
+    fn feed_fresh(&mut self, mode: Mode, token: &Seen) -> Fed<Command>
+        ensures { Begins (λ more. commands.fresh_command mode (Took token.now ∷ more)) self.new result }
+    {
+        if may_stand(mode, &token.meaning) {
+            self.begin(&token.meaning)
+        } else {
+            Fed::Wrong(TexError::NotAllowed)
+        }
+    }
+
+    /// The first token of a command behind prefixes.
+    fn feed_prefixed(&mut self, prefixes: Prefixes, token: &Seen) -> Fed<Command>
+        ensures { Begins (λ more. commands.prefixed_command prefixes (Took token.now ∷ more)) self.new result }
+    {
+        if token.is_space() || token.is_relax() {
+            return Fed::Done(Command::Nothing, 0);
+        }
+        if may_be_prefixed(prefixes, &token.meaning) {
+            self.begin(&token.meaning)
+        } else {
+            Fed::Wrong(TexError::NoAssignment)
+        }
+    }
+
+    /// The first token behind a name that is being defined. Its only error is want of memory.
+    fn feed_defining(
+        &mut self,
+        name: &Place,
+        kind: Shorthand,
+        token: &Seen,
+    ) -> Result<Fed<Command>, AllocError>
+        ensures { (mode : Mode) (head : Head) → IfOk result (IsBegunBy mode head 1 (λ more. commands.assigning (Assigning.Named name.now kind) (Took token.now ∷ more)) (Took token.now ∷ []) self.new) }
+    {
+        self.stage = Stage::Assign;
+        self.assignment.begin(Assigning::Named(name.clone()?, kind));
+        Ok(assigned(self.assignment.feed(token)?))
+    }
+
+    /// The command whose first token means this.
+    fn begin(&mut self, meaning: &Meaning) -> Fed<Command>
+        ensures { Begins (commands.command_meant meaning.now) self.new result }
+    {
+        match meaning {
+            Meaning::Undefined => Fed::Wrong(TexError::Undefined),
+            // what is expanded is no command, and comes expanded
+            Meaning::Expandable(_) | Meaning::Macro(_) => Fed::Wrong(TexError::Undefined),
+            Meaning::Held => Fed::Done(Command::Nothing, 0),
+            Meaning::Command(primitive) => self.begin_primitive(*primitive),
+            Meaning::Character(code, category) => character(self, *code, *category),
+            Meaning::CharacterNumber(code) => Fed::Done(Command::Character(*code), 0),
+            Meaning::MathNumber(_) => Fed::Wrong(TexError::NotAllowed),
+            Meaning::CountRegister(number) => self.begin_place(Place::Count(*number)),
+            Meaning::DimenRegister(number) => self.begin_place(Place::Dimen(*number)),
+            Meaning::ToksRegister(number) => self.begin_place(Place::Toks(*number)),
+        }
+    }
+
+    /// A primitive, by its family.
+    fn begin_primitive(&mut self, primitive: Primitive) -> Fed<Command>
+        ensures { Begins (commands.family_command primitive) self.new result }
+    {
+        match primitive {
+            Primitive::Relax | Primitive::Par => Fed::Done(Command::Nothing, 0),
+            Primitive::EndCsName => Fed::Wrong(TexError::BadName),
+            Primitive::BeginGroup => Fed::Done(Command::BeginSemiSimple, 0),
+            Primitive::EndGroup => Fed::Done(Command::EndSemiSimple, 0),
+            Primitive::Prefix(prefix) => Fed::Done(Command::Prefix(prefix), 0),
+            Primitive::Let => self.begin_assignment(Assigning::Let, Want::Raw),
+            Primitive::Shorthand(kind) => self.on(Stage::Name(kind), Want::Raw),
+            Primitive::Arithmetic(operation) => {
+                self.begin_assignment(Assigning::Arithmetic(operation), Want::Expanded)
+            }
+            Primitive::Numbered(kind) => self.begin_variable(Variable::Numbered(kind)),
+            Primitive::Integer(parameter) => self.begin_place(Place::Integer(parameter)),
+            Primitive::Dimension(parameter) => self.begin_place(Place::Dimension(parameter)),
+            Primitive::Tokens(parameter) => self.begin_place(Place::Tokens(parameter)),
+            Primitive::Sized(kind) => {
+                self.size.restart(false, false);
+                self.on(Stage::Sized(kind), Want::Expanded)
+            }
+            Primitive::Rule(kind) => {
+                self.rule.begin(kind);
+                self.on(Stage::Rule(kind), Want::Expanded)
+            }
+            Primitive::Box(kind) => self.on(
+                Stage::BoxBegin(kind, BoxContext::Append),
+                Want::Expanded,
+            ),
+            Primitive::Shipout => self.on(Stage::ShippedBox, Want::Expanded),
+            Primitive::End => Fed::Done(Command::End, 0),
+            Primitive::IgnoreSpaces => self.on(Stage::Spaces, Want::Expanded),
+            Primitive::Interaction(kind) => Fed::Done(Command::Interact(kind), 0),
+            Primitive::Definition(kind) => self.on(Stage::MacroName(kind), Want::Raw),
+            Primitive::Text(purpose) => Fed::Done(Command::BeginText(purpose), 0),
+            Primitive::After(kind) => self.on(Stage::KeptToken(kind), Want::Raw),
+            Primitive::FutureLet => self.on(Stage::FutureName, Want::Raw),
+        }
+    }
+
+    /// The command goes on with this part, whose next token is wanted so.
+    fn on(&mut self, stage: Stage, want: Want) -> Fed<Command>
+        ensures scans { self.new ≡ record self.old { stage = stage } }
+        ensures answer { result ≡ Fed.More want }
+    {
+        self.stage = stage;
+        Fed::More(want)
+    }
+
+    /// What gives the place a value.
+    fn begin_place(&mut self, place: Place) -> Fed<Command>
+        ensures { Begins (commands.assigning (Assigning.Variable (Variable.Standing place))) self.new result }
+    {
+        self.begin_variable(Variable::Standing(place))
+    }
+
+    /// What gives a variable a value.
+    fn begin_variable(&mut self, variable: Variable) -> Fed<Command>
+        ensures { Begins (commands.assigning (Assigning.Variable variable)) self.new result }
+    {
+        self.begin_assignment(Assigning::Variable(variable), Want::Expanded)
+    }
+
+    /// An assignment, whose next token is wanted so.
+    fn begin_assignment(&mut self, begun: Assigning, want: Want) -> Fed<Command>
+        requires { assignment begun [] ≡ More want }
+        ensures { Begins (commands.assigning begun) self.new result }
+    {
+        self.assignment.begin(begun);
+        self.on(Stage::Assign, want)
+    }
+
+    /// A space that is skipped, or what stands behind such: it is read again, unless \noexpand holds it, so that it does nothing.
+    fn feed_space(&self, token: &Seen) -> Fed<Command>
+        requires { self.now.stage ≡ Stage.Spaces }
+        ensures { (mode : Mode) (head : Head) → IsBegunBy mode head 1 (λ more. commands.skipping (Took token.now ∷ more)) (Took token.now ∷ []) self.now result }
+    {
+        if token.is_undefined() {
+            return Fed::Wrong(TexError::Undefined);
+        }
+        if token.is_space() {
+            return Fed::More(Want::Expanded);
+        }
+        if is_held(&token.meaning) {
+            return Fed::Done(Command::Nothing, 0);
+        }
+        Fed::Done(Command::Nothing, 1)
+    }
+
+    /// The box of a \shipout, or what stands before it.
+    fn feed_box(&mut self, token: &Seen) -> Fed<Command>
+        requires { self.old.stage ≡ Stage.ShippedBox }
+        ensures { Begins (λ more. commands.shipped_box (Took token.now ∷ more)) self.new result }
+    {
+        if token.is_undefined() {
+            return Fed::Wrong(TexError::Undefined);
+        }
+        if token.is_space() || token.is_relax() {
+            return Fed::More(Want::Expanded);
+        }
+        match &token.meaning {
+            Meaning::Command(Primitive::Box(kind)) => {
+                self.on(Stage::BoxBegin(*kind, BoxContext::Ship), Want::Expanded)
+            }
+            _ => Fed::Wrong(TexError::MissingBox),
+        }
+    }
+}

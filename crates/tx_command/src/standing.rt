@@ -1,0 +1,154 @@
+//! Whether a command may stand in a mode, and behind prefixes, by what its first token means (TeX: The Program, sections 1045 and
+//! 1211).
+ghost use Rattle.std.specs.Prelude.{◌≡◌};
+ghost use Rattle.tx_command.specs.Commands as commands;
+ghost use Rattle.tx_command.specs.Standing as spec;
+
+use crate::types::Prefixes;
+use tx_char::Cat;
+use tx_prim::{Mode, Modes, Primitive, Standing};
+use tx_seen::Meaning;
+
+/// In which modes a character of a category may stand.
+fn modes_of_category(category: Cat) -> Modes
+    ensures { result ≡ spec.modes_of_category category }
+{
+    match category {
+        Cat::BeginGroup | Cat::EndGroup | Cat::AlignmentTab | Cat::Space => Modes::All,
+        Cat::MathShift | Cat::Letter | Cat::Other => Modes::NotVertical,
+        Cat::Superscript | Cat::Subscript => Modes::Math,
+        Cat::Parameter
+        | Cat::Escape
+        | Cat::EndOfLine
+        | Cat::Ignored
+        | Cat::Active
+        | Cat::Comment
+        | Cat::Invalid => Modes::Nowhere,
+    }
+}
+
+/// In which modes a command may stand whose first token means this.
+fn modes_of_meaning(meaning: &Meaning) -> Modes
+    ensures { result ≡ spec.modes_of_meaning meaning.now }
+{
+    match meaning {
+        Meaning::Undefined | Meaning::CountRegister(_) | Meaning::DimenRegister(_) => Modes::All,
+        Meaning::ToksRegister(_) => Modes::All,
+        Meaning::Command(primitive) => primitive.modes(),
+        Meaning::Character(_, category) => modes_of_category(*category),
+        Meaning::CharacterNumber(_) => Modes::NotVertical,
+        Meaning::MathNumber(_) => Modes::Math,
+        Meaning::Expandable(_) | Meaning::Macro(_) | Meaning::Held => Modes::All,
+    }
+}
+
+/// Whether a primitive adds to the list in which it stands.
+fn adds_to_list(primitive: Primitive) -> bool
+    ensures { result ≡ spec.adds_to_list primitive }
+{
+    match primitive {
+        Primitive::Sized(_) | Primitive::Rule(_) | Primitive::Box(_) => true,
+        Primitive::Relax
+        | Primitive::EndCsName
+        | Primitive::Par
+        | Primitive::BeginGroup
+        | Primitive::EndGroup
+        | Primitive::Prefix(_)
+        | Primitive::Let
+        | Primitive::Shorthand(_)
+        | Primitive::Arithmetic(_)
+        | Primitive::Numbered(_)
+        | Primitive::Integer(_)
+        | Primitive::Dimension(_)
+        | Primitive::Tokens(_)
+        | Primitive::Shipout
+        | Primitive::End
+        | Primitive::IgnoreSpaces
+        | Primitive::Interaction(_)
+        | Primitive::Definition(_)
+        | Primitive::Text(_)
+        | Primitive::After(_)
+        | Primitive::FutureLet => false,
+    }
+}
+
+/// Nothing can be added to the pages' list yet.
+fn is_there(mode: Mode, meaning: &Meaning) -> bool
+    ensures { result ≡ spec.is_there mode meaning.now }
+{
+    match (mode, meaning) {
+        (Mode::Vertical, Meaning::Command(primitive)) => !adds_to_list(*primitive),
+        _ => true,
+    }
+}
+
+/// No command can begin or end a paragraph yet.
+fn stands(standing: Standing) -> bool
+    ensures { result ≡ spec.stands standing }
+{
+    match standing {
+        Standing::Stands => true,
+        Standing::BeginsParagraph | Standing::EndsParagraph | Standing::Refused => false,
+    }
+}
+
+/// Whether a command may stand in a mode whose first token means this.
+pub fn may_stand(mode: Mode, meaning: &Meaning) -> bool
+    ensures { result ≡ spec.may_stand mode meaning.now }
+{
+    stands(modes_of_meaning(meaning).standing(mode)) && is_there(mode, meaning)
+}
+
+/// Whether prefixes stand before definitions alone.
+fn want_definition(prefixes: Prefixes) -> bool
+    ensures { result ≡ commands.want_definition prefixes }
+{
+    prefixes.long || prefixes.outer
+}
+
+/// Whether a primitive may stand behind these prefixes.
+fn is_prefixable(prefixes: Prefixes, primitive: Primitive) -> bool
+    ensures { result ≡ commands.is_prefixable prefixes primitive }
+{
+    match primitive {
+        Primitive::Prefix(_) | Primitive::Definition(_) => true,
+        Primitive::Let
+        | Primitive::FutureLet
+        | Primitive::Shorthand(_)
+        | Primitive::Arithmetic(_)
+        | Primitive::Numbered(_)
+        | Primitive::Integer(_)
+        | Primitive::Dimension(_)
+        | Primitive::Tokens(_)
+        | Primitive::Interaction(_) => !want_definition(prefixes),
+        Primitive::Relax
+        | Primitive::EndCsName
+        | Primitive::Par
+        | Primitive::BeginGroup
+        | Primitive::EndGroup
+        | Primitive::Sized(_)
+        | Primitive::Rule(_)
+        | Primitive::Box(_)
+        | Primitive::Shipout
+        | Primitive::End
+        | Primitive::IgnoreSpaces
+        | Primitive::Text(_)
+        | Primitive::After(_) => false,
+    }
+}
+
+/// Whether a command may stand behind these prefixes whose first token means this; what has no meaning, or is
+/// expanded, is let through.
+pub fn may_be_prefixed(prefixes: Prefixes, meaning: &Meaning) -> bool
+    ensures { result ≡ commands.may_be_prefixed prefixes meaning.now }
+{
+    match meaning {
+        Meaning::Undefined => true,
+        Meaning::CountRegister(_) | Meaning::DimenRegister(_) => !want_definition(prefixes),
+        Meaning::ToksRegister(_) => !want_definition(prefixes),
+        Meaning::Command(primitive) => is_prefixable(prefixes, *primitive),
+        Meaning::Character(_, _) | Meaning::CharacterNumber(_) | Meaning::MathNumber(_) => false,
+        Meaning::Expandable(_) | Meaning::Macro(_) => true,
+        Meaning::Held => false,
+    }
+}

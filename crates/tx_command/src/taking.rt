@@ -1,0 +1,302 @@
+//! Commands, taken off the input token by token (TeX: The Program, part 46).
+ghost use Rattle.std.specs.Prelude.{◌≡◌, ◌↔◌, ◌<◌, ◌≤◌, ◌+◌, ◌∷◌, ◌++◌, [], ℕ, List, length, IfOk, OnOk, IsTrue};
+ghost use Rattle.tx_eqtb.specs.Quantities.{value_in};
+ghost use Rattle.tx_prim.specs.declared.modes.Mode.{Mode};
+ghost use Rattle.tx_seen.specs.declared.item.Item.{Item};
+ghost use Rattle.tx_seen.specs.declared.item.Item.TheVariants.{Gave};
+ghost use Rattle.tx_seen.specs.Readings.{More};
+ghost use Rattle.tx_scan.specs.Rests.{HasTakenBy, IsGivenBy};
+ghost use Rattle.tx_scan.specs.Supplied.{value_for, NeedsFewer};
+ghost use Rattle.tx_command.specs.declared.types.Head.{Head};
+ghost use Rattle.tx_command.specs.Commands as commands;
+ghost use Rattle.tx_command.specs.Commands.{prefixes_of};
+ghost use Rattle.tx_command.specs.Rests.{command_rest, held, more_needed, GoesOn, IsAssigning, IsOn};
+ghost use Rattle.tx_command.specs.Taken.{joined, IsEnd, IsPending, IsSettled, IsTaken};
+
+use crate::scans::{Scans, Stage, Taken};
+use crate::types::{Command, Head, Prefixes};
+use std::alloc::{AllocError, Global};
+use std::marker::Model;
+use tx_eqtb::Eqtb;
+use tx_list::{Items, Kept};
+use tx_pending::Pending;
+use tx_prim::{Mode, Prefix, Shorthand};
+use tx_scan::give_back;
+use tx_seen::{Fed, Item, Kind, Place, Quantities, Seen, Want};
+
+/// A command that is being taken off the input. Contracts see the mode, what stands before the command, and the tokens and
+/// values that were taken since it began.
+#[derive(Drop)]
+pub struct CommandScan {
+    mode: Mode,
+    head: Head,
+    taken: Items<Item>,
+    /// How the next token is wanted.
+    want: Want,
+    scans: Scans,
+}
+
+impl Model for CommandScan {
+    ghost use Rattle.tx_command.specs.Begun.{Begun};
+    ghost use Rattle.tx_command.specs.Rests.{IsAt};
+
+    ghost Value = { Begun };
+
+    ghost view = { λ s. record { mode = s.mode; head = s.head; taken = s.taken } };
+
+    ghost invariant = { λ s. IsAt s.mode s.head s.taken s.want s.scans };
+}
+
+impl CommandScan {
+    /// A command of which nothing is taken, in this mode, and nothing before it. Takes no memory.
+    pub fn new(alloc: Global, mode: Mode) -> CommandScan
+        ensures { result ≡ record { mode = mode; head = Head.Fresh; taken = [] } }
+    {
+        CommandScan {
+            mode,
+            head: Head::Fresh,
+            taken: Items::new(alloc),
+            want: Want::Expanded,
+            scans: Scans::new(alloc),
+        }
+    }
+
+    /// How the command wants its next token.
+    pub fn want(&self) -> Want
+        ensures { commands.command self.now.mode self.now.head self.now.taken ≡ More result }
+    {
+        self.want
+    }
+
+    /// The mode.
+    pub fn mode(&self) -> Mode
+        ensures { result ≡ self.now.mode }
+    {
+        self.mode
+    }
+
+    /// The prefixes before the command.
+    pub fn prefixes(&self) -> Prefixes
+        ensures { result ≡ prefixes_of self.now.head }
+    {
+        match &self.head {
+            Head::Fresh => Prefixes {
+                global: false,
+                long: false,
+                outer: false,
+            },
+            Head::Prefixed(prefixes) | Head::Defining(prefixes, _, _) | Head::Future(prefixes, _) =>
+                *prefixes,
+        }
+    }
+
+    /// Begins a command in another mode; what stands before it stays.
+    pub fn enter(&mut self, mode: Mode)
+        ensures { self.new ≡ record { mode = mode; head = self.old.head; taken = [] } }
+    {
+        self.mode = mode;
+        self.want = begun_want(&self.head);
+        restart(&mut self.taken, &mut self.scans);
+    }
+
+    /// Begins a command behind this.
+    pub fn begin_behind(&mut self, head: Head)
+        ensures { self.new ≡ record { mode = self.old.mode; head = head; taken = [] } }
+    {
+        self.head = head;
+        self.want = begun_want(&self.head);
+        restart(&mut self.taken, &mut self.scans);
+    }
+
+    /// Begins a command that nothing stands before.
+    pub fn begin_fresh(&mut self)
+        ensures { self.new ≡ record { mode = self.old.mode; head = Head.Fresh; taken = [] } }
+    {
+        if self.is_fresh() {
+            self.want = Want::Expanded;
+            restart(&mut self.taken, &mut self.scans);
+        } else {
+            self.begin_behind(Head::Fresh);
+        }
+    }
+
+    /// Whether nothing stands before the command.
+    fn is_fresh(&self) -> bool
+        ensures { IsTrue result ↔ (self.now.head ≡ Head.Fresh) }
+    {
+        matches!(self.head, Head::Fresh)
+    }
+
+    /// Whether both have taken the same, in the same mode and behind the same.
+    pub fn same(&self, other: &CommandScan) -> bool
+        ensures { IsTrue result ↔ (self.now ≡ other.now) }
+    {
+        self.mode == other.mode && self.head.same(&other.head) && self.taken.same(&other.taken)
+    }
+
+    /// Takes one token more, and the values that the command needs behind it. Behind a whole command, whose last tokens are put
+    /// at the front of the input where they aren't part of it, or a wrong one, the next begins. Its only error is want of
+    /// memory.
+    pub fn feed(
+        &mut self,
+        table: &Eqtb,
+        input: &mut Pending,
+        token: Seen,
+    ) -> Result<Taken, AllocError>
+        ensures { IfOk result (IsTaken (value_in table.now) self.old token input.old self.new input.new) }
+    {
+        let fed = take(
+            self.mode,
+            &self.head,
+            &mut self.taken,
+            &mut self.scans,
+            table,
+            token,
+        );
+        match fed {
+            Ok(Fed::More(want)) => {
+                self.want = want;
+                Ok(Taken::More)
+            }
+            Ok(Fed::Need(_)) => unreachable!(),
+            Ok(Fed::Done(command, back)) => {
+                let given = give_back(&mut self.taken, input, back);
+                self.want = begun_want(&self.head);
+                restart(&mut self.taken, &mut self.scans);
+                given?;
+                Ok(Taken::Whole(command))
+            }
+            Ok(Fed::Wrong(error)) => {
+                self.want = begun_want(&self.head);
+                restart(&mut self.taken, &mut self.scans);
+                Ok(Taken::Wrong(error))
+            }
+            Err(error) => {
+                self.want = begun_want(&self.head);
+                restart(&mut self.taken, &mut self.scans);
+                Err(error)
+            }
+        }
+    }
+}
+
+/// How the first token behind this is wanted.
+fn begun_want(head: &Head) -> Want
+    ensures { (mode : Mode) → commands.command mode head.now [] ≡ More result }
+{
+    match head {
+        Head::Fresh | Head::Prefixed(_) | Head::Defining(_, _, _) => Want::Expanded,
+        Head::Future(_, _) => Want::Raw,
+    }
+}
+
+/// Nothing is taken of the next command.
+fn restart(taken: &mut Items<Item>, scans: &mut Scans)
+    ensures taken { taken.new ≡ [] }
+    ensures scans { scans.new ≡ record scans.old { stage = Stage.Start } }
+{
+    taken.clear();
+    scans.stage = Stage::Start;
+}
+
+/// Whether an answer ends the command, and no token is given back.
+fn is_end(fed: &Fed<Command>) -> bool
+    ensures { IsTrue result ↔ IsEnd fed.now }
+{
+    match fed {
+        Fed::Done(_, back) => *back == 0,
+        Fed::Wrong(_) => true,
+        Fed::More(_) | Fed::Need(_) => false,
+    }
+}
+
+/// Takes one token, and the values that the command needs behind it. A token that ends the command isn't kept, where it isn't
+/// given back. Its only error is want of memory.
+fn take(
+    mode: Mode,
+    head: &Head,
+    taken: &mut Items<Item>,
+    scans: &mut Scans,
+    table: &Eqtb,
+    token: Seen,
+) -> Result<Fed<Command>, AllocError>
+    requires reads { HasTakenBy (command_rest mode head.now) held (commands.command mode head.now) scans.old taken.old }
+    requires on { IsOn scans.old }
+    requires few { more_needed scans.old ≤ length taken.old + 1 }
+    ensures settled { IfOk result (IsSettled mode head.now (joined (value_in table.now) mode head.now taken.old token) taken.new scans.new) }
+    ensures on { IfOk result (GoesOn scans.new) }
+{
+    let fed = scans.feed(mode, head, &token)?;
+    match fed {
+        // most tokens
+        Fed::More(want) => {
+            taken.push(Item::Took(token))?;
+            Ok(Fed::More(want))
+        }
+        fed => {
+            if is_end(&fed) {
+                return Ok(fed);
+            }
+            taken.push(Item::Took(token))?;
+            settle(taken, scans, table, fed)
+        }
+    }
+}
+
+/// Gives the values that the command needs, as the table has them, until it needs none. Its only error is want of memory.
+fn settle(
+    taken: &mut Items<Item>,
+    scans: &mut Scans,
+    table: &Eqtb,
+    fed: Fed<Command>,
+) -> Result<Fed<Command>, AllocError>
+    requires { GoesOn scans.old fed }
+    ensures settled { (mode : Mode) (head : Head) (items : List Item) → IsPending (value_in table.now) mode head items taken.old scans.old fed → IfOk result (IsSettled mode head items taken.new scans.new) }
+    ensures on { IfOk result (GoesOn scans.new) }
+{
+    let mut fed = fed;
+    loop {
+        match fed {
+            Fed::Need(kind) => fed = give(taken, scans, table, &kind)?,
+            settled => return Ok(settled),
+        }
+    }
+}
+
+/// Gives the value that is needed. Its only error is want of memory.
+fn give(
+    taken: &mut Items<Item>,
+    scans: &mut Scans,
+    table: &Eqtb,
+    kind: &Kind,
+) -> Result<Fed<Command>, AllocError>
+    requires { IsAssigning scans.old.stage }
+    ensures given { (mode : Mode) (head : Head) → IfOk result (IsGivenBy (command_rest mode head) held scans.old (value_for (value_in table.now) kind.now) scans.new) }
+    ensures needs { IfOk result (NeedsFewer (more_needed scans.old) (more_needed scans.new)) }
+    ensures on { IfOk result (GoesOn scans.new) }
+    ensures taken { OnOk result (taken.new ≡ taken.old ++ Gave (value_for (value_in table.now) kind.now) ∷ []) }
+{
+    match kind {
+        Kind::Quantity(place) => {
+            let value = table.quantity(place);
+            let fed = scans.give(&value)?;
+            taken.push(Item::Gave(value))?;
+            Ok(fed)
+        }
+    }
+}
+
+/// A clone has taken the same. Its only error is want of memory.
+impl Clone for CommandScan {
+    ghost is_clone = { λ source copy. copy ≡ source };
+
+    fn clone(&self) -> Result<Self, AllocError> {
+        Ok(CommandScan {
+            mode: self.mode,
+            head: self.head.share()?,
+            taken: self.taken.clone()?,
+            want: self.want,
+            scans: self.scans.clone()?,
+        })
+    }
+}
