@@ -1,9 +1,10 @@
 //! Cases of tx_node and tx_ship.
-use crate::lists::{Fault, list_of};
+use crate::lists::{Fault, list_of, natural};
 use std::alloc::{AllocError, Global};
 use tx_cases::{first_word, write_hexadecimal};
 use tx_dvi::PageBody;
-use tx_node::{BoxNode, PackError, hbox, same_box, same_list};
+use tx_node::{BoxNode, same_box, same_list};
+use tx_pack::PackError;
 use tx_ship::{ShipError, ShipParams, body};
 
 /// - `box LIST`, its width, height and depth, how deep boxes nest, and how many nodes there are;
@@ -46,15 +47,16 @@ fn write_page_at(
 }
 
 fn box_of(alloc: Global, text: &str) -> Result<BoxNode, Fault> {
-    hbox(list_of(alloc, text)?).map_err(Fault::Unpacked)
+    Ok(natural(alloc, list_of(alloc, text)?)?.node)
 }
 
-fn write_fault(text: &mut String, fault: Fault) -> Result<(), AllocError> {
+/// Writes why there is no box.
+pub fn write_fault(text: &mut String, fault: Fault) -> Result<(), AllocError> {
     match fault {
         Fault::Malformed => text.push_str("malformed"),
         Fault::Unpacked(PackError::SizeOutOfRange) => text.push_str("too wide"),
         Fault::Unpacked(PackError::TooDeep) => text.push_str("too deep"),
-        Fault::Memory => Err(AllocError),
+        Fault::Unpacked(PackError::OutOfMemory) | Fault::Memory => Err(AllocError),
     }
 }
 

@@ -1,8 +1,16 @@
-//! Lists of boxes, as they are written in cases: `kN` is a kern, `rW,H,D` a rule, where `-` is a side that isn't given, `s` a
-//! space, and what stands between `(` and `)` a box. `N*` before one of these words stands for so many of it.
+//! Lists of boxes, as they are written in cases: `kN` is a kern, `rW,H,D` a rule, where `-` is a side that isn't given,
+//! `gW,S,O,T,P` glue of width W that stretches by S of order O and shrinks by T of order P, `s` the same of nothing, `pN` a
+//! penalty, `xTEXT` a special, `lRULE/GLUE` leaders, and what stands between `(` and `)N` a box of the natural size, shifted
+//! by N or not at all. `N*` before one of these words stands for so many of it.
+ghost use Rattle.std.specs.Prelude.{IfSome};
+ghost use Rattle.tx_num.specs.Glue.{IsDimension};
+
 use std::alloc::{AllocError, Global};
 use std::mem;
-use tx_node::{Node, Nodes, PackError, Rule, hbox};
+use tx_bytes::Bytes;
+use tx_node::{KernKind, Leaders, LeadersKind, Node, Nodes, Plain, Rule, Shared};
+use tx_num::{Glue, Range};
+use tx_pack::{Goal, PackError, PackParams, Packed, hpack};
 
 /// Why there is no list.
 #[derive(Drop)]
@@ -57,14 +65,13 @@ fn counted(word: &str) -> (u32, &str) {
 }
 
 fn put(alloc: Global, outer: &mut Vec<Nodes>, list: &mut Nodes, word: &str) -> Result<(), Fault> {
+    if let Some(shift) = word.strip_prefix(')') {
+        return end(alloc, outer, list, shift);
+    }
     match word {
         "" => Ok(()),
         "(" => Ok(begin(alloc, outer, list)?),
-        ")" => end(alloc, outer, list),
-        _ => {
-            let node = node_of(word).ok_or(Fault::Malformed)?;
-            Ok(list.push(node)?)
-        }
+        _ => Ok(list.push(node_of(alloc, word)?)?),
     }
 }
 
@@ -73,25 +80,101 @@ fn begin(alloc: Global, outer: &mut Vec<Nodes>, list: &mut Nodes) -> Result<(), 
     Ok(())
 }
 
-fn end(alloc: Global, outer: &mut Vec<Nodes>, list: &mut Nodes) -> Result<(), Fault> {
+fn end(alloc: Global, outer: &mut Vec<Nodes>, list: &mut Nodes, shift: &str) -> Result<(), Fault> {
     let around = outer.pop().ok_or(Fault::Malformed)?;
-    let packed = hbox(mem::replace(list, around)).map_err(Fault::Unpacked)?;
-    list.push(Node::from_box(alloc, packed)?)?;
+    let packed = natural(alloc, mem::replace(list, around))?;
+    list.push(Node::from_box(alloc, shift.parse().unwrap_or(0), packed.node)?)?;
     Ok(())
 }
 
-fn node_of(word: &str) -> Option<Node> {
+/// A list in a box of its natural size.
+pub fn natural(alloc: Global, list: Nodes) -> Result<Packed, Fault> {
+    let params = PackParams {
+        badness: 10000,
+        fuzz: 0,
+        overfull_rule: 0,
+    };
+    hpack(alloc, list, Goal::Natural, &params).map_err(Fault::Unpacked)
+}
+
+fn node_of(alloc: Global, word: &str) -> Result<Node, Fault> {
+    if let Some(item) = plain_of(word) {
+        return Ok(Node::Plain(item));
+    }
+    let item = shared_of(alloc, word)?.ok_or(Fault::Malformed)?;
+    Ok(Node::from_shared(alloc, item)?)
+}
+
+fn plain_of(word: &str) -> Option<Plain> {
     if word == "s" {
-        return Some(Node::Space);
+        return Some(Plain::Glue(Glue::zero()));
     }
     if let Some(size) = word.strip_prefix('k') {
-        return Some(Node::Kern(size.parse().ok()?));
+        return Some(Plain::Kern(KernKind::Explicit, size.parse().ok()?));
     }
-    let (width, rest) = word.strip_prefix('r')?.split_once(',')?;
+    if let Some(penalty) = word.strip_prefix('p') {
+        return Some(Plain::Penalty(penalty.parse().ok()?));
+    }
+    Some(Plain::Glue(glue_of(word.strip_prefix('g')?)?))
+}
+
+fn shared_of(alloc: Global, word: &str) -> Result<Option<Shared>, AllocError> {
+    if let Some(text) = word.strip_prefix('x') {
+        let text = Bytes::from_slice(alloc, text.as_bytes())?;
+        return Ok(Some(Shared::Special(text)));
+    }
+    if let Some(sides) = word.strip_prefix('r') {
+        return Ok(rule_of(sides).map(Shared::Rule));
+    }
+    Ok(leaders_of(word).map(Shared::Leaders))
+}
+
+fn leaders_of(word: &str) -> Option<Leaders> {
+    let (rule, glue) = word.strip_prefix('l')?.split_once('/')?;
+    Some(Leaders {
+        kind: LeadersKind::Aligned,
+        glue: glue_of(glue)?,
+        rule: rule_of(rule)?,
+    })
+}
+
+fn rule_of(sides: &str) -> Option<Rule> {
+    let (width, rest) = sides.split_once(',')?;
     let (height, depth) = rest.split_once(',')?;
-    Some(Node::Rule(Rule {
-        width: width.parse().ok()?,
+    Some(Rule {
+        width: width.parse().ok(),
         height: height.parse().ok(),
         depth: depth.parse().ok(),
-    }))
+    })
+}
+
+fn glue_of(text: &str) -> Option<Glue> {
+    let (width, rest) = text.split_once(',')?;
+    let (stretch, rest) = rest.split_once(',')?;
+    let (stretch_order, rest) = rest.split_once(',')?;
+    let (shrink, shrink_order) = rest.split_once(',')?;
+    let stretch_order: u8 = stretch_order.parse().ok()?;
+    let shrink_order: u8 = shrink_order.parse().ok()?;
+    if stretch_order > 3 || shrink_order > 3 {
+        return None;
+    }
+    Some(Glue::new(
+        dimension_of(width)?,
+        dimension_of(stretch)?,
+        stretch_order,
+        dimension_of(shrink)?,
+        shrink_order,
+    ))
+}
+
+/// A size in sp, if the text is that of a dimension.
+pub fn dimension_of(text: &str) -> Option<i64>
+    ensures { IfSome result IsDimension }
+{
+    let size: i64 = text.parse().ok()?;
+    if Range::Dimen.holds(size) {
+        Some(size)
+    } else {
+        None
+    }
 }

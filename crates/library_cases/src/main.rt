@@ -1,8 +1,8 @@
 //! Runs the worked cases of the libraries in the files that the words of its command line name, and prints how many there
 //! are in each, or those that come out otherwise. Each module says what its cases are given.
 //!
-//! Read `numbers`, `files`, `scripts`, `pages`, `tokens`, `names`, `primitives`, `lists` and `boxes`, and
-//! `outside`.
+//! Read `numbers`, `files`, `scripts`, `pages`, `tokens`, `names`, `primitives`, `lists`, `boxes` and
+//! `packing`, and `outside`.
 #![tactic(auto)]
 
 mod boxes;
@@ -11,6 +11,7 @@ mod lists;
 mod names;
 mod numbers;
 mod outside;
+mod packing;
 mod pages;
 mod primitives;
 mod scripts;
@@ -72,6 +73,7 @@ fn write_row(alloc: Global, text: &mut String, word: &str, rest: &str) -> Result
         | "place"
         | "standing" => { primitives::write_answer(text, word, rest) }
         "box" | "twin" | "alike" | "page" | "body" => boxes::write_answer(alloc, text, word, rest),
+        "hpack" | "vpack" => packing::write_answer(alloc, text, word, rest),
         "category" | "change" | "same" | "copy" | "tokens" | "middle" | "ended" => {
             tokens::write_answer(alloc, text, word, rest)
         }
