@@ -1,8 +1,10 @@
 """What the program and Knuth's TeX say of a document, and whether that is the same: for check-macros and check-plain.
 
 A document's messages stand between `|*` and `*|`, so that they are found in TeX's log. What is meant to differ isn't looked
-at: a message prints a parameter character once, and puts no blank behind a name that is no word; at the end of a file the
-error comes before the file is closed. A document that meets a limit or what isn't there yet is compared up to there.
+at: a message prints a parameter character once, and puts no blank behind a name that is no word. Nor are parentheses, since
+that log has some of its own, around files. An error at the end of a file is said of the file that has ended and of its last
+line, where Knuth's TeX has closed it and names the one that reads it. A document that meets a limit or what isn't there yet
+is compared up to there.
 """
 import os
 import re
@@ -76,7 +78,7 @@ def events(log):
         if character:
             found.append("missing " + character)
         else:
-            text = re.sub(r"\(\./b\.tex|\[[-.0-9]*\]| |\n", "", text.replace("\\csname\\endcsname", "\\"))
+            text = re.sub(r"\(\./b\.tex|[()]|\[[-.0-9]*\]| |\n", "", text.replace("\\csname\\endcsname", "\\"))
             found.append(re.sub("#+", "#", text))
     return found
 
@@ -86,9 +88,9 @@ def short_files():
     resource.setrlimit(resource.RLIMIT_FSIZE, (FILE, FILE))
 
 
-def knuths(folder):
-    """What TeX's log says: texts and codes, the first error with its file and line, and whether it met a limit."""
-    words = ["tex", "-ini", "-interaction=nonstopmode", "-halt-on-error", "-file-line-error", "main.tex"]
+def log_of(folder, *options):
+    """TeX's log of a run with these options, nothing where it doesn't end."""
+    words = ["tex", "-ini", "-interaction=nonstopmode", *options, "-file-line-error", "main.tex"]
     place = {"max_print_line": "1000000", "TEXINPUTS": ".", "error_line": "254", "half_error_line": "200"}
     try:
         none = subprocess.DEVNULL
@@ -97,7 +99,35 @@ def knuths(folder):
         return None
     with open(os.path.join(folder, "main.log"), encoding="latin-1") as file:
         log = file.read()
-    if len(log) >= FILE:
+    return None if len(log) >= FILE else log
+
+
+def last_closed(log):
+    """The file that a log says was closed last, by its parentheses."""
+    log = re.sub(r"\|\*.*?\*\||There is no (\S+| ) in font", "", log[log.index("\n**"):], flags=re.S)
+    opened, closed = [], None
+    for name, end in re.findall(r"\((?:\./)?([a-z]+\.tex)|(\))", log):
+        if name:
+            opened.append(name)
+        elif opened:
+            closed = opened.pop()
+    return closed
+
+
+def ends_file(folder, text):
+    """Whether an error of TeX comes of the end of a file: in skipped text its help tells, which it gives where it goes on."""
+    if not text.startswith("Incomplete"):
+        return text.startswith("File ended")
+    log = log_of(folder) or ""
+    helped = re.search(r"Incomplete .*?(The file ended while I was|A forbidden control sequence occurred)", log, re.S)
+    return bool(helped) and helped[1].startswith("The file")
+
+
+def knuths(folder):
+    """What TeX's log says: texts and codes; the first error with its file and line, what it says, and the file whose end it
+    is, if it is one's; nothing where it met a limit."""
+    log = log_of(folder, "-halt-on-error")
+    if log is None:
         return None
     first = re.search(r"^(?:! |(?:\./)?([a-z.]+):(\d+): )(.*)$", log, re.M)
     before = log[: first.start()].split("\nRunaway ")[0] if first else log
@@ -105,7 +135,10 @@ def knuths(folder):
     if first and "capacity exceeded" in first[3]:
         return None
     number = first and next((number for number, pattern in ERRORS if re.match(pattern, first[3])), first[3])
-    return found, first and (number, first[1], int(first[2] or 0), first[3])
+    if not first:
+        return found, None
+    ended = last_closed(before) if ends_file(folder, first[3]) else None
+    return found, (number, first[1], int(first[2] or 0), first[3], ended)
 
 
 def counts(folder, name):
@@ -130,7 +163,21 @@ def first_difference(mine, theirs):
     return f"text {at + 1} is {mine[at:at + 1]}, Knuth's TeX {theirs[at:at + 1]}"
 
 
-def compare(said, log, theirs, our_counts, their_counts, whole=False):
+def last_lines(text):
+    """The lines with which a file may end: its last one, 0 where it has none, and those with \\endinput."""
+    lines = text.splitlines()
+    return [len(lines)] + [at for at, line in enumerate(lines, 1) if "\\endinput" in line]
+
+
+def is_place(files, error, name, line):
+    """Whether a file and line are those of an error of TeX's, or, where that is one of a file's end, those of this end."""
+    _, their_name, their_line, _, ended = error
+    if ended:
+        return name == ended and line in last_lines(files[ended])
+    return (name, line) == (their_name, their_line)
+
+
+def compare(files, said, log, theirs, our_counts, their_counts, whole=False):
     """What is wrong, nothing where all agrees, or all up to a limit or to what isn't there yet; whole: neither is met."""
     mine = events(as_knuth(log))
     end = re.search(r"run: (\d+) pages, (?:(end|budget|page limit)|error (\d+)(?: at (\S+) line (\d+))?)", said)
@@ -154,8 +201,7 @@ def compare(said, log, theirs, our_counts, their_counts, whole=False):
             return None
         if number != error[0]:
             return f"{end[0]}, Knuth's TeX {error}"
-        at_end = number == 16 and "Incomplete" in error[3] or "File ended" in error[3]
-        if not at_end and (end[4], int(end[5] or 0)) != (error[1], error[2]):
+        if not is_place(files, error, end[4], int(end[5] or 0)):
             return f"{end[0]}, Knuth's TeX {error}"
     elif our_counts != their_counts:
         return f"pages {our_counts}, Knuth's TeX {their_counts}"
@@ -174,4 +220,4 @@ def tried(program, folder, files, whole=False):
     """What is wrong with a document, nothing where the program and Knuth's TeX agree; its first file is the main one."""
     put(folder, files)
     said, log = ours(program, folder, files)
-    return compare(said, log, knuths(folder), counts(folder, "a.dvi"), counts(folder, "main.dvi"), whole)
+    return compare(files, said, log, knuths(folder), counts(folder, "a.dvi"), counts(folder, "main.dvi"), whole)
