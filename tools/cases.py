@@ -176,7 +176,7 @@ FOR_NOW = [
     (b'\\hbox{}\\end\n', 'run: 0 pages, error 24 at main.tex line 1', b''),
     (b'\\catcode`$=3 \\shipout\\hbox{$$}\\end\n', 'run: 0 pages, error 24 at main.tex line 1', b''),
     (b'\\shipout\\hbox to 3pt{}\\end\n', 'run: 0 pages, error 18 at main.tex line 1', b''),
-    (b'\\shipout\\hbox{\\kern 1in}\\end\n', 'run: 0 pages, error 4 at main.tex line 1', b''),
-    (b'\\toks0={}\\end\n', 'run: 0 pages, error 2 at main.tex line 1', b''),
+    (b'\\shipout\\hbox{\\kern 1truein}\\end\n', 'run: 0 pages, error 4 at main.tex line 1', b''),
+    (b'\\setbox0\\hbox{}\\end\n', 'run: 0 pages, error 2 at main.tex line 1', b''),
     (b'\\skip0=1pt\\end\n', 'run: 0 pages, error 2 at main.tex line 1', b''),
 ]
