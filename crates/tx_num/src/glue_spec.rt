@@ -9,10 +9,10 @@ use std::marker::Model;
 /// fil, fill, filll (TeX: The Program, section 150). Its three sizes are dimensions.
 #[derive(Clone, Copy, PartialEq, Eq)]
 pub struct Glue {
-    width: i64,
-    stretch: i64,
+    width: i32,
+    stretch: i32,
+    shrink: i32,
     stretch_order: u8,
-    shrink: i64,
     shrink_order: u8,
 }
 
@@ -41,10 +41,10 @@ impl Glue {
         ensures { result ≡ glue_of width stretch stretch_order shrink shrink_order }
     {
         Glue {
-            width,
-            stretch,
+            width: width as i32,
+            stretch: stretch as i32,
+            shrink: shrink as i32,
             stretch_order,
-            shrink,
             shrink_order,
         }
     }
@@ -83,7 +83,7 @@ impl Glue {
         ensures value { result ≡ self.now.width }
         ensures bound { IsDimension result }
     {
-        self.width
+        i64::from(self.width)
     }
 
     /// How far it stretches.
@@ -91,7 +91,7 @@ impl Glue {
         ensures value { result ≡ self.now.stretch }
         ensures bound { IsDimension result }
     {
-        self.stretch
+        i64::from(self.stretch)
     }
 
     /// The order of its stretch.
@@ -107,7 +107,7 @@ impl Glue {
         ensures value { result ≡ self.now.shrink }
         ensures bound { IsDimension result }
     {
-        self.shrink
+        i64::from(self.shrink)
     }
 
     /// The order of its shrink.
@@ -125,14 +125,14 @@ impl Glue {
         ensures sum { IfOk result (λ g. g ≡ glue_sum self.now other.now) }
         ensures overflow { IsOk result ↔ IsGlue (glue_sum self.now other.now) }
     {
-        let width = self.width + other.width;
+        let width = self.width() + other.width();
         let (stretch, stretch_order) = joined(
-            (self.stretch, self.stretch_order),
-            (other.stretch, other.stretch_order),
+            (self.stretch(), self.stretch_order()),
+            (other.stretch(), other.stretch_order()),
         );
         let (shrink, shrink_order) = joined(
-            (self.shrink, self.shrink_order),
-            (other.shrink, other.shrink_order),
+            (self.shrink(), self.shrink_order()),
+            (other.shrink(), other.shrink_order()),
         );
         Glue::try_new(width, stretch, stretch_order, shrink, shrink_order)
     }
@@ -142,11 +142,11 @@ impl Glue {
         ensures { result ≡ glue_negated self.now }
     {
         Glue::new(
-            -self.width,
-            -self.stretch,
-            self.stretch_order,
-            -self.shrink,
-            self.shrink_order,
+            -self.width(),
+            -self.stretch(),
+            self.stretch_order(),
+            -self.shrink(),
+            self.shrink_order(),
         )
     }
 }

@@ -18,7 +18,7 @@ pub use decimal::{decimals, scaled_text};
 pub use fractions::{set_at, x_over_n, xn_over_d};
 pub use glue_spec::Glue;
 pub use limits::{Overflow, Range};
-pub use stretching::badness;
+pub use stretching::{badness, badness_of_sums};
 pub use units::PhysicalUnit;
 
 /// A size in scaled points: 65536 of them are one printer's point.
