@@ -4,7 +4,7 @@ ghost use Rattle.tx_node.specs.Nodes.{item_of, list_of};
 
 use crate::head::{BoxHead, Change, Direction, GlueSet, Setting};
 use crate::node::{BoxNode, Node};
-use crate::plain::{Leaders, LeadersKind, Shared};
+use crate::plain::{KernKind, Leaders, LeadersKind, Plain, Shared};
 use crate::rule::Rule;
 use tx_num::Glue;
 
@@ -100,6 +100,27 @@ fn same_leaders(a: Leaders, b: Leaders) -> bool
     same_rule(a.rule, b.rule)
 }
 
+/// Whether two small items are equal.
+fn same_plain(a: &Plain, b: &Plain) -> bool
+    ensures { IsTrue result ↔ (a.now ≡ b.now) }
+{
+    match (a, b) {
+        (Plain::Kern(k, x), Plain::Kern(l, y)) => same_origin(*k, *l) && *x == *y,
+        (Plain::Glue(x), Plain::Glue(y)) => same_glue(*x, *y),
+        (Plain::Penalty(x), Plain::Penalty(y)) => *x == *y,
+        (Plain::Kern(_, _), Plain::Glue(_) | Plain::Penalty(_))
+        | (Plain::Glue(_), Plain::Kern(_, _) | Plain::Penalty(_))
+        | (Plain::Penalty(_), Plain::Kern(_, _) | Plain::Glue(_)) => false,
+    }
+}
+
+/// Whether two kerns come from the same.
+fn same_origin(a: KernKind, b: KernKind) -> bool
+    ensures { IsTrue result ↔ (a ≡ b) }
+{
+    a == b
+}
+
 /// Whether two larger items are equal.
 fn same_shared(a: &Shared, b: &Shared) -> bool
     ensures { IsTrue result ↔ (a.now ≡ b.now) }
@@ -120,7 +141,7 @@ pub fn same_node(a: &Node, b: &Node) -> bool
     ensures { IsTrue result ↔ (item_of a.now ≡ item_of b.now) }
 {
     match (a, b) {
-        (Node::Plain(a), Node::Plain(b)) => a == b,
+        (Node::Plain(a), Node::Plain(b)) => same_plain(a, b),
         (Node::Shared(a), Node::Shared(b)) => same_shared(a, b),
         (Node::Box(s, a), Node::Box(t, b)) => *s == *t && same_box(a, b),
         (Node::Plain(_), Node::Shared(_) | Node::Box(_, _))

@@ -1,5 +1,5 @@
 use Rattle.std.proofs.Common.{ℕ, ◌<◌, subst}
-use Rattle.tx_ship.proofs.Measures.{node_measure, to-item}
+use Rattle.tx_node.proofs.Measures.{node_measure, to-item}
 use Rattle.tx_ship.proofs.level.+level.Goals as goal
 
 pub list_level-node_level-requires : goal.list_level-node_level-requires

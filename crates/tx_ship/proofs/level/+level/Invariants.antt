@@ -3,7 +3,7 @@ use Rattle.tx_node.specs.Items.{items_of}
 use Rattle.tx_node.specs.Nodes.{list_of}
 use Rattle.tx_node.specs.Counts.{nesting_of}
 use Rattle.tx_ship.specs.Commands.{level_of}
-use Rattle.tx_ship.proofs.Measures.{list_measure, node_measure, box_measure}
+use Rattle.tx_node.proofs.Measures.{list_measure, node_measure, box_measure}
 use Rattle.tx_ship.proofs.level.+level.Given as goal
 
 abbrev pub decreases-list_level : goal.decreases-list_level

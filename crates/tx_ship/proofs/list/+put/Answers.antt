@@ -8,7 +8,7 @@ use Rattle.std.proofs.Common.{drop, ◌+◌}
 use Rattle.tx_ship.specs.Commands.{list_commands, item_commands}
 use Rattle.tx_ship.specs.Standing.{reach_of, place, next, reference}
 use Rattle.tx_ship.specs.Within.{IsOutside, box_lies, inside_lies, list_lies, item_lies}
-use Rattle.tx_ship.proofs.Measures.{node_measure, list_measure, to-item, to-list}
+use Rattle.tx_node.proofs.Measures.{node_measure, list_measure, to-item, to-list}
 use Rattle.tx_ship.proofs.Steps.{near-box, shifted-is, span-is, box-item-lies, lies-on, lies-not, lies-end, sums-on, put-on, put-end, outside-on, on-err}
 use Rattle.tx_ship.proofs.list.+put.Goals as goal
 

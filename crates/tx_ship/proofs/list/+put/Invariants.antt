@@ -5,7 +5,7 @@ use Rattle.tx_node.specs.Setting.{begun, sums_fit}
 use Rattle.tx_ship.specs.Commands.{list_commands}
 use Rattle.tx_ship.specs.Standing.{reach_of, place}
 use Rattle.tx_ship.specs.Within.{list_lies, IsReader}
-use Rattle.tx_ship.proofs.Measures.{list_measure, node_measure, box_measure, framed_measure, inside_measure}
+use Rattle.tx_node.proofs.Measures.{list_measure, node_measure, box_measure, framed_measure, inside_measure}
 use Rattle.tx_ship.proofs.list.+put.Given as goal
 
 abbrev pub decreases-put_list : goal.decreases-put_list
