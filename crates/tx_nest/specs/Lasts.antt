@@ -1,0 +1,82 @@
+-- What commands read and take away of a list's last item (TeX: The Program, sections 424, 1080 and 1105).
+use Rattle.std.specs.Prelude.{◌-◌, ℤ, pos, Bool, false, is_some, List, [], ◌∷◌, length, take, slice_get, unwrap_or, Option, Some, None, option_and_then, if◌then◌else◌}
+use Rattle.tx_num.specs.Glue.{GlueSpec, glue_of}
+use Rattle.tx_nest.specs.declared.last.ItemKind.{ItemKind}
+use Rattle.tx_nest.specs.declared.last.ItemKind.TheVariants as kind
+use Rattle.tx_node.specs.declared.plain.Plain.{Plain}
+use Rattle.tx_node.specs.declared.plain.Plain.TheVariants.{Kern, Glue, Penalty}
+use Rattle.tx_node.specs.Items.{Item, Items, none, more, plain, shared, boxed, PackedBox}
+use Rattle.tx_node.specs.Sizes.{glue_of_item}
+
+-- the last item, None where the list is empty
+abbrev pub last_of : List Item → Option Item
+last_of list = slice_get list (length list - 1)
+
+-- the number of a penalty, the size of a kern, whichever its kind, the box of an item without its shift; None of other items
+abbrev pub plain_penalty : Plain → Option ℤ
+plain_penalty (Kern kind size) = None
+plain_penalty (Glue g) = None
+plain_penalty (Penalty n) = Some n
+
+abbrev pub penalty_of : Item → Option ℤ
+penalty_of (plain p) = plain_penalty p
+penalty_of (shared s) = None
+penalty_of (boxed shift head inner) = None
+
+abbrev pub plain_kern : Plain → Option ℤ
+plain_kern (Kern kind size) = Some size
+plain_kern (Glue g) = None
+plain_kern (Penalty n) = None
+
+abbrev pub kern_of : Item → Option ℤ
+kern_of (plain p) = plain_kern p
+kern_of (shared s) = None
+kern_of (boxed shift head inner) = None
+
+abbrev pub list_from : Items → List Item
+list_from none = []
+list_from (more item rest) = item ∷ list_from rest
+
+abbrev pub box_of : Item → Option PackedBox
+box_of (plain p) = None
+box_of (shared s) = None
+box_of (boxed shift head inner) = Some (record { head = head; list = list_from inner })
+
+-- \lastpenalty, \lastkern and \lastskip: nothing where the last item is another
+abbrev pub last_penalty : List Item → ℤ
+last_penalty list = unwrap_or (option_and_then penalty_of (last_of list)) (pos 0)
+
+abbrev pub last_kern : List Item → ℤ
+last_kern list = unwrap_or (option_and_then kern_of (last_of list)) (pos 0)
+
+abbrev pub no_glue : GlueSpec
+no_glue = glue_of (pos 0) (pos 0) 0 (pos 0) 0
+
+-- leaders count as their glue
+abbrev pub last_skip : List Item → GlueSpec
+last_skip list = unwrap_or (option_and_then glue_of_item (last_of list)) no_glue
+
+-- the box of \lastbox
+abbrev pub last_box : List Item → Option PackedBox
+last_box list = option_and_then box_of (last_of list)
+
+-- the items that \unpenalty, \unkern and \unskip take away
+abbrev pub is_of : ItemKind → Item → Bool
+is_of kind.Penalty item = is_some (penalty_of item)
+is_of kind.Kern item = is_some (kern_of item)
+is_of kind.Skip item = is_some (glue_of_item item)
+
+abbrev pub is_last_of : ItemKind → Option Item → Bool
+is_last_of kind None = false
+is_last_of kind (Some item) = is_of kind item
+
+-- a list without its last item
+abbrev pub shortened : List Item → List Item
+shortened list = take (length list - 1) list
+
+-- a list without its last item, if that is one of these, or a box
+abbrev pub without_last : ItemKind → List Item → List Item
+without_last kind list = if is_last_of kind (last_of list) then shortened list else list
+
+abbrev pub without_box : List Item → List Item
+without_box list = if is_some (last_box list) then shortened list else list

@@ -1,0 +1,5 @@
+pub mod States
+pub mod Lending
+pub mod Leading
+pub mod Appended
+pub mod Lasts
