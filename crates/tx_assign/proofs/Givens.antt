@@ -15,13 +15,17 @@ use Rattle.tx_seen.specs.declared.fed.Fed.{Fed}
 use Rattle.tx_seen.specs.declared.fed.Fed.TheVariants as fed
 use Rattle.tx_seen.specs.Readings.{Reading, next}
 use Rattle.tx_scan.specs.declared.scans.IntScan.{IntScan}
-use Rattle.tx_scan.specs.Rests.{IsPassed, IsGivenBy}
+use Rattle.tx_scan.specs.Rests.{IsPassed, IsGivenBy, IsEnd}
 use Rattle.tx_scan.specs.IntegerRests as integers
 use Rattle.tx_scan.proofs.Answering.{same-passed}
 use Rattle.tx_assign.specs.declared.scan.AssignScan.{AssignScan}
 use Rattle.tx_assign.specs.declared.scan.AssignStage.TheVariants as stage
 use Rattle.tx_assign.specs.declared.types.Assignment.{Assignment}
-use Rattle.tx_assign.specs.Assignments.{behind_number}
+use Rattle.tx_scan.specs.declared.scans.DimenScan.{DimenScan}
+use Rattle.tx_scan.specs.declared.scans.Measure.{Measure}
+use Rattle.tx_scan.specs.DimensionRests as sizes
+use Rattle.tx_assign.specs.declared.types.Purpose.{Purpose}
+use Rattle.tx_assign.specs.Assignments.{behind_number, sized}
 use Rattle.tx_assign.specs.Rests.{rest, held, held_items, IsAssigning}
 use Rattle.tx_assign.proofs.Steps.{answer-passed}
 
@@ -92,3 +96,35 @@ one-behind (suc n) t e = refl
 
 pub ends-seen : (old : AssignScan) (scan : IntScan) (v : Value) (n : ℤ) (back : ℕ) (t : Seen) → integers.IsGiven old.integer v scan (fed.Done n back) → (back ≡ 0 → ⊥) → old.behind ≡ Some t → behind_it old ≡ Took t ∷ []
 ends-seen old scan v n back t k e b = rw b (one-behind (integers.held old.integer) t (λ none. e ((k []).0 ∙ none)))
+
+-- the value that a size waits for
+pub size-more : (old : AssignScan) (scan : DimenScan) (purpose : Purpose) (v : Value) (want : Want) → old.stage ≡ stage.Size purpose → IsGivenBy sizes.rest sizes.held old.size v scan (fed.More want) → IsGivenBy rest held old v (record old { size = scan }) (fed.More want)
+size-more old scan purpose v want s k = λ behind short. rw s (
+  ap (λ r. next r (sized purpose old.place)) (k behind (rw s at short)).0,
+  (k behind (rw s at short)).1,
+  λ item more. ap (λ r. next r (sized purpose old.place)) ((k behind (rw s at short)).2 item more),
+)
+
+pub size-need : (old : AssignScan) (scan : DimenScan) (purpose : Purpose) (v : Value) (kind : Kind) → old.stage ≡ stage.Size purpose → IsGivenBy sizes.rest sizes.held old.size v scan (fed.Need kind) → IsGivenBy rest held old v (record old { size = scan }) (fed.Need kind)
+size-need old scan purpose v kind s k = λ behind short. rw s (
+  ap (λ r. next r (sized purpose old.place)) (k behind (rw s at short)).0,
+  (k behind (rw s at short)).1,
+  λ item more. ap (λ r. next r (sized purpose old.place)) ((k behind (rw s at short)).2 item more),
+)
+
+pub size-wrong : (old new : AssignScan) (scan : DimenScan) (purpose : Purpose) (v : Value) (error : TexError) → old.stage ≡ stage.Size purpose → IsGivenBy sizes.rest sizes.held old.size v scan (fed.Wrong error) → IsGivenBy rest held old v new (fed.Wrong error)
+size-wrong old new scan purpose v error s k = λ behind short more. rw s (ap (λ r. next r (sized purpose old.place)) (k behind (rw s at short) more))
+
+-- an answer that ends a value, with the tokens behind it
+end-passed : (reading : List Item → Reading Assignment) (behind : List Item) (back : ℕ) (new : AssignScan) (answer : Fed Assignment) → IsEnd reading back answer → IsPassed rest held (λ more. reading (behind ++ more)) behind back new answer
+end-passed reading behind back new (fed.More want) k = absurd k
+end-passed reading behind back new (fed.Need kind) k = absurd k
+end-passed reading behind back new (fed.Done value count) k = (k.0, λ more. k.1 (behind ++ more))
+end-passed reading behind back new (fed.Wrong error) k = λ more. k (behind ++ more)
+
+pub size-done : {E : Type 0} (old new : AssignScan) (scan : DimenScan) (purpose : Purpose) (v : Value) (measure : Measure) (back : ℕ) (answer : Result (Fed Assignment) E) → old.stage ≡ stage.Size purpose → IsGivenBy sizes.rest sizes.held old.size v scan (fed.Done measure back) → IfOk answer (IsEnd (λ more. sized purpose old.place measure more) back) → IfOk answer (IsGivenBy rest held old v new)
+size-done old new scan purpose v measure back (Ok answer) s k e = λ behind short.
+    same-passed rest held (λ more. rest old behind (Gave v) more) (λ more. sized purpose old.place measure (behind ++ more)) behind (held old) back new answer
+    (λ more. rw s (ap (λ r. next r (sized purpose old.place)) ((k behind (rw s at short)).1 more))) (rw s (sym (k behind (rw s at short)).0))
+    (end-passed (sized purpose old.place measure) behind back new answer e)
+size-done old new scan purpose v measure back (Err error) s k e = tt

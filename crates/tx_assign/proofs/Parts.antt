@@ -77,8 +77,13 @@ integer-wrong old new scan purpose t error k = λ behind more. ap (λ r. next r 
 -- a size
 pub size-more : (old : AssignScan) (scan : DimenScan) (purpose : Purpose) (t : Seen) (want : Want) → sizes.IsFed old.size t scan (fed.More want) → (behind : List Item) → IsAssigning (sizes.most old.size) (λ more. next (sizes.rest old.size behind (Took t) more) (sized purpose old.place)) t (record old { stage = stage.Size purpose; size = scan }) (fed.More want)
 size-more old scan purpose t want k = λ behind.
-    more-next sizes.rest held_none rest held (sizes.most old.size) (sizes.most old.size) (λ more. sizes.rest old.size behind (Took t) more) (sized purpose old.place) t scan (record old { stage = stage.Size purpose; size = scan }) want
-    (k behind) refl (λ item more. refl)
+    more-next sizes.rest sizes.held rest held (sizes.most old.size) (sizes.most old.size) (λ more. sizes.rest old.size behind (Took t) more) (sized purpose old.place) t scan (record old { stage = stage.Size purpose; size = scan }) want
+    (k behind) (k behind).1 (λ item more. refl)
+
+pub size-need : (old : AssignScan) (scan : DimenScan) (purpose : Purpose) (t : Seen) (kind : Kind) → sizes.IsFed old.size t scan (fed.Need kind) → (behind : List Item) → IsAssigning (sizes.most old.size) (λ more. next (sizes.rest old.size behind (Took t) more) (sized purpose old.place)) t (record old { stage = stage.Size purpose; size = scan }) (fed.Need kind)
+size-need old scan purpose t kind k = λ behind.
+    need-next sizes.rest sizes.held rest held (sizes.most old.size) (sizes.most old.size) (λ more. sizes.rest old.size behind (Took t) more) (sized purpose old.place) t scan (record old { stage = stage.Size purpose; size = scan }) kind
+    (k behind) (k behind).1 (λ item more. refl)
 
 pub size-wrong : (old new : AssignScan) (scan : DimenScan) (purpose : Purpose) (t : Seen) (error : TexError) → sizes.IsFed old.size t scan (fed.Wrong error) → (behind : List Item) → IsAssigning (sizes.most old.size) (λ more. next (sizes.rest old.size behind (Took t) more) (sized purpose old.place)) t new (fed.Wrong error)
 size-wrong old new scan purpose t error k = λ behind more. ap (λ r. next r (sized purpose old.place)) (k behind more)

@@ -1,25 +1,24 @@
 -- Steps of the scan of an assignment.
-use Rattle.std.proofs.Common.{◌≡◌, ◌≤◌, ℕ, ℤ, true, false, List, [], ◌∷◌, ◌++◌, Option, Some, Result, Ok, Err, IfOk, refl, arith}
+use Rattle.std.proofs.Common.{◌≡◌, ◌≤◌, ℕ, ℤ, true, false, List, [], ◌∷◌, Option, Some, Result, Ok, Err, IfOk, refl, arith}
 use Rattle.tx_seen.specs.declared.place.Place.{Place}
 use Rattle.tx_seen.specs.declared.seen.Seen.{Seen}
 use Rattle.tx_seen.specs.declared.item.Item.{Item}
-use Rattle.tx_seen.specs.declared.item.Item.TheVariants.{Took, Gave}
-use Rattle.tx_seen.specs.declared.fed.Value.{Value}
+use Rattle.tx_seen.specs.declared.item.Item.TheVariants.{Took}
 use Rattle.tx_seen.specs.declared.fed.Fed.{Fed}
 use Rattle.tx_seen.specs.declared.fed.Fed.TheVariants as fed
 use Rattle.tx_prim.specs.declared.family.Numbered.{Numbered}
 use Rattle.tx_prim.specs.declared.family.Operation.{Operation}
 use Rattle.tx_seen.specs.Places.{place_of}
 use Rattle.tx_seen.specs.Seen.{is_undefined}
-use Rattle.tx_seen.specs.Readings.{Reading, next, Answers}
+use Rattle.tx_seen.specs.Readings.{Reading, next}
 use Rattle.tx_scan.specs.declared.scans.IntScan.{IntScan}
 use Rattle.tx_scan.specs.declared.scans.DimenScan.{DimenScan}
-use Rattle.tx_scan.specs.Rests.{HasTakenBy, IsPassed, IsGivenBy}
+use Rattle.tx_scan.specs.Rests.{IsPassed}
 use Rattle.tx_scan.specs.Integers.{integer, byte_of}
 use Rattle.tx_scan.specs.Dimensions.{dimension, lengths}
 use Rattle.tx_scan.specs.IntegerRests as integers
 use Rattle.tx_scan.specs.DimensionRests as sizes
-use Rattle.tx_scan.proofs.Answering.{same-answer, given-answers}
+use Rattle.tx_scan.proofs.Answering.{same-answer}
 use Rattle.tx_scan.proofs.Composing.{answer-most}
 use Rattle.tx_assign.specs.declared.scan.AssignScan.{AssignScan}
 use Rattle.tx_assign.specs.declared.types.Assignment.{Assignment}
@@ -89,8 +88,3 @@ value-by-integer purpose p scan t new (Err error) e b k = tt
 pub operand-side : (operation : Operation) (side : Variable) (t : Seen) (new : AssignScan) (answer : Fed Assignment) → is_undefined t ≡ false → variable_of t.meaning ≡ Some side → is_changeable side ≡ true → IsAssigning 0 (λ more. left_side (Some operation) side more) t new answer → IsAssigning 0 (λ more. arithmetic operation (Took t ∷ more)) t new answer
 operand-side operation side t new answer u v h k =
     same-answer rest held 0 (λ more. arithmetic operation (Took t ∷ more)) (λ more. left_side (Some operation) side more) t new answer (λ more. rw (u, v, h) refl) k
-
--- the answer to a value is what reading gives of all that was taken
-pub given-ok : {S A E : Type 0} (rest : S → List Item → Item → List Item → Reading A) (held : S → ℕ) (reading : List Item → Reading A) (old new : S) (taken : List Item) (v : Value) (answer : Result (Fed A) E) → HasTakenBy rest held reading old taken → IfOk answer (IsGivenBy rest held old v new) → IfOk answer (Answers reading (HasTakenBy rest held reading) (taken ++ Gave v ∷ []) new)
-given-ok rest held reading old new taken v (Ok answer) h k = given-answers rest held reading old new taken v answer h k
-given-ok rest held reading old new taken v (Err e) h k = tt

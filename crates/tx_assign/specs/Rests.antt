@@ -59,6 +59,7 @@ rest scan behind item more = stage_rest scan.stage scan behind item more
 -- how many tokens are held behind the value
 abbrev pub stage_held : AssignStage → AssignScan → ℕ
 stage_held (stage.Integer purpose) scan = integers.held scan.integer
+stage_held (stage.Size purpose) scan = sizes.held scan.size
 stage_held _ scan = 0
 
 abbrev pub held : AssignScan → ℕ
@@ -66,12 +67,13 @@ held scan = stage_held scan.stage scan
 
 -- how many values are needed at most, unless more tokens need more: those that numbers wait for, and one that may begin
 -- the value behind the number of a register
-abbrev pub stage_needs : AssignStage → ℕ
-stage_needs (stage.Number kind operation) = 1
-stage_needs _ = 0
+abbrev pub stage_needed : AssignStage → AssignScan → ℕ
+stage_needed (stage.Number kind operation) scan = integers.waiting scan.integer + 1
+stage_needed (stage.Size purpose) scan = sizes.more_needed scan.size
+stage_needed _ scan = integers.waiting scan.integer
 
 abbrev pub more_needed : AssignScan → ℕ
-more_needed scan = integers.waiting scan.integer + stage_needs scan.stage
+more_needed scan = stage_needed scan.stage scan
 
 -- the scan that has taken these items reads on as the assignment that begins with them
 abbrev pub HasTaken : Assigning → AssignScan → List Item → Type 0

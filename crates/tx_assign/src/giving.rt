@@ -44,7 +44,8 @@ impl AssignScan {
             AssignStage::Operand(_) => Ok(Fed::Wrong(TexError::NoAssignment)),
             AssignStage::Equals(_) => Ok(Fed::Wrong(TexError::MissingNumber)),
             AssignStage::By(_, _) => Ok(Fed::Wrong(TexError::MissingNumber)),
-            AssignStage::Size(_) | AssignStage::List => Ok(Fed::Wrong(TexError::MissingNumber)),
+            AssignStage::Size(purpose) => self.give_size(purpose, value),
+            AssignStage::List => Ok(Fed::Wrong(TexError::MissingNumber)),
         }
     }
 
@@ -85,6 +86,20 @@ impl AssignScan {
             Fed::More(want) => Ok(Fed::More(want)),
             Fed::Need(wanted) => Ok(Fed::Need(wanted)),
             Fed::Done(number, back) => self.end_integer(purpose, number, back),
+            Fed::Wrong(error) => Ok(Fed::Wrong(error)),
+        }
+    }
+
+    /// The value that a size waits for. Its only error is want of memory.
+    fn give_size(&mut self, purpose: Purpose, value: &Value) -> Result<Fed<Assignment>, AllocError>
+        requires { self.old.stage ≡ AssignStage.Size purpose }
+        ensures part { IfOk result (IsGivenBy rests.rest rests.held self.old value.now self.new) }
+        ensures fewer { IfOk result (NeedsFewer (more_needed self.old) (more_needed self.new)) }
+    {
+        match self.size.give(value)? {
+            Fed::More(want) => Ok(Fed::More(want)),
+            Fed::Need(wanted) => Ok(Fed::Need(wanted)),
+            Fed::Done(measure, back) => self.end_size(purpose, measure, back),
             Fed::Wrong(error) => Ok(Fed::Wrong(error)),
         }
     }

@@ -118,7 +118,7 @@ impl AssignScan {
         token: &Seen,
     ) -> Result<Fed<Assignment>, AllocError>
         ensures answer { IfOk result (λ answer. (behind : List Item) → IsAssigning (sizes.most self.old.size) (λ more. next (sizes.rest self.old.size behind (Took token.now) more) (sized purpose self.old.place)) token.now self.new answer) }
-        ensures needed { IfOk result (NeedsNoMore (integers.waiting self.old.integer) (more_needed self.new)) }
+        ensures needed { IfOk result (NeedsNoMore (sizes.more_needed self.old.size) (more_needed self.new)) }
     {
         self.stage = AssignStage::Size(purpose);
         match self.size.feed(token)? {
@@ -130,7 +130,7 @@ impl AssignScan {
     }
 
     /// The size is whole; so many tokens behind it are given back.
-    fn end_size(
+    pub(crate) fn end_size(
         &self,
         purpose: Purpose,
         measure: Measure,

@@ -1,6 +1,6 @@
 -- What is read leaves no more items than there were.
-use Rattle.std.proofs.Common.{◌≡◌, ℕ, ◌+◌, ◌*◌, ◌≤◌, ◌&&◌, Bool, true, false, cond, not, Option, Some, None, List, [], ◌∷◌, ◌++◌, length, refl, arith}
-use Rattle.std.specs.Prelude.{ℤ, nat_le}
+use Rattle.std.proofs.Common.{◌≡◌, ℕ, ◌+◌, ◌*◌, ◌≤◌, ◌&&◌, Bool, true, false, cond, not, Option, Some, None, List, [], ◌∷◌, ◌++◌, length, pos, length-append, refl, arith}
+use Rattle.std.specs.Prelude.{ℤ, nat_le, unsigned_abs}
 use Rattle.tx_num.specs.declared.units.PhysicalUnit.TheVariants.{Point}
 use Rattle.tx_num.specs.Decimals.{fraction_of}
 use Rattle.tx_num.specs.Units.{size_of}
@@ -15,17 +15,23 @@ use Rattle.tx_scan.specs.declared.scans.Radix.TheVariants.{Decimal}
 use Rattle.tx_scan.specs.declared.scans.Beginning.{Beginning}
 use Rattle.tx_scan.specs.declared.scans.Beginning.TheVariants as begin
 use Rattle.tx_scan.specs.Beginnings.{base, digit, beginning}
-use Rattle.tx_scan.specs.Integers.{Ended, unless_space, space_after, code_named, coded, character_code}
+use Rattle.tx_scan.specs.Integers.{Ended, unless_space, space_after, code_named, coded, character_code, digits, first_digit, in_range, is_in_range, given, quantity, numbered, whole, with_sign, byte_of, signed_constant, begun, signs, integer}
 use Rattle.tx_scan.specs.declared.scans.Units.{Units}
 use Rattle.tx_scan.specs.declared.scans.Order.{Order}
 use Rattle.tx_scan.specs.declared.scans.Order.TheVariants.{Normal, Fil}
 use Rattle.tx_scan.specs.declared.scans.Measure.{Measure}
 use Rattle.tx_scan.specs.declared.scans.UnitName.{UnitName}
 use Rattle.tx_scan.specs.declared.scans.Letters.{Letters}
-use Rattle.tx_scan.specs.declared.scans.Letters.TheVariants.{Nothing}
+use Rattle.tx_scan.specs.declared.scans.Outer.{Outer}
+use Rattle.tx_scan.specs.declared.scans.Amount.{Amount}
+use Rattle.tx_scan.specs.declared.scans.Amount.TheVariants.{Whole as All, Times}
+use Rattle.tx_prim.specs.declared.family.Numbered.{Numbered}
+use Rattle.tx_seen.specs.declared.place.Place.{Place}
+use Rattle.tx_seen.specs.Places.{is_size, place_of}
+use Rattle.tx_seen.specs.declared.fed.Value.TheVariants.{Int, Dimen, Flag}
 use Rattle.tx_scan.specs.declared.scans.Spelled.{Spelled}
 use Rattle.tx_scan.specs.declared.scans.Spelled.TheVariants.{On, Whole, Infinite, No}
-use Rattle.tx_scan.specs.Dimensions.{Factor, factor_ended, fraction, is_decimal, whole_units, first_unit, is_unread, letter_on, spelled, unit_name, size_in, sized, unit_rest, raised, more_infinite, fil_rest, unit_ended, factored, counted, size_begun, size_signs, dimension}
+use Rattle.tx_scan.specs.Dimensions.{Factor, factor_ended, fraction, is_decimal, whole_units, first_unit, is_internal, is_size_kind, turned, amount, ended_with, quantified, numbered_unit, measured, first_letter, letter_on, spelled, unit_name, size_in, sized, unit_rest, raised, more_infinite, fil_rest, unit_ended, factored, counted, size_begun, size_signs, dimension}
 
 -- at most so many items are behind what is read, with those that it keeps itself
 abbrev pub LeavesBy : {A : Type 0} → (A → List Item) → ℕ → Reading A → Type 0
@@ -123,20 +129,94 @@ leaves-first radix [] = tt
 leaves-first radix (Gave v ∷ rest) = tt
 leaves-first radix (Took t ∷ rest) = leaves-first-by radix t rest (digit radix t) refl
 
+leaves-digits-by : (radix : Radix) (n : ℕ) (t : Seen) (rest : List Item) → ((n : ℕ) → LeavesBy behind_number (length rest) (digits radix n rest)) → (d : Option ℕ) → digit radix t ≡ d → LeavesBy behind_number (length (Took t ∷ rest)) (digits radix n (Took t ∷ rest))
+leaves-digits-by radix n t rest on None is = rw is (leaves-if behind_number _ (is_undefined t) _ _ tt (length-unless t rest))
+leaves-digits-by radix n t rest on (Some d) is =
+    rw is (leaves-if behind_number _ (nat_le (base radix * n + d) 2147483647) (digits radix (base radix * n + d) rest) _
+    (leaves-more behind_number (length rest) (length (Took t ∷ rest)) (digits radix (base radix * n + d) rest) (omega arith) (on (base radix * n + d))) tt)
+
+leaves-digits : (radix : Radix) (items : List Item) (n : ℕ) → LeavesBy behind_number (length items) (digits radix n items)
+leaves-digits radix [] n = tt
+leaves-digits radix (Gave v ∷ rest) n = tt
+leaves-digits radix (Took t ∷ rest) n = leaves-digits-by radix n t rest (leaves-digits radix rest) (digit radix t) refl
+
+leaves-first-number-by : (radix : Radix) (t : Seen) (rest : List Item) (d : Option ℕ) → digit radix t ≡ d → LeavesBy behind_number (length (Took t ∷ rest)) (first_digit radix (Took t ∷ rest))
+leaves-first-number-by radix t rest None is = rw is (leaves-if behind_number _ (is_undefined t) _ _ tt tt)
+leaves-first-number-by radix t rest (Some d) is =
+    rw is (leaves-more behind_number (length rest) (length (Took t ∷ rest)) (digits radix d rest) (omega arith) (leaves-digits radix rest d))
+
+leaves-first-number : (radix : Radix) (items : List Item) → LeavesBy behind_number (length items) (first_digit radix items)
+leaves-first-number radix [] = tt
+leaves-first-number radix (Gave v ∷ rest) = tt
+leaves-first-number radix (Took t ∷ rest) = leaves-first-number-by radix t rest (digit radix t) refl
+
+leaves-in-range : (n : ℤ) (rest : List Item) → Leaves (length rest) (in_range n rest)
+leaves-in-range n rest = leaves-if none_kept _ (is_in_range n) _ _ (omega arith) tt
+
+leaves-given : (item : Item) (rest : List Item) → Leaves (length rest) (given item rest)
+leaves-given (Gave (Int n)) rest = leaves-in-range n rest
+leaves-given (Gave (Dimen n)) rest = leaves-in-range n rest
+leaves-given (Gave (Flag b)) rest = tt
+leaves-given (Took t) rest = tt
+
+leaves-quantity : (place : Place) (items : List Item) → Leaves (length items) (quantity place items)
+leaves-quantity place [] = tt
+leaves-quantity place (item ∷ rest) = leaves-more none_kept (length rest) (length (item ∷ rest)) (given item rest) (omega arith) (leaves-given item rest)
+
+leaves-numbered : (kind : Numbered) (n : Option ℕ) (items : List Item) → Leaves (length items) (numbered kind n items)
+leaves-numbered kind None items = tt
+leaves-numbered kind (Some n) items = leaves-quantity (place_of kind n) items
+
+leaves-whole-number : (outers : List Outer) (n : ℤ) (behind rest : List Item) (m : ℕ) → length behind + length rest ≤ m → Leaves m (whole outers n behind rest)
+leaves-whole-number [] n behind rest m h =
+    let all : length (behind ++ rest) ≡ length behind + length rest = length-append behind rest in
+    omega (arith, all, h)
+leaves-whole-number (outer ∷ outers) n behind rest m h =
+    leaves-next none_kept none_kept (length rest) m (numbered outer.kind (byte_of n) rest) (λ value rest. whole outers (with_sign outer.negative value) behind rest) (leaves-numbered outer.kind (byte_of n) rest)
+    (λ value after l. leaves-whole-number outers (with_sign outer.negative value) behind after m (omega (arith, h, l)))
+
+leaves-constant : (outers : List Outer) (negative : Bool) (n : ℕ) (reading : Reading Ended) → LeavesBy behind_number n reading → Leaves n (next reading (signed_constant outers negative))
+leaves-constant outers negative n reading l =
+    leaves-next behind_number none_kept n n reading (signed_constant outers negative) l
+    (λ c rest k. let all : length (c.behind ++ rest) ≡ length c.behind + length rest = length-append c.behind rest in leaves-whole-number outers (with_sign negative (pos c.number)) c.behind rest n (omega (arith, all, k)))
+
+leaves-number-begun : (outers : List Outer) (negative : Bool) (on : List Outer → Bool → Reading ℤ) (rest : List Item) (b : Beginning) (n : ℕ) → length rest ≤ n → ((outers : List Outer) (negative : Bool) → Leaves n (on outers negative)) → Leaves n (begun outers negative on rest b)
+leaves-number-begun outers negative on rest begin.Plus n h k = k outers negative
+leaves-number-begun outers negative on rest begin.Minus n h k = k outers (not negative)
+leaves-number-begun outers negative on rest (begin.Digit d) n h k =
+    leaves-constant outers negative n (digits Decimal d rest) (leaves-more behind_number (length rest) n (digits Decimal d rest) h (leaves-digits Decimal rest d))
+leaves-number-begun outers negative on rest (begin.Digits radix) n h k =
+    leaves-constant outers negative n (first_digit radix rest) (leaves-more behind_number (length rest) n (first_digit radix rest) h (leaves-first-number radix rest))
+leaves-number-begun outers negative on rest begin.Character n h k =
+    leaves-constant outers negative n (character_code rest) (leaves-more behind_number (length rest) n (character_code rest) h (leaves-code rest))
+leaves-number-begun outers negative on rest begin.Point n h k = tt
+leaves-number-begun outers negative on rest (begin.Number m) n h k = leaves-whole-number outers (with_sign negative (pos m)) [] rest n (omega (arith, h))
+leaves-number-begun outers negative on rest (begin.At place) n h k =
+    leaves-next none_kept none_kept (length rest) n (quantity place rest) (λ n rest. whole outers (with_sign negative n) [] rest) (leaves-quantity place rest)
+    (λ value after l. leaves-whole-number outers (with_sign negative value) [] after n (omega (arith, h, l)))
+leaves-number-begun outers negative on rest (begin.Numbered kind) n h k = k (record { negative = negative; kind = kind } ∷ outers) false
+leaves-number-begun outers negative on rest (begin.Nothing error) n h k = tt
+
+leaves-number : (items : List Item) (outers : List Outer) (negative : Bool) → Leaves (length items) (signs outers negative items)
+leaves-number [] outers negative = tt
+leaves-number (Gave v ∷ rest) outers negative = tt
+leaves-number (Took t ∷ rest) outers negative =
+    leaves-number-begun outers negative (λ outers negative. signs outers negative rest) rest (beginning t) (length (Took t ∷ rest)) (omega arith)
+    (λ outers negative. leaves-more none_kept (length rest) (length (Took t ∷ rest)) (signs outers negative rest) (omega arith) (leaves-number rest outers negative))
+
 leaves-spelled : (n : ℕ) (on : Letters → Reading (Option UnitName)) (spelling : Spelled) (rest : List Item) → length rest ≤ n → ((letters : Letters) → Leaves n (on letters)) → Leaves n (spelled on spelling rest)
 leaves-spelled n on (On letters) rest h k = k letters
 leaves-spelled n on (Whole unit) rest h k = h
 leaves-spelled n on Infinite rest h k = h
 leaves-spelled n on No rest h k = tt
 
-leaves-unit : (units : Units) (items : List Item) (letters : Letters) → Leaves (length items) (unit_name units letters items)
-leaves-unit units [] letters = tt
-leaves-unit units (Gave v ∷ rest) letters = tt
-leaves-unit units (Took t ∷ rest) letters =
-    let later : (letters : Letters) → Leaves (length (Took t ∷ rest)) (unit_name units letters rest) = λ letters. leaves-more none_kept (length rest) (length (Took t ∷ rest)) (unit_name units letters rest) (omega arith) (leaves-unit units rest letters) in
+leaves-name : (units : Units) (items : List Item) (letters : Letters) → Leaves (length items) (unit_name units letters items)
+leaves-name units [] letters = tt
+leaves-name units (Gave v ∷ rest) letters = tt
+leaves-name units (Took t ∷ rest) letters =
     leaves-if none_kept _ (is_undefined t) _ _ tt
-    (leaves-if none_kept _ (is_unread letters && is_space t) _ _ (later letters)
-    (leaves-spelled (length (Took t ∷ rest)) (λ more. unit_name units more rest) (letter_on units letters t) rest (omega arith) later))
+    (leaves-spelled (length (Took t ∷ rest)) (λ more. unit_name units more rest) (letter_on units letters t) rest (omega arith)
+    (λ letters. leaves-more none_kept (length rest) (length (Took t ∷ rest)) (unit_name units letters rest) (omega arith) (leaves-name units rest letters)))
 
 leaves-sized : (negative : Bool) (size : ℕ) (order : Order) (behind : List Item) (n : ℕ) → length behind ≤ n → Leaves n (sized negative size order behind)
 leaves-sized negative size order behind n h = leaves-if none_kept n (nat_le size 1073741823) _ _ h tt
@@ -165,33 +245,56 @@ leaves-unit-ended : (negative : Bool) (whole part : ℕ) (unit : Option UnitName
 leaves-unit-ended negative whole part None items = leaves-fil negative whole part items Fil
 leaves-unit-ended negative whole part (Some unit) items = leaves-unit-rest negative whole part unit items
 
+leaves-internal : (units : Units) (negative : Bool) (part : ℕ) (a : Amount) (n : ℤ) (rest : List Item) (m : ℕ) → length rest ≤ m → Leaves m (ended_with units negative part a n rest)
+leaves-internal units negative part a n rest m h = leaves-if none_kept m units.mu _ _ tt (leaves-sized (turned negative n) (amount part a (unsigned_abs n)) Normal rest m h)
+
+leaves-measured : (units : Units) (negative : Bool) (whole part : ℕ) (items : List Item) → Leaves (length items) (measured units negative whole part items)
+leaves-measured units negative whole part [] = tt
+leaves-measured units negative whole part (Gave v ∷ rest) = tt
+leaves-measured units negative whole part (Took t ∷ rest) =
+    leaves-if none_kept _ (is_undefined t) _ _ tt
+    (leaves-if none_kept _ (is_space t) _ _ (leaves-more none_kept (length rest) (length (Took t ∷ rest)) (measured units negative whole part rest) (omega arith) (leaves-measured units negative whole part rest))
+    (leaves-if none_kept _ (is_internal (beginning t)) _ _
+    (leaves-next none_kept none_kept (length (Took t ∷ rest)) (length (Took t ∷ rest)) (integer (Took t ∷ rest)) (ended_with units negative part (Times whole)) (leaves-number (Took t ∷ rest) [] false)
+    (λ n after l. leaves-internal units negative part (Times whole) n after (length (Took t ∷ rest)) l))
+    (leaves-next none_kept none_kept (length (Took t ∷ rest)) (length (Took t ∷ rest)) (spelled (λ more. unit_name units more rest) (first_letter units t) rest) (unit_ended negative whole part)
+    (leaves-spelled (length (Took t ∷ rest)) (λ more. unit_name units more rest) (first_letter units t) rest (omega arith)
+    (λ letters. leaves-more none_kept (length rest) (length (Took t ∷ rest)) (unit_name units letters rest) (omega arith) (leaves-name units rest letters)))
+    (λ unit after l. leaves-more none_kept (length after) (length (Took t ∷ rest)) (unit_ended negative whole part unit after) l (leaves-unit-ended negative whole part unit after)))))
+
 leaves-factored : (units : Units) (negative : Bool) (f : Factor) (rest : List Item) (n : ℕ) → length (f.behind ++ rest) ≤ n → Leaves n (factored units negative f rest)
 leaves-factored units negative f rest n h =
-    leaves-next none_kept none_kept (length (f.behind ++ rest)) n (unit_name units Nothing (f.behind ++ rest)) (unit_ended negative f.whole (fraction_of f.digits)) (leaves-unit units (f.behind ++ rest) Nothing)
-    (λ unit behind l. leaves-more none_kept (length behind) n (unit_ended negative f.whole (fraction_of f.digits) unit behind) (omega arith) (leaves-unit-ended negative f.whole (fraction_of f.digits) unit behind))
+    leaves-more none_kept (length (f.behind ++ rest)) n (measured units negative f.whole (fraction_of f.digits) (f.behind ++ rest)) h (leaves-measured units negative f.whole (fraction_of f.digits) (f.behind ++ rest))
 
-leaves-begun : (units : Units) (negative : Bool) (on : Bool → Reading Measure) (rest : List Item) (b : Beginning) (n : ℕ) → length rest ≤ n → ((negative : Bool) → Leaves n (on negative)) → Leaves n (size_begun units negative on rest b)
-leaves-begun units negative on rest begin.Plus n h k = k negative
-leaves-begun units negative on rest begin.Minus n h k = k (not negative)
-leaves-begun units negative on rest (begin.Digit d) n h k =
-    leaves-next behind_factor none_kept (length rest) n (whole_units Decimal d rest) (factored units negative) (leaves-whole Decimal rest d) (λ f behind l. leaves-factored units negative f behind n (omega arith))
-leaves-begun units negative on rest (begin.Digits radix) n h k =
-    leaves-next behind_factor none_kept (length rest) n (first_unit radix rest) (factored units negative) (leaves-first radix rest) (λ f behind l. leaves-factored units negative f behind n (omega arith))
-leaves-begun units negative on rest begin.Point n h k =
-    leaves-next behind_factor none_kept (length rest) n (fraction 0 [] rest) (factored units negative) (leaves-fraction 0 rest []) (λ f behind l. leaves-factored units negative f behind n (omega arith))
-leaves-begun units negative on rest begin.Character n h k =
+leaves-quantified : (units : Units) (negative b : Bool) (reading : Reading ℤ) (n : ℕ) → Leaves n reading → Leaves n (quantified units negative b reading)
+leaves-quantified units negative true reading n l =
+    leaves-next none_kept none_kept n n reading (ended_with units negative 0 All) l (λ m after k. leaves-internal units negative 0 All m after n k)
+leaves-quantified units negative false reading n l =
+    leaves-next none_kept none_kept n n reading (numbered_unit units negative) l
+    (λ m after k. leaves-more none_kept (length after) n (numbered_unit units negative m after) k (leaves-measured units (turned negative m) (unsigned_abs m) (fraction_of []) after))
+
+leaves-begun : (units : Units) (negative : Bool) (on : Bool → Reading Measure) (number : Reading ℤ) (rest : List Item) (b : Beginning) (n : ℕ) → length rest ≤ n → Leaves n number → ((negative : Bool) → Leaves n (on negative)) → Leaves n (size_begun units negative on number rest b)
+leaves-begun units negative on number rest begin.Plus n h l k = k negative
+leaves-begun units negative on number rest begin.Minus n h l k = k (not negative)
+leaves-begun units negative on number rest (begin.Digit d) n h l k =
+    leaves-next behind_factor none_kept (length rest) n (whole_units Decimal d rest) (factored units negative) (leaves-whole Decimal rest d) (λ f behind e. leaves-factored units negative f behind n (omega arith))
+leaves-begun units negative on number rest (begin.Digits radix) n h l k =
+    leaves-next behind_factor none_kept (length rest) n (first_unit radix rest) (factored units negative) (leaves-first radix rest) (λ f behind e. leaves-factored units negative f behind n (omega arith))
+leaves-begun units negative on number rest begin.Point n h l k =
+    leaves-next behind_factor none_kept (length rest) n (fraction 0 [] rest) (factored units negative) (leaves-fraction 0 rest []) (λ f behind e. leaves-factored units negative f behind n (omega arith))
+leaves-begun units negative on number rest begin.Character n h l k =
     leaves-next behind_number none_kept (length rest) n (character_code rest) (counted units negative) (leaves-code rest)
-    (λ c behind l. leaves-factored units negative (record { whole = c.number; digits = []; behind = c.behind }) behind n (omega arith))
-leaves-begun units negative on rest (begin.Number m) n h k = tt
-leaves-begun units negative on rest (begin.At place) n h k = tt
-leaves-begun units negative on rest (begin.Numbered kind) n h k = tt
-leaves-begun units negative on rest (begin.Nothing error) n h k = tt
+    (λ c behind e. leaves-factored units negative (record { whole = c.number; digits = []; behind = c.behind }) behind n (omega arith))
+leaves-begun units negative on number rest (begin.Number m) n h l k = leaves-quantified units negative false number n l
+leaves-begun units negative on number rest (begin.At place) n h l k = leaves-quantified units negative (is_size place) number n l
+leaves-begun units negative on number rest (begin.Numbered kind) n h l k = leaves-quantified units negative (is_size_kind kind) number n l
+leaves-begun units negative on number rest (begin.Nothing error) n h l k = tt
 
 leaves-signs : (units : Units) (items : List Item) (negative : Bool) → Leaves (length items) (size_signs units negative items)
 leaves-signs units [] negative = tt
 leaves-signs units (Gave v ∷ rest) negative = tt
 leaves-signs units (Took t ∷ rest) negative =
-    leaves-begun units negative (λ negative. size_signs units negative rest) rest (beginning t) (length (Took t ∷ rest)) (omega arith)
+    leaves-begun units negative (λ negative. size_signs units negative rest) (integer (Took t ∷ rest)) rest (beginning t) (length (Took t ∷ rest)) (omega arith) (leaves-number (Took t ∷ rest) [] false)
     (λ negative. leaves-more none_kept (length rest) (length (Took t ∷ rest)) (size_signs units negative rest) (omega arith) (leaves-signs units rest negative))
 
 pub leaves-dimension : (units : Units) (items : List Item) → Leaves (length items) (dimension units items)

@@ -3,23 +3,25 @@ use Rattle.std.proofs.Common.{◌≡◌, ◌≤◌, ◌+◌, List, [], ◌∷◌
 use Rattle.tx_prim.specs.declared.modes.Mode.{Mode}
 use Rattle.tx_seen.specs.declared.fed.Fed.{Fed}
 use Rattle.tx_seen.specs.declared.fed.Fed.TheVariants as fed
+use Rattle.tx_seen.specs.declared.fed.Kind.{Kind}
 use Rattle.tx_seen.specs.declared.fed.Value.{Value}
 use Rattle.tx_seen.specs.declared.item.Item.{Item}
-use Rattle.tx_seen.specs.declared.item.Item.TheVariants.{Took}
+use Rattle.tx_seen.specs.declared.item.Item.TheVariants.{Took, Gave}
 use Rattle.tx_seen.specs.declared.place.Place.{Place}
 use Rattle.tx_seen.specs.declared.seen.Seen.{Seen}
 use Rattle.tx_seen.specs.Readings.{last, tokens}
-use Rattle.tx_scan.specs.Rests.{HasTakenBy, IsFedBy}
+use Rattle.tx_scan.specs.Rests.{HasTakenBy, IsFedBy, IsGivenBehind}
 use Rattle.tx_scan.specs.Settled.{tokens_of}
-use Rattle.tx_scan.specs.Supplied.{NeedsNoMore}
+use Rattle.tx_scan.specs.Supplied.{value_for, NeedsFewer, NeedsNoMore}
 use Rattle.tx_scan.proofs.Answering.{ending-none}
-use Rattle.tx_scan.proofs.Settling.{token-pending}
+use Rattle.tx_scan.proofs.Settling.{token-pending, value-answered}
 use Rattle.tx_command.specs.declared.scans.Scans.{Scans}
 use Rattle.tx_command.specs.declared.types.Command.{Command}
 use Rattle.tx_command.specs.declared.types.Head.{Head}
 use Rattle.tx_command.specs.Commands.{command}
 use Rattle.tx_command.specs.Rests.{command_rest, held, more_needed}
 use Rattle.tx_command.specs.Taken.{joined, IsEnd, IsSettled, IsPending}
+use Rattle.tx_scan.proofs.Behind.{behind-answers}
 
 ended-by : (at : Place → Value) (mode : Mode) (head : Head) (items taken now : List Item) (new : Scans) (answer : Fed Command) → IsEnd answer → IsPending at mode head items now new answer → IsSettled mode head items taken new answer
 ended-by at mode head items taken now new (fed.More want) ends p = absurd ends
@@ -33,3 +35,9 @@ pub token-ends : (at : Place → Value) (mode : Mode) (head : Head) (taken : Lis
 token-ends at mode head taken t old new answer ends reads few fits n =
     ended-by at mode head (joined at mode head taken t) taken (taken ++ Took t ∷ []) new answer ends
     (token-pending at (command_rest mode head) held more_needed (command mode head) taken t old new answer reads few fits n)
+
+-- behind a value another one may be needed
+pub value-behind : (at : Place → Value) (mode : Mode) (head : Head) (items taken : List Item) (kind : Kind) (old new : Scans) (t : Seen) (answer : Fed Command) → IsPending at mode head items taken old (fed.Need kind) → held old ≤ 1 → last 1 taken ≡ Took t ∷ [] → IsGivenBehind (command_rest mode head) held old (value_for at kind) t new answer → NeedsFewer (more_needed old) (more_needed new) answer → IsPending at mode head items (taken ++ Gave (value_for at kind) ∷ []) new answer
+value-behind at mode head items taken kind old new t answer p few l fits n =
+    value-answered at (command mode head) (HasTakenBy (command_rest mode head) held (command mode head)) more_needed items taken kind old new answer p
+    (behind-answers (command_rest mode head) held (command mode head) old new taken (value_for at kind) t answer p.1.1.1.1.0 few l fits) n

@@ -1,5 +1,5 @@
 -- Each part of a command reads on as its scan.
-use Rattle.std.proofs.Common.{◌≡◌, ◌≤◌, ◌||◌, ℕ, ℤ, true, false, cond, List, [], ◌∷◌, ◌++◌, length, Result, Ok, Err, IfOk, refl, ap, sym, subst, ◌∙◌, arith}
+use Rattle.std.proofs.Common.{◌≡◌, ◌≤◌, ◌||◌, ℕ, true, false, cond, List, [], ◌∷◌, ◌++◌, length, Result, Ok, Err, IfOk, refl, ap, sym, subst, ◌∙◌, arith}
 use Rattle.tx_node.specs.declared.rule.Rule.{Rule}
 use Rattle.tx_prim.specs.declared.family.AfterKind.{AfterKind}
 use Rattle.tx_prim.specs.declared.family.BoxKind.{BoxKind}
@@ -22,11 +22,11 @@ use Rattle.tx_seen.specs.declared.item.Item.TheVariants.{Took, Gave}
 use Rattle.tx_seen.specs.declared.place.Place.{Place}
 use Rattle.tx_seen.specs.declared.seen.Seen.{Seen}
 use Rattle.tx_seen.specs.Readings.{Reading, More, Done, Wrong, ending, next}
-use Rattle.tx_scan.specs.Rests.{IsFedBy, IsGivenBy}
+use Rattle.tx_scan.specs.Rests.{IsFedBy, IsGivenBehind}
 use Rattle.tx_scan.specs.Supplied.{NeedsNoMore, NeedsFewer, NeedsNothing}
 use Rattle.tx_scan.specs.declared.scans.Measure.{Measure}
 use Rattle.tx_scan.specs.Dimensions.{lengths}
-use Rattle.tx_scan.specs.DimensionRests.{begun_size, IsSize}
+use Rattle.tx_scan.specs.DimensionRests.{begun_size, held as dimen_held, more_needed as dimen_needed}
 use Rattle.tx_assign.specs.declared.scan.AssignScan.{AssignScan}
 use Rattle.tx_assign.specs.declared.types.Assigning.{Assigning}
 use Rattle.tx_assign.specs.declared.types.Assigning.TheVariants.{Named}
@@ -48,9 +48,10 @@ use Rattle.tx_command.specs.Commands.{command, command_meant, future_defining, f
 use Rattle.tx_command.specs.Standing.{may_stand}
 use Rattle.tx_scan.proofs.Answering.{ending-none}
 use Rattle.tx_scan.specs.Mapped.{mapped}
-use Rattle.tx_command.specs.Rests.{command_rest, held, more_needed, second_rest, stage_rest, stage_held, Begins, GoesOn, IsAssigning, IsBegunBy, IsOn, IsOnAt, IsRuleFed}
+use Rattle.tx_command.specs.Rests.{command_rest, held, more_needed, second_rest, stage_rest, stage_held, rule_needed, Begins, GoesOn, IsBegunBy, IsOn, IsOnAt, IsRuleFed}
 use Rattle.tx_command.specs.Rules.{plain_rule}
-use Rattle.tx_scan.proofs.Mappings.{Rest, read-none, fed-first, mapped-read, mapped-fed, mapped-given, same-read, needs-mapped, fewer-mapped}
+use Rattle.tx_scan.proofs.Mappings.{Rest, read-none, fed-first, mapped-read, mapped-fed, same-read, needs-mapped, fewer-mapped}
+use Rattle.tx_scan.proofs.Behind.{HoldsOne, mapped-behind}
 
 -- how many values are needed
 needs-least : {A : Type 0} (few most new : ℕ) (answer : Fed A) → few ≤ most → NeedsNoMore few new answer → NeedsNoMore most new answer
@@ -81,50 +82,49 @@ part-goes f s new (fed.Need kind) is on k = absurd k
 part-goes f s new (fed.Done a back) is on k = tt
 part-goes f s new (fed.Wrong error) is on k = tt
 
-pub size-goes : (f : Measure → Command) (s : Stage) (new : Scans) (answer : Fed Measure) → new.stage ≡ s → IsOnAt s new → IsSize answer → GoesOn new (mapped f answer)
-size-goes f s new (fed.More want) is on k = on-at s new is on
-size-goes f s new (fed.Need kind) is on k = absurd k
-size-goes f s new (fed.Done a back) is on k = tt
-size-goes f s new (fed.Wrong error) is on k = tt
+pub size-goes : (f : Measure → Command) (kind : SizeKind) (new : Scans) (answer : Fed Measure) → new.stage ≡ stage.Sized kind → HoldsOne (dimen_held new.size) answer → GoesOn new (mapped f answer)
+size-goes f kind new (fed.More want) is k = rw is tt
+size-goes f kind new (fed.Need need) is k = rw is (tt, k)
+size-goes f kind new (fed.Done a back) is k = tt
+size-goes f kind new (fed.Wrong error) is k = tt
 
 pub rule-goes : (f : Rule → Command) (kind : RuleKind) (new : Scans) (answer : Fed Rule) → new.stage ≡ stage.Rule kind → IsRuleFed new.rule answer → GoesOn new (mapped f answer)
 rule-goes f kind new (fed.More want) is k = rw is k
-rule-goes f kind new (fed.Need need) is k = absurd k
+rule-goes f kind new (fed.Need need) is k = rw is k
 rule-goes f kind new (fed.Done a back) is k = tt
 rule-goes f kind new (fed.Wrong error) is k = tt
 
--- those of the scan of an assignment
-pub assign-given : (mode : Mode) (head : Head) (old new : Scans) (v : Value) (answer : Fed Assignment) → old.stage ≡ stage.Assign → new.stage ≡ stage.Assign → IsGivenBy assign_rest assign_held old.assignment v new.assignment answer → IsGivenBy (command_rest mode head) held old v new (mapped Assign answer)
-assign-given mode head old new v answer was is k =
-    mapped-given assign_rest assign_held (command_rest mode head) held Assign old.assignment new.assignment old new v answer
-    (λ behind item more. ap (λ s. stage_rest mode head s old behind item more) was) (ap (λ s. stage_held s old) was)
-    (λ behind item more. ap (λ s. stage_rest mode head s new behind item more) is) (ap (λ s. stage_held s new) is) k
+-- the same of values
+pub part-behind : {S A : Type 0} (part : Rest S A) (part_held : S → ℕ) (f : A → Command) (s : Stage) (mode : Mode) (head : Head) (was is : S) (old new : Scans) (v : Value) (t : Seen) (answer : Fed A) → old.stage ≡ s → new.stage ≡ s → ((behind : List Item) (item : Item) (more : List Item) → stage_rest mode head s old behind item more ≡ next (part was behind item more) (λ a rest. Done (f a) rest)) → stage_held s old ≡ part_held was → ((behind : List Item) (item : Item) (more : List Item) → stage_rest mode head s new behind item more ≡ next (part is behind item more) (λ a rest. Done (f a) rest)) → stage_held s new ≡ part_held is → IsGivenBehind part part_held was v t is answer → IsGivenBehind (command_rest mode head) held old v t new (mapped f answer)
+part-behind part part_held f s mode head was is old new v t answer at_old at_new old_reads old_holds new_reads new_holds k =
+    mapped-behind part part_held (command_rest mode head) held f was is old new v t answer
+    (λ behind item more. ap (λ s. stage_rest mode head s old behind item more) at_old ∙ old_reads behind item more) (ap (λ s. stage_held s old) at_old ∙ old_holds)
+    (λ behind item more. ap (λ s. stage_rest mode head s new behind item more) at_new ∙ new_reads behind item more) (ap (λ s. stage_held s new) at_new ∙ new_holds) k
 
+-- how many values an assignment, a size and a rule need
 pub assign-needs : (old new : Scans) (answer : Fed Assignment) → old.stage ≡ stage.Assign → new.stage ≡ stage.Assign → NeedsNoMore (assign_needed old.assignment) (assign_needed new.assignment) answer → NeedsNoMore (more_needed old) (more_needed new) (mapped Assign answer)
 assign-needs old new answer was is k = rw (was, is) (needs-mapped Assign (assign_needed old.assignment) (assign_needed new.assignment) answer k)
 
 pub assign-fewer : (old new : Scans) (answer : Fed Assignment) → old.stage ≡ stage.Assign → new.stage ≡ stage.Assign → NeedsFewer (assign_needed old.assignment) (assign_needed new.assignment) answer → NeedsFewer (more_needed old) (more_needed new) (mapped Assign answer)
 assign-fewer old new answer was is k = rw (was, is) (fewer-mapped Assign (assign_needed old.assignment) (assign_needed new.assignment) answer k)
 
-pub assign-goes : (new : Scans) (answer : Fed Assignment) → new.stage ≡ stage.Assign → GoesOn new (mapped Assign answer)
-assign-goes new (fed.More want) is = rw is tt
-assign-goes new (fed.Need kind) is = rw is tt
-assign-goes new (fed.Done a back) is = tt
-assign-goes new (fed.Wrong error) is = tt
+pub size-needs : (f : Measure → Command) (kind : SizeKind) (old new : Scans) (answer : Fed Measure) → old.stage ≡ stage.Sized kind → new.stage ≡ stage.Sized kind → NeedsNoMore (dimen_needed old.size) (dimen_needed new.size) answer → NeedsNoMore (more_needed old) (more_needed new) (mapped f answer)
+size-needs f kind old new answer was is k = rw (was, is) (needs-mapped f (dimen_needed old.size) (dimen_needed new.size) answer k)
 
-pub assigning-is : (s : Stage) → IsAssigning s → s ≡ stage.Assign
-assigning-is stage.Start k = absurd k
-assigning-is stage.Assign k = refl
-assigning-is (stage.Name kind) k = absurd k
-assigning-is (stage.MacroName kind) k = absurd k
-assigning-is stage.FutureName k = absurd k
-assigning-is stage.SecondToken k = absurd k
-assigning-is (stage.KeptToken kind) k = absurd k
-assigning-is (stage.Sized kind) k = absurd k
-assigning-is (stage.Rule kind) k = absurd k
-assigning-is stage.Spaces k = absurd k
-assigning-is stage.ShippedBox k = absurd k
-assigning-is (stage.BoxBegin kind context) k = absurd k
+pub size-fewer : (f : Measure → Command) (kind : SizeKind) (old new : Scans) (answer : Fed Measure) → old.stage ≡ stage.Sized kind → new.stage ≡ stage.Sized kind → NeedsFewer (dimen_needed old.size) (dimen_needed new.size) answer → NeedsFewer (more_needed old) (more_needed new) (mapped f answer)
+size-fewer f kind old new answer was is k = rw (was, is) (fewer-mapped f (dimen_needed old.size) (dimen_needed new.size) answer k)
+
+pub rule-needs : (f : Rule → Command) (kind : RuleKind) (old new : Scans) (answer : Fed Rule) → old.stage ≡ stage.Rule kind → new.stage ≡ stage.Rule kind → NeedsNoMore (rule_needed old.rule) (rule_needed new.rule) answer → NeedsNoMore (more_needed old) (more_needed new) (mapped f answer)
+rule-needs f kind old new answer was is k = rw (was, is) (needs-mapped f (rule_needed old.rule) (rule_needed new.rule) answer k)
+
+pub rule-fewer : (f : Rule → Command) (kind : RuleKind) (old new : Scans) (answer : Fed Rule) → old.stage ≡ stage.Rule kind → new.stage ≡ stage.Rule kind → NeedsFewer (rule_needed old.rule) (rule_needed new.rule) answer → NeedsFewer (more_needed old) (more_needed new) (mapped f answer)
+rule-fewer f kind old new answer was is k = rw (was, is) (fewer-mapped f (rule_needed old.rule) (rule_needed new.rule) answer k)
+
+pub assign-goes : (new : Scans) (answer : Fed Assignment) → new.stage ≡ stage.Assign → HoldsOne (assign_held new.assignment) answer → GoesOn new (mapped Assign answer)
+assign-goes new (fed.More want) is k = rw is tt
+assign-goes new (fed.Need kind) is k = rw is (tt, k)
+assign-goes new (fed.Done a back) is k = tt
+assign-goes new (fed.Wrong error) is k = tt
 
 -- parts that held nothing
 pub start-fed : {E : Type 0} (mode : Mode) (head : Head) (t : Seen) (old new : Scans) (answer : Result (Fed Command) E) → old.stage ≡ stage.Start → IfOk answer (IsBegunBy mode head 1 (λ more. command mode head (Took t ∷ more)) (Took t ∷ []) new) → IfOk answer (IsFedBy (command_rest mode head) held old t new)
@@ -173,10 +173,10 @@ pub kept-begun : (kind : AfterKind) (new : Scans) → new.stage ≡ stage.KeptTo
 kept-begun kind new is = λ mode head. record { reads = (refl, rw is (omega arith), λ item more. rw is refl); needs = rw is (omega arith); goes_on = rw is tt }
 
 pub size-begun : (kind : SizeKind) (new : Scans) → new.stage ≡ stage.Sized kind → new.size ≡ begun_size lengths → Begins (sizing kind) new (fed.More Expanded)
-size-begun kind new is same = λ mode head. record { reads = (refl, rw is (omega arith), λ item more. rw (is, same) refl); needs = rw is (omega arith); goes_on = rw is tt }
+size-begun kind new is same = λ mode head. record { reads = (refl, rw (is, same) (omega arith), λ item more. rw (is, same) refl); needs = rw (is, same) (omega arith); goes_on = rw is tt }
 
 pub rule-begun : (kind : RuleKind) (new : Scans) → new.stage ≡ stage.Rule kind → new.rule.rule ≡ plain_rule kind → new.rule.part ≡ rule.Start → Begins (ruling kind) new (fed.More Expanded)
-rule-begun kind new is same part = λ mode head. record { reads = (refl, rw (is, part) (omega arith), λ item more. rw (is, part, same) refl); needs = rw is (omega arith); goes_on = rw (is, part) tt }
+rule-begun kind new is same part = λ mode head. record { reads = (refl, rw (is, part) (omega arith), λ item more. rw (is, part, same) refl); needs = rw (is, part) (omega arith); goes_on = rw (is, part) tt }
 
 pub box-begun : (kind : BoxKind) (context : BoxContext) (new : Scans) → new.stage ≡ stage.BoxBegin kind context → Begins (box_begin kind context) new (fed.More Expanded)
 box-begun kind context new is = λ mode head. record { reads = (refl, rw is (omega arith), λ item more. rw is refl); needs = rw is (omega arith); goes_on = rw is tt }
@@ -199,8 +199,8 @@ assign-begun begun want new wants is k few = λ mode head. record {
 }
 
 -- the first token behind a name that is defined
-pub first-assigned : (mode : Mode) (head : Head) (begun : Assigning) (old : AssignScan) (new : Scans) (t : Seen) (answer : Fed Assignment) → new.stage ≡ stage.Assign → IsBegun begun old → assign_needed old ≤ 1 → IsFedBy assign_rest assign_held old t new.assignment answer → NeedsNoMore (assign_needed old) (assign_needed new.assignment) answer → IsBegunBy mode head 1 (λ more. assigning begun (Took t ∷ more)) (Took t ∷ []) new (mapped Assign answer)
-first-assigned mode head begun old new t answer is k few fits needs =
+pub first-assigned : (mode : Mode) (head : Head) (begun : Assigning) (old : AssignScan) (new : Scans) (t : Seen) (answer : Fed Assignment) → new.stage ≡ stage.Assign → IsBegun begun old → assign_needed old ≤ 1 → IsFedBy assign_rest assign_held old t new.assignment answer → NeedsNoMore (assign_needed old) (assign_needed new.assignment) answer → HoldsOne (assign_held new.assignment) answer → IsBegunBy mode head 1 (λ more. assigning begun (Took t ∷ more)) (Took t ∷ []) new (mapped Assign answer)
+first-assigned mode head begun old new t answer is k few fits needs one =
     let h : length {A = Item} [] ≤ assign_held old = omega arith in
     record {
       reads = same-read (command_rest mode head) held 1 (λ more. assigning begun (Took t ∷ more)) (λ more. next (assign_rest old [] (Took t) more) (λ a rest. Done (Assign a) rest)) (Took t ∷ []) new (mapped Assign answer)
@@ -208,7 +208,7 @@ first-assigned mode head begun old new t answer is k few fits needs =
           (mapped-read assign_rest assign_held (command_rest mode head) held Assign 1 (λ more. assign_rest old [] (Took t) more) (Took t ∷ []) new.assignment new answer
           (λ behind item more. ap (λ s. stage_rest mode head s new behind item more) is) (ap (λ s. stage_held s new) is) (rw k.0 at (fits [] h)));
       needs = rw is (needs-mapped Assign 1 (assign_needed new.assignment) answer (needs-least (assign_needed old) 1 (assign_needed new.assignment) answer few needs));
-      goes_on = assign-goes new answer is;
+      goes_on = assign-goes new answer is one;
     }
 
 pub named-begun : (name same : Place) (kind : Shorthand) (scan : AssignScan) → name ≡ same → IsBegun (Named name kind) scan → IsBegun (Named same kind) scan

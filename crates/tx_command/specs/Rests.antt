@@ -1,5 +1,5 @@
 -- What reading on gives, by what a scan still needs: a scan that is fed token by token means the rest of what it reads.
-use Rattle.std.specs.Prelude.{◌≡◌, ◌≤◌, ◌<◌, ◌+◌, ℕ, List, [], ◌∷◌, ◌++◌, length}
+use Rattle.std.specs.Prelude.{◌≤◌, ◌<◌, ◌+◌, ℕ, List, [], ◌∷◌, ◌++◌, length}
 use Rattle.tx_node.specs.declared.rule.Rule.{Rule}
 use Rattle.tx_prim.specs.declared.modes.Mode.{Mode}
 use Rattle.tx_seen.specs.declared.fed.Fed.{Fed}
@@ -15,7 +15,7 @@ use Rattle.tx_scan.specs.Settled.{WantsNext}
 use Rattle.tx_scan.specs.Supplied.{NeedsNoMore}
 use Rattle.tx_scan.specs.declared.scans.KeyScan.{KeyScan}
 use Rattle.tx_scan.specs.Keywords.{rest as key_rest, held as key_held}
-use Rattle.tx_scan.specs.DimensionRests.{rest as dimen_rest}
+use Rattle.tx_scan.specs.DimensionRests.{rest as dimen_rest, held as dimen_held, more_needed as dimen_needed}
 use Rattle.tx_assign.specs.Rests.{rest as assign_rest, held as assign_held, more_needed as assign_needed}
 use Rattle.tx_command.specs.declared.types.Command.{Command}
 use Rattle.tx_command.specs.declared.types.Command.TheVariants.{Assign, Sized, Rule as Rule_command}
@@ -39,14 +39,29 @@ rule_part_rest (rule.Size side) scan behind item more = next (dimen_rest scan.si
 abbrev pub rule_rest : RuleScan → List Item → Item → List Item → Reading Rule
 rule_rest scan behind item more = rule_part_rest scan.part scan behind item more
 
--- the letters of a side's name may be given back
-abbrev pub rule_part_held : RulePart → ℕ
-rule_part_held rule.Start = 0
-rule_part_held (rule.Name side key) = key_held key
-rule_part_held (rule.Size side) = 0
+-- the letters of a side's name may be given back, and the token behind a size that waits for a value
+abbrev pub rule_part_held : RulePart → RuleScan → ℕ
+rule_part_held rule.Start scan = 0
+rule_part_held (rule.Name side key) scan = key_held key
+rule_part_held (rule.Size side) scan = dimen_held scan.size
 
 abbrev pub rule_held : RuleScan → ℕ
-rule_held scan = rule_part_held scan.part
+rule_held scan = rule_part_held scan.part scan
+
+-- how many values a rule needs at most, unless more tokens need more: those of a size
+abbrev pub rule_part_needed : RulePart → RuleScan → ℕ
+rule_part_needed rule.Start scan = 0
+rule_part_needed (rule.Name side key) scan = 0
+rule_part_needed (rule.Size side) scan = dimen_needed scan.size
+
+abbrev pub rule_needed : RuleScan → ℕ
+rule_needed scan = rule_part_needed scan.part scan
+
+-- only the size of a side needs values
+abbrev pub IsSizing : RulePart → Type 0
+IsSizing rule.Start = ⊥
+IsSizing (rule.Name side key) = ⊥
+IsSizing (rule.Size side) = Unit {0}
 
 -- of a name that is being read letters are to come
 abbrev pub IsUnnamed : RulePart → Type 0
@@ -59,10 +74,10 @@ abbrev pub IsNameFed : Side → KeyScan → Rule → Seen → RuleScan → Fed R
 IsNameFed side key rule t new answer =
     (behind : List Item) → length behind ≤ key_held key → IsRead rule_rest rule_held (key_held key + 1) (λ more. next (next (key_rest (letters_of side) key behind (Took t) more) (side_if side)) (side_or_end rule_sides rule)) (behind ++ Took t ∷ []) new answer
 
--- a rule that isn't whole needs no value, and is so
+-- a rule that isn't whole is so; where a size needs a value, one token at most is held
 abbrev pub IsRuleFed : RuleScan → Fed Rule → Type 0
 IsRuleFed scan (fed.More want) = IsUnnamed scan.part
-IsRuleFed scan (fed.Need kind) = ⊥
+IsRuleFed scan (fed.Need kind) = IsSizing scan.part × (rule_held scan ≤ 1)
 IsRuleFed scan (fed.Done rule back) = Unit {0}
 IsRuleFed scan (fed.Wrong error) = Unit {0}
 
@@ -92,6 +107,7 @@ command_rest mode head scans behind item more = stage_rest mode head scans.stage
 -- how many of its tokens may be given back
 abbrev pub stage_held : Stage → Scans → ℕ
 stage_held stage.Assign scans = assign_held scans.assignment
+stage_held (stage.Sized kind) scans = dimen_held scans.size
 stage_held (stage.Rule kind) scans = rule_held scans.rule
 stage_held stage.SecondToken scans = 1
 stage_held _ scans = 0
@@ -103,15 +119,31 @@ held scans = stage_held scans.stage scans
 abbrev pub stage_needs : Stage → Scans → ℕ
 stage_needs stage.Start scans = 1
 stage_needs stage.Assign scans = assign_needed scans.assignment
+stage_needs (stage.Sized kind) scans = dimen_needed scans.size
+stage_needs (stage.Rule kind) scans = rule_needed scans.rule
 stage_needs _ scans = 0
 
 abbrev pub more_needed : Scans → ℕ
 more_needed scans = stage_needs scans.stage scans
 
--- only an assignment needs values
-abbrev pub IsAssigning : Stage → Type 0
-IsAssigning stage.Assign = Unit {0}
-IsAssigning _ = ⊥
+-- only assignments and sizes need values
+abbrev pub NeedsValues : Stage → Scans → Type 0
+NeedsValues stage.Start scans = ⊥
+NeedsValues stage.Assign scans = Unit {0}
+NeedsValues (stage.Name kind) scans = ⊥
+NeedsValues (stage.MacroName kind) scans = ⊥
+NeedsValues stage.FutureName scans = ⊥
+NeedsValues stage.SecondToken scans = ⊥
+NeedsValues (stage.KeptToken kind) scans = ⊥
+NeedsValues (stage.Sized kind) scans = Unit {0}
+NeedsValues (stage.Rule kind) scans = IsSizing scans.rule.part
+NeedsValues stage.ShippedBox scans = ⊥
+NeedsValues stage.Spaces scans = ⊥
+NeedsValues (stage.BoxBegin kind context) scans = ⊥
+
+-- the scans wait for a value, and hold one token at most
+abbrev pub IsWaiting : Scans → Type 0
+IsWaiting scans = NeedsValues scans.stage scans × (held scans ≤ 1)
 
 -- a stage that goes on
 abbrev pub IsOnAt : Stage → Scans → Type 0
@@ -123,7 +155,7 @@ IsOn scans = IsOnAt scans.stage scans
 
 abbrev pub GoesOn : Scans → Fed Command → Type 0
 GoesOn new (fed.More want) = IsOn new
-GoesOn new (fed.Need kind) = IsAssigning new.stage
+GoesOn new (fed.Need kind) = IsWaiting new
 GoesOn new (fed.Done command back) = Unit {0}
 GoesOn new (fed.Wrong error) = Unit {0}
 

@@ -1,15 +1,13 @@
 //! The sides and sizes of a rule, token by token (TeX: The Program, section 463).
-ghost use Rattle.std.specs.Prelude.{◌≡◌, ◌<◌, ◌∷◌, [], Bool, ℕ, ℤ, List, length, IfOk};
+ghost use Rattle.std.specs.Prelude.{◌≡◌, ◌<◌, ◌≤◌, ◌≤ℤ◌, ◌∷◌, [], Bool, ℕ, ℤ, pos, neg_ℤ, List, length, IfOk};
 ghost use Rattle.tx_seen.specs.declared.item.Item.{Item};
 ghost use Rattle.tx_seen.specs.declared.item.Item.TheVariants.{Took};
 ghost use Rattle.tx_seen.specs.Readings.{Reading, next};
-ghost use Rattle.tx_scan.specs.Rests.{IsFedBy, IsRead};
+ghost use Rattle.tx_scan.specs.Rests.{IsFedBy, IsRead, IsGivenBehind};
+ghost use Rattle.tx_scan.specs.Supplied.{NeedsFewer, NeedsNoMore};
 ghost use Rattle.tx_scan.specs.Keywords.{rest as key_rest, held as key_held, IsReadOn};
-ghost use Rattle.tx_scan.specs.DimensionRests.{rest as dimen_rest, IsSize};
-ghost use Rattle.tx_scan.specs.declared.scans.Measure.{Measure as Measure_read};
-ghost use Rattle.tx_scan.specs.GrammarRests.{held_none};
 ghost use Rattle.tx_command.specs.Rules as spec;
-ghost use Rattle.tx_command.specs.Rests.{rule_rest, rule_held, IsUnnamed, IsNameFed, IsRuleFed};
+ghost use Rattle.tx_command.specs.Rests.{rule_rest, rule_held, rule_needed, IsNameFed, IsRuleFed, IsSizing, IsUnnamed};
 
 use crate::scans::{RulePart, RuleScan};
 use crate::types::Side;
@@ -17,7 +15,7 @@ use std::alloc::{AllocError, Global};
 use tx_node::Rule;
 use tx_prim::RuleKind;
 use tx_scan::{DimenScan, KeyScan, Measure};
-use tx_seen::{Fed, Seen, TexError, Want};
+use tx_seen::{Fed, Seen, TexError, Value, Want};
 
 /// 0.4pt, the width of a \vrule where nothing else is said.
 const PLAIN_WIDTH: i32 = 26_214;
@@ -104,15 +102,27 @@ impl RuleScan {
     pub(crate) fn feed(&mut self, token: &Seen) -> Result<Fed<Rule>, AllocError>
         requires { IsUnnamed self.old.part }
         ensures fed { IfOk result (IsFedBy rule_rest rule_held self.old token.now self.new) }
+        ensures needed { IfOk result (NeedsNoMore (rule_needed self.old) (rule_needed self.new)) }
         ensures on { IfOk result (IsRuleFed self.new) }
     {
         match self.part {
             RulePart::Start => Ok(self.feed_start(token)),
             RulePart::Name(side, scan) => Ok(self.feed_name(side, scan, token)),
-            RulePart::Size(side) => {
-                let fed = self.size.feed(token)?;
-                Ok(self.sized(side, fed, token))
-            }
+            RulePart::Size(side) => self.feed_size(side, token),
+        }
+    }
+
+    /// Takes the value that the size of a side needs, where this token was taken last. Its only error is want of memory.
+    pub(crate) fn give(&mut self, value: &Value, behind: &Seen) -> Result<Fed<Rule>, AllocError>
+        requires part { IsSizing self.old.part }
+        requires few { rule_held self.old ≤ 1 }
+        ensures given { IfOk result (IsGivenBehind rule_rest rule_held self.old value.now behind.now self.new) }
+        ensures fewer { IfOk result (NeedsFewer (rule_needed self.old) (rule_needed self.new)) }
+        ensures on { IfOk result (IsRuleFed self.new) }
+    {
+        match self.part {
+            RulePart::Start | RulePart::Name(_, _) => unreachable!(),
+            RulePart::Size(side) => self.give_size(side, value, behind),
         }
     }
 
@@ -120,6 +130,7 @@ impl RuleScan {
     fn feed_start(&mut self, token: &Seen) -> Fed<Rule>
         requires { self.old.part ≡ RulePart.Start }
         ensures fed { IsRead rule_rest rule_held 1 (λ more. spec.rule_sides self.old.rule (Took token.now ∷ more)) (Took token.now ∷ []) self.new result }
+        ensures fewer { NeedsFewer 0 (rule_needed self.new) result }
         ensures on { IsRuleFed self.new result }
     {
         if token.is_undefined() {
@@ -138,6 +149,7 @@ impl RuleScan {
     fn feed_name(&mut self, side: Side, scan: KeyScan, token: &Seen) -> Fed<Rule>
         requires { scan.read < length (spec.letters_of side) }
         ensures fed { IsNameFed side scan self.old.rule token.now self.new result }
+        ensures fewer { NeedsFewer 0 (rule_needed self.new) result }
         ensures on { IsRuleFed self.new result }
     {
         let mut scan = scan;
@@ -149,6 +161,7 @@ impl RuleScan {
     /// What becomes of the rule by what the scan of this side's name answers.
     fn named(&mut self, side: Side, fed: Fed<bool>) -> Fed<Rule>
         ensures fed { (scan : KeyScan) (most : ℕ) (reading : List Item → Reading Bool) (tokens : List Item) → self.old.part ≡ RulePart.Name side scan → IsRead (key_rest (spec.letters_of side)) key_held most reading tokens scan fed → IsReadOn (spec.letters_of side) scan fed → IsRead rule_rest rule_held most (λ more. next (next (reading more) (spec.side_if side)) (spec.side_or_end spec.rule_sides self.old.rule)) tokens self.new result }
+        ensures fewer { (scan : KeyScan) → self.old.part ≡ RulePart.Name side scan → IsReadOn (spec.letters_of side) scan fed → NeedsFewer 0 (rule_needed self.new) result }
         ensures on { (scan : KeyScan) → self.old.part ≡ RulePart.Name side scan → IsReadOn (spec.letters_of side) scan fed → IsRuleFed self.new result }
     {
         match fed {
@@ -164,24 +177,67 @@ impl RuleScan {
         }
     }
 
-    /// What becomes of the rule by what the scan of this side's size answers to a token.
-    fn sized(&mut self, side: Side, fed: Fed<Measure>, token: &Seen) -> Fed<Rule>
-        requires { IsSize fed }
-        ensures fed { (reading : List Item → Reading Measure_read) → self.old.part ≡ RulePart.Size side → IsRead dimen_rest held_none 1 reading (Took token.now ∷ []) self.old.size fed → IsRead rule_rest rule_held 1 (λ more. next (reading more) (λ measure behind. spec.rule_sides (spec.with_side self.old.rule side measure.size) behind)) (Took token.now ∷ []) self.new result }
-        ensures on { self.old.part ≡ RulePart.Size side → IsRuleFed self.new result }
+    /// The size of this side, or what ends it. Its only error is want of memory.
+    fn feed_size(&mut self, side: Side, token: &Seen) -> Result<Fed<Rule>, AllocError>
+        requires { self.old.part ≡ RulePart.Size side }
+        ensures fed { IfOk result (IsFedBy rule_rest rule_held self.old token.now self.new) }
+        ensures needed { IfOk result (NeedsNoMore (rule_needed self.old) (rule_needed self.new)) }
+        ensures on { IfOk result (IsRuleFed self.new) }
     {
-        match fed {
-            Fed::More(want) => Fed::More(want),
-            Fed::Need(kind) => Fed::Need(kind),
-            Fed::Done(measure, back) => {
-                self.rule = with_side(self.rule, side, measure.size as i32);
-                self.part = RulePart::Start;
-                if back == 0 {
-                    return Fed::More(Want::Expanded);
-                }
-                self.feed_start(token)
-            }
-            Fed::Wrong(error) => Fed::Wrong(error),
+        match self.size.feed(token)? {
+            Fed::More(want) => Ok(Fed::More(want)),
+            Fed::Need(kind) => Ok(Fed::Need(kind)),
+            Fed::Done(measure, 0) => Ok(self.sized(side, measure)),
+            Fed::Done(measure, _) => Ok(self.sized_before(side, measure, token)),
+            Fed::Wrong(error) => Ok(Fed::Wrong(error)),
         }
+    }
+
+    /// The value that the size of this side waits for. Its only error is want of memory.
+    fn give_size(
+        &mut self,
+        side: Side,
+        value: &Value,
+        behind: &Seen,
+    ) -> Result<Fed<Rule>, AllocError>
+        requires part { self.old.part ≡ RulePart.Size side }
+        requires few { rule_held self.old ≤ 1 }
+        ensures given { IfOk result (IsGivenBehind rule_rest rule_held self.old value.now behind.now self.new) }
+        ensures fewer { IfOk result (NeedsFewer (rule_needed self.old) (rule_needed self.new)) }
+        ensures on { IfOk result (IsRuleFed self.new) }
+    {
+        match self.size.give(value)? {
+            Fed::More(want) => Ok(Fed::More(want)),
+            Fed::Need(kind) => Ok(Fed::Need(kind)),
+            Fed::Done(measure, 0) => Ok(self.sized(side, measure)),
+            Fed::Done(measure, _) => Ok(self.sized_before(side, measure, behind)),
+            Fed::Wrong(error) => Ok(Fed::Wrong(error)),
+        }
+    }
+
+    /// The size of this side is whole; another side may be named.
+    fn sized(&mut self, side: Side, measure: Measure) -> Fed<Rule>
+        requires low { neg_ℤ (pos 1073741823) ≤ℤ measure.size }
+        requires high { measure.size ≤ℤ pos 1073741823 }
+        ensures rule { self.new.rule ≡ spec.with_side self.old.rule side measure.size }
+        ensures part { self.new.part ≡ RulePart.Start }
+        ensures answer { result ≡ Fed.More Want.Expanded }
+    {
+        self.rule = with_side(self.rule, side, measure.size as i32);
+        self.part = RulePart::Start;
+        Fed::More(Want::Expanded)
+    }
+
+    /// The size of this side is whole, and this token stands behind it.
+    fn sized_before(&mut self, side: Side, measure: Measure, token: &Seen) -> Fed<Rule>
+        requires low { neg_ℤ (pos 1073741823) ≤ℤ measure.size }
+        requires high { measure.size ≤ℤ pos 1073741823 }
+        ensures fed { IsRead rule_rest rule_held 1 (λ more. spec.rule_sides (spec.with_side self.old.rule side measure.size) (Took token.now ∷ more)) (Took token.now ∷ []) self.new result }
+        ensures fewer { NeedsFewer 0 (rule_needed self.new) result }
+        ensures on { IsRuleFed self.new result }
+    {
+        self.rule = with_side(self.rule, side, measure.size as i32);
+        self.part = RulePart::Start;
+        self.feed_start(token)
     }
 }

@@ -2,11 +2,11 @@
 ghost use Rattle.std.specs.Prelude.{◌≡◌, ◌∷◌, [], IfOk};
 ghost use Rattle.tx_seen.specs.declared.item.Item.TheVariants.{Took};
 ghost use Rattle.tx_seen.specs.Readings.{More};
-ghost use Rattle.tx_scan.specs.Rests.{IsFedBy, IsGivenBy};
+ghost use Rattle.tx_scan.specs.Rests.{IsFedBy, IsGivenBehind};
 ghost use Rattle.tx_scan.specs.Supplied.{NeedsNoMore, NeedsFewer};
 ghost use Rattle.tx_assign.specs.Assignments.{assignment};
 ghost use Rattle.tx_command.specs.Commands as commands;
-ghost use Rattle.tx_command.specs.Rests.{command_rest, held, more_needed, Begins, GoesOn, IsAssigning, IsBegunBy, IsOn};
+ghost use Rattle.tx_command.specs.Rests.{command_rest, held, more_needed, Begins, GoesOn, IsBegunBy, IsOn, IsWaiting};
 
 use crate::mapping::{assigned, begun_box, defined, future_defined, macro_defined, ruled, sized};
 use crate::scans::{RuleScan, Scans, Stage};
@@ -119,14 +119,21 @@ impl Scans {
         }
     }
 
-    /// Takes the value that an assignment needs. Its only error is want of memory.
-    pub(crate) fn give(&mut self, value: &Value) -> Result<Fed<Command>, AllocError>
-        requires { IsAssigning self.old.stage }
-        ensures given { (mode : Mode) (head : Head) → IfOk result (IsGivenBy (command_rest mode head) held self.old value.now self.new) }
+    /// Takes the value that an assignment or a size needs, where this token was taken last. Its only error is want of memory.
+    pub(crate) fn give(&mut self, value: &Value, behind: &Seen) -> Result<Fed<Command>, AllocError>
+        requires { IsWaiting self.old }
+        ensures given { (mode : Mode) (head : Head) → IfOk result (IsGivenBehind (command_rest mode head) held self.old value.now behind.now self.new) }
         ensures needs { IfOk result (NeedsFewer (more_needed self.old) (more_needed self.new)) }
         ensures on { IfOk result (GoesOn self.new) }
     {
-        Ok(assigned(self.assignment.give(value)?))
+        match self.stage {
+            Stage::Assign => Ok(assigned(self.assignment.give(value)?)),
+            Stage::Sized(kind) => Ok(sized(kind, self.size.give(value)?)),
+            Stage::Rule(kind) => Ok(ruled(kind, self.rule.give(value, behind)?)),
+            Stage::Start | Stage::Name(_) | Stage::MacroName(_) => unreachable!(),
+            Stage::FutureName | Stage::SecondToken | Stage::KeptToken(_) => unreachable!(),
+            Stage::ShippedBox | Stage::Spaces | Stage::BoxBegin(_, _) => unreachable!(),
+        }
     }
 
     /// The first token of a command. Its only error is want of memory.

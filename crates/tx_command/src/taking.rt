@@ -3,14 +3,14 @@ ghost use Rattle.std.specs.Prelude.{◌≡◌, ◌↔◌, ◌<◌, ◌≤◌, �
 ghost use Rattle.tx_eqtb.specs.Quantities.{value_in};
 ghost use Rattle.tx_prim.specs.declared.modes.Mode.{Mode};
 ghost use Rattle.tx_seen.specs.declared.item.Item.{Item};
-ghost use Rattle.tx_seen.specs.declared.item.Item.TheVariants.{Gave};
-ghost use Rattle.tx_seen.specs.Readings.{More};
-ghost use Rattle.tx_scan.specs.Rests.{HasTakenBy, IsGivenBy};
+ghost use Rattle.tx_seen.specs.declared.item.Item.TheVariants.{Gave, Took};
+ghost use Rattle.tx_seen.specs.Readings.{More, last};
+ghost use Rattle.tx_scan.specs.Rests.{HasTakenBy, IsGivenBehind};
 ghost use Rattle.tx_scan.specs.Supplied.{value_for, NeedsFewer};
 ghost use Rattle.tx_command.specs.declared.types.Head.{Head};
 ghost use Rattle.tx_command.specs.Commands as commands;
 ghost use Rattle.tx_command.specs.Commands.{prefixes_of};
-ghost use Rattle.tx_command.specs.Rests.{command_rest, held, more_needed, GoesOn, IsAssigning, IsOn};
+ghost use Rattle.tx_command.specs.Rests.{command_rest, held, more_needed, GoesOn, IsOn, IsWaiting};
 ghost use Rattle.tx_command.specs.Taken.{joined, IsEnd, IsPending, IsSettled, IsTaken};
 
 use crate::scans::{Scans, Stage, Taken};
@@ -233,45 +233,54 @@ fn take(
             taken.push(Item::Took(token))?;
             Ok(Fed::More(want))
         }
+        Fed::Need(kind) => {
+            let behind = token.clone()?;
+            taken.push(Item::Took(token))?;
+            settle(taken, scans, table, &behind, Fed::Need(kind))
+        }
         fed => {
             if is_end(&fed) {
                 return Ok(fed);
             }
             taken.push(Item::Took(token))?;
-            settle(taken, scans, table, fed)
+            Ok(fed)
         }
     }
 }
 
-/// Gives the values that the command needs, as the table has them, until it needs none. Its only error is want of memory.
+/// Gives the values that the command needs behind the token that was taken last, as the table has them, until it needs none. Its
+/// only error is want of memory.
 fn settle(
     taken: &mut Items<Item>,
     scans: &mut Scans,
     table: &Eqtb,
+    behind: &Seen,
     fed: Fed<Command>,
 ) -> Result<Fed<Command>, AllocError>
-    requires { GoesOn scans.old fed }
+    requires on { GoesOn scans.old fed }
+    requires last { last 1 taken.old ≡ Took behind.now ∷ [] }
     ensures settled { (mode : Mode) (head : Head) (items : List Item) → IsPending (value_in table.now) mode head items taken.old scans.old fed → IfOk result (IsSettled mode head items taken.new scans.new) }
     ensures on { IfOk result (GoesOn scans.new) }
 {
     let mut fed = fed;
     loop {
         match fed {
-            Fed::Need(kind) => fed = give(taken, scans, table, &kind)?,
+            Fed::Need(kind) => fed = give(taken, scans, table, behind, &kind)?,
             settled => return Ok(settled),
         }
     }
 }
 
-/// Gives the value that is needed. Its only error is want of memory.
+/// Gives the value that is needed, where this token was taken last. Its only error is want of memory.
 fn give(
     taken: &mut Items<Item>,
     scans: &mut Scans,
     table: &Eqtb,
+    behind: &Seen,
     kind: &Kind,
 ) -> Result<Fed<Command>, AllocError>
-    requires { IsAssigning scans.old.stage }
-    ensures given { (mode : Mode) (head : Head) → IfOk result (IsGivenBy (command_rest mode head) held scans.old (value_for (value_in table.now) kind.now) scans.new) }
+    requires { IsWaiting scans.old }
+    ensures given { (mode : Mode) (head : Head) → IfOk result (IsGivenBehind (command_rest mode head) held scans.old (value_for (value_in table.now) kind.now) behind.now scans.new) }
     ensures needs { IfOk result (NeedsFewer (more_needed scans.old) (more_needed scans.new)) }
     ensures on { IfOk result (GoesOn scans.new) }
     ensures taken { OnOk result (taken.new ≡ taken.old ++ Gave (value_for (value_in table.now) kind.now) ∷ []) }
@@ -279,7 +288,7 @@ fn give(
     match kind {
         Kind::Quantity(place) => {
             let value = table.quantity(place);
-            let fed = scans.give(&value)?;
+            let fed = scans.give(&value, behind)?;
             taken.push(Item::Gave(value))?;
             Ok(fed)
         }

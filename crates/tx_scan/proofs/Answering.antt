@@ -134,6 +134,10 @@ given-answers rest held reading old new taken v (fed.Wrong error) h k =
     λ more. taken-on rest held reading old taken (Gave v) more h ∙ k (last (held old) taken) (length-ending (held old) (tokens taken)) more
 
 -- the same of a result that isn't want of memory
+pub given-answers-ok : {S A E : Type 0} (rest : S → List Item → Item → List Item → Reading A) (held : S → ℕ) (reading : List Item → Reading A) (old new : S) (taken : List Item) (v : Value) (answer : Result (Fed A) E) → HasTakenBy rest held reading old taken → IfOk answer (IsGivenBy rest held old v new) → IfOk answer (Answers reading (HasTakenBy rest held reading) (taken ++ Gave v ∷ []) new)
+given-answers-ok rest held reading old new taken v (Ok answer) h k = given-answers rest held reading old new taken v answer h k
+given-answers-ok rest held reading old new taken v (Err e) h k = tt
+
 pub fed-answers-ok : {S A E : Type 0} (rest : S → List Item → Item → List Item → Reading A) (held : S → ℕ) (reading : List Item → Reading A) (old new : S) (taken : List Item) (t : Seen) (answer : Result (Fed A) E) → HasTakenBy rest held reading old taken → IfOk answer (IsFedBy rest held old t new) → IfOk answer (Answers reading (HasTakenBy rest held reading) (taken ++ Took t ∷ []) new)
 fed-answers-ok rest held reading old new taken t (Ok answer) h k = fed-answers rest held reading old new taken t answer h k
 fed-answers-ok rest held reading old new taken t (Err e) h k = tt

@@ -13,7 +13,6 @@ use Rattle.tx_seen.specs.declared.item.Item.TheVariants.{Took, Gave}
 use Rattle.tx_seen.specs.Readings.{next}
 use Rattle.tx_scan.specs.declared.scans.Radix.TheVariants.{Decimal}
 use Rattle.tx_scan.specs.declared.scans.Units.{Units}
-use Rattle.tx_scan.specs.declared.scans.Letters.TheVariants.{Nothing}
 use Rattle.tx_scan.specs.Beginnings.{digit}
 use Rattle.tx_scan.specs.Integers.{unless_space}
 use Rattle.tx_scan.specs.Dimensions.{factor_ended, fraction, measured, factored}
@@ -35,7 +34,7 @@ same-fraction_of : (a b : List ℕ) → take 17 a ≡ take 17 b → fraction_of 
 same-fraction_of a b h = ap (λ digits. nearest (65536 * digits_value 10 digits) (10 ^ length digits)) h
 
 same-unit : (units : Units) (negative : Bool) (whole : ℕ) (a b : List ℕ) (behind rest : List Item) → take 17 a ≡ take 17 b → factored units negative (record { whole = whole; digits = a; behind = behind }) rest ≡ factored units negative (record { whole = whole; digits = b; behind = behind }) rest
-same-unit units negative whole a b behind rest h = ap (λ (part : ℕ). measured units negative whole part Nothing (behind ++ rest)) (same-fraction_of a b h)
+same-unit units negative whole a b behind rest h = ap (λ (part : ℕ). measured units negative whole part (behind ++ rest)) (same-fraction_of a b h)
 
 same-ended : (units : Units) (negative : Bool) (whole : ℕ) (a b : List ℕ) (t : Seen) (rest : List Item) → take 17 a ≡ take 17 b → (undefined : Bool) → is_undefined t ≡ undefined → next (factor_ended whole a t rest) (factored units negative) ≡ next (factor_ended whole b t rest) (factored units negative)
 same-ended units negative whole a b t rest h true u = rw u refl

@@ -12,3 +12,5 @@ pub mod FileSteps
 pub mod Mappings
 pub mod Settling
 pub mod GivingBack
+pub mod Quantities
+pub mod Behind

@@ -27,7 +27,10 @@ size-stage (dimen.Digits constant) = lit≤ tt
 size-stage (dimen.Fraction whole) = lit≤ tt
 size-stage dimen.Character = lit≤ tt
 size-stage (dimen.AfterCharacter code) = lit≤ tt
-size-stage (dimen.Unit whole letters) = lit≤ tt
+size-stage dimen.Coefficient = lit≤ tt
+size-stage (dimen.Quantity amount) = lit≤ tt
+size-stage (dimen.Unit whole) = lit≤ tt
+size-stage (dimen.Name whole letters) = lit≤ tt
 size-stage (dimen.AfterUnit whole unit) = lit≤ tt
 size-stage (dimen.AfterFil whole order) = lit≤ tt
 

@@ -63,19 +63,23 @@ token-pending at rest held more_needed reading taken t old new answer reads few 
     (fed-answers rest held reading old new taken t answer reads fits) (omega (arith, long, few)) (omega (arith, long, few)) refl
     (fewer (more_needed old) (more_needed new) answer n)
 
-value-by : {S A : Type 0} (at : Place → Value) (rest : Rest S A) (held more_needed : S → ℕ) (reading : List Item → Reading A) (items taken : List Item) (kind : Kind) (old new : S) (answer : Fed A) (count : ℕ) → more_needed old < count → supplied count at reading taken ≡ items → reading taken ≡ Need kind → HasTakenBy rest held reading old taken → more_needed old ≤ length taken → IsGivenBy rest held old (value_for at kind) new answer → NeedsFewer (more_needed old) (more_needed new) answer → IsPending at reading (HasTakenBy rest held reading) more_needed items (taken ++ Gave (value_for at kind) ∷ []) new answer
-value-by at rest held more_needed reading items taken kind old new answer zero c same is reads few fits n = absurd (omega (arith, c))
-value-by at rest held more_needed reading items taken kind old new answer (suc count) c same is reads few fits n =
+value-by : {S A : Type 0} (at : Place → Value) (reading : List Item → Reading A) (HasTaken : S → List Item → Type 0) (more_needed : S → ℕ) (items taken : List Item) (kind : Kind) (old new : S) (answer : Fed A) (count : ℕ) → more_needed old < count → supplied count at reading taken ≡ items → reading taken ≡ Need kind → more_needed old ≤ length taken → Answers reading HasTaken (taken ++ Gave (value_for at kind) ∷ []) new answer → NeedsFewer (more_needed old) (more_needed new) answer → IsPending at reading HasTaken more_needed items (taken ++ Gave (value_for at kind) ∷ []) new answer
+value-by at reading HasTaken more_needed items taken kind old new answer zero c same is few a n = absurd (omega (arith, c))
+value-by at reading HasTaken more_needed items taken kind old new answer (suc count) c same is few a n =
     let now : List Item = taken ++ Gave (value_for at kind) ∷ [] in
     let long : length now ≡ length taken + 1 = grind (arith, length-append) in
-    answered at reading (HasTakenBy rest held reading) more_needed items now new (more_needed old) count answer
-    (given-answers rest held reading old new taken (value_for at kind) answer reads fits) (omega (arith, long, few)) (omega (arith, c))
+    answered at reading HasTaken more_needed items now new (more_needed old) count answer a (omega (arith, long, few)) (omega (arith, c))
     (sym (given-one count at reading taken kind is) ∙ same) n
 
 -- behind a value another one may be needed
+pub value-answered : {S A : Type 0} (at : Place → Value) (reading : List Item → Reading A) (HasTaken : S → List Item → Type 0) (more_needed : S → ℕ) (items taken : List Item) (kind : Kind) (old new : S) (answer : Fed A) → IsPending at reading HasTaken more_needed items taken old (fed.Need kind) → Answers reading HasTaken (taken ++ Gave (value_for at kind) ∷ []) new answer → NeedsFewer (more_needed old) (more_needed new) answer → IsPending at reading HasTaken more_needed items (taken ++ Gave (value_for at kind) ∷ []) new answer
+value-answered at reading HasTaken more_needed items taken kind old new answer p a n =
+    value-by at reading HasTaken more_needed items taken kind old new answer p.0 p.1.0 p.1.1.0 p.1.1.1.0 p.1.1.1.1.1 a n
+
 pub value-pending : {S A : Type 0} (at : Place → Value) (rest : Rest S A) (held more_needed : S → ℕ) (reading : List Item → Reading A) (items taken : List Item) (kind : Kind) (old new : S) (answer : Fed A) → IsPending at reading (HasTakenBy rest held reading) more_needed items taken old (fed.Need kind) → IsGivenBy rest held old (value_for at kind) new answer → NeedsFewer (more_needed old) (more_needed new) answer → IsPending at reading (HasTakenBy rest held reading) more_needed items (taken ++ Gave (value_for at kind) ∷ []) new answer
 value-pending at rest held more_needed reading items taken kind old new answer p fits n =
-    value-by at rest held more_needed reading items taken kind old new answer p.0 p.1.0 p.1.1.0 p.1.1.1.0 p.1.1.1.1.0 p.1.1.1.1.1 fits n
+    value-answered at reading (HasTakenBy rest held reading) more_needed items taken kind old new answer p
+    (given-answers rest held reading old new taken (value_for at kind) answer p.1.1.1.1.0 fits) n
 
 -- an answer that needs none
 pub pending-settled : {S A : Type 0} (at : Place → Value) (reading : List Item → Reading A) (HasTaken : S → List Item → Type 0) (more_needed : S → ℕ) (items taken : List Item) (scan : S) (answer : Fed A) → ((kind : Kind) → answer ≡ fed.Need kind → ⊥) → IsPending at reading HasTaken more_needed items taken scan answer → IsSettled reading HasTaken more_needed items taken scan answer

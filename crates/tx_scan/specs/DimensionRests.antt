@@ -1,45 +1,72 @@
 -- The scan of a dimension means the rest of the dimension.
-use Rattle.std.specs.Prelude.{ℕ, ◌∷◌, [], Bool, false, pos, neg_ℤ, ◌≤ℤ◌, List}
+use Rattle.std.specs.Prelude.{ℕ, zero, suc, ◌+◌, ◌∷◌, [], Bool, false, Option, None, Some, ℤ, pos, neg_ℤ, ◌≤ℤ◌, List}
 use Rattle.tx_num.specs.Decimals.{fraction_of}
 use Rattle.tx_seen.specs.declared.fed.Fed.{Fed}
 use Rattle.tx_seen.specs.declared.fed.Fed.TheVariants as fed
 use Rattle.tx_seen.specs.declared.seen.Seen.{Seen}
+use Rattle.tx_seen.specs.declared.fed.Value.{Value}
 use Rattle.tx_seen.specs.declared.item.Item.{Item}
-use Rattle.tx_seen.specs.declared.item.Item.TheVariants.{Took}
+use Rattle.tx_seen.specs.declared.item.Item.TheVariants.{Took, Gave}
 use Rattle.tx_seen.specs.Readings.{Reading, next}
 use Rattle.tx_scan.specs.declared.scans.Units.{Units}
 use Rattle.tx_scan.specs.declared.scans.Measure.{Measure}
-use Rattle.tx_scan.specs.declared.scans.Letters.{Letters}
 use Rattle.tx_scan.specs.declared.scans.DimenScan.{DimenScan}
 use Rattle.tx_scan.specs.declared.scans.DimenStage.{DimenStage}
 use Rattle.tx_scan.specs.declared.scans.DimenStage.TheVariants as stage
 use Rattle.tx_scan.specs.Integers.{character_code, space_after}
-use Rattle.tx_scan.specs.Dimensions.{fraction, whole_units, first_unit, measured, unit_rest, fil_rest, factored, counted, size_signs, dimension}
-use Rattle.tx_scan.specs.GrammarRests.{held_none}
-use Rattle.tx_scan.specs.Rests.{HasTakenBy, IsAnswer}
+use Rattle.tx_scan.specs.Dimensions.{fraction, whole_units, first_unit, ended_with, measured, numbered_unit, unit_name, unit_ended, unit_rest, fil_rest, factored, counted, size_signs, dimension}
+use Rattle.tx_scan.specs.IntegerRests as integers
+use Rattle.tx_scan.specs.Rests.{HasTakenBy, IsAnswer, IsPassed}
 
--- the rest of a dimension by its units and sign, the stage, and the digits of its fraction
-abbrev pub size_rest : Units → Bool → DimenStage → List ℕ → Item → List Item → Reading Measure
-size_rest units negative stage.Signs digits item more = size_signs units negative (item ∷ more)
-size_rest units negative (stage.FirstDigit radix) digits item more = next (first_unit radix (item ∷ more)) (factored units negative)
-size_rest units negative (stage.Digits constant) digits item more = next (whole_units constant.radix constant.number (item ∷ more)) (factored units negative)
-size_rest units negative (stage.Fraction whole) digits item more = next (fraction whole digits (item ∷ more)) (factored units negative)
-size_rest units negative stage.Character digits item more = next (character_code (item ∷ more)) (counted units negative)
-size_rest units negative (stage.AfterCharacter code) digits item more = next (space_after code (item ∷ more)) (counted units negative)
-size_rest units negative (stage.Unit whole letters) digits item more = measured units negative whole (fraction_of digits) letters (item ∷ more)
-size_rest units negative (stage.AfterUnit whole unit) digits item more = unit_rest negative whole (fraction_of digits) unit (item ∷ more)
-size_rest units negative (stage.AfterFil whole order) digits item more = fil_rest negative whole (fraction_of digits) order (item ∷ more)
+-- the token behind the register of a factor, if one is held
+abbrev pub held_items : ℕ → Option Seen → List Item
+held_items zero behind = []
+held_items (suc n) None = []
+held_items (suc n) (Some t) = Took t ∷ []
+
+-- the rest of a dimension by the stage of its scan
+abbrev pub stage_rest : DimenStage → DimenScan → List Item → Item → List Item → Reading Measure
+stage_rest stage.Signs scan behind item more = size_signs scan.units scan.negative (item ∷ more)
+stage_rest (stage.FirstDigit radix) scan behind item more = next (first_unit radix (item ∷ more)) (factored scan.units scan.negative)
+stage_rest (stage.Digits constant) scan behind item more = next (whole_units constant.radix constant.number (item ∷ more)) (factored scan.units scan.negative)
+stage_rest (stage.Fraction whole) scan behind item more = next (fraction whole scan.digits (item ∷ more)) (factored scan.units scan.negative)
+stage_rest stage.Character scan behind item more = next (character_code (item ∷ more)) (counted scan.units scan.negative)
+stage_rest (stage.AfterCharacter code) scan behind item more = next (space_after code (item ∷ more)) (counted scan.units scan.negative)
+stage_rest stage.Coefficient scan behind item more = next (integers.rest scan.number (held_items (integers.held scan.number) scan.behind) item more) (numbered_unit scan.units scan.negative)
+stage_rest (stage.Quantity amount) scan behind item more = next (integers.rest scan.number behind item more) (ended_with scan.units scan.negative (fraction_of scan.digits) amount)
+stage_rest (stage.Unit whole) scan behind item more = measured scan.units scan.negative whole (fraction_of scan.digits) (item ∷ more)
+stage_rest (stage.Name whole letters) scan behind item more = next (unit_name scan.units letters (item ∷ more)) (unit_ended scan.negative whole (fraction_of scan.digits))
+stage_rest (stage.AfterUnit whole unit) scan behind item more = unit_rest scan.negative whole (fraction_of scan.digits) unit (item ∷ more)
+stage_rest (stage.AfterFil whole order) scan behind item more = fil_rest scan.negative whole (fraction_of scan.digits) order (item ∷ more)
 
 abbrev pub rest : DimenScan → List Item → Item → List Item → Reading Measure
-rest scan behind item more = size_rest scan.units scan.negative scan.stage scan.digits item more
+rest scan behind item more = stage_rest scan.stage scan behind item more
+
+-- how many tokens are held behind the dimension
+abbrev pub stage_held : DimenStage → DimenScan → ℕ
+stage_held (stage.Quantity amount) scan = integers.held scan.number
+stage_held _ scan = 0
+
+abbrev pub held : DimenScan → ℕ
+held scan = stage_held scan.stage scan
+
+-- how many values are needed at most, unless more tokens need more: those that numbers wait for, and one that the token
+-- behind a factor may begin
+abbrev pub stage_needed : DimenStage → DimenScan → ℕ
+stage_needed stage.Coefficient scan = integers.waiting scan.number + integers.held scan.number
+stage_needed (stage.Quantity amount) scan = integers.waiting scan.number
+stage_needed _ scan = 0
+
+abbrev pub more_needed : DimenScan → ℕ
+more_needed scan = stage_needed scan.stage scan
 
 -- the scan of which nothing is read
 abbrev pub begun_size : Units → DimenScan
-begun_size units = record { units = units; negative = false; stage = stage.Signs; digits = [] }
+begun_size units = record { units = units; negative = false; stage = stage.Signs; digits = []; number = integers.begun_integer; behind = None }
 
 -- the scan that has taken these items reads on as the dimension that begins with them
 abbrev pub HasTaken : Units → DimenScan → List Item → Type 0
-HasTaken units scan taken = HasTakenBy rest held_none (dimension units) scan taken
+HasTaken units scan taken = HasTakenBy rest held (dimension units) scan taken
 
 -- how many tokens at most are given back behind one more: none where the factor hasn't begun
 abbrev pub stage_most : DimenStage → ℕ
@@ -51,15 +78,23 @@ most scan = stage_most scan.stage
 
 -- an answer to one more token says what reading on gives
 abbrev pub IsFed : DimenScan → Seen → DimenScan → Fed Measure → Type 0
-IsFed old t new answer = (behind : List Item) → IsAnswer rest held_none (most old) (λ more. rest old behind (Took t) more) t new answer
+IsFed old t new answer = (behind : List Item) → IsAnswer rest held (most old) (λ more. rest old behind (Took t) more) t new answer
+
+-- an answer to a value says what reading on gives
+abbrev pub IsGiven : DimenScan → Value → DimenScan → Fed Measure → Type 0
+IsGiven old v new answer = (behind : List Item) → IsPassed rest held (λ more. rest old behind (Gave v) more) behind (held old) new answer
+
+-- an answer to this token says what reading gives of the items behind it
+abbrev pub IsMeasuring : ℕ → (List Item → Reading Measure) → Seen → DimenScan → Fed Measure → Type 0
+IsMeasuring most reading t new answer = IsAnswer rest held most reading t new answer
 
 -- an answer to the first token of a unit, or to a space before it
-abbrev pub IsUnit : Units → Bool → ℕ → List ℕ → Letters → Seen → DimenScan → Fed Measure → Type 0
-IsUnit units negative whole digits letters t new answer = IsAnswer rest held_none 1 (λ more. measured units negative whole (fraction_of digits) letters (Took t ∷ more)) t new answer
+abbrev pub IsUnit : Units → Bool → ℕ → List ℕ → Seen → DimenScan → Fed Measure → Type 0
+IsUnit units negative whole digits t new answer = IsMeasuring 0 (λ more. measured units negative whole (fraction_of digits) (Took t ∷ more)) t new answer
 
--- a dimension that is done is within 2^30-1 sp either way, and it needs no value
+-- a dimension that is done is within 2^30-1 sp either way
 abbrev pub IsSize : Fed Measure → Type 0
 IsSize (fed.More want) = Unit {0}
-IsSize (fed.Need kind) = ⊥
+IsSize (fed.Need kind) = Unit {0}
 IsSize (fed.Done measure back) = (neg_ℤ (pos 1073741823) ≤ℤ measure.size) × (measure.size ≤ℤ pos 1073741823)
 IsSize (fed.Wrong error) = Unit {0}

@@ -1,10 +1,12 @@
 -- Dimensions (The TeXbook, chapters 10 and 24; TeX: The Program, sections 448 to 458).
-use Rattle.std.specs.Prelude.{ℕ, ◌+◌, ◌*◌, ◌∷◌, [], ◌++◌, ◌&&◌, Bool, true, false, not, nat_le, List, Option, Some, None, if◌then◌else◌}
+use Rattle.std.specs.Prelude.{ℕ, ◌+◌, ◌*◌, ◌/◌, ◌∷◌, [], ◌++◌, ◌&&◌, Bool, true, false, not, nat_le, ℤ, pos, negsuc, unsigned_abs, List, Option, Some, None, if◌then◌else◌}
 use Rattle.tx_num.specs.Fractions.{signed}
 use Rattle.tx_num.specs.Decimals.{fraction_of}
 use Rattle.tx_num.specs.Units.{size_of}
 use Rattle.tx_num.specs.declared.units.PhysicalUnit.TheVariants.{Point, Pica, Inch, BigPoint, Centimetre, Millimetre, DidotPoint, Cicero, ScaledPoint}
 use Rattle.tx_char.specs.Character.{character}
+use Rattle.tx_prim.specs.declared.family.Numbered.{Numbered}
+use Rattle.tx_seen.specs.Places.{is_size, place_of}
 use Rattle.tx_seen.specs.declared.error.TexError.TheVariants.{MissingNumber, MissingUnit, DimensionTooLarge}
 use Rattle.tx_seen.specs.declared.fed.Want.TheVariants.{Expanded}
 use Rattle.tx_seen.specs.declared.seen.Seen.{Seen}
@@ -20,14 +22,16 @@ use Rattle.tx_scan.specs.declared.scans.Order.TheVariants.{Normal, Fil, Fill, Fi
 use Rattle.tx_scan.specs.declared.scans.Measure.{Measure}
 use Rattle.tx_scan.specs.declared.scans.UnitName.{UnitName}
 use Rattle.tx_scan.specs.declared.scans.UnitName.TheVariants.{Physical, Mathematical, Quad, XHeight}
+use Rattle.tx_scan.specs.declared.scans.Amount.{Amount}
+use Rattle.tx_scan.specs.declared.scans.Amount.TheVariants.{Whole as All, Times}
 use Rattle.tx_scan.specs.declared.scans.Letters.{Letters}
-use Rattle.tx_scan.specs.declared.scans.Letters.TheVariants.{Nothing, P, I, B, C, M, D, S, E, F, Fi}
+use Rattle.tx_scan.specs.declared.scans.Letters.TheVariants.{P, I, B, C, M, D, S, E, F, Fi}
 use Rattle.tx_scan.specs.declared.scans.Spelled.{Spelled}
 use Rattle.tx_scan.specs.declared.scans.Spelled.TheVariants.{On, Whole, Infinite, No}
 use Rattle.tx_scan.specs.declared.scans.Beginning.{Beginning}
 use Rattle.tx_scan.specs.declared.scans.Beginning.TheVariants as begin
 use Rattle.tx_scan.specs.Beginnings.{base, digit, beginning}
-use Rattle.tx_scan.specs.Integers.{Ended, expanded, unless_space, with_digit, character_code}
+use Rattle.tx_scan.specs.Integers.{Ended, expanded, unless_space, with_digit, character_code, integer}
 
 -- what stands before a unit: whole units, the digits (as text) behind the point, and the token behind them that is read
 -- and isn't part of them, if there is one
@@ -77,10 +81,10 @@ first_unit radix (Took t ∷ rest) = units_from (digit radix t) t rest
     units_from None t rest = expanded t (Wrong MissingNumber)
     units_from (Some d) t rest = whole_units radix d rest
 
--- what the next letter makes of a name: p begins pt and pc, i in, b bp, c cm and cc, d dd, s sp, e em and ex, f fil, and m is
+-- what the first letter makes of a name: p begins pt and pc, i in, b bp, c cm and cc, d dd, s sp, e em and ex, f fil, and m is
 -- for mm, or for mu where that alone may stand
-abbrev pub letter_on : Units → Letters → Seen → Spelled
-letter_on units Nothing t =
+abbrev pub first_letter : Units → Seen → Spelled
+first_letter units t =
     if units.infinite && is_key (character "f") t then On F
     else if is_key (character "m") t then On M
     else if units.mu then No
@@ -92,6 +96,9 @@ letter_on units Nothing t =
     else if is_key (character "s") t then On S
     else if is_key (character "e") t then On E
     else No
+
+-- and then the letter behind these
+abbrev pub letter_on : Units → Letters → Seen → Spelled
 letter_on units P t =
     if is_key (character "t") t then Whole (Physical Point)
     else if is_key (character "c") t then Whole (Physical Pica)
@@ -115,11 +122,6 @@ letter_on units E t =
 letter_on units F t = if is_key (character "i") t then On Fi else No
 letter_on units Fi t = if is_key (character "l") t then Infinite else No
 
--- whether no letter is read
-abbrev pub is_unread : Letters → Bool
-is_unread Nothing = true
-is_unread _ = false
-
 -- a unit that is named; None: fil
 abbrev pub spelled : (Letters → Reading (Option UnitName)) → Spelled → List Item → Reading (Option UnitName)
 spelled on (On letters) rest = on letters
@@ -127,13 +129,11 @@ spelled on (Whole unit) rest = Done (Some unit) rest
 spelled on Infinite rest = Done None rest
 spelled on No rest = Wrong MissingUnit
 
--- the name of a unit behind these letters of it, small or capital, with spaces before the first
+-- the name of a unit behind these letters of it, small or capital
 abbrev pub unit_name : Units → Letters → List Item → Reading (Option UnitName)
 unit_name units letters [] = More Expanded
 unit_name units letters (Gave v ∷ rest) = Wrong MissingNumber
-unit_name units letters (Took t ∷ rest) = expanded t (
-    if is_unread letters && is_space t then unit_name units letters rest
-    else spelled (λ more. unit_name units more rest) (letter_on units letters t) rest)
+unit_name units letters (Took t ∷ rest) = expanded t (spelled (λ more. unit_name units more rest) (letter_on units letters t) rest)
 
 -- so many whole units and 65536ths of one; em and ex are those of \nullfont, which has none
 abbrev pub size_in : UnitName → ℕ → ℕ → ℕ
@@ -178,36 +178,82 @@ abbrev pub unit_ended : Bool → ℕ → ℕ → Option UnitName → List Item �
 unit_ended negative whole part None rest = fil_rest negative whole part Fil rest
 unit_ended negative whole part (Some unit) rest = unit_rest negative whole part unit rest
 
--- the unit, and what stands behind it
-abbrev pub measured : Units → Bool → ℕ → ℕ → Letters → List Item → Reading Measure
-measured units negative whole part letters items = next (unit_name units letters items) (unit_ended negative whole part)
+-- whether a size stands at each number of a kind
+abbrev pub is_size_kind : Numbered → Bool
+is_size_kind kind = is_size (place_of kind 0)
+
+-- whether a token begins an internal quantity
+abbrev pub is_internal : Beginning → Bool
+is_internal begin.Plus = false
+is_internal begin.Minus = false
+is_internal (begin.Digit d) = false
+is_internal (begin.Digits radix) = false
+is_internal begin.Character = false
+is_internal begin.Point = false
+is_internal (begin.Number n) = true
+is_internal (begin.At place) = true
+is_internal (begin.Numbered kind) = true
+is_internal (begin.Nothing error) = false
+
+-- whether the signs and a number make it negative
+abbrev pub turned : Bool → ℤ → Bool
+turned negative (pos n) = negative
+turned negative (negsuc n) = not negative
+
+-- so much of an internal quantity: itself, or so many and so many 65536ths of it, rounded down
+abbrev pub amount : ℕ → Amount → ℕ → ℕ
+amount part All size = size
+amount part (Times whole) size = size * whole + size * part / 65536
+
+-- an internal quantity that ends the dimension, in sp; none counts mu
+abbrev pub ended_with : Units → Bool → ℕ → Amount → ℤ → List Item → Reading Measure
+ended_with units negative part a n rest =
+    if units.mu then Wrong MissingUnit else sized (turned negative n) (amount part a (unsigned_abs n)) Normal rest
+
+-- the unit, with spaces before it, and what stands behind it
+abbrev pub measured : Units → Bool → ℕ → ℕ → List Item → Reading Measure
+measured units negative whole part [] = More Expanded
+measured units negative whole part (Gave v ∷ rest) = Wrong MissingNumber
+measured units negative whole part (Took t ∷ rest) = expanded t (
+    if is_space t then measured units negative whole part rest
+    else if is_internal (beginning t) then next (integer (Took t ∷ rest)) (ended_with units negative part (Times whole))
+    else next (spelled (λ more. unit_name units more rest) (first_letter units t) rest) (unit_ended negative whole part))
+
+-- the unit behind an internal number
+abbrev pub numbered_unit : Units → Bool → ℤ → List Item → Reading Measure
+numbered_unit units negative n rest = measured units (turned negative n) (unsigned_abs n) (fraction_of []) rest
+
+-- an internal quantity, which is a size or counts units
+abbrev pub quantified : Units → Bool → Bool → Reading ℤ → Reading Measure
+quantified units negative true reading = next reading (ended_with units negative 0 All)
+quantified units negative false reading = next reading (numbered_unit units negative)
 
 -- the unit behind a factor
 abbrev pub factored : Units → Bool → Factor → List Item → Reading Measure
-factored units negative f rest = measured units negative f.whole (fraction_of f.digits) Nothing (f.behind ++ rest)
+factored units negative f rest = measured units negative f.whole (fraction_of f.digits) (f.behind ++ rest)
 
 -- the unit behind a constant that has no fraction
 abbrev pub counted : Units → Bool → Ended → List Item → Reading Measure
 counted units negative c rest = factored units negative (record { whole = c.number; digits = []; behind = c.behind }) rest
 
--- what a token begins, with the sign, or how reading goes on
-abbrev pub size_begun : Units → Bool → (Bool → Reading Measure) → List Item → Beginning → Reading Measure
-size_begun units negative on rest begin.Plus = on negative
-size_begun units negative on rest begin.Minus = on (not negative)
-size_begun units negative on rest (begin.Digit d) = next (whole_units Decimal d rest) (factored units negative)
-size_begun units negative on rest (begin.Digits radix) = next (first_unit radix rest) (factored units negative)
-size_begun units negative on rest begin.Point = next (fraction 0 [] rest) (factored units negative)
-size_begun units negative on rest begin.Character = next (character_code rest) (counted units negative)
-size_begun units negative on rest (begin.Number n) = Wrong MissingNumber
-size_begun units negative on rest (begin.At place) = Wrong MissingNumber
-size_begun units negative on rest (begin.Numbered kind) = Wrong MissingNumber
-size_begun units negative on rest (begin.Nothing error) = Wrong error
+-- what a token begins, with the sign, or how reading goes on; what it reads as an integer
+abbrev pub size_begun : Units → Bool → (Bool → Reading Measure) → Reading ℤ → List Item → Beginning → Reading Measure
+size_begun units negative on number rest begin.Plus = on negative
+size_begun units negative on number rest begin.Minus = on (not negative)
+size_begun units negative on number rest (begin.Digit d) = next (whole_units Decimal d rest) (factored units negative)
+size_begun units negative on number rest (begin.Digits radix) = next (first_unit radix rest) (factored units negative)
+size_begun units negative on number rest begin.Point = next (fraction 0 [] rest) (factored units negative)
+size_begun units negative on number rest begin.Character = next (character_code rest) (counted units negative)
+size_begun units negative on number rest (begin.Number n) = quantified units negative false number
+size_begun units negative on number rest (begin.At place) = quantified units negative (is_size place) number
+size_begun units negative on number rest (begin.Numbered kind) = quantified units negative (is_size_kind kind) number
+size_begun units negative on number rest (begin.Nothing error) = Wrong error
 
 -- a dimension with its signs, whose sign so far is this
 abbrev pub size_signs : Units → Bool → List Item → Reading Measure
 size_signs units negative [] = More Expanded
 size_signs units negative (Gave v ∷ rest) = Wrong MissingNumber
-size_signs units negative (Took t ∷ rest) = size_begun units negative (λ negative. size_signs units negative rest) rest (beginning t)
+size_signs units negative (Took t ∷ rest) = size_begun units negative (λ negative. size_signs units negative rest) (integer (Took t ∷ rest)) rest (beginning t)
 
 -- a dimension in such units, and an optional space behind it
 abbrev pub dimension : Units → List Item → Reading Measure

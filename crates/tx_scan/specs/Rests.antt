@@ -49,6 +49,11 @@ IsPassed rest held reading behind count scan (fed.Wrong error) = (more : List It
 abbrev pub IsGivenBy : {S A : Type 0} → (S → List Item → Item → List Item → Reading A) → (S → ℕ) → S → Value → S → Fed A → Type 0
 IsGivenBy rest held old v new answer = (behind : List Item) → length behind ≤ held old → IsPassed rest held (λ more. rest old behind (Gave v) more) behind (held old) new answer
 
+-- an answer to a value says what reading on gives behind the token that was taken last, if that is held; it is held on, or
+-- given back, or read as a part of what follows
+abbrev pub IsGivenBehind : {S A : Type 0} → (S → List Item → Item → List Item → Reading A) → (S → ℕ) → S → Value → Seen → S → Fed A → Type 0
+IsGivenBehind rest held old v t new answer = IsRead rest held (held old) (λ more. rest old (kept (held old) t) (Gave v) more) (kept (held old) t) new answer
+
 -- an answer that ends a thing, where so many tokens behind it are given back
 abbrev pub IsEnd : {A : Type 0} → (List Item → Reading A) → ℕ → Fed A → Type 0
 IsEnd reading back (fed.More want) = ⊥

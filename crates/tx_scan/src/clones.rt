@@ -20,11 +20,17 @@ impl Clone for DimenScan {
     ghost is_clone = { λ source copy. copy ≡ source };
 
     fn clone(&self) -> Result<Self, AllocError> {
+        let behind = match &self.behind {
+            Some(token) => Some(token.clone()?),
+            None => None,
+        };
         Ok(DimenScan {
             units: self.units,
             negative: self.negative,
             stage: self.stage,
             digits: self.digits.clone()?,
+            number: self.number.clone()?,
+            behind,
         })
     }
 }

@@ -1,27 +1,32 @@
 //! Dimensions, token by token (TeX: The Program, sections 448 to 458).
-ghost use Rattle.std.specs.Prelude.{◌≡◌, ◌≤◌, ◌≤ℤ◌, ◌∷◌, ◌++◌, ◌&&◌, [], ℕ, pos, neg_ℤ, List, IfOk};
+ghost use Rattle.std.specs.Prelude.{◌≡◌, ◌≤◌, ◌≤ℤ◌, ◌∷◌, ◌++◌, ◌&&◌, [], ℕ, pos, neg_ℤ, unsigned_abs, List, IfOk};
+ghost use Rattle.tx_num.specs.Decimals.{fraction_of};
 ghost use Rattle.tx_num.specs.Fractions.{signed};
 ghost use Rattle.tx_seen.specs.Seen.{is_point};
 ghost use Rattle.tx_seen.specs.declared.item.Item.{Item};
-ghost use Rattle.tx_seen.specs.declared.item.Item.TheVariants.{Took};
-ghost use Rattle.tx_seen.specs.Readings.{Answers};
-ghost use Rattle.tx_scan.specs.Dimensions.{dimension, is_decimal};
+ghost use Rattle.tx_seen.specs.declared.item.Item.TheVariants.{Took, Gave};
+ghost use Rattle.tx_seen.specs.declared.seen.Seen.{Seen};
+ghost use Rattle.tx_seen.specs.Readings.{Answers, next};
+ghost use Rattle.tx_scan.specs.Dimensions.{dimension, ended_with, is_decimal, numbered_unit, quantified, spelled, unit_ended, unit_name};
+ghost use Rattle.tx_scan.specs.Dimensions as spec;
+ghost use Rattle.tx_scan.specs.Integers.{integer, IsInRange};
+ghost use Rattle.tx_scan.specs.IntegerRests as integers;
 ghost use Rattle.tx_scan.specs.declared.scans.Units.{Units as Units_of_size};
-ghost use Rattle.tx_scan.specs.Rests.{IsFedBy};
-ghost use Rattle.tx_scan.specs.GrammarRests.{held_none};
-ghost use Rattle.tx_scan.specs.DimensionRests.{HasTaken, IsFed, IsSize, IsUnit, begun_size, rest};
+ghost use Rattle.tx_scan.specs.Rests.{IsFedBy, IsGivenBy, IsEnd};
+ghost use Rattle.tx_scan.specs.Supplied.{NeedsFewer, NeedsNoMore};
+ghost use Rattle.tx_scan.specs.DimensionRests.{HasTaken, IsFed, IsMeasuring, IsSize, IsUnit, begun_size, held, held_items, more_needed, rest};
 
 use crate::beginnings::{beginning, digit};
 use crate::fraction::Digits;
 use crate::integer::{character_named, first, longer};
 use crate::scans::{
-    Beginning, Constant, DimenScan, DimenStage, Letters, Measure, Order, Radix, Spelled, UnitName,
-    Units,
+    Amount, Beginning, Constant, DimenScan, DimenStage, IntScan, Letters, Measure, Order, Radix,
+    Spelled, UnitName, Units,
 };
-use crate::units::{is_unread, letter_on, raised, size_in};
+use crate::units::{first_letter, is_internal, letter_on, raised, size_in};
 use std::alloc::{AllocError, Global};
 use tx_num::PhysicalUnit;
-use tx_seen::{Fed, Seen, TexError, Want};
+use tx_seen::{Fed, Place, Seen, TexError, Value, Want};
 
 impl DimenScan {
     /// The scan of a dimension of which nothing is read: in mu alone or in all other units, with the infinite ones or without.
@@ -35,6 +40,8 @@ impl DimenScan {
             negative: false,
             stage: DimenStage::Signs,
             digits: Digits::new(alloc),
+            number: IntScan::new(alloc),
+            behind: None,
         }
     }
 
@@ -47,15 +54,18 @@ impl DimenScan {
         self.negative = false;
         self.stage = DimenStage::Signs;
         self.digits.clear();
+        self.number.restart();
+        self.behind = None;
     }
 
-    /// Takes one token, at first and after More; it needs no value. The answer is what reading gives of all that was
-    /// taken. Its only error is want of memory.
+    /// Takes one token, at first and after More. The answer is what reading gives of all that was taken. Its only error is
+    /// want of memory.
     pub fn feed(&mut self, token: &Seen) -> Result<Fed<Measure>, AllocError>
         ensures answer { (units : Units_of_size) → (taken : List Item) → HasTaken units self.old taken → IfOk result (Answers (dimension units) (HasTaken units) (taken ++ Took token.now ∷ []) self.new) }
-        ensures part { IfOk result (IsFedBy rest held_none self.old token.now self.new) }
+        ensures part { IfOk result (IsFedBy rest held self.old token.now self.new) }
         ensures fed { IfOk result (IsFed self.old token.now self.new) }
         ensures size { IfOk result IsSize }
+        ensures needed { IfOk result (NeedsNoMore (more_needed self.old) (more_needed self.new)) }
     {
         self.behind(token)
     }
@@ -64,17 +74,54 @@ impl DimenScan {
     fn behind(&mut self, token: &Seen) -> Result<Fed<Measure>, AllocError>
         ensures fed { IfOk result (IsFed self.old token.now self.new) }
         ensures size { IfOk result IsSize }
+        ensures needed { IfOk result (NeedsNoMore (more_needed self.old) (more_needed self.new)) }
     {
         match self.stage {
-            DimenStage::Signs => Ok(self.feed_sign(token)),
+            DimenStage::Signs => self.feed_sign(token),
             DimenStage::FirstDigit(radix) => Ok(self.feed_first_digit(radix, token)),
-            DimenStage::Digits(constant) => Ok(self.feed_digit(constant, token)),
+            DimenStage::Digits(constant) => self.feed_digit(constant, token),
             DimenStage::Fraction(whole) => self.feed_fraction(whole, token),
             DimenStage::Character => Ok(self.feed_character(token)),
-            DimenStage::AfterCharacter(code) => Ok(self.feed_after_character(code, token)),
-            DimenStage::Unit(whole, letters) => Ok(self.feed_unit(whole, letters, token)),
+            DimenStage::AfterCharacter(code) => self.feed_after_character(code, token),
+            DimenStage::Coefficient => self.feed_coefficient(token),
+            DimenStage::Quantity(amount) => self.feed_quantity(amount, token),
+            DimenStage::Unit(whole) => self.feed_unit(whole, token),
+            DimenStage::Name(whole, letters) => Ok(self.feed_letter(whole, letters, token)),
             DimenStage::AfterUnit(whole, unit) => Ok(self.feed_end(whole, unit, token)),
             DimenStage::AfterFil(whole, order) => Ok(self.feed_fil(whole, order, token)),
+        }
+    }
+
+    /// Takes the value that it needs. The answer is what reading gives of all that was taken. Its only error is want of
+    /// memory.
+    pub fn give(&mut self, value: &Value) -> Result<Fed<Measure>, AllocError>
+        ensures answer { (units : Units_of_size) → (taken : List Item) → HasTaken units self.old taken → IfOk result (Answers (dimension units) (HasTaken units) (taken ++ Gave value.now ∷ []) self.new) }
+        ensures part { IfOk result (IsGivenBy rest held self.old value.now self.new) }
+        ensures size { IfOk result IsSize }
+        ensures fewer { IfOk result (NeedsFewer (more_needed self.old) (more_needed self.new)) }
+    {
+        self.behind_value(value)
+    }
+
+    /// What it is behind a value. Its only error is want of memory.
+    fn behind_value(&mut self, value: &Value) -> Result<Fed<Measure>, AllocError>
+        ensures part { IfOk result (IsGivenBy rest held self.old value.now self.new) }
+        ensures size { IfOk result IsSize }
+        ensures fewer { IfOk result (NeedsFewer (more_needed self.old) (more_needed self.new)) }
+    {
+        match self.stage {
+            DimenStage::Coefficient => self.give_coefficient(value),
+            DimenStage::Quantity(amount) => Ok(self.give_quantity(amount, value)),
+            DimenStage::Signs | DimenStage::FirstDigit(_) | DimenStage::Digits(_) => {
+                Ok(Fed::Wrong(TexError::MissingNumber))
+            }
+            DimenStage::Fraction(_) | DimenStage::Character | DimenStage::AfterCharacter(_) => {
+                Ok(Fed::Wrong(TexError::MissingNumber))
+            }
+            DimenStage::Unit(_) | DimenStage::Name(_, _) => Ok(Fed::Wrong(TexError::MissingNumber)),
+            DimenStage::AfterUnit(_, _) | DimenStage::AfterFil(_, _) => {
+                Ok(Fed::Wrong(TexError::MissingNumber))
+            }
         }
     }
 
@@ -87,33 +134,177 @@ impl DimenScan {
         Fed::More(Want::Expanded)
     }
 
-    /// Signs and spaces, or what begins the factor.
-    fn feed_sign(&mut self, token: &Seen) -> Fed<Measure>
+    /// Signs and spaces, or what begins the factor. Its only error is want of memory.
+    fn feed_sign(&mut self, token: &Seen) -> Result<Fed<Measure>, AllocError>
         requires { self.old.stage ≡ DimenStage.Signs }
-        ensures fed { IsFed self.old token.now self.new result }
-        ensures size { IsSize result }
+        ensures fed { IfOk result (IsFed self.old token.now self.new) }
+        ensures size { IfOk result IsSize }
+        ensures needed { IfOk result (NeedsNoMore (more_needed self.old) (more_needed self.new)) }
     {
         match beginning(token) {
-            Beginning::Plus => Fed::More(Want::Expanded),
+            Beginning::Plus => Ok(Fed::More(Want::Expanded)),
             Beginning::Minus => {
                 self.negative = !self.negative;
-                Fed::More(Want::Expanded)
+                Ok(Fed::More(Want::Expanded))
             }
-            Beginning::Digit(digit) => self.on(DimenStage::Digits(first(Radix::Decimal, digit))),
-            Beginning::Digits(radix) => self.on(DimenStage::FirstDigit(radix)),
+            Beginning::Digit(digit) => Ok(self.on(DimenStage::Digits(first(
+                Radix::Decimal,
+                digit,
+            )))),
+            Beginning::Digits(radix) => Ok(self.on(DimenStage::FirstDigit(radix))),
             Beginning::Point => {
                 self.digits.clear();
-                self.on(DimenStage::Fraction(0))
+                Ok(self.on(DimenStage::Fraction(0)))
             }
             Beginning::Character => {
                 self.stage = DimenStage::Character;
-                Fed::More(Want::Raw)
+                Ok(Fed::More(Want::Raw))
             }
-            Beginning::Number(_) | Beginning::At(_) | Beginning::Numbered(_) => {
-                Fed::Wrong(TexError::MissingNumber)
+            Beginning::Number(_) => self.begin_quantity(false, token),
+            Beginning::At(place) => self.begin_quantity(place.is_size(), token),
+            Beginning::Numbered(kind) => {
+                self.begin_quantity(Place::numbered(kind, 0).is_size(), token)
             }
-            Beginning::Nothing(error) => Fed::Wrong(error),
+            Beginning::Nothing(error) => Ok(Fed::Wrong(error)),
         }
+    }
+
+    /// An internal quantity: a size is the dimension, a number its factor. Its only error is want of memory.
+    fn begin_quantity(&mut self, is_size: bool, token: &Seen) -> Result<Fed<Measure>, AllocError>
+        ensures fed { IfOk result (IsMeasuring 0 (λ more. quantified self.old.units self.old.negative is_size (integer (Took token.now ∷ more))) token.now self.new) }
+        ensures size { IfOk result IsSize }
+        ensures needed { IfOk result (NeedsNoMore 0 (more_needed self.new)) }
+    {
+        self.number.restart();
+        if is_size {
+            self.feed_quantity(Amount::Whole, token)
+        } else {
+            self.feed_coefficient(token)
+        }
+    }
+
+    /// A number that is the factor, or what ends it. Its only error is want of memory.
+    fn feed_coefficient(&mut self, token: &Seen) -> Result<Fed<Measure>, AllocError>
+        ensures fed { IfOk result (IsMeasuring (integers.most self.old.number) (λ more. next (integers.rest self.old.number (held_items (integers.held self.old.number) self.old.behind) (Took token.now) more) (numbered_unit self.old.units self.old.negative)) token.now self.new) }
+        ensures size { IfOk result IsSize }
+        ensures needed { IfOk result (NeedsNoMore (integers.waiting self.old.number) (more_needed self.new)) }
+    {
+        self.stage = DimenStage::Coefficient;
+        match self.number.feed(token)? {
+            Fed::More(want) => Ok(Fed::More(want)),
+            Fed::Need(kind) => {
+                self.behind = Some(token.clone()?);
+                Ok(Fed::Need(kind))
+            }
+            Fed::Done(number, 0) => Ok(self.to_unit(number)),
+            Fed::Done(number, _) => self.feed_numbered(number, token),
+            Fed::Wrong(error) => Ok(Fed::Wrong(error)),
+        }
+    }
+
+    /// The value that the factor waits for. Its only error is want of memory.
+    fn give_coefficient(&mut self, value: &Value) -> Result<Fed<Measure>, AllocError>
+        requires { self.old.stage ≡ DimenStage.Coefficient }
+        ensures part { IfOk result (IsGivenBy rest held self.old value.now self.new) }
+        ensures size { IfOk result IsSize }
+        ensures fewer { IfOk result (NeedsFewer (more_needed self.old) (more_needed self.new)) }
+    {
+        match self.number.give(value) {
+            Fed::More(want) => Ok(Fed::More(want)),
+            Fed::Need(kind) => Ok(Fed::Need(kind)),
+            Fed::Done(number, 0) => Ok(self.to_unit(number)),
+            Fed::Done(number, _) => match self.behind.take() {
+                Some(token) => self.feed_numbered(number, &token),
+                None => Ok(self.to_unit(number)),
+            },
+            Fed::Wrong(error) => Ok(Fed::Wrong(error)),
+        }
+    }
+
+    /// An internal number is the factor.
+    fn numbered(&mut self, number: i64)
+        requires { IsInRange number }
+        ensures { self.new ≡ record self.old { negative = spec.turned self.old.negative number; digits = [] } }
+    {
+        self.negative = turned(self.negative, number);
+        self.digits.clear();
+    }
+
+    /// The unit behind an internal number comes next.
+    fn to_unit(&mut self, number: i64) -> Fed<Measure>
+        requires { IsInRange number }
+        ensures fed { (t : Seen) → IsMeasuring 0 (λ more. numbered_unit self.old.units self.old.negative number more) t self.new result }
+        ensures size { IsSize result }
+        ensures needed { NeedsNoMore 0 (more_needed self.new) result }
+        ensures fewer { NeedsFewer 0 (more_needed self.new) result }
+    {
+        self.numbered(number);
+        self.on(DimenStage::Unit(magnitude(number)))
+    }
+
+    /// The first token of the unit behind an internal number. Its only error is want of memory.
+    fn feed_numbered(&mut self, number: i64, token: &Seen) -> Result<Fed<Measure>, AllocError>
+        requires { IsInRange number }
+        ensures fed { IfOk result (IsMeasuring 0 (λ more. numbered_unit self.old.units self.old.negative number (Took token.now ∷ more)) token.now self.new) }
+        ensures size { IfOk result IsSize }
+        ensures needed { IfOk result (NeedsNoMore 0 (more_needed self.new)) }
+    {
+        self.numbered(number);
+        self.feed_unit(magnitude(number), token)
+    }
+
+    /// An internal quantity that ends the dimension, or what ends it. Its only error is want of memory.
+    fn feed_quantity(&mut self, amount: Amount, token: &Seen) -> Result<Fed<Measure>, AllocError>
+        ensures fed { IfOk result (λ answer. (behind : List Item) → IsMeasuring (integers.most self.old.number) (λ more. next (integers.rest self.old.number behind (Took token.now) more) (ended_with self.old.units self.old.negative (fraction_of self.old.digits) amount)) token.now self.new answer) }
+        ensures size { IfOk result IsSize }
+        ensures needed { IfOk result (NeedsNoMore (integers.waiting self.old.number) (more_needed self.new)) }
+    {
+        self.stage = DimenStage::Quantity(amount);
+        match self.number.feed(token)? {
+            Fed::More(want) => Ok(Fed::More(want)),
+            Fed::Need(kind) => Ok(Fed::Need(kind)),
+            Fed::Done(number, back) => Ok(self.amounts(amount, number, back)),
+            Fed::Wrong(error) => Ok(Fed::Wrong(error)),
+        }
+    }
+
+    /// The value that such a quantity waits for.
+    fn give_quantity(&mut self, amount: Amount, value: &Value) -> Fed<Measure>
+        requires { self.old.stage ≡ DimenStage.Quantity amount }
+        ensures part { IsGivenBy rest held self.old value.now self.new result }
+        ensures size { IsSize result }
+        ensures fewer { NeedsFewer (more_needed self.old) (more_needed self.new) result }
+    {
+        match self.number.give(value) {
+            Fed::More(want) => Fed::More(want),
+            Fed::Need(kind) => Fed::Need(kind),
+            Fed::Done(number, back) => self.amounts(amount, number, back),
+            Fed::Wrong(error) => Fed::Wrong(error),
+        }
+    }
+
+    /// The quantity is whole, and so is the dimension; so many tokens behind it are given back.
+    fn amounts(&self, amount: Amount, number: i64, back: usize) -> Fed<Measure>
+        requires { IsInRange number }
+        ensures end { IsEnd (λ more. ended_with self.now.units self.now.negative (fraction_of self.now.digits) amount number more) back result }
+        ensures size { IsSize result }
+        ensures needed { (old new : ℕ) → NeedsFewer old new result }
+    {
+        if self.units.mu {
+            return Fed::Wrong(TexError::MissingUnit);
+        }
+        let size = amount_of(self.digits.value(), amount, magnitude(number));
+        if size > MAX_DIMENSION {
+            return Fed::Wrong(TexError::DimensionTooLarge);
+        }
+        let size = signed_size(turned(self.negative, number), size as i64);
+        Fed::Done(
+            Measure {
+                size,
+                order: Order::Normal,
+            },
+            back,
+        )
     }
 
     /// The first digit of an octal or hexadecimal factor.
@@ -121,6 +312,7 @@ impl DimenScan {
         requires { self.old.stage ≡ DimenStage.FirstDigit radix }
         ensures fed { IsFed self.old token.now self.new result }
         ensures size { IsSize result }
+        ensures needed { NeedsNoMore (more_needed self.old) (more_needed self.new) result }
     {
         match digit(radix, token) {
             Some(digit) => self.on(DimenStage::Digits(first(radix, digit))),
@@ -132,33 +324,35 @@ impl DimenScan {
         }
     }
 
-    /// One more digit of whole units, or what ends them.
-    fn feed_digit(&mut self, constant: Constant, token: &Seen) -> Fed<Measure>
+    /// One more digit of whole units, or what ends them. Its only error is want of memory.
+    fn feed_digit(&mut self, constant: Constant, token: &Seen) -> Result<Fed<Measure>, AllocError>
         requires { self.old.stage ≡ DimenStage.Digits constant }
-        ensures fed { IsFed self.old token.now self.new result }
-        ensures size { IsSize result }
+        ensures fed { IfOk result (IsFed self.old token.now self.new) }
+        ensures size { IfOk result IsSize }
+        ensures needed { IfOk result (NeedsNoMore (more_needed self.old) (more_needed self.new)) }
     {
         if let Some(digit) = digit(constant.radix, token) {
             return match longer(constant, digit) {
-                Some(constant) => self.on(DimenStage::Digits(constant)),
-                None => Fed::Wrong(TexError::IntegerTooLarge),
+                Some(constant) => Ok(self.on(DimenStage::Digits(constant))),
+                None => Ok(Fed::Wrong(TexError::IntegerTooLarge)),
             };
         }
         self.digits.clear();
         if begins_fraction(constant.radix, token) {
-            return self.on(DimenStage::Fraction(constant.number));
+            return Ok(self.on(DimenStage::Fraction(constant.number)));
         }
-        self.feed_unit(constant.number, Letters::Nothing, token)
+        self.feed_unit(constant.number, token)
     }
 
-    /// One more digit of a fraction, or what ends it.
+    /// One more digit of a fraction, or what ends it. Its only error is want of memory.
     fn feed_fraction(&mut self, whole: u32, token: &Seen) -> Result<Fed<Measure>, AllocError>
         requires { self.old.stage ≡ DimenStage.Fraction whole }
         ensures fed { IfOk result (IsFed self.old token.now self.new) }
         ensures size { IfOk result IsSize }
+        ensures needed { IfOk result (NeedsNoMore (more_needed self.old) (more_needed self.new)) }
     {
         let Some(digit) = digit(Radix::Decimal, token) else {
-            return Ok(self.feed_unit(whole, Letters::Nothing, token));
+            return self.feed_unit(whole, token);
         };
         self.digits.push(digit)?;
         Ok(Fed::More(Want::Expanded))
@@ -169,6 +363,7 @@ impl DimenScan {
         requires { self.old.stage ≡ DimenStage.Character }
         ensures fed { IsFed self.old token.now self.new result }
         ensures size { IsSize result }
+        ensures needed { NeedsNoMore (more_needed self.old) (more_needed self.new) result }
     {
         match character_named(&token.token) {
             Some(code) => self.on(DimenStage::AfterCharacter(code)),
@@ -176,33 +371,62 @@ impl DimenScan {
         }
     }
 
-    /// An optional space behind a character's code.
-    fn feed_after_character(&mut self, code: u8, token: &Seen) -> Fed<Measure>
+    /// An optional space behind a character's code. Its only error is want of memory.
+    fn feed_after_character(&mut self, code: u8, token: &Seen) -> Result<Fed<Measure>, AllocError>
         requires { self.old.stage ≡ DimenStage.AfterCharacter code }
-        ensures fed { IsFed self.old token.now self.new result }
-        ensures size { IsSize result }
+        ensures fed { IfOk result (IsFed self.old token.now self.new) }
+        ensures size { IfOk result IsSize }
+        ensures needed { IfOk result (NeedsNoMore (more_needed self.old) (more_needed self.new)) }
     {
         self.digits.clear();
-        self.feed_unit(u32::from(code), Letters::Nothing, token)
+        self.feed_unit(u32::from(code), token)
     }
 
-    /// One more letter of a unit's name, or a space before it.
-    fn feed_unit(&mut self, whole: u32, letters: Letters, token: &Seen) -> Fed<Measure>
-        ensures fed { IsUnit self.old.units self.old.negative whole self.old.digits letters token.now self.new result }
-        ensures size { IsSize result }
+    /// A space before the unit, an internal quantity that is one, or the first letter of its name. Its only error is want of
+    /// memory.
+    fn feed_unit(&mut self, whole: u32, token: &Seen) -> Result<Fed<Measure>, AllocError>
+        ensures fed { IfOk result (IsUnit self.old.units self.old.negative whole self.old.digits token.now self.new) }
+        ensures size { IfOk result IsSize }
+        ensures needed { IfOk result (NeedsNoMore 0 (more_needed self.new)) }
     {
         if token.is_undefined() {
-            return Fed::Wrong(TexError::Undefined);
+            return Ok(Fed::Wrong(TexError::Undefined));
         }
-        if is_unread(letters) && token.is_space() {
-            return self.on(DimenStage::Unit(whole, letters));
+        if token.is_space() {
+            return Ok(self.on(DimenStage::Unit(whole)));
         }
-        match letter_on(self.units, letters, token) {
-            Spelled::On(letters) => self.on(DimenStage::Unit(whole, letters)),
+        if is_internal(&beginning(token)) {
+            self.number.restart();
+            return self.feed_quantity(Amount::Times(whole), token);
+        }
+        Ok(self.named(whole, first_letter(self.units, token)))
+    }
+
+    /// What one more letter makes of a unit's name.
+    fn named(&mut self, whole: u32, spelling: Spelled) -> Fed<Measure>
+        ensures fed { (t : Seen) → IsMeasuring 0 (λ more. next (spelled (λ letters. unit_name self.old.units letters more) spelling more) (unit_ended self.old.negative whole (fraction_of self.old.digits))) t self.new result }
+        ensures size { IsSize result }
+        ensures needed { NeedsNoMore 0 (more_needed self.new) result }
+    {
+        match spelling {
+            Spelled::On(letters) => self.on(DimenStage::Name(whole, letters)),
             Spelled::Whole(unit) => self.on(DimenStage::AfterUnit(whole, unit)),
             Spelled::Infinite => self.on(DimenStage::AfterFil(whole, Order::Fil)),
             Spelled::No => Fed::Wrong(TexError::MissingUnit),
         }
+    }
+
+    /// One more letter of a unit's name.
+    fn feed_letter(&mut self, whole: u32, letters: Letters, token: &Seen) -> Fed<Measure>
+        requires { self.old.stage ≡ DimenStage.Name whole letters }
+        ensures fed { IsFed self.old token.now self.new result }
+        ensures size { IsSize result }
+        ensures needed { NeedsNoMore (more_needed self.old) (more_needed self.new) result }
+    {
+        if token.is_undefined() {
+            return Fed::Wrong(TexError::Undefined);
+        }
+        self.named(whole, letter_on(self.units, letters, token))
     }
 
     /// An optional space behind the unit; the dimension is whole.
@@ -210,6 +434,7 @@ impl DimenScan {
         requires { self.old.stage ≡ DimenStage.AfterUnit whole unit }
         ensures fed { IsFed self.old token.now self.new result }
         ensures size { IsSize result }
+        ensures needed { NeedsNoMore (more_needed self.old) (more_needed self.new) result }
     {
         if token.is_undefined() {
             return Fed::Wrong(TexError::Undefined);
@@ -236,6 +461,7 @@ impl DimenScan {
         requires { self.old.stage ≡ DimenStage.AfterFil whole order }
         ensures fed { IsFed self.old token.now self.new result }
         ensures size { IsSize result }
+        ensures needed { NeedsNoMore (more_needed self.old) (more_needed self.new) result }
     {
         if token.is_undefined() {
             return Fed::Wrong(TexError::Undefined);
@@ -275,4 +501,37 @@ fn signed_size(negative: bool, size: i64) -> i64
     ensures high { result ≤ℤ pos 1073741823 }
 {
     if negative { -size } else { size }
+}
+
+/// The greatest dimension, in sp.
+const MAX_DIMENSION: u64 = 1_073_741_823;
+
+/// Whether the signs and a number make it negative.
+fn turned(negative: bool, number: i64) -> bool
+    ensures { result ≡ spec.turned negative number }
+{
+    if number < 0 { !negative } else { negative }
+}
+
+/// An integer without its sign.
+fn magnitude(number: i64) -> u32
+    requires { IsInRange number }
+    ensures value { result ≡ unsigned_abs number }
+    ensures bound { result ≤ 2147483647 }
+{
+    number.unsigned_abs() as u32
+}
+
+/// So much of a size.
+fn amount_of(part: u32, amount: Amount, size: u32) -> u64
+    requires size { size ≤ 2147483647 }
+    requires part { part ≤ 65536 }
+    ensures { result ≡ spec.amount part amount size }
+{
+    match amount {
+        Amount::Whole => u64::from(size),
+        Amount::Times(whole) => {
+            u64::from(size) * u64::from(whole) + u64::from(size) * u64::from(part) / 65536
+        }
+    }
 }

@@ -123,6 +123,7 @@ impl IntScan {
         ensures fed { IfOk result (IsFed self.old token.now self.new) }
         ensures within { IfOk result IsInteger }
         ensures waits { IfOk result (NeedsNoMore (waiting self.old) (waiting self.new)) }
+        ensures holds { IfOk result (NeedsNoMore (waiting self.old) (waiting self.new + rests.held self.new)) }
     {
         self.behind(token)
     }
@@ -171,6 +172,7 @@ impl IntScan {
         ensures fed { IfOk result (IsFed self.old token.now self.new) }
         ensures within { IfOk result IsInteger }
         ensures waits { IfOk result (NeedsNoMore (waiting self.old) (waiting self.new)) }
+        ensures holds { IfOk result (NeedsNoMore (waiting self.old) (waiting self.new + rests.held self.new)) }
     {
         match self.stage {
             IntStage::Signs => self.feed_sign(token),
@@ -189,6 +191,7 @@ impl IntScan {
         ensures within { IsInteger result }
         ensures fewer { NeedsFewer (waiting self.old) (waiting self.new) result }
         ensures waits { NeedsNoMore (waiting self.old) (waiting self.new) result }
+        ensures holds { held ≤ 1 → NeedsNoMore (waiting self.old) (waiting self.new + rests.held self.new) result }
     {
         let Some(outer) = self.outers.pop() else {
             return Fed::Done(number, held);
@@ -207,6 +210,7 @@ impl IntScan {
         ensures fed { IsEnded self.old.outers self.old.negative number token.now self.new result }
         ensures within { IsInteger result }
         ensures waits { NeedsNoMore (waiting self.old) (waiting self.new) result }
+        ensures holds { NeedsNoMore (waiting self.old) (waiting self.new + rests.held self.new) result }
     {
         if token.is_undefined() {
             return Fed::Wrong(TexError::Undefined);
@@ -245,6 +249,7 @@ impl IntScan {
         ensures fed { IfOk result (IsFed self.old token.now self.new) }
         ensures within { IfOk result IsInteger }
         ensures waits { IfOk result (NeedsNoMore (waiting self.old) (waiting self.new)) }
+        ensures holds { IfOk result (NeedsNoMore (waiting self.old) (waiting self.new + rests.held self.new)) }
     {
         match beginning(token) {
             Beginning::Plus => Ok(Fed::More(Want::Expanded)),
@@ -278,6 +283,7 @@ impl IntScan {
         ensures fed { IsFed self.old token.now self.new result }
         ensures within { IsInteger result }
         ensures waits { NeedsNoMore (waiting self.old) (waiting self.new) result }
+        ensures holds { NeedsNoMore (waiting self.old) (waiting self.new + rests.held self.new) result }
     {
         match digit(radix, token) {
             Some(digit) => self.on(IntStage::Digits(first(radix, digit))),
@@ -295,6 +301,7 @@ impl IntScan {
         ensures fed { IsFed self.old token.now self.new result }
         ensures within { IsInteger result }
         ensures waits { NeedsNoMore (waiting self.old) (waiting self.new) result }
+        ensures holds { NeedsNoMore (waiting self.old) (waiting self.new + rests.held self.new) result }
     {
         let Some(digit) = digit(constant.radix, token) else {
             return self.end(constant.number, token);
@@ -311,6 +318,7 @@ impl IntScan {
         ensures fed { IsFed self.old token.now self.new result }
         ensures within { IsInteger result }
         ensures waits { NeedsNoMore (waiting self.old) (waiting self.new) result }
+        ensures holds { NeedsNoMore (waiting self.old) (waiting self.new + rests.held self.new) result }
     {
         match character_named(&token.token) {
             Some(code) => self.on(IntStage::AfterCharacter(code)),

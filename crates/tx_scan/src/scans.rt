@@ -5,7 +5,7 @@ use crate::fraction::Digits;
 use tx_list::Stack;
 use tx_num::PhysicalUnit;
 use tx_prim::Numbered;
-use tx_seen::{Place, TexError};
+use tx_seen::{Place, Seen, TexError};
 
 /// What the digits of a constant count in.
 #[derive(Clone, Copy, PartialEq, Eq)]
@@ -153,7 +153,6 @@ pub enum UnitName {
 /// What is read of a unit's name.
 #[derive(Clone, Copy, PartialEq, Eq)]
 pub enum Letters {
-    Nothing,
     P,
     I,
     B,
@@ -179,6 +178,15 @@ pub enum Spelled {
     No,
 }
 
+/// What an internal quantity is in a dimension.
+#[derive(Clone, Copy)]
+pub enum Amount {
+    /// The dimension itself.
+    Whole,
+    /// What is multiplied, by so many whole ones.
+    Times(u32),
+}
+
 /// The part of a dimension that comes next.
 #[derive(Clone, Copy)]
 pub enum DimenStage {
@@ -194,8 +202,14 @@ pub enum DimenStage {
     Character,
     /// An optional space behind a character with this code.
     AfterCharacter(u8),
-    /// The letters of a unit's name behind these, where so many whole ones are told; spaces before the first.
-    Unit(u32, Letters),
+    /// An internal number, which is the factor.
+    Coefficient,
+    /// An internal quantity, which ends the dimension.
+    Quantity(Amount),
+    /// Spaces, then an internal quantity or a unit's name, where so many whole ones are told.
+    Unit(u32),
+    /// The letters of a unit's name behind these.
+    Name(u32, Letters),
     /// An optional space behind the unit.
     AfterUnit(u32, UnitName),
     /// Spaces behind `fil`, and letters that make it more infinite.
@@ -211,4 +225,8 @@ pub struct DimenScan {
     pub(crate) stage: DimenStage,
     /// The digits of the fraction that are read and count.
     pub(crate) digits: Digits,
+    /// An internal quantity.
+    pub(crate) number: IntScan,
+    /// The token behind the register of a number that is the factor, where that waits for its value.
+    pub(crate) behind: Option<Seen>,
 }

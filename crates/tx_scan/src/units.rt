@@ -3,15 +3,19 @@ ghost use Rattle.std.specs.Prelude.{◌≡◌, ◌≤◌, ◌<◌, pos, if◌the
 ghost use Rattle.tx_seen.specs.Seen.{is_key};
 ghost use Rattle.tx_scan.specs.Dimensions as spec;
 
-use crate::scans::{Letters, Order, Spelled, UnitName, Units};
+use crate::scans::{Beginning, Letters, Order, Spelled, UnitName, Units};
 use tx_num::{Overflow, PhysicalUnit};
 use tx_seen::Seen;
 
-/// Whether no letter is read.
-pub(crate) fn is_unread(letters: Letters) -> bool
-    ensures { result ≡ spec.is_unread letters }
+/// Whether a token begins an internal quantity.
+pub(crate) fn is_internal(beginning: &Beginning) -> bool
+    ensures { result ≡ spec.is_internal beginning.now }
 {
-    matches!(letters, Letters::Nothing)
+    match beginning {
+        Beginning::Number(_) | Beginning::At(_) | Beginning::Numbered(_) => true,
+        Beginning::Plus | Beginning::Minus | Beginning::Digit(_) | Beginning::Digits(_) => false,
+        Beginning::Character | Beginning::Point | Beginning::Nothing(_) => false,
+    }
 }
 
 /// The letters where this one is there.
@@ -47,8 +51,8 @@ fn either(token: &Seen, one: u8, unit: UnitName, other: u8, otherwise: UnitName)
 }
 
 /// What the first letter begins.
-fn first_letter(units: Units, token: &Seen) -> Spelled
-    ensures { result ≡ spec.letter_on units Letters.Nothing token.now }
+pub(crate) fn first_letter(units: Units, token: &Seen) -> Spelled
+    ensures { result ≡ spec.first_letter units token.now }
 {
     if units.infinite && token.is_key(b'f') {
         return Spelled::On(Letters::F);
@@ -98,7 +102,6 @@ pub(crate) fn letter_on(units: Units, letters: Letters, token: &Seen) -> Spelled
     ensures { result ≡ spec.letter_on units letters token.now }
 {
     match letters {
-        Letters::Nothing => first_letter(units, token),
         Letters::P => either(
             token,
             b't',

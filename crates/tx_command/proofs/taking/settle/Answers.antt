@@ -1,17 +1,21 @@
+use Rattle.std.proofs.Common.{◌∙◌}
 use Rattle.tx_eqtb.specs.Quantities.{value_in}
 use Rattle.tx_scan.specs.Rests.{HasTakenBy}
-use Rattle.tx_scan.proofs.Settling.{value-pending, pending-settled}
+use Rattle.tx_scan.proofs.Answering.{last-given}
+use Rattle.tx_scan.proofs.Settling.{pending-settled}
 use Rattle.tx_command.specs.Commands.{command}
 use Rattle.tx_command.specs.Rests.{command_rest, held, more_needed}
+use Rattle.tx_command.proofs.Settling.{value-behind}
 use Rattle.tx_command.proofs.taking.settle.Goals as goal
 
 pub loop-fed-preserved-in_ok-fed-in-Need : goal.loop-fed-preserved-in_ok-fed-in-Need
 loop-fed-preserved-in_ok-fed-in-Need c = record {
   pending = λ mode head items p.
       rw c.in_ok-fed-in-Need.ensures.taken
-      (value-pending (value_in c.args.table.now) (command_rest mode head) held more_needed (command mode head) items c.loop-fed.taken c.in-Need.kind c.loop-fed.scans c.give.new.scans c.in_ok-fed-in-Need.fed
-      (rw c.in-Need.is at (c.loop-fed.invariant.pending mode head items p))
+      (value-behind (value_in c.args.table.now) mode head items c.loop-fed.taken c.in-Need.kind c.loop-fed.scans c.give.new.scans c.args.behind.now c.in_ok-fed-in-Need.fed
+      (rw c.in-Need.is at (c.loop-fed.invariant.pending mode head items p)) (rw c.in-Need.is at c.loop-fed.invariant.on).1 c.loop-fed.invariant.behind_is
       (c.in_ok-fed-in-Need.ensures.given mode head) c.in_ok-fed-in-Need.ensures.needs);
+  behind_is = rw c.in_ok-fed-in-Need.ensures.taken (last-given 1 c.loop-fed.taken _ ∙ c.loop-fed.invariant.behind_is);
   on = c.in_ok-fed-in-Need.ensures.on;
 }
 
@@ -19,9 +23,10 @@ pub loop-fed-preserved : goal.loop-fed-preserved
 loop-fed-preserved c = record {
   pending = λ mode head items p.
       rw c.in_ok-fed-in-Need.ensures.taken
-      (value-pending (value_in c.args.table.now) (command_rest mode head) held more_needed (command mode head) items c.loop-fed.taken c.in-Need.kind c.loop-fed.scans c.give.new.scans c.in_ok-fed-in-Need.fed
-      (rw c.in-Need.is at (c.loop-fed.invariant.pending mode head items p))
+      (value-behind (value_in c.args.table.now) mode head items c.loop-fed.taken c.in-Need.kind c.loop-fed.scans c.give.new.scans c.args.behind.now c.in_ok-fed-in-Need.fed
+      (rw c.in-Need.is at (c.loop-fed.invariant.pending mode head items p)) (rw c.in-Need.is at c.loop-fed.invariant.on).1 c.loop-fed.invariant.behind_is
       (c.in_ok-fed-in-Need.ensures.given mode head) c.in_ok-fed-in-Need.ensures.needs);
+  behind_is = rw c.in_ok-fed-in-Need.ensures.taken (last-given 1 c.loop-fed.taken _ ∙ c.loop-fed.invariant.behind_is);
   on = c.in_ok-fed-in-Need.ensures.on;
 }
 

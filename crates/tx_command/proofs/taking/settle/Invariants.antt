@@ -1,7 +1,9 @@
-use Rattle.std.proofs.Common.{List}
+use Rattle.std.proofs.Common.{◌≡◌, ◌∷◌, [], List}
 use Rattle.tx_prim.specs.declared.modes.Mode.{Mode}
 use Rattle.tx_eqtb.specs.Quantities.{value_in}
 use Rattle.tx_seen.specs.declared.item.Item.{Item}
+use Rattle.tx_seen.specs.declared.item.Item.TheVariants.{Took}
+use Rattle.tx_seen.specs.Readings.{last}
 use Rattle.tx_scan.specs.Supplied.{needed}
 use Rattle.tx_command.specs.declared.types.Head.{Head}
 use Rattle.tx_command.specs.Rests.{more_needed, GoesOn}
@@ -11,6 +13,7 @@ use Rattle.tx_command.proofs.taking.settle.Given as goal
 abbrev pub invariant-loop-fed : goal.invariant-loop-fed
 invariant-loop-fed l = record {
   pending : (mode : Mode) (head : Head) (items : List Item) → IsPending (value_in l.table) mode head items l.initial.taken l.initial.scans l.initial.fed → IsPending (value_in l.table) mode head items l.taken l.scans l.fed;
+  behind_is : last 1 l.taken ≡ Took l.behind ∷ [];
   on : GoesOn l.scans l.fed;
 }
 

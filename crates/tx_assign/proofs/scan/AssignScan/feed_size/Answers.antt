@@ -1,20 +1,23 @@
 use Rattle.std.proofs.Common.{rules}
 use Rattle.tx_scan.specs.DimensionRests as sizes
-use Rattle.tx_scan.specs.GrammarRests.{held_none}
 use Rattle.tx_seen.specs.declared.item.Item.TheVariants.{Took}
 use Rattle.tx_assign.specs.declared.scan.AssignStage.TheVariants.{Size}
 use Rattle.tx_assign.specs.Assignments.{sized}
 use Rattle.tx_assign.proofs.Numbers.{end-all}
-use Rattle.tx_assign.proofs.Parts.{size-more, size-wrong}
+use Rattle.tx_assign.proofs.Parts.{size-more, size-need, size-wrong}
 use Rattle.tx_assign.proofs.scan.AssignScan.feed_size.Goals as goal
 
 pub returns-in-More-clause-answer : goal.returns-in-More-clause-answer
 returns-in-More-clause-answer c =
     size-more c.args.self.now c.feed.new.self c.args.purpose c.args.token.now c.in-More.want (rw c.in-More.is at c.in_ok-want.ensures.fed)
 
+pub returns-in-Need-clause-answer : goal.returns-in-Need-clause-answer
+returns-in-Need-clause-answer c =
+    size-need c.args.self.now c.feed.new.self c.args.purpose c.args.token.now c.in-Need.kind (rw c.in-Need.is at c.in_ok-want.ensures.fed)
+
 pub returns-in-Done-clause-answer : goal.returns-in-Done-clause-answer
 returns-in-Done-clause-answer c =
-    end-all sizes.rest held_none (sizes.most c.args.self.now.size) (λ behind more. sizes.rest c.args.self.now.size behind (Took c.args.token.now) more) (sized c.args.purpose c.args.self.now.place) c.args.token.now c.feed.new.self (record c.args.self.now { stage = Size c.args.purpose; size = c.feed.new.self }) c.in-Done.measure c.in-Done.measure c.in-Done.back c.end_size.result
+    end-all sizes.rest sizes.held (sizes.most c.args.self.now.size) (λ behind more. sizes.rest c.args.self.now.size behind (Took c.args.token.now) more) (sized c.args.purpose c.args.self.now.place) c.args.token.now c.feed.new.self (record c.args.self.now { stage = Size c.args.purpose; size = c.feed.new.self }) c.in-Done.measure c.in-Done.measure c.in-Done.back c.end_size.result
     (rw c.in-Done.is at c.in_ok-want.ensures.fed) (search rules) c.end_size.ensures
 
 pub returns-in-Wrong-clause-answer : goal.returns-in-Wrong-clause-answer

@@ -11,3 +11,6 @@ returns-clause-fed c = λ behind h.
 
 pub returns-clause-on : goal.returns-clause-on
 returns-clause-on c = c.named.ensures.on c.feed-fed.new.self refl (rw c.name_of.ensures at c.feed-fed.ensures.reading c.requires)
+
+pub returns-clause-fewer : goal.returns-clause-fewer
+returns-clause-fewer c = c.named.ensures.fewer c.feed-fed.new.self refl (rw c.name_of.ensures at c.feed-fed.ensures.reading c.requires)

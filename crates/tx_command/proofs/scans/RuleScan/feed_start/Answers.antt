@@ -1,5 +1,6 @@
 use Rattle.std.proofs.Common.{rules}
-use Rattle.tx_command.proofs.RuleSteps.{start-on, start-named, side-letters}
+use Rattle.tx_seen.specs.declared.fed.Want.TheVariants.{Expanded}
+use Rattle.tx_command.proofs.RuleSteps.{start-on, start-named, side-letters, whole-fewer}
 use Rattle.tx_command.proofs.scans.RuleScan.feed_start.Goals as goal
 
 pub feed_name-requires : goal.feed_name-requires
@@ -7,6 +8,9 @@ feed_name-requires c = rw c.new.ensures.scan (side-letters c.in-Some.side)
 
 pub returns-then-is_space-clause-fed : goal.returns-then-is_space-clause-fed
 returns-then-is_space-clause-fed c = start-on c.args.self.now c.args.token.now c.requires (search rules) (search rules)
+
+pub returns-then-is_space-clause-fewer : goal.returns-then-is_space-clause-fewer
+returns-then-is_space-clause-fewer c = whole-fewer 0 c.args.self.now Expanded c.requires
 
 pub returns-in-Some-clause-fed : goal.returns-in-Some-clause-fed
 returns-in-Some-clause-fed c =

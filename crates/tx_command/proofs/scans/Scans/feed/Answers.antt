@@ -1,11 +1,14 @@
-use Rattle.std.proofs.Common.{refl}
-use Rattle.tx_scan.specs.DimensionRests.{rest as dimen_rest}
+use Rattle.std.proofs.Common.{[], lit≤, refl}
+use Rattle.tx_seen.specs.declared.item.Item.TheVariants.{Took}
+use Rattle.tx_scan.specs.DimensionRests.{rest as dimen_rest, held as dimen_held, most as dimen_most}
 use Rattle.tx_scan.specs.GrammarRests.{held_none, name_rest, brace_rest}
 use Rattle.tx_assign.specs.Rests.{rest as assign_rest, held as assign_held}
 use Rattle.tx_command.specs.declared.scans.Stage.TheVariants as stage
 use Rattle.tx_command.specs.declared.types.Command.TheVariants.{Assign, Define, DefineFuture, DefineMacro, Sized, Rule, BeginBox}
 use Rattle.tx_command.specs.Rests.{rule_rest, rule_held}
-use Rattle.tx_command.proofs.Stages.{part-fed, part-needs, part-goes, size-goes, rule-goes, assign-needs, assign-goes, start-fed, start-needs, start-goes, box-fed, space-fed, end-goes, end-needs, kept-fed, second-fed}
+use Rattle.tx_command.proofs.Stages.{part-fed, part-needs, part-goes, size-needs, size-goes, rule-needs, rule-goes, assign-needs, assign-goes, start-fed, start-needs, start-goes, box-fed, space-fed, end-goes, end-needs, kept-fed, second-fed}
+use Rattle.tx_scan.proofs.Mosts.{most-size}
+use Rattle.tx_scan.proofs.Behind.{fed-one}
 use Rattle.tx_command.proofs.scans.Scans.feed.Goals as goal
 
 pub returns-in-Start-clause-fed : goal.returns-in-Start-clause-fed
@@ -39,7 +42,10 @@ pub returns-in_ok-feed-in-Assign-clause-needs : goal.returns-in_ok-feed-in-Assig
 returns-in_ok-feed-in-Assign-clause-needs c = rw c.assigned.ensures (assign-needs c.args.self.now _ c.in_ok-feed-in-Assign.field-0 c.in-Assign.is c.in-Assign.is c.in_ok-feed-in-Assign.ensures.needed)
 
 pub returns-in_ok-feed-in-Assign-clause-on : goal.returns-in_ok-feed-in-Assign-clause-on
-returns-in_ok-feed-in-Assign-clause-on c = rw c.assigned.ensures (assign-goes _ c.in_ok-feed-in-Assign.field-0 c.in-Assign.is)
+returns-in_ok-feed-in-Assign-clause-on c =
+    rw c.assigned.ensures
+    (assign-goes _ c.in_ok-feed-in-Assign.field-0 c.in-Assign.is
+    (fed-one assign_rest assign_held 1 (λ more. assign_rest c.args.self.now.assignment [] (Took c.args.token.now) more) c.args.token.now c.feed.new.self c.in_ok-feed-in-Assign.field-0 (lit≤ tt) (c.in_ok-feed-in-Assign.ensures.fed [])))
 
 pub returns-in_ok-feed-in-Name-clause-fed : goal.returns-in_ok-feed-in-Name-clause-fed
 returns-in_ok-feed-in-Name-clause-fed c =
@@ -48,7 +54,7 @@ returns-in_ok-feed-in-Name-clause-fed c =
     (λ behind item more. refl) refl (λ behind item more. refl) refl c.in_ok-feed-in-Name.ensures.part)
 
 pub returns-in_ok-feed-in-Name-clause-needs : goal.returns-in_ok-feed-in-Name-clause-needs
-returns-in_ok-feed-in-Name-clause-needs c = part-needs c.args.self.now _ c.defined.result (rw c.in-Name.is refl)
+returns-in_ok-feed-in-Name-clause-needs c = part-needs c.args.self.now c.args.self.now c.defined.result (rw c.in-Name.is refl)
 
 pub returns-in_ok-feed-in-Name-clause-on : goal.returns-in_ok-feed-in-Name-clause-on
 returns-in_ok-feed-in-Name-clause-on c = rw c.defined.ensures (part-goes (λ name. Define name c.in-Name.kind) (stage.Name c.in-Name.kind) c.args.self.now c.in_ok-feed-in-Name.field-0 c.in-Name.is tt c.in_ok-feed-in-Name.ensures.nothing)
@@ -56,14 +62,17 @@ returns-in_ok-feed-in-Name-clause-on c = rw c.defined.ensures (part-goes (λ nam
 pub returns-in_ok-feed-in-Sized-clause-fed : goal.returns-in_ok-feed-in-Sized-clause-fed
 returns-in_ok-feed-in-Sized-clause-fed c =
     rw c.sized.ensures
-    (part-fed dimen_rest held_none (λ measure. Sized c.in-Sized.kind measure.size) (stage.Sized c.in-Sized.kind) c.args.mode c.args.head.now c.args.self.now.size c.feed-in-Sized.new.self c.args.self.now _ c.args.token.now c.in_ok-feed-in-Sized.field-0 c.in-Sized.is c.in-Sized.is
+    (part-fed dimen_rest dimen_held (λ measure. Sized c.in-Sized.kind measure.size) (stage.Sized c.in-Sized.kind) c.args.mode c.args.head.now c.args.self.now.size c.feed-in-Sized.new.self c.args.self.now _ c.args.token.now c.in_ok-feed-in-Sized.field-0 c.in-Sized.is c.in-Sized.is
     (λ behind item more. refl) refl (λ behind item more. refl) refl c.in_ok-feed-in-Sized.ensures.part)
 
 pub returns-in_ok-feed-in-Sized-clause-needs : goal.returns-in_ok-feed-in-Sized-clause-needs
-returns-in_ok-feed-in-Sized-clause-needs c = part-needs c.args.self.now _ c.sized.result (rw c.in-Sized.is refl)
+returns-in_ok-feed-in-Sized-clause-needs c = rw c.sized.ensures (size-needs (λ measure. Sized c.in-Sized.kind measure.size) c.in-Sized.kind c.args.self.now _ c.in_ok-feed-in-Sized.field-0 c.in-Sized.is c.in-Sized.is c.in_ok-feed-in-Sized.ensures.needed)
 
 pub returns-in_ok-feed-in-Sized-clause-on : goal.returns-in_ok-feed-in-Sized-clause-on
-returns-in_ok-feed-in-Sized-clause-on c = rw c.sized.ensures (size-goes (λ measure. Sized c.in-Sized.kind measure.size) (stage.Sized c.in-Sized.kind) (record c.args.self.now { size = c.feed-in-Sized.new.self }) c.in_ok-feed-in-Sized.field-0 c.in-Sized.is tt c.in_ok-feed-in-Sized.ensures.size)
+returns-in_ok-feed-in-Sized-clause-on c =
+    rw c.sized.ensures
+    (size-goes (λ measure. Sized c.in-Sized.kind measure.size) c.in-Sized.kind _ c.in_ok-feed-in-Sized.field-0 c.in-Sized.is
+    (fed-one dimen_rest dimen_held (dimen_most c.args.self.now.size) (λ more. dimen_rest c.args.self.now.size [] (Took c.args.token.now) more) c.args.token.now c.feed-in-Sized.new.self c.in_ok-feed-in-Sized.field-0 (most-size c.args.self.now.size) (c.in_ok-feed-in-Sized.ensures.fed [])))
 
 pub returns-in_ok-feed-in-Rule-clause-fed : goal.returns-in_ok-feed-in-Rule-clause-fed
 returns-in_ok-feed-in-Rule-clause-fed c =
@@ -72,7 +81,7 @@ returns-in_ok-feed-in-Rule-clause-fed c =
     (λ behind item more. refl) refl (λ behind item more. refl) refl c.in_ok-feed-in-Rule.ensures.fed)
 
 pub returns-in_ok-feed-in-Rule-clause-needs : goal.returns-in_ok-feed-in-Rule-clause-needs
-returns-in_ok-feed-in-Rule-clause-needs c = part-needs c.args.self.now _ c.ruled.result (rw c.in-Rule.is refl)
+returns-in_ok-feed-in-Rule-clause-needs c = rw c.ruled.ensures (rule-needs (λ rule. Rule c.in-Rule.kind rule) c.in-Rule.kind c.args.self.now _ c.in_ok-feed-in-Rule.field-0 c.in-Rule.is c.in-Rule.is c.in_ok-feed-in-Rule.ensures.needed)
 
 pub returns-in_ok-feed-in-Rule-clause-on : goal.returns-in_ok-feed-in-Rule-clause-on
 returns-in_ok-feed-in-Rule-clause-on c = rw c.ruled.ensures (rule-goes (λ rule. Rule c.in-Rule.kind rule) c.in-Rule.kind _ c.in_ok-feed-in-Rule.field-0 c.in-Rule.is c.in_ok-feed-in-Rule.ensures.on)
@@ -84,7 +93,7 @@ returns-in-BoxBegin-clause-fed c =
     (λ behind item more. refl) refl (λ behind item more. refl) refl c.feed-in-BoxBegin.ensures.part)
 
 pub returns-in-BoxBegin-clause-needs : goal.returns-in-BoxBegin-clause-needs
-returns-in-BoxBegin-clause-needs c = part-needs c.args.self.now _ c.begun_box.result (rw c.in-BoxBegin.is refl)
+returns-in-BoxBegin-clause-needs c = part-needs c.args.self.now c.args.self.now c.begun_box.result (rw c.in-BoxBegin.is refl)
 
 pub returns-in-BoxBegin-clause-on : goal.returns-in-BoxBegin-clause-on
 returns-in-BoxBegin-clause-on c = rw c.begun_box.ensures (part-goes (λ _. BeginBox c.in-BoxBegin.kind c.in-BoxBegin.context) (stage.BoxBegin c.in-BoxBegin.kind c.in-BoxBegin.context) c.args.self.now c.feed-in-BoxBegin.result c.in-BoxBegin.is tt c.feed-in-BoxBegin.ensures.nothing)
@@ -106,7 +115,7 @@ returns-in_ok-feed-in-MacroName-clause-fed c =
     (λ behind item more. refl) refl (λ behind item more. refl) refl c.in_ok-feed-in-MacroName.ensures.part)
 
 pub returns-in_ok-feed-in-MacroName-clause-needs : goal.returns-in_ok-feed-in-MacroName-clause-needs
-returns-in_ok-feed-in-MacroName-clause-needs c = part-needs c.args.self.now _ c.macro_defined.result (rw c.in-MacroName.is refl)
+returns-in_ok-feed-in-MacroName-clause-needs c = part-needs c.args.self.now c.args.self.now c.macro_defined.result (rw c.in-MacroName.is refl)
 
 pub returns-in_ok-feed-in-MacroName-clause-on : goal.returns-in_ok-feed-in-MacroName-clause-on
 returns-in_ok-feed-in-MacroName-clause-on c = rw c.macro_defined.ensures (part-goes (λ name. DefineMacro name c.in-MacroName.kind) (stage.MacroName c.in-MacroName.kind) c.args.self.now c.in_ok-feed-in-MacroName.field-0 c.in-MacroName.is tt c.in_ok-feed-in-MacroName.ensures.nothing)
@@ -118,7 +127,7 @@ returns-in_ok-feed-in-FutureName-clause-fed c =
     (λ behind item more. refl) refl (λ behind item more. refl) refl c.in_ok-feed-in-FutureName.ensures.part)
 
 pub returns-in_ok-feed-in-FutureName-clause-needs : goal.returns-in_ok-feed-in-FutureName-clause-needs
-returns-in_ok-feed-in-FutureName-clause-needs c = part-needs c.args.self.now _ c.future_defined.result (rw c.in-FutureName.is refl)
+returns-in_ok-feed-in-FutureName-clause-needs c = part-needs c.args.self.now c.args.self.now c.future_defined.result (rw c.in-FutureName.is refl)
 
 pub returns-in_ok-feed-in-FutureName-clause-on : goal.returns-in_ok-feed-in-FutureName-clause-on
 returns-in_ok-feed-in-FutureName-clause-on c = rw c.future_defined.ensures (part-goes DefineFuture stage.FutureName c.args.self.now c.in_ok-feed-in-FutureName.field-0 c.in-FutureName.is tt c.in_ok-feed-in-FutureName.ensures.nothing)

@@ -1,19 +1,57 @@
-use Rattle.std.proofs.Common.{◌≡◌}
+use Rattle.std.proofs.Common.{◌≤◌, refl}
+use Rattle.tx_scan.specs.DimensionRests.{rest as dimen_rest, held as dimen_held}
+use Rattle.tx_assign.specs.Rests.{rest as assign_rest, held as assign_held}
 use Rattle.tx_command.specs.declared.scans.Stage.TheVariants as stage
-use Rattle.tx_command.proofs.Stages.{assigning-is, assign-given, assign-fewer, assign-goes}
+use Rattle.tx_command.specs.declared.types.Command.TheVariants.{Assign, Sized, Rule}
+use Rattle.tx_command.specs.Rests.{rule_rest, rule_held}
+use Rattle.tx_scan.proofs.Behind.{given-behind, given-one}
+use Rattle.tx_command.proofs.Stages.{part-behind, assign-fewer, assign-goes, size-fewer, size-goes, rule-fewer, rule-goes}
 use Rattle.tx_command.proofs.scans.Scans.give.Goals as goal
 
-pub returns-clause-given : goal.returns-clause-given
-returns-clause-given c = λ mode head.
-    let is : c.args.self.now.stage ≡ stage.Assign = assigning-is c.args.self.now.stage c.requires in
-    rw c.assigned.ensures (assign-given mode head c.args.self.now _ c.args.value.now c.in_ok-give.field-0 is is c.in_ok-give.ensures.part)
+pub returns-in_ok-give-in-Assign-clause-given : goal.returns-in_ok-give-in-Assign-clause-given
+returns-in_ok-give-in-Assign-clause-given c = λ mode head.
+    let few : assign_held c.args.self.now.assignment ≤ 1 = rw c.in-Assign.is at c.requires.1 in
+    rw c.assigned.ensures
+    (part-behind assign_rest assign_held Assign stage.Assign mode head c.args.self.now.assignment c.give.new.self c.args.self.now _ c.args.value.now c.args.behind.now c.in_ok-give-in-Assign.field-0 c.in-Assign.is c.in-Assign.is
+    (λ behind item more. refl) refl (λ behind item more. refl) refl
+    (given-behind assign_rest assign_held c.args.self.now.assignment c.give.new.self c.args.value.now c.args.behind.now c.in_ok-give-in-Assign.field-0 few c.in_ok-give-in-Assign.ensures.part))
 
-pub returns-clause-needs : goal.returns-clause-needs
-returns-clause-needs c =
-    let is : c.args.self.now.stage ≡ stage.Assign = assigning-is c.args.self.now.stage c.requires in
-    rw c.assigned.ensures (assign-fewer c.args.self.now _ c.in_ok-give.field-0 is is c.in_ok-give.ensures.fewer)
+pub returns-in_ok-give-in-Assign-clause-needs : goal.returns-in_ok-give-in-Assign-clause-needs
+returns-in_ok-give-in-Assign-clause-needs c = rw c.assigned.ensures (assign-fewer c.args.self.now _ c.in_ok-give-in-Assign.field-0 c.in-Assign.is c.in-Assign.is c.in_ok-give-in-Assign.ensures.fewer)
 
-pub returns-clause-on : goal.returns-clause-on
-returns-clause-on c =
-    let is : c.args.self.now.stage ≡ stage.Assign = assigning-is c.args.self.now.stage c.requires in
-    rw c.assigned.ensures (assign-goes _ c.in_ok-give.field-0 is)
+pub returns-in_ok-give-in-Assign-clause-on : goal.returns-in_ok-give-in-Assign-clause-on
+returns-in_ok-give-in-Assign-clause-on c =
+    let few : assign_held c.args.self.now.assignment ≤ 1 = rw c.in-Assign.is at c.requires.1 in
+    rw c.assigned.ensures
+    (assign-goes _ c.in_ok-give-in-Assign.field-0 c.in-Assign.is
+    (given-one assign_rest assign_held c.args.self.now.assignment c.give.new.self c.args.value.now c.in_ok-give-in-Assign.field-0 few c.in_ok-give-in-Assign.ensures.part))
+
+pub returns-in_ok-give-in-Sized-clause-given : goal.returns-in_ok-give-in-Sized-clause-given
+returns-in_ok-give-in-Sized-clause-given c = λ mode head.
+    let few : dimen_held c.args.self.now.size ≤ 1 = rw c.in-Sized.is at c.requires.1 in
+    rw c.sized.ensures
+    (part-behind dimen_rest dimen_held (λ measure. Sized c.in-Sized.kind measure.size) (stage.Sized c.in-Sized.kind) mode head c.args.self.now.size c.give-in-Sized.new.self c.args.self.now _ c.args.value.now c.args.behind.now c.in_ok-give-in-Sized.field-0 c.in-Sized.is c.in-Sized.is
+    (λ behind item more. refl) refl (λ behind item more. refl) refl
+    (given-behind dimen_rest dimen_held c.args.self.now.size c.give-in-Sized.new.self c.args.value.now c.args.behind.now c.in_ok-give-in-Sized.field-0 few c.in_ok-give-in-Sized.ensures.part))
+
+pub returns-in_ok-give-in-Sized-clause-needs : goal.returns-in_ok-give-in-Sized-clause-needs
+returns-in_ok-give-in-Sized-clause-needs c = rw c.sized.ensures (size-fewer (λ measure. Sized c.in-Sized.kind measure.size) c.in-Sized.kind c.args.self.now _ c.in_ok-give-in-Sized.field-0 c.in-Sized.is c.in-Sized.is c.in_ok-give-in-Sized.ensures.fewer)
+
+pub returns-in_ok-give-in-Sized-clause-on : goal.returns-in_ok-give-in-Sized-clause-on
+returns-in_ok-give-in-Sized-clause-on c =
+    let few : dimen_held c.args.self.now.size ≤ 1 = rw c.in-Sized.is at c.requires.1 in
+    rw c.sized.ensures
+    (size-goes (λ measure. Sized c.in-Sized.kind measure.size) c.in-Sized.kind _ c.in_ok-give-in-Sized.field-0 c.in-Sized.is
+    (given-one dimen_rest dimen_held c.args.self.now.size c.give-in-Sized.new.self c.args.value.now c.in_ok-give-in-Sized.field-0 few c.in_ok-give-in-Sized.ensures.part))
+
+pub returns-in_ok-give-in-Rule-clause-given : goal.returns-in_ok-give-in-Rule-clause-given
+returns-in_ok-give-in-Rule-clause-given c = λ mode head.
+    rw c.ruled.ensures
+    (part-behind rule_rest rule_held (λ rule. Rule c.in-Rule.kind rule) (stage.Rule c.in-Rule.kind) mode head c.args.self.now.rule c.give-in-Rule.new.self c.args.self.now _ c.args.value.now c.args.behind.now c.in_ok-give-in-Rule.field-0 c.in-Rule.is c.in-Rule.is
+    (λ behind item more. refl) refl (λ behind item more. refl) refl c.in_ok-give-in-Rule.ensures.given)
+
+pub returns-in_ok-give-in-Rule-clause-needs : goal.returns-in_ok-give-in-Rule-clause-needs
+returns-in_ok-give-in-Rule-clause-needs c = rw c.ruled.ensures (rule-fewer (λ rule. Rule c.in-Rule.kind rule) c.in-Rule.kind c.args.self.now _ c.in_ok-give-in-Rule.field-0 c.in-Rule.is c.in-Rule.is c.in_ok-give-in-Rule.ensures.fewer)
+
+pub returns-in_ok-give-in-Rule-clause-on : goal.returns-in_ok-give-in-Rule-clause-on
+returns-in_ok-give-in-Rule-clause-on c = rw c.ruled.ensures (rule-goes (λ rule. Rule c.in-Rule.kind rule) c.in-Rule.kind _ c.in_ok-give-in-Rule.field-0 c.in-Rule.is c.in_ok-give-in-Rule.ensures.on)
