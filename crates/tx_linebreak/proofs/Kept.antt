@@ -380,11 +380,11 @@ last-stands a = by (length a.pieces - 1) (penalty_at a.params a.pass a.pieces (l
 -- ---- the best one
 
 -- a chain of a list that no other one beats; of an empty list there is none
-record IsTop (list : List Chain) (best : Chain) : Type 0 where
-  there : Member list best
-  unbeaten : (x : Chain) → Member list x → beats x best ≡ false
+pub record IsTop (list : List Chain) (best : Chain) : Type 0 where
+  pub there : Member list best
+  pub unbeaten : (x : Chain) → Member list x → beats x best ≡ false
 
-abbrev TopOf : List Chain → Option Chain → Type 0
+abbrev pub TopOf : List Chain → Option Chain → Type 0
 TopOf list None = list ≡ []
 TopOf list (Some best) = IsTop list best
 
@@ -422,15 +422,24 @@ none-among : (list : List Chain) → ((x : Chain) → Member list x → ⊥) →
 none-among [] h = refl
 none-among (x ∷ list) h = absurd (h x (inl refl))
 
--- what stands for all chains has the best one of all
-top-stands : (a : Attempt) (o : Option Chain) → TopOf (last_chains a) o → Stands (last_chains a) (chains_of a) → FindsBest a o
-top-stands a None none s = none-among (chains_of a) (λ x h. let g = s.good x h in subst (λ (l : List Chain). Member l g.one) none g.there)
-top-stands a (Some best) top s = record {
+-- chains that stand for all others have the best one of all
+pub top-stands : (a : Attempt) (list : List Chain) (o : Option Chain) → TopOf list o → Stands list (chains_of a) → FindsBest a o
+top-stands a list None none s = none-among (chains_of a) (λ x h. let g = s.good x h in subst (λ (l : List Chain). Member l g.one) none g.there)
+top-stands a list (Some best) top s = record {
   is_one = contains-member (chains_of a) best (s.among best top.there);
   unbeaten = λ other h.
       let g = s.good other (member-contains (chains_of a) other h) in
       not_beaten_through other g.one best g.unbeaten (top.unbeaten g.one g.there);
 }
 
+-- one for each candidate stands for those that stand for others
+pub offered-stands : (xs others : List Chain) → Stands xs others → Stands (all_offered [] xs) others
+offered-stands xs others s = record {
+  among = λ y h. elim (all_offered-among [] xs y h) [ inl k ↦ absurd k | inr k ↦ s.among y k ];
+  good = λ x h.
+      let g = s.good x h in
+      good-through (all_offered [] xs) g.one x g.same g.unbeaten (all_offered-new [] xs g.one g.there);
+}
+
 pub one-is-enough : (a : Attempt) → OneIsEnough a
-one-is-enough a = top-stands a (best_of (last_chains a)) (top-best_of (last_chains a)) (last-stands a)
+one-is-enough a = top-stands a (last_chains a) (best_of (last_chains a)) (top-best_of (last_chains a)) (last-stands a)

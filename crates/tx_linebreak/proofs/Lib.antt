@@ -8,3 +8,9 @@ pub mod Summing
 pub mod Shapes
 pub mod Costs
 pub mod Offering
+pub mod Trying
+pub mod Reaching
+pub mod Adding
+pub mod Advancing
+pub mod Ending
+pub mod Choosing

@@ -17,10 +17,10 @@ pub chains_in-push : (links : List Link) (link : Link) → chains_in (links ++ l
 unfolding chains_in
 chains_in-push links link = fold-append with_link ([] ∷ []) links (link ∷ [])
 
-stays : (chains : List Chain) (chain : Chain) (n : ℕ) → n < length chains → chain_at (chains ++ chain ∷ []) n ≡ chain_at chains n
+pub stays : (chains : List Chain) (chain : Chain) (n : ℕ) → n < length chains → chain_at (chains ++ chain ∷ []) n ≡ chain_at chains n
 stays chains chain n h = get_or-append chains (chain ∷ []) [] n h
 
-comes : (chains : List Chain) (chain : Chain) (n : ℕ) → n ≡ length chains → chain_at (chains ++ chain ∷ []) n ≡ chain
+pub comes : (chains : List Chain) (chain : Chain) (n : ℕ) → n ≡ length chains → chain_at (chains ++ chain ∷ []) n ≡ chain
 comes chains chain n e = ap (chain_at (chains ++ chain ∷ [])) e ∙ get_or-append_seam chains chain [] []
 
 -- a chain with one more line is that of its link still
@@ -29,6 +29,7 @@ link-stays chains chain n link h is = record {
   earlier = is.earlier;
   chain_is = stays chains chain n h ∙ is.chain_is ∙ ap (λ (c : Chain). link.line ∷ c) (sym (stays chains chain link.before (let e = is.earlier in omega arith)));
   total_is = is.total_is ∙ ap total (sym (stays chains chain n h));
+  counted = is.counted;
 }
 
 link-comes : (chains : List Chain) (n : ℕ) (link : Link) → n ≡ length chains → IsMade chains link → IsLinkOf (chains ++ chain_of chains link ∷ []) n link
@@ -36,6 +37,7 @@ link-comes chains n link e made = record {
   earlier = let w = made.within in omega arith;
   chain_is = comes chains (chain_of chains link) n e ∙ ap (λ (c : Chain). link.line ∷ c) (sym (stays chains (chain_of chains link) link.before made.within));
   total_is = made.total_is ∙ ap total (sym (comes chains (chain_of chains link) n e));
+  counted = made.counted;
 }
 
 pub shared-none : IsShared []

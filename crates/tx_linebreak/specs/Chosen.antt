@@ -1,5 +1,5 @@
 -- The chain that is chosen: of the first pass that has one, with the least demerits, and of equals the greatest.
-use Rattle.std.specs.Prelude.{◌≡◌, ℕ, ◌==◌, nat_lt, ℤ, pos, ◌+ℤ◌, int_lt, int_le, unsigned_abs, Bool, true, false, not, ◌&&◌, ◌||◌, if◌then◌else◌, List, [], ◌∷◌, ◌++◌, map, reverse, filter, Option, None, Some, Contains}
+use Rattle.std.specs.Prelude.{◌≡◌, ℕ, ◌==◌, nat_lt, ℤ, pos, ◌+ℤ◌, int_lt, int_le, unsigned_abs, Bool, true, false, not, ◌&&◌, ◌||◌, if◌then◌else◌, List, [], ◌∷◌, ◌++◌, map, reverse, filter, length, slice_get, ◌-◌, Option, None, Some, Contains}
 use Rattle.std.specs.List.{flat_map, list_any}
 use Rattle.std.specs.Ordering.{int_eq}
 use Rattle.tx_num.specs.Glue.{GlueSpec}
@@ -10,6 +10,7 @@ use Rattle.tx_linebreak.specs.declared.params.Pass.{Pass}
 use Rattle.tx_linebreak.specs.declared.params.Pass.TheVariants.{First, Second, Emergency}
 use Rattle.tx_linebreak.specs.declared.piece.Piece.{Piece}
 use Rattle.tx_linebreak.specs.declared.piece.Piece.TheVariants.{Solid, Kern, Glue, Penalty, Discretionary as Disc, MathOn, MathOff}
+use Rattle.tx_linebreak.specs.Breaks.{context_from, is_forced, outset}
 use Rattle.tx_linebreak.specs.Lines.{Attempt}
 use Rattle.tx_linebreak.specs.Classes.{class_number}
 use Rattle.tx_linebreak.specs.Chains.{Chain, chains_of}
@@ -93,6 +94,27 @@ answer_of pass chain = record {
 pub record IsChosen (pieces : List Piece) (shape : List LineShape) (params : BreakParams) (pass : Pass) (chain : Chain) : Type 0 where
   pub is_first : first_with_chain pieces shape params (passes_of params) ≡ Some pass
   pub is_best : IsBest (attempt pieces shape params pass) chain
+
+-- an answer is that of a best chain of an attempt
+abbrev pub IsBestAnswer : Attempt → Chosen → Type 0
+IsBestAnswer a answer = (chain : Chain) × IsBest a chain × (answer ≡ answer_of a.pass chain)
+
+-- a piece is a penalty that forces a break
+abbrev pub forces_break : Piece → Bool
+forces_break (Solid width) = false
+forces_break (Kern width) = false
+forces_break (Glue glue) = false
+forces_break (Penalty penalty) = is_forced penalty
+forces_break (Disc d) = false
+forces_break (MathOn width) = false
+forces_break (MathOff width) = false
+
+-- a list ends with a penalty that forces a break, and that no no-break text takes
+pub record IsEnded (pieces : List Piece) : Type 0 where
+  pub penalty : ℤ
+  pub last_is : slice_get pieces (length pieces - 1) ≡ Some (Penalty penalty)
+  pub forces : is_forced penalty ≡ true
+  pub taken : (context_from outset pieces (length pieces - 1)).replaced ≡ 0
 
 -- an answer is that of the chain that is chosen
 abbrev pub IsAnswer : List Piece → List LineShape → BreakParams → Chosen → Type 0

@@ -9,3 +9,4 @@ pub mod Steps
 pub mod Kept
 pub mod Shared
 pub mod Tasks
+pub mod Trials

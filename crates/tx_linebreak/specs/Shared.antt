@@ -1,5 +1,5 @@
 -- Chains that share their beginnings, as a list of links. No public clause speaks of it.
-use Rattle.std.specs.Prelude.{◌≡◌, ℕ, suc, ◌<◌, List, [], ◌∷◌, ◌++◌, length, fold, slice_index_or}
+use Rattle.std.specs.Prelude.{◌≡◌, ℕ, suc, ◌*◌, ◌<◌, ◌≤◌, ◌^◌, unsigned_abs, List, [], ◌∷◌, ◌++◌, length, fold, slice_index_or}
 use Rattle.tx_linebreak.specs.declared.link.Link.{Link}
 use Rattle.tx_linebreak.specs.Chains.{Chain}
 use Rattle.tx_linebreak.specs.Chosen.{total}
@@ -20,16 +20,23 @@ with_link chains link = chains ++ chain_of chains link ∷ []
 unfoldable pub chains_in : List Link → List Chain
 chains_in links = fold with_link ([] ∷ []) links
 
+-- a link's line has no greater number than its place allows, and its demerits are at most those of so many lines
+pub record IsCounted (link : Link) : Type 0 where
+  pub few : link.line.number ≤ suc link.line.place
+  pub small : unsigned_abs link.total ≤ link.line.number * 2 ^ 63
+
 -- a link stands behind one of the chains, and knows the demerits of its own
 pub record IsMade (chains : List Chain) (link : Link) : Type 0 where
   pub within : link.before < length chains
   pub total_is : link.total ≡ total (chain_of chains link)
+  pub counted : IsCounted link
 
 -- a chain is that of a link, behind a chain of a lesser number
 pub record IsLinkOf (chains : List Chain) (number : ℕ) (link : Link) : Type 0 where
   pub earlier : link.before < number
   pub chain_is : chain_at chains number ≡ chain_of chains link
   pub total_is : link.total ≡ total (chain_at chains number)
+  pub counted : IsCounted link
 
 -- what holds of the links of chains
 pub record IsShared (links : List Link) : Type 0 where

@@ -1,7 +1,7 @@
 //! A pass over a list.
-ghost use Rattle.std.specs.Prelude.{◌≡◌, ◌<◌, ◌≤◌, ◌^◌, ◌+ℤ◌, length, slice_range, unsigned_abs, IfSome, Some};
-ghost use Rattle.tx_linebreak.specs.Breaks.{discretionary_at, past_discardables, start_of};
-ghost use Rattle.tx_linebreak.specs.Chains.{dies_by, is_feasible, is_last_pass, is_tolerable, line_set, tolerance_of};
+ghost use Rattle.std.specs.Prelude.{◌≡◌, ◌<◌, ◌≤◌, ◌^◌, ◌+ℤ◌, ◌||◌, length, slice_range, unsigned_abs, IfSome};
+ghost use Rattle.tx_linebreak.specs.Breaks.{discretionary_at, is_forced, past_discardables, start_of};
+ghost use Rattle.tx_linebreak.specs.Chains.{is_last_pass, is_overfull, is_tolerable, line_set, tolerance_of};
 ghost use Rattle.tx_linebreak.specs.Lines.{begin_width, begins_hyphened, demerits_of, end_width, first_place, is_last, line_fit, line_totals};
 ghost use Rattle.tx_linebreak.specs.Tasks.{IsTask, attempt_of};
 ghost use Rattle.tx_linebreak.specs.Totals.{IsWithin, rigid, totals_of};
@@ -127,6 +127,19 @@ fn is_last(pieces: &[Piece], place: usize) -> bool
     place + 1 == pieces.len()
 }
 
+/// Whether a candidate dies at a break with this penalty, given how its line to it fits.
+pub(crate) fn dies(penalty: i32, fit: Fit) -> bool
+    ensures { result ≡ (is_forced penalty || is_overfull fit) }
+{
+    if penalty <= -10_000 {
+        return true;
+    }
+    match fit {
+        Fit::Overfull => true,
+        Fit::Set { .. } => false,
+    }
+}
+
 impl Task<'_> {
     /// What the pieces of the line from a break to a place have.
     fn inside(&self, from: Option<usize>, place: usize) -> Totals
@@ -198,7 +211,7 @@ impl Task<'_> {
     }
 
     /// The line from a candidate to a break, given how it fits.
-    fn line_set(&self, c: &Candidate, place: usize, penalty: i32, fit: Fit) -> Line
+    pub fn line_set(&self, c: &Candidate, place: usize, penalty: i32, fit: Fit) -> Line
         requires place { place < length self.now.pieces.now }
         requires lines { c.now.lines < 2 ^ 63 }
         ensures value { result ≡ line_set (attempt_of self.now) c.now place penalty fit }
@@ -224,7 +237,7 @@ impl Task<'_> {
     }
 
     /// Whether a line that fits so may be taken.
-    fn is_tolerable(&self, fit: Fit) -> bool
+    pub fn is_tolerable(&self, fit: Fit) -> bool
         ensures { result ≡ is_tolerable (tolerance_of self.now.params.now self.now.pass) fit }
     {
         let tolerance = match self.pass {
@@ -238,35 +251,8 @@ impl Task<'_> {
         }
     }
 
-    /// Whether a candidate dies at a break with this penalty, given how its line to it fits.
-    pub fn dies(&self, c: &Candidate, place: usize, penalty: i32) -> bool
-        requires task { IsTask self.now }
-        requires place { place < length self.now.pieces.now }
-        requires from { IfSome c.now.place (λ place. place < length self.now.pieces.now) }
-        ensures { result ≡ dies_by (attempt_of self.now) c.now place (Some penalty) }
-    {
-        if penalty <= -10_000 {
-            return true;
-        }
-        match self.line_fit(c, place) {
-            Fit::Overfull => true,
-            Fit::Set { .. } => false,
-        }
-    }
-
-    /// Whether a candidate's line to a place may be taken.
-    #[tactic(auto, unfolding(crate::specs::Chains::is_feasible))]
-    pub fn is_feasible(&self, c: &Candidate, place: usize) -> bool
-        requires task { IsTask self.now }
-        requires place { place < length self.now.pieces.now }
-        requires from { IfSome c.now.place (λ place. place < length self.now.pieces.now) }
-        ensures { result ≡ is_feasible (attempt_of self.now) c.now place }
-    {
-        self.is_tolerable(self.line_fit(c, place))
-    }
-
     /// Whether no further pass is made after this one.
-    fn is_last(&self) -> bool
+    pub fn is_last(&self) -> bool
         ensures { result ≡ is_last_pass self.now.params.now self.now.pass }
     {
         match self.pass {

@@ -1,6 +1,6 @@
 //! Chains of lines that share their beginnings.
-ghost use Rattle.std.specs.Prelude.{◌≡◌, ◌<◌, ◌≤◌, ◌+◌, ◌^◌, [], ◌∷◌, ◌++◌, length, IfNone, IfSome, OnOk, OnErr};
-ghost use Rattle.tx_linebreak.specs.Chains.{candidate_of};
+ghost use Rattle.std.specs.Prelude.{◌≡◌, ◌<◌, ◌≤◌, ◌+◌, ◌*◌, ◌^◌, unsigned_abs, [], ◌∷◌, ◌++◌, length, IfNone, IfSome, OnOk, OnErr};
+ghost use Rattle.tx_linebreak.specs.Chains.{candidate_of, next_place};
 ghost use Rattle.tx_linebreak.specs.Chosen.{beats, is_below, steps_of, total};
 ghost use Rattle.tx_linebreak.specs.Shared.{IsLinkOf, IsMade, chain_at, chain_of};
 
@@ -39,6 +39,13 @@ impl Chains {
         }
     }
 
+    /// How many there are.
+    pub fn len(&self) -> usize
+        ensures { result ≡ length self.now }
+    {
+        self.links.len() + 1
+    }
+
     /// The last line of a chain with what stands before it; None for the empty chain.
     pub fn link(&self, chain: usize) -> Option<Link>
         requires { chain < length self.now }
@@ -55,7 +62,8 @@ impl Chains {
     /// The candidate that a chain ends with.
     pub fn candidate(&self, chain: usize) -> Candidate
         requires { chain < length self.now }
-        ensures { result ≡ candidate_of (chain_at self.now chain) }
+        ensures value { result ≡ candidate_of (chain_at self.now chain) }
+        ensures few { result.lines ≤ next_place result.place }
     {
         match self.link(chain) {
             None => Candidate {
@@ -74,7 +82,8 @@ impl Chains {
     /// The demerits of all lines of a chain.
     pub fn total(&self, chain: usize) -> i128
         requires { chain < length self.now }
-        ensures { result ≡ total (chain_at self.now chain) }
+        ensures value { result ≡ total (chain_at self.now chain) }
+        ensures small { unsigned_abs result ≤ (candidate_of (chain_at self.now chain)).lines * 2 ^ 63 }
     {
         match self.link(chain) {
             None => 0,

@@ -21,7 +21,8 @@ pub(crate) fn line_shape(shape: &[LineShape], lines: usize) -> LineShape
     shape[lines.min(last)]
 }
 
-/// The badness of glue that can move by `s` and has to move by `t`, as `tx_num::badness` has it of smaller sizes.
+/// The badness of glue that can move by `s` and has to move by `t`. `tx_num::badness` is the same of sizes in 64 bits; one
+/// function over 128 bits there would serve both.
 fn badness(t: i128, s: i128) -> u32
     requires { pos 0 ≤ℤ t }
     ensures value { result ≡ badness_of t s }

@@ -3,19 +3,24 @@
 //! nodes.
 //!
 //! `specs/` says what is chosen, as sets and chains: legal breaks, lines and how they fit, candidates and how long they live,
-//! all chains, and the one that is chosen. No call finds it yet. Proved: it is enough to keep the best chain of each
-//! candidate, and the parts of a programme that does so: breaks, totals, fits, demerits, chains that share their beginnings,
-//! and an offer to those kept. Only tested: that the definitions are TeX's, on paragraphs that Knuth's program breaks at the
-//! same places.
+//! all chains, and the one that is chosen. `breaks` finds it. Proved: its answer is that chain, of all chains of the first pass
+//! that has one; it is enough to keep the best chain of each candidate. Only tested: that the definitions are TeX's, on
+//! paragraphs that Knuth's program breaks at the same places.
 //!
-//! Modules in reading order: `piece`, `params`, `answer`; `legal`, `totals`, `fit`, `demerits`, `attempt`; `line`, `link`,
-//! `chains`, `offers`; `law`.
+//! Modules in reading order: `piece`, `params`, `answer`, `error`; `legal`, `totals`, `fit`, `demerits`, `attempt`; `line`,
+//! `link`, `chains`, `offers`; `trial`, `trials`, `reach`, `advance`; `best`, `told`, `endless`, `ended`, `choice`; `law`.
 #![tactic(auto)]
 
+mod advance;
 mod answer;
 mod attempt;
+mod best;
 mod chains;
+mod choice;
 mod demerits;
+mod ended;
+mod endless;
+mod error;
 mod fit;
 mod law;
 mod legal;
@@ -24,9 +29,16 @@ mod link;
 mod offers;
 mod params;
 mod piece;
+mod reach;
+mod told;
 mod totals;
+mod trial;
+mod trials;
 
 pub use answer::{Chosen, Places};
+pub use choice::breaks;
+pub use ended::is_ended;
+pub use error::BreakError;
 pub use law::one_chain_for_each_candidate_is_enough;
 pub use params::{BreakParams, LineShape, Pass, Shape};
 pub use piece::{Class, Discretionary, Piece, Pieces};

@@ -1,8 +1,9 @@
 //! How wide pieces are together, and how far they stretch and shrink.
-ghost use Rattle.std.specs.Prelude.{◌≡◌, ◌≤◌, ◌+ℤ◌, ◌-ℤ◌, ◌^◌, unsigned_abs, IfOk};
-ghost use Rattle.tx_linebreak.specs.Totals.{IsWithin, both, glue_totals, less, piece_totals, rigid};
+ghost use Rattle.std.specs.Prelude.{pos, ◌≡◌, ◌≤◌, ◌+ℤ◌, ◌-ℤ◌, ◌^◌, unsigned_abs, IfOk};
+ghost use Rattle.tx_linebreak.specs.Totals.{IsWithin, both, elastic, glue_totals, less, piece_totals, rigid};
 ghost use Rattle.tx_linebreak.specs.Sums.{AreSums};
 
+use crate::params::BreakParams;
 use crate::piece::Piece;
 use std::alloc::{AllocError, Global};
 use tx_num::Glue;
@@ -32,6 +33,16 @@ impl Totals {
             filll: 0,
             shrink: 0,
         }
+    }
+
+    /// \emergencystretch.
+    pub fn emergency(params: &BreakParams) -> Totals
+        ensures value { result ≡ elastic (pos 0) params.now.emergency_stretch 0 (pos 0) }
+        ensures small { IsWithin (2 ^ 63) result }
+    {
+        let mut totals = Totals::rigid(0);
+        totals.stretch = i128::from(params.emergency_stretch);
+        totals
     }
 
     /// What glue has.

@@ -1,0 +1,145 @@
+//! The breaks that are chosen.
+ghost use Rattle.std.specs.Prelude.{◌≡◌, ◌↔◌, ◌<◌, ◌^◌, [], true, length, Err, IfNone, IfSome, IfOk, IsSome};
+ghost use Rattle.tx_linebreak.specs.declared.error.BreakError.TheVariants.{InfiniteShrink};
+ghost use Rattle.tx_linebreak.specs.declared.params.Pass.TheVariants.{Emergency};
+ghost use Rattle.tx_linebreak.specs.Chains.{chains_of, is_last_pass};
+ghost use Rattle.tx_linebreak.specs.Chosen.{IsAnswer, IsBestAnswer, IsEnded, attempt, has_endless_shrink};
+ghost use Rattle.tx_linebreak.specs.Lines.{background, skips};
+ghost use Rattle.tx_linebreak.specs.Sums.{AreSums};
+ghost use Rattle.tx_linebreak.specs.Tasks.{IsTask, attempt_of};
+ghost use Rattle.tx_linebreak.specs.Totals.{IsWithin};
+
+use crate::answer::Chosen;
+use crate::attempt::Task;
+use crate::chains::Chains;
+use crate::endless::has_endless_shrink;
+use crate::error::BreakError;
+use crate::params::{BreakParams, LineShape, Pass, Shape};
+use crate::piece::{Piece, Pieces};
+use crate::told::told;
+use crate::totals::{Totals, running_sums};
+use std::alloc::{AllocError, Global};
+
+/// What stands at both ends of each line.
+fn skips(params: &BreakParams) -> Totals
+    ensures value { result ≡ skips params.now }
+    ensures small { IsWithin (2 ^ 32) result }
+{
+    Totals::of_glue(&params.left_skip).plus(&Totals::of_glue(&params.right_skip))
+}
+
+/// The same in the third pass, with the stretch that it adds.
+fn emergency(params: &BreakParams) -> Totals
+    ensures value { result ≡ background params.now Emergency }
+    ensures small { IsWithin (2 ^ 65) result }
+{
+    skips(params).plus(&Totals::emergency(params))
+}
+
+/// What a pass adds to each line.
+fn background(params: &BreakParams, pass: Pass) -> Totals
+    ensures value { result ≡ background params.now pass }
+    ensures small { IsWithin (2 ^ 65) result }
+{
+    match pass {
+        Pass::First => skips(params),
+        Pass::Second => skips(params),
+        Pass::Emergency => emergency(params),
+    }
+}
+
+impl<'a> Task<'a> {
+    /// A pass over a list, given the totals before each of its places.
+    fn new(
+        pieces: &'a [Piece],
+        sums: &'a [Totals],
+        shape: &'a [LineShape],
+        params: &'a BreakParams,
+        pass: Pass,
+    ) -> Task<'a>
+        requires sums { AreSums sums.now pieces.now }
+        requires shaped { 0 < length shape.now }
+        ensures task { IsTask result }
+        ensures attempt { attempt_of result ≡ attempt pieces.now shape.now params.now pass }
+    {
+        Task {
+            pieces,
+            sums,
+            shape,
+            params,
+            pass,
+            background: background(params, pass),
+        }
+    }
+
+    /// What a pass finds: None where it has no chain; the last pass has one.
+    fn find(&self, alloc: Global) -> Result<Option<Chosen>, AllocError>
+        requires task { IsTask self.now }
+        requires ended { IsEnded self.now.pieces.now }
+        ensures none { IfOk result (λ found. IfNone found (chains_of (attempt_of self.now) ≡ [])) }
+        ensures some { IfOk result (λ found. IfSome found (λ chosen. IsBestAnswer (attempt_of self.now) chosen)) }
+        ensures last { is_last_pass self.now.params.now self.now.pass ≡ true → IfOk result (λ found. IsSome found) }
+    {
+        let mut chains = Chains::new(alloc);
+        match self.best_chain(alloc, &mut chains)? {
+            None => Ok(None),
+            Some(chain) => Ok(Some(told(alloc, &chains, chain, self.pass)?)),
+        }
+    }
+}
+
+/// The answer of the first pass that has a chain.
+fn choose(
+    alloc: Global,
+    pieces: &[Piece],
+    sums: &[Totals],
+    shape: &[LineShape],
+    params: &BreakParams,
+) -> Result<Chosen, AllocError>
+    requires sums { AreSums sums.now pieces.now }
+    requires shaped { 0 < length shape.now }
+    requires ended { IsEnded pieces.now }
+    ensures { IfOk result (λ chosen. IsAnswer pieces.now shape.now params.now chosen) }
+{
+    if params.pretolerance >= 0 {
+        let first = Task::new(pieces, sums, shape, params, Pass::First);
+        if let Some(chosen) = first.find(alloc)? {
+            return Ok(chosen);
+        }
+    }
+    let second = Task::new(pieces, sums, shape, params, Pass::Second);
+    let found = second.find(alloc)?;
+    if params.emergency_stretch <= 0 {
+        return Ok(found.unwrap());
+    }
+    if let Some(chosen) = found {
+        return Ok(chosen);
+    }
+    let third = Task::new(pieces, sums, shape, params, Pass::Emergency);
+    Ok(third.find(alloc)?.unwrap())
+}
+
+/// Breaks a paragraph's list into lines: of the first pass that has a chain, the chain of least demerits, and of equals the
+/// greatest (TeX: The Program, parts 38 and 39). The list ends with a penalty that forces a break, as
+/// `is_ended` tests, and there is a shape.
+///
+/// Its errors are glue in the list, or at the ends of its lines, that shrinks infinitely, which is looked for before any memory
+/// is taken, and want of memory.
+pub fn breaks(
+    alloc: Global,
+    pieces: &Pieces,
+    shape: &Shape,
+    params: &BreakParams,
+) -> Result<Chosen, BreakError>
+    requires shaped { 0 < length shape.now }
+    requires ended { IsEnded pieces.now }
+    ensures answer { IfOk result (λ chosen. IsAnswer pieces.now shape.now params.now chosen) }
+    ensures endless { (result ≡ Err InfiniteShrink) ↔ (has_endless_shrink pieces.now params.now ≡ true) }
+{
+    let list = pieces.as_slice();
+    if has_endless_shrink(list, params) {
+        return Err(BreakError::InfiniteShrink);
+    }
+    let sums = running_sums(alloc, list)?;
+    Ok(choose(alloc, list, sums.as_slice(), shape.as_slice(), params)?)
+}

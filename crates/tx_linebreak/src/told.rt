@@ -1,0 +1,66 @@
+//! What is told of a chain.
+ghost use Rattle.std.specs.Prelude.{◌≡◌, ◌<◌, length, map, filter, IfOk};
+ghost use Rattle.tx_linebreak.specs.Chosen.{answer_of, pass_number};
+ghost use Rattle.tx_linebreak.specs.Shared.{chain_at};
+
+use crate::answer::{Chosen, Places};
+use crate::chains::Chains;
+use crate::params::Pass;
+use std::alloc::{AllocError, Global};
+
+impl Pass {
+    /// Its number.
+    fn number(self) -> u8
+        ensures { result ≡ pass_number self }
+    {
+        match self {
+            Pass::First => 1,
+            Pass::Second => 2,
+            Pass::Emergency => 3,
+        }
+    }
+}
+
+/// A chain's places, and those where no line fitted, the last ones first.
+fn backwards(
+    alloc: Global,
+    chains: &Chains,
+    chain: usize,
+) -> Result<(Vec<usize>, Vec<usize>), AllocError>
+    requires { chain < length chains.now }
+    ensures places { IfOk result (λ lists. lists.0.items ≡ map (λ line. line.place) (chain_at chains.now chain)) }
+    ensures forced { IfOk result (λ lists. lists.1.items ≡ map (λ line. line.place) (filter (λ line. line.forced) (chain_at chains.now chain))) }
+{
+    let mut places = Vec::new(alloc);
+    let mut forced = Vec::new(alloc);
+    let mut at = chain;
+    while let Some(link) = chains.link(at) {
+        places.push(link.line.place)?;
+        if link.line.forced {
+            forced.push(link.line.place)?;
+        }
+        at = link.before;
+    }
+    Ok((places, forced))
+}
+
+/// What is told of a chain that a pass found.
+pub(crate) fn told(
+    alloc: Global,
+    chains: &Chains,
+    chain: usize,
+    pass: Pass,
+) -> Result<Chosen, AllocError>
+    requires { chain < length chains.now }
+    ensures { IfOk result (λ chosen. chosen ≡ answer_of pass (chain_at chains.now chain)) }
+{
+    let (mut places, mut forced) = backwards(alloc, chains, chain)?;
+    places.as_mut_slice().reverse();
+    forced.as_mut_slice().reverse();
+    Ok(Chosen {
+        chain: Places::from_vec(places),
+        total: chains.total(chain),
+        pass: pass.number(),
+        forced: Places::from_vec(forced),
+    })
+}
