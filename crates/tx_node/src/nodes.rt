@@ -90,6 +90,14 @@ impl Nodes {
         Ok(())
     }
 
+    /// Moves the nodes of another list behind these. After want of memory nothing has changed.
+    pub fn append(&mut self, others: &mut Nodes) -> Result<(), AllocError>
+        ensures ok { OnOk result ((self.new ≡ self.old ++ others.old) × (others.new ≡ [])) }
+        ensures err { OnErr result ((self.new ≡ self.old) × (others.new ≡ others.old)) }
+    {
+        self.items.append(&mut others.items)
+    }
+
     /// Takes the last node away, None where there is none.
     pub fn pop(&mut self) -> Option<Node>
         ensures { MatchOption result ((self.old ≡ []) × (self.new ≡ [])) (λ node. self.old ≡ self.new ++ item_of node ∷ []) }

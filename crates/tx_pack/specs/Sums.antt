@@ -11,43 +11,35 @@ use Rattle.tx_node.specs.declared.plain.Plain.{Plain}
 use Rattle.tx_node.specs.declared.plain.Plain.TheVariants.{Kern, Glue, Penalty}
 use Rattle.tx_node.specs.declared.plain.Shared.{Shared}
 use Rattle.tx_node.specs.declared.plain.Shared.TheVariants.{Rule, Leaders, Special}
+use Rattle.tx_node.specs.declared.rule.Rule.{Rule as RuleSides}
 use Rattle.tx_node.specs.Items.{Item, plain, shared, boxed}
 use Rattle.tx_node.specs.Sizes.{side, advance, glue_of_item}
 use Rattle.tx_node.specs.Setting.{glue_part}
 use Rattle.tx_pack.specs.declared.sums.Orders.{Orders}
 use Rattle.tx_pack.specs.declared.sums.Sums.{Sums}
 
--- the height and the depth that an item asks of a horizontal list's box; leaders ask for those of their rule, and a box that is
--- shifted down for less height and more depth
-abbrev pub shared_height : Shared → ℤ
-shared_height (Rule r) = side r.height
-shared_height (Leaders l) = side l.rule.height
-shared_height (Special text) = pos 0
+-- the rule that a larger item shows, that of leaders too; a special shows none, and has none of its sides
+abbrev pub rule_shown : Shared → RuleSides
+rule_shown (Rule r) = r
+rule_shown (Leaders l) = l.rule
+rule_shown (Special text) = record { width = None; height = None; depth = None }
 
-abbrev pub shared_depth : Shared → ℤ
-shared_depth (Rule r) = side r.depth
-shared_depth (Leaders l) = side l.rule.depth
-shared_depth (Special text) = pos 0
-
+-- the height and the depth that an item asks of a horizontal list's box; a box that is shifted down asks for less height and
+-- more depth
 abbrev pub height_asked : Item → ℤ
 height_asked (plain p) = pos 0
-height_asked (shared s) = shared_height s
+height_asked (shared s) = side (rule_shown s).height
 height_asked (boxed shift head inner) = head.height -ℤ shift
 
 abbrev pub depth_asked : Item → ℤ
 depth_asked (plain p) = pos 0
-depth_asked (shared s) = shared_depth s
+depth_asked (shared s) = side (rule_shown s).depth
 depth_asked (boxed shift head inner) = head.depth +ℤ shift
 
 -- the width that an item asks of a vertical list's box
-abbrev pub shared_width : Shared → ℤ
-shared_width (Rule r) = side r.width
-shared_width (Leaders l) = side l.rule.width
-shared_width (Special text) = pos 0
-
 abbrev pub width_asked : Item → ℤ
 width_asked (plain p) = pos 0
-width_asked (shared s) = shared_width s
+width_asked (shared s) = side (rule_shown s).width
 width_asked (boxed shift head inner) = head.width +ℤ shift
 
 -- the depth of a vertical list whose last item this is, where it was so deep before: that of a box or rule; none behind glue and

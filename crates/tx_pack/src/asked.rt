@@ -3,38 +3,20 @@ ghost use Rattle.std.specs.Prelude.{◌≡◌, ◌≤◌, ◌^◌, unsigned_abs}
 ghost use Rattle.tx_node.specs.Nodes.{item_of};
 ghost use Rattle.tx_pack.specs.Sums as spec;
 
-use tx_node::{Direction, Node, Plain, Shared, side};
+use tx_node::{Node, Plain, Rule, Shared, side};
 
-fn shared_height(item: &Shared) -> i64
-    ensures value { result ≡ spec.shared_height item.now }
-    ensures size { unsigned_abs result ≤ 2 ^ 31 }
+/// The rule that a larger item shows, that of leaders too; a special shows none, and has none of its sides.
+fn rule_shown(item: &Shared) -> Rule
+    ensures { result ≡ spec.rule_shown item.now }
 {
     match item {
-        Shared::Rule(rule) => i64::from(side(rule.height)),
-        Shared::Leaders(leaders) => i64::from(side(leaders.rule.height)),
-        Shared::Special(_) => 0,
-    }
-}
-
-fn shared_depth(item: &Shared) -> i64
-    ensures value { result ≡ spec.shared_depth item.now }
-    ensures size { unsigned_abs result ≤ 2 ^ 31 }
-{
-    match item {
-        Shared::Rule(rule) => i64::from(side(rule.depth)),
-        Shared::Leaders(leaders) => i64::from(side(leaders.rule.depth)),
-        Shared::Special(_) => 0,
-    }
-}
-
-fn shared_width(item: &Shared) -> i64
-    ensures value { result ≡ spec.shared_width item.now }
-    ensures size { unsigned_abs result ≤ 2 ^ 31 }
-{
-    match item {
-        Shared::Rule(rule) => i64::from(side(rule.width)),
-        Shared::Leaders(leaders) => i64::from(side(leaders.rule.width)),
-        Shared::Special(_) => 0,
+        Shared::Rule(rule) => *rule,
+        Shared::Leaders(leaders) => leaders.rule,
+        Shared::Special(_) => Rule {
+            width: None,
+            height: None,
+            depth: None,
+        },
     }
 }
 
@@ -44,7 +26,7 @@ pub fn height_asked(node: &Node) -> i64
 {
     match node {
         Node::Plain(_) => 0,
-        Node::Shared(item) => shared_height(item),
+        Node::Shared(item) => i64::from(side(rule_shown(item).height)),
         Node::Box(shift, inner) => i64::from(inner.height()) - i64::from(*shift),
     }
 }
@@ -55,7 +37,7 @@ pub fn depth_asked(node: &Node) -> i64
 {
     match node {
         Node::Plain(_) => 0,
-        Node::Shared(item) => shared_depth(item),
+        Node::Shared(item) => i64::from(side(rule_shown(item).depth)),
         Node::Box(shift, inner) => i64::from(inner.depth()) + i64::from(*shift),
     }
 }
@@ -66,7 +48,7 @@ pub fn width_asked(node: &Node) -> i64
 {
     match node {
         Node::Plain(_) => 0,
-        Node::Shared(item) => shared_width(item),
+        Node::Shared(item) => i64::from(side(rule_shown(item).width)),
         Node::Box(shift, inner) => i64::from(inner.width()) + i64::from(*shift),
     }
 }

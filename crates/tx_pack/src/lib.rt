@@ -3,7 +3,8 @@
 //! Proved: a box's sizes, how its glue is set, how bad that is, what is said of it and the rule at an overfull list's end
 //! are exactly as defined, and so is each error. Only tested: sizes and badnesses that Knuth's TeX gives.
 //!
-//! Modules in reading order: `types`, `sums`, `asked`, `stretching`, `verdicts`, `reports`, `packing`.
+//! Modules in reading order: `types`, `sums`, `asked`, `stretching`, `verdicts`, `reports`, `packing`,
+//! `tops`.
 #![tactic(auto)]
 
 mod asked;
@@ -11,8 +12,10 @@ mod packing;
 mod reports;
 mod stretching;
 mod sums;
+mod tops;
 mod types;
 mod verdicts;
 
 pub use packing::{hpack, vpack};
+pub use tops::vtop;
 pub use types::{Goal, PackError, PackParams, Packed};

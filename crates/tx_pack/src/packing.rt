@@ -35,7 +35,8 @@ fn along(direction: Direction, sums: &Sums) -> i64
     }
 }
 
-fn if_fits(size: i64) -> Option<i64>
+/// A size in sp, None where it is no dimension.
+pub(crate) fn if_fits(size: i64) -> Option<i64>
     ensures value { result ≡ spec.if_fits size }
     ensures dimension { IfSome result IsDimension }
 {
