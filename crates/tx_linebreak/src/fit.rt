@@ -1,6 +1,5 @@
 //! How a line fits, and its demerits (TeX: The Program, sections 851 to 859).
 ghost use Rattle.std.specs.Prelude.{◌≡◌, ◌<◌, ◌≤◌, ◌^◌, ◌≤ℤ◌, pos, length};
-ghost use Rattle.tx_num.specs.Badness.{badness_of, badness_of_ratio, ratio_of};
 ghost use Rattle.tx_linebreak.specs.Lines.{fit_of, line_width, shrunk, shrunk_class, stretched, stretched_class};
 ghost use Rattle.tx_linebreak.specs.Totals.{IsWithin};
 
@@ -8,9 +7,7 @@ use crate::line::Fit;
 use crate::params::LineShape;
 use crate::piece::Class;
 use crate::totals::Totals;
-
-/// The badness of what can't be set at all.
-const INFINITELY_BAD: u32 = 10_000;
+use tx_num::badness_of_sums;
 
 /// The shape of a line, by the number of lines before it.
 pub(crate) fn line_shape(shape: &[LineShape], lines: usize) -> LineShape
@@ -19,46 +16,6 @@ pub(crate) fn line_shape(shape: &[LineShape], lines: usize) -> LineShape
 {
     let last = shape.len() - 1;
     shape[lines.min(last)]
-}
-
-/// The badness of glue that can move by `s` and has to move by `t`. `tx_num::badness` is the same of sizes in 64 bits; one
-/// function over 128 bits there would serve both.
-fn badness(t: i128, s: i128) -> u32
-    requires { pos 0 ≤ℤ t }
-    ensures value { result ≡ badness_of t s }
-    ensures bound { result ≤ 10000 }
-{
-    if t == 0 {
-        return 0;
-    }
-    if s <= 0 {
-        return INFINITELY_BAD;
-    }
-    badness_at(ratio(t.unsigned_abs(), s.unsigned_abs()))
-}
-
-/// How often `s` goes into `t`, times 297, whose cube is about 100 times 2^18.
-fn ratio(t: u128, s: u128) -> u128
-    requires { 0 < s }
-    ensures { result ≡ ratio_of t s }
-{
-    if t <= 7_230_584 {
-        297 * t / s
-    } else if s >= 1_663_497 {
-        t / (s / 297)
-    } else {
-        t
-    }
-}
-
-fn badness_at(ratio: u128) -> u32
-    ensures value { result ≡ badness_of_ratio ratio }
-    ensures bound { result ≤ 10000 }
-{
-    if ratio > 1290 {
-        return INFINITELY_BAD;
-    }
-    ((ratio * ratio * ratio + 131_072) / 262_144) as u32
 }
 
 /// How a line of this shape with these totals fits.
@@ -85,7 +42,7 @@ fn stretched(totals: &Totals, excess: i128) -> Fit
             class: Class::Decent,
         };
     }
-    let badness = badness(excess, totals.stretch);
+    let badness = badness_of_sums(excess, totals.stretch);
     Fit::Set {
         badness,
         class: stretched_class(badness),
@@ -100,7 +57,7 @@ fn shrunk(totals: &Totals, excess: i128) -> Fit
     if totals.shrink < excess {
         return Fit::Overfull;
     }
-    let badness = badness(excess, totals.shrink);
+    let badness = badness_of_sums(excess, totals.shrink);
     Fit::Set {
         badness,
         class: shrunk_class(badness),
