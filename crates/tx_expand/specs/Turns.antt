@@ -205,6 +205,15 @@ abbrev pub is_skipping : List Begun → Bool
 is_skipping [] = false
 is_skipping (b ∷ outer) = skips b
 
+-- so does an \expandafter that waits for one: the token that it holds back
+abbrev pub waits : Begun → Bool
+waits begun.After = true
+waits other = false
+
+abbrev pub is_waiting : List Begun → Bool
+is_waiting [] = false
+is_waiting (b ∷ outer) = waits b
+
 -- whether the tokens of \the belong to the text that the caller takes: where it takes such, and nothing else has begun (section
 -- 478)
 abbrev pub for_text : Bool → List Begun → Bool
@@ -262,6 +271,18 @@ expanded w text t r meaning.Undefined = Fails Undefined
 expanded w text t r (meaning.Expandable e) = expands w text t.token r e
 expanded w text t r (meaning.Macro m) = uses m r
 expanded w text t r other = given_to w t r r.begun
+
+-- whether a token that means this is never expanded
+abbrev pub is_plain : Meaning → Bool
+is_plain meaning.Undefined = false
+is_plain (meaning.Expandable e) = false
+is_plain (meaning.Macro m) = false
+is_plain other = true
+
+-- whether it is the caller's, however that wants it: nothing has begun
+abbrev pub passes : Meaning → List Begun → Bool
+passes m [] = is_plain m
+passes m (b ∷ outer) = false
 
 abbrev pub is_expanding : Want → Bool
 is_expanding Raw = false

@@ -114,6 +114,9 @@ impl Expander {
             Next::Token(token) => {
                 let meaning = table.meaning(&token)?;
                 let seen = Seen { token, meaning };
+                if self.open.passes(&seen.meaning) {
+                    return Ok(Expanded::Got(seen));
+                }
                 self.open.read(alloc, input, table, mode, wanted, seen)
             }
             Next::Held(token) => {

@@ -97,6 +97,21 @@ fn is_skipping(begun: &VecDeque<Begun>) -> bool
     matches!(begun.front(), Some(Begun::Skipping(_)))
 }
 
+/// Whether the innermost expansion is an \expandafter that waits for the token that it holds back.
+fn is_waiting(begun: &VecDeque<Begun>) -> bool
+    ensures { result ≡ turns.is_waiting begun.now.items }
+{
+    matches!(begun.front(), Some(Begun::After))
+}
+
+/// From now on it holds this token back, in the same place among those that have begun.
+fn hold_back(begun: &mut VecDeque<Begun>, token: Token)
+    requires { turns.is_waiting begun.old.items ≡ true }
+    ensures { (outer : List Begun) → begun.old.items ≡ Begun.After ∷ outer → begun.new.items ≡ Begun.Before token ∷ outer }
+{
+    begun[0] = Begun::Before(token);
+}
+
 /// A token joins what an expansion reads. Its only error is want of memory.
 fn read_by(
     alloc: Global,
@@ -390,7 +405,26 @@ impl Open {
     }
 
     /// The innermost expansion takes a token, or the caller does. Its only error is want of memory.
+    #[inline(always)]
     fn take(
+        &mut self,
+        alloc: Global,
+        input: &mut Pending,
+        table: &Eqtb,
+        token: Seen,
+    ) -> Result<Expanded, AllocError>
+        ensures { (any : Any_mode) → IfOk result (IsTurned (given_to (world_of table.now any) token (reader_of self.old input.old) self.old.begun.items) (reader_of self.new input.new)) }
+    {
+        if self.begun.is_empty() {
+            return Ok(Expanded::Got(token));
+        }
+        self.take_within(alloc, input, table, token)
+    }
+
+    /// The same in a function of its own, so that a token which is the caller's isn't moved on its way through it. Its only
+    /// error is want of memory.
+    #[inline(never)]
+    fn take_within(
         &mut self,
         alloc: Global,
         input: &mut Pending,
@@ -404,6 +438,10 @@ impl Open {
         }
         if is_skipping(&self.begun) {
             return self.skip_on(input, token);
+        }
+        if is_waiting(&self.begun) {
+            hold_back(&mut self.begun, token_of(token));
+            return Ok(Expanded::Went);
         }
         match self.begun.pop_front() {
             Some(begun) => self.take_by(alloc, input, table, begun, token),
@@ -526,15 +564,15 @@ impl Open {
         &mut self,
         alloc: Global,
         input: &mut Pending,
-        made: Macro,
+        made: &Macro,
     ) -> Result<Expanded, AllocError>
-        ensures { IfOk result (IsTurned (uses made (reader_of self.old input.old)) (reader_of self.new input.new)) }
+        ensures { IfOk result (IsTurned (uses made.now (reader_of self.old input.old)) (reader_of self.new input.new)) }
     {
-        if is_bare(&made) {
-            input.push_use(&made, &[])?;
+        if is_bare(made) {
+            input.push_use(made, &[])?;
             self.went(input)
         } else {
-            self.begin(Begun::Use(Using::new(alloc, made)?))
+            self.begin(Begun::Use(Using::new(alloc, made.share()?)?))
         }
     }
 
@@ -551,14 +589,14 @@ impl Open {
     ) -> Result<Expanded, AllocError>
         ensures { IfOk result (IsTurned (expanded (world_of table.now mode) text token (reader_of self.old input.old) token.meaning) (reader_of self.new input.new)) }
     {
-        let Seen { token, meaning } = token;
-        match meaning {
+        match &token.meaning {
             Meaning::Undefined => Ok(Expanded::Wrong(TexError::Undefined)),
-            Meaning::Expandable(primitive) => self.expand_primitive(
-                alloc, input, table, mode, text, token, primitive,
-            ),
+            Meaning::Expandable(primitive) => {
+                let primitive = *primitive;
+                self.expand_primitive(alloc, input, table, mode, text, token_of(token), primitive)
+            }
             Meaning::Macro(made) => self.use_macro(alloc, input, made),
-            meaning => self.take(alloc, input, table, Seen { token, meaning }),
+            _ => self.take(alloc, input, table, token),
         }
     }
 
@@ -612,8 +650,16 @@ impl Open {
         }
     }
 
-    /// A token is read. Its only error is want of memory.
+    /// Whether a token that means this is the caller's, however it wants it.
     #[inline(always)]
+    pub(crate) fn passes(&self, meaning: &Meaning) -> bool
+        ensures { result ≡ turns.passes meaning.now self.now.begun.items }
+    {
+        self.begun.is_empty() && is_plain(meaning)
+    }
+
+    /// A token is read. Its only error is want of memory.
+    #[inline(never)]
     pub(crate) fn read(
         &mut self,
         alloc: Global,
@@ -658,6 +704,17 @@ pub fn escape_of(table: &Eqtb) -> Option<u8>
     ensures { result ≡ escape_of table.now }
 {
     byte(i64::from(table.number(&Place::Integer(IntegerParameter::Escapechar))))
+}
+
+/// Whether a token that means this is never expanded.
+#[inline(always)]
+fn is_plain(meaning: &Meaning) -> bool
+    ensures { result ≡ turns.is_plain meaning.now }
+{
+    !matches!(
+        meaning,
+        Meaning::Undefined | Meaning::Expandable(_) | Meaning::Macro(_)
+    )
 }
 
 /// Whether a macro has nothing in its parameter text.

@@ -1,5 +1,5 @@
 use Rattle.std.proofs.Common.{◌≡◌, ◌∷◌}
-use Rattle.tx_expand.proofs.state.Open.take.Goals as goal
+use Rattle.tx_expand.proofs.state.Open.take_within.Goals as goal
 
 pub returns-in-Some : goal.returns-in-Some
 returns-in-Some c = λ any.
