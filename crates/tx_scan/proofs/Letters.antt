@@ -72,7 +72,7 @@ skipped-more : (word : List ℕ) (read : ℕ) (t : Seen) → skips word read t �
 skipped-more word zero t s = word-more word t (space-first word t (begins_with word t) (is_space t) refl s)
 skipped-more word (suc read) t s = absurd (cc)
 
-skipped-none : (word : List ℕ) (read : ℕ) (t : Seen) → skips word read t ≡ true → read ≡ 0
+pub skipped-none : (word : List ℕ) (read : ℕ) (t : Seen) → skips word read t ≡ true → read ≡ 0
 skipped-none word zero t s = refl
 skipped-none word (suc read) t s = absurd (cc)
 

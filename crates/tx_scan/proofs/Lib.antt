@@ -14,3 +14,5 @@ pub mod Settling
 pub mod GivingBack
 pub mod Quantities
 pub mod Behind
+pub mod Keys
+pub mod GlueSteps

@@ -1,5 +1,5 @@
 -- The scan of a dimension means the rest of the dimension.
-use Rattle.std.specs.Prelude.{ℕ, zero, suc, ◌+◌, ◌∷◌, [], Bool, false, Option, None, Some, ℤ, pos, neg_ℤ, ◌≤ℤ◌, List}
+use Rattle.std.specs.Prelude.{ℕ, zero, suc, ◌+◌, ◌∷◌, [], Bool, false, Option, None, Some, pos, neg_ℤ, ◌≤ℤ◌, List}
 use Rattle.tx_num.specs.Decimals.{fraction_of}
 use Rattle.tx_seen.specs.declared.fed.Fed.{Fed}
 use Rattle.tx_seen.specs.declared.fed.Fed.TheVariants as fed

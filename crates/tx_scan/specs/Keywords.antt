@@ -4,7 +4,7 @@ use Rattle.tx_seen.specs.declared.fed.Want.TheVariants.{Expanded}
 use Rattle.tx_seen.specs.declared.fed.Fed.{Fed}
 use Rattle.tx_seen.specs.declared.fed.Fed.TheVariants as fed
 use Rattle.tx_seen.specs.declared.seen.Seen.{Seen}
-use Rattle.tx_seen.specs.Seen.{is_space, is_key}
+use Rattle.tx_seen.specs.Seen.{is_space, is_key, is_undefined}
 use Rattle.tx_seen.specs.declared.item.Item.{Item}
 use Rattle.tx_seen.specs.declared.item.Item.TheVariants.{Took, Gave}
 use Rattle.tx_seen.specs.Readings.{Reading, More, Done}
@@ -73,3 +73,14 @@ IsGone word old t new (fed.Need kind) = ⊥
 IsGone word old t new (fed.Done true back) = Unit {0}
 IsGone word old t new (fed.Done false back) = back ≡ old.read + 1
 IsGone word old t new (fed.Wrong error) = Unit {0}
+
+-- a token is the next letter of a word of which so many are read
+abbrev pub Spells : List ℕ → ℕ → Seen → Type 0
+Spells word read t = (is_undefined t ≡ false) × ((c : ℕ) × ((drop read word ≡ c ∷ drop (read + 1) word) × (is_key c t ≡ true)))
+
+-- one more token with which a word goes on is a space before it, or its next letter
+abbrev pub IsSpelled : List ℕ → KeyScan → Seen → KeyScan → Fed Bool → Type 0
+IsSpelled word old t new (fed.More want) = ((old.read ≡ 0) × (new.read ≡ 0)) ⊎ ((new.read ≡ old.read + 1) × Spells word old.read t)
+IsSpelled word old t new (fed.Need kind) = ⊥
+IsSpelled word old t new (fed.Done found back) = Unit {0}
+IsSpelled word old t new (fed.Wrong error) = Unit {0}

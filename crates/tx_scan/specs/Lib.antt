@@ -14,3 +14,5 @@ pub mod ControlNames
 pub mod FileNames
 pub mod Settled
 pub mod Mapped
+pub mod Glues
+pub mod GlueRests

@@ -1,7 +1,7 @@
 //! Clones of scans. Each is the same as its source; its only error is want of memory.
 ghost use Rattle.std.specs.Prelude.{◌≡◌};
 
-use crate::scans::{DimenScan, IntScan};
+use crate::scans::{DimenScan, GlueScan, IntScan};
 use std::alloc::AllocError;
 
 impl Clone for IntScan {
@@ -31,6 +31,19 @@ impl Clone for DimenScan {
             digits: self.digits.clone()?,
             number: self.number.clone()?,
             behind,
+        })
+    }
+}
+
+impl Clone for GlueScan {
+    ghost is_clone = { λ source copy. copy ≡ source };
+
+    fn clone(&self) -> Result<Self, AllocError> {
+        Ok(GlueScan {
+            mu: self.mu,
+            stage: self.stage,
+            size: self.size.clone()?,
+            glue: self.glue,
         })
     }
 }

@@ -5,7 +5,7 @@ ghost use Rattle.tx_seen.specs.declared.item.Item.TheVariants.{Took};
 ghost use Rattle.tx_seen.specs.Readings.{Answers};
 ghost use Rattle.tx_scan.specs.Rests.{IsFedBy};
 ghost use Rattle.tx_scan.specs.Supplied.{NeedsNothing};
-ghost use Rattle.tx_scan.specs.Keywords.{keyword, begun_word, skips, HasTaken, IsGone, IsReadOn};
+ghost use Rattle.tx_scan.specs.Keywords.{keyword, begun_word, skips, HasTaken, IsGone, IsReadOn, IsSpelled};
 ghost use Rattle.tx_scan.specs.Keywords as words;
 
 use crate::scans::KeyScan;
@@ -28,6 +28,7 @@ impl KeyScan {
         ensures nothing { NeedsNothing result }
         ensures reading { self.old.read < length word.now → IsReadOn word.now self.new result }
         ensures gone { IsGone word.now self.old token.now self.new result }
+        ensures spelled { IsSpelled word.now self.old token.now self.new result }
     {
         self.behind(word, token)
     }
@@ -38,6 +39,7 @@ impl KeyScan {
         ensures nothing { NeedsNothing result }
         ensures reading { self.old.read < length word.now → IsReadOn word.now self.new result }
         ensures gone { IsGone word.now self.old token.now self.new result }
+        ensures spelled { IsSpelled word.now self.old token.now self.new result }
     {
         if self.skips(word, token) {
             return Fed::More(Want::Expanded);

@@ -1,4 +1,4 @@
-//! Scans: what is read off tokens as TeX expands them: integers, dimensions, keywords, an optional `=`, a begin-group token,
+//! Scans: what is read off tokens as TeX expands them: integers, dimensions, glue, keywords, an optional `=`, a begin-group token,
 //! names, names that are spelled out, and names of files. A scan is fed token by token, asks for the values that only its
 //! caller knows, and gives back the tokens that aren't part of what it reads. A scan can be a part of a longer one: its
 //! answers say what reading on from it gives.
@@ -6,7 +6,7 @@
 //! Proved: each scan answers exactly what its grammar gives of all tokens and values that were taken; an integer's answers
 //! are final. Only tested: that the grammars are Knuth's, on numbers, keywords and names that his program reads alike.
 //!
-//! Read `scans`, `beginnings` and `lists`, then `integer`, `dimension`, `keyword` and `grammars`; `spellings`, `control_name` and
+//! Read `scans`, `beginnings` and `lists`, then `integer`, `dimension`, `keyword`, `glue` and `grammars`; `spellings`, `control_name` and
 //! `file_name`; and `supplying`, `giving_back` and `laws`.
 #![tactic(auto)]
 
@@ -17,6 +17,7 @@ mod dimension;
 mod file_name;
 mod fraction;
 mod giving_back;
+mod glue;
 mod grammars;
 mod integer;
 mod keyword;
@@ -35,8 +36,8 @@ pub use integer::byte;
 pub use laws::integers_are_read_from_the_left;
 pub use lists::list_begun;
 pub use scans::{
-    Beginning, BraceScan, DimenScan, EqualsScan, IntScan, KeyScan, ListBegun, Measure, NameScan,
-    Order, Units,
+    Beginning, BraceScan, DimenScan, EqualsScan, GlueScan, IntScan, KeyScan, ListBegun, Measure,
+    NameScan, Order, Units,
 };
 pub use spellings::{ControlNameScan, FileNameScan};
 pub use supplying::{Needs, supply};

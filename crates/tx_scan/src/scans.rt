@@ -1,9 +1,9 @@
 //! How far a scan is.
-ghost use Rattle.std.specs.Prelude.{◌≤◌};
+ghost use Rattle.std.specs.Prelude.{◌≤◌, ◌<◌};
 
 use crate::fraction::Digits;
 use tx_list::Stack;
-use tx_num::PhysicalUnit;
+use tx_num::{Glue, PhysicalUnit};
 use tx_prim::Numbered;
 use tx_seen::{Place, Seen, TexError};
 
@@ -229,4 +229,55 @@ pub struct DimenScan {
     pub(crate) number: IntScan,
     /// The token behind the register of a number that is the factor, where that waits for its value.
     pub(crate) behind: Option<Seen>,
+}
+
+/// The letters of `plus` that are read. So many of their tokens are held: those from the first on that is no space, since
+/// `minus` skips spaces.
+#[derive(Clone, Copy)]
+pub struct PlusScan {
+    pub(crate) read: usize,
+    pub(crate) held: usize,
+    ghost within: { read < 4 },
+    ghost few: { held ≤ read },
+}
+
+/// The letters of `minus` that are read, whose tokens are held.
+#[derive(Clone, Copy)]
+pub struct MinusScan {
+    pub(crate) read: usize,
+    ghost within: { read < 5 },
+}
+
+/// A size of glue.
+#[derive(Clone, Copy)]
+pub enum GluePart {
+    /// The natural width.
+    Width,
+    /// How far it stretches.
+    Stretch,
+    /// How far it shrinks.
+    Shrink,
+}
+
+/// The part of glue that comes next.
+#[derive(Clone, Copy)]
+pub enum GlueStage {
+    /// This size.
+    Size(GluePart),
+    /// The letters of `plus`, or what stands in their place.
+    Plus(PlusScan),
+    /// The letters of `minus`, or what stands in their place.
+    Minus(MinusScan),
+}
+
+/// Glue that is being scanned.
+#[derive(Drop)]
+pub struct GlueScan {
+    /// Whether it is told in mu.
+    pub(crate) mu: bool,
+    pub(crate) stage: GlueStage,
+    /// A size of it.
+    pub(crate) size: DimenScan,
+    /// The glue as it is so far.
+    pub(crate) glue: Glue,
 }

@@ -1,5 +1,5 @@
-use Rattle.std.proofs.Common.{rules, arith}
-use Rattle.tx_scan.proofs.Letters.{skipped-space, has-skipped, no-letter, undefined-letter, other-letter, early-letter, has-letter}
+use Rattle.std.proofs.Common.{inl, inr, rules, arith}
+use Rattle.tx_scan.proofs.Letters.{skipped-space, has-skipped, no-letter, undefined-letter, other-letter, early-letter, has-letter, skipped-none}
 use Rattle.tx_scan.proofs.scans.KeyScan.behind.Goals as goal
 
 pub returns-then-skips-clause-part : goal.returns-then-skips-clause-part
@@ -31,3 +31,11 @@ returns-in-Some-expected-clause-part c = λ behind short. (
   omega arith,
   has-letter c.args.word.now c.args.self.now behind c.args.token.now c.in-Some.letter short (search rules) c.in-Some.ensures.letter (search rules) (search rules),
 )
+
+pub returns-then-skips-clause-spelled : goal.returns-then-skips-clause-spelled
+returns-then-skips-clause-spelled c =
+    let none = skipped-none c.args.word.now c.args.self.now.read c.args.token.now (search rules) in
+    inl (none, none)
+
+pub returns-in-Some-expected-clause-spelled : goal.returns-in-Some-expected-clause-spelled
+returns-in-Some-expected-clause-spelled c = inr (search rules, (search rules, (c.in-Some.letter, (c.in-Some.ensures.letter, search rules))))
