@@ -299,6 +299,10 @@ wanted_by wanted (begun.Before t ∷ outer) = Expanded
 wanted_by wanted (begun.Scanning scan ∷ outer) = want_of (reading scan.what scan.taken)
 wanted_by wanted (b ∷ outer) = Raw
 
+-- whether a macro is used where it comes next
+abbrev pub expands_macro : Wanted → Definition → List Begun → Bool
+expands_macro wanted m opened = not m.outer && is_expanding (wanted_by wanted opened)
+
 -- the error at an \outer macro and where a file ends: text is skipped, or an argument or a text is taken (sections 336 and 338);
 -- nothing begins within skipped text or an argument, whose tokens aren't expanded
 abbrev pub in_text : Bool → Option TexError

@@ -16,7 +16,7 @@ use tx_cond::CondStack;
 use tx_eqtb::Eqtb;
 use tx_pending::{Next, Pending};
 use tx_prim::Mode;
-use tx_seen::{Seen, TexError};
+use tx_seen::{Meaning, Seen, TexError};
 
 /// What has begun and hasn't ended, between the input and the one who carries commands out. Contracts see the expansions and
 /// the conditionals, the innermost first each, and the main file's name.
@@ -117,7 +117,12 @@ impl Expander {
                 if self.open.passes(&seen.meaning) {
                     return Ok(Expanded::Got(seen));
                 }
-                self.open.read(alloc, input, table, mode, wanted, seen)
+                match &seen.meaning {
+                    Meaning::Macro(made) if self.open.expands(wanted, made) => {
+                        self.open.use_macro(alloc, input, made)
+                    }
+                    _ => self.open.read(alloc, input, table, mode, wanted, seen),
+                }
             }
             Next::Held(token) => {
                 let meaning = table.meaning(&token)?;

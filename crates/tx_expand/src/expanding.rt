@@ -560,7 +560,7 @@ impl Open {
     }
 
     /// The use of a macro. Its only error is want of memory.
-    fn use_macro(
+    pub(crate) fn use_macro(
         &mut self,
         alloc: Global,
         input: &mut Pending,
@@ -658,8 +658,16 @@ impl Open {
         self.begun.is_empty() && is_plain(meaning)
     }
 
+    /// Whether a macro is used where it comes next: a token is wanted expanded, and the macro isn't \outer.
+    #[inline(always)]
+    pub(crate) fn expands(&self, wanted: Wanted, made: &Macro) -> bool
+        ensures { result ≡ turns.expands_macro wanted made.now self.now.begun.items }
+    {
+        !made.is_outer() && matches!(self.want(wanted), Want::Expanded)
+    }
+
     /// A token is read. Its only error is want of memory.
-    #[inline(never)]
+    #[inline(always)]
     pub(crate) fn read(
         &mut self,
         alloc: Global,
