@@ -2,7 +2,7 @@
 //! are in each, or those that come out otherwise. Each module says what its cases are given.
 //!
 //! Read `numbers`, `files`, `scripts`, `pages`, `tokens`, `names`, `primitives`, `lists`, `boxes` and
-//! `packing`, and `outside`.
+//! `packing`, `paragraphs`, and `outside`.
 #![tactic(auto)]
 
 mod boxes;
@@ -13,6 +13,7 @@ mod numbers;
 mod outside;
 mod packing;
 mod pages;
+mod paragraphs;
 mod primitives;
 mod scripts;
 mod tokens;
@@ -74,6 +75,7 @@ fn write_row(alloc: Global, text: &mut String, word: &str, rest: &str) -> Result
         | "standing" => { primitives::write_answer(text, word, rest) }
         "box" | "twin" | "alike" | "page" | "body" => boxes::write_answer(alloc, text, word, rest),
         "hpack" | "vpack" => packing::write_answer(alloc, text, word, rest),
+        "breaks" => paragraphs::write_answer(alloc, text, rest),
         "category" | "change" | "same" | "copy" | "tokens" | "middle" | "ended" => {
             tokens::write_answer(alloc, text, word, rest)
         }

@@ -5,6 +5,7 @@ pub mod Kept
 pub mod Links
 pub mod Levels
 pub mod Summing
+pub mod LineStarts
 pub mod Shapes
 pub mod Costs
 pub mod Offering

@@ -3,6 +3,7 @@ ghost use Rattle.std.specs.Prelude.{◌≡◌, ◌<◌, ◌≤◌, ◌^◌, ◌+
 ghost use Rattle.tx_linebreak.specs.Breaks.{discretionary_at, is_forced, past_discardables, start_of};
 ghost use Rattle.tx_linebreak.specs.Chains.{is_last_pass, is_overfull, is_tolerable, line_set, tolerance_of};
 ghost use Rattle.tx_linebreak.specs.Lines.{begin_width, begins_hyphened, demerits_of, end_width, first_place, is_last, line_fit, line_totals};
+ghost use Rattle.tx_linebreak.specs.Sums.{AreStarts};
 ghost use Rattle.tx_linebreak.specs.Tasks.{IsTask, attempt_of};
 ghost use Rattle.tx_linebreak.specs.Totals.{IsWithin, rigid, totals_of};
 
@@ -14,12 +15,13 @@ use crate::piece::{Class, Discretionary, Piece};
 use crate::totals::Totals;
 use tx_num::Scaled;
 
-/// A pass over a list: its pieces, the totals before each of its places, the shapes of lines, the parameters, and what stands
+/// A pass over a list: its pieces, the totals before each of its places, where lines start, the shapes of lines, the parameters, and what stands
 /// in each line.
 #[derive(Clone, Copy)]
 pub(crate) struct Task<'a> {
     pub pieces: &'a [Piece],
     pub sums: &'a [Totals],
+    pub starts: &'a [usize],
     pub shape: &'a [LineShape],
     pub params: &'a BreakParams,
     pub pass: Pass,
@@ -27,14 +29,14 @@ pub(crate) struct Task<'a> {
 }
 
 /// The first place, from this one on, whose piece doesn't vanish behind a break.
-fn past_discardables(pieces: &[Piece], place: usize) -> usize
+fn past_discardables(pieces: &[Piece], starts: &[usize], place: usize) -> usize
+    requires { AreStarts starts.now pieces.now }
     ensures { result ≡ past_discardables pieces.now place }
 {
-    let mut at = place;
-    while at < pieces.len() && pieces[at].is_discardable() {
-        at += 1;
+    if place > pieces.len() {
+        return place;
     }
-    at
+    starts[place]
 }
 
 /// The discretionary at a place, if there is one.
@@ -49,16 +51,17 @@ fn discretionary_at(pieces: &[Piece], place: usize) -> Option<Discretionary>
 
 /// The first place of the line behind a break.
 #[tactic(auto, unfolding(crate::specs::Breaks::start_of))]
-fn start(pieces: &[Piece], place: usize) -> usize
-    requires { place < length pieces.now }
+fn start(pieces: &[Piece], starts: &[usize], place: usize) -> usize
+    requires starts { AreStarts starts.now pieces.now }
+    requires place { place < length pieces.now }
     ensures { result ≡ start_of pieces.now place }
 {
     match discretionary_at(pieces, place) {
-        None => past_discardables(pieces, place + 1),
+        None => past_discardables(pieces, starts, place + 1),
         Some(d) => {
             let behind = place + 1 + d.replaced as usize;
             match d.behind {
-                None => past_discardables(pieces, behind),
+                None => past_discardables(pieces, starts, behind),
                 Some(_) => behind,
             }
         }
@@ -66,13 +69,14 @@ fn start(pieces: &[Piece], place: usize) -> usize
 }
 
 /// The place of a line's first piece.
-fn first_place(pieces: &[Piece], from: Option<usize>) -> usize
-    requires { IfSome from (λ place. place < length pieces.now) }
+fn first_place(pieces: &[Piece], starts: &[usize], from: Option<usize>) -> usize
+    requires starts { AreStarts starts.now pieces.now }
+    requires from { IfSome from (λ place. place < length pieces.now) }
     ensures { result ≡ first_place pieces.now from }
 {
     match from {
         None => 0,
-        Some(place) => start(pieces, place),
+        Some(place) => start(pieces, starts, place),
     }
 }
 
@@ -149,7 +153,7 @@ impl Task<'_> {
         ensures value { result ≡ totals_of (slice_range self.now.pieces.now (first_place self.now.pieces.now from) place) }
         ensures small { IsWithin (2 ^ 95) result }
     {
-        let first = first_place(self.pieces, from).min(place);
+        let first = first_place(self.pieces, self.starts, from).min(place);
         let until = self.sums[place];
         let before = self.sums[first];
         until.minus(&before)

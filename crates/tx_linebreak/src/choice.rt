@@ -5,7 +5,7 @@ ghost use Rattle.tx_linebreak.specs.declared.params.Pass.TheVariants.{Emergency}
 ghost use Rattle.tx_linebreak.specs.Chains.{chains_of, is_last_pass};
 ghost use Rattle.tx_linebreak.specs.Chosen.{IsAnswer, IsBestAnswer, IsEnded, attempt, has_endless_shrink};
 ghost use Rattle.tx_linebreak.specs.Lines.{background, skips};
-ghost use Rattle.tx_linebreak.specs.Sums.{AreSums};
+ghost use Rattle.tx_linebreak.specs.Sums.{AreStarts, AreSums};
 ghost use Rattle.tx_linebreak.specs.Tasks.{IsTask, attempt_of};
 ghost use Rattle.tx_linebreak.specs.Totals.{IsWithin};
 
@@ -16,6 +16,7 @@ use crate::endless::has_endless_shrink;
 use crate::error::BreakError;
 use crate::params::{BreakParams, LineShape, Pass, Shape};
 use crate::piece::{Piece, Pieces};
+use crate::starts::running_starts;
 use crate::told::told;
 use crate::totals::{Totals, running_sums};
 use std::alloc::{AllocError, Global};
@@ -49,15 +50,17 @@ fn background(params: &BreakParams, pass: Pass) -> Totals
 }
 
 impl<'a> Task<'a> {
-    /// A pass over a list, given the totals before each of its places.
+    /// A pass over a list, given the totals before each of its places, and where lines start.
     fn new(
         pieces: &'a [Piece],
         sums: &'a [Totals],
+        starts: &'a [usize],
         shape: &'a [LineShape],
         params: &'a BreakParams,
         pass: Pass,
     ) -> Task<'a>
         requires sums { AreSums sums.now pieces.now }
+        requires starts { AreStarts starts.now pieces.now }
         requires shaped { 0 < length shape.now }
         ensures task { IsTask result }
         ensures attempt { attempt_of result ≡ attempt pieces.now shape.now params.now pass }
@@ -65,6 +68,7 @@ impl<'a> Task<'a> {
         Task {
             pieces,
             sums,
+            starts,
             shape,
             params,
             pass,
@@ -93,21 +97,23 @@ fn choose(
     alloc: Global,
     pieces: &[Piece],
     sums: &[Totals],
+    starts: &[usize],
     shape: &[LineShape],
     params: &BreakParams,
 ) -> Result<Chosen, AllocError>
     requires sums { AreSums sums.now pieces.now }
+    requires starts { AreStarts starts.now pieces.now }
     requires shaped { 0 < length shape.now }
     requires ended { IsEnded pieces.now }
     ensures { IfOk result (λ chosen. IsAnswer pieces.now shape.now params.now chosen) }
 {
     if params.pretolerance >= 0 {
-        let first = Task::new(pieces, sums, shape, params, Pass::First);
+        let first = Task::new(pieces, sums, starts, shape, params, Pass::First);
         if let Some(chosen) = first.find(alloc)? {
             return Ok(chosen);
         }
     }
-    let second = Task::new(pieces, sums, shape, params, Pass::Second);
+    let second = Task::new(pieces, sums, starts, shape, params, Pass::Second);
     let found = second.find(alloc)?;
     if params.emergency_stretch <= 0 {
         return Ok(found.unwrap());
@@ -115,7 +121,7 @@ fn choose(
     if let Some(chosen) = found {
         return Ok(chosen);
     }
-    let third = Task::new(pieces, sums, shape, params, Pass::Emergency);
+    let third = Task::new(pieces, sums, starts, shape, params, Pass::Emergency);
     Ok(third.find(alloc)?.unwrap())
 }
 
@@ -141,5 +147,7 @@ pub fn breaks(
         return Err(BreakError::InfiniteShrink);
     }
     let sums = running_sums(alloc, list)?;
-    Ok(choose(alloc, list, sums.as_slice(), shape.as_slice(), params)?)
+    let starts = running_starts(alloc, list)?;
+    let (sums, starts) = (sums.as_slice(), starts.as_slice());
+    Ok(choose(alloc, list, sums, starts, shape.as_slice(), params)?)
 }

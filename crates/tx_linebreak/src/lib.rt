@@ -7,7 +7,7 @@
 //! that has one; it is enough to keep the best chain of each candidate. Only tested: that the definitions are TeX's, on
 //! paragraphs that Knuth's program breaks at the same places.
 //!
-//! Modules in reading order: `piece`, `params`, `answer`, `error`; `legal`, `totals`, `fit`, `demerits`, `attempt`; `line`,
+//! Modules in reading order: `piece`, `params`, `answer`, `error`; `legal`, `totals`, `starts`, `fit`, `demerits`, `attempt`; `line`,
 //! `link`, `chains`, `offers`; `trial`, `trials`, `reach`, `advance`; `best`, `told`, `endless`, `ended`, `choice`; `law`.
 #![tactic(auto)]
 
@@ -30,6 +30,7 @@ mod offers;
 mod params;
 mod piece;
 mod reach;
+mod starts;
 mod told;
 mod totals;
 mod trial;

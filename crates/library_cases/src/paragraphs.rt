@@ -1,0 +1,198 @@
+//! Cases of tx_linebreak.
+ghost use Rattle.std.specs.Prelude.{IfSome};
+ghost use Rattle.tx_num.specs.Glue.{IsDimension};
+
+use std::alloc::{AllocError, Global};
+use tx_cases::first_word;
+use tx_linebreak::{
+    BreakError, BreakParams, Chosen, Discretionary, LineShape, Piece, Pieces, Shape, breaks,
+    is_ended,
+};
+use tx_num::{Glue, Range};
+
+/// Why there is no answer.
+#[derive(Drop)]
+enum Fault {
+    /// The text is no paragraph's, or its list doesn't end as it has to.
+    Malformed,
+    /// The list can't be broken.
+    Unbroken(BreakError),
+}
+
+impl From<AllocError> for Fault {
+    fn from(error: AllocError) -> Fault {
+        Fault::Unbroken(BreakError::from(error))
+    }
+}
+
+/// `breaks WIDTHS WORD..`: the widths of lines with commas between them; then parameters, as `tolerance=200`, which begin as
+/// INITEX has them, and the list: `bN` a box, `kN` a kern, `gW,S,O,T,P` glue of width W that stretches by S of order O and
+/// shrinks by T of order P, `pN` a penalty, `dA,B,N` a discretionary with the texts A before and B behind a break, `-` for an
+/// empty one, and N pieces of no-break text, `hA,B,N` one that hyphenation made, `(N` and `)N` the ends of mathematics. All
+/// sizes are in points.
+///
+/// The answer is the places of the breaks, the demerits, the pass, and the places to which no line fitted.
+pub fn write_answer(alloc: Global, text: &mut String, rest: &str) -> Result<(), AllocError> {
+    match broken(alloc, rest) {
+        Ok(chosen) => write_chosen(text, &chosen),
+        Err(Fault::Malformed) => text.push_str("malformed"),
+        Err(Fault::Unbroken(BreakError::InfiniteShrink)) => text.push_str("infinite shrink"),
+        Err(Fault::Unbroken(BreakError::OutOfMemory)) => Err(AllocError),
+    }
+}
+
+fn broken(alloc: Global, text: &str) -> Result<Chosen, Fault> {
+    let (widths, words) = first_word(text);
+    let shape = shape_of(alloc, widths)?;
+    let mut params = initex();
+    let mut list = Pieces::new(alloc);
+    for word in words.split(' ') {
+        put(&mut params, &mut list, word)?;
+    }
+    if shape.is_empty() || !is_ended(&list) {
+        return Err(Fault::Malformed);
+    }
+    breaks(alloc, &list, &shape, &params).map_err(Fault::Unbroken)
+}
+
+fn shape_of(alloc: Global, widths: &str) -> Result<Shape, Fault> {
+    let mut shape = Shape::new(alloc);
+    for width in widths.split(',') {
+        let width = dimension(width).ok_or(Fault::Malformed)?;
+        shape.push(LineShape { indent: 0, width })?;
+    }
+    Ok(shape)
+}
+
+/// The parameters as INITEX begins with them.
+fn initex() -> BreakParams {
+    BreakParams {
+        pretolerance: 0,
+        tolerance: 10_000,
+        emergency_stretch: 0,
+        line_penalty: 0,
+        hyphen_penalty: 0,
+        ex_hyphen_penalty: 0,
+        adj_demerits: 0,
+        double_hyphen_demerits: 0,
+        final_hyphen_demerits: 0,
+        left_skip: Glue::zero(),
+        right_skip: Glue::zero(),
+    }
+}
+
+/// Sets a parameter, or puts a piece into the list.
+fn put(params: &mut BreakParams, list: &mut Pieces, word: &str) -> Result<(), Fault> {
+    match word.split_once('=') {
+        Some((name, value)) => set(params, name, value).ok_or(Fault::Malformed),
+        None => Ok(list.push(piece_of(word).ok_or(Fault::Malformed)?)?),
+    }
+}
+
+fn set(params: &mut BreakParams, name: &str, value: &str) -> Option<()> {
+    match name {
+        "pretolerance" => params.pretolerance = value.parse().ok()?,
+        "tolerance" => params.tolerance = value.parse().ok()?,
+        "emergencystretch" => params.emergency_stretch = dimension(value)?,
+        "linepenalty" => params.line_penalty = value.parse().ok()?,
+        "hyphenpenalty" => params.hyphen_penalty = value.parse().ok()?,
+        "exhyphenpenalty" => params.ex_hyphen_penalty = value.parse().ok()?,
+        "adjdemerits" => params.adj_demerits = value.parse().ok()?,
+        "doublehyphendemerits" => params.double_hyphen_demerits = value.parse().ok()?,
+        "finalhyphendemerits" => params.final_hyphen_demerits = value.parse().ok()?,
+        "leftskip" => params.left_skip = glue_of(value)?,
+        "rightskip" => params.right_skip = glue_of(value)?,
+        _ => return None,
+    }
+    Some(())
+}
+
+fn piece_of(word: &str) -> Option<Piece> {
+    if let Some(width) = word.strip_prefix('b') {
+        return Some(Piece::Solid(points(width)?));
+    }
+    if let Some(width) = word.strip_prefix('k') {
+        return Some(Piece::Kern(points(width)?));
+    }
+    if let Some(glue) = word.strip_prefix('g') {
+        return Some(Piece::Glue(glue_of(glue)?));
+    }
+    if let Some(penalty) = word.strip_prefix('p') {
+        return Some(Piece::Penalty(penalty.parse().ok()?));
+    }
+    rare_piece_of(word)
+}
+
+fn rare_piece_of(word: &str) -> Option<Piece> {
+    if let Some(texts) = word.strip_prefix('d') {
+        return Some(Piece::Discretionary(discretionary_of(texts, false)?));
+    }
+    if let Some(texts) = word.strip_prefix('h') {
+        return Some(Piece::Discretionary(discretionary_of(texts, true)?));
+    }
+    if let Some(width) = word.strip_prefix('(') {
+        return Some(Piece::MathOn(points(width)?));
+    }
+    Some(Piece::MathOff(points(word.strip_prefix(')')?)?))
+}
+
+fn discretionary_of(texts: &str, hyphenated: bool) -> Option<Discretionary> {
+    let (before, rest) = texts.split_once(',')?;
+    let (behind, replaced) = rest.split_once(',')?;
+    Some(Discretionary {
+        before: dimension(before),
+        behind: dimension(behind),
+        replaced: replaced.parse().ok()?,
+        hyphenated,
+    })
+}
+
+fn glue_of(text: &str) -> Option<Glue> {
+    let (width, rest) = text.split_once(',')?;
+    let (stretch, rest) = rest.split_once(',')?;
+    let (stretch_order, rest) = rest.split_once(',')?;
+    let (shrink, shrink_order) = rest.split_once(',')?;
+    let stretch_order: u8 = stretch_order.parse().ok()?;
+    let shrink_order: u8 = shrink_order.parse().ok()?;
+    if stretch_order > 3 || shrink_order > 3 {
+        return None;
+    }
+    Some(Glue::new(
+        dimension(width)?,
+        dimension(stretch)?,
+        stretch_order,
+        dimension(shrink)?,
+        shrink_order,
+    ))
+}
+
+/// So many points in sp.
+fn points(text: &str) -> Option<i32> {
+    let points: i16 = text.parse().ok()?;
+    Some(i32::from(points) * 65_536)
+}
+
+/// The same, if it is a dimension.
+fn dimension(text: &str) -> Option<i64>
+    ensures { IfSome result IsDimension }
+{
+    let size = i64::from(points(text)?);
+    if Range::Dimen.holds(size) {
+        Some(size)
+    } else {
+        None
+    }
+}
+
+/// What was chosen, as `1 7 total 900 pass 2`, and ` forced 7` for each line that doesn't fit.
+fn write_chosen(text: &mut String, chosen: &Chosen) -> Result<(), AllocError> {
+    let (total, pass) = (chosen.total, chosen.pass);
+    for place in chosen.chain.as_slice() {
+        write!(text, "{place} ")?;
+    }
+    write!(text, "total {total} pass {pass}")?;
+    for place in chosen.forced.as_slice() {
+        write!(text, " forced {place}")?;
+    }
+    Ok(())
+}
