@@ -23,7 +23,7 @@ use Rattle.tx_scan.specs.declared.scans.Measure.{Measure}
 use Rattle.tx_scan.specs.declared.scans.UnitName.{UnitName}
 use Rattle.tx_scan.specs.declared.scans.UnitName.TheVariants.{Physical, Mathematical, Quad, XHeight}
 use Rattle.tx_scan.specs.declared.scans.Amount.{Amount}
-use Rattle.tx_scan.specs.declared.scans.Amount.TheVariants.{Whole as All, Times}
+use Rattle.tx_scan.specs.declared.scans.Amount.TheVariants.{Whole as The_size, Times}
 use Rattle.tx_scan.specs.declared.scans.Letters.{Letters}
 use Rattle.tx_scan.specs.declared.scans.Letters.TheVariants.{P, I, B, C, M, D, S, E, F, Fi}
 use Rattle.tx_scan.specs.declared.scans.Spelled.{Spelled}
@@ -202,7 +202,7 @@ turned negative (negsuc n) = not negative
 
 -- so much of an internal quantity: itself, or so many and so many 65536ths of it, rounded down
 abbrev pub amount : ℕ → Amount → ℕ → ℕ
-amount part All size = size
+amount part The_size size = size
 amount part (Times whole) size = size * whole + size * part / 65536
 
 -- an internal quantity that ends the dimension, in sp; none counts mu
@@ -225,7 +225,7 @@ numbered_unit units negative n rest = measured units (turned negative n) (unsign
 
 -- an internal quantity, which is a size or counts units
 abbrev pub quantified : Units → Bool → Bool → Reading ℤ → Reading Measure
-quantified units negative true reading = next reading (ended_with units negative 0 All)
+quantified units negative true reading = next reading (ended_with units negative 0 The_size)
 quantified units negative false reading = next reading (numbered_unit units negative)
 
 -- the unit behind a factor
