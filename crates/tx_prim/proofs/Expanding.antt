@@ -26,6 +26,7 @@ found EndInput = refl
 found (Test tests.Character) = refl
 found (Test tests.Category) = refl
 found (Test tests.Number) = refl
+found (Test tests.Dimension) = refl
 found (Test tests.Odd) = refl
 found (Test (tests.Mode mode.Vertical)) = refl
 found (Test (tests.Mode mode.Horizontal)) = refl

@@ -1,16 +1,21 @@
 -- Each primitive is the first of all that has its name.
 use Rattle.std.proofs.Common.{◌≡◌, ℕ, List, [], ◌∷◌, Some, IfSome, cond, true, false, refl}
 use Rattle.tx_prim.specs.declared.primitive.Primitive.{Primitive}
-use Rattle.tx_prim.specs.declared.primitive.Primitive.TheVariants.{Relax, EndCsName, Par, BeginGroup, EndGroup, Prefix, Let, Shorthand, Arithmetic, Numbered, Integer, Dimension, Tokens, Sized, Rule, Box, Shipout, End, IgnoreSpaces, Interaction, Definition, Text, After, FutureLet}
+use Rattle.tx_prim.specs.declared.primitive.Primitive.TheVariants.{Relax, EndCsName, Par, BeginGroup, EndGroup, Prefix, Let, Shorthand, Arithmetic, Numbered, Integer, Dimension, Tokens, Sized, Rule, Box, Shipout, End, IgnoreSpaces, Interaction, Definition, Text, After, FutureLet, BoxFrom, SetBox, Shift, Unbox, Penalty, Remove, Last, Badness, PrevDepth}
 use Rattle.tx_prim.specs.declared.family.Prefix.TheVariants.{Global, Long, Outer}
 use Rattle.tx_prim.specs.declared.family.Interaction.TheVariants.{Batch, Nonstop, Scroll, Errorstop}
 use Rattle.tx_prim.specs.declared.family.Operation.TheVariants.{Advance, Multiply, Divide}
 use Rattle.tx_prim.specs.declared.family.Shorthand.TheVariants.{CountRegister, DimenRegister, ToksRegister, Character, MathCharacter}
 use Rattle.tx_prim.specs.declared.family.CharacterCode.TheVariants.{LowerCase, UpperCase, SpaceFactor, Math, Delimiter}
-use Rattle.tx_prim.specs.declared.family.Numbered.TheVariants.{Count, Dimen, Toks, Category, Code}
+use Rattle.tx_prim.specs.declared.family.Numbered.TheVariants.{Count, Dimen, Toks, Category, Code, Size}
 use Rattle.tx_prim.specs.declared.family.SizeKind.TheVariants.{Kern}
-use Rattle.tx_prim.specs.declared.family.RuleKind.TheVariants.{Vertical}
-use Rattle.tx_prim.specs.declared.family.BoxKind.TheVariants.{Horizontal}
+use Rattle.tx_prim.specs.declared.family.BoxKind.TheVariants as box
+use Rattle.tx_prim.specs.declared.family.RuleKind.TheVariants as rule
+use Rattle.tx_prim.specs.declared.family.BoxSide.TheVariants as side
+use Rattle.tx_prim.specs.declared.family.BoxSource.TheVariants as source
+use Rattle.tx_prim.specs.declared.family.ShiftKind.TheVariants as shift
+use Rattle.tx_prim.specs.declared.family.UnboxKind.TheVariants as unbox
+use Rattle.tx_prim.specs.declared.family.ItemKind.TheVariants as item
 use Rattle.tx_prim.specs.declared.family.DefinitionKind.TheVariants as definition
 use Rattle.tx_prim.specs.declared.family.TextUse.TheVariants as text
 use Rattle.tx_prim.specs.declared.family.AfterKind.TheVariants as after
@@ -146,12 +151,12 @@ found (Numbered (Code UpperCase)) = refl
 found (Numbered (Code SpaceFactor)) = refl
 found (Numbered (Code Math)) = refl
 found (Numbered (Code Delimiter)) = refl
-found (Box Horizontal) = refl
+found (Box box.Horizontal) = refl
 found Shipout = refl
 found (Sized Kern) = refl
 found Par = refl
 found End = refl
-found (Rule Vertical) = refl
+found (Rule rule.Vertical) = refl
 found (Prefix Long) = refl
 found (Prefix Outer) = refl
 found IgnoreSpaces = refl
@@ -170,6 +175,34 @@ found (Text text.LowerCase) = refl
 found (After after.Group) = refl
 found (After after.Assignment) = refl
 found FutureLet = refl
+found (Box box.Vertical) = refl
+found (Box box.Top) = refl
+found (BoxFrom source.Register) = refl
+found (BoxFrom source.Copy) = refl
+found (BoxFrom source.Last) = refl
+found SetBox = refl
+found (Numbered (Size side.Width)) = refl
+found (Numbered (Size side.Height)) = refl
+found (Numbered (Size side.Depth)) = refl
+found (Shift shift.Raise) = refl
+found (Shift shift.Lower) = refl
+found (Shift shift.Left) = refl
+found (Shift shift.Right) = refl
+found (Rule rule.Horizontal) = refl
+found (Unbox unbox.Horizontal) = refl
+found (Unbox unbox.HorizontalCopy) = refl
+found (Unbox unbox.Vertical) = refl
+found (Unbox unbox.VerticalCopy) = refl
+found Penalty = refl
+found (Remove item.Penalty) = refl
+found (Remove item.Kern) = refl
+found (Remove item.Skip) = refl
+found (Last item.Penalty) = refl
+found (Last item.Kern) = refl
+found (Last item.Skip) = refl
+found Badness = refl
+found PrevDepth = refl
+found (Text text.Special) = refl
 found (Integer p) = integer-found p
 found (Dimension p) = dimension-found p
 found (Tokens p) = token-found p

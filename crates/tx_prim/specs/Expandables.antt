@@ -23,6 +23,7 @@ name_of EndInput = codes "endinput"
 name_of (Test tests.Character) = codes "if"
 name_of (Test tests.Category) = codes "ifcat"
 name_of (Test tests.Number) = codes "ifnum"
+name_of (Test tests.Dimension) = codes "ifdim"
 name_of (Test tests.Odd) = codes "ifodd"
 name_of (Test (tests.Mode mode.Vertical)) = codes "ifvmode"
 name_of (Test (tests.Mode mode.Horizontal)) = codes "ifhmode"
@@ -38,7 +39,7 @@ name_of (Word word.Fi) = codes "fi"
 
 -- all expandable primitives
 unfoldable pub all : List Expandable
-all = ExpandAfter ∷ NoExpand ∷ CsName ∷ Convert converts.Token ∷ Convert converts.Number ∷ Convert converts.RomanNumeral ∷ Convert converts.Meaning ∷ Convert converts.JobName ∷ The ∷ Input ∷ EndInput ∷ Test tests.Character ∷ Test tests.Category ∷ Test tests.Number ∷ Test tests.Odd ∷ Test (tests.Mode mode.Vertical) ∷ Test (tests.Mode mode.Horizontal) ∷ Test (tests.Mode mode.Math) ∷ Test (tests.Mode mode.Inner) ∷ Test tests.Same ∷ Test tests.True ∷ Test tests.False ∷ Test tests.Case ∷ Word word.Else ∷ Word word.Or ∷ Word word.Fi ∷ []
+all = ExpandAfter ∷ NoExpand ∷ CsName ∷ Convert converts.Token ∷ Convert converts.Number ∷ Convert converts.RomanNumeral ∷ Convert converts.Meaning ∷ Convert converts.JobName ∷ The ∷ Input ∷ EndInput ∷ Test tests.Character ∷ Test tests.Category ∷ Test tests.Number ∷ Test tests.Dimension ∷ Test tests.Odd ∷ Test (tests.Mode mode.Vertical) ∷ Test (tests.Mode mode.Horizontal) ∷ Test (tests.Mode mode.Math) ∷ Test (tests.Mode mode.Inner) ∷ Test tests.Same ∷ Test tests.True ∷ Test tests.False ∷ Test tests.Case ∷ Word word.Else ∷ Word word.Or ∷ Word word.Fi ∷ []
 
 -- the first one of a list that has a name
 abbrev pub named : List Expandable → List ℕ → Option Expandable

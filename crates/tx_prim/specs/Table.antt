@@ -1,16 +1,21 @@
 -- The table of the primitives.
 use Rattle.std.specs.Prelude.{ℕ, List, [], ◌∷◌, Option, None, Some, codes, cond, bytes_eq}
 use Rattle.tx_prim.specs.declared.primitive.Primitive.{Primitive}
-use Rattle.tx_prim.specs.declared.primitive.Primitive.TheVariants.{Relax, EndCsName, Par, BeginGroup, EndGroup, Prefix, Let, Shorthand, Arithmetic, Numbered, Integer, Dimension, Tokens, Sized, Rule, Box, Shipout, End, IgnoreSpaces, Interaction, Definition, Text, After, FutureLet}
+use Rattle.tx_prim.specs.declared.primitive.Primitive.TheVariants.{Relax, EndCsName, Par, BeginGroup, EndGroup, Prefix, Let, Shorthand, Arithmetic, Numbered, Integer, Dimension, Tokens, Sized, Rule, Box, Shipout, End, IgnoreSpaces, Interaction, Definition, Text, After, FutureLet, BoxFrom, SetBox, Shift, Unbox, Penalty, Remove, Last, Badness, PrevDepth}
 use Rattle.tx_prim.specs.declared.family.Prefix.TheVariants.{Global, Long, Outer}
 use Rattle.tx_prim.specs.declared.family.Interaction.TheVariants.{Batch, Nonstop, Scroll, Errorstop}
 use Rattle.tx_prim.specs.declared.family.Operation.TheVariants.{Advance, Multiply, Divide}
 use Rattle.tx_prim.specs.declared.family.Shorthand.TheVariants.{CountRegister, DimenRegister, ToksRegister, Character, MathCharacter}
 use Rattle.tx_prim.specs.declared.family.CharacterCode.TheVariants.{LowerCase, UpperCase, SpaceFactor, Math, Delimiter}
-use Rattle.tx_prim.specs.declared.family.Numbered.TheVariants.{Count, Dimen, Toks, Category, Code}
+use Rattle.tx_prim.specs.declared.family.Numbered.TheVariants.{Count, Dimen, Toks, Category, Code, Size}
 use Rattle.tx_prim.specs.declared.family.SizeKind.TheVariants.{Kern}
-use Rattle.tx_prim.specs.declared.family.RuleKind.TheVariants.{Vertical}
-use Rattle.tx_prim.specs.declared.family.BoxKind.TheVariants.{Horizontal}
+use Rattle.tx_prim.specs.declared.family.BoxKind.TheVariants as box
+use Rattle.tx_prim.specs.declared.family.RuleKind.TheVariants as rule
+use Rattle.tx_prim.specs.declared.family.BoxSide.TheVariants as side
+use Rattle.tx_prim.specs.declared.family.BoxSource.TheVariants as source
+use Rattle.tx_prim.specs.declared.family.ShiftKind.TheVariants as shift
+use Rattle.tx_prim.specs.declared.family.UnboxKind.TheVariants as unbox
+use Rattle.tx_prim.specs.declared.family.ItemKind.TheVariants as item
 use Rattle.tx_prim.specs.declared.family.DefinitionKind.TheVariants as definition
 use Rattle.tx_prim.specs.declared.family.TextUse.TheVariants as text
 use Rattle.tx_prim.specs.declared.family.AfterKind.TheVariants as after
@@ -18,7 +23,7 @@ use Rattle.tx_prim.specs.declared.integer.IntegerParameter.TheVariants.{Pretoler
 use Rattle.tx_prim.specs.declared.dimension.DimensionParameter.TheVariants.{Hfuzz, Vfuzz, Overfullrule, Emergencystretch, Hsize, Vsize, Maxdepth, Splitmaxdepth, Boxmaxdepth, Lineskiplimit, Delimitershortfall, Nulldelimiterspace, Scriptspace, Mathsurround, Predisplaysize, Displaywidth, Displayindent, Parindent, Hangindent, Hoffset, Voffset}
 use Rattle.tx_prim.specs.declared.tokens.TokenParameter.TheVariants.{Output, Everypar, Everymath, Everydisplay, Everyhbox, Everyvbox, Everyjob, Everycr, Errhelp}
 use Rattle.tx_prim.specs.declared.modes.Modes.{Modes}
-use Rattle.tx_prim.specs.declared.modes.Modes.TheVariants.{All, NotMath, NotVertical, Pages}
+use Rattle.tx_prim.specs.declared.modes.Modes.TheVariants.{All, NotMath, NotVertical, InVertical, OnlyVertical, OutsideVertical, Pages}
 use Rattle.tx_prim.specs.Integers.{integer_name}
 use Rattle.tx_prim.specs.Dimensions.{dimension_name}
 use Rattle.tx_prim.specs.Tokens.{token_name}
@@ -56,12 +61,12 @@ line_of (Numbered (Code UpperCase)) = line (codes "uccode") All
 line_of (Numbered (Code SpaceFactor)) = line (codes "sfcode") All
 line_of (Numbered (Code Math)) = line (codes "mathcode") All
 line_of (Numbered (Code Delimiter)) = line (codes "delcode") All
-line_of (Box Horizontal) = line (codes "hbox") All
+line_of (Box box.Horizontal) = line (codes "hbox") All
 line_of Shipout = line (codes "shipout") All
 line_of (Sized Kern) = line (codes "kern") All
 line_of Par = line (codes "par") NotMath
 line_of End = line (codes "end") Pages
-line_of (Rule Vertical) = line (codes "vrule") NotVertical
+line_of (Rule rule.Vertical) = line (codes "vrule") NotVertical
 line_of (Prefix Long) = line (codes "long") All
 line_of (Prefix Outer) = line (codes "outer") All
 line_of IgnoreSpaces = line (codes "ignorespaces") All
@@ -80,6 +85,34 @@ line_of (Text text.LowerCase) = line (codes "lowercase") All
 line_of (After after.Group) = line (codes "aftergroup") All
 line_of (After after.Assignment) = line (codes "afterassignment") All
 line_of FutureLet = line (codes "futurelet") All
+line_of (Box box.Vertical) = line (codes "vbox") All
+line_of (Box box.Top) = line (codes "vtop") All
+line_of (BoxFrom source.Register) = line (codes "box") All
+line_of (BoxFrom source.Copy) = line (codes "copy") All
+line_of (BoxFrom source.Last) = line (codes "lastbox") All
+line_of SetBox = line (codes "setbox") All
+line_of (Numbered (Size side.Width)) = line (codes "wd") All
+line_of (Numbered (Size side.Height)) = line (codes "ht") All
+line_of (Numbered (Size side.Depth)) = line (codes "dp") All
+line_of (Shift shift.Raise) = line (codes "raise") OutsideVertical
+line_of (Shift shift.Lower) = line (codes "lower") OutsideVertical
+line_of (Shift shift.Left) = line (codes "moveleft") OnlyVertical
+line_of (Shift shift.Right) = line (codes "moveright") OnlyVertical
+line_of (Rule rule.Horizontal) = line (codes "hrule") InVertical
+line_of (Unbox unbox.Horizontal) = line (codes "unhbox") NotVertical
+line_of (Unbox unbox.HorizontalCopy) = line (codes "unhcopy") NotVertical
+line_of (Unbox unbox.Vertical) = line (codes "unvbox") InVertical
+line_of (Unbox unbox.VerticalCopy) = line (codes "unvcopy") InVertical
+line_of Penalty = line (codes "penalty") All
+line_of (Remove item.Penalty) = line (codes "unpenalty") All
+line_of (Remove item.Kern) = line (codes "unkern") All
+line_of (Remove item.Skip) = line (codes "unskip") All
+line_of (Last item.Penalty) = line (codes "lastpenalty") All
+line_of (Last item.Kern) = line (codes "lastkern") All
+line_of (Last item.Skip) = line (codes "lastskip") All
+line_of Badness = line (codes "badness") All
+line_of PrevDepth = line (codes "prevdepth") OnlyVertical
+line_of (Text text.Special) = line (codes "special") All
 line_of (Integer parameter) = line (integer_name parameter) All
 line_of (Dimension parameter) = line (dimension_name parameter) All
 line_of (Tokens parameter) = line (token_name parameter) All
@@ -94,7 +127,7 @@ modes_of primitive = (line_of primitive).modes
 
 -- all primitives
 unfoldable pub all : List Primitive
-all = Relax ∷ EndCsName ∷ BeginGroup ∷ EndGroup ∷ Prefix Global ∷ Let ∷ Arithmetic Advance ∷ Arithmetic Multiply ∷ Arithmetic Divide ∷ Numbered Count ∷ Numbered Dimen ∷ Numbered Toks ∷ Shorthand CountRegister ∷ Shorthand DimenRegister ∷ Shorthand ToksRegister ∷ Shorthand Character ∷ Shorthand MathCharacter ∷ Numbered Category ∷ Numbered (Code LowerCase) ∷ Numbered (Code UpperCase) ∷ Numbered (Code SpaceFactor) ∷ Numbered (Code Math) ∷ Numbered (Code Delimiter) ∷ Box Horizontal ∷ Shipout ∷ Sized Kern ∷ Par ∷ End ∷ Rule Vertical ∷ Prefix Long ∷ Prefix Outer ∷ IgnoreSpaces ∷ Interaction Batch ∷ Interaction Nonstop ∷ Interaction Scroll ∷ Interaction Errorstop ∷ Definition definition.Plain ∷ Definition definition.Expanded ∷ Definition definition.Global ∷ Definition definition.GlobalExpanded ∷ Text text.Message ∷ Text text.ErrorMessage ∷ Text text.UpperCase ∷ Text text.LowerCase ∷ After after.Group ∷ After after.Assignment ∷ FutureLet ∷ Integer Pretolerance ∷ Integer Tolerance ∷ Integer Hbadness ∷ Integer Vbadness ∷ Integer Linepenalty ∷ Integer Hyphenpenalty ∷ Integer Exhyphenpenalty ∷ Integer Binoppenalty ∷ Integer Relpenalty ∷ Integer Clubpenalty ∷ Integer Widowpenalty ∷ Integer Displaywidowpenalty ∷ Integer Brokenpenalty ∷ Integer Predisplaypenalty ∷ Integer Postdisplaypenalty ∷ Integer Interlinepenalty ∷ Integer Floatingpenalty ∷ Integer Outputpenalty ∷ Integer Doublehyphendemerits ∷ Integer Finalhyphendemerits ∷ Integer Adjdemerits ∷ Integer Looseness ∷ Integer Pausing ∷ Integer Holdinginserts ∷ Integer Tracingonline ∷ Integer Tracingmacros ∷ Integer Tracingstats ∷ Integer Tracingparagraphs ∷ Integer Tracingpages ∷ Integer Tracingoutput ∷ Integer Tracinglostchars ∷ Integer Tracingcommands ∷ Integer Tracingrestores ∷ Integer Language ∷ Integer Uchyph ∷ Integer Lefthyphenmin ∷ Integer Righthyphenmin ∷ Integer Globaldefs ∷ Integer Defaulthyphenchar ∷ Integer Defaultskewchar ∷ Integer Escapechar ∷ Integer Endlinechar ∷ Integer Newlinechar ∷ Integer Maxdeadcycles ∷ Integer Hangafter ∷ Integer Fam ∷ Integer Mag ∷ Integer Delimiterfactor ∷ Integer Time ∷ Integer Day ∷ Integer Month ∷ Integer Year ∷ Integer Showboxbreadth ∷ Integer Showboxdepth ∷ Integer Errorcontextlines ∷ Dimension Hfuzz ∷ Dimension Vfuzz ∷ Dimension Overfullrule ∷ Dimension Emergencystretch ∷ Dimension Hsize ∷ Dimension Vsize ∷ Dimension Maxdepth ∷ Dimension Splitmaxdepth ∷ Dimension Boxmaxdepth ∷ Dimension Lineskiplimit ∷ Dimension Delimitershortfall ∷ Dimension Nulldelimiterspace ∷ Dimension Scriptspace ∷ Dimension Mathsurround ∷ Dimension Predisplaysize ∷ Dimension Displaywidth ∷ Dimension Displayindent ∷ Dimension Parindent ∷ Dimension Hangindent ∷ Dimension Hoffset ∷ Dimension Voffset ∷ Tokens Output ∷ Tokens Everypar ∷ Tokens Everymath ∷ Tokens Everydisplay ∷ Tokens Everyhbox ∷ Tokens Everyvbox ∷ Tokens Everyjob ∷ Tokens Everycr ∷ Tokens Errhelp ∷ []
+all = Relax ∷ EndCsName ∷ BeginGroup ∷ EndGroup ∷ Prefix Global ∷ Let ∷ Arithmetic Advance ∷ Arithmetic Multiply ∷ Arithmetic Divide ∷ Numbered Count ∷ Numbered Dimen ∷ Numbered Toks ∷ Shorthand CountRegister ∷ Shorthand DimenRegister ∷ Shorthand ToksRegister ∷ Shorthand Character ∷ Shorthand MathCharacter ∷ Numbered Category ∷ Numbered (Code LowerCase) ∷ Numbered (Code UpperCase) ∷ Numbered (Code SpaceFactor) ∷ Numbered (Code Math) ∷ Numbered (Code Delimiter) ∷ Box box.Horizontal ∷ Shipout ∷ Sized Kern ∷ Par ∷ End ∷ Rule rule.Vertical ∷ Prefix Long ∷ Prefix Outer ∷ IgnoreSpaces ∷ Interaction Batch ∷ Interaction Nonstop ∷ Interaction Scroll ∷ Interaction Errorstop ∷ Definition definition.Plain ∷ Definition definition.Expanded ∷ Definition definition.Global ∷ Definition definition.GlobalExpanded ∷ Text text.Message ∷ Text text.ErrorMessage ∷ Text text.UpperCase ∷ Text text.LowerCase ∷ After after.Group ∷ After after.Assignment ∷ FutureLet ∷ Box box.Vertical ∷ Box box.Top ∷ BoxFrom source.Register ∷ BoxFrom source.Copy ∷ BoxFrom source.Last ∷ SetBox ∷ Numbered (Size side.Width) ∷ Numbered (Size side.Height) ∷ Numbered (Size side.Depth) ∷ Shift shift.Raise ∷ Shift shift.Lower ∷ Shift shift.Left ∷ Shift shift.Right ∷ Rule rule.Horizontal ∷ Unbox unbox.Horizontal ∷ Unbox unbox.HorizontalCopy ∷ Unbox unbox.Vertical ∷ Unbox unbox.VerticalCopy ∷ Penalty ∷ Remove item.Penalty ∷ Remove item.Kern ∷ Remove item.Skip ∷ Last item.Penalty ∷ Last item.Kern ∷ Last item.Skip ∷ Badness ∷ PrevDepth ∷ Text text.Special ∷ Integer Pretolerance ∷ Integer Tolerance ∷ Integer Hbadness ∷ Integer Vbadness ∷ Integer Linepenalty ∷ Integer Hyphenpenalty ∷ Integer Exhyphenpenalty ∷ Integer Binoppenalty ∷ Integer Relpenalty ∷ Integer Clubpenalty ∷ Integer Widowpenalty ∷ Integer Displaywidowpenalty ∷ Integer Brokenpenalty ∷ Integer Predisplaypenalty ∷ Integer Postdisplaypenalty ∷ Integer Interlinepenalty ∷ Integer Floatingpenalty ∷ Integer Outputpenalty ∷ Integer Doublehyphendemerits ∷ Integer Finalhyphendemerits ∷ Integer Adjdemerits ∷ Integer Looseness ∷ Integer Pausing ∷ Integer Holdinginserts ∷ Integer Tracingonline ∷ Integer Tracingmacros ∷ Integer Tracingstats ∷ Integer Tracingparagraphs ∷ Integer Tracingpages ∷ Integer Tracingoutput ∷ Integer Tracinglostchars ∷ Integer Tracingcommands ∷ Integer Tracingrestores ∷ Integer Language ∷ Integer Uchyph ∷ Integer Lefthyphenmin ∷ Integer Righthyphenmin ∷ Integer Globaldefs ∷ Integer Defaulthyphenchar ∷ Integer Defaultskewchar ∷ Integer Escapechar ∷ Integer Endlinechar ∷ Integer Newlinechar ∷ Integer Maxdeadcycles ∷ Integer Hangafter ∷ Integer Fam ∷ Integer Mag ∷ Integer Delimiterfactor ∷ Integer Time ∷ Integer Day ∷ Integer Month ∷ Integer Year ∷ Integer Showboxbreadth ∷ Integer Showboxdepth ∷ Integer Errorcontextlines ∷ Dimension Hfuzz ∷ Dimension Vfuzz ∷ Dimension Overfullrule ∷ Dimension Emergencystretch ∷ Dimension Hsize ∷ Dimension Vsize ∷ Dimension Maxdepth ∷ Dimension Splitmaxdepth ∷ Dimension Boxmaxdepth ∷ Dimension Lineskiplimit ∷ Dimension Delimitershortfall ∷ Dimension Nulldelimiterspace ∷ Dimension Scriptspace ∷ Dimension Mathsurround ∷ Dimension Predisplaysize ∷ Dimension Displaywidth ∷ Dimension Displayindent ∷ Dimension Parindent ∷ Dimension Hangindent ∷ Dimension Hoffset ∷ Dimension Voffset ∷ Tokens Output ∷ Tokens Everypar ∷ Tokens Everymath ∷ Tokens Everydisplay ∷ Tokens Everyhbox ∷ Tokens Everyvbox ∷ Tokens Everyjob ∷ Tokens Everycr ∷ Tokens Errhelp ∷ []
 
 -- the first primitive of a list that has a name
 abbrev pub named : List Primitive → List ℕ → Option Primitive

@@ -29,6 +29,8 @@ pub enum Test {
     Category,
     /// \ifnum: a relation of two integers.
     Number,
+    /// \ifdim: a relation of two dimensions.
+    Dimension,
     /// \ifodd.
     Odd,
     /// \ifvmode and its kin: the mode.
@@ -74,7 +76,7 @@ pub enum Expandable {
 }
 
 /// All of them, in the order of their table.
-const ALL: [Expandable; 26] = [
+const ALL: [Expandable; 27] = [
     Expandable::ExpandAfter,
     Expandable::NoExpand,
     Expandable::CsName,
@@ -89,6 +91,7 @@ const ALL: [Expandable; 26] = [
     Expandable::Test(Test::Character),
     Expandable::Test(Test::Category),
     Expandable::Test(Test::Number),
+    Expandable::Test(Test::Dimension),
     Expandable::Test(Test::Odd),
     Expandable::Test(Test::Mode(ModeTest::Vertical)),
     Expandable::Test(Test::Mode(ModeTest::Horizontal)),
@@ -132,6 +135,7 @@ impl Expandable {
             Expandable::Test(Test::Character) => b"if",
             Expandable::Test(Test::Category) => b"ifcat",
             Expandable::Test(Test::Number) => b"ifnum",
+            Expandable::Test(Test::Dimension) => b"ifdim",
             Expandable::Test(Test::Odd) => b"ifodd",
             Expandable::Test(Test::Mode(ModeTest::Vertical)) => b"ifvmode",
             Expandable::Test(Test::Mode(ModeTest::Horizontal)) => b"ifhmode",

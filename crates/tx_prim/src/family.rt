@@ -70,6 +70,8 @@ pub enum Numbered {
     Category,
     /// Another code of a character.
     Code(CharacterCode),
+    /// \wd, \ht and \dp: a size of the box in a register.
+    Size(BoxSide),
 }
 
 /// What is made of a dimension.
@@ -84,6 +86,8 @@ pub enum SizeKind {
 pub enum RuleKind {
     /// \vrule, in horizontal ones.
     Vertical,
+    /// \hrule, in vertical ones.
+    Horizontal,
 }
 
 /// Which list makes a box (The TeXbook, chapter 12).
@@ -91,6 +95,10 @@ pub enum RuleKind {
 pub enum BoxKind {
     /// \hbox: a horizontal one.
     Horizontal,
+    /// \vbox: a vertical one, whose last box or rule has the depth.
+    Vertical,
+    /// \vtop: a vertical one, whose first box or rule has the height.
+    Top,
 }
 
 /// How a macro is defined (The TeXbook, chapter 20).
@@ -115,6 +123,8 @@ pub enum TextUse {
     /// \uppercase and \lowercase: to be read with other letters.
     UpperCase,
     LowerCase,
+    /// \special: to be written to the DVI file.
+    Special,
 }
 
 /// What a token is kept for (The TeXbook, chapter 24).
@@ -124,4 +134,59 @@ pub enum AfterKind {
     Group,
     /// \afterassignment: the next assignment's end.
     Assignment,
+}
+
+/// A size of a box (The TeXbook, chapter 12).
+#[derive(Clone, Copy, PartialEq, Eq)]
+pub enum BoxSide {
+    /// \wd.
+    Width,
+    /// \ht.
+    Height,
+    /// \dp.
+    Depth,
+}
+
+/// Where a box comes from that was made before (TeX: The Program, section 1071).
+#[derive(Clone, Copy, PartialEq, Eq)]
+pub enum BoxSource {
+    /// \box: a register, which is void from then on.
+    Register,
+    /// \copy: a register, which keeps it.
+    Copy,
+    /// \lastbox: the end of the list.
+    Last,
+}
+
+/// Which way a box is shifted (TeX: The Program, section 1071).
+#[derive(Clone, Copy, PartialEq, Eq)]
+pub enum ShiftKind {
+    /// \raise and \lower, in horizontal lists.
+    Raise,
+    Lower,
+    /// \moveleft and \moveright, in vertical ones.
+    Left,
+    Right,
+}
+
+/// A box of which kind gives its list to the list around, and whether it keeps it (TeX: The Program, section 1107).
+#[derive(Clone, Copy, PartialEq, Eq)]
+pub enum UnboxKind {
+    /// \unhbox and \unhcopy.
+    Horizontal,
+    HorizontalCopy,
+    /// \unvbox and \unvcopy.
+    Vertical,
+    VerticalCopy,
+}
+
+/// Items of lists that commands take away again and whose sizes they read (The TeXbook, chapter 24).
+#[derive(Clone, Copy, PartialEq, Eq)]
+pub enum ItemKind {
+    /// \unpenalty and \lastpenalty.
+    Penalty,
+    /// \unkern and \lastkern.
+    Kern,
+    /// \unskip and \lastskip: glue, leaders too.
+    Skip,
 }

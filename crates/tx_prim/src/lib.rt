@@ -18,8 +18,8 @@ mod tokens;
 pub use dimension::DimensionParameter;
 pub use expandable::{CondWord, Conversion, Expandable, Test};
 pub use family::{
-    AfterKind, BoxKind, CharacterCode, DefinitionKind, Interaction, Numbered, Operation, Prefix,
-    RuleKind, Shorthand, SizeKind, TextUse,
+    AfterKind, BoxKind, BoxSide, BoxSource, CharacterCode, DefinitionKind, Interaction, ItemKind,
+    Numbered, Operation, Prefix, RuleKind, ShiftKind, Shorthand, SizeKind, TextUse, UnboxKind,
 };
 pub use integer::{IntegerParameter, Moment};
 pub use modes::{Mode, ModeTest, Modes, Standing};

@@ -41,6 +41,12 @@ pub enum Modes {
     NotMath,
     /// In horizontal modes and formulas; in vertical modes it begins a paragraph, and stands in that.
     NotVertical,
+    /// In vertical modes; in a paragraph it ends that first.
+    InVertical,
+    /// In vertical modes alone.
+    OnlyVertical,
+    /// In horizontal modes and formulas alone.
+    OutsideVertical,
     /// On the pages' list alone; in a paragraph it ends that first.
     Pages,
     /// In formulas alone.
@@ -89,6 +95,13 @@ impl Modes {
             (Modes::NotVertical, Mode::Vertical | Mode::InternalVertical) => {
                 Standing::BeginsParagraph
             }
+            (Modes::InVertical, Mode::Vertical | Mode::InternalVertical) => Standing::Stands,
+            (Modes::InVertical, Mode::Horizontal) => Standing::EndsParagraph,
+            (Modes::InVertical, _) => Standing::Refused,
+            (Modes::OnlyVertical, Mode::Vertical | Mode::InternalVertical) => Standing::Stands,
+            (Modes::OnlyVertical, _) => Standing::Refused,
+            (Modes::OutsideVertical, Mode::Vertical | Mode::InternalVertical) => Standing::Refused,
+            (Modes::OutsideVertical, _) => Standing::Stands,
             (Modes::Pages, Mode::Horizontal) => Standing::EndsParagraph,
             (Modes::All | Modes::NotMath | Modes::NotVertical, _) => Standing::Stands,
             (Modes::Pages, Mode::Vertical) => Standing::Stands,

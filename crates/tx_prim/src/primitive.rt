@@ -5,8 +5,8 @@ ghost use Rattle.tx_prim.specs.Table.{all, modes_of, name_of, named};
 
 use crate::dimension::DimensionParameter;
 use crate::family::{
-    AfterKind, BoxKind, CharacterCode, DefinitionKind, Interaction, Numbered, Operation, Prefix,
-    RuleKind, Shorthand, SizeKind, TextUse,
+    AfterKind, BoxKind, BoxSide, BoxSource, CharacterCode, DefinitionKind, Interaction, ItemKind,
+    Numbered, Operation, Prefix, RuleKind, ShiftKind, Shorthand, SizeKind, TextUse, UnboxKind,
 };
 use crate::integer::IntegerParameter;
 use crate::modes::Modes;
@@ -61,10 +61,28 @@ pub enum Primitive {
     After(AfterKind),
     /// \futurelet.
     FutureLet,
+    /// A box that was made before, as \box.
+    BoxFrom(BoxSource),
+    /// \setbox.
+    SetBox,
+    /// What shifts a box, as \raise.
+    Shift(ShiftKind),
+    /// What gives a box's list to the list around, as \unhbox.
+    Unbox(UnboxKind),
+    /// \penalty.
+    Penalty,
+    /// What takes the last item away, as \unskip.
+    Remove(ItemKind),
+    /// What stands for the last item's size, as \lastskip.
+    Last(ItemKind),
+    /// \badness: how bad the box is that was packed last.
+    Badness,
+    /// \prevdepth.
+    PrevDepth,
 }
 
 /// All primitives, in the order of their table.
-const ALL: [Primitive; 132] = [
+const ALL: [Primitive; 160] = [
     Primitive::Relax,
     Primitive::EndCsName,
     Primitive::BeginGroup,
@@ -112,6 +130,34 @@ const ALL: [Primitive; 132] = [
     Primitive::After(AfterKind::Group),
     Primitive::After(AfterKind::Assignment),
     Primitive::FutureLet,
+    Primitive::Box(BoxKind::Vertical),
+    Primitive::Box(BoxKind::Top),
+    Primitive::BoxFrom(BoxSource::Register),
+    Primitive::BoxFrom(BoxSource::Copy),
+    Primitive::BoxFrom(BoxSource::Last),
+    Primitive::SetBox,
+    Primitive::Numbered(Numbered::Size(BoxSide::Width)),
+    Primitive::Numbered(Numbered::Size(BoxSide::Height)),
+    Primitive::Numbered(Numbered::Size(BoxSide::Depth)),
+    Primitive::Shift(ShiftKind::Raise),
+    Primitive::Shift(ShiftKind::Lower),
+    Primitive::Shift(ShiftKind::Left),
+    Primitive::Shift(ShiftKind::Right),
+    Primitive::Rule(RuleKind::Horizontal),
+    Primitive::Unbox(UnboxKind::Horizontal),
+    Primitive::Unbox(UnboxKind::HorizontalCopy),
+    Primitive::Unbox(UnboxKind::Vertical),
+    Primitive::Unbox(UnboxKind::VerticalCopy),
+    Primitive::Penalty,
+    Primitive::Remove(ItemKind::Penalty),
+    Primitive::Remove(ItemKind::Kern),
+    Primitive::Remove(ItemKind::Skip),
+    Primitive::Last(ItemKind::Penalty),
+    Primitive::Last(ItemKind::Kern),
+    Primitive::Last(ItemKind::Skip),
+    Primitive::Badness,
+    Primitive::PrevDepth,
+    Primitive::Text(TextUse::Special),
     Primitive::Integer(IntegerParameter::Pretolerance),
     Primitive::Integer(IntegerParameter::Tolerance),
     Primitive::Integer(IntegerParameter::Hbadness),
@@ -261,6 +307,34 @@ impl Primitive {
             Primitive::After(AfterKind::Group) => b"aftergroup",
             Primitive::After(AfterKind::Assignment) => b"afterassignment",
             Primitive::FutureLet => b"futurelet",
+            Primitive::Box(BoxKind::Vertical) => b"vbox",
+            Primitive::Box(BoxKind::Top) => b"vtop",
+            Primitive::BoxFrom(BoxSource::Register) => b"box",
+            Primitive::BoxFrom(BoxSource::Copy) => b"copy",
+            Primitive::BoxFrom(BoxSource::Last) => b"lastbox",
+            Primitive::SetBox => b"setbox",
+            Primitive::Numbered(Numbered::Size(BoxSide::Width)) => b"wd",
+            Primitive::Numbered(Numbered::Size(BoxSide::Height)) => b"ht",
+            Primitive::Numbered(Numbered::Size(BoxSide::Depth)) => b"dp",
+            Primitive::Shift(ShiftKind::Raise) => b"raise",
+            Primitive::Shift(ShiftKind::Lower) => b"lower",
+            Primitive::Shift(ShiftKind::Left) => b"moveleft",
+            Primitive::Shift(ShiftKind::Right) => b"moveright",
+            Primitive::Rule(RuleKind::Horizontal) => b"hrule",
+            Primitive::Unbox(UnboxKind::Horizontal) => b"unhbox",
+            Primitive::Unbox(UnboxKind::HorizontalCopy) => b"unhcopy",
+            Primitive::Unbox(UnboxKind::Vertical) => b"unvbox",
+            Primitive::Unbox(UnboxKind::VerticalCopy) => b"unvcopy",
+            Primitive::Penalty => b"penalty",
+            Primitive::Remove(ItemKind::Penalty) => b"unpenalty",
+            Primitive::Remove(ItemKind::Kern) => b"unkern",
+            Primitive::Remove(ItemKind::Skip) => b"unskip",
+            Primitive::Last(ItemKind::Penalty) => b"lastpenalty",
+            Primitive::Last(ItemKind::Kern) => b"lastkern",
+            Primitive::Last(ItemKind::Skip) => b"lastskip",
+            Primitive::Badness => b"badness",
+            Primitive::PrevDepth => b"prevdepth",
+            Primitive::Text(TextUse::Special) => b"special",
             Primitive::Integer(parameter) => parameter.name(),
             Primitive::Dimension(parameter) => parameter.name(),
             Primitive::Tokens(parameter) => parameter.name(),
@@ -282,6 +356,17 @@ impl Primitive {
             Primitive::Definition(_) | Primitive::Text(_) => Modes::All,
             Primitive::After(_) | Primitive::FutureLet => Modes::All,
             Primitive::Sized(_) | Primitive::Box(_) | Primitive::Shipout => Modes::All,
+            Primitive::BoxFrom(_) | Primitive::SetBox => Modes::All,
+            Primitive::Penalty | Primitive::Remove(_) => Modes::All,
+            Primitive::Last(_) | Primitive::Badness => Modes::All,
+            Primitive::Shift(ShiftKind::Raise | ShiftKind::Lower) => Modes::OutsideVertical,
+            Primitive::Shift(ShiftKind::Left | ShiftKind::Right) => Modes::OnlyVertical,
+            Primitive::PrevDepth => Modes::OnlyVertical,
+            Primitive::Unbox(UnboxKind::Horizontal | UnboxKind::HorizontalCopy) => {
+                Modes::NotVertical
+            }
+            Primitive::Unbox(UnboxKind::Vertical | UnboxKind::VerticalCopy) => Modes::InVertical,
+            Primitive::Rule(RuleKind::Horizontal) => Modes::InVertical,
             Primitive::Rule(RuleKind::Vertical) => Modes::NotVertical,
             Primitive::Par => Modes::NotMath,
             Primitive::End => Modes::Pages,

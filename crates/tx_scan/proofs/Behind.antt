@@ -8,7 +8,7 @@ use Rattle.tx_seen.specs.declared.item.Item.TheVariants.{Took, Gave}
 use Rattle.tx_seen.specs.declared.seen.Seen.{Seen}
 use Rattle.tx_seen.specs.Readings.{Reading, Done, next, tokens, ending, last, Answers}
 use Rattle.tx_scan.specs.Mapped.{mapped}
-use Rattle.tx_scan.specs.Rests.{HasTakenBy, IsAnswer, IsGivenBehind, IsGivenBy, IsRead, kept}
+use Rattle.tx_scan.specs.Rests.{HasTakenBy, HoldsOne, IsAnswer, IsGivenBehind, IsGivenBy, IsRead, kept}
 use Rattle.tx_scan.specs.Supplied.{NeedsFewer, NeedsNoMore}
 use Rattle.tx_scan.proofs.Answering.{ending-none, ending-kept, last-given, last-push, taken-now, taken-on}
 use Rattle.tx_scan.proofs.Mappings.{Rest, mapped-read, same-read}
@@ -102,13 +102,6 @@ read-one rest held count reading behind t new (fed.Need kind) k = (
 read-one rest held count reading behind t new (fed.Done value back) k =
     (omega (arith, k.0), λ more. k.1 more ∙ ap (λ (items : List Item). Done value (items ++ more)) (ending-kept back [] t k.0 ∙ sym (ending-kept back behind t k.0)))
 read-one rest held count reading behind t new (fed.Wrong error) k = k
-
--- where a value is needed, one token at most is held
-abbrev pub HoldsOne : {A : Type 0} → ℕ → Fed A → Type 0
-HoldsOne n (fed.More want) = Unit {0}
-HoldsOne n (fed.Need kind) = n ≤ 1
-HoldsOne n (fed.Done value back) = Unit {0}
-HoldsOne n (fed.Wrong error) = Unit {0}
 
 pub fed-one : {S A : Type 0} (rest : Rest S A) (held : S → ℕ) (most : ℕ) (reading : List Item → Reading A) (t : Seen) (new : S) (answer : Fed A) → most ≤ 1 → IsAnswer rest held most reading t new answer → HoldsOne (held new) answer
 fed-one rest held most reading t new (fed.More want) h k = tt

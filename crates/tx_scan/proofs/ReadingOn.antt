@@ -3,7 +3,7 @@ use Rattle.std.proofs.Common.{◌≡◌, ℕ, ◌+◌, ◌*◌, Bool, true, fals
 use Rattle.std.specs.Prelude.{nat_le}
 use Rattle.tx_seen.specs.declared.seen.Seen.{Seen}
 use Rattle.tx_seen.specs.declared.place.Place.{Place}
-use Rattle.tx_seen.specs.declared.fed.Value.TheVariants.{Int, Dimen, Flag}
+use Rattle.tx_seen.specs.declared.fed.Value.TheVariants.{Int, Dimen, Flag, Absent}
 use Rattle.tx_seen.specs.Seen.{is_undefined}
 use Rattle.tx_seen.specs.declared.error.TexError.TheVariants.{Undefined, MissingNumber, IntegerTooLarge}
 use Rattle.tx_seen.specs.declared.item.Item.{Item}
@@ -73,6 +73,7 @@ on-quantity more place [] = tt
 on-quantity more place (Gave (Int n) ∷ rest) = on-range more n rest
 on-quantity more place (Gave (Dimen n) ∷ rest) = on-range more n rest
 on-quantity more place (Gave (Flag b) ∷ rest) = refl
+on-quantity more place (Gave Absent ∷ rest) = refl
 on-quantity more place (Took t ∷ rest) = refl
 
 on-numbered : (more : List Item) (kind : Numbered) (o : Option ℕ) (items : List Item) → ReadsOn more (numbered kind o items) (numbered kind o (items ++ more))

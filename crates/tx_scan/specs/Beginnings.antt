@@ -5,7 +5,7 @@ use Rattle.tx_char.specs.declared.category.Cat.TheVariants.{Space, Letter, Other
 use Rattle.tx_char.specs.declared.tokens.Token.{Token}
 use Rattle.tx_char.specs.declared.tokens.Token.TheVariants as token
 use Rattle.tx_prim.specs.declared.family.Numbered.{Numbered}
-use Rattle.tx_prim.specs.declared.family.Numbered.TheVariants.{Count, Dimen, Toks, Category, Code}
+use Rattle.tx_prim.specs.declared.family.Numbered.TheVariants.{Count, Dimen, Toks, Category, Code, Size}
 use Rattle.tx_prim.specs.declared.primitive.Primitive.{Primitive}
 use Rattle.tx_prim.specs.declared.primitive.Primitive.TheVariants as primitive
 use Rattle.tx_seen.specs.declared.error.TexError.TheVariants.{MissingNumber, Undefined}
@@ -49,12 +49,16 @@ begun_by_number Dimen = begin.Numbered Dimen
 begun_by_number Toks = no_number
 begun_by_number Category = begin.Numbered Category
 begun_by_number (Code code) = begin.Numbered (Code code)
+begun_by_number (Size side) = begin.Numbered (Size side)
 
 -- a primitive stands for a parameter's value, or for what stands at the number behind it
 abbrev pub begun_by_command : Primitive → Beginning
 begun_by_command (primitive.Integer parameter) = begin.At (place.Integer parameter)
 begun_by_command (primitive.Dimension parameter) = begin.At (place.Dimension parameter)
 begun_by_command (primitive.Numbered kind) = begun_by_number kind
+begun_by_command (primitive.Last kind) = begin.At (place.Last kind)
+begun_by_command primitive.Badness = begin.At place.Badness
+begun_by_command primitive.PrevDepth = begin.At place.PrevDepth
 begun_by_command (primitive.Tokens parameter) = no_number
 begun_by_command primitive.Relax = no_number
 begun_by_command primitive.EndCsName = no_number
@@ -76,6 +80,12 @@ begun_by_command (primitive.Sized kind) = no_number
 begun_by_command (primitive.Rule kind) = no_number
 begun_by_command (primitive.Box kind) = no_number
 begun_by_command primitive.Shipout = no_number
+begun_by_command (primitive.BoxFrom source) = no_number
+begun_by_command primitive.SetBox = no_number
+begun_by_command (primitive.Shift kind) = no_number
+begun_by_command (primitive.Unbox kind) = no_number
+begun_by_command primitive.Penalty = no_number
+begun_by_command (primitive.Remove kind) = no_number
 
 -- a name that \chardef or \mathchardef defined is its number, and that of a register stands for its value; what means a
 -- space is one

@@ -60,3 +60,10 @@ IsEnd reading back (fed.More want) = ⊥
 IsEnd reading back (fed.Need kind) = ⊥
 IsEnd reading back (fed.Done value count) = (count ≡ back) × ((more : List Item) → reading more ≡ Done value more)
 IsEnd reading back (fed.Wrong error) = (more : List Item) → reading more ≡ Wrong error
+
+-- where a value is needed, one token at most is held
+abbrev pub HoldsOne : {A : Type 0} → ℕ → Fed A → Type 0
+HoldsOne n (fed.More want) = Unit {0}
+HoldsOne n (fed.Need kind) = n ≤ 1
+HoldsOne n (fed.Done value back) = Unit {0}
+HoldsOne n (fed.Wrong error) = Unit {0}

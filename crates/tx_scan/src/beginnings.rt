@@ -69,7 +69,7 @@ fn begun_by_number(kind: Numbered) -> Beginning
 {
     match kind {
         Numbered::Count | Numbered::Dimen => Beginning::Numbered(kind),
-        Numbered::Category | Numbered::Code(_) => Beginning::Numbered(kind),
+        Numbered::Category | Numbered::Code(_) | Numbered::Size(_) => Beginning::Numbered(kind),
         Numbered::Toks => nothing(),
     }
 }
@@ -82,6 +82,9 @@ fn begun_by_command(command: Primitive) -> Beginning
         Primitive::Integer(parameter) => Beginning::At(Place::Integer(parameter)),
         Primitive::Dimension(parameter) => Beginning::At(Place::Dimension(parameter)),
         Primitive::Numbered(kind) => begun_by_number(kind),
+        Primitive::Last(kind) => Beginning::At(Place::Last(kind)),
+        Primitive::Badness => Beginning::At(Place::Badness),
+        Primitive::PrevDepth => Beginning::At(Place::PrevDepth),
         Primitive::Tokens(_) => nothing(),
         Primitive::Relax | Primitive::Par | Primitive::End => nothing(),
         Primitive::IgnoreSpaces | Primitive::Interaction(_) => nothing(),
@@ -91,9 +94,10 @@ fn begun_by_command(command: Primitive) -> Beginning
         Primitive::EndCsName => nothing(),
         Primitive::Prefix(_) | Primitive::Let | Primitive::Shorthand(_) => nothing(),
         Primitive::Arithmetic(_) => nothing(),
-        Primitive::Sized(_) | Primitive::Rule(_) | Primitive::Box(_) | Primitive::Shipout => {
-            nothing()
-        }
+        Primitive::Sized(_) | Primitive::Rule(_) | Primitive::Shipout => nothing(),
+        Primitive::Box(_) | Primitive::BoxFrom(_) | Primitive::SetBox => nothing(),
+        Primitive::Shift(_) | Primitive::Unbox(_) | Primitive::Remove(_) => nothing(),
+        Primitive::Penalty => nothing(),
     }
 }
 

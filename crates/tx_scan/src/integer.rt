@@ -152,6 +152,7 @@ impl IntScan {
             Value::Int(number) => self.given(*number, held),
             Value::Dimen(size) => self.given(*size, held),
             Value::Flag(_) => Fed::Wrong(TexError::MissingNumber),
+            Value::Absent => Fed::Wrong(TexError::NotAllowed),
         }
     }
 

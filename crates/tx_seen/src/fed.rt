@@ -28,6 +28,8 @@ pub enum Value {
     Dimen(i64),
     /// Yes or no.
     Flag(bool),
+    /// Nothing: the mode has no such quantity.
+    Absent,
 }
 
 /// The answer to one more token or value.

@@ -7,7 +7,8 @@ use std::alloc::AllocError;
 use tx_char::ControlName;
 use tx_list::Kept;
 use tx_prim::{
-    CharacterCode, DimensionParameter, IntegerParameter, Numbered, Primitive, TokenParameter,
+    BoxSide, CharacterCode, DimensionParameter, IntegerParameter, ItemKind, Numbered, Primitive,
+    TokenParameter,
 };
 
 /// A place of the table (TeX: The Program, part 17).
@@ -33,6 +34,16 @@ pub enum Place {
     Dimension(DimensionParameter),
     /// A parameter that is a list of tokens.
     Tokens(TokenParameter),
+    /// A box register.
+    Box(u8),
+    /// \wd, \ht or \dp of a box register.
+    BoxSize(BoxSide, u8),
+    /// \lastpenalty, \lastkern or \lastskip, of the list that is being built, and no place of the table.
+    Last(ItemKind),
+    /// \badness of the box that was packed last, and no place of the table either.
+    Badness,
+    /// \prevdepth of the list that is being built.
+    PrevDepth,
 }
 
 /// A clone is the same place, and shares its name. Its only error is that no more owners of a name can be counted.
@@ -51,6 +62,11 @@ impl Clone for Place {
             Place::Integer(parameter) => Ok(Place::Integer(*parameter)),
             Place::Dimension(parameter) => Ok(Place::Dimension(*parameter)),
             Place::Tokens(parameter) => Ok(Place::Tokens(*parameter)),
+            Place::Box(number) => Ok(Place::Box(*number)),
+            Place::BoxSize(side, number) => Ok(Place::BoxSize(*side, *number)),
+            Place::Last(kind) => Ok(Place::Last(*kind)),
+            Place::Badness => Ok(Place::Badness),
+            Place::PrevDepth => Ok(Place::PrevDepth),
         }
     }
 }
@@ -75,6 +91,12 @@ impl Kept for Place {
             ),
             (Place::Dimension(one), Place::Dimension(other)) => one == other,
             (Place::Tokens(one), Place::Tokens(other)) => one == other,
+            (Place::Box(one), Place::Box(other)) => one == other,
+            (Place::BoxSize(side, one), Place::BoxSize(also, other)) => side == also
+                && one == other,
+            (Place::Last(one), Place::Last(other)) => one == other,
+            (Place::Badness, Place::Badness) => true,
+            (Place::PrevDepth, Place::PrevDepth) => true,
             _ => false,
         }
     }
@@ -91,6 +113,7 @@ impl Place {
             Numbered::Toks => Place::Toks(number),
             Numbered::Category => Place::Category(number),
             Numbered::Code(code) => Place::Code(code, number),
+            Numbered::Size(side) => Place::BoxSize(side, number),
         }
     }
 
@@ -98,7 +121,13 @@ impl Place {
     pub fn is_size(&self) -> bool
         ensures { result ≡ is_size self.now }
     {
-        matches!(self, Place::Dimen(_) | Place::Dimension(_))
+        match self {
+            Place::Dimen(_) | Place::Dimension(_) | Place::BoxSize(_, _) => true,
+            Place::Last(ItemKind::Kern | ItemKind::Skip) | Place::PrevDepth => true,
+            Place::Last(ItemKind::Penalty) | Place::Badness | Place::Box(_) => false,
+            Place::Name(_) | Place::Active(_) | Place::Count(_) | Place::Toks(_) => false,
+            Place::Category(_) | Place::Code(_, _) | Place::Integer(_) | Place::Tokens(_) => false,
+        }
     }
 
     /// Whether a list of tokens stands there.
