@@ -9,13 +9,14 @@ use Rattle.tx_seen.specs.declared.fed.Want.{Want}
 use Rattle.tx_seen.specs.declared.fed.Fed.{Fed}
 use Rattle.tx_seen.specs.declared.fed.Fed.TheVariants as fed
 use Rattle.tx_seen.specs.Readings.{Reading, next}
-use Rattle.tx_scan.specs.declared.scans.IntScan.{IntScan}
+use Rattle.tx_cond.specs.declared.test.Comparand.{Comparand}
+use Rattle.tx_cond.specs.declared.test.ComparandScan.{ComparandScan}
 use Rattle.tx_scan.specs.Rests.{kept}
 use Rattle.tx_scan.specs.Supplied.{NeedsFewer, NeedsNoMore, NeedsNothing}
-use Rattle.tx_scan.specs.IntegerRests as integers
+use Rattle.tx_cond.specs.ComparandRests as comparands
 use Rattle.tx_scan.proofs.Answering.{same-answer}
 use Rattle.tx_scan.proofs.Composing.{answer-most, more-next, need-next, done-next, none-back, one-back}
-use Rattle.tx_scan.proofs.Mosts.{most-integer}
+use Rattle.tx_cond.proofs.Comparands.{most-one}
 use Rattle.tx_cond.specs.declared.test.TestScan.{TestScan}
 use Rattle.tx_cond.specs.declared.test.TestStage.TheVariants as stage
 use Rattle.tx_cond.specs.declared.test.Judged.{Judged}
@@ -33,71 +34,71 @@ fed-at-ok few reading old new t (Err e) h same k = tt
 
 -- the first number
 abbrev left_rest : TestScan → Item → List Item → Reading ℤ
-left_rest old item more = integers.rest old.integer (held_items (integers.held old.integer) old.token) item more
+left_rest old item more = comparands.rest old.scan (held_items (comparands.held old.scan) old.token) item more
 
-pub left-more : (old : TestScan) (scan : IntScan) (t : Seen) (want : Want) → old.stage ≡ stage.Left → integers.IsFed old.integer t scan (fed.More want) → IsFed old t (record old { integer = scan }) (fed.More want)
-left-more old scan t want s k = λ behind.
-    rw s (more-next integers.rest integers.held rest held (integers.most old.integer) 1 (left_rest old (Took t)) behind_left t scan (record old { integer = scan; stage = stage.Left }) want
-    (k (held_items (integers.held old.integer) old.token)) refl
-    (λ item more. ap (λ (items : List Item). next (integers.rest scan items item more) behind_left) (sym (ap (λ (n : ℕ). held_items n old.token) (k []).1))))
+pub left-more : (d : Comparand) (old : TestScan) (scan : ComparandScan) (t : Seen) (want : Want) → old.stage ≡ stage.Left d → comparands.IsFed old.scan t scan (fed.More want) → IsFed old t (record old { scan = scan }) (fed.More want)
+left-more d old scan t want s k = λ behind.
+    rw s (more-next comparands.rest comparands.held rest held (comparands.most old.scan) 1 (left_rest old (Took t)) (behind_left d) t scan (record old { scan = scan; stage = stage.Left d }) want
+    (k (held_items (comparands.held old.scan) old.token)) refl
+    (λ item more. ap (λ (items : List Item). next (comparands.rest scan items item more) (behind_left d)) (sym (ap (λ (n : ℕ). held_items n old.token) (k []).1))))
 
 kept-items : (n : ℕ) (t u : Seen) → u ≡ t → kept n t ≡ held_items n (Some u)
 kept-items zero t u e = refl
 kept-items (suc n) t u e = ap (λ (x : Seen). Took x ∷ []) (sym e)
 
-pub left-need : (old : TestScan) (scan : IntScan) (t u : Seen) (wanted : Kind) → old.stage ≡ stage.Left → u ≡ t → integers.IsFed old.integer t scan (fed.Need wanted) → IsFed old t (record old { integer = scan; token = Some u }) (fed.Need wanted)
-left-need old scan t u wanted s e k = λ behind.
-    rw s (need-next integers.rest integers.held rest held (integers.most old.integer) 1 (left_rest old (Took t)) behind_left t scan (record old { integer = scan; token = Some u; stage = stage.Left }) wanted
-    (k (held_items (integers.held old.integer) old.token)) (lit≤ tt)
-    (λ item more. ap (λ (items : List Item). next (integers.rest scan items item more) behind_left) (kept-items (integers.held scan) t u e)))
+pub left-need : (d : Comparand) (old : TestScan) (scan : ComparandScan) (t u : Seen) (wanted : Kind) → old.stage ≡ stage.Left d → u ≡ t → comparands.IsFed old.scan t scan (fed.Need wanted) → IsFed old t (record old { scan = scan; token = Some u }) (fed.Need wanted)
+left-need d old scan t u wanted s e k = λ behind.
+    rw s (need-next comparands.rest comparands.held rest held (comparands.most old.scan) 1 (left_rest old (Took t)) (behind_left d) t scan (record old { scan = scan; token = Some u; stage = stage.Left d }) wanted
+    (k (held_items (comparands.held old.scan) old.token)) (lit≤ tt)
+    (λ item more. ap (λ (items : List Item). next (comparands.rest scan items item more) (behind_left d)) (kept-items (comparands.held scan) t u e)))
 
-pub left-wrong : (old new : TestScan) (scan : IntScan) (t : Seen) (error : TexError) → old.stage ≡ stage.Left → integers.IsFed old.integer t scan (fed.Wrong error) → IsFed old t new (fed.Wrong error)
-left-wrong old new scan t error s k = λ behind more.
-    rw s (ap (λ r. next r behind_left) (k (held_items (integers.held old.integer) old.token) more))
+pub left-wrong : (d : Comparand) (old new : TestScan) (scan : ComparandScan) (t : Seen) (error : TexError) → old.stage ≡ stage.Left d → comparands.IsFed old.scan t scan (fed.Wrong error) → IsFed old t new (fed.Wrong error)
+left-wrong d old new scan t error s k = λ behind more.
+    rw s (ap (λ r. next r (behind_left d)) (k (held_items (comparands.held old.scan) old.token) more))
 
-left-done : (old new : TestScan) (scan : IntScan) (t : Seen) (n : ℤ) (back : ℕ) (answer : Fed ℤ) → old.stage ≡ stage.Left → integers.IsFed old.integer t scan (fed.Done n back) → IsTesting 0 (λ more. behind_left n (kept back t ++ more)) t new answer → IsFed old t new answer
-left-done old new scan t n back answer s k later = λ behind.
-    same-answer rest held 1 (λ more. rest old behind (Took t) more) (λ more. next (left_rest old (Took t) more) behind_left) t new answer (λ more. rw s refl)
-    (done-next integers.rest integers.held rest held (integers.most old.integer) 1 (left_rest old (Took t)) behind_left t scan new n back answer
-    (k (held_items (integers.held old.integer) old.token))
-    (answer-most rest held 0 1 (λ more. behind_left n (kept back t ++ more)) t new answer (lit≤ tt) later))
+left-done : (d : Comparand) (old new : TestScan) (scan : ComparandScan) (t : Seen) (n : ℤ) (back : ℕ) (answer : Fed ℤ) → old.stage ≡ stage.Left d → comparands.IsFed old.scan t scan (fed.Done n back) → IsTesting 0 (λ more. behind_left d n (kept back t ++ more)) t new answer → IsFed old t new answer
+left-done d old new scan t n back answer s k later = λ behind.
+    same-answer rest held 1 (λ more. rest old behind (Took t) more) (λ more. next (left_rest old (Took t) more) (behind_left d)) t new answer (λ more. rw s refl)
+    (done-next comparands.rest comparands.held rest held (comparands.most old.scan) 1 (left_rest old (Took t)) (behind_left d) t scan new n back answer
+    (k (held_items (comparands.held old.scan) old.token))
+    (answer-most rest held 0 1 (λ more. behind_left d n (kept back t ++ more)) t new answer (lit≤ tt) later))
 
-pub left-ends : (old new : TestScan) (scan : IntScan) (t : Seen) (n m : ℤ) (back : ℕ) (answer : Fed ℤ) → old.stage ≡ stage.Left → integers.IsFed old.integer t scan (fed.Done n back) → back ≡ 0 → m ≡ n → IsTesting 0 (λ more. behind_left m more) t new answer → IsFed old t new answer
-left-ends old new scan t n m back answer s k e f later =
-    left-done old new scan t n back answer s k
-    (none-back (λ items. IsTesting 0 (λ more. behind_left n (items ++ more)) t new answer) back t e (rw f at later))
+pub left-ends : (d : Comparand) (old new : TestScan) (scan : ComparandScan) (t : Seen) (n m : ℤ) (back : ℕ) (answer : Fed ℤ) → old.stage ≡ stage.Left d → comparands.IsFed old.scan t scan (fed.Done n back) → back ≡ 0 → m ≡ n → IsTesting 0 (λ more. behind_left d m more) t new answer → IsFed old t new answer
+left-ends d old new scan t n m back answer s k e f later =
+    left-done d old new scan t n back answer s k
+    (none-back (λ items. IsTesting 0 (λ more. behind_left d n (items ++ more)) t new answer) back t e (rw f at later))
 
-pub left-ends-before : (old new : TestScan) (scan : IntScan) (t : Seen) (n m : ℤ) (back : ℕ) (answer : Fed ℤ) → old.stage ≡ stage.Left → integers.IsFed old.integer t scan (fed.Done n back) → (back ≡ 0 → ⊥) → m ≡ n → IsTesting 0 (λ more. behind_left m (Took t ∷ more)) t new answer → IsFed old t new answer
-left-ends-before old new scan t n m back answer s k e f later =
-    left-done old new scan t n back answer s k
-    (one-back (λ items. IsTesting 0 (λ more. behind_left n (items ++ more)) t new answer) back t e (rw f at later))
+pub left-ends-before : (d : Comparand) (old new : TestScan) (scan : ComparandScan) (t : Seen) (n m : ℤ) (back : ℕ) (answer : Fed ℤ) → old.stage ≡ stage.Left d → comparands.IsFed old.scan t scan (fed.Done n back) → (back ≡ 0 → ⊥) → m ≡ n → IsTesting 0 (λ more. behind_left d m (Took t ∷ more)) t new answer → IsFed old t new answer
+left-ends-before d old new scan t n m back answer s k e f later =
+    left-done d old new scan t n back answer s k
+    (one-back (λ items. IsTesting 0 (λ more. behind_left d n (items ++ more)) t new answer) back t e (rw f at later))
 
 -- the last number
-pub last-more : (old : TestScan) (scan : IntScan) (j : Judged) (t : Seen) (want : Want) → old.stage ≡ stage.Last j → integers.IsFed old.integer t scan (fed.More want) → IsFed old t (record old { integer = scan }) (fed.More want)
+pub last-more : (old : TestScan) (scan : ComparandScan) (j : Judged) (t : Seen) (want : Want) → old.stage ≡ stage.Last j → comparands.IsFed old.scan t scan (fed.More want) → IsFed old t (record old { scan = scan }) (fed.More want)
 last-more old scan j t want s k = λ behind.
-    rw s (more-next integers.rest integers.held rest held (integers.most old.integer) 1 (λ more. integers.rest old.integer behind (Took t) more) (judged j) t scan (record old { integer = scan; stage = stage.Last j }) want
+    rw s (more-next comparands.rest comparands.held rest held (comparands.most old.scan) 1 (λ more. comparands.rest old.scan behind (Took t) more) (judged j) t scan (record old { scan = scan; stage = stage.Last j }) want
     (k behind) (k behind).1 (λ item more. refl))
 
-pub last-need : (old : TestScan) (scan : IntScan) (j : Judged) (t : Seen) (kind : Kind) → old.stage ≡ stage.Last j → integers.IsFed old.integer t scan (fed.Need kind) → IsFed old t (record old { integer = scan }) (fed.Need kind)
+pub last-need : (old : TestScan) (scan : ComparandScan) (j : Judged) (t : Seen) (kind : Kind) → old.stage ≡ stage.Last j → comparands.IsFed old.scan t scan (fed.Need kind) → IsFed old t (record old { scan = scan }) (fed.Need kind)
 last-need old scan j t kind s k = λ behind.
-    let most : integers.most old.integer ≤ 1 = most-integer old.integer in
-    let few : integers.held scan ≤ 1 = omega (arith, most, (k behind).1) in
-    rw s (need-next integers.rest integers.held rest held (integers.most old.integer) 1 (λ more. integers.rest old.integer behind (Took t) more) (judged j) t scan (record old { integer = scan; stage = stage.Last j }) kind
+    let most : comparands.most old.scan ≤ 1 = most-one old.scan in
+    let few : comparands.held scan ≤ 1 = omega (arith, most, (k behind).1) in
+    rw s (need-next comparands.rest comparands.held rest held (comparands.most old.scan) 1 (λ more. comparands.rest old.scan behind (Took t) more) (judged j) t scan (record old { scan = scan; stage = stage.Last j }) kind
     (k behind) few (λ item more. refl))
 
-pub last-wrong : (old new : TestScan) (scan : IntScan) (j : Judged) (t : Seen) (error : TexError) → old.stage ≡ stage.Last j → integers.IsFed old.integer t scan (fed.Wrong error) → IsFed old t new (fed.Wrong error)
+pub last-wrong : (old new : TestScan) (scan : ComparandScan) (j : Judged) (t : Seen) (error : TexError) → old.stage ≡ stage.Last j → comparands.IsFed old.scan t scan (fed.Wrong error) → IsFed old t new (fed.Wrong error)
 last-wrong old new scan j t error s k = λ behind more. rw s (ap (λ r. next r (judged j)) (k behind more))
 
-pub last-done : (old new : TestScan) (scan : IntScan) (j : Judged) (t : Seen) (n value : ℤ) (back : ℕ) → old.stage ≡ stage.Last j → integers.IsFed old.integer t scan (fed.Done n back) → value ≡ judgement j n → IsFed old t new (fed.Done value back)
+pub last-done : (old new : TestScan) (scan : ComparandScan) (j : Judged) (t : Seen) (n value : ℤ) (back : ℕ) → old.stage ≡ stage.Last j → comparands.IsFed old.scan t scan (fed.Done n back) → value ≡ judgement j n → IsFed old t new (fed.Done value back)
 last-done old new scan j t n value back s k v = λ behind.
-    let most : integers.most old.integer ≤ 1 = most-integer old.integer in
+    let most : comparands.most old.scan ≤ 1 = most-one old.scan in
     let few : back ≤ 1 = omega (arith, most, (k behind).0) in
     (few, λ more. rw (s, v) (ap (λ r. next r (judged j)) ((k behind).1 more)))
 
 -- a relation, where the number before it was passed on
-pub relation-at : (old new : TestScan) (t : Seen) (m n : ℤ) (answer : Fed ℤ) → old.stage ≡ stage.Relation m → n ≡ m → IsTesting 0 (λ more. behind_left n (Took t ∷ more)) t new answer → IsFed old t new answer
-relation-at old new t m n answer s e k =
-    fed-at 0 (λ more. behind_left m (Took t ∷ more)) old new t answer (lit≤ tt) (λ behind more. rw s refl) (rw e at k)
+pub relation-at : (d : Comparand) (old new : TestScan) (t : Seen) (m n : ℤ) (answer : Fed ℤ) → old.stage ≡ stage.Relation d m → n ≡ m → IsTesting 0 (λ more. behind_left d n (Took t ∷ more)) t new answer → IsFed old t new answer
+relation-at d old new t m n answer s e k =
+    fed-at 0 (λ more. behind_left d m (Took t ∷ more)) old new t answer (lit≤ tt) (λ behind more. rw s refl) (rw e at k)
 
 -- no value is needed
 pub needs_fewer : (answer : Fed ℤ) (old new : ℕ) → NeedsNothing answer → new ≡ 0 → NeedsFewer old new answer

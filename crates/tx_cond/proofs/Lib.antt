@@ -1,3 +1,4 @@
+pub mod Comparands
 pub mod Decided
 pub mod Skipped
 pub mod Lefts

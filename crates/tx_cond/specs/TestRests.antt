@@ -10,7 +10,7 @@ use Rattle.tx_seen.specs.declared.seen.Seen.{Seen}
 use Rattle.tx_seen.specs.Seen.{is_undefined}
 use Rattle.tx_seen.specs.Readings.{Reading, Wrong, next}
 use Rattle.tx_scan.specs.Rests.{HasTakenBy, IsAnswer}
-use Rattle.tx_scan.specs.IntegerRests as integers
+use Rattle.tx_cond.specs.ComparandRests as comparands
 use Rattle.tx_cond.specs.declared.test.Compared.{Compared}
 use Rattle.tx_cond.specs.declared.test.Compared.TheVariants as compared
 use Rattle.tx_cond.specs.declared.test.TestScan.{TestScan}
@@ -18,7 +18,7 @@ use Rattle.tx_cond.specs.declared.test.TestStage.{TestStage}
 use Rattle.tx_cond.specs.declared.test.TestStage.TheVariants as stage
 use Rattle.tx_cond.specs.Tests.{against, behind_left, judged, relation, second, test, two_tokens}
 
--- the token behind the first of two numbers that waits for a value, if one is held
+-- the token behind the first of two comparands that waits for a value, if one is held
 abbrev pub held_items : ℕ → Option Seen → List Item
 held_items zero token = []
 held_items (suc n) None = []
@@ -37,9 +37,9 @@ is_wrong compared.Meaning t = false
 
 -- the rest of a test by the stage of its scan
 abbrev pub stage_rest : TestStage → TestScan → List Item → Item → List Item → Reading ℤ
-stage_rest stage.Left scan behind item more = next (integers.rest scan.integer (held_items (integers.held scan.integer) scan.token) item more) behind_left
-stage_rest (stage.Relation m) scan behind item more = next (relation (item ∷ more)) (against m)
-stage_rest (stage.Last j) scan behind item more = next (integers.rest scan.integer behind item more) (judged j)
+stage_rest (stage.Left c) scan behind item more = next (comparands.rest scan.scan (held_items (comparands.held scan.scan) scan.token) item more) (behind_left c)
+stage_rest (stage.Relation c m) scan behind item more = next (relation (item ∷ more)) (against c m)
+stage_rest (stage.Last j) scan behind item more = next (comparands.rest scan.scan behind item more) (judged j)
 stage_rest (stage.First c) scan behind item more = two_tokens c (item ∷ more)
 stage_rest (stage.Second c) scan behind item more = second_of c scan.token (item ∷ more)
 
@@ -48,7 +48,7 @@ rest scan behind item more = stage_rest scan.stage scan behind item more
 
 -- how many tokens are held behind the last number
 abbrev pub stage_held : TestStage → TestScan → ℕ
-stage_held (stage.Last j) scan = integers.held scan.integer
+stage_held (stage.Last j) scan = comparands.held scan.scan
 stage_held _ scan = 0
 
 abbrev pub held : TestScan → ℕ
@@ -56,7 +56,7 @@ held scan = stage_held scan.stage scan
 
 -- how many values are needed at most, unless more tokens need more
 abbrev pub more_needed : TestScan → ℕ
-more_needed scan = integers.waiting scan.integer
+more_needed scan = comparands.more_needed scan.scan
 
 -- the scan that has taken these items reads on as the test that begins with them
 abbrev pub HasTaken : Test → Mode → TestScan → List Item → Type 0

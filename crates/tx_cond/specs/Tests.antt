@@ -20,8 +20,12 @@ use Rattle.tx_seen.specs.declared.meaning.Meaning.TheVariants.{Character, Held}
 use Rattle.tx_seen.specs.declared.seen.Seen.{Seen}
 use Rattle.tx_seen.specs.Seen.{is_space}
 use Rattle.tx_seen.specs.Readings.{Reading, More, Done, Wrong, next}
+use Rattle.tx_scan.specs.declared.scans.Measure.{Measure}
+use Rattle.tx_scan.specs.Dimensions.{dimension, lengths}
 use Rattle.tx_scan.specs.Integers.{integer, expanded}
 use Rattle.tx_cond.specs.Alike.{same_meaning}
+use Rattle.tx_cond.specs.declared.test.Comparand.{Comparand}
+use Rattle.tx_cond.specs.declared.test.Comparand.TheVariants.{Number, Size}
 use Rattle.tx_cond.specs.declared.test.Relation.{Relation}
 use Rattle.tx_cond.specs.declared.test.Relation.TheVariants.{Less, Equal, Greater}
 use Rattle.tx_cond.specs.declared.test.Compared.{Compared}
@@ -48,9 +52,18 @@ judgement (Against m relation) n = truth (stands relation m n)
 abbrev pub judged : Judged → ℤ → List Item → Reading ℤ
 judged j n rest = Done (judgement j n) rest
 
--- the last number of a test
-abbrev pub last_number : Judged → List Item → Reading ℤ
-last_number j items = next (integer items) (judged j)
+-- a dimension, by its sp
+abbrev pub in_points : Measure → List Item → Reading ℤ
+in_points measure rest = Done measure.size rest
+
+-- what a relation stands between
+abbrev pub comparand : Comparand → List Item → Reading ℤ
+comparand Number items = integer items
+comparand Size items = next (dimension lengths items) in_points
+
+-- the last number or size of a test
+abbrev pub last_one : Comparand → Judged → List Item → Reading ℤ
+last_one c j items = next (comparand c items) (judged j)
 
 -- `<`, `=` or `>` of category 12
 abbrev pub relation_of : Token → Option Relation
@@ -72,12 +85,12 @@ relation [] = More Expanded
 relation (Gave v ∷ rest) = Wrong MissingUnit
 relation (Took t ∷ rest) = expanded t (if is_space t then relation rest else related (relation_of t.token) rest)
 
--- what stands behind the first of two numbers
-abbrev pub against : ℤ → Relation → List Item → Reading ℤ
-against m r rest = last_number (Against m r) rest
+-- what stands behind the first of two numbers or sizes
+abbrev pub against : Comparand → ℤ → Relation → List Item → Reading ℤ
+against c m r rest = last_one c (Against m r) rest
 
-abbrev pub behind_left : ℤ → List Item → Reading ℤ
-behind_left m rest = next (relation rest) (against m)
+abbrev pub behind_left : Comparand → ℤ → List Item → Reading ℤ
+behind_left c m rest = next (relation rest) (against c m)
 
 -- the character that a token means, and its category, by their numbers; an active character that isn't expanded stands for
 -- itself; what means no character has neither
@@ -132,14 +145,28 @@ two_tokens c [] = More (want c)
 two_tokens c (Gave v ∷ rest) = Wrong MissingNumber
 two_tokens c (Took t ∷ rest) = wanted c t (second c t rest)
 
+-- what the relation of a test stands between, where it has one
+abbrev pub compared_by : Test → Comparand
+compared_by kind.Character = Number
+compared_by kind.Category = Number
+compared_by kind.Same = Number
+compared_by kind.Number = Number
+compared_by kind.Dimension = Size
+compared_by kind.Odd = Number
+compared_by kind.Case = Number
+compared_by (kind.Mode which) = Number
+compared_by kind.True = Number
+compared_by kind.False = Number
+
 -- a test, in this mode
 abbrev pub test : Test → Mode → List Item → Reading ℤ
 test kind.Character mode items = two_tokens compared.Code items
 test kind.Category mode items = two_tokens compared.Category items
 test kind.Same mode items = two_tokens compared.Meaning items
-test kind.Number mode items = next (integer items) behind_left
-test kind.Odd mode items = last_number Odd items
-test kind.Case mode items = last_number Case items
+test kind.Number mode items = next (comparand Number items) (behind_left Number)
+test kind.Dimension mode items = next (comparand Size items) (behind_left Size)
+test kind.Odd mode items = last_one Number Odd items
+test kind.Case mode items = last_one Number Case items
 test (kind.Mode which) mode items = Done (truth (holds which mode)) items
 test kind.True mode items = Done (pos 1) items
 test kind.False mode items = Done (pos 0) items

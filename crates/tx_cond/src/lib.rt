@@ -7,6 +7,7 @@
 //! Read `types`, `skipper` and `laws`, then `stage` and `stack`; and `test`, `comparing` and `testing`.
 #![tactic(auto)]
 
+mod comparand;
 mod comparing;
 mod laws;
 mod skipper;

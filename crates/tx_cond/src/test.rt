@@ -1,7 +1,16 @@
 //! How far a test is.
 
-use tx_scan::IntScan;
+use tx_scan::{DimenScan, IntScan};
 use tx_seen::Seen;
+
+/// What a relation stands between.
+#[derive(Clone, Copy, PartialEq, Eq)]
+pub enum Comparand {
+    /// \ifnum: integers.
+    Number,
+    /// \ifdim: dimensions, by their sp.
+    Size,
+}
 
 /// A relation of two numbers, as \ifnum has one between its two.
 #[derive(Clone, Copy, PartialEq, Eq)]
@@ -36,10 +45,10 @@ pub enum Judged {
 /// The part of a test that comes next.
 #[derive(Clone, Copy)]
 pub enum TestStage {
-    /// The first number of two.
-    Left,
-    /// The relation behind this number, with spaces before it.
-    Relation(i64),
+    /// The first of two comparands.
+    Left(Comparand),
+    /// The relation behind this one, with spaces before it.
+    Relation(Comparand, i64),
     /// The last number.
     Last(Judged),
     /// The first of two tokens.
@@ -48,12 +57,21 @@ pub enum TestStage {
     Second(Compared),
 }
 
+/// An integer, or a dimension in sp, that is being scanned.
+#[derive(Drop)]
+pub struct ComparandScan {
+    /// Which of them it is.
+    pub(crate) comparand: Comparand,
+    pub(crate) number: IntScan,
+    pub(crate) size: DimenScan,
+}
+
 /// The test of a conditional that is being scanned.
 #[derive(Drop)]
 pub struct TestScan {
     pub(crate) stage: TestStage,
-    /// The number that is read.
-    pub(crate) integer: IntScan,
-    /// The first of two tokens; or the token behind the first of two numbers, where that waits for a value.
+    /// The number or the size that is read.
+    pub(crate) scan: ComparandScan,
+    /// The first of two tokens; or the token behind the first of two comparands, where that waits for a value.
     pub(crate) token: Option<Seen>,
 }

@@ -8,23 +8,35 @@ ghost use Rattle.tx_seen.specs.declared.seen.Seen.{Seen};
 ghost use Rattle.tx_seen.specs.Readings.{Answers};
 ghost use Rattle.tx_scan.specs.Rests.{IsFedBy, IsGivenBy};
 ghost use Rattle.tx_scan.specs.Supplied.{NeedsFewer, NeedsNoMore, NeedsNothing};
+ghost use Rattle.tx_cond.specs.Tests as spec;
 ghost use Rattle.tx_cond.specs.Tests.{test, behind_left, two_tokens};
 ghost use Rattle.tx_cond.specs.TestRests.{HasTaken, IsFed, IsTesting, more_needed, second_of};
 ghost use Rattle.tx_cond.specs.TestRests as rests;
 
 use crate::comparing::truth;
-use crate::test::{Compared, Judged, Relation, TestScan, TestStage};
+use crate::test::{Comparand, ComparandScan, Compared, Judged, Relation, TestScan, TestStage};
 use std::alloc::{AllocError, Global};
 use tx_prim::{Mode, Test};
-use tx_scan::IntScan;
 use tx_seen::{Fed, Seen, TexError, Value, Want};
+
+/// What the relation of a test stands between, where it has one.
+fn compared_by(kind: Test) -> Comparand
+    ensures { result ≡ spec.compared_by kind }
+{
+    match kind {
+        Test::Dimension => Comparand::Size,
+        Test::Number | Test::Odd | Test::Case => Comparand::Number,
+        Test::Character | Test::Category | Test::Same => Comparand::Number,
+        Test::Mode(_) | Test::True | Test::False => Comparand::Number,
+    }
+}
 
 impl TestScan {
     /// A scan in which no test has begun. It takes no memory.
     pub fn new(alloc: Global) -> TestScan {
         TestScan {
-            stage: TestStage::Left,
-            integer: IntScan::new(alloc),
+            stage: TestStage::Left(Comparand::Number),
+            scan: ComparandScan::new(alloc),
             token: None,
         }
     }
@@ -35,12 +47,13 @@ impl TestScan {
         ensures answer { Answers (test kind mode) (HasTaken kind mode) [] self.new result }
         ensures none { more_needed self.new ≡ 0 }
     {
-        self.integer.restart();
+        self.scan.restart(compared_by(kind));
         match kind {
             Test::Character => self.on(TestStage::First(Compared::Code), Want::Expanded),
             Test::Category => self.on(TestStage::First(Compared::Category), Want::Expanded),
             Test::Same => self.on(TestStage::First(Compared::Meaning), Want::Raw),
-            Test::Number => self.on(TestStage::Left, Want::Expanded),
+            Test::Number => self.on(TestStage::Left(Comparand::Number), Want::Expanded),
+            Test::Dimension => self.on(TestStage::Left(Comparand::Size), Want::Expanded),
             Test::Odd => self.on(TestStage::Last(Judged::Odd), Want::Expanded),
             Test::Case => self.on(TestStage::Last(Judged::Case), Want::Expanded),
             Test::Mode(which) => Fed::Done(truth(which.holds(mode)), 0),
@@ -76,55 +89,55 @@ impl TestScan {
         ensures needed { IfOk result (NeedsNoMore (more_needed self.old) (more_needed self.new)) }
     {
         match self.stage {
-            TestStage::Left => self.feed_left(token),
-            TestStage::Relation(left) => Ok(self.feed_relation(left, token)),
+            TestStage::Left(comparand) => self.feed_left(comparand, token),
+            TestStage::Relation(comparand, left) => Ok(self.feed_relation(comparand, left, token)),
             TestStage::Last(judged) => self.feed_last(judged, token),
             TestStage::First(compared) => self.feed_first(compared, token),
             TestStage::Second(compared) => Ok(self.feed_second(compared, token)),
         }
     }
 
-    /// The first of two numbers, or what ends it. Its only error is want of memory.
+    /// The first of two comparands, or what ends it. Its only error is want of memory.
     #[tactic(auto, using(crate::proofs::Lefts::needs_no_more))]
-    fn feed_left(&mut self, token: &Seen) -> Result<Fed<i64>, AllocError>
-        requires { self.old.stage ≡ TestStage.Left }
+    fn feed_left(&mut self, comparand: Comparand, token: &Seen) -> Result<Fed<i64>, AllocError>
+        requires { self.old.stage ≡ TestStage.Left comparand }
         ensures fed { IfOk result (IsFed self.old token.now self.new) }
         ensures needed { IfOk result (NeedsNoMore (more_needed self.old) (more_needed self.new)) }
     {
-        match self.integer.feed(token)? {
+        match self.scan.feed(token)? {
             Fed::More(want) => Ok(Fed::More(want)),
             Fed::Need(wanted) => {
                 self.token = Some(token.clone()?);
                 Ok(Fed::Need(wanted))
             }
-            Fed::Done(number, 0) => Ok(self.to_relation(number)),
-            Fed::Done(number, _) => Ok(self.feed_relation(number, token)),
+            Fed::Done(number, 0) => Ok(self.to_relation(comparand, number)),
+            Fed::Done(number, _) => Ok(self.feed_relation(comparand, number, token)),
             Fed::Wrong(error) => Ok(Fed::Wrong(error)),
         }
     }
 
-    /// The first of two numbers is whole.
-    fn to_relation(&mut self, left: i64) -> Fed<i64>
-        ensures answer { (t : Seen) → IsTesting 0 (λ more. behind_left left more) t self.new result }
+    /// The first of two comparands is whole.
+    fn to_relation(&mut self, comparand: Comparand, left: i64) -> Fed<i64>
+        ensures answer { (t : Seen) → IsTesting 0 (λ more. behind_left comparand left more) t self.new result }
         ensures nothing { NeedsNothing result }
         ensures none { more_needed self.new ≡ 0 }
     {
-        self.integer.restart();
-        self.on(TestStage::Relation(left), Want::Expanded)
+        self.scan.restart(comparand);
+        self.on(TestStage::Relation(comparand, left), Want::Expanded)
     }
 
     /// A relation, or a space before it.
-    fn feed_relation(&mut self, left: i64, token: &Seen) -> Fed<i64>
-        ensures answer { IsTesting 0 (λ more. behind_left left (Took token.now ∷ more)) token.now self.new result }
+    fn feed_relation(&mut self, comparand: Comparand, left: i64, token: &Seen) -> Fed<i64>
+        ensures answer { IsTesting 0 (λ more. behind_left comparand left (Took token.now ∷ more)) token.now self.new result }
         ensures nothing { NeedsNothing result }
         ensures none { more_needed self.new ≡ 0 }
     {
-        self.integer.restart();
+        self.scan.restart(comparand);
         if token.is_undefined() {
             return Fed::Wrong(TexError::Undefined);
         }
         if token.is_space() {
-            return self.on(TestStage::Relation(left), Want::Expanded);
+            return self.on(TestStage::Relation(comparand, left), Want::Expanded);
         }
         match Relation::of_token(&token.token) {
             Some(relation) => self.on(
@@ -135,13 +148,13 @@ impl TestScan {
         }
     }
 
-    /// The last number, or what ends it. Its only error is want of memory.
+    /// The last one, or what ends it. Its only error is want of memory.
     fn feed_last(&mut self, judged: Judged, token: &Seen) -> Result<Fed<i64>, AllocError>
         requires { self.old.stage ≡ TestStage.Last judged }
         ensures fed { IfOk result (IsFed self.old token.now self.new) }
         ensures needed { IfOk result (NeedsNoMore (more_needed self.old) (more_needed self.new)) }
     {
-        match self.integer.feed(token)? {
+        match self.scan.feed(token)? {
             Fed::More(want) => Ok(Fed::More(want)),
             Fed::Need(kind) => Ok(Fed::Need(kind)),
             Fed::Done(number, back) => Ok(Fed::Done(judged.judgement(number), back)),
@@ -185,58 +198,61 @@ impl TestScan {
         Fed::Done(truth(compared.alike(first, token)), 0)
     }
 
-    /// Takes the value that it needs. The answer is what reading gives of all that was taken.
-    pub fn give(&mut self, value: &Value) -> Fed<i64>
-        ensures answer { (kind : Kind_of_test) → (mode : Mode_of_test) → (taken : List Item) → HasTaken kind mode self.old taken → Answers (test kind mode) (HasTaken kind mode) (taken ++ Gave value.now ∷ []) self.new result }
-        ensures part { IsGivenBy rests.rest rests.held self.old value.now self.new result }
-        ensures fewer { NeedsFewer (more_needed self.old) (more_needed self.new) result }
+    /// Takes the value that it needs. The answer is what reading gives of all that was taken. Its only error is want of
+    /// memory.
+    pub fn give(&mut self, value: &Value) -> Result<Fed<i64>, AllocError>
+        ensures answer { (kind : Kind_of_test) → (mode : Mode_of_test) → (taken : List Item) → HasTaken kind mode self.old taken → IfOk result (Answers (test kind mode) (HasTaken kind mode) (taken ++ Gave value.now ∷ []) self.new) }
+        ensures part { IfOk result (IsGivenBy rests.rest rests.held self.old value.now self.new) }
+        ensures fewer { IfOk result (NeedsFewer (more_needed self.old) (more_needed self.new)) }
     {
         self.behind_value(value)
     }
 
-    /// What it is behind a value.
-    fn behind_value(&mut self, value: &Value) -> Fed<i64>
-        ensures part { IsGivenBy rests.rest rests.held self.old value.now self.new result }
-        ensures fewer { NeedsFewer (more_needed self.old) (more_needed self.new) result }
+    /// What it is behind a value. Its only error is want of memory.
+    fn behind_value(&mut self, value: &Value) -> Result<Fed<i64>, AllocError>
+        ensures part { IfOk result (IsGivenBy rests.rest rests.held self.old value.now self.new) }
+        ensures fewer { IfOk result (NeedsFewer (more_needed self.old) (more_needed self.new)) }
     {
         match self.stage {
-            TestStage::Left => self.give_left(value),
+            TestStage::Left(comparand) => self.give_left(comparand, value),
             TestStage::Last(judged) => self.give_last(judged, value),
-            TestStage::Relation(_) => Fed::Wrong(TexError::MissingUnit),
-            TestStage::First(_) | TestStage::Second(_) => Fed::Wrong(TexError::MissingNumber),
+            TestStage::Relation(_, _) => Ok(Fed::Wrong(TexError::MissingUnit)),
+            TestStage::First(_) | TestStage::Second(_) => {
+                Ok(Fed::Wrong(TexError::MissingNumber))
+            }
         }
     }
 
-    /// The value that the first of two numbers waits for.
+    /// The value that the first of two comparands waits for. Its only error is want of memory.
     #[tactic(auto, using(crate::proofs::Lefts::needs_fewer))]
-    fn give_left(&mut self, value: &Value) -> Fed<i64>
-        requires { self.old.stage ≡ TestStage.Left }
-        ensures part { IsGivenBy rests.rest rests.held self.old value.now self.new result }
-        ensures fewer { NeedsFewer (more_needed self.old) (more_needed self.new) result }
+    fn give_left(&mut self, comparand: Comparand, value: &Value) -> Result<Fed<i64>, AllocError>
+        requires { self.old.stage ≡ TestStage.Left comparand }
+        ensures part { IfOk result (IsGivenBy rests.rest rests.held self.old value.now self.new) }
+        ensures fewer { IfOk result (NeedsFewer (more_needed self.old) (more_needed self.new)) }
     {
-        match self.integer.give(value) {
-            Fed::More(want) => Fed::More(want),
-            Fed::Need(wanted) => Fed::Need(wanted),
-            Fed::Done(number, 0) => self.to_relation(number),
+        match self.scan.give(value)? {
+            Fed::More(want) => Ok(Fed::More(want)),
+            Fed::Need(wanted) => Ok(Fed::Need(wanted)),
+            Fed::Done(number, 0) => Ok(self.to_relation(comparand, number)),
             Fed::Done(number, _) => match self.token.take() {
-                Some(token) => self.feed_relation(number, &token),
-                None => self.to_relation(number),
+                Some(token) => Ok(self.feed_relation(comparand, number, &token)),
+                None => Ok(self.to_relation(comparand, number)),
             },
-            Fed::Wrong(error) => Fed::Wrong(error),
+            Fed::Wrong(error) => Ok(Fed::Wrong(error)),
         }
     }
 
-    /// The value that the last number waits for.
-    fn give_last(&mut self, judged: Judged, value: &Value) -> Fed<i64>
+    /// The value that the last one waits for. Its only error is want of memory.
+    fn give_last(&mut self, judged: Judged, value: &Value) -> Result<Fed<i64>, AllocError>
         requires { self.old.stage ≡ TestStage.Last judged }
-        ensures part { IsGivenBy rests.rest rests.held self.old value.now self.new result }
-        ensures fewer { NeedsFewer (more_needed self.old) (more_needed self.new) result }
+        ensures part { IfOk result (IsGivenBy rests.rest rests.held self.old value.now self.new) }
+        ensures fewer { IfOk result (NeedsFewer (more_needed self.old) (more_needed self.new)) }
     {
-        match self.integer.give(value) {
-            Fed::More(want) => Fed::More(want),
-            Fed::Need(kind) => Fed::Need(kind),
-            Fed::Done(number, back) => Fed::Done(judged.judgement(number), back),
-            Fed::Wrong(error) => Fed::Wrong(error),
+        match self.scan.give(value)? {
+            Fed::More(want) => Ok(Fed::More(want)),
+            Fed::Need(kind) => Ok(Fed::Need(kind)),
+            Fed::Done(number, back) => Ok(Fed::Done(judged.judgement(number), back)),
+            Fed::Wrong(error) => Ok(Fed::Wrong(error)),
         }
     }
 }
@@ -252,7 +268,7 @@ impl Clone for TestScan {
         };
         Ok(TestScan {
             stage: self.stage,
-            integer: self.integer.clone()?,
+            scan: self.scan.clone()?,
             token,
         })
     }
