@@ -1,3 +1,4 @@
+pub mod Boxes
 pub mod Table
 pub mod Initex
 pub mod Stack

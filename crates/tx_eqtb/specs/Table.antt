@@ -1,5 +1,5 @@
 -- What stands at the places of a table, and how that changes.
-use Rattle.std.specs.Prelude.{◌≡◌, ℕ, ℤ, pos, List, [], unwrap_or, slice_get, slice_set}
+use Rattle.std.specs.Prelude.{◌≡◌, ℕ, ℤ, pos, List, [], Option, None, unwrap_or, slice_get, slice_set}
 use Rattle.std.specs.FinMap.{get, insert, remove}
 use Rattle.tx_char.specs.declared.category.Cat.{Cat}
 use Rattle.tx_char.specs.declared.category.Cat.TheVariants as category
@@ -12,12 +12,15 @@ use Rattle.tx_prim.specs.Dimensions.{dimension_number}
 use Rattle.tx_prim.specs.Tokens.{token_number}
 use Rattle.tx_prim.specs.declared.family.CharacterCode.TheVariants.{LowerCase, UpperCase, SpaceFactor, Math, Delimiter}
 use Rattle.tx_seen.specs.declared.place.Place.{Place}
-use Rattle.tx_seen.specs.declared.place.Place.TheVariants.{Name, Active, Count, Dimen, Toks, Category, Code, Integer, Dimension, Tokens}
+use Rattle.tx_seen.specs.declared.place.Place.TheVariants.{Name, Active, Count, Dimen, Toks, Category, Code, Integer, Dimension, Tokens, Box, BoxSize}
 use Rattle.tx_seen.specs.declared.meaning.Meaning.{Meaning}
 use Rattle.tx_seen.specs.declared.meaning.Meaning.TheVariants.{Undefined, Command, Character}
 use Rattle.tx_eqtb.specs.declared.entry.Entry.{Entry}
-use Rattle.tx_eqtb.specs.declared.entry.Entry.TheVariants.{Means, InCategory, Number, Tokens as Listed}
+use Rattle.tx_eqtb.specs.declared.entry.Entry.TheVariants.{Means, InCategory, Number, Tokens as Listed, Box as Boxed}
 use Rattle.tx_eqtb.specs.declared.table.Table.{Table}
+use Rattle.tx_node.specs.Items.{PackedBox}
+use Rattle.tx_eqtb.specs.declared.boxes.BoxRegister.{BoxRegister}
+use Rattle.tx_eqtb.specs.Boxes.{box_of, level_of, size_of, with_size}
 
 -- the meaning of a name: undefined where it has no entry
 abbrev pub meaning_of : Names Meaning → List ℕ → Meaning
@@ -36,7 +39,7 @@ active_meaning active code = unwrap_or (slice_get active code) Undefined
 abbrev pub number_of : List ℤ → ℕ → ℤ
 number_of numbers at = unwrap_or (slice_get numbers at) (pos 0)
 
--- the number that stands at a place, in scaled points where it is a size; 0 where no number stands
+-- the number that stands at a place, in scaled points where it is a size, of a box too; 0 where no number stands
 unfoldable pub number_at : Table → Place → ℤ
 number_at table (Count number) = number_of table.counts number
 number_at table (Dimen number) = number_of table.dimens number
@@ -47,6 +50,7 @@ number_at table (Code Math code) = number_of table.math code
 number_at table (Code Delimiter code) = number_of table.delimiters code
 number_at table (Integer parameter) = number_of table.integers (integer_number parameter)
 number_at table (Dimension parameter) = number_of table.dimensions (dimension_number parameter)
+number_at table (BoxSize side number) = size_of side (box_of table.boxes number)
 number_at table other = pos 0
 
 -- the list of tokens of a register or a parameter, and the one that stands at a place; an empty one where none stands
@@ -82,6 +86,7 @@ with_number_at table (Code Math code) value = record table { math = slice_set ta
 with_number_at table (Code Delimiter code) value = record table { delimiters = slice_set table.delimiters code value }
 with_number_at table (Integer parameter) value = record table { integers = slice_set table.integers (integer_number parameter) value }
 with_number_at table (Dimension parameter) value = record table { dimensions = slice_set table.dimensions (dimension_number parameter) value }
+with_number_at table (BoxSize side number) value = record table { boxes = with_size table.boxes side number value }
 with_number_at table other value = table
 
 abbrev pub with_category_at : Table → Place → Cat → Table
@@ -93,12 +98,28 @@ with_tokens_at table (Toks number) tokens = record table { token_registers = sli
 with_tokens_at table (Tokens parameter) tokens = record table { token_parameters = slice_set table.token_parameters (token_number parameter) tokens }
 with_tokens_at table other tokens = table
 
--- the table with an entry at a place that it fits
-unfoldable pub with_entry : Table → Place → Entry → Table
-with_entry table place (Means meaning) = with_meaning_at table place meaning
-with_entry table place (InCategory category) = with_category_at table place category
-with_entry table place (Number value) = with_number_at table place value
-with_entry table place (Listed tokens) = with_tokens_at table place tokens
+-- the box of a register, None where it is void and at any other place; and how many groups were open when it was assigned, 0 at
+-- any other place
+abbrev pub box_at : Table → Place → Option PackedBox
+box_at table (Box number) = box_of table.boxes number
+box_at table other = None
+
+abbrev pub level_at : Table → Place → ℕ
+level_at table (Box number) = level_of table.boxes number
+level_at table (BoxSize side number) = level_of table.boxes number
+level_at table other = 0
+
+abbrev pub with_box_at : Table → Place → BoxRegister → Table
+with_box_at table (Box number) register = record table { boxes = slice_set table.boxes number register }
+with_box_at table other register = table
+
+-- the table with an entry at a place that it fits, where so many groups are open
+unfoldable pub with_entry : ℕ → Table → Place → Entry → Table
+with_entry level table place (Means meaning) = with_meaning_at table place meaning
+with_entry level table place (InCategory category) = with_category_at table place category
+with_entry level table place (Number value) = with_number_at table place value
+with_entry level table place (Listed tokens) = with_tokens_at table place tokens
+with_entry level table place (Boxed held) = with_box_at table place (record { level = level; held = held })
 
 -- all characters have the same codes in two tables
 pub record HasSameCodes (some other : Table) : Type 0 where

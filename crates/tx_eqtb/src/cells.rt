@@ -2,10 +2,11 @@
 ghost use Rattle.std.specs.Prelude.{◌≡◌, ◌↔◌, slice_get, slice_set, IsTrue, IfOk, OnOk};
 ghost use Rattle.std.specs.Option.{option_copied};
 
+use crate::boxes::BoxRegister;
 use std::alloc::{AllocError, Global};
 use std::marker::Model;
 use std::rc::Rc;
-use tx_list::{Kept, same_items};
+use tx_list::{Items, Kept, same_items};
 use tx_seen::Meaning;
 use tx_toklist::TokList;
 
@@ -26,14 +27,21 @@ impl Cell for i32 {
 /// Meanings are shared one by one.
 impl Cell for Meaning {
     fn twins(alloc: Global, values: &[Meaning]) -> Result<Vec<Meaning>, AllocError> {
-        share_meanings(alloc, values)
+        shared(alloc, values)
     }
 }
 
 /// So are lists of tokens.
 impl Cell for TokList {
     fn twins(alloc: Global, values: &[TokList]) -> Result<Vec<TokList>, AllocError> {
-        share_lists(alloc, values)
+        shared(alloc, values)
+    }
+}
+
+/// And boxes.
+impl Cell for BoxRegister {
+    fn twins(alloc: Global, values: &[BoxRegister]) -> Result<Vec<BoxRegister>, AllocError> {
+        shared(alloc, values)
     }
 }
 
@@ -131,24 +139,9 @@ fn set_in<T: Cell>(values: &mut Rc<Values<T>>, number: usize, value: T) -> Resul
     Ok(())
 }
 
-/// Second meanings, equal to these.
-fn share_meanings(alloc: Global, meanings: &[Meaning]) -> Result<Vec<Meaning>, AllocError>
-    ensures { IfOk result (λ twins. twins.items ≡ meanings.now) }
+/// Second values, equal to these, made one by one. Its only error is want of memory.
+fn shared<T: Kept>(alloc: Global, values: &[T]) -> Result<Vec<T>, AllocError>
+    ensures { IfOk result (λ twins. twins.items ≡ values.now) }
 {
-    let mut twins = Vec::with_capacity(alloc, meanings.len())?;
-    for meaning in meanings {
-        twins.push(meaning.share()?)?;
-    }
-    Ok(twins)
-}
-
-/// Second lists of tokens, equal to these.
-fn share_lists(alloc: Global, lists: &[TokList]) -> Result<Vec<TokList>, AllocError>
-    ensures { IfOk result (λ twins. twins.items ≡ lists.now) }
-{
-    let mut twins = Vec::with_capacity(alloc, lists.len())?;
-    for list in lists {
-        twins.push(list.share()?)?;
-    }
-    Ok(twins)
+    Ok(Items::from_slice(alloc, values)?.into_vec())
 }

@@ -1,6 +1,7 @@
 //! What stands at a place.
 ghost use Rattle.std.specs.Prelude.{◌≡◌};
 
+use crate::contents::BoxContents;
 use std::alloc::AllocError;
 use tx_char::Cat;
 use tx_seen::Meaning;
@@ -17,9 +18,12 @@ pub enum Entry {
     Number(i32),
     /// At a register and a parameter that is a list of tokens.
     Tokens(TokList),
+    /// At a box register: its box, or none where it is to be void.
+    Box(BoxContents),
 }
 
-/// A clone is the same entry. Its only error is that no more owners of a meaning or a list can be counted.
+/// A clone is the same entry. Its only error is that no more owners of a meaning, a list
+/// or a box can be counted.
 impl Clone for Entry {
     ghost is_clone = { λ source copy. copy ≡ source };
 
@@ -29,6 +33,7 @@ impl Clone for Entry {
             Entry::InCategory(category) => Ok(Entry::InCategory(*category)),
             Entry::Number(number) => Ok(Entry::Number(*number)),
             Entry::Tokens(tokens) => Ok(Entry::Tokens(tokens.share()?)),
+            Entry::Box(held) => Ok(Entry::Box(held.clone()?)),
         }
     }
 }

@@ -7,8 +7,10 @@ use crate::table::Table;
 pub enum GroupKind {
     /// A character that begins a group.
     Simple,
-    /// The brace after \hbox.
+    /// The brace after \hbox, \vbox and \vtop.
     HorizontalBox,
+    VerticalBox,
+    TopBox,
     /// \begingroup.
     SemiSimple,
 }

@@ -3,8 +3,10 @@ ghost use Rattle.std.specs.Prelude.{◌≡◌, [], pos, map, replicate, IfOk};
 ghost use Rattle.std.specs.FinMap.{from_entries};
 ghost use Rattle.tx_seen.specs.declared.meaning.Meaning.TheVariants.{Undefined};
 ghost use Rattle.tx_prim.specs.Integers.{initial_integer, all_integers};
+ghost use Rattle.tx_eqtb.specs.Boxes.{void};
 ghost use Rattle.tx_eqtb.specs.Initex as spec;
 
+use crate::boxes::BoxRegister;
 use crate::cells::Cells;
 use crate::reading::no_tokens;
 use crate::table::Table;
@@ -88,6 +90,13 @@ fn empty_lists(alloc: Global, count: usize) -> Result<Cells<TokList>, AllocError
     Cells::from_vec(vec![in alloc; empty; count]?)
 }
 
+/// As many void box registers.
+fn void_boxes(alloc: Global, count: usize) -> Result<Cells<BoxRegister>, AllocError>
+    ensures { IfOk result (λ boxes. boxes ≡ replicate count void) }
+{
+    Cells::from_vec(vec![in alloc; BoxRegister::void(); count]?)
+}
+
 /// The names of the primitives that are expanded.
 #[tactic(auto, using(crate::proofs::Filled::filled_steps))]
 fn expandable_names(alloc: Global) -> Result<NameMap<Meaning>, AllocError>
@@ -142,5 +151,6 @@ pub fn initial_table(alloc: Global, begun: &Moment) -> Result<Table, AllocError>
         dimensions: zeros(alloc, DimensionParameter::COUNT)?,
         token_registers: empty_lists(alloc, ALL)?,
         token_parameters: empty_lists(alloc, TokenParameter::COUNT)?,
+        boxes: void_boxes(alloc, ALL)?,
     })
 }

@@ -1,16 +1,19 @@
-//! TeX's table of equivalents: what every name, active character, register, character code and parameter stands for, and
-//! the groups that are open. Contracts see the table as it stands and, for each open group, its kind and the table outside
-//! it: a group begins with a copy, and what was outside comes back when it ends.
+//! TeX's table of equivalents: what every name, active character, register, box register, character code and parameter stands
+//! for, and the groups that are open. Contracts see the table as it stands and, for each open group, its kind and the table outside
+//! it: a group begins with a copy, and what was outside comes back when it ends. A box register keeps the level at which it was
+//! assigned, for what is used up or resized is so in each group that was opened since.
 //!
 //! Proved: it is a stack of tables: assignments, groups, `same` and `share` are exactly as defined, and so are the values that
 //! scans find in it. Only tested: that it begins as INITEX's table does: of its categories the borders of each kind in library_cases, of all
 //! else what documents show that Knuth's TeX reads alike (tools/check-tex).
 //!
-//! Read `entry`, what stands at a place; `cells`, `table`, `reading` and `writing`; `initex`, the table at the beginning;
+//! Read `entry`, what stands at a place; `cells`, `contents`, `boxes`, `table`, `reading` and `writing`; `initex`, the table at the beginning;
 //! `groups` and `nesting`; and then `eqtb` with `stack` and `values`. Places and meanings are tx_seen's.
 #![tactic(auto)]
 
+mod boxes;
 mod cells;
+mod contents;
 mod entry;
 mod eqtb;
 mod error;
@@ -23,6 +26,7 @@ mod table;
 mod values;
 mod writing;
 
+pub use contents::BoxContents;
 pub use entry::Entry;
 pub use eqtb::Eqtb;
 pub use error::{CloseError, OpenError};

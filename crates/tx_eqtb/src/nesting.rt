@@ -1,7 +1,7 @@
 //! The groups that are open, one in another.
-ghost use Rattle.std.specs.Prelude.{◌≡◌, ◌↔◌, ◌-◌, [], ◌∷◌, ◌++◌, length, take, map, slice_get, IsTrue, IfOk, OnOk, OnErr};
+ghost use Rattle.std.specs.Prelude.{◌≡◌, ◌↔◌, ◌≤◌, ◌-◌, [], ◌∷◌, ◌++◌, length, take, map, slice_get, IsTrue, IfOk, OnOk, OnErr};
 ghost use Rattle.std.specs.Option.{option_map};
-ghost use Rattle.tx_eqtb.specs.Stack.{assigned_outside, innermost};
+ghost use Rattle.tx_eqtb.specs.Stack.{assigned_outside, assigned_within, innermost};
 
 use crate::entry::Entry;
 use crate::groups::{Group, GroupKind};
@@ -76,11 +76,21 @@ impl Nesting {
         }
     }
 
-    /// Gives a place an entry outside each group. After want of memory, its only error, the groups may only be dropped.
-    pub fn assign_outside(&mut self, place: &Place, value: &Entry) -> Result<(), AllocError>
-        ensures { OnOk result (self.new ≡ map (assigned_outside place.now value.now) self.old) }
+    /// Gives a place an entry outside each group but the outermost ones, so many, as if no more than these were open. After want
+    /// of memory, its only error, the groups may only be dropped.
+    #[tactic(auto, using(crate::proofs::Within::none_within))]
+    pub fn assign_outside(
+        &mut self,
+        level: usize,
+        place: &Place,
+        value: &Entry,
+    ) -> Result<(), AllocError>
+        ensures { OnOk result (self.new ≡ assigned_within level place.now value.now self.old) }
     {
-        assign_each(self.groups.as_mut_slice(), place, value)
+        if self.groups.len() <= level {
+            return Ok(());
+        }
+        assign_from(self.groups.as_mut_slice(), level, place, value)
     }
 
     /// Whether both are the same groups.
@@ -101,13 +111,31 @@ impl Nesting {
     }
 }
 
-/// Gives a place an entry outside each of these groups.
-fn assign_each(groups: &mut [Group], place: &Place, value: &Entry) -> Result<(), AllocError>
-    ensures { OnOk result (groups.new ≡ map (assigned_outside place.now value.now) groups.old) }
+/// Gives a place an entry outside each of these groups but the first ones, so many.
+fn assign_from(
+    groups: &mut [Group],
+    level: usize,
+    place: &Place,
+    value: &Entry,
+) -> Result<(), AllocError>
+    requires { level ≤ length groups.old }
+    ensures { OnOk result (groups.new ≡ assigned_within level place.now value.now groups.old) }
+{
+    assign_each(&mut groups[level..], level, place, value)
+}
+
+/// Gives a place an entry outside each of these groups, as if so many groups were open.
+fn assign_each(
+    groups: &mut [Group],
+    level: usize,
+    place: &Place,
+    value: &Entry,
+) -> Result<(), AllocError>
+    ensures { OnOk result (groups.new ≡ map (assigned_outside level place.now value.now) groups.old) }
 {
     for k in 0..groups.len() {
         let entry = value.clone()?;
-        groups[k].outside.set(place, entry)?;
+        groups[k].outside.set(level, place, entry)?;
     }
     Ok(())
 }

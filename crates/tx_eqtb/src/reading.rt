@@ -1,12 +1,14 @@
 //! Reading the table, comparing two, and making a second one.
-ghost use Rattle.std.specs.Prelude.{◌≡◌, ◌↔◌, [], IsTrue, IfOk};
+ghost use Rattle.std.specs.Prelude.{◌≡◌, ◌↔◌, [], option_copied, IsTrue, IfOk};
 ghost use Rattle.tx_eqtb.specs.Table as spec;
 ghost use Rattle.tx_eqtb.specs.Table.{HasSameCodes};
 
+use crate::boxes::{box_of, level_of, size_of};
 use crate::cells::Cells;
 use crate::table::Table;
 use std::alloc::{AllocError, Global};
 use tx_char::{Cat, ControlName, Token};
+use tx_node::BoxNode;
 use tx_prim::{CharacterCode, Primitive};
 use tx_seen::{Meaning, Place};
 use tx_toklist::{TokList, Toks};
@@ -65,8 +67,10 @@ impl Table {
             ),
             Place::Integer(parameter) => number_of(&self.integers, parameter.number()),
             Place::Dimension(parameter) => number_of(&self.dimensions, parameter.number()),
+            Place::BoxSize(side, number) => size_of(&self.boxes, *side, *number as usize),
             Place::Name(_) | Place::Active(_) | Place::Category(_) => 0,
-            Place::Toks(_) | Place::Tokens(_) => 0,
+            Place::Toks(_) | Place::Tokens(_) | Place::Box(_) => 0,
+            Place::Last(_) | Place::Badness | Place::PrevDepth => 0,
         }
     }
 
@@ -79,6 +83,34 @@ impl Table {
             Place::Toks(number) => list_of(&self.token_registers, *number as usize),
             Place::Tokens(parameter) => list_of(&self.token_parameters, parameter.number()),
             _ => no_tokens(self.token_registers.allocator()),
+        }
+    }
+
+    /// The box of a register, lent; None where it is void, and at any other place.
+    pub fn boxed(&self, place: &Place) -> Option<&BoxNode>
+        ensures { option_copied result ≡ spec.box_at self.now place.now }
+    {
+        match place {
+            Place::Box(number) => box_of(&self.boxes, *number as usize),
+            Place::Name(_) | Place::Active(_) | Place::Category(_) | Place::Code(_, _) => None,
+            Place::Count(_) | Place::Dimen(_) | Place::Toks(_) | Place::BoxSize(_, _) => None,
+            Place::Integer(_) | Place::Dimension(_) | Place::Tokens(_) => None,
+            Place::Last(_) | Place::Badness | Place::PrevDepth => None,
+        }
+    }
+
+    /// How many groups were open when a box register was assigned, also by the place of one of its box's sizes; 0 at any other
+    /// place.
+    pub fn level(&self, place: &Place) -> usize
+        ensures { result ≡ spec.level_at self.now place.now }
+    {
+        match place {
+            Place::Box(number) => level_of(&self.boxes, *number as usize),
+            Place::BoxSize(_, number) => level_of(&self.boxes, *number as usize),
+            Place::Name(_) | Place::Active(_) | Place::Category(_) | Place::Code(_, _) => 0,
+            Place::Count(_) | Place::Dimen(_) | Place::Toks(_) => 0,
+            Place::Integer(_) | Place::Dimension(_) | Place::Tokens(_) => 0,
+            Place::Last(_) | Place::Badness | Place::PrevDepth => 0,
         }
     }
 
@@ -125,6 +157,7 @@ impl Table {
             && self.dimensions.same(&other.dimensions)
             && self.token_registers.same(&other.token_registers)
             && self.token_parameters.same(&other.token_parameters)
+            && self.boxes.same(&other.boxes)
             && self.categories.same(&other.categories)
             && self.active.same(&other.active)
             && self.same_codes(other)
@@ -161,6 +194,7 @@ impl Table {
             dimensions: self.dimensions.share()?,
             token_registers: self.token_registers.share()?,
             token_parameters: self.token_parameters.share()?,
+            boxes: self.boxes.share()?,
         })
     }
 }

@@ -1,8 +1,8 @@
 //! What is done to the table with its groups.
-ghost use Rattle.std.specs.Prelude.{◌≡◌, ◌↔◌, ◌≤◌, [], length, Some, Ok, Err, IsOk, IsTrue, IfOk, IfErr, OnOk, OnErr};
+ghost use Rattle.std.specs.Prelude.{◌≡◌, ◌↔◌, ◌≤◌, [], length, option_copied, Some, Ok, Err, IsOk, IsTrue, IfOk, IfErr, OnOk, OnErr};
 ghost use Rattle.tx_eqtb.specs.Initex.{initial_table};
-ghost use Rattle.tx_eqtb.specs.Stack.{assigned, assigned_everywhere, closed, kind_of, opened};
-ghost use Rattle.tx_eqtb.specs.Table.{active_meaning, meaning_of, number_at, token_meaning, tokens_at};
+ghost use Rattle.tx_eqtb.specs.Stack.{assigned, assigned_everywhere, closed, kind_of, opened, replaced};
+ghost use Rattle.tx_eqtb.specs.Table.{active_meaning, box_at, meaning_of, number_at, token_meaning, tokens_at};
 ghost use Rattle.tx_char.specs.Category.{category};
 
 use crate::entry::Entry;
@@ -13,6 +13,7 @@ use crate::initex;
 use crate::nesting::Nesting;
 use std::alloc::{AllocError, Global};
 use tx_char::{Cat, Codes, ControlName, Token};
+use tx_node::BoxNode;
 use tx_prim::Moment;
 use tx_seen::{Meaning, Place};
 use tx_toklist::TokList;
@@ -46,6 +47,13 @@ impl Eqtb {
         ensures { IfOk result (λ tokens. tokens ≡ tokens_at self.now.table place.now) }
     {
         self.table.tokens(place)
+    }
+
+    /// The box of a register, lent; None where it is void, and at a place that is no box register.
+    pub fn boxed(&self, place: &Place) -> Option<&BoxNode>
+        ensures { option_copied result ≡ box_at self.now.table place.now }
+    {
+        self.table.boxed(place)
     }
 
     /// The category of a character.
@@ -90,7 +98,7 @@ impl Eqtb {
     pub fn assign(&mut self, place: Place, value: Entry) -> Result<(), AllocError>
         ensures ok { OnOk result (self.new ≡ assigned self.old place value) }
     {
-        self.table.set(&place, value)
+        self.table.set(self.groups.depth(), &place, value)
     }
 
     /// Gives a place an entry in all groups and outside them; one of another kind than stands there changes nothing. After
@@ -98,8 +106,19 @@ impl Eqtb {
     pub fn assign_global(&mut self, place: Place, value: Entry) -> Result<(), AllocError>
         ensures ok { OnOk result (self.new ≡ assigned_everywhere self.old place value) }
     {
-        self.groups.assign_outside(&place, &value)?;
-        self.table.set(&place, value)
+        self.groups.assign_outside(0, &place, &value)?;
+        self.table.set(0, &place, value)
+    }
+
+    /// Gives a box register an entry, or its box a size, where its value was assigned: here, and outside each group that was
+    /// opened since, as \box and \wd do (TeX: The Program, sections 1079 and 1247); any other place, as if it were global. One of
+    /// another kind than stands there changes nothing. After want of memory, its only error, the table may only be dropped.
+    pub fn replace(&mut self, place: Place, value: Entry) -> Result<(), AllocError>
+        ensures ok { OnOk result (self.new ≡ replaced self.old place value) }
+    {
+        let level = self.table.level(&place);
+        self.groups.assign_outside(level, &place, &value)?;
+        self.table.set(level, &place, value)
     }
 
     /// Opens a group. `TooMany` comes exactly where 255 are open. After an error nothing has changed.

@@ -1,5 +1,6 @@
 //! The table itself.
 
+use crate::boxes::BoxRegister;
 use crate::cells::Cells;
 use tx_char::Codes;
 use tx_name::NameMap;
@@ -23,4 +24,5 @@ pub struct Table {
     pub(crate) dimensions: Cells<i32>,
     pub(crate) token_registers: Cells<TokList>,
     pub(crate) token_parameters: Cells<TokList>,
+    pub(crate) boxes: Cells<BoxRegister>,
 }

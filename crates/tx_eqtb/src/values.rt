@@ -9,13 +9,18 @@ impl Quantities for Eqtb {
 
     fn quantity(&self, place: &Place) -> Value {
         match place {
-            Place::Dimen(_) | Place::Dimension(_) => Value::Dimen(i64::from(self.number(place))),
+            Place::Dimen(_) | Place::Dimension(_) | Place::BoxSize(_, _) => {
+                Value::Dimen(i64::from(self.number(place)))
+            }
             Place::Category(code) => Value::Int(i64::from(self.category(*code).number())),
             Place::Count(_) | Place::Code(_, _) | Place::Integer(_) => {
                 Value::Int(i64::from(self.number(place)))
             }
             Place::Name(_) | Place::Active(_) => Value::Int(i64::from(self.number(place))),
-            Place::Toks(_) | Place::Tokens(_) => Value::Int(i64::from(self.number(place))),
+            Place::Last(_) | Place::Badness | Place::PrevDepth => Value::Int(0),
+            Place::Toks(_) | Place::Tokens(_) | Place::Box(_) => {
+                Value::Int(i64::from(self.number(place)))
+            }
         }
     }
 }

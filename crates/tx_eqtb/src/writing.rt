@@ -1,7 +1,8 @@
 //! Writing into the table.
 ghost use Rattle.std.specs.Prelude.{◌≡◌, OnOk};
-ghost use Rattle.tx_eqtb.specs.Table.{with_category_at, with_entry, with_meaning, with_meaning_at, with_number_at, with_tokens_at};
+ghost use Rattle.tx_eqtb.specs.Table.{with_box_at, with_category_at, with_entry, with_meaning, with_meaning_at, with_number_at, with_tokens_at};
 
+use crate::boxes::{BoxRegister, set_size};
 use crate::entry::Entry;
 use crate::table::Table;
 use std::alloc::AllocError;
@@ -49,8 +50,12 @@ impl Table {
                 .set(*code as usize, value),
             Place::Integer(parameter) => self.integers.set(parameter.number(), value),
             Place::Dimension(parameter) => self.dimensions.set(parameter.number(), value),
+            Place::BoxSize(side, number) => {
+                set_size(&mut self.boxes, *side, *number as usize, value)
+            }
             Place::Name(_) | Place::Active(_) | Place::Category(_) => Ok(()),
-            Place::Toks(_) | Place::Tokens(_) => Ok(()),
+            Place::Toks(_) | Place::Tokens(_) | Place::Box(_) => Ok(()),
+            Place::Last(_) | Place::Badness | Place::PrevDepth => Ok(()),
         }
     }
 
@@ -86,16 +91,30 @@ impl Table {
         }
     }
 
-    /// Gives a place an entry; one of another kind than stands there changes nothing.
+    /// Gives a box register another box and the level at which it was assigned.
+    fn set_box(&mut self, place: &Place, register: BoxRegister) -> Result<(), AllocError>
+        ensures { OnOk result (self.new ≡ with_box_at self.old place.now register) }
+    {
+        match place {
+            Place::Box(number) => self.boxes.set(*number as usize, register),
+            Place::Name(_) | Place::Active(_) | Place::Category(_) | Place::Code(_, _) => Ok(()),
+            Place::Count(_) | Place::Dimen(_) | Place::Toks(_) | Place::BoxSize(_, _) => Ok(()),
+            Place::Integer(_) | Place::Dimension(_) | Place::Tokens(_) => Ok(()),
+            Place::Last(_) | Place::Badness | Place::PrevDepth => Ok(()),
+        }
+    }
+
+    /// Gives a place an entry, where so many groups are open; one of another kind than stands there changes nothing.
     #[tactic(auto, unfolding(crate::specs::Table::with_entry))]
-    pub fn set(&mut self, place: &Place, value: Entry) -> Result<(), AllocError>
-        ensures { OnOk result (self.new ≡ with_entry self.old place.now value) }
+    pub fn set(&mut self, level: usize, place: &Place, value: Entry) -> Result<(), AllocError>
+        ensures { OnOk result (self.new ≡ with_entry level self.old place.now value) }
     {
         match value {
             Entry::Means(meaning) => self.set_meaning(place, meaning),
             Entry::InCategory(category) => self.set_category(place, category),
             Entry::Number(number) => self.set_number(place, number),
             Entry::Tokens(tokens) => self.set_tokens(place, tokens),
+            Entry::Box(held) => self.set_box(place, BoxRegister { level, held }),
         }
     }
 }

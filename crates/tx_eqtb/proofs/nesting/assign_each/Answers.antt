@@ -11,5 +11,5 @@ pub loop-k-preserved : goal.loop-k-preserved
 loop-k-preserved c =
     let before : Group = get_or c.loop-k.groups c.loop-k.k c.index-groups-k.result in
     let same : c.in_ok-entry.entry ≡ c.args.value.now = search rules in
-    ap (λ (t : Table). set c.loop-k.groups c.loop-k.k (record before { outside = t })) (c.in_ok-set.ensures ∙ ap (λ (e : Entry). with_entry before.outside c.args.place.now e) same)
-    ∙ map_over_more (assigned_outside c.args.place.now c.args.value.now) _ _ _ before c.loop-k-test.true c.loop-k.invariant (ap (get_or c.loop-k.groups c.loop-k.k) c.index-groups-k.is)
+    ap (λ (t : Table). set c.loop-k.groups c.loop-k.k (record before { outside = t })) (c.in_ok-set.ensures ∙ ap (λ (e : Entry). with_entry c.args.level before.outside c.args.place.now e) same)
+    ∙ map_over_more (assigned_outside c.args.level c.args.place.now c.args.value.now) _ _ _ before c.loop-k-test.true c.loop-k.invariant (ap (get_or c.loop-k.groups c.loop-k.k) c.index-groups-k.is)

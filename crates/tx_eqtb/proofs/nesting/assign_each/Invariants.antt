@@ -4,4 +4,4 @@ use Rattle.tx_eqtb.proofs.nesting.assign_each.Given as goal
 
 -- the groups so far have changed
 abbrev pub invariant-loop-k : goal.invariant-loop-k
-invariant-loop-k l = l.groups ≡ map (assigned_outside l.place l.value) (take l.k l.initial.groups) ++ drop l.k l.initial.groups
+invariant-loop-k l = l.groups ≡ map (assigned_outside l.level l.place l.value) (take l.k l.initial.groups) ++ drop l.k l.initial.groups
