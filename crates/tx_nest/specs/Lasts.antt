@@ -1,8 +1,8 @@
 -- What commands read and take away of a list's last item (TeX: The Program, sections 424, 1080 and 1105).
 use Rattle.std.specs.Prelude.{◌-◌, ℤ, pos, Bool, false, is_some, List, [], ◌∷◌, length, take, slice_get, unwrap_or, Option, Some, None, option_and_then, if◌then◌else◌}
 use Rattle.tx_num.specs.Glue.{GlueSpec, glue_of}
-use Rattle.tx_nest.specs.declared.last.ItemKind.{ItemKind}
-use Rattle.tx_nest.specs.declared.last.ItemKind.TheVariants as kind
+use Rattle.tx_prim.specs.declared.family.ItemKind.{ItemKind}
+use Rattle.tx_prim.specs.declared.family.ItemKind.TheVariants as kind
 use Rattle.tx_node.specs.declared.plain.Plain.{Plain}
 use Rattle.tx_node.specs.declared.plain.Plain.TheVariants.{Kern, Glue, Penalty}
 use Rattle.tx_node.specs.Items.{Item, Items, none, more, plain, shared, boxed, PackedBox}

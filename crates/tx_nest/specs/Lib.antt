@@ -3,3 +3,4 @@ pub mod Lending
 pub mod Leading
 pub mod Appended
 pub mod Lasts
+pub mod Changed

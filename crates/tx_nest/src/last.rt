@@ -7,17 +7,7 @@ use crate::list::ModeList;
 use std::alloc::AllocError;
 use tx_node::{BoxNode, Node, Nodes, Plain};
 use tx_num::Glue;
-
-/// Items that commands take away again and whose sizes they read (The TeXbook, chapter 24).
-#[derive(Clone, Copy, PartialEq, Eq)]
-pub enum ItemKind {
-    /// \unpenalty and \lastpenalty.
-    Penalty,
-    /// \unkern and \lastkern.
-    Kern,
-    /// \unskip and \lastskip: glue, leaders too.
-    Skip,
-}
+use tx_prim::ItemKind;
 
 /// The last node, lent, if there is one.
 #[tactic(auto, using(crate::proofs::Lists::last_is))]

@@ -1,15 +1,16 @@
 //! The lists that TeX builds, one in another (TeX: The Program, parts 16 and 47): a list with its mode and what the mode keeps
-//! beside it; how boxes and rules are appended, with the leading of vertical lists; and what commands read and take away of a
-//! list's last item.
+//! beside it; how boxes and rules are appended, with the leading of vertical lists; and what commands read, take away and put
+//! at a list's end.
 //!
 //! Proved: a nest is the list on top and those around it; what is appended stands behind the rest, with leading by \prevdepth
 //! where the mode is vertical; what is read and taken away is the last item where it is of that kind, and nothing else is.
 //! Nothing is left to tests.
 //!
-//! Modules in reading order: `state`, `list`, `nest`, `leading`, `append`, `last`.
+//! Modules in reading order: `state`, `list`, `nest`, `leading`, `append`, `last`, `change`.
 #![tactic(auto)]
 
 mod append;
+mod change;
 mod last;
 mod leading;
 mod list;
@@ -17,7 +18,8 @@ mod nest;
 mod state;
 
 pub use append::{append_box, append_rule};
-pub use last::{ItemKind, last_kern, last_penalty, last_skip, remove_last, take_last_box};
+pub use change::{append_item, append_items, has_last, remove_item, set_prev_depth};
+pub use last::{last_kern, last_penalty, last_skip, take_last_box};
 pub use leading::{LeadingParams, NestError};
 pub use list::ModeList;
 pub use nest::Nest;
