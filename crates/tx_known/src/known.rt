@@ -1,0 +1,12 @@
+//! What may be asked, as it is lent.
+
+use tx_eqtb::Eqtb;
+use tx_nest::Nest;
+
+/// What may be asked for: the table, the lists that are being built, and how bad the box is that was packed last.
+#[derive(Clone, Copy)]
+pub struct Known<'a> {
+    pub table: &'a Eqtb,
+    pub nest: &'a Nest,
+    pub badness: i64,
+}
