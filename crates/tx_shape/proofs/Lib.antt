@@ -1,0 +1,5 @@
+pub mod Parts
+pub mod Wording
+pub mod Amounts
+pub mod Steps
+mod Worked

@@ -1,0 +1,131 @@
+-- Boxes and what is done with them, as items at the front of a list (TeX: The Program, sections 645 and 1056 to 1110; The TeXbook,
+-- chapters 21 and 24).
+use Rattle.std.specs.Prelude.{ℕ, ℤ, pos, neg_ℤ, ◌∷◌, [], ◌||◌, Bool, true, false, codes, List, Option, Some, None, if◌then◌else◌}
+use Rattle.tx_prim.specs.declared.family.BoxSource.{BoxSource}
+use Rattle.tx_prim.specs.declared.family.BoxSource.TheVariants as source
+use Rattle.tx_prim.specs.declared.family.ShiftKind.{ShiftKind}
+use Rattle.tx_prim.specs.declared.family.ShiftKind.TheVariants as shift
+use Rattle.tx_prim.specs.declared.family.UnboxKind.{UnboxKind}
+use Rattle.tx_prim.specs.declared.primitive.Primitive.TheVariants as primitive
+use Rattle.tx_seen.specs.declared.error.TexError.TheVariants.{MissingBox, NumberOutOfRange}
+use Rattle.tx_seen.specs.declared.fed.Want.TheVariants.{Expanded}
+use Rattle.tx_seen.specs.declared.item.Item.{Item}
+use Rattle.tx_seen.specs.declared.item.Item.TheVariants.{Took, Gave}
+use Rattle.tx_seen.specs.declared.meaning.Meaning.{Meaning}
+use Rattle.tx_seen.specs.declared.meaning.Meaning.TheVariants as meaning
+use Rattle.tx_seen.specs.Seen.{is_space, is_relax}
+use Rattle.tx_seen.specs.Readings.{Reading, More, Done, Wrong, next}
+use Rattle.tx_scan.specs.Dimensions.{dimension, lengths}
+use Rattle.tx_scan.specs.Grammars.{equals, left_brace}
+use Rattle.tx_scan.specs.Integers.{integer, byte_of, expanded}
+use Rattle.tx_scan.specs.Keywords.{keyword}
+use Rattle.tx_shape.specs.declared.types.BoxContext.{BoxContext}
+use Rattle.tx_shape.specs.declared.types.BoxContext.TheVariants.{Append, Register, Ship}
+use Rattle.tx_shape.specs.declared.types.BoxGoal.{BoxGoal}
+use Rattle.tx_shape.specs.declared.types.BoxGoal.TheVariants.{Natural, To, Spread}
+use Rattle.tx_shape.specs.declared.types.BoxRead.TheVariants.{Begin, Use, Copy, Last}
+use Rattle.tx_shape.specs.declared.types.Shaping.{Shaping}
+use Rattle.tx_shape.specs.declared.types.Shaping.TheVariants as shaping
+use Rattle.tx_shape.specs.declared.types.Shaped.{Shaped}
+use Rattle.tx_shape.specs.declared.types.Shaped.TheVariants.{Box, Unbox, Penalize, SetDepth}
+use Rattle.tx_shape.specs.declared.scans.Opening.{Opening}
+
+-- what the list of a box is packed to: `to` or `spread` and a size, or nothing (section 645)
+abbrev pub goal_by : (ℤ → BoxGoal) → List Item → Reading BoxGoal
+goal_by goal items = next (dimension lengths items) (λ measure behind. Done (goal measure.size) behind)
+
+abbrev pub spread_or_natural : Bool → List Item → Reading BoxGoal
+spread_or_natural true rest = goal_by Spread rest
+spread_or_natural false rest = Done Natural rest
+
+abbrev pub spread_goal : List Item → Reading BoxGoal
+spread_goal items = next (keyword (codes "spread") items) spread_or_natural
+
+abbrev pub to_or_not : Bool → List Item → Reading BoxGoal
+to_or_not true rest = goal_by To rest
+to_or_not false rest = spread_goal rest
+
+abbrev pub box_goal : List Item → Reading BoxGoal
+box_goal items = next (keyword (codes "to") items) to_or_not
+
+-- a box that is begun
+abbrev pub begun : Opening → BoxGoal → Shaped
+begun opening goal = Box (Begin opening.kind goal) opening.context
+
+-- the begin-group token behind that (section 403)
+abbrev pub opened : Opening → BoxGoal → List Item → Reading Shaped
+opened opening goal items = next (left_brace items) (λ _ rest. Done (begun opening goal) rest)
+
+abbrev pub box_begin : Opening → List Item → Reading Shaped
+box_begin opening items = next (box_goal items) (opened opening)
+
+-- the number of a register, 0 to 255
+abbrev pub by_byte : (ℕ → List Item → Reading Shaped) → Option ℕ → List Item → Reading Shaped
+by_byte on None rest = Wrong NumberOutOfRange
+by_byte on (Some n) rest = on n rest
+
+abbrev pub by_register : (ℕ → List Item → Reading Shaped) → List Item → Reading Shaped
+by_register on items = next (integer items) (λ n rest. by_byte on (byte_of n) rest)
+
+-- a box that was made before: \box, \copy and \lastbox (section 1079)
+abbrev pub box_from : BoxSource → BoxContext → List Item → Reading Shaped
+box_from source.Register context items = by_register (λ n rest. Done (Box (Use n) context) rest) items
+box_from source.Copy context items = by_register (λ n rest. Done (Box (Copy n) context) rest) items
+box_from source.Last context items = Done (Box Last context) items
+
+-- the box that a primitive begins or stands for; no other is one
+abbrev pub box_meant : BoxContext → Meaning → List Item → Reading Shaped
+box_meant context (meaning.Command (primitive.Box kind)) rest = box_begin (record { kind = kind; context = context }) rest
+box_meant context (meaning.Command (primitive.BoxFrom source)) rest = box_from source context rest
+box_meant context _ rest = Wrong MissingBox
+
+-- the box that \shipout, \setbox, \raise and their kin need, with spaces and \relax before it (section 1084)
+abbrev pub needed_box : BoxContext → List Item → Reading Shaped
+needed_box context [] = More Expanded
+needed_box context (Gave v ∷ rest) = Wrong MissingBox
+needed_box context (Took t ∷ rest) =
+    expanded t (if is_space t || is_relax t then needed_box context rest else box_meant context t.meaning rest)
+
+-- the box that is put into a register, behind an optional `=`
+abbrev pub register_setting : ℕ → List Item → Reading Shaped
+register_setting n items = next (equals items) (λ _ rest. needed_box (Register n) rest)
+
+-- \setbox: a register, an optional `=`, and a box (section 1241)
+abbrev pub setting : List Item → Reading Shaped
+setting items = by_register register_setting items
+
+-- \prevdepth: an optional `=` and a size (section 1243)
+abbrev pub depth : List Item → Reading Shaped
+depth items = next (dimension lengths items) (λ measure rest. Done (SetDepth measure.size) rest)
+
+abbrev pub depth_setting : List Item → Reading Shaped
+depth_setting items = next (equals items) (λ _ rest. depth rest)
+
+-- how far a box is shifted: down in a horizontal list, to the right in a vertical one (section 1073)
+abbrev pub shift_by : ShiftKind → ℤ → ℤ
+shift_by shift.Raise size = neg_ℤ size
+shift_by shift.Lower size = size
+shift_by shift.Left size = neg_ℤ size
+shift_by shift.Right size = size
+
+abbrev pub shifting : ShiftKind → List Item → Reading Shaped
+shifting kind items = next (dimension lengths items) (λ measure rest. needed_box (Append (shift_by kind measure.size)) rest)
+
+-- \unhbox and its kin: a register (section 1110)
+abbrev pub unboxing : UnboxKind → List Item → Reading Shaped
+unboxing kind items = by_register (λ n rest. Done (Unbox kind n) rest) items
+
+-- \penalty: a number (section 1103)
+abbrev pub penalizing : List Item → Reading Shaped
+penalizing items = next (integer items) (λ n rest. Done (Penalize n) rest)
+
+-- what a command takes behind its first token; a box that stands alone is appended as it is
+abbrev pub shape : Shaping → List Item → Reading Shaped
+shape (shaping.Box kind) items = box_begin (record { kind = kind; context = Append (pos 0) }) items
+shape (shaping.From source) items = box_from source (Append (pos 0)) items
+shape shaping.Shipout items = needed_box Ship items
+shape shaping.SetBox items = setting items
+shape (shaping.Shift kind) items = shifting kind items
+shape (shaping.Unbox kind) items = unboxing kind items
+shape shaping.Penalty items = penalizing items
+shape shaping.PrevDepth items = depth_setting items

@@ -1,0 +1,5 @@
+pub mod Words
+pub mod Boxes
+pub mod Nexts
+pub mod AmountRests
+pub mod Rests

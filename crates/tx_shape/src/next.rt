@@ -1,0 +1,102 @@
+//! What follows a number or a size, by what it is for.
+ghost use Rattle.std.specs.Prelude.{◌≡◌, ◌≤ℤ◌, pos, neg_ℤ};
+ghost use Rattle.tx_scan.specs.Integers.{IsInRange};
+ghost use Rattle.tx_scan.specs.IntegerRests.{IsInteger};
+ghost use Rattle.tx_scan.specs.DimensionRests.{IsSize};
+ghost use Rattle.tx_scan.specs.Mapped.{mapped};
+ghost use Rattle.tx_shape.specs.Boxes.{shift_by};
+ghost use Rattle.tx_shape.specs.Nexts as spec;
+
+use crate::scans::{Next, Plain, Registering, Sizing};
+use crate::types::{BoxContext, BoxGoal, BoxRead, Shaped};
+use tx_prim::ShiftKind;
+use tx_scan::{Measure, byte};
+use tx_seen::{Fed, TexError};
+
+/// What follows the number of a register.
+fn behind_register(registering: Registering, register: u8) -> Next
+    ensures { result ≡ spec.behind_register registering register }
+{
+    match registering {
+        Registering::Use(context) => Next::Whole(Shaped::Box(BoxRead::Use(register), context)),
+        Registering::Copy(context) => Next::Whole(Shaped::Box(BoxRead::Copy(register), context)),
+        Registering::Unbox(kind) => Next::Whole(Shaped::Unbox(kind, register)),
+        Registering::Set => Next::Part(Plain::Equals(register)),
+    }
+}
+
+/// What follows a number that is to be that of a register.
+fn behind_number(registering: Registering, number: i64) -> Next
+    ensures { result ≡ spec.behind_number registering number }
+{
+    match byte(number) {
+        Some(register) => behind_register(registering, register),
+        None => Next::Wrong(TexError::NumberOutOfRange),
+    }
+}
+
+/// How far a box is shifted by a size in sp.
+fn shift_by(kind: ShiftKind, size: i32) -> i32
+    requires low { neg_ℤ (pos 1073741823) ≤ℤ size }
+    requires high { size ≤ℤ pos 1073741823 }
+    ensures { result ≡ shift_by kind size }
+{
+    match kind {
+        ShiftKind::Raise | ShiftKind::Left => -size,
+        ShiftKind::Lower | ShiftKind::Right => size,
+    }
+}
+
+/// What follows a size in sp.
+fn behind_size(sizing: Sizing, size: i32) -> Next
+    requires low { neg_ℤ (pos 1073741823) ≤ℤ size }
+    requires high { size ≤ℤ pos 1073741823 }
+    ensures { result ≡ spec.behind_size sizing size }
+{
+    match sizing {
+        Sizing::To(opening) => Next::Part(Plain::Brace(opening, BoxGoal::To(size))),
+        Sizing::Spread(opening) => Next::Part(Plain::Brace(opening, BoxGoal::Spread(size))),
+        Sizing::Shift(kind) => {
+            Next::Part(Plain::Needed(BoxContext::Append(shift_by(kind, size))))
+        }
+        Sizing::Depth => Next::Whole(Shaped::SetDepth(size)),
+    }
+}
+
+/// What follows a penalty.
+pub(crate) fn penalized(fed: Fed<i64>) -> Fed<Next>
+    requires { IsInteger fed }
+    ensures { result ≡ mapped spec.behind_penalty fed }
+{
+    match fed {
+        Fed::More(want) => Fed::More(want),
+        Fed::Need(kind) => Fed::Need(kind),
+        Fed::Done(number, back) => { Fed::Done(Next::Whole(Shaped::Penalize(number as i32)), back) }
+        Fed::Wrong(error) => Fed::Wrong(error),
+    }
+}
+
+/// What follows a number that is to be that of a register.
+pub(crate) fn registered(registering: Registering, fed: Fed<i64>) -> Fed<Next>
+    ensures { result ≡ mapped (spec.behind_number registering) fed }
+{
+    match fed {
+        Fed::More(want) => Fed::More(want),
+        Fed::Need(kind) => Fed::Need(kind),
+        Fed::Done(number, back) => Fed::Done(behind_number(registering, number), back),
+        Fed::Wrong(error) => Fed::Wrong(error),
+    }
+}
+
+/// What follows a size.
+pub(crate) fn sized(sizing: Sizing, fed: Fed<Measure>) -> Fed<Next>
+    requires { IsSize fed }
+    ensures { result ≡ mapped (spec.behind_measure sizing) fed }
+{
+    match fed {
+        Fed::More(want) => Fed::More(want),
+        Fed::Need(kind) => Fed::Need(kind),
+        Fed::Done(measure, back) => Fed::Done(behind_size(sizing, measure.size as i32), back),
+        Fed::Wrong(error) => Fed::Wrong(error),
+    }
+}

@@ -1,0 +1,100 @@
+//! How far the scan of a command's rest is.
+
+use crate::letters::Letters;
+use crate::types::{BoxContext, BoxGoal, Shaped};
+use tx_prim::{BoxKind, ShiftKind, UnboxKind};
+use tx_scan::{DimenScan, IntScan};
+use tx_seen::TexError;
+
+/// A box that is to be begun: which list makes it, and what becomes of it.
+#[derive(Clone, Copy)]
+pub struct Opening {
+    pub kind: BoxKind,
+    pub context: BoxContext,
+}
+
+/// What the number of a register is for.
+#[derive(Clone, Copy)]
+pub enum Registering {
+    /// \box and \copy.
+    Use(BoxContext),
+    Copy(BoxContext),
+    /// \unhbox and its kin.
+    Unbox(UnboxKind),
+    /// \setbox.
+    Set,
+}
+
+/// What a size is for.
+#[derive(Clone, Copy)]
+pub enum Sizing {
+    /// `to` and `spread`.
+    To(Opening),
+    Spread(Opening),
+    /// \raise and its kin.
+    Shift(ShiftKind),
+    /// \prevdepth.
+    Depth,
+}
+
+/// A number or a size, by what it is for.
+#[derive(Clone, Copy)]
+pub enum Amount {
+    /// \penalty.
+    Penalty,
+    Register(Registering),
+    Size(Sizing),
+}
+
+/// A part that needs no value.
+#[derive(Clone, Copy)]
+pub enum Plain {
+    /// An optional `=`, with spaces before it, and the box that is put into this register.
+    Equals(u8),
+    /// A box, with spaces and \relax before it.
+    Needed(BoxContext),
+    /// Perhaps `to` or `spread` with a size, then a begin-group token.
+    Goal(Opening),
+    /// Perhaps `spread` with a size, then a begin-group token.
+    Spread(Opening),
+    /// A begin-group token, with spaces and \relax before it.
+    Brace(Opening, BoxGoal),
+}
+
+/// What follows a number or a size.
+#[derive(Clone, Copy)]
+pub enum Next {
+    /// This part.
+    Part(Plain),
+    /// Nothing.
+    Whole(Shaped),
+    /// It is wrong.
+    Wrong(TexError),
+}
+
+/// The part that comes next.
+#[derive(Clone, Copy)]
+pub enum Stage {
+    /// A number or a size.
+    Amount,
+    Plain(Plain),
+    /// An optional `=`, with spaces before it, and the size for \prevdepth.
+    Depth,
+    /// The letters of `to` or `spread` behind these.
+    Word(Opening, Letters),
+}
+
+/// A number or a size that is being scanned.
+#[derive(Drop)]
+pub struct AmountScan {
+    pub(crate) amount: Amount,
+    pub(crate) integer: IntScan,
+    pub(crate) size: DimenScan,
+}
+
+/// The rest of a command that is being scanned.
+#[derive(Drop)]
+pub struct ShapeScan {
+    pub(crate) stage: Stage,
+    pub(crate) amount: AmountScan,
+}

@@ -1,0 +1,68 @@
+//! What families of commands are, and what they come to once they are read whole.
+use tx_prim::{BoxKind, BoxSource, ShiftKind, UnboxKind};
+
+/// What becomes of a box (TeX: The Program, section 1071).
+#[derive(Clone, Copy, PartialEq, Eq)]
+pub enum BoxContext {
+    /// It is appended to the list that it stands in, shifted by so many sp: down in a horizontal list, to the right in a
+    /// vertical one.
+    Append(i32),
+    /// It is put into this register.
+    Register(u8),
+    /// It is shipped.
+    Ship,
+}
+
+/// What the list of a box is packed to: its natural size, so many sp, or so many more than that (The TeXbook, chapter 12).
+#[derive(Clone, Copy, PartialEq, Eq)]
+pub enum BoxGoal {
+    Natural,
+    To(i32),
+    Spread(i32),
+}
+
+/// A box that is meant (TeX: The Program, section 1079).
+#[derive(Clone, Copy, PartialEq, Eq)]
+pub enum BoxRead {
+    /// \hbox or its kin, whose begin-group token is taken.
+    Begin(BoxKind, BoxGoal),
+    /// \box and \copy of this register.
+    Use(u8),
+    Copy(u8),
+    /// \lastbox.
+    Last,
+}
+
+/// A command by its first token: what stands behind that is read.
+#[derive(Clone, Copy, PartialEq, Eq)]
+pub enum Shaping {
+    /// \hbox and its kin.
+    Box(BoxKind),
+    /// \box and its kin.
+    From(BoxSource),
+    /// \shipout.
+    Shipout,
+    /// \setbox.
+    SetBox,
+    /// \raise and its kin.
+    Shift(ShiftKind),
+    /// \unhbox and its kin.
+    Unbox(UnboxKind),
+    /// \penalty.
+    Penalty,
+    /// \prevdepth.
+    PrevDepth,
+}
+
+/// What such a command is once it is whole.
+#[derive(Clone, Copy, PartialEq, Eq)]
+pub enum Shaped {
+    /// A box, and what becomes of it.
+    Box(BoxRead, BoxContext),
+    /// The box in this register gives its list to the list around.
+    Unbox(UnboxKind, u8),
+    /// A penalty.
+    Penalize(i32),
+    /// \prevdepth is to be so many sp.
+    SetDepth(i32),
+}
