@@ -1,0 +1,10 @@
+use Rattle.std.proofs.Common.{◌≡◌, rules, to_z, of_z, w32}
+use Rattle.tx_box.proofs.placing.place.Goals as goal
+
+pub returns-in-Append : goal.returns-in-Append
+returns-in-Append c =
+    let same : to_z w32 (of_z w32 c.in-Append.shift) ≡ c.in-Append.shift = search rules in
+    rw c.in-Append.is (rw same at (c.append.ensures c.args.target.global))
+
+pub returns-in-Ship : goal.returns-in-Ship
+returns-in-Ship c = rw c.in-Ship.is (c.ship.ensures c.args.target.global c.args.lists.now c.args.table.now)

@@ -1,0 +1,13 @@
+-- The lists with which a run begins (TeX: The Program, section 215).
+use Rattle.std.specs.Prelude.{pos, []}
+use Rattle.tx_nest.specs.States.{begun}
+use Rattle.tx_prim.specs.declared.modes.Mode.TheVariants.{Vertical}
+use Rattle.tx_box.specs.declared.parts.Lists.{Lists}
+
+-- the pages' list alone, empty, and no box
+abbrev pub first_lists : Lists
+first_lists = record {
+  nest = record { innermost = record { state = begun Vertical; nodes = [] }; around = [] };
+  badness = pos 0;
+  boxes = [];
+}

@@ -1,0 +1,47 @@
+-- Where a box goes that is made, found or copied (TeX: The Program, sections 1075 to 1078).
+use Rattle.std.specs.Prelude.{Bool, Option, Some, None, Result, Ok, Err}
+use Rattle.tx_eqtb.specs.declared.entry.Entry.TheVariants.{Box as Boxed}
+use Rattle.tx_eqtb.specs.declared.eqtb.Eqtb.{Eqtb}
+use Rattle.tx_eqtb.specs.declared.table.Table.{Table}
+use Rattle.tx_eqtb.specs.Stack.{assigned_by}
+use Rattle.tx_eqtb.specs.Table.{number_at}
+use Rattle.tx_nest.specs.declared.leading.LeadingParams.{LeadingParams}
+use Rattle.tx_nest.specs.declared.leading.NestError.{NestError}
+use Rattle.tx_nest.specs.declared.list.ModeList.{ModeList}
+use Rattle.tx_nest.specs.Appended.{box_appended}
+use Rattle.tx_nest.specs.Lasts.{no_glue}
+use Rattle.tx_nest.specs.Lending.{with_top}
+use Rattle.tx_node.specs.Items.{PackedBox}
+use Rattle.tx_prim.specs.declared.dimension.DimensionParameter.TheVariants.{Lineskiplimit}
+use Rattle.tx_seen.specs.declared.error.TexError.TheVariants.{SizeOutOfRange}
+use Rattle.tx_seen.specs.declared.place.Place.TheVariants.{Box, Dimension}
+use Rattle.tx_shape.specs.declared.types.BoxContext.{BoxContext}
+use Rattle.tx_shape.specs.declared.types.BoxContext.TheVariants.{Append, Register, Ship}
+use Rattle.tx_box.specs.declared.parts.Lists.{Lists}
+use Rattle.tx_box.specs.declared.parts.Target.{Target}
+use Rattle.tx_box.specs.declared.parts.Work.TheVariants as work
+use Rattle.tx_box.specs.Effects.{Effect, leaves, leaves_due}
+
+-- another list in the place of the one that is being built
+abbrev pub with_list : Lists → ModeList → Lists
+with_list lists list = record lists { nest = with_top lists.nest list }
+
+-- the parameters of leading; \baselineskip and \lineskip are no glue, as INITEX begins with them, until there are glue parameters
+abbrev pub leading_of : Table → LeadingParams
+leading_of table = record { baseline_skip = no_glue; line_skip = no_glue; line_skip_limit = number_at table (Dimension Lineskiplimit) }
+
+-- a box that is appended, with its leading
+abbrev pub appending : Lists → Eqtb → Result ModeList NestError → Effect
+appending lists table (Err error) = Err SizeOutOfRange
+appending lists table (Ok list) = leaves (with_list lists list) table
+
+-- a box, or none, goes where it is to go: a void one is no item and is not shipped, but makes a register void
+abbrev pub placed_in : BoxContext → Bool → Lists → Eqtb → Option PackedBox → Effect
+placed_in (Append shift) global lists table None = leaves lists table
+placed_in (Append shift) global lists table (Some b) = appending lists table (box_appended (leading_of table.table) lists.nest.innermost shift b)
+placed_in (Register n) global lists table held = leaves lists (assigned_by global table (Box n) (Boxed held))
+placed_in Ship global lists table None = leaves lists table
+placed_in Ship global lists table (Some b) = leaves_due lists table (work.Ship b)
+
+abbrev pub placed : Target → Lists → Eqtb → Option PackedBox → Effect
+placed target lists table held = placed_in target.context target.global lists table held

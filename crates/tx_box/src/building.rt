@@ -1,0 +1,210 @@
+//! How a box begins and ends.
+ghost use Rattle.std.specs.Prelude.{◌≡◌, ◌≢◌, [], Ok, Err, IfOk, IfErr, OnOk};
+ghost use Rattle.tx_num.specs.Glue.{IsDimension};
+ghost use Rattle.tx_pack.specs.Packing.{IsGoal};
+ghost use Rattle.tx_pack.specs.declared.types.PackError.TheVariants.{OutOfMemory};
+ghost use Rattle.tx_box.specs.Building as spec;
+ghost use Rattle.tx_box.specs.Effects.{told};
+
+use crate::kinds::{goal_of, group_of, mode_in, size_in};
+use crate::parameters::{across, dimension, down};
+use crate::parts::{Done, Lists, OpenBox, Target};
+use crate::placing::place;
+use std::alloc::{AllocError, Global};
+use tx_bytes::Bytes;
+use tx_eqtb::{Entry, Eqtb, OpenError};
+use tx_nest::ModeList;
+use tx_node::Nodes;
+use tx_num::Range;
+use tx_pack::{Goal, PackError, PackParams, Packed, hpack, vpack, vtop};
+use tx_prim::{BoxKind, DimensionParameter, IntegerParameter};
+use tx_seen::{Place, TexError};
+
+/// What a box's end answers, and the transcript's line of the box, if it has one.
+#[derive(Drop)]
+pub struct Ended {
+    pub done: Done,
+    pub report: Bytes,
+}
+
+/// In a vertical box a paragraph has its plain shape, until the box's group ends. After want of memory, its only error, the table
+/// may only be dropped.
+fn shape(table: &mut Eqtb, kind: BoxKind) -> Result<(), AllocError>
+    ensures { OnOk result (table.new ≡ spec.shape_in kind table.old) }
+{
+    match kind {
+        BoxKind::Horizontal => Ok(()),
+        BoxKind::Vertical | BoxKind::Top => {
+            table.assign(
+                Place::Integer(IntegerParameter::Looseness),
+                Entry::Number(0),
+            )?;
+            table.assign(
+                Place::Dimension(DimensionParameter::Hangindent),
+                Entry::Number(0),
+            )?;
+            table.assign(
+                Place::Integer(IntegerParameter::Hangafter),
+                Entry::Number(1),
+            )
+        }
+    }
+}
+
+/// A list begins in the one that is being built. Its only error is want of memory.
+fn open_list(alloc: Global, lists: &mut Lists, new_box: OpenBox) -> Result<(), AllocError>
+    ensures { OnOk result (lists.new ≡ spec.with_open lists.old new_box) }
+{
+    lists
+        .nest
+        .push(ModeList::new(alloc, mode_in(new_box.kind)))?;
+    lists.boxes.push(new_box)
+}
+
+/// A box begins, in a group of its own. `TooManyGroups` exactly where 255 are open.
+pub fn begin_box(
+    alloc: Global,
+    lists: &mut Lists,
+    table: &mut Eqtb,
+    new_box: OpenBox,
+) -> Result<Done, AllocError>
+    ensures { IfOk result (λ done. spec.beginning new_box lists.old table.old ≡ told done lists.new table.new) }
+{
+    match table.open_group(group_of(new_box.kind)) {
+        Ok(()) => {}
+        Err(OpenError::TooMany) => return Ok(Done::Wrong(TexError::TooManyGroups)),
+        Err(OpenError::OutOfMemory) => return Err(AllocError),
+    }
+    shape(table, new_box.kind)?;
+    open_list(alloc, lists, new_box)?;
+    Ok(Done::Whole)
+}
+
+/// How deep a vertical box may be whose group ends, in sp.
+pub fn greatest_depth(table: &Eqtb) -> i64
+    ensures { result ≡ spec.greatest_depth table.now.table }
+{
+    dimension(table, DimensionParameter::Boxmaxdepth)
+}
+
+/// A list in a box, at most so many sp deep where it is vertical.
+fn packed_as(
+    alloc: Global,
+    kind: BoxKind,
+    goal: Goal,
+    most: i64,
+    table: &Eqtb,
+    list: Nodes,
+) -> Result<Packed, PackError>
+    requires goal { IsGoal goal }
+    requires most { IsDimension most }
+    requires rule { IsDimension (spec.across table.now.table).overfull_rule }
+    ensures packed { IfOk result (λ made. spec.packed_as kind goal most table.now.table list ≡ Ok made) }
+    ensures error { IfErr result (λ e. e ≢ OutOfMemory → spec.packed_as kind goal most table.now.table list ≡ Err e) }
+{
+    match kind {
+        BoxKind::Horizontal => hpack(alloc, list, goal, &across(table)),
+        BoxKind::Vertical => vpack(alloc, list, goal, most, &down(table)),
+        BoxKind::Top => vtop(alloc, list, goal, most, &down(table)),
+    }
+}
+
+/// The same, where the sizes are dimensions.
+fn packed(
+    alloc: Global,
+    kind: BoxKind,
+    goal: Goal,
+    most: i64,
+    table: &Eqtb,
+    list: Nodes,
+) -> Result<Packed, PackError>
+    ensures packed { IfOk result (λ made. spec.packed_if kind goal most table.now.table list ≡ Ok made) }
+    ensures error { IfErr result (λ e. e ≢ OutOfMemory → spec.packed_if kind goal most table.now.table list ≡ Err e) }
+{
+    let rule = dimension(table, DimensionParameter::Overfullrule);
+    if Range::Dimen.holds(size_in(goal)) && Range::Dimen.holds(most) && Range::Dimen.holds(rule) {
+        packed_as(alloc, kind, goal, most, table, list)
+    } else {
+        Err(PackError::SizeOutOfRange)
+    }
+}
+
+/// What comes of an error: nothing is reported.
+fn wrong(alloc: Global, error: TexError) -> Ended
+    ensures done { result.done ≡ Done.Wrong error }
+    ensures report { result.report ≡ [] }
+{
+    Ended {
+        done: Done::Wrong(error),
+        report: Bytes::new(alloc),
+    }
+}
+
+/// A box that is made goes where it is to go, and \badness is how bad it is.
+fn use_packed(
+    alloc: Global,
+    lists: &mut Lists,
+    table: &mut Eqtb,
+    target: Target,
+    made: Packed,
+) -> Result<Ended, AllocError>
+    ensures { IfOk result (λ ended. spec.boxing target lists.old table.old (Ok made) ≡ spec.reported ended.report (told ended.done lists.new table.new)) }
+{
+    let Packed {
+        node,
+        badness,
+        report,
+    } = made;
+    lists.badness = badness;
+    let done = place(alloc, lists, table, target, Some(node))?;
+    Ok(Ended { done, report })
+}
+
+/// Of a list, at most so many sp deep where it is vertical, the box is made, or can't be.
+fn box_list(
+    alloc: Global,
+    lists: &mut Lists,
+    table: &mut Eqtb,
+    most: i64,
+    ended: OpenBox,
+    list: Nodes,
+) -> Result<Ended, AllocError>
+    ensures { IfOk result (λ made. spec.boxing ended.target lists.old table.old (spec.packed_if ended.kind (spec.goal_of ended.goal) most table.old.table list) ≡ spec.reported made.report (told made.done lists.new table.new)) }
+{
+    match packed(alloc, ended.kind, goal_of(ended.goal), most, table, list) {
+        Ok(made) => use_packed(alloc, lists, table, ended.target, made),
+        Err(PackError::SizeOutOfRange) => Ok(wrong(alloc, TexError::SizeOutOfRange)),
+        Err(PackError::TooDeep) => Ok(wrong(alloc, TexError::TooDeep)),
+        Err(PackError::OutOfMemory) => Err(AllocError),
+    }
+}
+
+/// The innermost open box and its list, which end; None where no box is open, or no list waits around.
+fn close_list(lists: &mut Lists) -> Option<(OpenBox, Nodes)>
+    ensures { spec.IsClosed (spec.closed_list lists.old) result lists.new }
+{
+    if lists.nest.is_outermost() {
+        return None;
+    }
+    match lists.boxes.pop() {
+        Some(ended) => Some((ended, lists.nest.pop().nodes)),
+        None => None,
+    }
+}
+
+/// A box ends, whose group has ended: of its list, at most so many sp deep where it is vertical, the box is made, which goes where
+/// it is to go. `ExtraGroupEnd` exactly where no box is open, or no list waits around; else `SizeOutOfRange` and `TooDeep` where
+/// the list can't be packed, or its leading is no dimension.
+pub fn end_box(
+    alloc: Global,
+    lists: &mut Lists,
+    table: &mut Eqtb,
+    most: i64,
+) -> Result<Ended, AllocError>
+    ensures { IfOk result (λ ended. spec.ending most lists.old table.old ≡ spec.reported ended.report (told ended.done lists.new table.new)) }
+{
+    match close_list(lists) {
+        Some((ended, list)) => box_list(alloc, lists, table, most, ended, list),
+        None => Ok(wrong(alloc, TexError::ExtraGroupEnd)),
+    }
+}

@@ -1,0 +1,98 @@
+//! What can be kept of the lists: each part can be shared, and compared exactly.
+ghost use Rattle.std.specs.Prelude.{◌≡◌, ◌↔◌, IsTrue, IfOk};
+ghost use Rattle.tx_box.specs.Beginnings.{first_lists};
+
+use crate::parts::{Lists, OpenBox, Target, Work};
+use std::alloc::{AllocError, Global};
+use tx_list::{Kept, Stack};
+use tx_nest::Nest;
+use tx_node::same_box;
+use tx_prim::BoxKind;
+use tx_shape::BoxGoal;
+
+/// Whether two boxes are made in the same way.
+fn same_kind(one: BoxKind, other: BoxKind) -> bool
+    ensures { IsTrue result ↔ (one ≡ other) }
+{
+    one == other
+}
+
+/// Whether two lists are packed to the same.
+fn same_goal(one: BoxGoal, other: BoxGoal) -> bool
+    ensures { IsTrue result ↔ (one ≡ other) }
+{
+    one == other
+}
+
+/// Whether the same becomes of two boxes.
+fn same_target(one: Target, other: Target) -> bool
+    ensures { IsTrue result ↔ (one ≡ other) }
+{
+    one == other
+}
+
+impl Kept for OpenBox {
+    fn share(&self) -> Result<Self, AllocError> {
+        Ok(*self)
+    }
+
+    fn same(&self, other: &Self) -> bool {
+        same_kind(self.kind, other.kind)
+            && same_goal(self.goal, other.goal)
+            && same_target(self.target, other.target)
+    }
+}
+
+impl Kept for Work {
+    fn share(&self) -> Result<Self, AllocError> {
+        match self {
+            Work::Copy(copied, target) => Ok(Work::Copy(copied.clone()?, *target)),
+            Work::CopyList(list) => Ok(Work::CopyList(list.clone()?)),
+            Work::Ship(shipped) => Ok(Work::Ship(shipped.clone()?)),
+        }
+    }
+
+    fn same(&self, other: &Self) -> bool {
+        match (self, other) {
+            (Work::Copy(one, target), Work::Copy(other, also)) => {
+                same_target(*target, *also) && same_box(one, other)
+            }
+            (Work::CopyList(one), Work::CopyList(other)) => one.same(other),
+            (Work::Ship(one), Work::Ship(other)) => same_box(one, other),
+            _ => false,
+        }
+    }
+}
+
+impl Lists {
+    /// The pages' list alone, empty, and no box; takes no memory.
+    pub fn new(alloc: Global) -> Lists
+        ensures { result ≡ first_lists }
+    {
+        Lists {
+            nest: Nest::new(alloc),
+            badness: 0,
+            boxes: Stack::new(alloc),
+        }
+    }
+
+    /// Whether both are the same lists, of the same boxes.
+    pub fn same(&self, other: &Lists) -> bool
+        ensures { IsTrue result ↔ (self.now ≡ other.now) }
+    {
+        self.badness == other.badness
+            && self.boxes.same(&other.boxes)
+            && self.nest.same(&other.nest)
+    }
+
+    /// Second lists, equal to these, which share their boxes. Its only error is want of memory.
+    pub fn share(&self) -> Result<Lists, AllocError>
+        ensures { IfOk result (λ twin. twin ≡ self.now) }
+    {
+        Ok(Lists {
+            nest: self.nest.share()?,
+            badness: self.badness,
+            boxes: self.boxes.share()?,
+        })
+    }
+}

@@ -1,0 +1,24 @@
+//! The commands of boxes (TeX: The Program, part 47): how a box begins and ends, boxes that were made before, and where each of
+//! them goes: into the list that is being built, a register, or the DVI file.
+//!
+//! Proved: what each command makes of the lists and the table, what it leaves to a turn of its own and what that costs, and
+//! exactly when each error comes. Only tested: that this is what TeX does, on documents that Knuth's TeX reads alike
+//! (tools/check-boxes).
+//!
+//! Read `parts`, `kept`, `parameters`, `placing`, `sources`, `kinds`, `building` and `due_work`.
+#![tactic(auto)]
+
+mod building;
+mod due_work;
+mod kept;
+mod kinds;
+mod parameters;
+mod parts;
+mod placing;
+mod sources;
+
+pub use building::{Ended, begin_box, end_box, greatest_depth};
+pub use due_work::{copy_list, place_copy};
+pub use kinds::every_in;
+pub use parts::{Done, Lists, OpenBox, Target, Work};
+pub use sources::{copy_register, take_last, unbox, use_register};

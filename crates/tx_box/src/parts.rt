@@ -1,0 +1,57 @@
+//! The lists that are being built with the boxes that they are to become, and what a command of boxes answers.
+use tx_list::Stack;
+use tx_nest::Nest;
+use tx_node::{BoxNode, Nodes};
+use tx_prim::BoxKind;
+use tx_seen::TexError;
+use tx_shape::{BoxContext, BoxGoal};
+
+/// What becomes of a box, and whether \global or \globaldefs is in force, which \setbox alone asks.
+#[derive(Clone, Copy, PartialEq, Eq)]
+pub struct Target {
+    pub context: BoxContext,
+    pub global: bool,
+}
+
+/// A box whose list is being built.
+#[derive(Clone, Copy, PartialEq, Eq)]
+pub struct OpenBox {
+    /// How the list is packed, and to what.
+    pub kind: BoxKind,
+    pub goal: BoxGoal,
+    /// What becomes of the box.
+    pub target: Target,
+}
+
+/// The lists that are being built.
+#[derive(Drop)]
+pub struct Lists {
+    /// The innermost, with its mode, and those around it.
+    pub nest: Nest,
+    /// \badness: how bad the box is that was packed last.
+    pub badness: i64,
+    /// The boxes whose lists are being built, the innermost first.
+    pub boxes: Stack<OpenBox>,
+}
+
+/// What a command leaves to a turn of its own.
+#[derive(Drop)]
+pub enum Work {
+    /// To copy this box to where it is to go.
+    Copy(BoxNode, Target),
+    /// To copy this list to the end of the one that is being built.
+    CopyList(Nodes),
+    /// To ship this box.
+    Ship(BoxNode),
+}
+
+/// What a command of boxes answers.
+#[derive(Drop)]
+pub enum Done {
+    /// All of it is done.
+    Whole,
+    /// All but this, which is due.
+    Due(Work),
+    /// It is wrong.
+    Wrong(TexError),
+}

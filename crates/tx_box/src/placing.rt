@@ -1,0 +1,88 @@
+//! Where a box goes that is made, found or copied.
+ghost use Rattle.std.specs.Prelude.{◌≡◌, Bool, IfOk, OnOk};
+ghost use Rattle.tx_eqtb.specs.Stack.{assigned_by};
+ghost use Rattle.tx_eqtb.specs.declared.entry.Entry.TheVariants as entry;
+ghost use Rattle.tx_seen.specs.declared.place.Place.TheVariants as place;
+ghost use Rattle.tx_shape.specs.declared.types.BoxContext.TheVariants as context;
+ghost use Rattle.tx_box.specs.declared.parts.Lists.{Lists};
+ghost use Rattle.tx_eqtb.specs.declared.eqtb.Eqtb.{Eqtb};
+ghost use Rattle.tx_box.specs.Effects.{told};
+ghost use Rattle.tx_box.specs.Placing as spec;
+
+use crate::parameters::leading_of;
+use crate::parts::{Done, Lists, Target, Work};
+use std::alloc::{AllocError, Global};
+use tx_eqtb::{BoxContents, Entry, Eqtb};
+use tx_nest::{NestError, append_box};
+use tx_node::BoxNode;
+use tx_seen::{Place, TexError};
+use tx_shape::BoxContext;
+
+/// A box, or none, is appended to the list that is being built, shifted by so many sp.
+fn append(
+    alloc: Global,
+    lists: &mut Lists,
+    table: &Eqtb,
+    shift: i32,
+    found: Option<BoxNode>,
+) -> Result<Done, AllocError>
+    ensures { (global : Bool) → IfOk result (λ done. spec.placed_in (context.Append shift) global lists.old table.now found ≡ told done lists.new table.now) }
+{
+    let Some(packed) = found else {
+        return Ok(Done::Whole);
+    };
+    match append_box(alloc, lists.nest.top(), &leading_of(table), shift, packed) {
+        Ok(()) => Ok(Done::Whole),
+        Err(NestError::SizeOutOfRange) => Ok(Done::Wrong(TexError::SizeOutOfRange)),
+        Err(NestError::OutOfMemory) => Err(AllocError),
+    }
+}
+
+/// A box, or none, is put into a register.
+fn assign(
+    alloc: Global,
+    table: &mut Eqtb,
+    global: bool,
+    number: u8,
+    found: Option<BoxNode>,
+) -> Result<(), AllocError>
+    ensures { OnOk result (table.new ≡ assigned_by global table.old (place.Box number) (entry.Box found)) }
+{
+    let contents = BoxContents::new(alloc, found)?;
+    if global {
+        table.assign_global(Place::Box(number), Entry::Box(contents))
+    } else {
+        table.assign(Place::Box(number), Entry::Box(contents))
+    }
+}
+
+/// A box, if there is one, is to be shipped.
+fn ship(found: Option<BoxNode>) -> Done
+    ensures { (global : Bool) (lists : Lists) (table : Eqtb) → spec.placed_in context.Ship global lists table found ≡ told result lists table }
+{
+    match found {
+        Some(shipped) => Done::Due(Work::Ship(shipped)),
+        None => Done::Whole,
+    }
+}
+
+/// A box, or none, goes where it is to go. After want of memory, its only error, lists and table may only be dropped, here and in
+/// all that follows.
+pub(crate) fn place(
+    alloc: Global,
+    lists: &mut Lists,
+    table: &mut Eqtb,
+    target: Target,
+    found: Option<BoxNode>,
+) -> Result<Done, AllocError>
+    ensures { IfOk result (λ done. spec.placed target lists.old table.old found ≡ told done lists.new table.new) }
+{
+    match target.context {
+        BoxContext::Append(shift) => append(alloc, lists, table, shift, found),
+        BoxContext::Register(number) => {
+            assign(alloc, table, target.global, number, found)?;
+            Ok(Done::Whole)
+        }
+        BoxContext::Ship => Ok(ship(found)),
+    }
+}
