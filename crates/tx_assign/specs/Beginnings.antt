@@ -36,6 +36,15 @@ primitive_variable (primitive.Sized kind) = None
 primitive_variable (primitive.Rule kind) = None
 primitive_variable (primitive.Box kind) = None
 primitive_variable primitive.Shipout = None
+primitive_variable (primitive.BoxFrom source) = None
+primitive_variable primitive.SetBox = None
+primitive_variable (primitive.Shift kind) = None
+primitive_variable (primitive.Unbox kind) = None
+primitive_variable primitive.Penalty = None
+primitive_variable (primitive.Remove kind) = None
+primitive_variable (primitive.Last kind) = None
+primitive_variable primitive.Badness = None
+primitive_variable primitive.PrevDepth = None
 
 -- a register's name of its own is a left side too
 abbrev pub variable_of : Meaning → Option Variable
@@ -59,3 +68,4 @@ is_changeable (Numbered number.Dimen) = true
 is_changeable (Numbered number.Toks) = false
 is_changeable (Numbered number.Category) = false
 is_changeable (Numbered (number.Code code)) = false
+is_changeable (Numbered (number.Size side)) = false

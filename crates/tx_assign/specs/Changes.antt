@@ -17,7 +17,7 @@ use Rattle.tx_seen.specs.declared.place.Place.TheVariants.{Integer}
 use Rattle.tx_seen.specs.declared.place.Place.TheVariants as place
 use Rattle.tx_eqtb.specs.declared.table.Table.{Table}
 use Rattle.tx_eqtb.specs.Table.{number_at, tokens_at}
-use Rattle.tx_eqtb.specs.Stack.{assigned, assigned_everywhere}
+use Rattle.tx_eqtb.specs.Stack.{assigned_by, replaced}
 use Rattle.tx_seen.specs.declared.error.TexError.{TexError}
 use Rattle.tx_seen.specs.declared.error.TexError.TheVariants.{ArithmeticOverflow, MissingBeginGroup}
 use Rattle.tx_assign.specs.declared.types.Assignment.{Assignment}
@@ -61,13 +61,14 @@ changed_entry table place (Compute operation m) = result operation (range_of pla
 changed_entry table place (Copy other) = Ok (Tokens (tokens_at table other))
 changed_entry table place Text = Err MissingBeginGroup
 
-abbrev pub assigned_by : Bool → Eqtb → Place → Entry → Eqtb
-assigned_by true stack place value = assigned_everywhere stack place value
-assigned_by false stack place value = assigned stack place value
+-- \wd, \ht and \dp change the box where it was assigned, whatever the prefix says (section 1247)
+abbrev pub put_at : Bool → Eqtb → Place → Entry → Eqtb
+put_at global stack (place.BoxSize side number) value = replaced stack (place.BoxSize side number) value
+put_at global stack other value = assigned_by global stack other value
 
 abbrev pub carried_to : Eqtb → Assignment → Bool → Result Entry TexError → Result Eqtb TexError
 carried_to stack a global (Err e) = Err e
-carried_to stack a global (Ok value) = Ok (assigned_by (is_global (number_at stack.table (Integer Globaldefs)) global) stack a.place value)
+carried_to stack a global (Ok value) = Ok (put_at (is_global (number_at stack.table (Integer Globaldefs)) global) stack a.place value)
 
 -- the table with the assignment carried out, with \global before it or not
 abbrev pub carried_out : Eqtb → Assignment → Bool → Result Eqtb TexError

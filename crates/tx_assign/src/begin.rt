@@ -24,6 +24,9 @@ fn of_primitive(primitive: Primitive) -> Option<Variable>
         Primitive::Prefix(_) | Primitive::Let | Primitive::Shorthand(_) => None,
         Primitive::Arithmetic(_) => None,
         Primitive::Sized(_) | Primitive::Rule(_) | Primitive::Box(_) | Primitive::Shipout => None,
+        Primitive::BoxFrom(_) | Primitive::SetBox | Primitive::Shift(_) => None,
+        Primitive::Unbox(_) | Primitive::Penalty | Primitive::Remove(_) => None,
+        Primitive::Last(_) | Primitive::Badness | Primitive::PrevDepth => None,
     }
 }
 
@@ -51,7 +54,7 @@ impl Variable {
             Variable::Standing(place) => !place.is_list(),
             Variable::Numbered(Numbered::Count | Numbered::Dimen) => true,
             Variable::Numbered(Numbered::Category | Numbered::Code(_)) => false,
-            Variable::Numbered(Numbered::Toks) => false,
+            Variable::Numbered(Numbered::Toks | Numbered::Size(_)) => false,
         }
     }
 }

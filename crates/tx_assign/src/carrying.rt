@@ -1,5 +1,5 @@
 //! How an assignment is carried out on the table (TeX: The Program, sections 1211 to 1218 and 1236 to 1240).
-ghost use Rattle.std.specs.Prelude.{◌≡◌, IfOk};
+ghost use Rattle.std.specs.Prelude.{◌≡◌, IfOk, OnOk};
 ghost use Rattle.tx_num.specs.Limits.{limit};
 ghost use Rattle.tx_assign.specs.Changes as spec;
 ghost use Rattle.tx_assign.specs.Changes.{IsCarried};
@@ -14,7 +14,7 @@ use tx_seen::{Meaning, Place, TexError};
 use tx_toklist::{TokList, Toks};
 
 /// Whether an assignment is global, with this value of \globaldefs.
-fn is_global(globaldefs: i32, prefixed: bool) -> bool
+pub fn is_global(globaldefs: i32, prefixed: bool) -> bool
     ensures { result ≡ spec.is_global globaldefs prefixed }
 {
     if globaldefs > 0 {
@@ -156,6 +156,21 @@ pub fn with_text(alloc: Global, place: Place, tokens: Toks) -> Result<Assignment
     })
 }
 
+/// Gives a place an entry, globally or not; a size of a box changes where the box was assigned, whatever the prefix says (TeX: The
+/// Program, section 1247). After want of memory, its only error, the table may only be dropped.
+fn put_at(table: &mut Eqtb, place: Place, value: Entry, global: bool) -> Result<(), AllocError>
+    ensures { OnOk result (table.new ≡ spec.put_at global table.old place value) }
+{
+    if matches!(place, Place::BoxSize(_, _)) {
+        return table.replace(place, value);
+    }
+    if global {
+        table.assign_global(place, value)
+    } else {
+        table.assign(place, value)
+    }
+}
+
 /// Carries an assignment out, with \global before it or not; it is refused where a result leaves its range, a divisor is 0, or
 /// its text isn't there, and then nothing has changed. After want of memory, its only error, the table may only be dropped.
 pub fn carry_out(
@@ -171,10 +186,6 @@ pub fn carry_out(
         Err(error) => return Ok(Carried::Refused(error)),
     };
     let globaldefs = table.number(&Place::Integer(IntegerParameter::Globaldefs));
-    if is_global(globaldefs, global) {
-        table.assign_global(place, entry)?;
-    } else {
-        table.assign(place, entry)?;
-    }
+    put_at(table, place, entry, is_global(globaldefs, global))?;
     Ok(Carried::Done)
 }

@@ -22,6 +22,6 @@ mod target;
 mod types;
 mod values;
 
-pub use carrying::{carry_out, relaxed, with_text};
+pub use carrying::{carry_out, is_global, relaxed, with_text};
 pub use scan::AssignScan;
 pub use types::{Assigning, Assignment, Carried, Change, Purpose, Variable};
