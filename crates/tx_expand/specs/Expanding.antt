@@ -1,4 +1,4 @@
--- What the expander keeps beside the input, and what the table tells it.
+-- What the expander keeps beside the input, and what the table and the lists tell it.
 use Rattle.std.specs.Prelude.{ℕ, Option, List}
 use Rattle.tx_pending.specs.Elements.{Input}
 use Rattle.tx_prim.specs.declared.integer.IntegerParameter.TheVariants.{Escapechar}
@@ -6,8 +6,8 @@ use Rattle.tx_prim.specs.declared.modes.Mode.{Mode}
 use Rattle.tx_seen.specs.declared.place.Place.TheVariants.{Integer}
 use Rattle.tx_scan.specs.Integers.{byte_of}
 use Rattle.tx_eqtb.specs.declared.eqtb.Eqtb.{Eqtb}
-use Rattle.tx_eqtb.specs.Quantities.{value_in}
 use Rattle.tx_eqtb.specs.Table.{number_at, token_meaning, tokens_at}
+use Rattle.tx_known.specs.Values.{Lent, value_now}
 use Rattle.tx_cond.specs.declared.types.Conditional.{Conditional}
 use Rattle.tx_expand.specs.declared.begun.Begun.{Begun}
 use Rattle.tx_expand.specs.declared.state.Open.{Open}
@@ -24,5 +24,12 @@ reader_of e input = reader e.begun.items input e.conditionals e.job
 abbrev pub escape_of : Eqtb → Option ℕ
 escape_of e = byte_of (number_at e.table (Integer Escapechar))
 
-abbrev pub world_of : Eqtb → Mode → World
-world_of e mode = record { meaning = token_meaning e.table; value = value_in e; tokens = tokens_at e.table; codes = e.table.categories; escape = escape_of e; mode = mode }
+abbrev pub world_of : Lent → Mode → World
+world_of known mode = record {
+  meaning = token_meaning known.table.table;
+  value = value_now known;
+  tokens = tokens_at known.table.table;
+  codes = known.table.table.categories;
+  escape = escape_of known.table;
+  mode = mode;
+}

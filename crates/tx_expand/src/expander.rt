@@ -1,6 +1,7 @@
 //! The expander.
 ghost use Rattle.std.specs.Prelude.{◌≡◌, ◌↔◌, [], IfOk, IsTrue, OnOk};
 ghost use Rattle.tx_expand.specs.Expanding.{reader_of, world_of};
+ghost use Rattle.tx_known.specs.Values.{lent};
 ghost use Rattle.tx_expand.specs.Turns as turns;
 ghost use Rattle.tx_expand.specs.Turns.{file_ended, turn, IsTurned};
 ghost use Rattle.tx_pending.specs.Elements.{Input};
@@ -13,7 +14,7 @@ use std::collections::VecDeque;
 use std::marker::Model;
 use tx_bytes::Bytes;
 use tx_cond::CondStack;
-use tx_eqtb::Eqtb;
+use tx_known::Known;
 use tx_pending::{Next, Pending};
 use tx_prim::Mode;
 use tx_seen::{Meaning, Seen, TexError};
@@ -101,18 +102,18 @@ impl Expander {
         &mut self,
         alloc: Global,
         input: &mut Pending,
-        table: &Eqtb,
+        known: &Known,
         mode: Mode,
         wanted: Wanted,
     ) -> Result<Expanded, AllocError>
-        ensures { IfOk result (IsTurned (turn (world_of table.now mode) wanted (reader_of self.old input.old)) (reader_of self.new input.new)) }
+        ensures { IfOk result (IsTurned (turn (world_of (lent known.now) mode) wanted (reader_of self.old input.old)) (reader_of self.new input.new)) }
     {
         if self.open.is_opening() {
             return Ok(Expanded::Used(false));
         }
-        match input.next(alloc, table.categories())? {
+        match input.next(alloc, known.table.categories())? {
             Next::Token(token) => {
-                let meaning = table.meaning(&token)?;
+                let meaning = known.table.meaning(&token)?;
                 let seen = Seen { token, meaning };
                 if self.open.passes(&seen.meaning) {
                     return Ok(Expanded::Got(seen));
@@ -121,13 +122,13 @@ impl Expander {
                     Meaning::Macro(made) if self.open.expands(wanted, made) => {
                         self.open.use_macro(alloc, input, made)
                     }
-                    _ => self.open.read(alloc, input, table, mode, wanted, seen),
+                    _ => self.open.read(alloc, input, known, mode, wanted, seen),
                 }
             }
             Next::Held(token) => {
-                let meaning = table.meaning(&token)?;
+                let meaning = known.table.meaning(&token)?;
                 let seen = Seen { token, meaning }.held();
-                self.open.read(alloc, input, table, mode, wanted, seen)
+                self.open.read(alloc, input, known, mode, wanted, seen)
             }
             Next::Marker => Ok(Expanded::Marked),
             Next::Used { close } => Ok(Expanded::Used(close)),

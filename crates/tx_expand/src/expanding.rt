@@ -4,7 +4,7 @@ ghost use Rattle.tx_char.specs.declared.tokens.Token.{Token as Any_token};
 ghost use Rattle.tx_cond.specs.Conditionals.{meeting};
 ghost use Rattle.tx_cond.specs.declared.types.Conditional.{Conditional};
 ghost use Rattle.tx_convert.specs.Texts.{as_tokens};
-ghost use Rattle.tx_eqtb.specs.Quantities.{value_in};
+ghost use Rattle.tx_known.specs.Values.{lent, value_now};
 ghost use Rattle.tx_eqtb.specs.Table.{tokens_at};
 ghost use Rattle.tx_pending.specs.Elements.{Input};
 ghost use Rattle.tx_prim.specs.declared.modes.Mode.{Mode as Any_mode};
@@ -28,6 +28,7 @@ use tx_char::{ControlName, Token};
 use tx_cond::{Meet, SkipItem, Skipper};
 use tx_convert::{push_job_name, push_meaning, push_string};
 use tx_eqtb::Eqtb;
+use tx_known::Known;
 use tx_pending::Pending;
 use tx_prim::{CondWord, Conversion, Expandable, IntegerParameter, Mode, Test};
 use tx_scan::{byte, token_of};
@@ -117,14 +118,14 @@ fn read_by(
     alloc: Global,
     begun: &mut Begun,
     input: &mut Pending,
-    table: &Eqtb,
+    known: &Known,
     token: Seen,
 ) -> Result<Read, AllocError>
     requires { turns.scans begun.old ≡ true }
-    ensures { IfOk result (IsReadBegun (value_in table.now) begun.old token input.old begun.new input.new) }
+    ensures { IfOk result (IsReadBegun (value_now (lent known.now)) begun.old token input.old begun.new input.new) }
 {
     match begun {
-        Begun::Scanning(scanning) => scanning.feed(alloc, table, input, token),
+        Begun::Scanning(scanning) => scanning.feed(alloc, known, input, token),
         _ => unreachable!(),
     }
 }
@@ -145,13 +146,13 @@ fn feed_scan(
     alloc: Global,
     begun: &mut VecDeque<Begun>,
     input: &mut Pending,
-    table: &Eqtb,
+    known: &Known,
     token: Seen,
 ) -> Result<Read, AllocError>
     requires { turns.is_scanning begun.old.items ≡ true }
-    ensures { IfOk result (IsReadFirst (value_in table.now) begun.old.items token input.old begun.new.items input.new) }
+    ensures { IfOk result (IsReadFirst (value_now (lent known.now)) begun.old.items token input.old begun.new.items input.new) }
 {
-    read_by(alloc, &mut begun[0], input, table, token)
+    read_by(alloc, &mut begun[0], input, known, token)
 }
 
 /// An item joins the text that is skipped, where that stands. Its only error is that no more open conditionals can be counted.
@@ -234,12 +235,12 @@ impl Open {
     fn name(
         &mut self,
         input: &mut Pending,
-        table: &Eqtb,
+        known: &Known,
         name: ControlName,
     ) -> Result<Expanded, AllocError>
-        ensures { (any : Any_mode) → IfOk result (IsTurned (come (world_of table.now any) (Made.Names name) (reader_of self.old input.old)) (reader_of self.new input.new)) }
+        ensures { (any : Any_mode) → IfOk result (IsTurned (come (world_of (lent known.now) any) (Made.Names name) (reader_of self.old input.old)) (reader_of self.new input.new)) }
     {
-        let meaning = table.name_meaning(&name)?;
+        let meaning = known.table.name_meaning(&name)?;
         input.give_back(Token::Name(name.clone()?))?;
         release(&mut self.begun, input)?;
         match meaning {
@@ -254,13 +255,13 @@ impl Open {
         &mut self,
         alloc: Global,
         input: &mut Pending,
-        table: &Eqtb,
+        known: &Known,
         text: bool,
         place: &Place,
     ) -> Result<Expanded, AllocError>
-        ensures { IfOk result (IsTurned (listed text (tokens_at table.now.table place.now) (reader_of self.old input.old)) (reader_of self.new input.new)) }
+        ensures { IfOk result (IsTurned (listed text (tokens_at (lent known.now).table.table place.now) (reader_of self.old input.old)) (reader_of self.new input.new)) }
     {
-        let tokens = table.tokens(place)?;
+        let tokens = known.table.tokens(place)?;
         if text {
             release(&mut self.begun, input)?;
             Ok(Expanded::Text(Toks::from_slice(alloc, tokens.as_slice())?))
@@ -275,10 +276,10 @@ impl Open {
         &mut self,
         alloc: Global,
         input: &mut Pending,
-        table: &Eqtb,
+        known: &Known,
         made: Made,
     ) -> Result<Expanded, AllocError>
-        ensures { (any : Any_mode) → IfOk result (IsTurned (come (world_of table.now any) made (reader_of self.old input.old)) (reader_of self.new input.new)) }
+        ensures { (any : Any_mode) → IfOk result (IsTurned (come (world_of (lent known.now) any) made (reader_of self.old input.old)) (reader_of self.new input.new)) }
     {
         match made {
             Made::Puts(tokens) => self.replace(alloc, input, tokens),
@@ -286,12 +287,12 @@ impl Open {
                 release(&mut self.begun, input)?;
                 Ok(Expanded::Text(tokens))
             }
-            Made::List(text, place) => self.list(alloc, input, table, text, &place),
+            Made::List(text, place) => self.list(alloc, input, known, text, &place),
             Made::Register(text, number) => match byte(number) {
-                Some(number) => self.list(alloc, input, table, text, &Place::Toks(number)),
+                Some(number) => self.list(alloc, input, known, text, &Place::Toks(number)),
                 None => Ok(Expanded::Wrong(TexError::NumberOutOfRange)),
             },
-            Made::Names(name) => self.name(input, table, name),
+            Made::Names(name) => self.name(input, known, name),
             Made::Decides(value) => self.decide(input, value),
             Made::Opens(name) => {
                 self.begun.push_front(Begun::Opening)?;
@@ -305,10 +306,10 @@ impl Open {
         &mut self,
         alloc: Global,
         input: &mut Pending,
-        table: &Eqtb,
+        known: &Known,
         what: Scanned,
     ) -> Result<Expanded, AllocError>
-        ensures { (any : Any_mode) → IfOk result (IsTurned (reads (world_of table.now any) what [] (reader_of self.old input.old)) (reader_of self.new input.new)) }
+        ensures { (any : Any_mode) → IfOk result (IsTurned (reads (world_of (lent known.now) any) what [] (reader_of self.old input.old)) (reader_of self.new input.new)) }
     {
         let (part, fed) = Part::begin(alloc, what);
         match fed {
@@ -316,7 +317,7 @@ impl Open {
                 self.begin(Begun::Scanning(Scanning::new(alloc, what, want, part)?))
             }
             Fed::Need(_) => unreachable!(),
-            Fed::Done(made, _) => self.come(alloc, input, table, made),
+            Fed::Done(made, _) => self.come(alloc, input, known, made),
             Fed::Wrong(error) => Ok(Expanded::Wrong(error)),
         }
     }
@@ -326,17 +327,17 @@ impl Open {
         &mut self,
         alloc: Global,
         input: &mut Pending,
-        table: &Eqtb,
+        known: &Known,
         token: Seen,
     ) -> Result<Expanded, AllocError>
         requires { turns.is_scanning self.old.begun.items ≡ true }
-        ensures { (any : Any_mode) → IfOk result (IsTurned (given_to (world_of table.now any) token (reader_of self.old input.old) self.old.begun.items) (reader_of self.new input.new)) }
+        ensures { (any : Any_mode) → IfOk result (IsTurned (given_to (world_of (lent known.now) any) token (reader_of self.old input.old) self.old.begun.items) (reader_of self.new input.new)) }
     {
-        match feed_scan(alloc, &mut self.begun, input, table, token)? {
+        match feed_scan(alloc, &mut self.begun, input, known, token)? {
             Read::More => Ok(Expanded::Went),
             Read::Made(made) => {
                 self.begun.pop_front();
-                self.come(alloc, input, table, made)
+                self.come(alloc, input, known, made)
             }
             Read::Wrong(error) => Ok(Expanded::Wrong(error)),
         }
@@ -383,21 +384,21 @@ impl Open {
         &mut self,
         alloc: Global,
         input: &mut Pending,
-        table: &Eqtb,
+        known: &Known,
         what: Printed,
         token: &Seen,
     ) -> Result<Expanded, AllocError>
-        ensures { (any : Any_mode) → IfOk result (IsTurned (replaced (as_tokens (text_of (world_of table.now any) what token.now)) (reader_of self.old input.old)) (reader_of self.new input.new)) }
+        ensures { (any : Any_mode) → IfOk result (IsTurned (replaced (as_tokens (text_of (world_of (lent known.now) any) what token.now)) (reader_of self.old input.old)) (reader_of self.new input.new)) }
     {
         let mut tokens = Toks::new(alloc);
-        let escape = escape_of(table);
+        let escape = escape_of(known.table);
         match what {
             Printed::Token => push_string(&mut tokens, escape, &token.token)?,
             Printed::Meaning => push_meaning(
                 alloc,
                 &mut tokens,
                 escape,
-                table.categories(),
+                known.table.categories(),
                 &token.meaning,
             )?,
         }
@@ -410,15 +411,15 @@ impl Open {
         &mut self,
         alloc: Global,
         input: &mut Pending,
-        table: &Eqtb,
+        known: &Known,
         token: Seen,
     ) -> Result<Expanded, AllocError>
-        ensures { (any : Any_mode) → IfOk result (IsTurned (given_to (world_of table.now any) token (reader_of self.old input.old) self.old.begun.items) (reader_of self.new input.new)) }
+        ensures { (any : Any_mode) → IfOk result (IsTurned (given_to (world_of (lent known.now) any) token (reader_of self.old input.old) self.old.begun.items) (reader_of self.new input.new)) }
     {
         if self.begun.is_empty() {
             return Ok(Expanded::Got(token));
         }
-        self.take_within(alloc, input, table, token)
+        self.take_within(alloc, input, known, token)
     }
 
     /// The same in a function of its own, so that a token which is the caller's isn't moved on its way through it. Its only
@@ -428,13 +429,13 @@ impl Open {
         &mut self,
         alloc: Global,
         input: &mut Pending,
-        table: &Eqtb,
+        known: &Known,
         token: Seen,
     ) -> Result<Expanded, AllocError>
-        ensures { (any : Any_mode) → IfOk result (IsTurned (given_to (world_of table.now any) token (reader_of self.old input.old) self.old.begun.items) (reader_of self.new input.new)) }
+        ensures { (any : Any_mode) → IfOk result (IsTurned (given_to (world_of (lent known.now) any) token (reader_of self.old input.old) self.old.begun.items) (reader_of self.new input.new)) }
     {
         if is_scanning(&self.begun) {
-            return self.scan_on(alloc, input, table, token);
+            return self.scan_on(alloc, input, known, token);
         }
         if is_skipping(&self.begun) {
             return self.skip_on(input, token);
@@ -444,7 +445,7 @@ impl Open {
             return Ok(Expanded::Went);
         }
         match self.begun.pop_front() {
-            Some(begun) => self.take_by(alloc, input, table, begun, token),
+            Some(begun) => self.take_by(alloc, input, known, begun, token),
             None => Ok(Expanded::Got(token)),
         }
     }
@@ -454,13 +455,13 @@ impl Open {
         &mut self,
         alloc: Global,
         input: &mut Pending,
-        table: &Eqtb,
+        known: &Known,
         begun: Begun,
         token: Seen,
     ) -> Result<Expanded, AllocError>
         requires scans { turns.scans begun ≡ false }
         requires skips { turns.skips begun ≡ false }
-        ensures { (any : Any_mode) → IfOk result (IsTurned (given_by (world_of table.now any) token (reader_of self.old input.old) begun) (reader_of self.new input.new)) }
+        ensures { (any : Any_mode) → IfOk result (IsTurned (given_by (world_of (lent known.now) any) token (reader_of self.old input.old) begun) (reader_of self.new input.new)) }
     {
         match begun {
             Begun::Use(using) => self.use_on(alloc, input, using, token_of(token)),
@@ -474,7 +475,7 @@ impl Open {
                 input.push_held(token_of(token))?;
                 self.went(input)
             }
-            Begun::Print(what) => self.print(alloc, input, table, what, &token),
+            Begun::Print(what) => self.print(alloc, input, known, what, &token),
             Begun::Scanning(_) | Begun::Skipping(_) => unreachable!(),
             Begun::Opening => self.begin(Begun::Opening),
         }
@@ -498,30 +499,30 @@ impl Open {
         &mut self,
         alloc: Global,
         input: &mut Pending,
-        table: &Eqtb,
+        known: &Known,
         mode: Mode,
         text: bool,
         token: Token,
         primitive: Expandable,
     ) -> Result<Expanded, AllocError>
-        ensures { IfOk result (IsTurned (expands (world_of table.now mode) text token (reader_of self.old input.old) primitive) (reader_of self.new input.new)) }
+        ensures { IfOk result (IsTurned (expands (world_of (lent known.now) mode) text token (reader_of self.old input.old) primitive) (reader_of self.new input.new)) }
     {
         match primitive {
             Expandable::ExpandAfter => self.begin(Begun::After),
             Expandable::NoExpand => self.begin(Begun::Hold),
-            Expandable::CsName => self.scan(alloc, input, table, Scanned::Name),
-            Expandable::Convert(kind) => self.convert(alloc, input, table, kind),
+            Expandable::CsName => self.scan(alloc, input, known, Scanned::Name),
+            Expandable::Convert(kind) => self.convert(alloc, input, known, kind),
             Expandable::The => {
                 let what = Scanned::Quantity {
                     text: for_text(text, &self.begun),
                 };
-                self.scan(alloc, input, table, what)
+                self.scan(alloc, input, known, what)
             }
             Expandable::Input => {
                 if self.is_finding() {
                     self.relax_before(input, token)
                 } else {
-                    self.scan(alloc, input, table, Scanned::File)
+                    self.scan(alloc, input, known, Scanned::File)
                 }
             }
             Expandable::EndInput => {
@@ -530,7 +531,7 @@ impl Open {
             }
             Expandable::Test(test) => {
                 self.conditionals.begin(is_case(test))?;
-                self.scan(alloc, input, table, Scanned::Test(test, mode))
+                self.scan(alloc, input, known, Scanned::Test(test, mode))
             }
             Expandable::Word(word) => self.meet(input, token, word),
         }
@@ -541,14 +542,14 @@ impl Open {
         &mut self,
         alloc: Global,
         input: &mut Pending,
-        table: &Eqtb,
+        known: &Known,
         kind: Conversion,
     ) -> Result<Expanded, AllocError>
-        ensures { (mode : Any_mode) (text : Bool) (token : Any_token) → IfOk result (IsTurned (expands (world_of table.now mode) text token (reader_of self.old input.old) (Expandable.Convert kind)) (reader_of self.new input.new)) }
+        ensures { (mode : Any_mode) (text : Bool) (token : Any_token) → IfOk result (IsTurned (expands (world_of (lent known.now) mode) text token (reader_of self.old input.old) (Expandable.Convert kind)) (reader_of self.new input.new)) }
     {
         match kind {
-            Conversion::Number => self.scan(alloc, input, table, Scanned::Number),
-            Conversion::RomanNumeral => self.scan(alloc, input, table, Scanned::Roman),
+            Conversion::Number => self.scan(alloc, input, known, Scanned::Number),
+            Conversion::RomanNumeral => self.scan(alloc, input, known, Scanned::Roman),
             Conversion::Token => self.begin(Begun::Print(Printed::Token)),
             Conversion::Meaning => self.begin(Begun::Print(Printed::Meaning)),
             Conversion::JobName => {
@@ -582,21 +583,21 @@ impl Open {
         &mut self,
         alloc: Global,
         input: &mut Pending,
-        table: &Eqtb,
+        known: &Known,
         mode: Mode,
         text: bool,
         token: Seen,
     ) -> Result<Expanded, AllocError>
-        ensures { IfOk result (IsTurned (expanded (world_of table.now mode) text token (reader_of self.old input.old) token.meaning) (reader_of self.new input.new)) }
+        ensures { IfOk result (IsTurned (expanded (world_of (lent known.now) mode) text token (reader_of self.old input.old) token.meaning) (reader_of self.new input.new)) }
     {
         match &token.meaning {
             Meaning::Undefined => Ok(Expanded::Wrong(TexError::Undefined)),
             Meaning::Expandable(primitive) => {
                 let primitive = *primitive;
-                self.expand_primitive(alloc, input, table, mode, text, token_of(token), primitive)
+                self.expand_primitive(alloc, input, known, mode, text, token_of(token), primitive)
             }
             Meaning::Macro(made) => self.use_macro(alloc, input, made),
-            _ => self.take(alloc, input, table, token),
+            _ => self.take(alloc, input, known, token),
         }
     }
 
@@ -672,19 +673,19 @@ impl Open {
         &mut self,
         alloc: Global,
         input: &mut Pending,
-        table: &Eqtb,
+        known: &Known,
         mode: Mode,
         wanted: Wanted,
         token: Seen,
     ) -> Result<Expanded, AllocError>
-        ensures { IfOk result (IsTurned (token_read (world_of table.now mode) wanted token (reader_of self.old input.old)) (reader_of self.new input.new)) }
+        ensures { IfOk result (IsTurned (token_read (world_of (lent known.now) mode) wanted token (reader_of self.old input.old)) (reader_of self.new input.new)) }
     {
         if let Some(error) = self.refused(wanted.text, &token.meaning) {
             return Ok(Expanded::Wrong(error));
         }
         match self.want(wanted) {
-            Want::Expanded => self.expand(alloc, input, table, mode, wanted.takes_the, token),
-            Want::Raw => self.take(alloc, input, table, token),
+            Want::Expanded => self.expand(alloc, input, known, mode, wanted.takes_the, token),
+            Want::Raw => self.take(alloc, input, known, token),
         }
     }
 

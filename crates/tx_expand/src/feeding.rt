@@ -128,7 +128,7 @@ impl Part {
             Part::Name(_) => Ok(Fed::Wrong(TexError::BadName)),
             Part::Quantity { .. } => Ok(Fed::Wrong(TexError::NoAssignment)),
             Part::Integer(scan, figures) => printed(alloc, *figures, scan.give(value)),
-            Part::Test(scan) => Ok(decided(scan.give(value))),
+            Part::Test(scan) => Ok(decided(scan.give(value)?)),
             Part::File(_) => Ok(Fed::Wrong(TexError::MissingName)),
         }
     }
