@@ -28,7 +28,7 @@ use Rattle.tx_scan.specs.declared.scans.Amount.TheVariants.{Whole as All, Times}
 use Rattle.tx_prim.specs.declared.family.Numbered.{Numbered}
 use Rattle.tx_seen.specs.declared.place.Place.{Place}
 use Rattle.tx_seen.specs.Places.{is_size, place_of}
-use Rattle.tx_seen.specs.declared.fed.Value.TheVariants.{Int, Dimen, Flag}
+use Rattle.tx_seen.specs.declared.fed.Value.TheVariants.{Int, Dimen, Flag, Absent}
 use Rattle.tx_scan.specs.declared.scans.Spelled.{Spelled}
 use Rattle.tx_scan.specs.declared.scans.Spelled.TheVariants.{On, Whole, Infinite, No}
 use Rattle.tx_scan.specs.Dimensions.{Factor, factor_ended, fraction, is_decimal, whole_units, first_unit, is_internal, is_size_kind, turned, amount, ended_with, quantified, numbered_unit, measured, first_letter, letter_on, spelled, unit_name, size_in, sized, unit_rest, raised, more_infinite, fil_rest, unit_ended, factored, counted, size_begun, size_signs, dimension}
@@ -157,6 +157,7 @@ leaves-given : (item : Item) (rest : List Item) → Leaves (length rest) (given 
 leaves-given (Gave (Int n)) rest = leaves-in-range n rest
 leaves-given (Gave (Dimen n)) rest = leaves-in-range n rest
 leaves-given (Gave (Flag b)) rest = tt
+leaves-given (Gave Absent) rest = tt
 leaves-given (Took t) rest = tt
 
 leaves-quantity : (place : Place) (items : List Item) → Leaves (length items) (quantity place items)

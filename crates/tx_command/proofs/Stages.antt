@@ -2,16 +2,13 @@
 use Rattle.std.proofs.Common.{◌≡◌, ◌≤◌, ◌||◌, ℕ, true, false, cond, List, [], ◌∷◌, ◌++◌, length, Result, Ok, Err, IfOk, refl, ap, sym, subst, ◌∙◌, arith}
 use Rattle.tx_node.specs.declared.rule.Rule.{Rule}
 use Rattle.tx_prim.specs.declared.family.AfterKind.{AfterKind}
-use Rattle.tx_prim.specs.declared.family.BoxKind.{BoxKind}
 use Rattle.tx_prim.specs.declared.family.DefinitionKind.{DefinitionKind}
 use Rattle.tx_prim.specs.declared.family.RuleKind.{RuleKind}
 use Rattle.tx_prim.specs.declared.family.Shorthand.{Shorthand}
 use Rattle.tx_prim.specs.declared.family.SizeKind.{SizeKind}
 use Rattle.tx_prim.specs.declared.modes.Mode.{Mode}
-use Rattle.tx_prim.specs.declared.primitive.Primitive.TheVariants as primitive
-use Rattle.tx_seen.specs.declared.error.TexError.TheVariants.{NotAllowed, NoAssignment, Undefined}
-use Rattle.tx_seen.specs.declared.meaning.Meaning.TheVariants as meaning
-use Rattle.tx_seen.specs.Seen.{is_undefined, is_space, is_relax}
+use Rattle.tx_seen.specs.declared.error.TexError.TheVariants.{NotAllowed, NoAssignment}
+use Rattle.tx_seen.specs.Seen.{is_space, is_relax}
 use Rattle.tx_seen.specs.declared.fed.Fed.{Fed}
 use Rattle.tx_seen.specs.declared.fed.Fed.TheVariants as fed
 use Rattle.tx_seen.specs.declared.fed.Value.{Value}
@@ -22,7 +19,7 @@ use Rattle.tx_seen.specs.declared.item.Item.TheVariants.{Took, Gave}
 use Rattle.tx_seen.specs.declared.place.Place.{Place}
 use Rattle.tx_seen.specs.declared.seen.Seen.{Seen}
 use Rattle.tx_seen.specs.Readings.{Reading, More, Done, Wrong, ending, next}
-use Rattle.tx_scan.specs.Rests.{IsFedBy, IsGivenBehind}
+use Rattle.tx_scan.specs.Rests.{IsFedBy, IsGivenBehind, HoldsOne}
 use Rattle.tx_scan.specs.Supplied.{NeedsNoMore, NeedsFewer, NeedsNothing}
 use Rattle.tx_scan.specs.declared.scans.Measure.{Measure}
 use Rattle.tx_scan.specs.Dimensions.{lengths}
@@ -33,25 +30,28 @@ use Rattle.tx_assign.specs.declared.types.Assigning.TheVariants.{Named}
 use Rattle.tx_assign.specs.declared.types.Assignment.{Assignment}
 use Rattle.tx_assign.specs.Assignments.{assignment}
 use Rattle.tx_assign.specs.Rests.{rest as assign_rest, held as assign_held, more_needed as assign_needed, IsBegun}
+use Rattle.tx_shape.specs.declared.types.Shaped.{Shaped}
+use Rattle.tx_shape.specs.declared.types.Shaping.{Shaping}
+use Rattle.tx_shape.specs.Boxes.{shape}
+use Rattle.tx_shape.specs.Rests.{rest as shape_rest, held as shape_held, needed as shape_needed, Begins as BeginsShape, WaitsIfNeeded}
+use Rattle.tx_shape.proofs.Amounts.{none-waits}
 use Rattle.tx_command.specs.declared.scans.RulePart.TheVariants as rule
 use Rattle.tx_command.specs.declared.scans.Scans.{Scans}
 use Rattle.tx_command.specs.declared.scans.Stage.{Stage}
 use Rattle.tx_command.specs.declared.scans.Stage.TheVariants as stage
-use Rattle.tx_command.specs.declared.types.BoxContext.{BoxContext}
-use Rattle.tx_command.specs.declared.types.BoxContext.TheVariants.{Ship}
 use Rattle.tx_command.specs.declared.types.Command.{Command}
 use Rattle.tx_command.specs.declared.types.Command.TheVariants.{Nothing, Assign, Keep}
 use Rattle.tx_command.specs.declared.types.Head.{Head}
 use Rattle.tx_command.specs.declared.types.Head.TheVariants.{Fresh, Prefixed, Defining, Future}
 use Rattle.tx_command.specs.declared.types.Prefixes.{Prefixes}
-use Rattle.tx_command.specs.Commands.{command, command_meant, future_defining, future_of, future_second, keeping, macro_defining, fresh_command, may_be_prefixed, prefixed_command, assigning, defining, ruling, sizing, box_begin, box_meant, shipped_box, skipping}
+use Rattle.tx_command.specs.Commands.{command, command_meant, future_defining, future_of, future_second, keeping, macro_defining, fresh_command, may_be_prefixed, prefixed_command, assigning, defining, ruling, sizing, skipping, command_of, shaping}
 use Rattle.tx_command.specs.Standing.{may_stand}
 use Rattle.tx_scan.proofs.Answering.{ending-none}
 use Rattle.tx_scan.specs.Mapped.{mapped}
 use Rattle.tx_command.specs.Rests.{command_rest, held, more_needed, second_rest, stage_rest, stage_held, rule_needed, Begins, GoesOn, IsBegunBy, IsOn, IsOnAt, IsRuleFed}
 use Rattle.tx_command.specs.Rules.{plain_rule}
 use Rattle.tx_scan.proofs.Mappings.{Rest, read-none, fed-first, mapped-read, mapped-fed, same-read, needs-mapped, fewer-mapped}
-use Rattle.tx_scan.proofs.Behind.{HoldsOne, mapped-behind}
+use Rattle.tx_scan.proofs.Behind.{mapped-behind, none-needs}
 
 -- how many values are needed
 needs-least : {A : Type 0} (few most new : ℕ) (answer : Fed A) → few ≤ most → NeedsNoMore few new answer → NeedsNoMore most new answer
@@ -126,15 +126,31 @@ assign-goes new (fed.Need kind) is k = rw is (tt, k)
 assign-goes new (fed.Done a back) is k = tt
 assign-goes new (fed.Wrong error) is k = tt
 
+-- what a box, or what is done with one, takes, and its kin
+pub shape-needs : (old new : Scans) (answer : Fed Shaped) → old.stage ≡ stage.Shape → new.stage ≡ stage.Shape → NeedsNoMore (shape_needed old.shape) (shape_needed new.shape) answer → NeedsNoMore (more_needed old) (more_needed new) (mapped command_of answer)
+shape-needs old new answer was is k = rw (was, is) (needs-mapped command_of (shape_needed old.shape) (shape_needed new.shape) answer k)
+
+pub shape-fewer : (old new : Scans) (answer : Fed Shaped) → old.stage ≡ stage.Shape → new.stage ≡ stage.Shape → NeedsFewer (shape_needed old.shape) (shape_needed new.shape) answer → NeedsFewer (more_needed old) (more_needed new) (mapped command_of answer)
+shape-fewer old new answer was is k = rw (was, is) (fewer-mapped command_of (shape_needed old.shape) (shape_needed new.shape) answer k)
+
+pub shape-goes : (new : Scans) (answer : Fed Shaped) → new.stage ≡ stage.Shape → WaitsIfNeeded new.shape answer → GoesOn new (mapped command_of answer)
+shape-goes new (fed.More want) is k = rw is tt
+shape-goes new (fed.Need kind) is k = rw is (k, k.1)
+shape-goes new (fed.Done shaped back) is k = tt
+shape-goes new (fed.Wrong error) is k = tt
+
+pub shape-begun : (what : Shaping) (new : Scans) (answer : Fed Shaped) → new.stage ≡ stage.Shape → BeginsShape (shape what) new.shape answer → Begins (shaping what) new (mapped command_of answer)
+shape-begun what new answer is k = λ mode head. record {
+  reads = mapped-read shape_rest shape_held (command_rest mode head) held command_of 0 (shape what) [] new.shape new answer
+      (λ behind item more. ap (λ s. stage_rest mode head s new behind item more) is) (ap (λ s. stage_held s new) is) k.reads;
+  needs = rw is (needs-mapped command_of 0 (shape_needed new.shape) answer (none-needs 0 (shape_needed new.shape) answer k.fewer));
+  goes_on = shape-goes new answer is (none-waits new.shape (shape_needed new.shape) answer k.fewer);
+}
+
 -- parts that held nothing
 pub start-fed : {E : Type 0} (mode : Mode) (head : Head) (t : Seen) (old new : Scans) (answer : Result (Fed Command) E) → old.stage ≡ stage.Start → IfOk answer (IsBegunBy mode head 1 (λ more. command mode head (Took t ∷ more)) (Took t ∷ []) new) → IfOk answer (IsFedBy (command_rest mode head) held old t new)
 start-fed mode head t old new (Ok answer) was k = fed-first (command_rest mode head) held old t new answer (rw was refl) (rw was k.reads)
 start-fed mode head t old new (Err e) was k = tt
-
-pub box-fed : (mode : Mode) (head : Head) (t : Seen) (old new : Scans) (answer : Fed Command) → old.stage ≡ stage.ShippedBox → IsBegunBy mode head 0 (λ more. shipped_box (Took t ∷ more)) [] new answer → IsFedBy (command_rest mode head) held old t new answer
-box-fed mode head t old new answer was k =
-    fed-first (command_rest mode head) held old t new answer (rw was refl)
-    (rw was (read-none (command_rest mode head) held 1 (λ more. shipped_box (Took t ∷ more)) (Took t ∷ []) new answer k.reads))
 
 pub start-needs : {E : Type 0} (mode : Mode) (head : Head) (t : Seen) (old new : Scans) (answer : Result (Fed Command) E) → old.stage ≡ stage.Start → IfOk answer (IsBegunBy mode head 1 (λ more. command mode head (Took t ∷ more)) (Took t ∷ []) new) → IfOk answer (NeedsNoMore (more_needed old) (more_needed new))
 start-needs mode head t old new (Ok answer) was k = rw was k.needs
@@ -177,12 +193,6 @@ size-begun kind new is same = λ mode head. record { reads = (refl, rw (is, same
 
 pub rule-begun : (kind : RuleKind) (new : Scans) → new.stage ≡ stage.Rule kind → new.rule.rule ≡ plain_rule kind → new.rule.part ≡ rule.Start → Begins (ruling kind) new (fed.More Expanded)
 rule-begun kind new is same part = λ mode head. record { reads = (refl, rw (is, part) (omega arith), λ item more. rw (is, part, same) refl); needs = rw (is, part) (omega arith); goes_on = rw (is, part) tt }
-
-pub box-begun : (kind : BoxKind) (context : BoxContext) (new : Scans) → new.stage ≡ stage.BoxBegin kind context → Begins (box_begin kind context) new (fed.More Expanded)
-box-begun kind context new is = λ mode head. record { reads = (refl, rw is (omega arith), λ item more. rw is refl); needs = rw is (omega arith); goes_on = rw is tt }
-
-pub shipped-begun : (new : Scans) → new.stage ≡ stage.ShippedBox → Begins shipped_box new (fed.More Expanded)
-shipped-begun new is = λ mode head. record { reads = (refl, rw is (omega arith), λ item more. rw is refl); needs = rw is (omega arith); goes_on = rw is tt }
 
 pub spaces-begun : (new : Scans) → new.stage ≡ stage.Spaces → Begins skipping new (fed.More Expanded)
 spaces-begun new is = λ mode head. record { reads = (refl, rw is (omega arith), λ item more. rw is refl); needs = rw is (omega arith); goes_on = rw is tt }
@@ -272,12 +282,3 @@ end-needs few most c back (Err error) is = tt
 pub end-goes : {E : Type 0} (new : Scans) (c : Command) (back : ℕ) (answer : Result (Fed Command) E) → IfOk answer (λ given. given ≡ fed.Done c back) → IfOk answer (GoesOn new)
 end-goes new c back (Ok answer) is = rw is tt
 end-goes new c back (Err error) is = tt
-
--- the box of a \shipout
-pub box-there : (kind : BoxKind) (t : Seen) (new : Scans) (answer : Fed Command) → is_undefined t ≡ false → (is_space t || is_relax t) ≡ false → t.meaning ≡ meaning.Command (primitive.Box kind) → Begins (box_begin kind Ship) new answer → Begins (λ more. shipped_box (Took t ∷ more)) new answer
-box-there kind t new answer u s m k = λ mode head.
-    alike mode head 0 (λ more. shipped_box (Took t ∷ more)) (λ more. box_begin kind Ship more) [] new answer
-    (λ more.
-    ap (λ b. cond b (Wrong Undefined) (cond (is_space t || is_relax t) (shipped_box more) (box_meant t.meaning more))) u
-    ∙ (ap (λ b. cond b (shipped_box more) (box_meant t.meaning more)) s
-    ∙ ap (λ meaning. box_meant meaning more) m)) (k mode head)

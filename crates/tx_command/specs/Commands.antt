@@ -4,7 +4,6 @@ use Rattle.std.specs.Prelude.{ℕ, ◌∷◌, [], ◌||◌, Bool, true, false, n
 use Rattle.tx_char.specs.declared.category.Cat.{Cat}
 use Rattle.tx_char.specs.declared.category.Cat.TheVariants as category
 use Rattle.tx_prim.specs.declared.family.AfterKind.{AfterKind}
-use Rattle.tx_prim.specs.declared.family.BoxKind.{BoxKind}
 use Rattle.tx_prim.specs.declared.family.DefinitionKind.{DefinitionKind}
 use Rattle.tx_prim.specs.declared.family.RuleKind.{RuleKind}
 use Rattle.tx_prim.specs.declared.family.Shorthand.{Shorthand}
@@ -12,7 +11,7 @@ use Rattle.tx_prim.specs.declared.family.SizeKind.{SizeKind}
 use Rattle.tx_prim.specs.declared.modes.Mode.{Mode}
 use Rattle.tx_prim.specs.declared.primitive.Primitive.{Primitive}
 use Rattle.tx_prim.specs.declared.primitive.Primitive.TheVariants as primitive
-use Rattle.tx_seen.specs.declared.error.TexError.TheVariants.{Undefined, NoAssignment, NotAllowed, MisplacedAlignment, MissingBox, BadName}
+use Rattle.tx_seen.specs.declared.error.TexError.TheVariants.{Undefined, NoAssignment, NotAllowed, MisplacedAlignment, BadName}
 use Rattle.tx_seen.specs.declared.fed.Want.TheVariants.{Raw, Expanded}
 use Rattle.tx_seen.specs.declared.item.Item.{Item}
 use Rattle.tx_seen.specs.declared.item.Item.TheVariants.{Took, Gave}
@@ -23,16 +22,20 @@ use Rattle.tx_seen.specs.declared.seen.Seen.{Seen}
 use Rattle.tx_seen.specs.Seen.{is_space, is_relax}
 use Rattle.tx_seen.specs.Readings.{Reading, More, Done, Wrong, next}
 use Rattle.tx_scan.specs.Dimensions.{dimension, lengths}
-use Rattle.tx_scan.specs.Grammars.{left_brace, name}
+use Rattle.tx_scan.specs.Grammars.{name}
 use Rattle.tx_scan.specs.Integers.{expanded}
 use Rattle.tx_assign.specs.declared.types.Assigning.{Assigning}
 use Rattle.tx_assign.specs.declared.types.Assigning.TheVariants as assign
 use Rattle.tx_assign.specs.declared.types.Variable.TheVariants.{Numbered, Standing}
 use Rattle.tx_assign.specs.Assignments.{assignment, let_to}
-use Rattle.tx_command.specs.declared.types.BoxContext.{BoxContext}
-use Rattle.tx_command.specs.declared.types.BoxContext.TheVariants.{Append, Ship}
+use Rattle.tx_shape.specs.declared.types.BoxRead.TheVariants as box
+use Rattle.tx_shape.specs.declared.types.Shaping.{Shaping}
+use Rattle.tx_shape.specs.declared.types.Shaping.TheVariants as shape
+use Rattle.tx_shape.specs.declared.types.Shaped.{Shaped}
+use Rattle.tx_shape.specs.declared.types.Shaped.TheVariants as shaped
+use Rattle.tx_shape.specs.Boxes.{shape as shape_of}
 use Rattle.tx_command.specs.declared.types.Command.{Command}
-use Rattle.tx_command.specs.declared.types.Command.TheVariants.{Nothing, Space, Character, BeginGroup, EndGroup, BeginSemiSimple, EndSemiSimple, Prefix, Define, Assign, Sized, Rule, BeginBox, End, Interact, DefineMacro, BeginText, DefineFuture, Keep}
+use Rattle.tx_command.specs.declared.types.Command.TheVariants.{Nothing, Space, Character, BeginGroup, EndGroup, BeginSemiSimple, EndSemiSimple, Prefix, Define, Assign, Sized, Rule, BeginBox, UseBox, CopyBox, LastBox, Unbox, Penalize, SetDepth, End, Interact, DefineMacro, BeginText, DefineFuture, Keep, Remove}
 use Rattle.tx_command.specs.declared.types.Head.{Head}
 use Rattle.tx_command.specs.declared.types.Head.TheVariants.{Fresh, Prefixed, Defining, Future}
 use Rattle.tx_command.specs.declared.types.Prefixes.{Prefixes}
@@ -42,21 +45,6 @@ use Rattle.tx_command.specs.Standing.{may_stand}
 -- an assignment
 abbrev pub assigning : Assigning → List Item → Reading Command
 assigning begun items = next (assignment begun items) (λ a behind. Done (Assign a) behind)
-
--- the begin-group token of a box
-abbrev pub box_begin : BoxKind → BoxContext → List Item → Reading Command
-box_begin kind context items = next (left_brace items) (λ _ behind. Done (BeginBox kind context) behind)
-
--- the box that \shipout needs
-abbrev pub box_meant : Meaning → List Item → Reading Command
-box_meant (meaning.Command (primitive.Box kind)) rest = box_begin kind Ship rest
-box_meant _ rest = Wrong MissingBox
-
--- with spaces and \relax before it
-abbrev pub shipped_box : List Item → Reading Command
-shipped_box [] = More Expanded
-shipped_box (Gave v ∷ rest) = Wrong MissingBox
-shipped_box (Took t ∷ rest) = expanded t (if is_space t || is_relax t then shipped_box rest else box_meant t.meaning rest)
 
 -- whether a token that means this is one that \noexpand holds
 abbrev pub is_held : Meaning → Bool
@@ -100,6 +88,19 @@ sizing kind items = next (dimension lengths items) (λ measure behind. Done (Siz
 abbrev pub ruling : RuleKind → List Item → Reading Command
 ruling kind items = next (rule_sides (plain_rule kind) items) (λ rule behind. Done (Rule kind rule) behind)
 
+-- a box, or what is done with one, and its kin
+abbrev pub command_of : Shaped → Command
+command_of (shaped.Box (box.Begin kind goal) context) = BeginBox kind goal context
+command_of (shaped.Box (box.Use n) context) = UseBox n context
+command_of (shaped.Box (box.Copy n) context) = CopyBox n context
+command_of (shaped.Box box.Last context) = LastBox context
+command_of (shaped.Unbox kind n) = Unbox kind n
+command_of (shaped.Penalize n) = Penalize n
+command_of (shaped.SetDepth size) = SetDepth size
+
+abbrev pub shaping : Shaping → List Item → Reading Command
+shaping what items = next (shape_of what items) (λ s behind. Done (command_of s) behind)
+
 -- a character, or a name that \let has made mean one, by its category
 abbrev pub character_command : ℕ → Cat → List Item → Reading Command
 character_command code category.BeginGroup rest = Done BeginGroup rest
@@ -119,7 +120,7 @@ character_command code category.Active rest = Wrong NotAllowed
 character_command code category.Comment rest = Wrong NotAllowed
 character_command code category.Invalid rest = Wrong NotAllowed
 
--- what a primitive takes behind it, by its family
+-- what a primitive takes behind it, by its family; glue isn't there yet
 abbrev pub family_command : Primitive → List Item → Reading Command
 family_command primitive.Relax rest = Done Nothing rest
 family_command primitive.EndCsName rest = Wrong BadName
@@ -136,8 +137,17 @@ family_command (primitive.Dimension parameter) rest = assigning (assign.Variable
 family_command (primitive.Tokens parameter) rest = assigning (assign.Variable (Standing (place.Tokens parameter))) rest
 family_command (primitive.Sized kind) rest = sizing kind rest
 family_command (primitive.Rule kind) rest = ruling kind rest
-family_command (primitive.Box kind) rest = box_begin kind Append rest
-family_command primitive.Shipout rest = shipped_box rest
+family_command (primitive.Box kind) rest = shaping (shape.Box kind) rest
+family_command (primitive.BoxFrom source) rest = shaping (shape.From source) rest
+family_command primitive.Shipout rest = shaping shape.Shipout rest
+family_command primitive.SetBox rest = shaping shape.SetBox rest
+family_command (primitive.Shift kind) rest = shaping (shape.Shift kind) rest
+family_command (primitive.Unbox kind) rest = shaping (shape.Unbox kind) rest
+family_command primitive.Penalty rest = shaping shape.Penalty rest
+family_command primitive.PrevDepth rest = shaping shape.PrevDepth rest
+family_command (primitive.Remove kind) rest = Done (Remove kind) rest
+family_command (primitive.Last kind) rest = Wrong NotAllowed
+family_command primitive.Badness rest = Wrong NotAllowed
 family_command primitive.End rest = Done End rest
 family_command primitive.IgnoreSpaces rest = skipping rest
 family_command (primitive.Interaction kind) rest = Done (Interact kind) rest
@@ -203,6 +213,15 @@ is_prefixable prefixes (primitive.Definition kind) = true
 is_prefixable prefixes (primitive.Text purpose) = false
 is_prefixable prefixes (primitive.After kind) = false
 is_prefixable prefixes primitive.FutureLet = not (want_definition prefixes)
+is_prefixable prefixes (primitive.BoxFrom source) = false
+is_prefixable prefixes primitive.SetBox = not (want_definition prefixes)
+is_prefixable prefixes (primitive.Shift kind) = false
+is_prefixable prefixes (primitive.Unbox kind) = false
+is_prefixable prefixes primitive.Penalty = false
+is_prefixable prefixes (primitive.Remove kind) = false
+is_prefixable prefixes (primitive.Last kind) = false
+is_prefixable prefixes primitive.Badness = false
+is_prefixable prefixes primitive.PrevDepth = not (want_definition prefixes)
 
 -- what has no meaning, or is expanded, is let through, since carrying it out is an error of its own
 abbrev pub may_be_prefixed : Prefixes → Meaning → Bool

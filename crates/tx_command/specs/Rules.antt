@@ -8,7 +8,7 @@ use Rattle.tx_seen.specs.declared.seen.Seen.{Seen}
 use Rattle.tx_seen.specs.Seen.{is_space, is_key}
 use Rattle.tx_seen.specs.Readings.{Reading, More, Done, next}
 use Rattle.tx_prim.specs.declared.family.RuleKind.{RuleKind}
-use Rattle.tx_prim.specs.declared.family.RuleKind.TheVariants.{Vertical}
+use Rattle.tx_prim.specs.declared.family.RuleKind.TheVariants.{Vertical, Horizontal}
 use Rattle.tx_node.specs.declared.rule.Rule.{Rule}
 use Rattle.tx_scan.specs.Integers.{expanded}
 use Rattle.tx_scan.specs.Keywords.{keyword}
@@ -53,9 +53,10 @@ with_side rule Width size = record rule { width = Some size }
 with_side rule Height size = record rule { height = Some size }
 with_side rule Depth size = record rule { depth = Some size }
 
--- a \vrule is 0.4pt wide where nothing else is said
+-- a \vrule is 0.4pt wide, and an \hrule 0.4pt high and not deep, where nothing else is said
 abbrev pub plain_rule : RuleKind → Rule
 plain_rule Vertical = record { width = Some (pos 26214); height = None; depth = None }
+plain_rule Horizontal = record { width = None; height = Some (pos 26214); depth = Some (pos 0) }
 
 -- a side's size and then what `on` reads, or the rule where no side is named
 abbrev pub side_or_end : (Rule → List Item → Reading Rule) → Rule → Option Side → List Item → Reading Rule

@@ -2,6 +2,10 @@
 use Rattle.std.specs.Prelude.{Bool, true, false, not, ◌&&◌}
 use Rattle.tx_char.specs.declared.category.Cat.{Cat}
 use Rattle.tx_char.specs.declared.category.Cat.TheVariants as category
+use Rattle.tx_prim.specs.declared.family.BoxSource.{BoxSource}
+use Rattle.tx_prim.specs.declared.family.BoxSource.TheVariants as source
+use Rattle.tx_prim.specs.declared.family.TextUse.{TextUse}
+use Rattle.tx_prim.specs.declared.family.TextUse.TheVariants as purposes
 use Rattle.tx_prim.specs.declared.modes.Mode.{Mode}
 use Rattle.tx_prim.specs.declared.modes.Mode.TheVariants as mode
 use Rattle.tx_prim.specs.declared.modes.Modes.{Modes}
@@ -48,6 +52,21 @@ modes_of_meaning (meaning.Expandable e) = All
 modes_of_meaning (meaning.Macro m) = All
 modes_of_meaning meaning.Held = All
 
+-- whether a text in braces becomes an item of the list
+abbrev pub adds_text : TextUse → Bool
+adds_text purposes.Message = false
+adds_text purposes.ErrorMessage = false
+adds_text purposes.UpperCase = false
+adds_text purposes.LowerCase = false
+adds_text purposes.Special = true
+
+-- whether a box that was made before may be added: that at the end of the pages' list is no item to be added, but an error of its
+-- own (TeX: The Program, section 1080)
+abbrev pub adds_box : BoxSource → Bool
+adds_box source.Register = true
+adds_box source.Copy = true
+adds_box source.Last = false
+
 -- whether a primitive of a family adds to the list in which it stands
 abbrev pub adds_to_list : Primitive → Bool
 adds_to_list primitive.Relax = false
@@ -71,9 +90,18 @@ adds_to_list primitive.End = false
 adds_to_list primitive.IgnoreSpaces = false
 adds_to_list (primitive.Interaction kind) = false
 adds_to_list (primitive.Definition kind) = false
-adds_to_list (primitive.Text purpose) = false
+adds_to_list (primitive.Text purpose) = adds_text purpose
 adds_to_list (primitive.After kind) = false
 adds_to_list primitive.FutureLet = false
+adds_to_list (primitive.BoxFrom source) = adds_box source
+adds_to_list primitive.SetBox = false
+adds_to_list (primitive.Shift kind) = true
+adds_to_list (primitive.Unbox kind) = true
+adds_to_list primitive.Penalty = true
+adds_to_list (primitive.Remove kind) = false
+adds_to_list (primitive.Last kind) = false
+adds_to_list primitive.Badness = false
+adds_to_list primitive.PrevDepth = false
 
 -- nothing can be added to the pages' list yet
 abbrev pub is_there : Mode → Meaning → Bool

@@ -25,6 +25,7 @@ impl Clone for Scans {
             assignment: self.assignment.clone()?,
             size: self.size.clone()?,
             rule: self.rule.clone()?,
+            shape: self.shape.clone()?,
         })
     }
 }

@@ -21,4 +21,5 @@ mod types;
 
 pub use scans::Taken;
 pub use taking::CommandScan;
-pub use types::{BoxContext, Command, Head, Prefixes};
+pub use tx_shape::{BoxContext, BoxGoal};
+pub use types::{Command, Head, Prefixes};

@@ -2,13 +2,15 @@
 ghost use Rattle.std.specs.Prelude.{◌≡◌};
 ghost use Rattle.tx_scan.specs.DimensionRests.{IsSize};
 ghost use Rattle.tx_scan.specs.Mapped.{mapped};
+ghost use Rattle.tx_command.specs.Commands as commands;
 
-use crate::types::{BoxContext, Command};
+use crate::types::Command;
 use tx_assign::Assignment;
 use tx_node::Rule;
-use tx_prim::{BoxKind, DefinitionKind, RuleKind, Shorthand, SizeKind};
+use tx_prim::{DefinitionKind, RuleKind, Shorthand, SizeKind};
 use tx_scan::Measure;
 use tx_seen::{Fed, Place};
+use tx_shape::{BoxRead, Shaped};
 
 /// An assignment.
 pub fn assigned(fed: Fed<Assignment>) -> Fed<Command>
@@ -83,14 +85,29 @@ pub fn ruled(rule_kind: RuleKind, fed: Fed<Rule>) -> Fed<Command>
     }
 }
 
-/// The begin-group token of a box.
-pub fn begun_box(box_kind: BoxKind, context: BoxContext, fed: Fed<()>) -> Fed<Command>
-    ensures { result ≡ mapped (λ _. Command.BeginBox box_kind context) fed }
+/// The command of what a box, or what is done with one, and its kin have come to.
+fn command_of(shaped: Shaped) -> Command
+    ensures { result ≡ commands.command_of shaped }
+{
+    match shaped {
+        Shaped::Box(BoxRead::Begin(kind, goal), context) => Command::BeginBox(kind, goal, context),
+        Shaped::Box(BoxRead::Use(register), context) => Command::UseBox(register, context),
+        Shaped::Box(BoxRead::Copy(register), context) => Command::CopyBox(register, context),
+        Shaped::Box(BoxRead::Last, context) => Command::LastBox(context),
+        Shaped::Unbox(kind, register) => Command::Unbox(kind, register),
+        Shaped::Penalize(penalty) => Command::Penalize(penalty),
+        Shaped::SetDepth(depth) => Command::SetDepth(depth),
+    }
+}
+
+/// What a box, or what is done with one, takes, and its kin.
+pub fn shaped(fed: Fed<Shaped>) -> Fed<Command>
+    ensures { result ≡ mapped commands.command_of fed }
 {
     match fed {
         Fed::More(want) => Fed::More(want),
         Fed::Need(kind) => Fed::Need(kind),
-        Fed::Done(_, back) => Fed::Done(Command::BeginBox(box_kind, context), back),
+        Fed::Done(shaped, back) => Fed::Done(command_of(shaped), back),
         Fed::Wrong(error) => Fed::Wrong(error),
     }
 }

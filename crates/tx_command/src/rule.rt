@@ -17,8 +17,8 @@ use tx_prim::RuleKind;
 use tx_scan::{DimenScan, KeyScan, Measure};
 use tx_seen::{Fed, Seen, TexError, Value, Want};
 
-/// 0.4pt, the width of a \vrule where nothing else is said.
-const PLAIN_WIDTH: i32 = 26_214;
+/// 0.4pt, how thick a rule is where nothing else is said.
+const THICKNESS: i32 = 26_214;
 
 /// The rule of a kind where nothing else is said.
 fn plain_rule(kind: RuleKind) -> Rule
@@ -26,9 +26,14 @@ fn plain_rule(kind: RuleKind) -> Rule
 {
     match kind {
         RuleKind::Vertical => Rule {
-            width: Some(PLAIN_WIDTH),
+            width: Some(THICKNESS),
             height: None,
             depth: None,
+        },
+        RuleKind::Horizontal => Rule {
+            width: None,
+            height: Some(THICKNESS),
+            depth: Some(0),
         },
     }
 }

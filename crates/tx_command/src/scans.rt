@@ -1,10 +1,11 @@
 //! What a scan of a command still needs, and what taking a token to one gives.
-use crate::types::{BoxContext, Command, Side};
+use crate::types::{Command, Side};
 use tx_assign::AssignScan;
 use tx_node::Rule;
-use tx_prim::{AfterKind, BoxKind, DefinitionKind, RuleKind, Shorthand, SizeKind};
+use tx_prim::{AfterKind, DefinitionKind, RuleKind, Shorthand, SizeKind};
 use tx_scan::{DimenScan, KeyScan};
 use tx_seen::TexError;
+use tx_shape::ShapeScan;
 
 /// The part of a rule that comes next.
 #[derive(Clone, Copy)]
@@ -48,12 +49,10 @@ pub enum Stage {
     Sized(SizeKind),
     /// The sides of a rule of this kind.
     Rule(RuleKind),
-    /// The box of a \shipout, with spaces and \relax before it.
-    ShippedBox,
+    /// What a box, or what is done with one, takes, and its kin.
+    Shape,
     /// Spaces that are skipped.
     Spaces,
-    /// The begin-group token of a box of this kind, of which this becomes.
-    BoxBegin(BoxKind, BoxContext),
 }
 
 /// The scans of the parts of commands. They are begun anew in place, so that a token moves none of them.
@@ -63,6 +62,7 @@ pub struct Scans {
     pub assignment: AssignScan,
     pub size: DimenScan,
     pub rule: RuleScan,
+    pub shape: ShapeScan,
 }
 
 /// What taking a token to a command gives.

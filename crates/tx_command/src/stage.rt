@@ -8,17 +8,18 @@ ghost use Rattle.tx_assign.specs.Assignments.{assignment};
 ghost use Rattle.tx_command.specs.Commands as commands;
 ghost use Rattle.tx_command.specs.Rests.{command_rest, held, more_needed, Begins, GoesOn, IsBegunBy, IsOn, IsWaiting};
 
-use crate::mapping::{assigned, begun_box, defined, future_defined, macro_defined, ruled, sized};
+use crate::mapping::{assigned, defined, future_defined, macro_defined, ruled, shaped, sized};
 use crate::scans::{RuleScan, Scans, Stage};
 use crate::standing::{may_be_prefixed, may_stand};
-use crate::types::{BoxContext, Command, Head, Prefixes};
+use crate::types::{Command, Head, Prefixes};
 use std::alloc::{AllocError, Global};
 use tx_assign::{AssignScan, Assigning, Assignment, Change, Variable};
 use tx_char::Cat;
 use tx_eqtb::Entry;
-use tx_prim::{AfterKind, BoxKind, Mode, Primitive, RuleKind, Shorthand, SizeKind};
-use tx_scan::{BraceScan, DimenScan, NameScan};
+use tx_prim::{AfterKind, Mode, Primitive, RuleKind, Shorthand, SizeKind};
+use tx_scan::{DimenScan, NameScan};
 use tx_seen::{Fed, Meaning, Place, Seen, TexError, Value, Want};
+use tx_shape::{ShapeScan, Shaping};
 
 /// Whether a token that means this is one that \noexpand holds.
 fn is_held(meaning: &Meaning) -> bool
@@ -86,6 +87,7 @@ impl Scans {
             assignment: AssignScan::new(alloc),
             size: DimenScan::new(alloc, false, false),
             rule: RuleScan::new(alloc),
+            shape: ShapeScan::new(alloc),
         }
     }
 
@@ -111,11 +113,8 @@ impl Scans {
             Stage::KeptToken(kind) => feed_kept(kind, token),
             Stage::Sized(kind) => Ok(sized(kind, self.size.feed(token)?)),
             Stage::Rule(kind) => Ok(ruled(kind, self.rule.feed(token)?)),
-            Stage::ShippedBox => Ok(self.feed_box(token)),
+            Stage::Shape => Ok(shaped(self.shape.feed(token)?)),
             Stage::Spaces => Ok(self.feed_space(token)),
-            Stage::BoxBegin(kind, context) => {
-                Ok(begun_box(kind, context, BraceScan::new().feed(token)))
-            }
         }
     }
 
@@ -130,9 +129,10 @@ impl Scans {
             Stage::Assign => Ok(assigned(self.assignment.give(value)?)),
             Stage::Sized(kind) => Ok(sized(kind, self.size.give(value)?)),
             Stage::Rule(kind) => Ok(ruled(kind, self.rule.give(value, behind)?)),
+            Stage::Shape => Ok(shaped(self.shape.give(value, behind)?)),
             Stage::Start | Stage::Name(_) | Stage::MacroName(_) => unreachable!(),
             Stage::FutureName | Stage::SecondToken | Stage::KeptToken(_) => unreachable!(),
-            Stage::ShippedBox | Stage::Spaces | Stage::BoxBegin(_, _) => unreachable!(),
+            Stage::Spaces => unreachable!(),
         }
     }
 
@@ -238,11 +238,16 @@ impl Scans {
                 self.rule.begin(kind);
                 self.on(Stage::Rule(kind), Want::Expanded)
             }
-            Primitive::Box(kind) => self.on(
-                Stage::BoxBegin(kind, BoxContext::Append),
-                Want::Expanded,
-            ),
-            Primitive::Shipout => self.on(Stage::ShippedBox, Want::Expanded),
+            Primitive::Box(kind) => self.begin_shape(Shaping::Box(kind)),
+            Primitive::BoxFrom(source) => self.begin_shape(Shaping::From(source)),
+            Primitive::Shipout => self.begin_shape(Shaping::Shipout),
+            Primitive::SetBox => self.begin_shape(Shaping::SetBox),
+            Primitive::Shift(kind) => self.begin_shape(Shaping::Shift(kind)),
+            Primitive::Unbox(kind) => self.begin_shape(Shaping::Unbox(kind)),
+            Primitive::Penalty => self.begin_shape(Shaping::Penalty),
+            Primitive::PrevDepth => self.begin_shape(Shaping::PrevDepth),
+            Primitive::Remove(kind) => Fed::Done(Command::Remove(kind), 0),
+            Primitive::Last(_) | Primitive::Badness => Fed::Wrong(TexError::NotAllowed),
             Primitive::End => Fed::Done(Command::End, 0),
             Primitive::IgnoreSpaces => self.on(Stage::Spaces, Want::Expanded),
             Primitive::Interaction(kind) => Fed::Done(Command::Interact(kind), 0),
@@ -260,6 +265,14 @@ impl Scans {
     {
         self.stage = stage;
         Fed::More(want)
+    }
+
+    /// What a box, or what is done with one, takes, and its kin.
+    fn begin_shape(&mut self, shaping: Shaping) -> Fed<Command>
+        ensures { Begins (commands.shaping shaping) self.new result }
+    {
+        self.stage = Stage::Shape;
+        shaped(self.shape.begin(shaping))
     }
 
     /// What gives the place a value.
@@ -300,24 +313,5 @@ impl Scans {
             return Fed::Done(Command::Nothing, 0);
         }
         Fed::Done(Command::Nothing, 1)
-    }
-
-    /// The box of a \shipout, or what stands before it.
-    fn feed_box(&mut self, token: &Seen) -> Fed<Command>
-        requires { self.old.stage ≡ Stage.ShippedBox }
-        ensures { Begins (λ more. commands.shipped_box (Took token.now ∷ more)) self.new result }
-    {
-        if token.is_undefined() {
-            return Fed::Wrong(TexError::Undefined);
-        }
-        if token.is_space() || token.is_relax() {
-            return Fed::More(Want::Expanded);
-        }
-        match &token.meaning {
-            Meaning::Command(Primitive::Box(kind)) => {
-                self.on(Stage::BoxBegin(*kind, BoxContext::Ship), Want::Expanded)
-            }
-            _ => Fed::Wrong(TexError::MissingBox),
-        }
     }
 }

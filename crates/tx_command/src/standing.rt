@@ -6,7 +6,7 @@ ghost use Rattle.tx_command.specs.Standing as spec;
 
 use crate::types::Prefixes;
 use tx_char::Cat;
-use tx_prim::{Mode, Modes, Primitive, Standing};
+use tx_prim::{BoxSource, Mode, Modes, Primitive, Standing, TextUse};
 use tx_seen::Meaning;
 
 /// In which modes a character of a category may stand.
@@ -42,12 +42,37 @@ fn modes_of_meaning(meaning: &Meaning) -> Modes
     }
 }
 
+/// Whether a text in braces becomes an item of the list.
+fn adds_text(purpose: TextUse) -> bool
+    ensures { result ≡ spec.adds_text purpose }
+{
+    match purpose {
+        TextUse::Message | TextUse::ErrorMessage => false,
+        TextUse::UpperCase | TextUse::LowerCase => false,
+        TextUse::Special => true,
+    }
+}
+
+/// Whether a box that was made before may be added to the pages' list.
+fn adds_box(source: BoxSource) -> bool
+    ensures { result ≡ spec.adds_box source }
+{
+    match source {
+        BoxSource::Register | BoxSource::Copy => true,
+        BoxSource::Last => false,
+    }
+}
+
 /// Whether a primitive adds to the list in which it stands.
 fn adds_to_list(primitive: Primitive) -> bool
     ensures { result ≡ spec.adds_to_list primitive }
 {
     match primitive {
         Primitive::Sized(_) | Primitive::Rule(_) | Primitive::Box(_) => true,
+        Primitive::BoxFrom(source) => adds_box(source),
+        Primitive::Shift(_) | Primitive::Unbox(_) => true,
+        Primitive::Penalty => true,
+        Primitive::Text(purpose) => adds_text(purpose),
         Primitive::Relax
         | Primitive::EndCsName
         | Primitive::Par
@@ -66,9 +91,13 @@ fn adds_to_list(primitive: Primitive) -> bool
         | Primitive::IgnoreSpaces
         | Primitive::Interaction(_)
         | Primitive::Definition(_)
-        | Primitive::Text(_)
         | Primitive::After(_)
-        | Primitive::FutureLet => false,
+        | Primitive::FutureLet
+        | Primitive::SetBox
+        | Primitive::Remove(_)
+        | Primitive::Last(_)
+        | Primitive::Badness
+        | Primitive::PrevDepth => false,
     }
 }
 
@@ -120,7 +149,9 @@ fn is_prefixable(prefixes: Prefixes, primitive: Primitive) -> bool
         | Primitive::Integer(_)
         | Primitive::Dimension(_)
         | Primitive::Tokens(_)
-        | Primitive::Interaction(_) => !want_definition(prefixes),
+        | Primitive::Interaction(_)
+        | Primitive::SetBox
+        | Primitive::PrevDepth => !want_definition(prefixes),
         Primitive::Relax
         | Primitive::EndCsName
         | Primitive::Par
@@ -133,7 +164,14 @@ fn is_prefixable(prefixes: Prefixes, primitive: Primitive) -> bool
         | Primitive::End
         | Primitive::IgnoreSpaces
         | Primitive::Text(_)
-        | Primitive::After(_) => false,
+        | Primitive::After(_)
+        | Primitive::BoxFrom(_)
+        | Primitive::Shift(_)
+        | Primitive::Unbox(_)
+        | Primitive::Penalty
+        | Primitive::Remove(_)
+        | Primitive::Last(_)
+        | Primitive::Badness => false,
     }
 }
 

@@ -1,6 +1,5 @@
 //! Commands, taken off the input token by token (TeX: The Program, part 46).
 ghost use Rattle.std.specs.Prelude.{◌≡◌, ◌↔◌, ◌<◌, ◌≤◌, ◌+◌, ◌∷◌, ◌++◌, [], ℕ, List, length, IfOk, OnOk, IsTrue};
-ghost use Rattle.tx_eqtb.specs.Quantities.{value_in};
 ghost use Rattle.tx_prim.specs.declared.modes.Mode.{Mode};
 ghost use Rattle.tx_seen.specs.declared.item.Item.{Item};
 ghost use Rattle.tx_seen.specs.declared.item.Item.TheVariants.{Gave, Took};
@@ -17,7 +16,6 @@ use crate::scans::{Scans, Stage, Taken};
 use crate::types::{Command, Head, Prefixes};
 use std::alloc::{AllocError, Global};
 use std::marker::Model;
-use tx_eqtb::Eqtb;
 use tx_list::{Items, Kept};
 use tx_pending::Pending;
 use tx_prim::{Mode, Prefix, Shorthand};
@@ -137,20 +135,20 @@ impl CommandScan {
     /// Takes one token more, and the values that the command needs behind it. Behind a whole command, whose last tokens are put
     /// at the front of the input where they aren't part of it, or a wrong one, the next begins. Its only error is want of
     /// memory.
-    pub fn feed(
+    pub fn feed<Q: Quantities>(
         &mut self,
-        table: &Eqtb,
+        quantities: &Q,
         input: &mut Pending,
         token: Seen,
     ) -> Result<Taken, AllocError>
-        ensures { IfOk result (IsTaken (value_in table.now) self.old token input.old self.new input.new) }
+        ensures { IfOk result (IsTaken (Q.value_at quantities.now) self.old token input.old self.new input.new) }
     {
         let fed = take(
             self.mode,
             &self.head,
             &mut self.taken,
             &mut self.scans,
-            table,
+            quantities,
             token,
         );
         match fed {
@@ -212,18 +210,18 @@ fn is_end(fed: &Fed<Command>) -> bool
 
 /// Takes one token, and the values that the command needs behind it. A token that ends the command isn't kept, where it isn't
 /// given back. Its only error is want of memory.
-fn take(
+fn take<Q: Quantities>(
     mode: Mode,
     head: &Head,
     taken: &mut Items<Item>,
     scans: &mut Scans,
-    table: &Eqtb,
+    quantities: &Q,
     token: Seen,
 ) -> Result<Fed<Command>, AllocError>
     requires reads { HasTakenBy (command_rest mode head.now) held (commands.command mode head.now) scans.old taken.old }
     requires on { IsOn scans.old }
     requires few { more_needed scans.old ≤ length taken.old + 1 }
-    ensures settled { IfOk result (IsSettled mode head.now (joined (value_in table.now) mode head.now taken.old token) taken.new scans.new) }
+    ensures settled { IfOk result (IsSettled mode head.now (joined (Q.value_at quantities.now) mode head.now taken.old token) taken.new scans.new) }
     ensures on { IfOk result (GoesOn scans.new) }
 {
     let fed = scans.feed(mode, head, &token)?;
@@ -236,7 +234,7 @@ fn take(
         Fed::Need(kind) => {
             let behind = token.clone()?;
             taken.push(Item::Took(token))?;
-            settle(taken, scans, table, &behind, Fed::Need(kind))
+            settle(taken, scans, quantities, &behind, Fed::Need(kind))
         }
         fed => {
             if is_end(&fed) {
@@ -250,44 +248,44 @@ fn take(
 
 /// Gives the values that the command needs behind the token that was taken last, as the table has them, until it needs none. Its
 /// only error is want of memory.
-fn settle(
+fn settle<Q: Quantities>(
     taken: &mut Items<Item>,
     scans: &mut Scans,
-    table: &Eqtb,
+    quantities: &Q,
     behind: &Seen,
     fed: Fed<Command>,
 ) -> Result<Fed<Command>, AllocError>
     requires on { GoesOn scans.old fed }
     requires last { last 1 taken.old ≡ Took behind.now ∷ [] }
-    ensures settled { (mode : Mode) (head : Head) (items : List Item) → IsPending (value_in table.now) mode head items taken.old scans.old fed → IfOk result (IsSettled mode head items taken.new scans.new) }
+    ensures settled { (mode : Mode) (head : Head) (items : List Item) → IsPending (Q.value_at quantities.now) mode head items taken.old scans.old fed → IfOk result (IsSettled mode head items taken.new scans.new) }
     ensures on { IfOk result (GoesOn scans.new) }
 {
     let mut fed = fed;
     loop {
         match fed {
-            Fed::Need(kind) => fed = give(taken, scans, table, behind, &kind)?,
+            Fed::Need(kind) => fed = give(taken, scans, quantities, behind, &kind)?,
             settled => return Ok(settled),
         }
     }
 }
 
 /// Gives the value that is needed, where this token was taken last. Its only error is want of memory.
-fn give(
+fn give<Q: Quantities>(
     taken: &mut Items<Item>,
     scans: &mut Scans,
-    table: &Eqtb,
+    quantities: &Q,
     behind: &Seen,
     kind: &Kind,
 ) -> Result<Fed<Command>, AllocError>
     requires { IsWaiting scans.old }
-    ensures given { (mode : Mode) (head : Head) → IfOk result (IsGivenBehind (command_rest mode head) held scans.old (value_for (value_in table.now) kind.now) behind.now scans.new) }
+    ensures given { (mode : Mode) (head : Head) → IfOk result (IsGivenBehind (command_rest mode head) held scans.old (value_for (Q.value_at quantities.now) kind.now) behind.now scans.new) }
     ensures needs { IfOk result (NeedsFewer (more_needed scans.old) (more_needed scans.new)) }
     ensures on { IfOk result (GoesOn scans.new) }
-    ensures taken { OnOk result (taken.new ≡ taken.old ++ Gave (value_for (value_in table.now) kind.now) ∷ []) }
+    ensures taken { OnOk result (taken.new ≡ taken.old ++ Gave (value_for (Q.value_at quantities.now) kind.now) ∷ []) }
 {
     match kind {
         Kind::Quantity(place) => {
-            let value = table.quantity(place);
+            let value = quantities.quantity(place);
             let fed = scans.give(&value, behind)?;
             taken.push(Item::Gave(value))?;
             Ok(fed)

@@ -3,9 +3,11 @@ use tx_assign::Assignment;
 use tx_char::Token;
 use tx_node::Rule;
 use tx_prim::{
-    AfterKind, BoxKind, DefinitionKind, Interaction, Prefix, RuleKind, Shorthand, SizeKind, TextUse,
+    AfterKind, BoxKind, DefinitionKind, Interaction, ItemKind, Prefix, RuleKind, Shorthand,
+    SizeKind, TextUse, UnboxKind,
 };
 use tx_seen::Place;
+use tx_shape::{BoxContext, BoxGoal};
 
 /// A side of a rule.
 #[derive(Clone, Copy, PartialEq, Eq)]
@@ -13,15 +15,6 @@ pub enum Side {
     Width,
     Height,
     Depth,
-}
-
-/// What becomes of a box (TeX: The Program, section 1071).
-#[derive(Clone, Copy, PartialEq, Eq)]
-pub enum BoxContext {
-    /// It is appended to the list that it stands in.
-    Append,
-    /// It is shipped.
-    Ship,
 }
 
 /// The prefixes before a command (The TeXbook, chapter 24).
@@ -70,8 +63,21 @@ pub enum Command {
     Sized(SizeKind, i32),
     /// `\vrule`.
     Rule(RuleKind, Rule),
-    /// `\hbox` and its begin-group token, with what becomes of the box.
-    BeginBox(BoxKind, BoxContext),
+    /// `\hbox` or its kin and its begin-group token, with what its list is packed to and what becomes of the box.
+    BeginBox(BoxKind, BoxGoal, BoxContext),
+    /// `\box` and `\copy` of a register, with what becomes of the box.
+    UseBox(u8, BoxContext),
+    CopyBox(u8, BoxContext),
+    /// `\lastbox`, with what becomes of the box.
+    LastBox(BoxContext),
+    /// `\unhbox` or its kin of a register.
+    Unbox(UnboxKind, u8),
+    /// `\penalty`.
+    Penalize(i32),
+    /// `\unpenalty` or its kin.
+    Remove(ItemKind),
+    /// An assignment to `\prevdepth`, in sp.
+    SetDepth(i32),
     /// `\end`.
     End,
     /// `\batchmode` and its kin, assignments that nothing comes of.

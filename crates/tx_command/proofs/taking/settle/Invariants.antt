@@ -1,6 +1,5 @@
 use Rattle.std.proofs.Common.{◌≡◌, ◌∷◌, [], List}
 use Rattle.tx_prim.specs.declared.modes.Mode.{Mode}
-use Rattle.tx_eqtb.specs.Quantities.{value_in}
 use Rattle.tx_seen.specs.declared.item.Item.{Item}
 use Rattle.tx_seen.specs.declared.item.Item.TheVariants.{Took}
 use Rattle.tx_seen.specs.Readings.{last}
@@ -11,11 +10,11 @@ use Rattle.tx_command.specs.Taken.{IsPending}
 use Rattle.tx_command.proofs.taking.settle.Given as goal
 
 abbrev pub invariant-loop-fed : goal.invariant-loop-fed
-invariant-loop-fed l = record {
-  pending : (mode : Mode) (head : Head) (items : List Item) → IsPending (value_in l.table) mode head items l.initial.taken l.initial.scans l.initial.fed → IsPending (value_in l.table) mode head items l.taken l.scans l.fed;
+invariant-loop-fed g l = record {
+  pending : (mode : Mode) (head : Head) (items : List Item) → IsPending (g.Q.Quantities.value_at l.quantities) mode head items l.initial.taken l.initial.scans l.initial.fed → IsPending (g.Q.Quantities.value_at l.quantities) mode head items l.taken l.scans l.fed;
   behind_is : last 1 l.taken ≡ Took l.behind ∷ [];
   on : GoesOn l.scans l.fed;
 }
 
 abbrev pub decreases-loop-fed : goal.decreases-loop-fed
-decreases-loop-fed l = needed l.fed (more_needed l.scans)
+decreases-loop-fed g l = needed l.fed (more_needed l.scans)

@@ -1,7 +1,6 @@
 use Rattle.std.proofs.Common.{refl, ap, ◌∙◌}
 use Rattle.tx_seen.specs.declared.fed.Want.TheVariants.{Raw}
-use Rattle.tx_command.specs.declared.types.BoxContext.TheVariants.{Append}
-use Rattle.tx_command.proofs.Stages.{future-begun, kept-begun, macro-begun, name-begun, size-begun, rule-begun, box-begun, shipped-begun, spaces-begun}
+use Rattle.tx_command.proofs.Stages.{future-begun, kept-begun, macro-begun, name-begun, size-begun, rule-begun, spaces-begun}
 use Rattle.tx_command.proofs.scans.Scans.begin_primitive.Goals as goal
 
 pub returns-in-Let : goal.returns-in-Let
@@ -36,12 +35,6 @@ returns-in-Rule c =
     (rule-begun c.in-Rule.kind c.on-in-Rule.new.self (ap (λ scans. scans.stage) c.on-in-Rule.ensures.scans)
     (ap (λ scans. scans.rule.rule) c.on-in-Rule.ensures.scans ∙ c.begin.ensures.rule) (ap (λ scans. scans.rule.part) c.on-in-Rule.ensures.scans ∙ c.begin.ensures.part))
 
-pub returns-in-Box : goal.returns-in-Box
-returns-in-Box c = rw (c.in-Box.is, c.on-in-Box.ensures.answer) (box-begun c.in-Box.kind Append c.on-in-Box.new.self (ap (λ scans. scans.stage) c.on-in-Box.ensures.scans))
-
-pub returns-in-Shipout : goal.returns-in-Shipout
-returns-in-Shipout c = rw (c.in-Shipout.is, c.on-in-Shipout.ensures.answer) (shipped-begun c.on-in-Shipout.new.self (ap (λ scans. scans.stage) c.on-in-Shipout.ensures.scans))
-
 pub returns-in-IgnoreSpaces : goal.returns-in-IgnoreSpaces
 returns-in-IgnoreSpaces c = rw (c.in-IgnoreSpaces.is, c.on-in-IgnoreSpaces.ensures.answer) (spaces-begun c.on-in-IgnoreSpaces.new.self (ap (λ scans. scans.stage) c.on-in-IgnoreSpaces.ensures.scans))
 
@@ -53,3 +46,27 @@ returns-in-After c = rw (c.in-After.is, c.on-in-After.ensures.answer) (kept-begu
 
 pub returns-in-FutureLet : goal.returns-in-FutureLet
 returns-in-FutureLet c = rw (c.in-FutureLet.is, c.on-in-FutureLet.ensures.answer) (future-begun c.on-in-FutureLet.new.self (ap (λ scans. scans.stage) c.on-in-FutureLet.ensures.scans))
+
+pub returns-in-Box : goal.returns-in-Box
+returns-in-Box c = rw c.in-Box.is c.begin_shape.ensures
+
+pub returns-in-BoxFrom : goal.returns-in-BoxFrom
+returns-in-BoxFrom c = rw c.in-BoxFrom.is c.begin_shape-in-BoxFrom.ensures
+
+pub returns-in-Shipout : goal.returns-in-Shipout
+returns-in-Shipout c = rw c.in-Shipout.is c.begin_shape-in-Shipout.ensures
+
+pub returns-in-SetBox : goal.returns-in-SetBox
+returns-in-SetBox c = rw c.in-SetBox.is c.begin_shape-in-SetBox.ensures
+
+pub returns-in-Shift : goal.returns-in-Shift
+returns-in-Shift c = rw c.in-Shift.is c.begin_shape-in-Shift.ensures
+
+pub returns-in-Unbox : goal.returns-in-Unbox
+returns-in-Unbox c = rw c.in-Unbox.is c.begin_shape-in-Unbox.ensures
+
+pub returns-in-Penalty : goal.returns-in-Penalty
+returns-in-Penalty c = rw c.in-Penalty.is c.begin_shape-in-Penalty.ensures
+
+pub returns-in-PrevDepth : goal.returns-in-PrevDepth
+returns-in-PrevDepth c = rw c.in-PrevDepth.is c.begin_shape-in-PrevDepth.ensures

@@ -1,12 +1,14 @@
 use Rattle.std.proofs.Common.{[], lit≤, refl}
 use Rattle.tx_seen.specs.declared.item.Item.TheVariants.{Took}
 use Rattle.tx_scan.specs.DimensionRests.{rest as dimen_rest, held as dimen_held, most as dimen_most}
-use Rattle.tx_scan.specs.GrammarRests.{held_none, name_rest, brace_rest}
+use Rattle.tx_scan.specs.GrammarRests.{held_none, name_rest}
 use Rattle.tx_assign.specs.Rests.{rest as assign_rest, held as assign_held}
 use Rattle.tx_command.specs.declared.scans.Stage.TheVariants as stage
-use Rattle.tx_command.specs.declared.types.Command.TheVariants.{Assign, Define, DefineFuture, DefineMacro, Sized, Rule, BeginBox}
+use Rattle.tx_command.specs.declared.types.Command.TheVariants.{Assign, Define, DefineFuture, DefineMacro, Sized, Rule}
+use Rattle.tx_shape.specs.Rests.{rest as shape_rest, held as shape_held}
+use Rattle.tx_command.specs.Commands.{command_of}
 use Rattle.tx_command.specs.Rests.{rule_rest, rule_held}
-use Rattle.tx_command.proofs.Stages.{part-fed, part-needs, part-goes, size-needs, size-goes, rule-needs, rule-goes, assign-needs, assign-goes, start-fed, start-needs, start-goes, box-fed, space-fed, end-goes, end-needs, kept-fed, second-fed}
+use Rattle.tx_command.proofs.Stages.{part-fed, part-needs, part-goes, size-needs, size-goes, rule-needs, rule-goes, assign-needs, assign-goes, start-fed, start-needs, start-goes, shape-needs, shape-goes, space-fed, end-goes, end-needs, kept-fed, second-fed}
 use Rattle.tx_scan.proofs.Mosts.{most-size}
 use Rattle.tx_scan.proofs.Behind.{fed-one}
 use Rattle.tx_command.proofs.scans.Scans.feed.Goals as goal
@@ -21,16 +23,6 @@ returns-in-Start-clause-needs c =
 
 pub returns-in-Start-clause-on : goal.returns-in-Start-clause-on
 returns-in-Start-clause-on c = start-goes c.args.mode c.args.head.now c.args.token.now c.feed_first.new.self c.feed_first.result c.feed_first.ensures
-
-pub returns-in-ShippedBox-clause-fed : goal.returns-in-ShippedBox-clause-fed
-returns-in-ShippedBox-clause-fed c =
-    box-fed c.args.mode c.args.head.now c.args.token.now c.args.self.now c.feed_box.new.self c.feed_box.result c.in-ShippedBox.is (c.feed_box.ensures c.args.mode c.args.head.now)
-
-pub returns-in-ShippedBox-clause-needs : goal.returns-in-ShippedBox-clause-needs
-returns-in-ShippedBox-clause-needs c = rw c.in-ShippedBox.is (c.feed_box.ensures c.args.mode c.args.head.now).needs
-
-pub returns-in-ShippedBox-clause-on : goal.returns-in-ShippedBox-clause-on
-returns-in-ShippedBox-clause-on c = (c.feed_box.ensures c.args.mode c.args.head.now).goes_on
 
 pub returns-in_ok-feed-in-Assign-clause-fed : goal.returns-in_ok-feed-in-Assign-clause-fed
 returns-in_ok-feed-in-Assign-clause-fed c =
@@ -86,18 +78,6 @@ returns-in_ok-feed-in-Rule-clause-needs c = rw c.ruled.ensures (rule-needs (λ r
 pub returns-in_ok-feed-in-Rule-clause-on : goal.returns-in_ok-feed-in-Rule-clause-on
 returns-in_ok-feed-in-Rule-clause-on c = rw c.ruled.ensures (rule-goes (λ rule. Rule c.in-Rule.kind rule) c.in-Rule.kind _ c.in_ok-feed-in-Rule.field-0 c.in-Rule.is c.in_ok-feed-in-Rule.ensures.on)
 
-pub returns-in-BoxBegin-clause-fed : goal.returns-in-BoxBegin-clause-fed
-returns-in-BoxBegin-clause-fed c =
-    rw c.begun_box.ensures
-    (part-fed brace_rest held_none (λ _. BeginBox c.in-BoxBegin.kind c.in-BoxBegin.context) (stage.BoxBegin c.in-BoxBegin.kind c.in-BoxBegin.context) c.args.mode c.args.head.now c.new-in-BoxBegin.result c.feed-in-BoxBegin.new.self c.args.self.now _ c.args.token.now c.feed-in-BoxBegin.result c.in-BoxBegin.is c.in-BoxBegin.is
-    (λ behind item more. refl) refl (λ behind item more. refl) refl c.feed-in-BoxBegin.ensures.part)
-
-pub returns-in-BoxBegin-clause-needs : goal.returns-in-BoxBegin-clause-needs
-returns-in-BoxBegin-clause-needs c = part-needs c.args.self.now c.args.self.now c.begun_box.result (rw c.in-BoxBegin.is refl)
-
-pub returns-in-BoxBegin-clause-on : goal.returns-in-BoxBegin-clause-on
-returns-in-BoxBegin-clause-on c = rw c.begun_box.ensures (part-goes (λ _. BeginBox c.in-BoxBegin.kind c.in-BoxBegin.context) (stage.BoxBegin c.in-BoxBegin.kind c.in-BoxBegin.context) c.args.self.now c.feed-in-BoxBegin.result c.in-BoxBegin.is tt c.feed-in-BoxBegin.ensures.nothing)
-
 pub returns-in-Spaces-clause-fed : goal.returns-in-Spaces-clause-fed
 returns-in-Spaces-clause-fed c =
     space-fed c.args.mode c.args.head.now c.args.token.now c.args.self.now c.args.self.now c.feed_space.result c.in-Spaces.is (c.feed_space.ensures c.args.mode c.args.head.now)
@@ -149,3 +129,15 @@ returns-in-KeptToken-clause-needs c = end-needs _ _ _ _ c.feed_kept.result c.fee
 
 pub returns-in-KeptToken-clause-on : goal.returns-in-KeptToken-clause-on
 returns-in-KeptToken-clause-on c = end-goes c.args.self.now _ _ c.feed_kept.result c.feed_kept.ensures
+
+pub returns-in_ok-feed-in-Shape-clause-fed : goal.returns-in_ok-feed-in-Shape-clause-fed
+returns-in_ok-feed-in-Shape-clause-fed c =
+    rw c.shaped.ensures
+    (part-fed shape_rest shape_held command_of stage.Shape c.args.mode c.args.head.now c.args.self.now.shape c.feed-in-Shape.new.self c.args.self.now _ c.args.token.now c.in_ok-feed-in-Shape.field-0 c.in-Shape.is c.in-Shape.is
+    (λ behind item more. refl) refl (λ behind item more. refl) refl c.in_ok-feed-in-Shape.ensures.fed)
+
+pub returns-in_ok-feed-in-Shape-clause-needs : goal.returns-in_ok-feed-in-Shape-clause-needs
+returns-in_ok-feed-in-Shape-clause-needs c = rw c.shaped.ensures (shape-needs c.args.self.now _ c.in_ok-feed-in-Shape.field-0 c.in-Shape.is c.in-Shape.is c.in_ok-feed-in-Shape.ensures.needs)
+
+pub returns-in_ok-feed-in-Shape-clause-on : goal.returns-in_ok-feed-in-Shape-clause-on
+returns-in_ok-feed-in-Shape-clause-on c = rw c.shaped.ensures (shape-goes _ c.in_ok-feed-in-Shape.field-0 c.in-Shape.is c.in_ok-feed-in-Shape.ensures.waits)

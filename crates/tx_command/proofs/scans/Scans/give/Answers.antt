@@ -3,9 +3,11 @@ use Rattle.tx_scan.specs.DimensionRests.{rest as dimen_rest, held as dimen_held}
 use Rattle.tx_assign.specs.Rests.{rest as assign_rest, held as assign_held}
 use Rattle.tx_command.specs.declared.scans.Stage.TheVariants as stage
 use Rattle.tx_command.specs.declared.types.Command.TheVariants.{Assign, Sized, Rule}
+use Rattle.tx_shape.specs.Rests.{rest as shape_rest, held as shape_held}
+use Rattle.tx_command.specs.Commands.{command_of}
 use Rattle.tx_command.specs.Rests.{rule_rest, rule_held}
 use Rattle.tx_scan.proofs.Behind.{given-behind, given-one}
-use Rattle.tx_command.proofs.Stages.{part-behind, assign-fewer, assign-goes, size-fewer, size-goes, rule-fewer, rule-goes}
+use Rattle.tx_command.proofs.Stages.{part-behind, assign-fewer, assign-goes, size-fewer, size-goes, rule-fewer, rule-goes, shape-fewer, shape-goes}
 use Rattle.tx_command.proofs.scans.Scans.give.Goals as goal
 
 pub returns-in_ok-give-in-Assign-clause-given : goal.returns-in_ok-give-in-Assign-clause-given
@@ -55,3 +57,15 @@ returns-in_ok-give-in-Rule-clause-needs c = rw c.ruled.ensures (rule-fewer (λ r
 
 pub returns-in_ok-give-in-Rule-clause-on : goal.returns-in_ok-give-in-Rule-clause-on
 returns-in_ok-give-in-Rule-clause-on c = rw c.ruled.ensures (rule-goes (λ rule. Rule c.in-Rule.kind rule) c.in-Rule.kind _ c.in_ok-give-in-Rule.field-0 c.in-Rule.is c.in_ok-give-in-Rule.ensures.on)
+
+pub returns-in_ok-give-in-Shape-clause-given : goal.returns-in_ok-give-in-Shape-clause-given
+returns-in_ok-give-in-Shape-clause-given c = λ mode head.
+    rw c.shaped.ensures
+    (part-behind shape_rest shape_held command_of stage.Shape mode head c.args.self.now.shape c.give-in-Shape.new.self c.args.self.now _ c.args.value.now c.args.behind.now c.in_ok-give-in-Shape.field-0 c.in-Shape.is c.in-Shape.is
+    (λ behind item more. refl) refl (λ behind item more. refl) refl c.in_ok-give-in-Shape.ensures.given)
+
+pub returns-in_ok-give-in-Shape-clause-needs : goal.returns-in_ok-give-in-Shape-clause-needs
+returns-in_ok-give-in-Shape-clause-needs c = rw c.shaped.ensures (shape-fewer c.args.self.now _ c.in_ok-give-in-Shape.field-0 c.in-Shape.is c.in-Shape.is c.in_ok-give-in-Shape.ensures.needs)
+
+pub returns-in_ok-give-in-Shape-clause-on : goal.returns-in_ok-give-in-Shape-clause-on
+returns-in_ok-give-in-Shape-clause-on c = rw c.shaped.ensures (shape-goes _ c.in_ok-give-in-Shape.field-0 c.in-Shape.is c.in_ok-give-in-Shape.ensures.waits)

@@ -1,5 +1,4 @@
 use Rattle.std.proofs.Common.{◌∙◌, List, ap, refl}
-use Rattle.tx_eqtb.specs.Quantities.{value_in}
 use Rattle.tx_pending.specs.Elements.{with_tokens}
 use Rattle.tx_seen.specs.declared.item.Item.{Item}
 use Rattle.tx_seen.specs.Readings.{last}
@@ -9,15 +8,15 @@ use Rattle.tx_char.specs.declared.tokens.Token.{Token}
 use Rattle.tx_command.proofs.taking.CommandScan.feed.Goals as goal
 
 pub returns-in-Ok-More : goal.returns-in-Ok-More
-returns-in-Ok-More c =
+returns-in-Ok-More g c =
     let settled = rw c.in-Ok-More.field-0-is at c.in-Ok-More.ensures.settled in
     let begun : List Item → Begun = λ taken. record { mode = c.self.inside.mode; head = c.self.inside.head; taken = taken } in
     rw (← c.self.view_is) ((c.in-Ok-More.want, rw settled.0 at settled.1.wants), (ap begun settled.0, refl))
 
 pub returns-in_ok-given-in-Ok-Done : goal.returns-in_ok-given-in-Ok-Done
-returns-in_ok-given-in-Ok-Done c =
+returns-in_ok-given-in-Ok-Done g c =
     let settled = rw c.in-Ok-Done.field-0-is at c.in-Ok-Done.ensures.settled in
-    let items : List Item = joined (value_in c.args.table.now) c.self.inside.mode c.self.inside.head c.self.inside.taken c.args.token in
+    let items : List Item = joined (g.Q.Quantities.value_at c.args.quantities.now) c.self.inside.mode c.self.inside.head c.self.inside.taken c.args.token in
     let begun : List Item → Begun = λ taken. record { mode = c.self.inside.mode; head = c.self.inside.head; taken = taken } in
     rw (← c.self.view_is) (
       last c.in-Ok-Done.back items,
@@ -25,4 +24,4 @@ returns-in_ok-given-in-Ok-Done c =
     )
 
 pub returns-in-Ok-Wrong : goal.returns-in-Ok-Wrong
-returns-in-Ok-Wrong c = rw (← c.self.view_is) (rw c.in-Ok-Wrong.field-0-is at c.in-Ok-Wrong.ensures.settled)
+returns-in-Ok-Wrong g c = rw (← c.self.view_is) (rw c.in-Ok-Wrong.field-0-is at c.in-Ok-Wrong.ensures.settled)
