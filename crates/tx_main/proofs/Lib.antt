@@ -5,3 +5,5 @@ pub mod TextTurns
 pub mod Closing
 pub mod Turning
 pub mod Texting
+pub mod Carrying
+pub mod Defining

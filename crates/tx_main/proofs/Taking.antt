@@ -1,9 +1,9 @@
 -- What comes of a token by what the open command answers.
-use Rattle.std.proofs.Common.{◌≡◌, List, [], Result, Ok, Err, IfOk, refl, ap, sym, append-nil}
+use Rattle.std.proofs.Common.{◌≡◌, List, [], Result, Ok, Err, IfOk, refl, ap, sym, subst, append-nil}
 use Rattle.tx_machine.specs.declared.types.Event.{Event}
 use Rattle.tx_machine.specs.declared.types.Event.TheVariants.{Went}
 use Rattle.tx_pending.specs.Elements.{Input, with_tokens}
-use Rattle.tx_eqtb.specs.Quantities.{value_in}
+use Rattle.tx_known.specs.Values.{Lent, value_now}
 use Rattle.tx_expand.specs.Turns.{put}
 use Rattle.tx_seen.specs.declared.error.TexError.{TexError}
 use Rattle.tx_seen.specs.declared.fed.Want.{Want}
@@ -11,6 +11,7 @@ use Rattle.tx_seen.specs.declared.item.Item.{Item}
 use Rattle.tx_seen.specs.declared.seen.Seen.{Seen}
 use Rattle.tx_seen.specs.Readings.{More, Done, Wrong}
 use Rattle.tx_main.specs.declared.parts.Phase.TheVariants.{Running}
+use Rattle.tx_command.specs.declared.scans.Taken.{Taken}
 use Rattle.tx_command.specs.declared.scans.Taken.TheVariants as taken
 use Rattle.tx_main.specs.declared.state.State.{State}
 use Rattle.tx_command.specs.declared.types.Command.{Command}
@@ -22,11 +23,11 @@ use Rattle.tx_main.specs.State.{TexState}
 use Rattle.tx_main.specs.Meanings.{IsStepped, state_of}
 use Rattle.tx_command.specs.Taken.{joined, IsTaken}
 use Rattle.tx_scan.specs.Settled.{tokens_of}
-use Rattle.tx_main.specs.Turns.{joining, scanned, taking}
+use Rattle.tx_main.specs.Turns.{joining, known_of, scanned, taking}
 
 -- the items of the open command with one more token
 abbrev pub items_with : TexState → Seen → List Item
-items_with s t = joined (value_in s.table) s.mode s.head s.taken t
+items_with s t = joined (value_now (known_of s)) s.mode s.head s.taken t
 
 pub joins-more : (s : TexState) (t : Seen) (want : Want) → command s.mode s.head (items_with s t) ≡ More want → joining s (items_with s t) ≡ leaves (record s { taken = items_with s t })
 joins-more s t want is = ap (scanned s (items_with s t)) is
@@ -41,12 +42,18 @@ joins-whole s t c behind is = ap (scanned s (items_with s t)) is
 abbrev pub fed_state : State → Begun → Input → State
 fed_state s scan input = record s { input = input; scan = scan }
 
-pub takes-more : (s : State) (scan : Begun) (input : Input) (t : Seen) → s.phase ≡ Running → IsTaken (value_in s.table) s.scan t s.input scan input taken.More → IsStepped (taking (state_of s) t) s Went (fed_state s scan input)
+-- what was lent is what the state knows
+pub taken-by : (s : State) (known : Lent) (scan : Begun) (input : Input) (t : Seen) (found : Taken) → known ≡ known_of (state_of s) → IsTaken (value_now known) s.scan t s.input scan input found → IsTaken (value_now (known_of (state_of s))) s.scan t s.input scan input found
+taken-by s known scan input t found same k =
+    let Holds : Lent → Type 0 = λ l. IsTaken (value_now l) s.scan t s.input scan input found in
+    subst Holds same k
+
+pub takes-more : (s : State) (scan : Begun) (input : Input) (t : Seen) → s.phase ≡ Running → IsTaken (value_now (known_of (state_of s))) s.scan t s.input scan input taken.More → IsStepped (taking (state_of s) t) s Went (fed_state s scan input)
 takes-more s scan input t running k =
     rw (k.1.0, k.1.1)
     (rw (joins-more (state_of s) t k.0.0 k.0.1) (record { event_is = refl; state_is = rw running refl; said_is = sym (append-nil s.said) }))
 
-pub takes-wrong : (s new : State) (scan : Begun) (input : Input) (t : Seen) (e : TexError) (event : Event) → IsTaken (value_in s.table) s.scan t s.input scan input (taken.Wrong e) → IsStepped (Fails e) (fed_state s scan input) event new → IsStepped (taking (state_of s) t) s event new
+pub takes-wrong : (s new : State) (scan : Begun) (input : Input) (t : Seen) (e : TexError) (event : Event) → IsTaken (value_now (known_of (state_of s))) s.scan t s.input scan input (taken.Wrong e) → IsStepped (Fails e) (fed_state s scan input) event new → IsStepped (taking (state_of s) t) s event new
 takes-wrong s new scan input t e event k did =
     rw (joins-wrong (state_of s) t e k) (record { event_is = did.event_is; state_is = did.state_is; said_is = did.said_is })
 
@@ -54,6 +61,6 @@ whole-by : (s new : State) (t : Seen) (c : Command) (behind : List Item) (event 
 whole-by s new t c behind event is did =
     rw (joins-whole (state_of s) t c behind is) (record { event_is = did.event_is; state_is = did.state_is; said_is = did.said_is })
 
-pub takes-whole : {E : Type 0} (s new : State) (scan : Begun) (input : Input) (t : Seen) (c : Command) (answer : Result Event E) → IsTaken (value_in s.table) s.scan t s.input scan input (taken.Whole c) → IfOk answer (λ event. IsStepped (effect (state_of (fed_state s scan input)) c) (fed_state s scan input) event new) → IfOk answer (λ event. IsStepped (taking (state_of s) t) s event new)
+pub takes-whole : {E : Type 0} (s new : State) (scan : Begun) (input : Input) (t : Seen) (c : Command) (answer : Result Event E) → IsTaken (value_now (known_of (state_of s))) s.scan t s.input scan input (taken.Whole c) → IfOk answer (λ event. IsStepped (effect (state_of (fed_state s scan input)) c) (fed_state s scan input) event new) → IfOk answer (λ event. IsStepped (taking (state_of s) t) s event new)
 takes-whole s new scan input t c (Ok event) k did = whole-by s new t c k.0 event k.1.0 (rw (k.1.1.0, k.1.1.1) at did)
 takes-whole s new scan input t c (Err e) k did = tt

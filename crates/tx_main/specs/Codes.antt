@@ -13,10 +13,10 @@ use Rattle.tx_lex.specs.declared.types.ReadState.{ReadState}
 use Rattle.tx_lex.specs.contracts.types.ReadState as read_state
 use Rattle.tx_machine.specs.declared.types.AskKind.{AskKind}
 use Rattle.tx_machine.specs.contracts.types.AskKind as ask_kind
-use Rattle.tx_node.specs.Items.{Item as ListItem}
-use Rattle.tx_node.specs.Codes.{item_code}
 use Rattle.tx_prim.specs.declared.modes.Mode.{Mode}
 use Rattle.tx_prim.specs.contracts.modes.Mode as mode
+use Rattle.tx_box.specs.declared.parts.Lists.{Lists}
+use Rattle.tx_box.specs.contracts.parts.Lists as lists
 use Rattle.tx_main.specs.declared.parts.Due.{Due}
 use Rattle.tx_main.specs.contracts.parts.Due as due
 use Rattle.tx_cond.specs.declared.types.Conditional.{Conditional}
@@ -28,8 +28,6 @@ use Rattle.tx_main.specs.declared.parts.KeptToken.{KeptToken}
 use Rattle.tx_main.specs.contracts.parts.KeptToken as kept_token
 use Rattle.tx_main.specs.declared.parts.OpenText.{OpenText}
 use Rattle.tx_main.specs.contracts.parts.OpenText as open_text
-use Rattle.tx_main.specs.declared.parts.OpenBox.{OpenBox}
-use Rattle.tx_main.specs.contracts.parts.OpenBox as open_box
 use Rattle.tx_command.specs.declared.types.Head.{Head}
 use Rattle.tx_command.specs.contracts.types.Head as head
 use Rattle.tx_main.specs.State.{TexState, Meaning, Runs, Waits, Stops}
@@ -69,23 +67,22 @@ reader_code = code_by
 
 abbrev state_code : Coded TexState
 state_code = code_by
-    (List Due × (ℕ × (Reader × (Option OpenText × (Head × (List Item × (Mode × (List ListItem × (List OpenBox × (Eqtb × (List KeptToken × (Option Token × (Option ℤ)))))))))))))
-    (coded× (coded_list due.the_row.coded) (coded× coded_ℕ (coded× reader_code (coded× (coded_option open_text.the_row.coded) (coded× head.the_row.coded (coded× (coded_list item.the_row.coded) (coded× mode.the_row.coded (coded× (coded_list item_code) (coded× (coded_list open_box.the_row.coded) (coded× eqtb.the_row.coded (coded× (coded_list kept_token.the_row.coded) (coded× (coded_option token.the_row.coded) (coded_option coded_ℤ)))))))))))))
-    (λ s. (s.due, (s.files, (s.reader, (s.text, (s.head, (s.taken, (s.mode, (s.list, (s.boxes, (s.table, (s.after_groups, (s.after_assignment, s.magnification)))))))))))))
+    (List Due × (ℕ × (Reader × (Option OpenText × (Mode × (Head × (List Item × (Lists × (Eqtb × (List KeptToken × (Option Token × (Option ℤ))))))))))))
+    (coded× (coded_list due.the_row.coded) (coded× coded_ℕ (coded× reader_code (coded× (coded_option open_text.the_row.coded) (coded× mode.the_row.coded (coded× head.the_row.coded (coded× (coded_list item.the_row.coded) (coded× lists.the_row.coded (coded× eqtb.the_row.coded (coded× (coded_list kept_token.the_row.coded) (coded× (coded_option token.the_row.coded) (coded_option coded_ℤ))))))))))))
+    (λ s. (s.due, (s.files, (s.reader, (s.text, (s.mode, (s.head, (s.taken, (s.lists, (s.table, (s.after_groups, (s.after_assignment, s.magnification))))))))))))
     (λ p. record {
       due = p.0;
       files = p.1.0;
       reader = p.1.1.0;
       text = p.1.1.1.0;
-      head = p.1.1.1.1.0;
-      taken = p.1.1.1.1.1.0;
-      mode = p.1.1.1.1.1.1.0;
-      list = p.1.1.1.1.1.1.1.0;
-      boxes = p.1.1.1.1.1.1.1.1.0;
-      table = p.1.1.1.1.1.1.1.1.1.0;
-      after_groups = p.1.1.1.1.1.1.1.1.1.1.0;
-      after_assignment = p.1.1.1.1.1.1.1.1.1.1.1.0;
-      magnification = p.1.1.1.1.1.1.1.1.1.1.1.1;
+      mode = p.1.1.1.1.0;
+      head = p.1.1.1.1.1.0;
+      taken = p.1.1.1.1.1.1.0;
+      lists = p.1.1.1.1.1.1.1.0;
+      table = p.1.1.1.1.1.1.1.1.0;
+      after_groups = p.1.1.1.1.1.1.1.1.1.0;
+      after_assignment = p.1.1.1.1.1.1.1.1.1.1.0;
+      magnification = p.1.1.1.1.1.1.1.1.1.1.1;
     })
     (λ _. refl)
 

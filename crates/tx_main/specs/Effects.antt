@@ -1,20 +1,21 @@
 -- What each command does, once it is whole (TeX: The Program, parts 45 to 49): a line for each family.
-use Rattle.std.specs.Prelude.{ℕ, pos, Bool, true, false, ◌||◌, ◌==◌, nat_lt, List, [], ◌∷◌, ◌++◌, length, map, Option, Some, None, Result, Ok, Err, codes, decimal, if◌then◌else◌}
+use Rattle.std.specs.Prelude.{ℕ, ℤ, Bool, true, false, ◌||◌, ◌==◌, nat_lt, List, [], ◌∷◌, ◌++◌, length, map, Option, Some, None, Result, Ok, Err, codes, decimal, if◌then◌else◌}
 use Rattle.tx_char.specs.declared.tokens.Token.{Token}
-use Rattle.tx_num.specs.Glue.{glue_of}
 use Rattle.tx_node.specs.declared.plain.KernKind.TheVariants.{Explicit}
 use Rattle.tx_node.specs.declared.plain.Plain.TheVariants as small
 use Rattle.tx_node.specs.declared.plain.Shared.TheVariants as large
-use Rattle.tx_node.specs.Items.{Item, plain, shared, box_item, PackedBox}
-use Rattle.tx_pack.specs.declared.types.Goal.TheVariants as goals
-use Rattle.tx_pack.specs.declared.types.PackError.{PackError}
-use Rattle.tx_pack.specs.declared.types.PackError.TheVariants as pack
-use Rattle.tx_pack.specs.declared.types.Packed.{Packed}
-use Rattle.tx_pack.specs.Packing.{hpacked}
+use Rattle.tx_node.specs.declared.rule.Rule.{Rule as ARule}
+use Rattle.tx_node.specs.Items.{Item, plain, shared}
+use Rattle.tx_nest.specs.declared.list.ModeList.{ModeList}
+use Rattle.tx_nest.specs.Appended.{rule_appended}
+use Rattle.tx_nest.specs.Changed as list
+use Rattle.tx_nest.specs.Lasts.{no_glue}
+use Rattle.tx_nest.specs.States.{mode_of}
 use Rattle.tx_eqtb.specs.declared.eqtb.Eqtb.{Eqtb}
 use Rattle.tx_eqtb.specs.declared.groups.GroupKind.{GroupKind}
 use Rattle.tx_eqtb.specs.declared.groups.GroupKind.TheVariants as kind
 use Rattle.tx_eqtb.specs.declared.entry.Entry.TheVariants.{Means}
+use Rattle.tx_eqtb.specs.Table.{tokens_at}
 use Rattle.tx_eqtb.specs.Stack.{opened, closed, kind_of, assigned as table_assigned}
 use Rattle.tx_expand.specs.Expanding.{escape_of}
 use Rattle.tx_expand.specs.Turns.{put}
@@ -22,44 +23,49 @@ use Rattle.tx_prim.specs.declared.family.AfterKind.{AfterKind}
 use Rattle.tx_prim.specs.declared.family.AfterKind.TheVariants as after
 use Rattle.tx_prim.specs.declared.family.BoxKind.{BoxKind}
 use Rattle.tx_prim.specs.declared.family.DefinitionKind.{DefinitionKind}
+use Rattle.tx_prim.specs.declared.family.ItemKind.{ItemKind}
+use Rattle.tx_prim.specs.declared.integer.IntegerParameter.TheVariants.{Globaldefs}
 use Rattle.tx_prim.specs.declared.family.TextUse.{TextUse}
 use Rattle.tx_prim.specs.declared.family.TextUse.TheVariants as purposes
 use Rattle.tx_prim.specs.declared.primitive.Primitive.TheVariants.{Relax}
-use Rattle.tx_prim.specs.declared.family.BoxKind.TheVariants as box
 use Rattle.tx_prim.specs.declared.family.Prefix.{Prefix as APrefix}
 use Rattle.tx_prim.specs.declared.family.Prefix.TheVariants.{Global, Long, Outer}
-use Rattle.tx_prim.specs.declared.family.RuleKind.TheVariants as rules
 use Rattle.tx_prim.specs.declared.family.SizeKind.TheVariants.{Kern}
-use Rattle.tx_prim.specs.declared.tokens.TokenParameter.{TokenParameter}
-use Rattle.tx_prim.specs.declared.tokens.TokenParameter.TheVariants.{Everyhbox}
-use Rattle.tx_eqtb.specs.Table.{tokens_at}
 use Rattle.tx_prim.specs.declared.modes.Mode.{Mode}
 use Rattle.tx_prim.specs.declared.modes.Mode.TheVariants as mode
 use Rattle.tx_seen.specs.declared.error.TexError.{TexError}
-use Rattle.tx_seen.specs.declared.error.TexError.TheVariants.{SizeOutOfRange, TooDeep, ExtraGroupEnd, TooManyGroups, ErrorMessage}
+use Rattle.tx_seen.specs.declared.error.TexError.TheVariants.{MissingBox, ExtraGroupEnd, TooManyGroups, ErrorMessage}
 use Rattle.tx_seen.specs.declared.meaning.Meaning.TheVariants.{Macro, Command as Command_meaning}
 use Rattle.tx_seen.specs.declared.place.Place.{Place}
 use Rattle.tx_seen.specs.declared.place.Place.TheVariants.{Name, Tokens}
 use Rattle.tx_assign.specs.declared.types.Assignment.{Assignment}
 use Rattle.tx_assign.specs.declared.types.Change.{Change}
 use Rattle.tx_assign.specs.declared.types.Change.TheVariants.{Set, Compute, Copy, Text}
-use Rattle.tx_assign.specs.Changes.{carried_out, relaxed, with_text}
+use Rattle.tx_assign.specs.Changes.{carried_out, is_global as globally, relaxed, with_text}
 use Rattle.tx_text.specs.Definitions.{Defining as Defined_text}
 use Rattle.tx_toklist.specs.Macros.{Definition}
 use Rattle.tx_toklist.specs.Text.{printed}
-use Rattle.tx_command.specs.declared.types.BoxContext.{BoxContext}
-use Rattle.tx_command.specs.declared.types.BoxContext.TheVariants.{Append, Ship as Ship_context}
 use Rattle.tx_command.specs.declared.types.Command.{Command}
-use Rattle.tx_command.specs.declared.types.Command.TheVariants.{Nothing, Space, Character, BeginGroup, EndGroup, BeginSemiSimple, EndSemiSimple, Prefix, Define, Assign, Sized, Rule, BeginBox, End, Interact, DefineMacro, BeginText, DefineFuture, Keep}
+use Rattle.tx_command.specs.declared.types.Command.TheVariants.{Nothing, Space, Character, BeginGroup, EndGroup, BeginSemiSimple, EndSemiSimple, Prefix, Define, Assign, Sized, Rule, BeginBox, UseBox, CopyBox, LastBox, Unbox, Penalize, Remove, SetDepth, End, Interact, DefineMacro, BeginText, DefineFuture, Keep}
+use Rattle.tx_shape.specs.declared.types.BoxContext.{BoxContext}
+use Rattle.tx_shape.specs.declared.types.BoxContext.TheVariants.{Append, Register, Ship}
 use Rattle.tx_command.specs.declared.types.Head.{Head}
 use Rattle.tx_command.specs.declared.types.Head.TheVariants.{Fresh, Prefixed, Defining, Future}
 use Rattle.tx_command.specs.declared.types.Prefixes.{Prefixes}
 use Rattle.tx_command.specs.Commands.{prefixes_of}
-use Rattle.tx_main.specs.declared.parts.Due.TheVariants.{Ship}
 use Rattle.tx_main.specs.declared.parts.KeptToken.{KeptToken}
-use Rattle.tx_main.specs.declared.parts.OpenBox.{OpenBox}
 use Rattle.tx_main.specs.declared.parts.OpenText.{OpenText}
 use Rattle.tx_main.specs.declared.parts.OpenText.TheVariants as texts
+use Rattle.tx_box.specs.declared.parts.Lists.{Lists}
+use Rattle.tx_box.specs.declared.parts.Target.{Target}
+use Rattle.tx_box.specs.declared.parts.Work.{Work}
+use Rattle.tx_box.specs.Building.{Ended, beginning, ending as ending_list, every_in, greatest_depth}
+use Rattle.tx_box.specs.Effects.{Effect, Left}
+use Rattle.tx_box.specs.Placing.{with_list}
+use Rattle.tx_box.specs.Sources.{appended, copying, taking_last, unboxing, using}
+use Rattle.tx_main.specs.declared.parts.Due.{Due}
+use Rattle.tx_main.specs.declared.parts.Due.TheVariants.{Boxes}
+use Rattle.tx_main.specs.Pages.{integer}
 use Rattle.tx_main.specs.State.{TexState}
 use Rattle.tx_main.specs.Texts.{absorbed_text, code_for, definition_text, is_global, list_text, token_for}
 use Rattle.tx_main.specs.Outcomes.{Outcome, Leaves, Fails, Ends, leaves}
@@ -102,13 +108,36 @@ assigning_now s a (Set entry) = assigning s (carried_out s.table a (prefixes_of 
 assigning_now s a (Compute operation n) = assigning s (carried_out s.table a (prefixes_of s.head).global)
 assigning_now s a (Copy other) = assigning s (carried_out s.table a (prefixes_of s.head).global)
 
--- one more node in a list
+-- the list that is being built changes
+abbrev pub with_top_list : TexState → ModeList → TexState
+with_top_list s new = record s { lists = with_list s.lists new }
+
+-- more items at its end that change nothing else of it
+abbrev pub with_items : TexState → List Item → TexState
+with_items s items = record s { lists = appended s.lists items }
+
 abbrev pub adding : TexState → Item → Outcome
-adding s item = leaves (record s { list = s.list ++ item ∷ [] })
+adding s item = leaves (with_items s (item ∷ []))
+
+-- a rule
+abbrev pub ruling : TexState → ARule → Outcome
+ruling s rule = leaves (with_top_list s (rule_appended s.lists.nest.innermost rule))
+
+-- \unpenalty, \unkern and \unskip
+abbrev pub removed : TexState → Option ModeList → Outcome
+removed s None = Fails MissingBox
+removed s (Some new) = leaves (with_top_list s new)
+
+abbrev pub removing : TexState → ItemKind → Outcome
+removing s kind = removed s (list.removing kind s.lists.nest.innermost)
+
+-- \prevdepth, which may stand in vertical modes alone (section 1243)
+abbrev pub setting_depth : TexState → ℤ → Outcome
+setting_depth s depth = leaves (assigned (with_top_list s (list.with_depth s.lists.nest.innermost depth)))
 
 -- the glue that a space gives in \nullfont, which has none
 abbrev pub space : Item
-space = plain (small.Glue (glue_of (pos 0) (pos 0) 0 (pos 0) 0))
+space = plain (small.Glue no_glue)
 
 -- a space is nothing in a vertical list
 abbrev pub spacing : Mode → TexState → Outcome
@@ -127,26 +156,6 @@ missing code = codes "missing character " ++ (decimal code ++ (codes " in nullfo
 abbrev pub opening : TexState → GroupKind → TexState → Outcome
 opening s kind inside =
     if nat_lt (length s.table.groups) 255 then leaves (record inside { table = opened s.table kind }) else Fails TooManyGroups
-
--- a list in a box of its natural size, which is never bad, whatever the parameters
-abbrev pub natural : List Item → Result Packed PackError
-natural list = hpacked list goals.Natural (record { badness = pos 0; fuzz = pos 0; overfull_rule = pos 0 })
-
--- a list that can't be packed; packing never ends by want of memory
-abbrev pub pack_error : PackError → TexError
-pack_error pack.SizeOutOfRange = SizeOutOfRange
-pack_error pack.TooDeep = TooDeep
-pack_error pack.OutOfMemory = SizeOutOfRange
-
--- a box is appended to the list around it, or is to be shipped
-abbrev pub using_box : BoxContext → PackedBox → TexState → TexState
-using_box Append box s = record s { list = s.list ++ box_item (pos 0) box ∷ [] }
-using_box Ship_context box s = record s { due = Ship box ∷ s.due }
-
--- what becomes of a list that was packed, in the list around it
-abbrev pub boxing : BoxContext → TexState → Result Packed PackError → Outcome
-boxing context s (Err e) = Fails (pack_error e)
-boxing context s (Ok made) = leaves (using_box context made.node s)
 
 -- what \aftergroup keeps for the end of the innermost of so many groups, the last of those that are left
 abbrev pub kept_for : List KeptToken → ℕ → Option Token
@@ -201,12 +210,17 @@ printing s tokens = Leaves s (message (printed (escape_of s.table) s.table.table
 abbrev pub lettering : TexState → Bool → List Token → Outcome
 lettering s upper tokens = leaves (record s { reader = put (map (token_for s.table.table (code_for upper)) tokens) s.reader })
 
+-- a \special has the bytes that its text has when it is read
+abbrev pub marking : TexState → List Token → Outcome
+marking s tokens = adding s (shared (large.Special (printed (escape_of s.table) s.table.table.categories tokens)))
+
 -- what becomes of a text in braces
 abbrev pub using_text : TexState → TextUse → List Token → Outcome
 using_text s purposes.Message tokens = printing s tokens
 using_text s purposes.ErrorMessage tokens = Fails ErrorMessage
 using_text s purposes.UpperCase tokens = lettering s true tokens
 using_text s purposes.LowerCase tokens = lettering s false tokens
+using_text s purposes.Special tokens = marking s tokens
 
 -- what becomes of the text that is whole
 abbrev pub ending_text : TexState → Option OpenText → Outcome
@@ -219,17 +233,56 @@ ending_text s (Some (texts.List place a)) = listing (record s { text = None }) p
 abbrev pub relaxing : TexState → List ℕ → TexState
 relaxing s name = record s { table = table_assigned s.table (Name name) (Means (Command_meaning Relax)) }
 
--- of a box's list the box is made, in the list around it
-abbrev pub closing_box : TexState → List OpenBox → Outcome
-closing_box s [] = Fails ExtraGroupEnd
-closing_box s (outer ∷ boxes) = boxing outer.context (record s { boxes = boxes; list = outer.list; mode = outer.mode }) (natural s.list)
+-- a command of boxes: the lists and the table are those that it leaves, work that it leaves is due, and the next command stands in
+-- the mode of the list that is being built then
+abbrev pub with_work : Option Work → List Due → List Due
+with_work None due = due
+with_work (Some work) due = Boxes work ∷ due
+
+abbrev pub carrying : TexState → Left → TexState
+carrying s left = record s {
+  due = with_work left.due s.due;
+  mode = mode_of left.lists.nest.innermost.state;
+  taken = [];
+  lists = left.lists;
+  table = left.table;
+}
+
+abbrev pub carried : TexState → Effect → Outcome
+carried s (Err error) = Fails error
+carried s (Ok left) = leaves (carrying s left)
+
+-- and what the transcript gets of a box
+abbrev pub boxed : TexState → Result Ended TexError → Outcome
+boxed s (Err error) = Fails error
+boxed s (Ok ended) = Leaves (carrying s ended.left) ended.report
+
+-- what becomes of a box (section 1075): where it goes, and whether \global or \globaldefs is in force, which \setbox alone asks
+abbrev pub target_of : TexState → BoxContext → Target
+target_of s context = record { context = context; global = globally (integer s.table.table Globaldefs) (prefixes_of s.head).global }
+
+-- \setbox is an assignment that is done as soon as its box begins or is found (sections 1241 and 1269)
+abbrev pub settled : BoxContext → TexState → TexState
+settled (Append shift) s = s
+settled (Register n) s = assigned s
+settled Ship s = s
+
+-- what \everyhbox or \everyvbox has is read in a box, behind what \afterassignment keeps for \setbox (section 1083)
+abbrev pub with_every : BoxKind → TexState → TexState
+with_every box s = record s { reader = put (tokens_at s.table.table (Tokens (every_in box))) s.reader }
+
+-- the end of a box (section 1086): how deep it may be is read before its group ends
+abbrev pub ending_box : TexState → Outcome
+ending_box s = boxed (closing s) (ending_list (greatest_depth s.table.table) s.lists (closed s.table))
 
 -- what an end-group token does, by the kind of the innermost group
 abbrev pub ending : TexState → Option GroupKind → Outcome
 ending s None = Fails ExtraGroupEnd
 ending s (Some kind.SemiSimple) = Fails ExtraGroupEnd
 ending s (Some kind.Simple) = leaves (closing s)
-ending s (Some kind.HorizontalBox) = closing_box (closing s) s.boxes
+ending s (Some kind.HorizontalBox) = ending_box s
+ending s (Some kind.VerticalBox) = ending_box s
+ending s (Some kind.TopBox) = ending_box s
 
 -- what \endgroup does
 abbrev pub ending_semi_simple : TexState → Option GroupKind → Outcome
@@ -237,31 +290,8 @@ ending_semi_simple s None = Fails ExtraGroupEnd
 ending_semi_simple s (Some kind.SemiSimple) = leaves (closing s)
 ending_semi_simple s (Some kind.Simple) = Fails ExtraGroupEnd
 ending_semi_simple s (Some kind.HorizontalBox) = Fails ExtraGroupEnd
-
--- the group and the mode of a box's list
-abbrev pub group_of : BoxKind → GroupKind
-group_of box.Horizontal = kind.HorizontalBox
-
-abbrev pub mode_in : BoxKind → Mode
-mode_in box.Horizontal = mode.RestrictedHorizontal
-
--- the box that is begun
-abbrev pub begun_box : BoxContext → TexState → OpenBox
-begun_box context s = record { context = context; list = s.list; mode = s.mode }
-
--- the tokens with which its list begins (section 1083)
-abbrev pub every_in : BoxKind → TokenParameter
-every_in box.Horizontal = Everyhbox
-
--- the state in which its list begins
-abbrev pub in_box : BoxKind → BoxContext → TexState → TexState
-in_box kind context s =
-    record s {
-      boxes = begun_box context s ∷ s.boxes;
-      list = [];
-      mode = mode_in kind;
-      reader = put (tokens_at s.table.table (Tokens (every_in kind))) s.reader;
-    }
+ending_semi_simple s (Some kind.VerticalBox) = Fails ExtraGroupEnd
+ending_semi_simple s (Some kind.TopBox) = Fails ExtraGroupEnd
 
 -- the effect of each command
 abbrev pub effect : TexState → Command → Outcome
@@ -276,8 +306,16 @@ effect s (Prefix prefix) = prefixing s prefix
 effect s (Define defined kind) = naming s (Defining (prefixes_of s.head) defined kind) (carried_out s.table (relaxed defined) (prefixes_of s.head).global)
 effect s (Assign a) = assigning_now s a a.change
 effect s (Sized Kern size) = adding s (plain (small.Kern Explicit size))
-effect s (Rule rules.Vertical r) = adding s (shared (large.Rule r))
-effect s (BeginBox kind context) = opening s (group_of kind) (in_box kind context s)
+effect s (Rule kind rule) = ruling s rule
+effect s (Penalize n) = adding s (plain (small.Penalty n))
+effect s (BeginBox box goal context) =
+    carried (settled context (with_every box s)) (beginning (record { kind = box; goal = goal; target = target_of s context }) s.lists s.table)
+effect s (UseBox n context) = carried (settled context s) (using (target_of s context) n s.lists s.table)
+effect s (CopyBox n context) = carried (settled context s) (copying (target_of s context) n s.lists s.table)
+effect s (LastBox context) = carried (settled context s) (taking_last (target_of s context) s.lists s.table)
+effect s (Unbox kind n) = carried s (unboxing kind n s.lists s.table)
+effect s (Remove kind) = removing s kind
+effect s (SetDepth depth) = setting_depth s depth
 effect s End = Ends
 effect s (Interact kind) = leaves (assigned s)
 effect s (DefineMacro defined kind) = leaves (record s { text = Some (definition_text defined kind) })

@@ -6,7 +6,8 @@ use Rattle.tx_eqtb.specs.Initex.{initial_table}
 use Rattle.tx_machine.specs.declared.types.Date.{Date}
 use Rattle.tx_machine.specs.declared.types.AskKind.{AskKind}
 use Rattle.tx_machine.specs.Machine.{Mode as Machine_mode, Ready, Awaits, Halted as Machine_halted}
-use Rattle.tx_node.specs.Items.{Item as ListItem}
+use Rattle.tx_box.specs.declared.parts.Lists.{Lists}
+use Rattle.tx_box.specs.Beginnings.{first_lists}
 use Rattle.tx_expand.specs.Expanding.{reader as reader_with}
 use Rattle.tx_expand.specs.Reader.{Reader}
 use Rattle.tx_pending.specs.Elements.{no_input}
@@ -16,7 +17,6 @@ use Rattle.tx_seen.specs.declared.item.Item.{Item}
 use Rattle.tx_main.specs.declared.parts.Due.{Due}
 use Rattle.tx_main.specs.declared.parts.Due.TheVariants.{OpenMain}
 use Rattle.tx_main.specs.declared.parts.KeptToken.{KeptToken}
-use Rattle.tx_main.specs.declared.parts.OpenBox.{OpenBox}
 use Rattle.tx_main.specs.declared.parts.OpenText.{OpenText}
 use Rattle.tx_main.specs.declared.parts.Phase.{Phase}
 use Rattle.tx_main.specs.declared.parts.Phase.TheVariants.{Running, Waiting, Halted}
@@ -35,14 +35,13 @@ pub record TexState : Type 0 where
   pub reader : Reader
   -- the text that is being taken, if one is
   pub text : Option OpenText
-  -- what stands before the open command, and the tokens and values that it has taken since
+  -- the mode in which the open command stands, which is that of the list that is being built; what stands before it, and the
+  -- tokens and values that it has taken since
+  pub mode : Mode
   pub head : Head
   pub taken : List Item
-  -- the mode, and the list that is being built
-  pub mode : Mode
-  pub list : List ListItem
-  -- the open boxes, the innermost first
-  pub boxes : List OpenBox
+  -- the lists that are being built, one in another, and the boxes that they are to become
+  pub lists : Lists
   -- meanings, codes, registers and parameters, with the open groups
   pub table : Eqtb
   -- the tokens that \aftergroup keeps, the last first, and the one that \afterassignment keeps
@@ -74,11 +73,10 @@ first_state date main = record {
   files = 0;
   reader = reader_with [] no_input [] main;
   text = None;
+  mode = Vertical;
   head = Fresh;
   taken = [];
-  mode = Vertical;
-  list = [];
-  boxes = [];
+  lists = first_lists;
   table = record { table = initial_table (moment_of date); groups = [] };
   after_groups = [];
   after_assignment = None;

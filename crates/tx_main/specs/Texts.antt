@@ -43,12 +43,13 @@ is_global kinds.Expanded = false
 is_global kinds.Global = true
 is_global kinds.GlobalExpanded = true
 
--- the text of a message is expanded, that of \uppercase and \lowercase isn't
+-- the text of a message or a \special is expanded, that of \uppercase and \lowercase isn't
 abbrev pub expands_text : TextUse → Bool
 expands_text purposes.Message = true
 expands_text purposes.ErrorMessage = true
 expands_text purposes.UpperCase = false
 expands_text purposes.LowerCase = false
+expands_text purposes.Special = true
 
 -- texts of which nothing is taken
 abbrev pub definition_text : Place → DefinitionKind → OpenText

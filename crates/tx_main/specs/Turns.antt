@@ -17,10 +17,14 @@ use Rattle.tx_machine.specs.Machine.{Formatter, Stepped}
 use Rattle.tx_seen.specs.declared.error.TexError.{TexError}
 use Rattle.tx_seen.specs.declared.error.TexError.TheVariants.{SizeOutOfRange, FileAbsent, BadMagnification, NoEnd}
 use Rattle.tx_main.specs.declared.parts.Due.{Due}
-use Rattle.tx_main.specs.declared.parts.Due.TheVariants.{OpenMain, FileAbsent as Due_file_absent, FileEnded, MainClosed, Ship}
+use Rattle.tx_main.specs.declared.parts.Due.TheVariants.{OpenMain, FileAbsent as Due_file_absent, FileEnded, MainClosed, Boxes}
 use Rattle.tx_main.specs.declared.parts.OpenText.{OpenText}
 use Rattle.tx_command.specs.declared.types.Command.{Command}
-use Rattle.tx_node.specs.Counts.{box_count, ended}
+use Rattle.tx_box.specs.declared.parts.Work.{Work}
+use Rattle.tx_box.specs.declared.parts.Work.TheVariants.{Copy, CopyList, Ship}
+use Rattle.tx_box.specs.DueWork.{work_cost}
+use Rattle.tx_box.specs.Placing.{placed}
+use Rattle.tx_known.specs.Values.{Lent, value_now}
 use Rattle.tx_ship.specs.declared.error.ShipError.{ShipError}
 use Rattle.tx_expand.specs.declared.types.Expanded.{Expanded as Answer}
 use Rattle.tx_expand.specs.declared.types.Expanded.TheVariants as answer
@@ -30,18 +34,21 @@ use Rattle.tx_expand.specs.Reader.{Turn, Goes, Fails as Turn_fails}
 use Rattle.tx_expand.specs.Turns.{file_ended, is_opening, opened, put, turn}
 use Rattle.tx_pending.specs.Elements.{with_line}
 use Rattle.tx_prim.specs.declared.integer.IntegerParameter.TheVariants.{Mag}
-use Rattle.tx_eqtb.specs.Quantities.{value_in}
 use Rattle.tx_scan.specs.Settled.{tokens_of}
 use Rattle.tx_scan.specs.Supplied.{with_values}
 use Rattle.tx_main.specs.Pages.{integer, line_end, page_of, may_be}
 use Rattle.tx_command.specs.Commands.{command}
-use Rattle.tx_main.specs.Effects.{effect, ending_text, relaxing}
+use Rattle.tx_main.specs.Effects.{carried, effect, ending_text, relaxing, with_items}
 use Rattle.tx_seen.specs.Readings.{Reading, More, Need, Done, Wrong}
 use Rattle.tx_main.specs.Outcomes.{Outcome, Asks, Ships, Fails, Ends, leaves, stepped}
 use Rattle.tx_machine.specs.Same.{same_by}
 use Rattle.tx_main.specs.Codes.{meaning_code}
 use Rattle.tx_main.specs.Texts.{is_whole, text_wanted, with_given, with_token}
 use Rattle.tx_main.specs.State.{TexState, Meaning, Runs, Waits, Stops, mode_of, first_state}
+
+-- what scans, expansions and tests may ask for
+abbrev pub known_of : TexState → Lent
+known_of s = record { table = s.table; nest = s.lists.nest; badness = s.lists.badness }
 
 -- what comes of these items: the command goes on, or is wrong, or takes effect, and what it didn't need is read again
 abbrev pub scanned : TexState → List Item → Reading Command → Outcome
@@ -55,7 +62,7 @@ abbrev pub joining : TexState → List Item → Outcome
 joining s items = scanned s items (command s.mode s.head items)
 
 abbrev pub supplying : TexState → List Item → Outcome
-supplying s items = joining s (with_values (value_in s.table) (command s.mode s.head) items)
+supplying s items = joining s (with_values (value_now (known_of s)) (command s.mode s.head) items)
 
 abbrev pub taking : TexState → Seen → Outcome
 taking s t = supplying s (s.taken ++ Took t ∷ [])
@@ -111,7 +118,7 @@ turned s (Goes answer left) = answered (record s { reader = left }) answer
 turned s (Turn_fails error) = Fails error
 
 abbrev pub reads : TexState → Outcome
-reads s = turned s (turn (world_of s.table s.mode) (wanted_by s s.text) s.reader)
+reads s = turned s (turn (world_of (known_of s) s.mode) (wanted_by s s.text) s.reader)
 
 -- a page of a box, with the magnification
 abbrev pub ships_with : TexState → ℤ → Result Page ShipError → Outcome
@@ -122,13 +129,19 @@ ships_with s mag (Ok page) = Ships page (record s { magnification = Some mag })
 abbrev pub ships : TexState → ℤ → Result Page ShipError → Outcome
 ships s mag page = if may_be s.magnification mag then ships_with s mag page else Fails BadMagnification
 
+-- copies go where they are to go, and a box that is to be shipped is
+abbrev pub works_boxes : TexState → Work → Outcome
+works_boxes s (Copy box target) = carried s (placed target s.lists s.table (Some box))
+works_boxes s (CopyList list) = leaves (with_items s list)
+works_boxes s (Ship box) = ships s (integer s.table.table Mag) (page_of s.table.table box)
+
 -- the next piece of due work
 abbrev pub works : TexState → Due → Outcome
 works s (OpenMain name) = Asks (Open name) s
 works s Due_file_absent = Fails FileAbsent
 works s FileEnded = closes s
 works s MainClosed = Fails NoEnd
-works s (Ship box) = ships s (integer s.table.table Mag) (page_of s.table.table box)
+works s (Boxes work) = works_boxes s work
 
 -- due work comes first
 abbrev pub goes_on : TexState → List Due → Outcome
@@ -145,10 +158,17 @@ outcome Stops = Ends
 abbrev pub step : Meaning → Stepped Meaning
 step m = stepped (outcome m)
 
--- shipping costs the box and all nodes that it holds; all else costs 1
+-- shipping and copying cost the nodes that are shipped or copied; all else costs 1
+abbrev pub piece_cost : Due → ℕ
+piece_cost (OpenMain name) = 1
+piece_cost Due_file_absent = 1
+piece_cost FileEnded = 1
+piece_cost MainClosed = 1
+piece_cost (Boxes work) = work_cost work
+
 abbrev pub due_cost : List Due → ℕ
-due_cost (Ship box ∷ due) = ended (box_count box)
-due_cost _ = 1
+due_cost [] = 1
+due_cost (piece ∷ due) = piece_cost piece
 
 abbrev pub cost : Meaning → ℕ
 cost (Runs s) = due_cost s.due

@@ -1,16 +1,18 @@
 //! What each command does, once it is whole (TeX: The Program, parts 45 to 49).
 ghost use Rattle.std.specs.Prelude.{◌≡◌, ◌≢◌, ◌++◌, ◌||◌, [], Some, Ok, Err, IfOk, IfErr, OnOk};
-ghost use Rattle.tx_pack.specs.declared.types.PackError.TheVariants.{OutOfMemory};
 ghost use Rattle.tx_node.specs.Nodes.{item_of};
 ghost use Rattle.tx_assign.specs.Changes.{carried_out};
-ghost use Rattle.tx_eqtb.specs.Stack.{kind_of};
-ghost use Rattle.tx_pending.specs.Elements.{with_tokens};
 ghost use Rattle.tx_main.specs.Effects as effects;
 ghost use Rattle.tx_main.specs.Outcomes.{Fails, Ends, leaves};
 ghost use Rattle.tx_main.specs.Meanings.{IsStepped, meaning_of, state_of};
+ghost use Rattle.tx_main.specs.Texts.{is_global as global_kind};
 
+use crate::boxes::{
+    add, add_rule, copy_box, open_box, remove, set_depth, take_box, unbox, use_box,
+};
+use crate::groups::{end_group, end_semi_simple, open};
 use crate::letters::with_letters;
-use crate::parts::{Due, KeptToken, OpenBox, OpenText, Phase};
+use crate::parts::{KeptToken, OpenText, Phase};
 use crate::state::State;
 use crate::text::{code_for, is_global};
 use itoa::Buffer;
@@ -19,18 +21,14 @@ use std::mem;
 use tx_assign::{Assignment, Carried, Change, relaxed, with_text};
 use tx_bytes::Bytes;
 use tx_char::{ControlName, Token};
-use tx_command::{BoxContext, Command, Head, Prefixes};
-use tx_eqtb::{Entry, GroupKind, OpenError};
+use tx_command::{Command, Head, Prefixes};
+use tx_eqtb::{Entry, GroupKind};
 use tx_expand::escape_of;
-use tx_list::Stack;
 use tx_machine::{Event, Stop};
-use tx_node::{BoxNode, KernKind, Node, Nodes, Plain, Rule, Shared};
+use tx_node::{KernKind, Node, Plain, Shared};
 use tx_num::Glue;
-use tx_pack::{Goal, PackError, PackParams, Packed, hpack};
-use tx_pending::Pending;
 use tx_prim::{
-    AfterKind, BoxKind, DefinitionKind, Interaction, Mode, Prefix, Primitive, RuleKind, Shorthand,
-    SizeKind, TextUse, TokenParameter,
+    AfterKind, DefinitionKind, Interaction, Mode, Prefix, Primitive, Shorthand, SizeKind, TextUse,
 };
 use tx_seen::{Meaning, Place, TexError};
 use tx_text::{DefinitionScan, TextScan};
@@ -44,15 +42,6 @@ pub fn fail(s: &mut State, error: TexError) -> Event
     Event::Stopped(Stop::Error(error.number()))
 }
 
-/// Appends one more node.
-fn add(s: &mut State, node: Node) -> Result<Event, AllocError>
-    requires { s.old.phase ≡ Phase.Running }
-    ensures { IfOk result (λ event. IsStepped (effects.adding (state_of s.old) (item_of node)) s.old event s.new) }
-{
-    s.list.push(node)?;
-    Ok(Event::Went)
-}
-
 /// Reports a character that \nullfont lacks.
 #[tactic(auto, unfolding(crate::specs::Effects::missing))]
 fn report_missing(said: &mut Bytes, code: u8) -> Result<(), AllocError>
@@ -63,239 +52,6 @@ fn report_missing(said: &mut Bytes, code: u8) -> Result<(), AllocError>
     said.append(digits.format(code).as_bytes())?;
     said.append(b" in nullfont\n")?;
     Ok(())
-}
-
-/// Opens a group of this kind.
-fn open(s: &mut State, kind: GroupKind) -> Result<Event, AllocError>
-    requires { s.old.phase ≡ Phase.Running }
-    ensures { IfOk result (λ event. IsStepped (effects.opening (state_of s.old) kind (state_of s.old)) s.old event s.new) }
-{
-    match s.table.open_group(kind) {
-        Ok(()) => Ok(Event::Went),
-        Err(OpenError::TooMany) => Ok(fail(s, TexError::TooManyGroups)),
-        Err(OpenError::OutOfMemory) => Err(AllocError),
-    }
-}
-
-/// The group of a box.
-fn group_of(kind: BoxKind) -> GroupKind
-    ensures { result ≡ effects.group_of kind }
-{
-    match kind {
-        BoxKind::Horizontal => GroupKind::HorizontalBox,
-    }
-}
-
-/// The mode of a box's list.
-fn mode_in(kind: BoxKind) -> Mode
-    ensures { result ≡ effects.mode_in kind }
-{
-    match kind {
-        BoxKind::Horizontal => Mode::RestrictedHorizontal,
-    }
-}
-
-/// The list of tokens with which a box's list begins.
-fn every_in(kind: BoxKind) -> TokenParameter
-    ensures { result ≡ effects.every_in kind }
-{
-    match kind {
-        BoxKind::Horizontal => TokenParameter::Everyhbox,
-    }
-}
-
-/// Begins a box.
-fn open_box(
-    alloc: Global,
-    s: &mut State,
-    kind: BoxKind,
-    context: BoxContext,
-) -> Result<Event, AllocError>
-    requires running { s.old.phase ≡ Phase.Running }
-    requires between { s.old.scan.taken ≡ [] }
-    ensures { IfOk result (λ event. IsStepped (effects.effect (state_of s.old) (Command.BeginBox kind context)) s.old event s.new) }
-{
-    match s.table.open_group(group_of(kind)) {
-        Ok(()) => {}
-        Err(OpenError::TooMany) => return Ok(fail(s, TexError::TooManyGroups)),
-        Err(OpenError::OutOfMemory) => return Err(AllocError),
-    }
-    enter_box(alloc, s, kind, context)?;
-    Ok(Event::Went)
-}
-
-/// The list of a box is begun; what stands around it is kept. Its only error is want of memory.
-fn enter_box(
-    alloc: Global,
-    s: &mut State,
-    kind: BoxKind,
-    context: BoxContext,
-) -> Result<(), AllocError>
-    requires { s.old.scan.taken ≡ [] }
-    ensures state { OnOk result (state_of s.new ≡ effects.in_box kind context (state_of s.old)) }
-    ensures phase { OnOk result (s.new.phase ≡ s.old.phase) }
-    ensures said { OnOk result (s.new.said ≡ s.old.said) }
-{
-    let every = s.table.tokens(&Place::Tokens(every_in(kind)))?;
-    s.input.push_list(every, false)?;
-    let list = mem::replace(&mut s.list, Nodes::new(alloc));
-    let mode = s.scan.mode();
-    s.boxes.push(OpenBox {
-        context,
-        list,
-        mode,
-    })?;
-    s.scan.enter(mode_in(kind));
-    Ok(())
-}
-
-/// The token that \aftergroup keeps for the end of the innermost of so many groups, the last of those that are left. Its only
-/// error is that no more owners of a name can be counted.
-fn kept_for(after_groups: &Stack<KeptToken>, groups: usize) -> Result<Option<Token>, AllocError>
-    ensures { IfOk result (λ kept. kept ≡ effects.kept_for after_groups.now groups) }
-{
-    match after_groups.first() {
-        Some(kept) if kept.groups == groups => Ok(Some(kept.token.clone()?)),
-        _ => Ok(None),
-    }
-}
-
-/// What \aftergroup keeps for the end of the innermost of so many groups is read next. Its only error is want of memory.
-fn release_kept(
-    after_groups: &mut Stack<KeptToken>,
-    input: &mut Pending,
-    groups: usize,
-) -> Result<(), AllocError>
-    ensures left { OnOk result (after_groups.new ≡ effects.left_after groups after_groups.old) }
-    ensures input { OnOk result (input.new ≡ with_tokens input.old (effects.kept_tokens groups after_groups.old [])) }
-{
-    while let Some(token) = kept_for(after_groups, groups)? {
-        after_groups.pop();
-        input.give_back(token)?;
-    }
-    Ok(())
-}
-
-/// Leaves the innermost group, of this kind: what it changed comes back, and what \aftergroup keeps for its end is read next.
-/// Its only error is want of memory.
-fn leave_group(s: &mut State, kind: GroupKind) -> Result<(), AllocError>
-    requires { kind_of s.old.table ≡ Some kind }
-    ensures state { OnOk result (state_of s.new ≡ effects.closing (state_of s.old)) }
-    ensures phase { OnOk result (s.new.phase ≡ s.old.phase) }
-    ensures said { OnOk result (s.new.said ≡ s.old.said) }
-{
-    let groups = s.table.depth();
-    release_kept(&mut s.after_groups, &mut s.input, groups)?;
-    match s.table.close_group(kind) {
-        Ok(()) => Ok(()),
-        Err(_) => unreachable!(),
-    }
-}
-
-/// Closes the innermost group, of this kind, and nothing else. Its only error is want of memory.
-fn close_group(s: &mut State, kind: GroupKind) -> Result<Event, AllocError>
-    requires running { s.old.phase ≡ Phase.Running }
-    requires kind { kind_of s.old.table ≡ Some kind }
-    ensures { IfOk result (λ event. IsStepped (leaves (effects.closing (state_of s.old))) s.old event s.new) }
-{
-    leave_group(s, kind)?;
-    Ok(Event::Went)
-}
-
-/// An end-group token: closes the innermost group, which brings back what it changed; of the list of a box a box is made.
-fn end_group(alloc: Global, s: &mut State) -> Result<Event, AllocError>
-    requires running { s.old.phase ≡ Phase.Running }
-    requires between { s.old.scan.taken ≡ [] }
-    ensures { IfOk result (λ event. IsStepped (effects.effect (state_of s.old) Command.EndGroup) s.old event s.new) }
-{
-    match s.table.kind() {
-        Some(GroupKind::Simple) => close_group(s, GroupKind::Simple),
-        Some(GroupKind::HorizontalBox) => end_box(alloc, s),
-        Some(GroupKind::SemiSimple) | None => Ok(fail(s, TexError::ExtraGroupEnd)),
-    }
-}
-
-/// \endgroup.
-fn end_semi_simple(s: &mut State) -> Result<Event, AllocError>
-    requires running { s.old.phase ≡ Phase.Running }
-    ensures { IfOk result (λ event. IsStepped (effects.effect (state_of s.old) Command.EndSemiSimple) s.old event s.new) }
-{
-    match s.table.kind() {
-        Some(GroupKind::SemiSimple) => close_group(s, GroupKind::SemiSimple),
-        _ => Ok(fail(s, TexError::ExtraGroupEnd)),
-    }
-}
-
-/// The end of a box.
-fn end_box(alloc: Global, s: &mut State) -> Result<Event, AllocError>
-    requires running { s.old.phase ≡ Phase.Running }
-    requires between { s.old.scan.taken ≡ [] }
-    requires kind { kind_of s.old.table ≡ Some GroupKind.HorizontalBox }
-    ensures { IfOk result (λ event. IsStepped (effects.closing_box (effects.closing (state_of s.old)) s.old.boxes) s.old event s.new) }
-{
-    leave_group(s, GroupKind::HorizontalBox)?;
-    match s.boxes.pop() {
-        None => Ok(fail(s, TexError::ExtraGroupEnd)),
-        Some(
-            OpenBox {
-                context,
-                list,
-                mode,
-            },
-        ) => {
-            let inner = mem::replace(&mut s.list, list);
-            s.scan.enter(mode);
-            close_box(alloc, s, context, inner)
-        }
-    }
-}
-
-/// A list in a box of its natural size.
-fn natural(alloc: Global, list: Nodes) -> Result<Packed, PackError>
-    ensures packed { IfOk result (λ made. effects.natural list ≡ Ok made) }
-    ensures error { IfErr result (λ e. e ≢ OutOfMemory → effects.natural list ≡ Err e) }
-{
-    let params = PackParams {
-        badness: 0,
-        fuzz: 0,
-        overfull_rule: 0,
-    };
-    hpack(alloc, list, Goal::Natural, &params)
-}
-
-/// Makes a box of a list.
-fn close_box(
-    alloc: Global,
-    s: &mut State,
-    context: BoxContext,
-    inner: Nodes,
-) -> Result<Event, AllocError>
-    requires running { s.old.phase ≡ Phase.Running }
-    ensures { IfOk result (λ event. IsStepped (effects.boxing context (state_of s.old) (effects.natural inner)) s.old event s.new) }
-{
-    match natural(alloc, inner) {
-        Ok(made) => use_box(alloc, s, context, made.node),
-        Err(PackError::SizeOutOfRange) => Ok(fail(s, TexError::SizeOutOfRange)),
-        Err(PackError::TooDeep) => Ok(fail(s, TexError::TooDeep)),
-        Err(PackError::OutOfMemory) => Err(AllocError),
-    }
-}
-
-/// Appends a box to the list, or has it shipped by the next turn.
-fn use_box(
-    alloc: Global,
-    s: &mut State,
-    context: BoxContext,
-    made: BoxNode,
-) -> Result<Event, AllocError>
-    requires running { s.old.phase ≡ Phase.Running }
-    ensures { IfOk result (λ event. IsStepped (leaves (effects.using_box context made (state_of s.old))) s.old event s.new) }
-{
-    match context {
-        BoxContext::Append => s.list.push(Node::from_box(alloc, 0, made)?)?,
-        BoxContext::Ship => s.due.push(Due::Ship(made))?,
-    }
-    Ok(Event::Went)
 }
 
 /// The prefixes with one more.
@@ -346,14 +102,24 @@ fn define(s: &mut State, defined: Place, kind: Shorthand) -> Result<Event, Alloc
 }
 
 /// An assignment is done: what \afterassignment keeps is read next. Its only error is want of memory.
-fn end_assignment(s: &mut State) -> Result<Event, AllocError>
-    requires { s.old.phase ≡ Phase.Running }
-    ensures { IfOk result (λ event. IsStepped (leaves (effects.assigned (state_of s.old))) s.old event s.new) }
+pub fn finish_assignment(s: &mut State) -> Result<(), AllocError>
+    ensures state { OnOk result (state_of s.new ≡ effects.assigned (state_of s.old)) }
+    ensures phase { OnOk result (s.new.phase ≡ s.old.phase) }
+    ensures said { OnOk result (s.new.said ≡ s.old.said) }
 {
     if let Some(token) = mem::replace(&mut s.after_assignment, None) {
         s.input.give_back(token)?;
     }
     s.scan.begin_fresh();
+    Ok(())
+}
+
+/// The same, and nothing else. Its only error is want of memory.
+pub fn end_assignment(s: &mut State) -> Result<Event, AllocError>
+    requires { s.old.phase ≡ Phase.Running }
+    ensures { IfOk result (λ event. IsStepped (leaves (effects.assigned (state_of s.old))) s.old event s.new) }
+{
+    finish_assignment(s)?;
     Ok(Event::Went)
 }
 
@@ -437,6 +203,13 @@ fn begin_text(alloc: Global, s: &mut State, purpose: TextUse) -> Event
     Event::Went
 }
 
+/// Whether a definition is global, by its prefixes or its kind.
+fn defines_globally(prefixes: Prefixes, kind: DefinitionKind) -> bool
+    ensures { result ≡ (prefixes.global || global_kind kind) }
+{
+    prefixes.global || is_global(kind)
+}
+
 /// The place means the macro of a definition that is whole. Its only further error is want of memory.
 fn end_definition(
     alloc: Global,
@@ -449,12 +222,13 @@ fn end_definition(
     ensures { IfOk result (λ event. IsStepped (effects.defining (state_of s.old) defined kind scan) s.old event s.new) }
 {
     let prefixes = s.scan.prefixes();
+    let global = defines_globally(prefixes, kind);
     let made = scan.into_macro(alloc, prefixes.long, prefixes.outer)?;
     let assignment = Assignment {
         place: defined,
         change: Change::Set(Entry::Means(Meaning::Macro(made))),
     };
-    assign_so(s, assignment, prefixes.global || is_global(kind))
+    assign_so(s, assignment, global)
 }
 
 /// The list of tokens that is whole stands at this place. Its only further error is want of memory.
@@ -491,6 +265,21 @@ fn print_message(alloc: Global, s: &mut State, tokens: &Toks) -> Result<Event, A
     Ok(Event::Went)
 }
 
+/// Appends a \special with these bytes. Its only error is want of memory.
+fn add_special(alloc: Global, s: &mut State, tokens: &Toks) -> Result<Event, AllocError>
+    requires { s.old.phase ≡ Phase.Running }
+    ensures { IfOk result (λ event. IsStepped (effects.marking (state_of s.old) tokens.now) s.old event s.new) }
+{
+    let text = text_of(
+        alloc,
+        tokens.as_slice(),
+        escape_of(&s.table),
+        s.table.categories(),
+    )?;
+    let node = Node::from_shared(alloc, Shared::Special(text))?;
+    add(s, node)
+}
+
 /// The text of \uppercase or \lowercase is read next, with other letters. Its only error is want of memory.
 fn change_letters(
     alloc: Global,
@@ -523,6 +312,7 @@ fn use_text(
         TextUse::ErrorMessage => Ok(fail(s, TexError::ErrorMessage)),
         TextUse::UpperCase => change_letters(alloc, s, true, tokens),
         TextUse::LowerCase => change_letters(alloc, s, false, tokens),
+        TextUse::Special => add_special(alloc, s, &tokens),
     }
 }
 
@@ -578,19 +368,6 @@ fn use_size(s: &mut State, kind: SizeKind, size: i32) -> Result<Event, AllocErro
     }
 }
 
-/// A rule.
-fn use_rule(alloc: Global, s: &mut State, kind: RuleKind, rule: Rule) -> Result<Event, AllocError>
-    requires { s.old.phase ≡ Phase.Running }
-    ensures { IfOk result (λ event. IsStepped (effects.effect (state_of s.old) (Command.Rule kind rule)) s.old event s.new) }
-{
-    match kind {
-        RuleKind::Vertical => {
-            let node = Node::from_shared(alloc, Shared::Rule(rule))?;
-            add(s, node)
-        }
-    }
-}
-
 /// \batchmode or its kin: an assignment of which nothing comes.
 fn interact(s: &mut State, kind: Interaction) -> Result<Event, AllocError>
     requires running { s.old.phase ≡ Phase.Running }
@@ -636,8 +413,15 @@ pub fn carry_out(alloc: Global, s: &mut State, command: Command) -> Result<Event
         Command::Define(defined, kind) => define(s, defined, kind),
         Command::Assign(assignment) => assign(alloc, s, assignment),
         Command::Sized(kind, size) => use_size(s, kind, size),
-        Command::Rule(kind, rule) => use_rule(alloc, s, kind, rule),
-        Command::BeginBox(kind, context) => open_box(alloc, s, kind, context),
+        Command::Rule(_, rule) => add_rule(alloc, s, rule),
+        Command::BeginBox(kind, goal, context) => open_box(alloc, s, kind, goal, context),
+        Command::UseBox(number, context) => use_box(alloc, s, number, context),
+        Command::CopyBox(number, context) => copy_box(alloc, s, number, context),
+        Command::LastBox(context) => take_box(alloc, s, context),
+        Command::Unbox(kind, number) => unbox(s, kind, number),
+        Command::Penalize(number) => add(s, Node::Plain(Plain::Penalty(number))),
+        Command::SetDepth(depth) => set_depth(s, depth),
+        Command::Remove(kind) => Ok(remove(s, kind)),
         Command::End => Ok(finish(s)),
         Command::Interact(kind) => interact(s, kind),
         Command::DefineMacro(defined, kind) => Ok(define_macro(alloc, s, defined, kind)),

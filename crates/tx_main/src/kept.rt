@@ -1,8 +1,7 @@
 //! What can be kept of the parts of a state: each can be shared, and compared exactly.
-use crate::parts::{Due, KeptToken, OpenBox, OpenText};
+use crate::parts::{Due, KeptToken, OpenText};
 use std::alloc::AllocError;
 use tx_list::Kept;
-use tx_node::same_box;
 
 impl Kept for Due {
     fn share(&self) -> Result<Self, AllocError> {
@@ -11,7 +10,7 @@ impl Kept for Due {
             Due::FileAbsent => Ok(Due::FileAbsent),
             Due::FileEnded => Ok(Due::FileEnded),
             Due::MainClosed => Ok(Due::MainClosed),
-            Due::Ship(shipped) => Ok(Due::Ship(shipped.clone()?)),
+            Due::Boxes(work) => Ok(Due::Boxes(work.share()?)),
         }
     }
 
@@ -21,23 +20,9 @@ impl Kept for Due {
             (Due::FileAbsent, Due::FileAbsent) => true,
             (Due::FileEnded, Due::FileEnded) => true,
             (Due::MainClosed, Due::MainClosed) => true,
-            (Due::Ship(one), Due::Ship(other)) => same_box(one, other),
+            (Due::Boxes(one), Due::Boxes(other)) => one.same(other),
             _ => false,
         }
-    }
-}
-
-impl Kept for OpenBox {
-    fn share(&self) -> Result<Self, AllocError> {
-        Ok(OpenBox {
-            context: self.context,
-            list: self.list.clone()?,
-            mode: self.mode,
-        })
-    }
-
-    fn same(&self, other: &Self) -> bool {
-        self.context == other.context && self.mode == other.mode && self.list.same(&other.list)
     }
 }
 

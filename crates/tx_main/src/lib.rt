@@ -3,10 +3,12 @@
 //! Proved: each turn is the defined step, `same` is exactly equality of meanings. Only tested: that the effects and the
 //! reading are TeX's, on documents that Knuth's TeX reads alike. How commands are taken off tokens is tx_command's.
 //!
-//! Read `parts`, `text`, `letters`, `state`, `effects`, `page`, `turn` and `machine`; last `kept`, `share` and `same`.
+//! Read `parts`, `text`, `letters`, `state`, `groups`, `boxes`, `effects`, `page`, `turn` and `machine`; last `kept`, `share` and `same`.
 #![tactic(auto)]
 
+mod boxes;
 mod effects;
+mod groups;
 mod kept;
 mod letters;
 mod machine;

@@ -6,21 +6,16 @@ ghost use Rattle.tx_main.specs.Turns.{tex};
 ghost use Rattle.tx_main.specs.Lawful.{tex-lawful};
 
 use crate::page::moment_of;
-use crate::parts::{Due, Phase};
+use crate::parts::Due;
 use crate::state::State;
 use crate::{same, share, turn};
 use std::alloc::{AllocError, Global};
 use std::mem;
 use tx_bytes::Bytes;
-use tx_command::CommandScan;
 use tx_eqtb::Eqtb;
 use tx_expand::Expander;
 use tx_files::Name;
-use tx_list::Stack;
 use tx_machine::{Date, Event, Machine, Reply, Steps};
-use tx_node::Nodes;
-use tx_pending::Pending;
-use tx_prim::Mode;
 
 /// TeX, begun as INITEX.
 #[derive(Clone, Copy)]
@@ -41,22 +36,12 @@ impl Machine for Tex {
 
     #[tactic(auto, unfolding(crate::specs::Turns::tex))]
     fn start(&self, alloc: Global, date: &Date, main: &Name) -> Result<State, AllocError> {
-        Ok(State {
-            phase: Phase::Running,
-            due: Stack::one(alloc, Due::OpenMain(main.clone()?))?,
-            files: 0,
-            input: Pending::new(alloc),
-            expander: Expander::new(alloc, main.clone()?.into_bytes()),
-            text: None,
-            scan: CommandScan::new(alloc, Mode::Vertical),
-            list: Nodes::new(alloc),
-            boxes: Stack::new(alloc),
-            table: Eqtb::new(alloc, &moment_of(date))?,
-            after_groups: Stack::new(alloc),
-            after_assignment: None,
-            magnification: None,
-            said: Bytes::new(alloc),
-        })
+        let job = main.clone()?.into_bytes();
+        let name = main.clone()?;
+        let table = Eqtb::new(alloc, &moment_of(date))?;
+        let mut s = State::new(alloc, Expander::new(alloc, job), table);
+        s.due.push(Due::OpenMain(name))?;
+        Ok(s)
     }
 
     #[tactic(auto, unfolding(crate::specs::Turns::tex))]

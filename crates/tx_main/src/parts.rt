@@ -1,10 +1,9 @@
 //! The parts of TeX's state that are plain choices: what is due, which boxes are open, which text is, what the state waits for.
+use tx_box::Work;
 use tx_char::Token;
-use tx_command::BoxContext;
 use tx_files::Name;
 use tx_machine::AskKind;
-use tx_node::{BoxNode, Nodes};
-use tx_prim::{DefinitionKind, Mode, TextUse};
+use tx_prim::{DefinitionKind, TextUse};
 use tx_seen::Place;
 use tx_text::{DefinitionScan, TextScan};
 
@@ -19,19 +18,8 @@ pub enum Due {
     FileEnded,
     /// The main file is closed, and no \end came.
     MainClosed,
-    /// To ship this box.
-    Ship(BoxNode),
-}
-
-/// A box whose list is being built, and what stands around it.
-#[derive(Drop)]
-pub struct OpenBox {
-    /// What becomes of the box.
-    pub context: BoxContext,
-    /// The list around it.
-    pub list: Nodes,
-    /// The mode around it.
-    pub mode: Mode,
+    /// To copy boxes, or to ship one.
+    Boxes(Work),
 }
 
 /// A text that is being taken, and what it is for.

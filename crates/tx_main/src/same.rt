@@ -57,10 +57,9 @@ fn same_kept(one: &State, other: &State) -> bool
 
 /// Whether the same lists are built, with the same table.
 fn same_lists(one: &State, other: &State) -> bool
-    ensures { IsTrue result ↔ ((one.now.list ≡ other.now.list) × ((one.now.boxes ≡ other.now.boxes) × ((one.now.magnification ≡ other.now.magnification) × (one.now.table ≡ other.now.table)))) }
+    ensures { IsTrue result ↔ ((one.now.lists ≡ other.now.lists) × ((one.now.magnification ≡ other.now.magnification) × (one.now.table ≡ other.now.table))) }
 {
-    one.list.same(&other.list)
-        && one.boxes.same(&other.boxes)
+    one.lists.same(&other.lists)
         && one.magnification == other.magnification
         && one.table.same(&other.table)
 }

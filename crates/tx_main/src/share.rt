@@ -1,26 +1,12 @@
 //! Copies of TeX's state that go on by themselves.
-ghost use Rattle.std.specs.Prelude.{◌≡◌, IfOk};
-ghost use Rattle.tx_expand.specs.Expanding.{reader_of};
+ghost use Rattle.std.specs.Prelude.{◌≡◌, IfOk, OnOk};
 ghost use Rattle.tx_main.specs.Meanings.{meaning_of};
 
-use crate::parts::{Due, KeptToken, OpenBox, OpenText};
+use crate::parts::OpenText;
 use crate::state::State;
 use std::alloc::{AllocError, Global};
-use tx_bytes::Bytes;
 use tx_char::Token;
-use tx_command::CommandScan;
-use tx_eqtb::Eqtb;
-use tx_expand::Expander;
-use tx_list::{Kept, Stack};
-use tx_node::Nodes;
-use tx_pending::Pending;
-
-/// Copies of what is read next. Its only error is want of memory.
-fn share_reader(alloc: Global, s: &State) -> Result<(Pending, Expander), AllocError>
-    ensures { IfOk result (λ t. reader_of t.1 t.0 ≡ reader_of s.now.expander s.now.input) }
-{
-    Ok((s.input.share(alloc)?, s.expander.share(alloc)?))
-}
+use tx_list::Kept;
 
 /// The same text once more, if one is being taken. Its only error is want of memory.
 fn share_text(text: &Option<OpenText>) -> Result<Option<OpenText>, AllocError>
@@ -30,24 +16,6 @@ fn share_text(text: &Option<OpenText>) -> Result<Option<OpenText>, AllocError>
         Some(text) => Ok(Some(text.share()?)),
         None => Ok(None),
     }
-}
-
-/// Copies of what is begun. Its only error is want of memory.
-fn share_begun(s: &State) -> Result<(Stack<Due>, Option<OpenText>, CommandScan), AllocError>
-    ensures due { IfOk result (λ t. t.0 ≡ s.now.due) }
-    ensures text { IfOk result (λ t. t.1 ≡ s.now.text) }
-    ensures scan { IfOk result (λ t. t.2 ≡ s.now.scan) }
-{
-    Ok((s.due.share()?, share_text(&s.text)?, s.scan.clone()?))
-}
-
-/// Copies of the lists that are built, and of the table. Its only error is want of memory.
-fn share_lists(s: &State) -> Result<(Nodes, Stack<OpenBox>, Eqtb), AllocError>
-    ensures list { IfOk result (λ t. t.0 ≡ s.now.list) }
-    ensures boxes { IfOk result (λ t. t.1 ≡ s.now.boxes) }
-    ensures table { IfOk result (λ t. t.2 ≡ s.now.table) }
-{
-    Ok((s.list.clone()?, s.boxes.share()?, s.table.share()?))
 }
 
 /// The same token once more, if there is one. Its only error is that no more owners of a name can be counted.
@@ -60,55 +28,102 @@ fn share_token(token: &Option<Token>) -> Result<Option<Token>, AllocError>
     }
 }
 
-/// Copies of the tokens that are kept. Its only error is want of memory.
-fn share_kept(s: &State) -> Result<(Stack<KeptToken>, Option<Token>), AllocError>
-    ensures groups { IfOk result (λ t. t.0 ≡ s.now.after_groups) }
-    ensures assignment { IfOk result (λ t. t.1 ≡ s.now.after_assignment) }
+/// Another state gets a copy of what is due. Its only error is want of memory, here and in all that follows.
+fn share_due(s: &State, twin: &mut State) -> Result<(), AllocError>
+    ensures { OnOk result (twin.new ≡ record twin.old { due = s.now.due }) }
 {
-    Ok((s.after_groups.share()?, share_token(&s.after_assignment)?))
+    twin.due = s.due.share()?;
+    Ok(())
 }
 
-/// The state of these copies of its parts.
-fn joined(
-    s: &State,
-    said: Bytes,
-    read: (Pending, Expander),
-    begun: (Stack<Due>, Option<OpenText>, CommandScan),
-    lists: (Nodes, Stack<OpenBox>, Eqtb),
-    kept: (Stack<KeptToken>, Option<Token>),
-) -> State
-    requires read { reader_of read.1 read.0 ≡ reader_of s.now.expander s.now.input }
-    requires due { begun.0 ≡ s.now.due }
-    requires text { begun.1 ≡ s.now.text }
-    requires scan { begun.2 ≡ s.now.scan }
-    requires list { lists.0 ≡ s.now.list }
-    requires boxes { lists.1 ≡ s.now.boxes }
-    requires table { lists.2 ≡ s.now.table }
-    requires groups { kept.0 ≡ s.now.after_groups }
-    requires assignment { kept.1 ≡ s.now.after_assignment }
-    ensures meaning { meaning_of result ≡ meaning_of s.now }
-    ensures said { result.said ≡ said }
+/// It gets a copy of the input.
+fn share_input(alloc: Global, s: &State, twin: &mut State) -> Result<(), AllocError>
+    ensures { OnOk result (twin.new ≡ record twin.old { input = s.now.input }) }
 {
-    let (input, expander) = read;
-    let (due, text, scan) = begun;
-    let (list, boxes, table) = lists;
-    let (after_groups, after_assignment) = kept;
-    State {
-        phase: s.phase,
-        due,
-        files: s.files,
-        input,
-        expander,
-        text,
-        scan,
-        list,
-        boxes,
-        table,
-        after_groups,
-        after_assignment,
-        magnification: s.magnification,
-        said,
-    }
+    twin.input = s.input.share(alloc)?;
+    Ok(())
+}
+
+/// It gets a copy of the text that is being taken.
+fn share_open_text(s: &State, twin: &mut State) -> Result<(), AllocError>
+    ensures { OnOk result (twin.new ≡ record twin.old { text = s.now.text }) }
+{
+    twin.text = share_text(&s.text)?;
+    Ok(())
+}
+
+/// It gets a copy of the open command.
+fn share_scan(s: &State, twin: &mut State) -> Result<(), AllocError>
+    ensures { OnOk result (twin.new ≡ record twin.old { scan = s.now.scan }) }
+{
+    twin.scan = s.scan.clone()?;
+    Ok(())
+}
+
+/// It gets a copy of the lists that are built.
+fn share_lists(s: &State, twin: &mut State) -> Result<(), AllocError>
+    ensures { OnOk result (twin.new ≡ record twin.old { lists = s.now.lists }) }
+{
+    twin.lists = s.lists.share()?;
+    Ok(())
+}
+
+/// It gets copies of the tokens that \aftergroup keeps.
+fn share_after_groups(s: &State, twin: &mut State) -> Result<(), AllocError>
+    ensures { OnOk result (twin.new ≡ record twin.old { after_groups = s.now.after_groups }) }
+{
+    twin.after_groups = s.after_groups.share()?;
+    Ok(())
+}
+
+/// It gets a copy of the token that \afterassignment keeps.
+fn share_after_assignment(s: &State, twin: &mut State) -> Result<(), AllocError>
+    ensures { OnOk result (twin.new ≡ record twin.old { after_assignment = s.now.after_assignment }) }
+{
+    twin.after_assignment = share_token(&s.after_assignment)?;
+    Ok(())
+}
+
+/// It gets a copy of the bytes that are still to be taken.
+fn share_said(s: &State, twin: &mut State) -> Result<(), AllocError>
+    ensures { OnOk result (twin.new ≡ record twin.old { said = s.now.said }) }
+{
+    twin.said = s.said.clone()?;
+    Ok(())
+}
+
+/// It gets copies of what is due, read and begun.
+fn share_begun(alloc: Global, s: &State, twin: &mut State) -> Result<(), AllocError>
+    ensures { OnOk result (twin.new ≡ record twin.old { due = s.now.due; input = s.now.input; text = s.now.text; scan = s.now.scan }) }
+{
+    share_due(s, twin)?;
+    share_input(alloc, s, twin)?;
+    share_open_text(s, twin)?;
+    share_scan(s, twin)?;
+    Ok(())
+}
+
+/// It gets copies of what is built and kept, and of the bytes that are still to be taken.
+fn share_built(s: &State, twin: &mut State) -> Result<(), AllocError>
+    ensures { OnOk result (twin.new ≡ record twin.old { lists = s.now.lists; after_groups = s.now.after_groups; after_assignment = s.now.after_assignment; said = s.now.said }) }
+{
+    share_lists(s, twin)?;
+    share_after_groups(s, twin)?;
+    share_after_assignment(s, twin)?;
+    share_said(s, twin)?;
+    Ok(())
+}
+
+/// It gets all but the table and what the expander has open.
+fn share_parts(alloc: Global, s: &State, twin: &mut State) -> Result<(), AllocError>
+    ensures { OnOk result (twin.new ≡ record s.now { expander = twin.old.expander; table = twin.old.table }) }
+{
+    share_begun(alloc, s, twin)?;
+    share_built(s, twin)?;
+    twin.phase = s.phase;
+    twin.files = s.files;
+    twin.magnification = s.magnification;
+    Ok(())
 }
 
 /// A state that means the same, with the same bytes of the transcript that are still to be taken. Its only error is want of
@@ -117,10 +132,8 @@ pub fn share(alloc: Global, s: &State) -> Result<State, AllocError>
     ensures meaning { IfOk result (λ t. meaning_of t ≡ meaning_of s.now) }
     ensures said { IfOk result (λ t. t.said ≡ s.now.said) }
 {
-    let said = s.said.clone()?;
-    let kept = share_kept(s)?;
-    let begun = share_begun(s)?;
-    let lists = share_lists(s)?;
-    let read = share_reader(alloc, s)?;
-    Ok(joined(s, said, read, begun, lists, kept))
+    let table = s.table.share()?;
+    let mut twin = State::new(alloc, s.expander.share(alloc)?, table);
+    share_parts(alloc, s, &mut twin)?;
+    Ok(twin)
 }

@@ -1,13 +1,20 @@
 //! TeX's state, in code.
-use crate::parts::{Due, KeptToken, OpenBox, OpenText, Phase};
+ghost use Rattle.std.specs.Prelude.{◌≡◌, [], None};
+ghost use Rattle.tx_box.specs.Beginnings.{first_lists};
+ghost use Rattle.tx_pending.specs.Elements.{no_input};
+ghost use Rattle.tx_prim.specs.declared.modes.Mode.TheVariants as mode;
+
+use crate::parts::{Due, KeptToken, OpenText, Phase};
+use std::alloc::Global;
+use tx_box::Lists;
 use tx_bytes::Bytes;
 use tx_char::Token;
-use tx_command::CommandScan;
+use tx_command::{CommandScan, Head};
 use tx_eqtb::Eqtb;
 use tx_expand::Expander;
 use tx_list::Stack;
-use tx_node::Nodes;
 use tx_pending::Pending;
+use tx_prim::Mode;
 
 /// All that the next turns depend on, and the bytes of the transcript that are still to be taken.
 #[derive(Drop)]
@@ -22,9 +29,8 @@ pub struct State {
     /// The text that is being taken, if one is.
     pub(crate) text: Option<OpenText>,
     pub(crate) scan: CommandScan,
-    pub(crate) list: Nodes,
-    /// The innermost first.
-    pub(crate) boxes: Stack<OpenBox>,
+    /// The lists that are being built, with their boxes.
+    pub(crate) lists: Lists,
     pub(crate) table: Eqtb,
     /// What \aftergroup keeps, the last first.
     pub(crate) after_groups: Stack<KeptToken>,
@@ -32,4 +38,27 @@ pub struct State {
     pub(crate) after_assignment: Option<Token>,
     pub(crate) magnification: Option<i32>,
     pub(crate) said: Bytes,
+}
+
+impl State {
+    /// A state in which nothing is due or read, and the pages' list is built, with this table; takes no memory.
+    pub(crate) fn new(alloc: Global, expander: Expander, table: Eqtb) -> State
+        ensures { result ≡ record { phase = Phase.Running; due = []; files = 0; input = no_input; expander = expander; text = None; scan = record { mode = mode.Vertical; head = Head.Fresh; taken = [] }; lists = first_lists; table = table; after_groups = []; after_assignment = None; magnification = None; said = [] } }
+    {
+        State {
+            phase: Phase::Running,
+            due: Stack::new(alloc),
+            files: 0,
+            input: Pending::new(alloc),
+            expander,
+            text: None,
+            scan: CommandScan::new(alloc, Mode::Vertical),
+            lists: Lists::new(alloc),
+            table,
+            after_groups: Stack::new(alloc),
+            after_assignment: None,
+            magnification: None,
+            said: Bytes::new(alloc),
+        }
+    }
 }

@@ -36,7 +36,7 @@ fn expands_text(purpose: TextUse) -> bool
     ensures { result ≡ spec.expands_text purpose }
 {
     match purpose {
-        TextUse::Message | TextUse::ErrorMessage => true,
+        TextUse::Message | TextUse::ErrorMessage | TextUse::Special => true,
         TextUse::UpperCase | TextUse::LowerCase => false,
     }
 }

@@ -10,13 +10,16 @@ ghost use Rattle.tx_main.specs.Texts.{IsTextAnswered};
 ghost use Rattle.tx_main.specs.Turns as turns;
 ghost use Rattle.tx_main.specs.Meanings.{IsStepped, meaning_of, state_of};
 
+use crate::boxes::{add_copy, add_list};
 use crate::effects::{carry_out, end_text, fail, relax_name};
 use crate::page::{integer, line_end, may_be, ship_params};
 use crate::parts::{Due, OpenText, Phase};
 use crate::state::State;
 use std::alloc::{AllocError, Global};
+use tx_box::Work;
 use tx_command::Taken;
 use tx_expand::{Expanded, Wanted};
+use tx_known::Known;
 use tx_lex::line_text;
 use tx_list::Stack;
 use tx_machine::{Ask, AskKind, Event, Reply};
@@ -40,7 +43,8 @@ fn take_command(alloc: Global, s: &mut State, seen: Seen) -> Result<Event, Alloc
     requires { s.old.phase ≡ Phase.Running }
     ensures { IfOk result (λ event. IsStepped (turns.taking (state_of s.old) seen) s.old event s.new) }
 {
-    match s.scan.feed(&s.table, &mut s.input, seen)? {
+    let known = Known::new(&s.table, &s.lists.nest, s.lists.badness);
+    match s.scan.feed(&known, &mut s.input, seen)? {
         Taken::More => Ok(Event::Went),
         Taken::Wrong(error) => Ok(fail(s, error)),
         Taken::Whole(command) => carry_out(alloc, s, command),
@@ -144,9 +148,8 @@ fn read(alloc: Global, s: &mut State) -> Result<Event, AllocError>
 {
     let wanted = wanted(s);
     let mode = s.scan.mode();
-    let answer = s
-        .expander
-        .turn(alloc, &mut s.input, &s.table, mode, wanted)?;
+    let known = Known::new(&s.table, &s.lists.nest, s.lists.badness);
+    let answer = s.expander.turn(alloc, &mut s.input, &known, mode, wanted)?;
     heed(alloc, s, answer)
 }
 
@@ -184,23 +187,45 @@ fn ship_box(alloc: Global, s: &mut State, shipped: &BoxNode) -> Result<Event, Al
     ship_with(alloc, s, magnification, shipped)
 }
 
+/// What a piece of work costs.
+fn piece_cost(piece: &Due) -> u64
+    ensures { result ≡ turns.piece_cost piece.now }
+{
+    match piece {
+        Due::OpenMain(_) | Due::FileAbsent | Due::FileEnded | Due::MainClosed => 1,
+        Due::Boxes(work) => work.cost(),
+    }
+}
+
 /// What the next piece of work costs.
 fn due_cost(due: &Stack<Due>) -> u64
     ensures { result ≡ turns.due_cost due.now }
 {
     match due.first() {
-        Some(Due::Ship(shipped)) => shipped.count(),
-        _ => 1,
+        Some(piece) => piece_cost(piece),
+        None => 1,
     }
 }
 
-/// What the next turn costs: shipping a box, the box and all nodes that it holds; all else 1.
+/// What the next turn costs: shipping and copying, the nodes that are shipped or copied; all else 1.
 pub fn cost(s: &State) -> u64
     ensures { result ≡ turns.cost (meaning_of s.now) }
 {
     match s.phase {
         Phase::Running => due_cost(&s.due),
         _ => 1,
+    }
+}
+
+/// Copies boxes, or ships one.
+fn work_boxes(alloc: Global, s: &mut State, work: Work) -> Result<Event, AllocError>
+    requires { s.old.phase ≡ Phase.Running }
+    ensures { IfOk result (λ event. IsStepped (turns.works_boxes (state_of s.old) work) s.old event s.new) }
+{
+    match work {
+        Work::Copy(copied, target) => add_copy(alloc, s, target, copied),
+        Work::CopyList(list) => add_list(s, list),
+        Work::Ship(shipped) => ship_box(alloc, s, &shipped),
     }
 }
 
@@ -214,7 +239,7 @@ fn work(alloc: Global, s: &mut State, due: Due) -> Result<Event, AllocError>
         Due::FileAbsent => Ok(fail(s, TexError::FileAbsent)),
         Due::FileEnded => Ok(close(s)),
         Due::MainClosed => Ok(fail(s, TexError::NoEnd)),
-        Due::Ship(shipped) => ship_box(alloc, s, &shipped),
+        Due::Boxes(work) => work_boxes(alloc, s, work),
     }
 }
 

@@ -1,7 +1,7 @@
 use Rattle.std.proofs.Common.{◌≡◌, [], length}
 use Rattle.tx_pending.specs.Elements.{with_tokens}
 use Rattle.tx_main.specs.Effects.{kept_tokens, left_after}
-use Rattle.tx_main.proofs.effects.release_kept.Given as goal
+use Rattle.tx_main.proofs.groups.release_kept.Given as goal
 
 -- the tokens that are kept still stand before those that are in front again
 abbrev pub invariant-loop-token : goal.invariant-loop-token

@@ -1,0 +1,249 @@
+//! The effects of the commands of boxes and lists: a part of the state is handed down to the crate that carries them out, and what
+//! this answers is taken over (TeX: The Program, part 47).
+ghost use Rattle.std.specs.Prelude.{◌≡◌, ◌∷◌, [], Some, IfOk, OnOk};
+ghost use Rattle.tx_box.specs.Building.{reported};
+ghost use Rattle.tx_box.specs.Effects.{told};
+ghost use Rattle.tx_eqtb.specs.Stack.{kind_of};
+ghost use Rattle.tx_node.specs.Nodes.{item_of};
+ghost use Rattle.tx_command.specs.declared.types.Command.{Command};
+ghost use Rattle.tx_main.specs.declared.parts.Phase.{Phase};
+ghost use Rattle.tx_main.specs.Effects as effects;
+ghost use Rattle.tx_main.specs.Meanings.{IsStepped, state_of};
+ghost use Rattle.tx_main.specs.Outcomes.{Leaves};
+ghost use Rattle.tx_main.specs.Turns as turns;
+
+use crate::effects::{end_assignment, fail, finish_assignment};
+use crate::groups::leave_group;
+use crate::page::integer;
+use crate::parts::Due;
+use crate::state::State;
+use std::alloc::{AllocError, Global};
+use tx_assign::is_global;
+use tx_box::{
+    Done, Ended, OpenBox, Target, Work, begin_box, copy_list, copy_register, every_in,
+    greatest_depth, place_copy, take_last, use_register,
+};
+use tx_command::{BoxContext, BoxGoal};
+use tx_eqtb::GroupKind;
+use tx_list::Stack;
+use tx_machine::Event;
+use tx_nest::{append_item, append_rule, remove_item, set_prev_depth};
+use tx_node::{BoxNode, Node, Nodes, Rule};
+use tx_prim::{BoxKind, IntegerParameter, ItemKind, UnboxKind};
+use tx_seen::{Place, TexError};
+
+/// Appends an item that changes nothing else of the list.
+pub fn add(s: &mut State, node: Node) -> Result<Event, AllocError>
+    requires { s.old.phase ≡ Phase.Running }
+    ensures { IfOk result (λ event. IsStepped (effects.adding (state_of s.old) (item_of node)) s.old event s.new) }
+{
+    append_item(s.lists.nest.top(), node)?;
+    Ok(Event::Went)
+}
+
+/// Appends a rule.
+pub fn add_rule(alloc: Global, s: &mut State, rule: Rule) -> Result<Event, AllocError>
+    requires { s.old.phase ≡ Phase.Running }
+    ensures { IfOk result (λ event. IsStepped (effects.ruling (state_of s.old) rule) s.old event s.new) }
+{
+    append_rule(alloc, s.lists.nest.top(), rule)?;
+    Ok(Event::Went)
+}
+
+/// \unpenalty and its kin.
+pub fn remove(s: &mut State, kind: ItemKind) -> Event
+    requires { s.old.phase ≡ Phase.Running }
+    ensures { IsStepped (effects.removing (state_of s.old) kind) s.old result s.new }
+{
+    if remove_item(s.lists.nest.top(), kind) {
+        Event::Went
+    } else {
+        fail(s, TexError::MissingBox)
+    }
+}
+
+/// An assignment to \prevdepth, in sp.
+pub fn set_depth(s: &mut State, depth: i32) -> Result<Event, AllocError>
+    requires { s.old.phase ≡ Phase.Running }
+    ensures { IfOk result (λ event. IsStepped (effects.setting_depth (state_of s.old) depth) s.old event s.new) }
+{
+    set_prev_depth(s.lists.nest.top(), depth);
+    end_assignment(s)
+}
+
+/// Work that a command of boxes left comes first. Its only error is want of memory.
+fn push_work(due: &mut Stack<Due>, work: Option<Work>) -> Result<(), AllocError>
+    ensures { OnOk result (due.new ≡ effects.with_work work due.old) }
+{
+    match work {
+        Some(work) => due.push(Due::Boxes(work)),
+        None => Ok(()),
+    }
+}
+
+/// What a command of boxes left is taken over: work that is due, the mode of the list that is being built now, and these bytes for
+/// the transcript. Its only error is want of memory.
+fn take_over(s: &mut State, work: Option<Work>, report: &[u8]) -> Result<Event, AllocError>
+    requires { s.old.phase ≡ Phase.Running }
+    ensures { IfOk result (λ event. IsStepped (Leaves (effects.carrying (state_of s.old) (record { lists = s.old.lists; table = s.old.table; due = work })) report.now) s.old event s.new) }
+{
+    push_work(&mut s.due, work)?;
+    s.scan.enter(s.lists.nest.innermost().mode());
+    s.said.append(report)?;
+    Ok(Event::Went)
+}
+
+/// What a command of boxes answered is taken over.
+fn carry(s: &mut State, done: Done) -> Result<Event, AllocError>
+    requires { s.old.phase ≡ Phase.Running }
+    ensures { IfOk result (λ event. IsStepped (effects.carried (state_of s.old) (told done s.old.lists s.old.table)) s.old event s.new) }
+{
+    match done {
+        Done::Whole => take_over(s, None, b""),
+        Done::Due(work) => take_over(s, Some(work), b""),
+        Done::Wrong(error) => Ok(fail(s, error)),
+    }
+}
+
+/// What becomes of a box.
+fn target_of(s: &State, context: BoxContext) -> Target
+    ensures { result ≡ effects.target_of (state_of s.now) context }
+{
+    let globaldefs = integer(&s.table, IntegerParameter::Globaldefs);
+    Target {
+        context,
+        global: is_global(globaldefs, s.scan.prefixes().global),
+    }
+}
+
+/// \setbox is an assignment that is done as soon as its box begins or is found. Its only error is want of memory.
+fn settle(s: &mut State, context: BoxContext) -> Result<(), AllocError>
+    ensures state { OnOk result (state_of s.new ≡ effects.settled context (state_of s.old)) }
+    ensures phase { OnOk result (s.new.phase ≡ s.old.phase) }
+    ensures said { OnOk result (s.new.said ≡ s.old.said) }
+{
+    match context {
+        BoxContext::Register(_) => finish_assignment(s),
+        BoxContext::Append(_) | BoxContext::Ship => Ok(()),
+    }
+}
+
+/// A box begins, in which the tokens of \everyhbox or \everyvbox are read first.
+pub fn open_box(
+    alloc: Global,
+    s: &mut State,
+    kind: BoxKind,
+    goal: BoxGoal,
+    context: BoxContext,
+) -> Result<Event, AllocError>
+    requires running { s.old.phase ≡ Phase.Running }
+    ensures { IfOk result (λ event. IsStepped (effects.effect (state_of s.old) (Command.BeginBox kind goal context)) s.old event s.new) }
+{
+    let target = target_of(s, context);
+    let every = s.table.tokens(&Place::Tokens(every_in(kind)))?;
+    s.input.push_list(every, false)?;
+    settle(s, context)?;
+    let open = OpenBox { kind, goal, target };
+    let done = begin_box(alloc, &mut s.lists, &mut s.table, open)?;
+    carry(s, done)
+}
+
+/// \box: the box of a register.
+pub fn use_box(
+    alloc: Global,
+    s: &mut State,
+    number: u8,
+    context: BoxContext,
+) -> Result<Event, AllocError>
+    requires running { s.old.phase ≡ Phase.Running }
+    ensures { IfOk result (λ event. IsStepped (effects.effect (state_of s.old) (Command.UseBox number context)) s.old event s.new) }
+{
+    let target = target_of(s, context);
+    settle(s, context)?;
+    let done = use_register(alloc, &mut s.lists, &mut s.table, target, number)?;
+    carry(s, done)
+}
+
+/// \copy: the box of a register, which keeps it.
+pub fn copy_box(
+    alloc: Global,
+    s: &mut State,
+    number: u8,
+    context: BoxContext,
+) -> Result<Event, AllocError>
+    requires running { s.old.phase ≡ Phase.Running }
+    ensures { IfOk result (λ event. IsStepped (effects.effect (state_of s.old) (Command.CopyBox number context)) s.old event s.new) }
+{
+    let target = target_of(s, context);
+    settle(s, context)?;
+    let done = copy_register(alloc, &mut s.lists, &mut s.table, target, number)?;
+    carry(s, done)
+}
+
+/// \lastbox: the box at the list's end.
+pub fn take_box(alloc: Global, s: &mut State, context: BoxContext) -> Result<Event, AllocError>
+    requires running { s.old.phase ≡ Phase.Running }
+    ensures { IfOk result (λ event. IsStepped (effects.effect (state_of s.old) (Command.LastBox context)) s.old event s.new) }
+{
+    let target = target_of(s, context);
+    settle(s, context)?;
+    let done = take_last(alloc, &mut s.lists, &mut s.table, target)?;
+    carry(s, done)
+}
+
+/// \unhbox and its kin.
+pub fn unbox(s: &mut State, kind: UnboxKind, number: u8) -> Result<Event, AllocError>
+    requires { s.old.phase ≡ Phase.Running }
+    ensures { IfOk result (λ event. IsStepped (effects.effect (state_of s.old) (Command.Unbox kind number)) s.old event s.new) }
+{
+    let done = tx_box::unbox(&mut s.lists, &mut s.table, kind, number)?;
+    carry(s, done)
+}
+
+/// A box's end is taken over, and the transcript's line of it.
+fn finish_box(s: &mut State, ended: Ended) -> Result<Event, AllocError>
+    requires { s.old.phase ≡ Phase.Running }
+    ensures { IfOk result (λ event. IsStepped (effects.boxed (state_of s.old) (reported ended.report (told ended.done s.old.lists s.old.table))) s.old event s.new) }
+{
+    let Ended { done, report } = ended;
+    match done {
+        Done::Whole => take_over(s, None, report.as_slice()),
+        Done::Due(work) => take_over(s, Some(work), report.as_slice()),
+        Done::Wrong(error) => Ok(fail(s, error)),
+    }
+}
+
+/// The end of a box, whose group is of this kind.
+pub fn end_box(alloc: Global, s: &mut State, kind: GroupKind) -> Result<Event, AllocError>
+    requires running { s.old.phase ≡ Phase.Running }
+    requires kind { kind_of s.old.table ≡ Some kind }
+    ensures { IfOk result (λ event. IsStepped (effects.ending_box (state_of s.old)) s.old event s.new) }
+{
+    let most = greatest_depth(&s.table);
+    leave_group(s, kind)?;
+    let ended = tx_box::end_box(alloc, &mut s.lists, &mut s.table, most)?;
+    finish_box(s, ended)
+}
+
+/// A copy goes where it is to go.
+pub fn add_copy(
+    alloc: Global,
+    s: &mut State,
+    target: Target,
+    copied: BoxNode,
+) -> Result<Event, AllocError>
+    requires { s.old.phase ≡ Phase.Running }
+    ensures { IfOk result (λ event. IsStepped (turns.works_boxes (state_of s.old) (Work.Copy copied target)) s.old event s.new) }
+{
+    let done = place_copy(alloc, &mut s.lists, &mut s.table, target, copied)?;
+    carry(s, done)
+}
+
+/// A copied list stands at the end of the one that is being built.
+pub fn add_list(s: &mut State, list: Nodes) -> Result<Event, AllocError>
+    requires { s.old.phase ≡ Phase.Running }
+    ensures { IfOk result (λ event. IsStepped (turns.works_boxes (state_of s.old) (Work.CopyList list)) s.old event s.new) }
+{
+    copy_list(&mut s.lists, list)?;
+    Ok(Event::Went)
+}
