@@ -183,7 +183,7 @@ fn write_tested(
 fn test_fed(alloc: Global, scan: &mut TestScan, code: u8) -> Result<Fed<i64>, AllocError> {
     let seen = seen_of(alloc, code)?;
     match scan.feed(&seen)? {
-        Fed::Need(_) => Ok(scan.give(&Value::Int(5))),
+        Fed::Need(_) => scan.give(&Value::Int(5)),
         settled => Ok(settled),
     }
 }
