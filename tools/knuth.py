@@ -33,11 +33,12 @@ ERRORS = [
     (16, "Incomplete "),
     (17, "File ended while|Forbidden control sequence"),
     (18, r"Missing \{ inserted"),
+    (34, r"You can't use `\S*(lastbox|unkern|unpenalty|unskip)' in vertical|Incompatible list can't be unboxed"),
     (19, "Missing control sequence inserted"),
     (20, "I can't find file"),
     (22, "Parameters must be numbered|You already have nine|Illegal parameter number"),
     (23, r"Missing \S{0,4}endcsname inserted|Extra \S{0,4}endcsname"),
-    (24, "You can't use |Missing [$] inserted"),
+    (24, "You can't use |Missing [$] inserted|Improper .*prevdepth"),
     (32, "Misplaced "),
     (34, "A <box> was supposed"),
     (36, "Emergency stop"),
@@ -66,17 +67,22 @@ def as_knuth(log):
     for line in log.split(b"\n"):
         if line.startswith(b"message "):
             found.append(shown_as_knuth(line[8:]))
+        elif report := re.fullmatch(rb"(overfull|underfull|loose|tight) ([hv])box (\S+)", line):
+            kind, letter, much = (word.decode() for word in report.groups())
+            found.append(f"{kind.capitalize()} \\{letter}box ({much} " if kind == "overfull" else f"{kind.capitalize()} \\{letter}box (badness {much})")
         elif line.startswith(b"missing character "):
             found.append(f"Missing character: There is no {shown_as_knuth(bytes([int(line.split()[2])]))} in font nullfont!")
     return "\n".join(found)
 
 
 def events(log):
-    """What a log says, in order: texts of messages without what is meant to differ, and missing characters."""
+    """What a log says, in order: texts of messages without what is meant to differ, missing characters, and bad boxes."""
     found = []
-    for text, character in re.findall(r"\|\*(.*?)\*\||There is no (\S+| ) in font nullfont!", log, re.S):
+    for text, character, box in re.findall(r"\|\*(.*?)\*\||There is no (\S+| ) in font nullfont!|((?:Over|Under)full \\[hv]box \((?:badness )?\S+|(?:Loose|Tight) \\[hv]box \(badness \d+)", log, re.S):
         if character:
             found.append("missing " + character)
+        elif box:
+            found.append(box.rstrip(")"))
         else:
             text = re.sub(r"\(\./b\.tex|[()]|\[[-.0-9]*\]| |\n", "", text.replace("\\csname\\endcsname", "\\"))
             found.append(re.sub("#+", "#", text))
