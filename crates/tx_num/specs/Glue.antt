@@ -1,5 +1,5 @@
 -- Glue: a width that can stretch and shrink (TeX: The Program, sections 150 and 1239).
-use Rattle.std.specs.Prelude.{ℕ, ◌<◌, ◌≤◌, ◌^◌, ◌==◌, ℤ, ◌+ℤ◌, neg_ℤ, unsigned_abs, nat_lt, if◌then◌else◌}
+use Rattle.std.specs.Prelude.{ℕ, ◌<◌, ◌≤◌, ◌^◌, ◌==◌, ℤ, pos, ◌+ℤ◌, neg_ℤ, unsigned_abs, nat_lt, if◌then◌else◌}
 
 -- what glue is: its natural width, and its stretch and shrink, each with an order, 0 to 3, of infinity
 pub record GlueSpec : Type 0 where
@@ -11,6 +11,10 @@ pub record GlueSpec : Type 0 where
 
 abbrev pub glue_of : ℤ → ℤ → ℕ → ℤ → ℕ → GlueSpec
 glue_of w s o t p = record { width = w; stretch = s; stretch_order = o; shrink = t; shrink_order = p }
+
+-- glue that is no space at all
+abbrev pub zero_glue : GlueSpec
+zero_glue = glue_of (pos 0) (pos 0) 0 (pos 0) 0
 
 -- a size lies within the range of a dimension
 abbrev pub IsDimension : ℤ → Type 0

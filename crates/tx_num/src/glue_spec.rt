@@ -1,9 +1,11 @@
 //! Glue, the white space that stretches and shrinks.
 ghost use Rattle.std.specs.Prelude.{◌≡◌, ◌≤◌, ◌<◌, ◌^◌, ◌+ℤ◌, pos, unsigned_abs, ◌↔◌, IsOk, IfOk};
-ghost use Rattle.tx_num.specs.Glue.{IsDimension, IsGlue, glue_of, joined_elastic, order_of, glue_sum, glue_negated};
+ghost use Rattle.tx_num.specs.Glue.{IsDimension, IsGlue, glue_of, joined_elastic, order_of, glue_sum, glue_negated, zero_glue};
 
 use super::limits::{Overflow, Range};
+use std::alloc::AllocError;
 use std::marker::Model;
+use tx_list::Kept;
 
 /// Glue: a natural width, how far it stretches and how far it shrinks, in sp, the last two each of an order 0 to 3: normal,
 /// fil, fill, filll (TeX: The Program, section 150). Its three sizes are dimensions.
@@ -28,6 +30,17 @@ impl Model for Glue {
     ghost invariant = { λ g. IsGlue (spec_of g) };
 
     ghost inverse = { fields_of };
+}
+
+/// Glue can be kept.
+impl Kept for Glue {
+    fn share(&self) -> Result<Self, AllocError> {
+        Ok(*self)
+    }
+
+    fn same(&self, other: &Self) -> bool {
+        *self == *other
+    }
 }
 
 impl Glue {
@@ -73,7 +86,7 @@ impl Glue {
 
     /// Glue that is no space at all.
     pub fn zero() -> Glue
-        ensures { result ≡ glue_of (pos 0) (pos 0) 0 (pos 0) 0 }
+        ensures { result ≡ zero_glue }
     {
         Glue::new(0, 0, 0, 0, 0)
     }

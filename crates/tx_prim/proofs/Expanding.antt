@@ -4,6 +4,7 @@ use Rattle.tx_prim.specs.declared.expandable.Expandable.{Expandable}
 use Rattle.tx_prim.specs.declared.expandable.Expandable.TheVariants.{ExpandAfter, NoExpand, CsName, Convert, The, Input, EndInput, Test, Word}
 use Rattle.tx_prim.specs.declared.expandable.Conversion.TheVariants as converts
 use Rattle.tx_prim.specs.declared.expandable.Test.TheVariants as tests
+use Rattle.tx_prim.specs.declared.expandable.BoxTest.TheVariants as box
 use Rattle.tx_prim.specs.declared.expandable.CondWord.TheVariants as word
 use Rattle.tx_prim.specs.declared.modes.ModeTest.TheVariants as mode
 use Rattle.std.specs.Str.{bytes_eq}
@@ -32,6 +33,9 @@ found (Test (tests.Mode mode.Vertical)) = refl
 found (Test (tests.Mode mode.Horizontal)) = refl
 found (Test (tests.Mode mode.Math)) = refl
 found (Test (tests.Mode mode.Inner)) = refl
+found (Test (tests.Box box.Void)) = refl
+found (Test (tests.Box box.Horizontal)) = refl
+found (Test (tests.Box box.Vertical)) = refl
 found (Test tests.Same) = refl
 found (Test tests.True) = refl
 found (Test tests.False) = refl

@@ -1,13 +1,13 @@
 -- Each primitive is the first of all that has its name.
 use Rattle.std.proofs.Common.{◌≡◌, ℕ, List, [], ◌∷◌, Some, IfSome, cond, true, false, refl}
 use Rattle.tx_prim.specs.declared.primitive.Primitive.{Primitive}
-use Rattle.tx_prim.specs.declared.primitive.Primitive.TheVariants.{Relax, EndCsName, Par, BeginGroup, EndGroup, Prefix, Let, Shorthand, Arithmetic, Numbered, Integer, Dimension, Tokens, Sized, Rule, Box, Shipout, End, IgnoreSpaces, Interaction, Definition, Text, After, FutureLet, BoxFrom, SetBox, Shift, Unbox, Penalty, Remove, Last, Badness, PrevDepth}
+use Rattle.tx_prim.specs.declared.primitive.Primitive.TheVariants.{Relax, EndCsName, Par, BeginGroup, EndGroup, Prefix, Let, Shorthand, Arithmetic, Numbered, Integer, Dimension, Glue, Tokens, Sized, Rule, Box, Shipout, End, IgnoreSpaces, Interaction, Definition, Text, After, FutureLet, BoxFrom, SetBox, Shift, Unbox, HorizontalGlue, VerticalGlue, Penalty, Remove, Last, Badness, PrevDepth, Leaders}
 use Rattle.tx_prim.specs.declared.family.Prefix.TheVariants.{Global, Long, Outer}
 use Rattle.tx_prim.specs.declared.family.Interaction.TheVariants.{Batch, Nonstop, Scroll, Errorstop}
 use Rattle.tx_prim.specs.declared.family.Operation.TheVariants.{Advance, Multiply, Divide}
-use Rattle.tx_prim.specs.declared.family.Shorthand.TheVariants.{CountRegister, DimenRegister, ToksRegister, Character, MathCharacter}
+use Rattle.tx_prim.specs.declared.family.Shorthand.TheVariants.{CountRegister, DimenRegister, SkipRegister, MuskipRegister, ToksRegister, Character, MathCharacter}
 use Rattle.tx_prim.specs.declared.family.CharacterCode.TheVariants.{LowerCase, UpperCase, SpaceFactor, Math, Delimiter}
-use Rattle.tx_prim.specs.declared.family.Numbered.TheVariants.{Count, Dimen, Toks, Category, Code, Size}
+use Rattle.tx_prim.specs.declared.family.Numbered.TheVariants.{Count, Dimen, Skip, Muskip, Toks, Category, Code, Size}
 use Rattle.tx_prim.specs.declared.family.SizeKind.TheVariants.{Kern}
 use Rattle.tx_prim.specs.declared.family.BoxKind.TheVariants as box
 use Rattle.tx_prim.specs.declared.family.RuleKind.TheVariants as rule
@@ -15,7 +15,9 @@ use Rattle.tx_prim.specs.declared.family.BoxSide.TheVariants as side
 use Rattle.tx_prim.specs.declared.family.BoxSource.TheVariants as source
 use Rattle.tx_prim.specs.declared.family.ShiftKind.TheVariants as shift
 use Rattle.tx_prim.specs.declared.family.UnboxKind.TheVariants as unbox
+use Rattle.tx_prim.specs.declared.family.GlueForm.TheVariants as glue
 use Rattle.tx_prim.specs.declared.family.ItemKind.TheVariants as item
+use Rattle.tx_prim.specs.declared.family.LeadersKind.TheVariants as leaders
 use Rattle.tx_prim.specs.declared.family.DefinitionKind.TheVariants as definition
 use Rattle.tx_prim.specs.declared.family.TextUse.TheVariants as text
 use Rattle.tx_prim.specs.declared.family.AfterKind.TheVariants as after
@@ -23,17 +25,20 @@ use Rattle.tx_prim.specs.declared.integer.IntegerParameter.{IntegerParameter}
 use Rattle.tx_prim.specs.declared.integer.IntegerParameter.TheVariants.{Pretolerance, Tolerance, Hbadness, Vbadness, Linepenalty, Hyphenpenalty, Exhyphenpenalty, Binoppenalty, Relpenalty, Clubpenalty, Widowpenalty, Displaywidowpenalty, Brokenpenalty, Predisplaypenalty, Postdisplaypenalty, Interlinepenalty, Floatingpenalty, Outputpenalty, Doublehyphendemerits, Finalhyphendemerits, Adjdemerits, Looseness, Pausing, Holdinginserts, Tracingonline, Tracingmacros, Tracingstats, Tracingparagraphs, Tracingpages, Tracingoutput, Tracinglostchars, Tracingcommands, Tracingrestores, Language, Uchyph, Lefthyphenmin, Righthyphenmin, Globaldefs, Defaulthyphenchar, Defaultskewchar, Escapechar, Endlinechar, Newlinechar, Maxdeadcycles, Hangafter, Fam, Mag, Delimiterfactor, Time, Day, Month, Year, Showboxbreadth, Showboxdepth, Errorcontextlines}
 use Rattle.tx_prim.specs.declared.dimension.DimensionParameter.{DimensionParameter}
 use Rattle.tx_prim.specs.declared.dimension.DimensionParameter.TheVariants.{Hfuzz, Vfuzz, Overfullrule, Emergencystretch, Hsize, Vsize, Maxdepth, Splitmaxdepth, Boxmaxdepth, Lineskiplimit, Delimitershortfall, Nulldelimiterspace, Scriptspace, Mathsurround, Predisplaysize, Displaywidth, Displayindent, Parindent, Hangindent, Hoffset, Voffset}
+use Rattle.tx_prim.specs.declared.glue.GlueParameter.{GlueParameter}
+use Rattle.tx_prim.specs.declared.glue.GlueParameter.TheVariants.{Baselineskip, Lineskip, Parskip, Abovedisplayskip, Abovedisplayshortskip, Belowdisplayskip, Belowdisplayshortskip, Leftskip, Rightskip, Topskip, Splittopskip, Tabskip, Spaceskip, Xspaceskip, Parfillskip, Thinmuskip, Medmuskip, Thickmuskip}
 use Rattle.tx_prim.specs.declared.tokens.TokenParameter.{TokenParameter}
 use Rattle.tx_prim.specs.declared.tokens.TokenParameter.TheVariants.{Output, Everypar, Everymath, Everydisplay, Everyhbox, Everyvbox, Everyjob, Everycr, Errhelp}
 use Rattle.tx_prim.specs.Integers.{integer_name}
 use Rattle.tx_prim.specs.Dimensions.{dimension_name}
+use Rattle.tx_prim.specs.Glues.{glue_name}
 use Rattle.tx_prim.specs.Tokens.{token_name}
 use Rattle.std.specs.Str.{bytes_eq}
 use Rattle.std.specs.Cmp.Lexicographic.{bytes_decides}
 use Rattle.tx_prim.specs.Table.{all, line_of, name_of, named}
 
 integer-found : (p : IntegerParameter) → named all (name_of (Integer p)) ≡ Some (Integer p)
-unfolding all line_of integer_name dimension_name token_name
+unfolding all line_of integer_name dimension_name glue_name token_name
 integer-found Pretolerance = refl
 integer-found Tolerance = refl
 integer-found Hbadness = refl
@@ -91,7 +96,7 @@ integer-found Showboxdepth = refl
 integer-found Errorcontextlines = refl
 
 dimension-found : (p : DimensionParameter) → named all (name_of (Dimension p)) ≡ Some (Dimension p)
-unfolding all line_of integer_name dimension_name token_name
+unfolding all line_of integer_name dimension_name glue_name token_name
 dimension-found Hfuzz = refl
 dimension-found Vfuzz = refl
 dimension-found Overfullrule = refl
@@ -115,7 +120,7 @@ dimension-found Hoffset = refl
 dimension-found Voffset = refl
 
 token-found : (p : TokenParameter) → named all (name_of (Tokens p)) ≡ Some (Tokens p)
-unfolding all line_of integer_name dimension_name token_name
+unfolding all line_of integer_name dimension_name glue_name token_name
 token-found Output = refl
 token-found Everypar = refl
 token-found Everymath = refl
@@ -126,8 +131,29 @@ token-found Everyjob = refl
 token-found Everycr = refl
 token-found Errhelp = refl
 
+glue-found : (p : GlueParameter) → named all (name_of (Glue p)) ≡ Some (Glue p)
+unfolding all line_of integer_name dimension_name glue_name token_name
+glue-found Baselineskip = refl
+glue-found Lineskip = refl
+glue-found Parskip = refl
+glue-found Abovedisplayskip = refl
+glue-found Abovedisplayshortskip = refl
+glue-found Belowdisplayskip = refl
+glue-found Belowdisplayshortskip = refl
+glue-found Leftskip = refl
+glue-found Rightskip = refl
+glue-found Topskip = refl
+glue-found Splittopskip = refl
+glue-found Tabskip = refl
+glue-found Spaceskip = refl
+glue-found Xspaceskip = refl
+glue-found Parfillskip = refl
+glue-found Thinmuskip = refl
+glue-found Medmuskip = refl
+glue-found Thickmuskip = refl
+
 pub found : (p : Primitive) → named all (name_of p) ≡ Some p
-unfolding all line_of integer_name dimension_name token_name
+unfolding all line_of integer_name dimension_name glue_name token_name
 found Relax = refl
 found EndCsName = refl
 found BeginGroup = refl
@@ -193,6 +219,16 @@ found (Unbox unbox.Horizontal) = refl
 found (Unbox unbox.HorizontalCopy) = refl
 found (Unbox unbox.Vertical) = refl
 found (Unbox unbox.VerticalCopy) = refl
+found (HorizontalGlue glue.Skip) = refl
+found (HorizontalGlue glue.Fil) = refl
+found (HorizontalGlue glue.Fill) = refl
+found (HorizontalGlue glue.Both) = refl
+found (HorizontalGlue glue.Negative) = refl
+found (VerticalGlue glue.Skip) = refl
+found (VerticalGlue glue.Fil) = refl
+found (VerticalGlue glue.Fill) = refl
+found (VerticalGlue glue.Both) = refl
+found (VerticalGlue glue.Negative) = refl
 found Penalty = refl
 found (Remove item.Penalty) = refl
 found (Remove item.Kern) = refl
@@ -203,9 +239,17 @@ found (Last item.Skip) = refl
 found Badness = refl
 found PrevDepth = refl
 found (Text text.Special) = refl
+found (Leaders leaders.Aligned) = refl
+found (Leaders leaders.Centered) = refl
+found (Leaders leaders.Expanded) = refl
+found (Numbered Skip) = refl
+found (Numbered Muskip) = refl
+found (Shorthand SkipRegister) = refl
+found (Shorthand MuskipRegister) = refl
 found (Integer p) = integer-found p
 found (Dimension p) = dimension-found p
 found (Tokens p) = token-found p
+found (Glue p) = glue-found p
 
 -- what is found has the name
 pub has-name : (primitives : List Primitive) (name : List ℕ) → IfSome (named primitives name) (λ p. name_of p ≡ name)

@@ -4,6 +4,7 @@ use Rattle.tx_prim.specs.declared.expandable.Expandable.{Expandable}
 use Rattle.tx_prim.specs.declared.expandable.Expandable.TheVariants.{ExpandAfter, NoExpand, CsName, Convert, The, Input, EndInput, Test, Word}
 use Rattle.tx_prim.specs.declared.expandable.Conversion.TheVariants as converts
 use Rattle.tx_prim.specs.declared.expandable.Test.TheVariants as tests
+use Rattle.tx_prim.specs.declared.expandable.BoxTest.TheVariants as box
 use Rattle.tx_prim.specs.declared.expandable.CondWord.TheVariants as word
 use Rattle.tx_prim.specs.declared.modes.ModeTest.TheVariants as mode
 
@@ -29,6 +30,9 @@ name_of (Test (tests.Mode mode.Vertical)) = codes "ifvmode"
 name_of (Test (tests.Mode mode.Horizontal)) = codes "ifhmode"
 name_of (Test (tests.Mode mode.Math)) = codes "ifmmode"
 name_of (Test (tests.Mode mode.Inner)) = codes "ifinner"
+name_of (Test (tests.Box box.Void)) = codes "ifvoid"
+name_of (Test (tests.Box box.Horizontal)) = codes "ifhbox"
+name_of (Test (tests.Box box.Vertical)) = codes "ifvbox"
 name_of (Test tests.Same) = codes "ifx"
 name_of (Test tests.True) = codes "iftrue"
 name_of (Test tests.False) = codes "iffalse"
@@ -39,7 +43,7 @@ name_of (Word word.Fi) = codes "fi"
 
 -- all expandable primitives
 unfoldable pub all : List Expandable
-all = ExpandAfter ∷ NoExpand ∷ CsName ∷ Convert converts.Token ∷ Convert converts.Number ∷ Convert converts.RomanNumeral ∷ Convert converts.Meaning ∷ Convert converts.JobName ∷ The ∷ Input ∷ EndInput ∷ Test tests.Character ∷ Test tests.Category ∷ Test tests.Number ∷ Test tests.Dimension ∷ Test tests.Odd ∷ Test (tests.Mode mode.Vertical) ∷ Test (tests.Mode mode.Horizontal) ∷ Test (tests.Mode mode.Math) ∷ Test (tests.Mode mode.Inner) ∷ Test tests.Same ∷ Test tests.True ∷ Test tests.False ∷ Test tests.Case ∷ Word word.Else ∷ Word word.Or ∷ Word word.Fi ∷ []
+all = ExpandAfter ∷ NoExpand ∷ CsName ∷ Convert converts.Token ∷ Convert converts.Number ∷ Convert converts.RomanNumeral ∷ Convert converts.Meaning ∷ Convert converts.JobName ∷ The ∷ Input ∷ EndInput ∷ Test tests.Character ∷ Test tests.Category ∷ Test tests.Number ∷ Test tests.Dimension ∷ Test tests.Odd ∷ Test (tests.Mode mode.Vertical) ∷ Test (tests.Mode mode.Horizontal) ∷ Test (tests.Mode mode.Math) ∷ Test (tests.Mode mode.Inner) ∷ Test (tests.Box box.Void) ∷ Test (tests.Box box.Horizontal) ∷ Test (tests.Box box.Vertical) ∷ Test tests.Same ∷ Test tests.True ∷ Test tests.False ∷ Test tests.Case ∷ Word word.Else ∷ Word word.Or ∷ Word word.Fi ∷ []
 
 -- the first one of a list that has a name
 abbrev pub named : List Expandable → List ℕ → Option Expandable

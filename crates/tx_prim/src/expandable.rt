@@ -20,6 +20,17 @@ pub enum Conversion {
     JobName,
 }
 
+/// What a conditional tests of a box register (TeX: The Program, section 505).
+#[derive(Clone, Copy, PartialEq, Eq)]
+pub enum BoxTest {
+    /// \ifvoid: whether it is void.
+    Void,
+    /// \ifhbox: whether it holds a horizontal box.
+    Horizontal,
+    /// \ifvbox: whether it holds a vertical box.
+    Vertical,
+}
+
 /// What a conditional tests (TeX: The Program, section 487).
 #[derive(Clone, Copy, PartialEq, Eq)]
 pub enum Test {
@@ -35,6 +46,8 @@ pub enum Test {
     Odd,
     /// \ifvmode and its kin: the mode.
     Mode(ModeTest),
+    /// \ifvoid and its kin: a box register, whose number follows.
+    Box(BoxTest),
     /// \ifx: whether two tokens have the same meaning.
     Same,
     /// \iftrue and \iffalse.
@@ -76,7 +89,7 @@ pub enum Expandable {
 }
 
 /// All of them, in the order of their table.
-const ALL: [Expandable; 27] = [
+const ALL: [Expandable; 30] = [
     Expandable::ExpandAfter,
     Expandable::NoExpand,
     Expandable::CsName,
@@ -97,6 +110,9 @@ const ALL: [Expandable; 27] = [
     Expandable::Test(Test::Mode(ModeTest::Horizontal)),
     Expandable::Test(Test::Mode(ModeTest::Math)),
     Expandable::Test(Test::Mode(ModeTest::Inner)),
+    Expandable::Test(Test::Box(BoxTest::Void)),
+    Expandable::Test(Test::Box(BoxTest::Horizontal)),
+    Expandable::Test(Test::Box(BoxTest::Vertical)),
     Expandable::Test(Test::Same),
     Expandable::Test(Test::True),
     Expandable::Test(Test::False),
@@ -141,6 +157,9 @@ impl Expandable {
             Expandable::Test(Test::Mode(ModeTest::Horizontal)) => b"ifhmode",
             Expandable::Test(Test::Mode(ModeTest::Math)) => b"ifmmode",
             Expandable::Test(Test::Mode(ModeTest::Inner)) => b"ifinner",
+            Expandable::Test(Test::Box(BoxTest::Void)) => b"ifvoid",
+            Expandable::Test(Test::Box(BoxTest::Horizontal)) => b"ifhbox",
+            Expandable::Test(Test::Box(BoxTest::Vertical)) => b"ifvbox",
             Expandable::Test(Test::Same) => b"ifx",
             Expandable::Test(Test::True) => b"iftrue",
             Expandable::Test(Test::False) => b"iffalse",

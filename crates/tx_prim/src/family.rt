@@ -32,9 +32,11 @@ pub enum Operation {
 /// What a name is made to mean by a number (TeX: The Program, section 1222).
 #[derive(Clone, Copy, PartialEq, Eq)]
 pub enum Shorthand {
-    /// \countdef, \dimendef and \toksdef: a register.
+    /// \countdef, \dimendef, \skipdef, \muskipdef and \toksdef: a register.
     CountRegister,
     DimenRegister,
+    SkipRegister,
+    MuskipRegister,
     ToksRegister,
     /// \chardef: a character.
     Character,
@@ -64,6 +66,10 @@ pub enum Numbered {
     Count,
     /// The registers of \dimen.
     Dimen,
+    /// The registers of \skip.
+    Skip,
+    /// The registers of \muskip.
+    Muskip,
     /// The registers of \toks.
     Toks,
     /// \catcode of a character.
@@ -180,6 +186,21 @@ pub enum UnboxKind {
     VerticalCopy,
 }
 
+/// Which glue is appended (TeX: The Program, section 1058).
+#[derive(Clone, Copy, PartialEq, Eq)]
+pub enum GlueForm {
+    /// \hskip and \vskip: glue that follows.
+    Skip,
+    /// \hfil and \vfil: 0pt plus 1fil.
+    Fil,
+    /// \hfill and \vfill: 0pt plus 1fill.
+    Fill,
+    /// \hss and \vss: 0pt plus 1fil minus 1fil.
+    Both,
+    /// \hfilneg and \vfilneg: 0pt plus -1fil.
+    Negative,
+}
+
 /// Items of lists that commands take away again and whose sizes they read (The TeXbook, chapter 24).
 #[derive(Clone, Copy, PartialEq, Eq)]
 pub enum ItemKind {
@@ -189,4 +210,15 @@ pub enum ItemKind {
     Kern,
     /// \unskip and \lastskip: glue, leaders too.
     Skip,
+}
+
+/// How the copies of leaders are spread (TeX: The Program, section 149).
+#[derive(Clone, Copy, PartialEq, Eq)]
+pub enum LeadersKind {
+    /// \leaders.
+    Aligned,
+    /// \cleaders.
+    Centered,
+    /// \xleaders.
+    Expanded,
 }

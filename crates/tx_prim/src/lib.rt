@@ -4,23 +4,26 @@
 //! Proved: each primitive's name and modes are those of one table, and the name leads back to it. Only tested: that the
 //! table is Knuth's, against `tex -ini`.
 //!
-//! Read `modes`, `family`, `integer`, `dimension` and `tokens`, then `primitive`, and `expandable`, those that are expanded.
+//! Read `modes`, `family`, `integer`, `dimension`, `glue` and `tokens`, then `primitive`, and `expandable`, those that are expanded.
 #![tactic(auto)]
 
 mod dimension;
 mod expandable;
 mod family;
+mod glue;
 mod integer;
 mod modes;
 mod primitive;
 mod tokens;
 
 pub use dimension::DimensionParameter;
-pub use expandable::{CondWord, Conversion, Expandable, Test};
+pub use expandable::{BoxTest, CondWord, Conversion, Expandable, Test};
 pub use family::{
-    AfterKind, BoxKind, BoxSide, BoxSource, CharacterCode, DefinitionKind, Interaction, ItemKind,
-    Numbered, Operation, Prefix, RuleKind, ShiftKind, Shorthand, SizeKind, TextUse, UnboxKind,
+    AfterKind, BoxKind, BoxSide, BoxSource, CharacterCode, DefinitionKind, GlueForm, Interaction,
+    ItemKind, LeadersKind, Numbered, Operation, Prefix, RuleKind, ShiftKind, Shorthand, SizeKind,
+    TextUse, UnboxKind,
 };
+pub use glue::GlueParameter;
 pub use integer::{IntegerParameter, Moment};
 pub use modes::{Mode, ModeTest, Modes, Standing};
 pub use primitive::Primitive;

@@ -5,9 +5,11 @@ ghost use Rattle.tx_prim.specs.Table.{all, modes_of, name_of, named};
 
 use crate::dimension::DimensionParameter;
 use crate::family::{
-    AfterKind, BoxKind, BoxSide, BoxSource, CharacterCode, DefinitionKind, Interaction, ItemKind,
-    Numbered, Operation, Prefix, RuleKind, ShiftKind, Shorthand, SizeKind, TextUse, UnboxKind,
+    AfterKind, BoxKind, BoxSide, BoxSource, CharacterCode, DefinitionKind, GlueForm, Interaction,
+    ItemKind, LeadersKind, Numbered, Operation, Prefix, RuleKind, ShiftKind, Shorthand, SizeKind,
+    TextUse, UnboxKind,
 };
+use crate::glue::GlueParameter;
 use crate::integer::IntegerParameter;
 use crate::modes::Modes;
 use crate::tokens::TokenParameter;
@@ -38,6 +40,7 @@ pub enum Primitive {
     /// A parameter.
     Integer(IntegerParameter),
     Dimension(DimensionParameter),
+    Glue(GlueParameter),
     Tokens(TokenParameter),
     /// What takes a dimension, as \kern.
     Sized(SizeKind),
@@ -69,6 +72,10 @@ pub enum Primitive {
     Shift(ShiftKind),
     /// What gives a box's list to the list around, as \unhbox.
     Unbox(UnboxKind),
+    /// Glue of horizontal lists, as \hskip.
+    HorizontalGlue(GlueForm),
+    /// Glue of vertical lists, as \vskip.
+    VerticalGlue(GlueForm),
     /// \penalty.
     Penalty,
     /// What takes the last item away, as \unskip.
@@ -79,10 +86,12 @@ pub enum Primitive {
     Badness,
     /// \prevdepth.
     PrevDepth,
+    /// Leaders, as \leaders.
+    Leaders(LeadersKind),
 }
 
 /// All primitives, in the order of their table.
-const ALL: [Primitive; 160] = [
+const ALL: [Primitive; 195] = [
     Primitive::Relax,
     Primitive::EndCsName,
     Primitive::BeginGroup,
@@ -148,6 +157,16 @@ const ALL: [Primitive; 160] = [
     Primitive::Unbox(UnboxKind::HorizontalCopy),
     Primitive::Unbox(UnboxKind::Vertical),
     Primitive::Unbox(UnboxKind::VerticalCopy),
+    Primitive::HorizontalGlue(GlueForm::Skip),
+    Primitive::HorizontalGlue(GlueForm::Fil),
+    Primitive::HorizontalGlue(GlueForm::Fill),
+    Primitive::HorizontalGlue(GlueForm::Both),
+    Primitive::HorizontalGlue(GlueForm::Negative),
+    Primitive::VerticalGlue(GlueForm::Skip),
+    Primitive::VerticalGlue(GlueForm::Fil),
+    Primitive::VerticalGlue(GlueForm::Fill),
+    Primitive::VerticalGlue(GlueForm::Both),
+    Primitive::VerticalGlue(GlueForm::Negative),
     Primitive::Penalty,
     Primitive::Remove(ItemKind::Penalty),
     Primitive::Remove(ItemKind::Kern),
@@ -158,6 +177,13 @@ const ALL: [Primitive; 160] = [
     Primitive::Badness,
     Primitive::PrevDepth,
     Primitive::Text(TextUse::Special),
+    Primitive::Leaders(LeadersKind::Aligned),
+    Primitive::Leaders(LeadersKind::Centered),
+    Primitive::Leaders(LeadersKind::Expanded),
+    Primitive::Numbered(Numbered::Skip),
+    Primitive::Numbered(Numbered::Muskip),
+    Primitive::Shorthand(Shorthand::SkipRegister),
+    Primitive::Shorthand(Shorthand::MuskipRegister),
     Primitive::Integer(IntegerParameter::Pretolerance),
     Primitive::Integer(IntegerParameter::Tolerance),
     Primitive::Integer(IntegerParameter::Hbadness),
@@ -243,6 +269,24 @@ const ALL: [Primitive; 160] = [
     Primitive::Tokens(TokenParameter::Everyjob),
     Primitive::Tokens(TokenParameter::Everycr),
     Primitive::Tokens(TokenParameter::Errhelp),
+    Primitive::Glue(GlueParameter::Baselineskip),
+    Primitive::Glue(GlueParameter::Lineskip),
+    Primitive::Glue(GlueParameter::Parskip),
+    Primitive::Glue(GlueParameter::Abovedisplayskip),
+    Primitive::Glue(GlueParameter::Abovedisplayshortskip),
+    Primitive::Glue(GlueParameter::Belowdisplayskip),
+    Primitive::Glue(GlueParameter::Belowdisplayshortskip),
+    Primitive::Glue(GlueParameter::Leftskip),
+    Primitive::Glue(GlueParameter::Rightskip),
+    Primitive::Glue(GlueParameter::Topskip),
+    Primitive::Glue(GlueParameter::Splittopskip),
+    Primitive::Glue(GlueParameter::Tabskip),
+    Primitive::Glue(GlueParameter::Spaceskip),
+    Primitive::Glue(GlueParameter::Xspaceskip),
+    Primitive::Glue(GlueParameter::Parfillskip),
+    Primitive::Glue(GlueParameter::Thinmuskip),
+    Primitive::Glue(GlueParameter::Medmuskip),
+    Primitive::Glue(GlueParameter::Thickmuskip),
 ];
 
 impl Primitive {
@@ -325,6 +369,16 @@ impl Primitive {
             Primitive::Unbox(UnboxKind::HorizontalCopy) => b"unhcopy",
             Primitive::Unbox(UnboxKind::Vertical) => b"unvbox",
             Primitive::Unbox(UnboxKind::VerticalCopy) => b"unvcopy",
+            Primitive::HorizontalGlue(GlueForm::Skip) => b"hskip",
+            Primitive::HorizontalGlue(GlueForm::Fil) => b"hfil",
+            Primitive::HorizontalGlue(GlueForm::Fill) => b"hfill",
+            Primitive::HorizontalGlue(GlueForm::Both) => b"hss",
+            Primitive::HorizontalGlue(GlueForm::Negative) => b"hfilneg",
+            Primitive::VerticalGlue(GlueForm::Skip) => b"vskip",
+            Primitive::VerticalGlue(GlueForm::Fil) => b"vfil",
+            Primitive::VerticalGlue(GlueForm::Fill) => b"vfill",
+            Primitive::VerticalGlue(GlueForm::Both) => b"vss",
+            Primitive::VerticalGlue(GlueForm::Negative) => b"vfilneg",
             Primitive::Penalty => b"penalty",
             Primitive::Remove(ItemKind::Penalty) => b"unpenalty",
             Primitive::Remove(ItemKind::Kern) => b"unkern",
@@ -335,9 +389,17 @@ impl Primitive {
             Primitive::Badness => b"badness",
             Primitive::PrevDepth => b"prevdepth",
             Primitive::Text(TextUse::Special) => b"special",
+            Primitive::Leaders(LeadersKind::Aligned) => b"leaders",
+            Primitive::Leaders(LeadersKind::Centered) => b"cleaders",
+            Primitive::Leaders(LeadersKind::Expanded) => b"xleaders",
+            Primitive::Numbered(Numbered::Skip) => b"skip",
+            Primitive::Numbered(Numbered::Muskip) => b"muskip",
+            Primitive::Shorthand(Shorthand::SkipRegister) => b"skipdef",
+            Primitive::Shorthand(Shorthand::MuskipRegister) => b"muskipdef",
             Primitive::Integer(parameter) => parameter.name(),
             Primitive::Dimension(parameter) => parameter.name(),
             Primitive::Tokens(parameter) => parameter.name(),
+            Primitive::Glue(parameter) => parameter.name(),
         }
     }
 
@@ -352,12 +414,13 @@ impl Primitive {
             Primitive::Prefix(_) | Primitive::Let | Primitive::Shorthand(_) => Modes::All,
             Primitive::Arithmetic(_) | Primitive::Numbered(_) => Modes::All,
             Primitive::Integer(_) | Primitive::Dimension(_) | Primitive::Tokens(_) => Modes::All,
+            Primitive::Glue(_) => Modes::All,
             Primitive::IgnoreSpaces | Primitive::Interaction(_) => Modes::All,
             Primitive::Definition(_) | Primitive::Text(_) => Modes::All,
             Primitive::After(_) | Primitive::FutureLet => Modes::All,
             Primitive::Sized(_) | Primitive::Box(_) | Primitive::Shipout => Modes::All,
             Primitive::BoxFrom(_) | Primitive::SetBox => Modes::All,
-            Primitive::Penalty | Primitive::Remove(_) => Modes::All,
+            Primitive::Penalty | Primitive::Remove(_) | Primitive::Leaders(_) => Modes::All,
             Primitive::Last(_) | Primitive::Badness => Modes::All,
             Primitive::Shift(ShiftKind::Raise | ShiftKind::Lower) => Modes::OutsideVertical,
             Primitive::Shift(ShiftKind::Left | ShiftKind::Right) => Modes::OnlyVertical,
@@ -366,6 +429,8 @@ impl Primitive {
                 Modes::NotVertical
             }
             Primitive::Unbox(UnboxKind::Vertical | UnboxKind::VerticalCopy) => Modes::InVertical,
+            Primitive::HorizontalGlue(_) => Modes::NotVertical,
+            Primitive::VerticalGlue(_) => Modes::InVertical,
             Primitive::Rule(RuleKind::Horizontal) => Modes::InVertical,
             Primitive::Rule(RuleKind::Vertical) => Modes::NotVertical,
             Primitive::Par => Modes::NotMath,
