@@ -1,4 +1,5 @@
 pub mod Texts
 pub mod Numerals
+pub mod Glues
 pub mod Jobs
 pub mod Meanings

@@ -15,5 +15,5 @@ mod texts;
 
 pub use jobs::push_job_name;
 pub use meanings::push_meaning;
-pub use numerals::{push_number, push_roman, push_size};
+pub use numerals::{push_glue, push_number, push_roman, push_size};
 pub use texts::{push_string, push_text};

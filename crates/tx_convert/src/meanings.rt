@@ -138,6 +138,8 @@ fn put_meaning(
         Meaning::MathNumber(number) => put_hexadecimal(alloc, text, escape, b"mathchar", *number),
         Meaning::CountRegister(number) => put_register(text, escape, b"count", *number),
         Meaning::DimenRegister(number) => put_register(text, escape, b"dimen", *number),
+        Meaning::SkipRegister(number) => put_register(text, escape, b"skip", *number),
+        Meaning::MuskipRegister(number) => put_register(text, escape, b"muskip", *number),
         Meaning::ToksRegister(number) => put_register(text, escape, b"toks", *number),
         Meaning::Expandable(expandable) => put_escaped(text, escape, expandable.name()),
         Meaning::Macro(shown) => put_macro(text, escape, codes, shown),

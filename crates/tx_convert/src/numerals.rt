@@ -1,12 +1,14 @@
-//! \number, \romannumeral, and \the of numbers and sizes.
+//! \number, \romannumeral, and \the of numbers, sizes and glue.
 ghost use Rattle.std.specs.Prelude.{◌≡◌, ◌++◌, ◌<◌, OnOk, codes, replicate};
 ghost use Rattle.tx_convert.specs.Numerals.{number_text, roman_digit, roman, roman_text, size_text};
+ghost use Rattle.tx_convert.specs.Glues as glues;
 ghost use Rattle.tx_convert.specs.Texts.{as_tokens};
 
 use crate::texts::{push_code, push_text};
 use itoa::Buffer;
 use std::alloc::{AllocError, Global};
-use tx_num::scaled_text;
+use tx_bytes::Bytes;
+use tx_num::{Glue, scaled_text};
 use tx_toklist::Toks;
 
 /// Puts an integer in decimal digits behind the tokens, with `-` before it where it is negative (TeX: The Program, section 65).
@@ -33,6 +35,83 @@ fn push_points(tokens: &mut Toks, points: &[u8]) -> Result<(), AllocError>
 {
     push_text(tokens, points)?;
     push_text(tokens, b"pt")
+}
+
+/// The unit in which a stretch or a shrink of this order is told: that of the width, or an infinite one.
+fn unit_of(mu: bool, order: u8) -> &'static [u8]
+    ensures { result.now ≡ glues.unit_of mu order }
+{
+    match order {
+        0 => { if mu { b"mu" } else { b"pt" } }
+        1 => b"fil",
+        2 => b"fill",
+        _ => b"filll",
+    }
+}
+
+/// Puts a size with its unit at the end. Its only error is want of memory.
+fn put_size(
+    alloc: Global,
+    text: &mut Bytes,
+    size: i64,
+    mu: bool,
+    order: u8,
+) -> Result<(), AllocError>
+    ensures { OnOk result (text.new ≡ text.old ++ glues.told mu size order) }
+{
+    let digits = scaled_text(alloc, size)?;
+    put_told(text, digits.as_slice(), unit_of(mu, order))
+}
+
+/// Puts digits and a unit behind them at the end. Its only error is want of memory.
+fn put_told(text: &mut Bytes, digits: &[u8], unit: &[u8]) -> Result<(), AllocError>
+    ensures { OnOk result (text.new ≡ text.old ++ (digits.now ++ unit.now)) }
+{
+    text.append(digits)?;
+    text.append(unit)
+}
+
+/// Puts a stretch or a shrink with the word before it at the end, unless there is nothing of it. Its only error is want of memory.
+fn put_elastic(
+    alloc: Global,
+    text: &mut Bytes,
+    word: &[u8],
+    size: i64,
+    mu: bool,
+    order: u8,
+) -> Result<(), AllocError>
+    ensures { OnOk result (text.new ≡ text.old ++ glues.elastic_text word.now mu size order) }
+{
+    if size == 0 {
+        return Ok(());
+    }
+    text.append(word)?;
+    put_size(alloc, text, size, mu, order)
+}
+
+/// Puts glue behind the tokens, told in mu or in points (TeX: The Program, sections 177 and 178). Its only error is want of memory.
+pub fn push_glue(alloc: Global, tokens: &mut Toks, glue: &Glue, mu: bool) -> Result<(), AllocError>
+    ensures { OnOk result (tokens.new ≡ tokens.old ++ as_tokens (glues.glue_text mu glue.now)) }
+{
+    let mut text = Bytes::new(alloc);
+    put_size(alloc, &mut text, glue.width(), mu, 0)?;
+    put_elastic(
+        alloc,
+        &mut text,
+        b" plus ",
+        glue.stretch(),
+        mu,
+        glue.stretch_order(),
+    )?;
+    put_elastic(
+        alloc,
+        &mut text,
+        b" minus ",
+        glue.shrink(),
+        mu,
+        glue.shrink_order(),
+    )?;
+    push_text(tokens, text.as_slice())
 }
 
 /// Puts a character behind the tokens so many times. Its only error is want of memory.

@@ -2,6 +2,9 @@
 
 use crate::error::TexError;
 use crate::place::Place;
+use std::alloc::AllocError;
+use tx_list::Kept;
+use tx_num::Glue;
 
 /// How the next token is wanted.
 #[derive(Clone, Copy, PartialEq, Eq)]
@@ -15,7 +18,7 @@ pub enum Want {
 /// What a scan needs that only its caller knows.
 #[derive(Drop)]
 pub enum Kind {
-    /// The number that stands at this place; a size counts in scaled points.
+    /// What stands at this place.
     Quantity(Place),
 }
 
@@ -26,10 +29,35 @@ pub enum Value {
     Int(i64),
     /// A size, in scaled points.
     Dimen(i64),
+    /// Glue.
+    Glue(Glue),
+    /// Glue that is told in mu.
+    Muglue(Glue),
+    /// The magnification, which may be used, and is from now on.
+    Magnification(u16),
     /// Yes or no.
     Flag(bool),
-    /// Nothing: the mode has no such quantity.
+    /// Nothing: the mode has no such quantity, or it may not be used.
     Absent,
+}
+
+impl Kept for Value {
+    fn share(&self) -> Result<Self, AllocError> {
+        Ok(*self)
+    }
+
+    fn same(&self, other: &Self) -> bool {
+        match (self, other) {
+            (Value::Int(one), Value::Int(other)) => one == other,
+            (Value::Dimen(one), Value::Dimen(other)) => one == other,
+            (Value::Glue(one), Value::Glue(other)) => one.same(other),
+            (Value::Muglue(one), Value::Muglue(other)) => one.same(other),
+            (Value::Magnification(one), Value::Magnification(other)) => one == other,
+            (Value::Flag(one), Value::Flag(other)) => one == other,
+            (Value::Absent, Value::Absent) => true,
+            _ => false,
+        }
+    }
 }
 
 /// The answer to one more token or value.

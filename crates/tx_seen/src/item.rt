@@ -1,4 +1,6 @@
 //! What a scan takes.
+ghost use Rattle.std.specs.Prelude.{◌≡◌};
+ghost use Rattle.tx_seen.specs.Magnified.{magnification_of};
 
 use crate::fed::Value;
 use crate::seen::Seen;
@@ -10,6 +12,20 @@ use tx_list::Kept;
 pub enum Item {
     Took(Seen),
     Gave(Value),
+}
+
+impl Item {
+    /// The magnification, where this is it.
+    pub fn magnification(&self) -> Option<u16>
+        ensures { result ≡ magnification_of self.now }
+    {
+        match self {
+            Item::Gave(Value::Magnification(magnification)) => Some(*magnification),
+            Item::Gave(Value::Int(_) | Value::Dimen(_) | Value::Glue(_) | Value::Muglue(_)) => None,
+            Item::Gave(Value::Flag(_) | Value::Absent) => None,
+            Item::Took(_) => None,
+        }
+    }
 }
 
 /// A clone is the same item. Its only error is that no more owners of a name can be counted.
@@ -34,7 +50,7 @@ impl Kept for Item {
     fn same(&self, other: &Self) -> bool {
         match (self, other) {
             (Item::Took(one), Item::Took(other)) => one.same(other),
-            (Item::Gave(one), Item::Gave(other)) => one == other,
+            (Item::Gave(one), Item::Gave(other)) => one.same(other),
             _ => false,
         }
     }

@@ -24,6 +24,10 @@ pub enum Meaning {
     CountRegister(u8),
     /// A register of \dimen, by \dimendef.
     DimenRegister(u8),
+    /// A register of \skip, by \skipdef.
+    SkipRegister(u8),
+    /// A register of \muskip, by \muskipdef.
+    MuskipRegister(u8),
     /// A register of \toks, by \toksdef.
     ToksRegister(u8),
     /// A primitive that is expanded.
@@ -48,6 +52,8 @@ impl Clone for Meaning {
             Meaning::MathNumber(number) => Ok(Meaning::MathNumber(*number)),
             Meaning::CountRegister(number) => Ok(Meaning::CountRegister(*number)),
             Meaning::DimenRegister(number) => Ok(Meaning::DimenRegister(*number)),
+            Meaning::SkipRegister(number) => Ok(Meaning::SkipRegister(*number)),
+            Meaning::MuskipRegister(number) => Ok(Meaning::MuskipRegister(*number)),
             Meaning::ToksRegister(number) => Ok(Meaning::ToksRegister(*number)),
             Meaning::Expandable(expandable) => Ok(Meaning::Expandable(*expandable)),
             Meaning::Macro(shared) => Ok(Meaning::Macro(shared.share()?)),
@@ -72,6 +78,8 @@ impl Kept for Meaning {
             (Meaning::MathNumber(one), Meaning::MathNumber(other)) => one == other,
             (Meaning::CountRegister(one), Meaning::CountRegister(other)) => one == other,
             (Meaning::DimenRegister(one), Meaning::DimenRegister(other)) => one == other,
+            (Meaning::SkipRegister(one), Meaning::SkipRegister(other)) => one == other,
+            (Meaning::MuskipRegister(one), Meaning::MuskipRegister(other)) => one == other,
             (Meaning::ToksRegister(one), Meaning::ToksRegister(other)) => one == other,
             (Meaning::Expandable(one), Meaning::Expandable(other)) => one == other,
             (Meaning::Macro(one), Meaning::Macro(other)) => one.same(other),

@@ -1,14 +1,14 @@
 //! Places of the table.
 ghost use Rattle.std.specs.Prelude.{◌≡◌};
-ghost use Rattle.tx_seen.specs.Places.{is_list, is_size, place_of};
+ghost use Rattle.tx_seen.specs.Places.{has_size, is_glue, is_list, is_muglue, is_size, place_of};
 
 use crate::meaning::same_primitive;
 use std::alloc::AllocError;
 use tx_char::ControlName;
 use tx_list::Kept;
 use tx_prim::{
-    BoxSide, CharacterCode, DimensionParameter, IntegerParameter, ItemKind, Numbered, Primitive,
-    TokenParameter,
+    BoxSide, BoxTest, CharacterCode, DimensionParameter, GlueParameter, IntegerParameter, ItemKind,
+    Numbered, Primitive, TokenParameter,
 };
 
 /// A place of the table (TeX: The Program, part 17).
@@ -22,6 +22,10 @@ pub enum Place {
     Count(u8),
     /// A register of \dimen.
     Dimen(u8),
+    /// A register of \skip.
+    Skip(u8),
+    /// A register of \muskip.
+    Muskip(u8),
     /// A register of \toks.
     Toks(u8),
     /// The category of a character.
@@ -32,18 +36,24 @@ pub enum Place {
     Integer(IntegerParameter),
     /// A dimension parameter.
     Dimension(DimensionParameter),
+    /// A glue parameter.
+    Glue(GlueParameter),
     /// A parameter that is a list of tokens.
     Tokens(TokenParameter),
     /// A box register.
     Box(u8),
     /// \wd, \ht or \dp of a box register.
     BoxSize(BoxSide, u8),
+    /// What \ifvoid and its kin test of a box register.
+    BoxTest(BoxTest, u8),
     /// \lastpenalty, \lastkern or \lastskip, of the list that is being built, and no place of the table.
     Last(ItemKind),
     /// \badness of the box that was packed last, and no place of the table either.
     Badness,
     /// \prevdepth of the list that is being built.
     PrevDepth,
+    /// \mag where `true` stands before a unit (TeX: The Program, section 457).
+    Magnification,
 }
 
 /// A clone is the same place, and shares its name. Its only error is that no more owners of a name can be counted.
@@ -56,17 +66,22 @@ impl Clone for Place {
             Place::Active(code) => Ok(Place::Active(*code)),
             Place::Count(number) => Ok(Place::Count(*number)),
             Place::Dimen(number) => Ok(Place::Dimen(*number)),
+            Place::Skip(number) => Ok(Place::Skip(*number)),
+            Place::Muskip(number) => Ok(Place::Muskip(*number)),
             Place::Toks(number) => Ok(Place::Toks(*number)),
             Place::Category(code) => Ok(Place::Category(*code)),
             Place::Code(kind, code) => Ok(Place::Code(*kind, *code)),
             Place::Integer(parameter) => Ok(Place::Integer(*parameter)),
             Place::Dimension(parameter) => Ok(Place::Dimension(*parameter)),
+            Place::Glue(parameter) => Ok(Place::Glue(*parameter)),
             Place::Tokens(parameter) => Ok(Place::Tokens(*parameter)),
             Place::Box(number) => Ok(Place::Box(*number)),
             Place::BoxSize(side, number) => Ok(Place::BoxSize(*side, *number)),
+            Place::BoxTest(test, number) => Ok(Place::BoxTest(*test, *number)),
             Place::Last(kind) => Ok(Place::Last(*kind)),
             Place::Badness => Ok(Place::Badness),
             Place::PrevDepth => Ok(Place::PrevDepth),
+            Place::Magnification => Ok(Place::Magnification),
         }
     }
 }
@@ -82,6 +97,8 @@ impl Kept for Place {
             (Place::Active(one), Place::Active(other)) => one == other,
             (Place::Count(one), Place::Count(other)) => one == other,
             (Place::Dimen(one), Place::Dimen(other)) => one == other,
+            (Place::Skip(one), Place::Skip(other)) => one == other,
+            (Place::Muskip(one), Place::Muskip(other)) => one == other,
             (Place::Toks(one), Place::Toks(other)) => one == other,
             (Place::Category(one), Place::Category(other)) => one == other,
             (Place::Code(kind, one), Place::Code(also, other)) => kind == also && one == other,
@@ -90,13 +107,17 @@ impl Kept for Place {
                 Primitive::Integer(*other),
             ),
             (Place::Dimension(one), Place::Dimension(other)) => one == other,
+            (Place::Glue(one), Place::Glue(other)) => one == other,
             (Place::Tokens(one), Place::Tokens(other)) => one == other,
             (Place::Box(one), Place::Box(other)) => one == other,
             (Place::BoxSize(side, one), Place::BoxSize(also, other)) => side == also
                 && one == other,
+            (Place::BoxTest(test, one), Place::BoxTest(also, other)) => test == also
+                && one == other,
             (Place::Last(one), Place::Last(other)) => one == other,
             (Place::Badness, Place::Badness) => true,
             (Place::PrevDepth, Place::PrevDepth) => true,
+            (Place::Magnification, Place::Magnification) => true,
             _ => false,
         }
     }
@@ -110,6 +131,8 @@ impl Place {
         match kind {
             Numbered::Count => Place::Count(number),
             Numbered::Dimen => Place::Dimen(number),
+            Numbered::Skip => Place::Skip(number),
+            Numbered::Muskip => Place::Muskip(number),
             Numbered::Toks => Place::Toks(number),
             Numbered::Category => Place::Category(number),
             Numbered::Code(code) => Place::Code(code, number),
@@ -117,17 +140,58 @@ impl Place {
         }
     }
 
-    /// Whether a size stands there, and no number.
+    /// Whether a size stands there.
     pub fn is_size(&self) -> bool
         ensures { result ≡ is_size self.now }
     {
         match self {
             Place::Dimen(_) | Place::Dimension(_) | Place::BoxSize(_, _) => true,
-            Place::Last(ItemKind::Kern | ItemKind::Skip) | Place::PrevDepth => true,
-            Place::Last(ItemKind::Penalty) | Place::Badness | Place::Box(_) => false,
+            Place::Last(ItemKind::Kern) | Place::PrevDepth => true,
+            Place::Skip(_) | Place::Muskip(_) | Place::Glue(_) => false,
+            Place::Last(ItemKind::Penalty | ItemKind::Skip) | Place::Badness => false,
             Place::Name(_) | Place::Active(_) | Place::Count(_) | Place::Toks(_) => false,
             Place::Category(_) | Place::Code(_, _) | Place::Integer(_) | Place::Tokens(_) => false,
+            Place::Box(_) | Place::BoxTest(_, _) | Place::Magnification => false,
         }
+    }
+
+    /// Whether glue stands there that isn't told in mu.
+    pub fn is_glue(&self) -> bool
+        ensures { result ≡ is_glue self.now }
+    {
+        match self {
+            Place::Skip(_) | Place::Last(ItemKind::Skip) => true,
+            Place::Glue(parameter) => !parameter.is_in_mu(),
+            Place::Muskip(_) | Place::Dimen(_) | Place::Dimension(_) | Place::BoxSize(_, _) => {
+                false
+            }
+            Place::Last(ItemKind::Penalty | ItemKind::Kern) | Place::PrevDepth => false,
+            Place::Name(_) | Place::Active(_) | Place::Count(_) | Place::Toks(_) => false,
+            Place::Category(_) | Place::Code(_, _) | Place::Integer(_) | Place::Tokens(_) => false,
+            Place::Box(_) | Place::BoxTest(_, _) | Place::Badness | Place::Magnification => false,
+        }
+    }
+
+    /// Whether glue stands there that is told in mu.
+    pub fn is_muglue(&self) -> bool
+        ensures { result ≡ is_muglue self.now }
+    {
+        match self {
+            Place::Muskip(_) => true,
+            Place::Glue(parameter) => parameter.is_in_mu(),
+            Place::Skip(_) | Place::Dimen(_) | Place::Dimension(_) | Place::BoxSize(_, _) => false,
+            Place::Last(_) | Place::PrevDepth => false,
+            Place::Name(_) | Place::Active(_) | Place::Count(_) | Place::Toks(_) => false,
+            Place::Category(_) | Place::Code(_, _) | Place::Integer(_) | Place::Tokens(_) => false,
+            Place::Box(_) | Place::BoxTest(_, _) | Place::Badness | Place::Magnification => false,
+        }
+    }
+
+    /// Whether what stands there is a size or has one, as glue has a width.
+    pub fn has_size(&self) -> bool
+        ensures { result ≡ has_size self.now }
+    {
+        self.is_size() || self.is_glue() || self.is_muglue()
     }
 
     /// Whether a list of tokens stands there.

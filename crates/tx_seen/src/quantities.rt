@@ -11,7 +11,7 @@ pub trait Quantities {
     /// The value at a place.
     ghost value_at: { Self → Place → Value };
 
-    /// The number that stands at a place; a size counts in scaled points.
+    /// What stands at a place.
     fn quantity(&self, place: &Place) -> Value
         ensures { result ≡ value_at self.now place.now };
 }
