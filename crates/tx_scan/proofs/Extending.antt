@@ -7,7 +7,7 @@ use Rattle.tx_seen.specs.declared.seen.Seen.{Seen}
 use Rattle.tx_seen.specs.declared.meaning.Meaning.TheVariants as meaning
 use Rattle.tx_seen.specs.declared.place.Place.{Place}
 use Rattle.tx_seen.specs.declared.fed.Want.{Want}
-use Rattle.tx_seen.specs.declared.fed.Value.TheVariants.{Int, Dimen, Flag, Absent}
+use Rattle.tx_seen.specs.declared.fed.Value.TheVariants.{Int, Dimen, Glue, Muglue, Magnification, Flag, Absent}
 use Rattle.tx_seen.specs.Seen.{is_undefined}
 use Rattle.tx_seen.specs.declared.item.Item.{Item}
 use Rattle.tx_seen.specs.declared.item.Item.TheVariants.{Took, Gave}
@@ -122,6 +122,9 @@ in-range-more n rest want false k e never h = let wrong = rw e at h in cc
 given-more : (item : Item) (rest : List Item) (want : Want) (k : ℤ → List Item → Reading ℤ) → ((n : ℤ) (rest : List Item) → k n rest ≡ More want → ⊥) → next (given item rest) k ≡ More want → ⊥
 given-more (Gave (Int n)) rest want k never h = in-range-more n rest want (is_in_range n) k refl (never n rest) h
 given-more (Gave (Dimen n)) rest want k never h = in-range-more n rest want (is_in_range n) k refl (never n rest) h
+given-more (Gave (Glue g)) rest want k never h = in-range-more g.width rest want (is_in_range g.width) k refl (never g.width rest) h
+given-more (Gave (Muglue g)) rest want k never h = cc
+given-more (Gave (Magnification n)) rest want k never h = cc
 given-more (Gave (Flag b)) rest want k never h = cc
 given-more (Gave Absent) rest want k never h = cc
 given-more (Took t) rest want k never h = cc

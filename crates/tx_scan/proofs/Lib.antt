@@ -8,11 +8,15 @@ pub mod KeptDigits
 pub mod UnitSpaces
 pub mod Mosts
 pub mod Composing
+pub mod QuantitySteps
 pub mod FileSteps
 pub mod Mappings
 pub mod Settling
 pub mod GivingBack
 pub mod Quantities
+pub mod Mathematical
 pub mod Behind
 pub mod Keys
 pub mod GlueSteps
+pub mod GlueBegins
+pub mod LastTaken

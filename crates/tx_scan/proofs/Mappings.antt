@@ -1,5 +1,6 @@
 -- A part of a longer thing is read as the scan of it says.
-use Rattle.std.proofs.Common.{◌≡◌, ◌≤◌, ◌+◌, ℕ, zero, suc, List, [], ◌∷◌, ◌++◌, length, ap, sym, ◌∙◌, arith}
+use Rattle.std.proofs.Common.{◌≡◌, ◌≤◌, ◌+◌, ℕ, zero, suc, List, [], ◌∷◌, ◌++◌, length, Result, Ok, Err, ap, sym, ◌∙◌, arith}
+use Rattle.tx_seen.specs.declared.error.TexError.{TexError}
 use Rattle.tx_seen.specs.declared.fed.Fed.{Fed}
 use Rattle.tx_seen.specs.declared.fed.Fed.TheVariants as fed
 use Rattle.tx_seen.specs.declared.fed.Value.{Value}
@@ -7,10 +8,10 @@ use Rattle.tx_seen.specs.declared.item.Item.{Item}
 use Rattle.tx_seen.specs.declared.item.Item.TheVariants.{Took, Gave}
 use Rattle.tx_seen.specs.declared.seen.Seen.{Seen}
 use Rattle.tx_seen.specs.Readings.{Reading, Done, next, ending}
-use Rattle.tx_scan.specs.Rests.{IsRead, IsFedBy, IsPassed, IsGivenBy}
+use Rattle.tx_scan.specs.Rests.{IsRead, IsFedBy, IsAnswer, IsPassed, IsGivenBehind, IsGivenBy, kept}
 use Rattle.tx_scan.specs.Supplied.{NeedsFewer, NeedsNoMore}
 use Rattle.tx_scan.proofs.Answering.{ending-none, same-passed}
-use Rattle.tx_scan.specs.Mapped.{mapped}
+use Rattle.tx_scan.specs.Mapped.{done_if, fed_if, mapped, settled}
 
 -- what a scan reads on as
 abbrev pub Rest : Type 0 → Type 0 → Type 0
@@ -100,3 +101,97 @@ fewer-mapped f old new (fed.More want) n = n
 fewer-mapped f old new (fed.Need kind) n = n
 fewer-mapped f old new (fed.Done value back) n = n
 fewer-mapped f old new (fed.Wrong error) n = n
+
+-- what may be an error is made of it
+if-read : {T B : Type 0} (whole : Rest T B) (whole_held : T → ℕ) (most back : ℕ) (reading : List Item → Reading B) (tokens : List Item) (new : T) (made : Result B TexError) → back ≤ most → ((more : List Item) → reading more ≡ done_if made (ending back tokens ++ more)) → IsRead whole whole_held most reading tokens new (fed_if made back)
+if-read whole whole_held most back reading tokens new (Ok value) h k = (h, k)
+if-read whole whole_held most back reading tokens new (Err error) h k = k
+
+if-answer : {T B : Type 0} (whole : Rest T B) (whole_held : T → ℕ) (most back : ℕ) (reading : List Item → Reading B) (t : Seen) (new : T) (made : Result B TexError) → back ≤ most → ((more : List Item) → reading more ≡ done_if made (kept back t ++ more)) → IsAnswer whole whole_held most reading t new (fed_if made back)
+if-answer whole whole_held most back reading t new (Ok value) h k = (h, k)
+if-answer whole whole_held most back reading t new (Err error) h k = k
+
+if-passed : {T B : Type 0} (whole : Rest T B) (whole_held : T → ℕ) (count back : ℕ) (reading : List Item → Reading B) (behind : List Item) (new : T) (made : Result B TexError) → back ≡ count → ((more : List Item) → reading more ≡ done_if made (behind ++ more)) → IsPassed whole whole_held reading behind count new (fed_if made back)
+if-passed whole whole_held count back reading behind new (Ok value) h k = (h, k)
+if-passed whole whole_held count back reading behind new (Err error) h k = k
+
+pub settled-read : {S T A B : Type 0} (part : Rest S A) (part_held : S → ℕ) (whole : Rest T B) (whole_held : T → ℕ) (f : A → Result B TexError) (most : ℕ) (reading : List Item → Reading A) (tokens : List Item) (scan : S) (new : T) (answer : Fed A) → ((behind : List Item) (item : Item) (more : List Item) → whole new behind item more ≡ next (part scan behind item more) (λ a rest. done_if (f a) rest)) → whole_held new ≡ part_held scan → IsRead part part_held most reading tokens scan answer → IsRead whole whole_held most (λ more. next (reading more) (λ a rest. done_if (f a) rest)) tokens new (settled f answer)
+settled-read part part_held whole whole_held f most reading tokens scan new (fed.More want) same count k = (
+  ap (λ r. next r (λ a rest. done_if (f a) rest)) k.0,
+  rw count k.1,
+  λ item more. ap (λ r. next r (λ a rest. done_if (f a) rest)) (k.2 item more) ∙ sym (same (ending (part_held scan) tokens) item more) ∙ ap (λ n. whole new (ending n tokens) item more) (sym count),
+)
+settled-read part part_held whole whole_held f most reading tokens scan new (fed.Need kind) same count k = (
+  ap (λ r. next r (λ a rest. done_if (f a) rest)) k.0,
+  rw count k.1,
+  λ item more. ap (λ r. next r (λ a rest. done_if (f a) rest)) (k.2 item more) ∙ sym (same (ending (part_held scan) tokens) item more) ∙ ap (λ n. whole new (ending n tokens) item more) (sym count),
+)
+settled-read part part_held whole whole_held f most reading tokens scan new (fed.Done value back) same count k =
+    if-read whole whole_held most back (λ more. next (reading more) (λ a rest. done_if (f a) rest)) tokens new (f value) k.0 (λ more. ap (λ r. next r (λ a rest. done_if (f a) rest)) (k.1 more))
+settled-read part part_held whole whole_held f most reading tokens scan new (fed.Wrong error) same count k =
+    λ more. ap (λ r. next r (λ a rest. done_if (f a) rest)) (k more)
+
+pub settled-answer : {S T A B : Type 0} (part : Rest S A) (part_held : S → ℕ) (whole : Rest T B) (whole_held : T → ℕ) (f : A → Result B TexError) (most : ℕ) (reading : List Item → Reading A) (t : Seen) (scan : S) (new : T) (answer : Fed A) → ((behind : List Item) (item : Item) (more : List Item) → whole new behind item more ≡ next (part scan behind item more) (λ a rest. done_if (f a) rest)) → whole_held new ≡ part_held scan → IsAnswer part part_held most reading t scan answer → IsAnswer whole whole_held most (λ more. next (reading more) (λ a rest. done_if (f a) rest)) t new (settled f answer)
+settled-answer part part_held whole whole_held f most reading t scan new (fed.More want) same count k = (
+  ap (λ r. next r (λ a rest. done_if (f a) rest)) k.0,
+  count ∙ k.1,
+  λ item more. ap (λ r. next r (λ a rest. done_if (f a) rest)) (k.2 item more) ∙ sym (same [] item more),
+)
+settled-answer part part_held whole whole_held f most reading t scan new (fed.Need kind) same count k = (
+  ap (λ r. next r (λ a rest. done_if (f a) rest)) k.0,
+  rw count k.1,
+  λ item more. ap (λ r. next r (λ a rest. done_if (f a) rest)) (k.2 item more) ∙ sym (same (kept (part_held scan) t) item more) ∙ ap (λ n. whole new (kept n t) item more) (sym count),
+)
+settled-answer part part_held whole whole_held f most reading t scan new (fed.Done value back) same count k =
+    if-answer whole whole_held most back (λ more. next (reading more) (λ a rest. done_if (f a) rest)) t new (f value) k.0 (λ more. ap (λ r. next r (λ a rest. done_if (f a) rest)) (k.1 more))
+settled-answer part part_held whole whole_held f most reading t scan new (fed.Wrong error) same count k =
+    λ more. ap (λ r. next r (λ a rest. done_if (f a) rest)) (k more)
+
+pub settled-passed : {S T A B : Type 0} (part : Rest S A) (part_held : S → ℕ) (whole : Rest T B) (whole_held : T → ℕ) (f : A → Result B TexError) (count : ℕ) (reading : List Item → Reading A) (tokens : List Item) (scan : S) (new : T) (answer : Fed A) → ((behind : List Item) (item : Item) (more : List Item) → whole new behind item more ≡ next (part scan behind item more) (λ a rest. done_if (f a) rest)) → whole_held new ≡ part_held scan → IsPassed part part_held reading tokens count scan answer → IsPassed whole whole_held (λ more. next (reading more) (λ a rest. done_if (f a) rest)) tokens count new (settled f answer)
+settled-passed part part_held whole whole_held f count reading tokens scan new (fed.More want) same number k = (
+  ap (λ r. next r (λ a rest. done_if (f a) rest)) k.0,
+  number ∙ k.1,
+  λ item more. ap (λ r. next r (λ a rest. done_if (f a) rest)) (k.2 item more) ∙ sym (same tokens item more),
+)
+settled-passed part part_held whole whole_held f count reading tokens scan new (fed.Need kind) same number k = (
+  ap (λ r. next r (λ a rest. done_if (f a) rest)) k.0,
+  number ∙ k.1,
+  λ item more. ap (λ r. next r (λ a rest. done_if (f a) rest)) (k.2 item more) ∙ sym (same tokens item more),
+)
+settled-passed part part_held whole whole_held f count reading tokens scan new (fed.Done value back) same number k =
+    if-passed whole whole_held count back (λ more. next (reading more) (λ a rest. done_if (f a) rest)) tokens new (f value) k.0 (λ more. ap (λ r. next r (λ a rest. done_if (f a) rest)) (k.1 more))
+settled-passed part part_held whole whole_held f count reading tokens scan new (fed.Wrong error) same number k =
+    λ more. ap (λ r. next r (λ a rest. done_if (f a) rest)) (k more)
+
+pub settled-fed : {S T A B : Type 0} (part : Rest S A) (part_held : S → ℕ) (whole : Rest T B) (whole_held : T → ℕ) (f : A → Result B TexError) (old new : S) (before after : T) (t : Seen) (answer : Fed A) → ((behind : List Item) (item : Item) (more : List Item) → whole before behind item more ≡ next (part old behind item more) (λ a rest. done_if (f a) rest)) → whole_held before ≡ part_held old → ((behind : List Item) (item : Item) (more : List Item) → whole after behind item more ≡ next (part new behind item more) (λ a rest. done_if (f a) rest)) → whole_held after ≡ part_held new → IsFedBy part part_held old t new answer → IsFedBy whole whole_held before t after (settled f answer)
+settled-fed part part_held whole whole_held f old new before after t answer same_before count_before same_after count_after k = λ behind h.
+    same-read whole whole_held (whole_held before + 1) (λ more. whole before behind (Took t) more) (λ more. next (part old behind (Took t) more) (λ a rest. done_if (f a) rest)) (behind ++ Took t ∷ []) after (settled f answer)
+    (λ more. same_before behind (Took t) more)
+    (rw count_before (settled-read part part_held whole whole_held f (part_held old + 1) (λ more. part old behind (Took t) more) (behind ++ Took t ∷ []) new after answer same_after count_after (k behind (rw count_before at h))))
+
+pub settled-given : {S T A B : Type 0} (part : Rest S A) (part_held : S → ℕ) (whole : Rest T B) (whole_held : T → ℕ) (f : A → Result B TexError) (old new : S) (before after : T) (v : Value) (answer : Fed A) → ((behind : List Item) (item : Item) (more : List Item) → whole before behind item more ≡ next (part old behind item more) (λ a rest. done_if (f a) rest)) → whole_held before ≡ part_held old → ((behind : List Item) (item : Item) (more : List Item) → whole after behind item more ≡ next (part new behind item more) (λ a rest. done_if (f a) rest)) → whole_held after ≡ part_held new → IsGivenBy part part_held old v new answer → IsGivenBy whole whole_held before v after (settled f answer)
+settled-given part part_held whole whole_held f old new before after v answer same_before count_before same_after count_after k = λ behind h.
+    same-passed whole whole_held (λ more. whole before behind (Gave v) more) (λ more. next (part old behind (Gave v) more) (λ a rest. done_if (f a) rest)) behind (whole_held before) (part_held old) after (settled f answer)
+    (λ more. same_before behind (Gave v) more) count_before
+    (settled-passed part part_held whole whole_held f (part_held old) (λ more. part old behind (Gave v) more) behind new after answer same_after count_after (k behind (rw count_before at h)))
+
+-- it needs as many values
+if-needs : {B : Type 0} (old new back : ℕ) (made : Result B TexError) → NeedsNoMore old new (fed_if made back)
+if-needs old new back (Ok value) = tt
+if-needs old new back (Err error) = tt
+
+pub needs-settled : {A B : Type 0} (f : A → Result B TexError) (old new : ℕ) (answer : Fed A) → NeedsNoMore old new answer → NeedsNoMore old new (settled f answer)
+needs-settled f old new (fed.More want) n = n
+needs-settled f old new (fed.Need kind) n = n
+needs-settled f old new (fed.Done value back) n = if-needs old new back (f value)
+needs-settled f old new (fed.Wrong error) n = tt
+
+if-fewer : {B : Type 0} (old new back : ℕ) (made : Result B TexError) → NeedsFewer old new (fed_if made back)
+if-fewer old new back (Ok value) = tt
+if-fewer old new back (Err error) = tt
+
+pub fewer-settled : {A B : Type 0} (f : A → Result B TexError) (old new : ℕ) (answer : Fed A) → NeedsFewer old new answer → NeedsFewer old new (settled f answer)
+fewer-settled f old new (fed.More want) n = n
+fewer-settled f old new (fed.Need kind) n = n
+fewer-settled f old new (fed.Done value back) n = if-fewer old new back (f value)
+fewer-settled f old new (fed.Wrong error) n = tt

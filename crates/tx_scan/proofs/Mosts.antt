@@ -29,8 +29,11 @@ size-stage dimen.Character = lit≤ tt
 size-stage (dimen.AfterCharacter code) = lit≤ tt
 size-stage dimen.Coefficient = lit≤ tt
 size-stage (dimen.Quantity amount) = lit≤ tt
+size-stage (dimen.Mathematical amount) = lit≤ tt
 size-stage (dimen.Unit whole) = lit≤ tt
 size-stage (dimen.Name whole letters) = lit≤ tt
+size-stage (dimen.Magnification whole) = lit≤ tt
+size-stage (dimen.TrueUnit whole portion) = lit≤ tt
 size-stage (dimen.AfterUnit whole unit) = lit≤ tt
 size-stage (dimen.AfterFil whole order) = lit≤ tt
 

@@ -10,10 +10,11 @@ use Rattle.tx_seen.specs.declared.item.Item.{Item}
 use Rattle.tx_seen.specs.declared.item.Item.TheVariants.{Took, Gave}
 use Rattle.tx_seen.specs.declared.fed.Kind.{Kind}
 use Rattle.tx_seen.specs.declared.fed.Value.{Value}
+use Rattle.tx_seen.specs.declared.fed.Value.TheVariants.{Int, Dimen, Glue, Muglue, Magnification, Flag, Absent}
 use Rattle.tx_seen.specs.declared.fed.Want.{Want}
 use Rattle.tx_seen.specs.declared.fed.Fed.{Fed}
 use Rattle.tx_seen.specs.declared.fed.Fed.TheVariants as fed
-use Rattle.tx_seen.specs.Readings.{Reading, next}
+use Rattle.tx_seen.specs.Readings.{Reading, More, Need, Done, Wrong, next}
 use Rattle.tx_scan.specs.declared.scans.Amount.{Amount}
 use Rattle.tx_scan.specs.declared.scans.IntScan.{IntScan}
 use Rattle.tx_scan.specs.declared.scans.Measure.{Measure}
@@ -25,12 +26,15 @@ use Rattle.tx_scan.specs.IntegerRests as integers
 use Rattle.tx_scan.specs.declared.scans.Units.{Units}
 use Rattle.tx_scan.specs.declared.scans.Letters.{Letters}
 use Rattle.tx_scan.specs.declared.scans.Beginning.{Beginning}
+use Rattle.tx_scan.specs.declared.scans.Beginning.TheVariants as begin
 use Rattle.tx_scan.specs.declared.scans.Amount.TheVariants as amount
 use Rattle.tx_seen.specs.Seen.{is_undefined, is_space}
 use Rattle.tx_scan.specs.Beginnings.{beginning}
 use Rattle.tx_scan.specs.Integers.{integer}
-use Rattle.tx_scan.specs.Dimensions.{numbered_unit, quantified, is_internal, measured, ended_with, spelled, unit_name, first_letter, letter_on, unit_ended, size_begun, size_signs, turned}
-use Rattle.tx_scan.specs.DimensionRests.{rest, held, held_items, more_needed, most, IsMeasuring, IsFed, IsUnit}
+use Rattle.tx_scan.specs.Dimensions.{Named, numbered_unit, quantified, in_mu, is_internal, mathematical, measured, ended_with, spelled, unit_name, first_letter, letter_on, unit_ended, size_begun, size_signs, turned}
+use Rattle.tx_scan.specs.Mapped.{done_if, settled}
+use Rattle.tx_scan.specs.Quantities.{quantity_begun}
+use Rattle.tx_scan.specs.DimensionRests.{rest, held, held_items, more_needed, most, name_ended, IsMeasuring, IsFed, IsUnit}
 use Rattle.tx_scan.proofs.Answering.{same-answer, same-passed}
 use Rattle.tx_scan.proofs.Composing.{answer-most, more-next, need-next, done-next, end-next, none-back, one-back}
 
@@ -45,28 +49,67 @@ fed-at-all few reading old new t (Ok answer) h same k = λ behind.
     same-answer rest held (most old) (λ more. rest old behind (Took t) more) (reading behind) t new answer (same behind) (answer-most rest held few (most old) (reading behind) t new answer h (k behind))
 fed-at-all few reading old new t (Err e) h same k = tt
 
--- the first token of a quantity
-pub size-begins : {E : Type 0} (units : Units) (negative : Bool) (part : ℕ) (scan : IntScan) (t : Seen) (new : DimenScan) (answer : Result (Fed Measure) E) (b : Bool) → b ≡ true → scan ≡ integers.begun_integer → IfOk answer (λ a. (behind : List Item) → IsMeasuring (integers.most scan) (λ more. next (integers.rest scan behind (Took t) more) (ended_with units negative part amount.Whole)) t new a) → IfOk answer (IsMeasuring 0 (λ more. quantified units negative b (integer (Took t ∷ more))) t new)
-size-begins units negative part scan t new (Ok answer) b e s k = rw e ((rw s at k) [])
-size-begins units negative part scan t new (Err error) b e s k = tt
+-- what becomes of two things alike
+pub next-alike : {A B : Type 0} (r : Reading A) (f g : A → List Item → Reading B) → ((a : A) (rest : List Item) → f a rest ≡ g a rest) → next r f ≡ next r g
+next-alike (More want) f g same = refl
+next-alike (Need kind) f g same = refl
+next-alike (Done a rest) f g same = same a rest
+next-alike (Wrong error) f g same = refl
 
-pub factor-begins : {E : Type 0} (units : Units) (negative : Bool) (behind : Option Seen) (scan : IntScan) (t : Seen) (new : DimenScan) (answer : Result (Fed Measure) E) (b : Bool) → b ≡ false → scan ≡ integers.begun_integer → IfOk answer (IsMeasuring (integers.most scan) (λ more. next (integers.rest scan (held_items (integers.held scan) behind) (Took t) more) (numbered_unit units negative)) t new) → IfOk answer (IsMeasuring 0 (λ more. quantified units negative b (integer (Took t ∷ more))) t new)
+mathematical-whole : (negative : Bool) (part : ℕ) (v : Value) → mathematical negative part amount.Whole v ≡ mathematical negative 0 amount.Whole v
+mathematical-whole negative part (Int n) = refl
+mathematical-whole negative part (Dimen n) = refl
+mathematical-whole negative part (Glue g) = refl
+mathematical-whole negative part (Muglue g) = refl
+mathematical-whole negative part (Magnification n) = refl
+mathematical-whole negative part (Flag b) = refl
+mathematical-whole negative part Absent = refl
+
+-- a quantity in mu that is the dimension has no part
+whole-in-mu : (negative : Bool) (part : ℕ) (begun : Beginning) (rest : List Item) → in_mu negative part amount.Whole begun rest ≡ in_mu negative 0 amount.Whole begun rest
+whole-in-mu negative part begin.Plus rest = refl
+whole-in-mu negative part begin.Minus rest = refl
+whole-in-mu negative part (begin.Digit d) rest = refl
+whole-in-mu negative part (begin.Digits radix) rest = refl
+whole-in-mu negative part begin.Character rest = refl
+whole-in-mu negative part begin.Point rest = refl
+whole-in-mu negative part (begin.Number n) rest = refl
+whole-in-mu negative part (begin.At place) rest = next-alike (quantity_begun (begin.At place) rest) (λ value rest. done_if (mathematical negative part amount.Whole value) rest) (λ value rest. done_if (mathematical negative 0 amount.Whole value) rest) (λ value rest. ap (λ made. done_if made rest) (mathematical-whole negative part value))
+whole-in-mu negative part (begin.Numbered kind) rest = next-alike (quantity_begun (begin.Numbered kind) rest) (λ value rest. done_if (mathematical negative part amount.Whole value) rest) (λ value rest. done_if (mathematical negative 0 amount.Whole value) rest) (λ value rest. ap (λ made. done_if made rest) (mathematical-whole negative part value))
+whole-in-mu negative part (begin.Nothing error) rest = refl
+
+-- the first token of a quantity
+pub size-begins : {E : Type 0} (units : Units) (negative : Bool) (part : ℕ) (scan : IntScan) (t : Seen) (new : DimenScan) (answer : Result (Fed Measure) E) (b : Bool) → b ≡ true → units.mu ≡ false → scan ≡ integers.begun_integer → IfOk answer (λ a. (behind : List Item) → IsMeasuring (integers.most scan) (λ more. next (integers.rest scan behind (Took t) more) (ended_with negative part amount.Whole)) t new a) → IfOk answer (IsMeasuring 0 (λ more. quantified units negative b (integer (Took t ∷ more)) (beginning t) more) t new)
+size-begins units negative part scan t new (Ok answer) b e m s k = rw (e, m) ((rw s at k) [])
+size-begins units negative part scan t new (Err error) b e m s k = tt
+
+pub mathematical-begins : (units : Units) (negative : Bool) (part : ℕ) (t : Seen) (begun : Beginning) (new : DimenScan) (answer : Fed Measure) (b : Bool) → b ≡ true → units.mu ≡ true → begun ≡ beginning t → IsMeasuring 0 (λ more. in_mu negative part amount.Whole begun more) t new answer → IsMeasuring 0 (λ more. quantified units negative b (integer (Took t ∷ more)) (beginning t) more) t new answer
+mathematical-begins units negative part t begun new answer b e m s k =
+    same-answer rest held 0 (λ more. quantified units negative b (integer (Took t ∷ more)) (beginning t) more) (λ more. in_mu negative part amount.Whole begun more) t new answer
+    (λ more. rw (e, m) (sym (ap (λ g. in_mu negative part amount.Whole g more) s ∙ whole-in-mu negative part (beginning t) more))) k
+
+pub factor-begins : {E : Type 0} (units : Units) (negative : Bool) (behind : Option Seen) (scan : IntScan) (t : Seen) (new : DimenScan) (answer : Result (Fed Measure) E) (b : Bool) → b ≡ false → scan ≡ integers.begun_integer → IfOk answer (IsMeasuring (integers.most scan) (λ more. next (integers.rest scan (held_items (integers.held scan) behind) (Took t) more) (numbered_unit units negative)) t new) → IfOk answer (IsMeasuring 0 (λ more. quantified units negative b (integer (Took t ∷ more)) (beginning t) more) t new)
 factor-begins units negative behind scan t new (Ok answer) b e s k = rw e (rw s at k)
 factor-begins units negative behind scan t new (Err error) b e s k = tt
 
-pub unit-begins : {E : Type 0} (units : Units) (negative : Bool) (whole : ℕ) (digits : List ℕ) (scan : IntScan) (t : Seen) (new : DimenScan) (answer : Result (Fed Measure) E) → is_undefined t ≡ false → is_space t ≡ false → is_internal (beginning t) ≡ true → scan ≡ integers.begun_integer → IfOk answer (λ a. (behind : List Item) → IsMeasuring (integers.most scan) (λ more. next (integers.rest scan behind (Took t) more) (ended_with units negative (fraction_of digits) (amount.Times whole))) t new a) → IfOk answer (IsUnit units negative whole digits t new)
-unit-begins units negative whole digits scan t new (Ok answer) u b i s k =
-    same-answer rest held 0 (λ more. measured units negative whole (fraction_of digits) (Took t ∷ more)) (λ more. next (integer (Took t ∷ more)) (ended_with units negative (fraction_of digits) (amount.Times whole))) t new answer (λ more. rw (u, b, i) refl) ((rw s at k) [])
-unit-begins units negative whole digits scan t new (Err error) u b i s k = tt
+pub unit-begins : {E : Type 0} (units : Units) (negative : Bool) (whole : ℕ) (digits : List ℕ) (scan : IntScan) (t : Seen) (new : DimenScan) (answer : Result (Fed Measure) E) → is_undefined t ≡ false → is_space t ≡ false → is_internal (beginning t) ≡ true → units.mu ≡ false → scan ≡ integers.begun_integer → IfOk answer (λ a. (behind : List Item) → IsMeasuring (integers.most scan) (λ more. next (integers.rest scan behind (Took t) more) (ended_with negative (fraction_of digits) (amount.Times whole))) t new a) → IfOk answer (IsUnit units negative whole digits t new)
+unit-begins units negative whole digits scan t new (Ok answer) u b i m s k =
+    same-answer rest held 0 (λ more. measured units negative whole (fraction_of digits) (Took t ∷ more)) (λ more. next (integer (Took t ∷ more)) (ended_with negative (fraction_of digits) (amount.Times whole))) t new answer (λ more. rw (u, b, i, m) refl) ((rw s at k) [])
+unit-begins units negative whole digits scan t new (Err error) u b i m s k = tt
 
-pub unit-named : (units : Units) (negative : Bool) (whole : ℕ) (digits : List ℕ) (t : Seen) (new : DimenScan) (answer : Fed Measure) → is_undefined t ≡ false → is_space t ≡ false → is_internal (beginning t) ≡ false → IsMeasuring 0 (λ more. next (spelled (λ letters. unit_name units letters more) (first_letter units t) more) (unit_ended negative whole (fraction_of digits))) t new answer → IsUnit units negative whole digits t new answer
+pub unit-in-mu : (units : Units) (negative : Bool) (whole : ℕ) (digits : List ℕ) (t : Seen) (begun : Beginning) (new : DimenScan) (answer : Fed Measure) → is_undefined t ≡ false → is_space t ≡ false → is_internal (beginning t) ≡ true → units.mu ≡ true → begun ≡ beginning t → IsMeasuring 0 (λ more. in_mu negative (fraction_of digits) (amount.Times whole) begun more) t new answer → IsUnit units negative whole digits t new answer
+unit-in-mu units negative whole digits t begun new answer u b i m s k =
+    same-answer rest held 0 (λ more. measured units negative whole (fraction_of digits) (Took t ∷ more)) (λ more. in_mu negative (fraction_of digits) (amount.Times whole) begun more) t new answer
+    (λ more. rw (u, b, i, m) (ap (λ g. in_mu negative (fraction_of digits) (amount.Times whole) g more) (sym s))) k
+
+pub unit-named : (units : Units) (negative : Bool) (whole : ℕ) (digits : List ℕ) (t : Seen) (new : DimenScan) (answer : Fed Measure) → is_undefined t ≡ false → is_space t ≡ false → is_internal (beginning t) ≡ false → IsMeasuring 0 (λ more. next (spelled (λ letters. unit_name units letters more) (first_letter units t) more) (name_ended None units negative whole (fraction_of digits))) t new answer → IsUnit units negative whole digits t new answer
 unit-named units negative whole digits t new answer u b i k =
-    same-answer rest held 0 (λ more. measured units negative whole (fraction_of digits) (Took t ∷ more)) (λ more. next (spelled (λ letters. unit_name units letters more) (first_letter units t) more) (unit_ended negative whole (fraction_of digits))) t new answer (λ more. rw (u, b, i) refl) k
+    same-answer rest held 0 (λ more. measured units negative whole (fraction_of digits) (Took t ∷ more)) (λ more. next (spelled (λ letters. unit_name units letters more) (first_letter units t) more) (name_ended None units negative whole (fraction_of digits))) t new answer (λ more. rw (u, b, i) refl) k
 
-pub letter-named : (old new : DimenScan) (whole : ℕ) (letters : Letters) (t : Seen) (answer : Fed Measure) → old.stage ≡ stage.Name whole letters → is_undefined t ≡ false → IsMeasuring 0 (λ more. next (spelled (λ letters. unit_name old.units letters more) (letter_on old.units letters t) more) (unit_ended old.negative whole (fraction_of old.digits))) t new answer → IsFed old t new answer
+pub letter-named : (old new : DimenScan) (whole : ℕ) (letters : Letters) (t : Seen) (answer : Fed Measure) → old.stage ≡ stage.Name whole letters → is_undefined t ≡ false → IsMeasuring 0 (λ more. next (spelled (λ letters. unit_name old.units letters more) (letter_on old.units letters t) more) (name_ended old.magnified old.units old.negative whole (fraction_of old.digits))) t new answer → IsFed old t new answer
 letter-named old new whole letters t answer s u k = λ behind.
-    same-answer rest held (most old) (λ more. rest old behind (Took t) more) (λ more. next (spelled (λ letters. unit_name old.units letters more) (letter_on old.units letters t) more) (unit_ended old.negative whole (fraction_of old.digits))) t new answer (λ more. rw (s, u) refl)
-    (answer-most rest held 0 (most old) (λ more. next (spelled (λ letters. unit_name old.units letters more) (letter_on old.units letters t) more) (unit_ended old.negative whole (fraction_of old.digits))) t new answer (omega arith) k)
+    same-answer rest held (most old) (λ more. rest old behind (Took t) more) (λ more. next (spelled (λ letters. unit_name old.units letters more) (letter_on old.units letters t) more) (name_ended old.magnified old.units old.negative whole (fraction_of old.digits))) t new answer (λ more. rw (s, u) refl)
+    (answer-most rest held 0 (most old) (λ more. next (spelled (λ letters. unit_name old.units letters more) (letter_on old.units letters t) more) (name_ended old.magnified old.units old.negative whole (fraction_of old.digits))) t new answer (omega arith) k)
 
 -- the unit behind an internal number
 pub numbered-begins : {E : Type 0} (old mid new : DimenScan) (n : ℤ) (whole : ℕ) (t : Seen) (answer : Result (Fed Measure) E) → mid ≡ record old { negative = turned old.negative n; digits = [] } → whole ≡ unsigned_abs n → IfOk answer (IsUnit mid.units mid.negative whole mid.digits t new) → IfOk answer (IsMeasuring 0 (λ more. numbered_unit old.units old.negative n (Took t ∷ more)) t new)
@@ -75,10 +118,10 @@ numbered-begins old mid new n whole t (Ok answer) e w k =
 numbered-begins old mid new n whole t (Err error) e w k = tt
 
 -- what a sign or a space may stand before
-pub signed-quantity : {E : Type 0} (old new : DimenScan) (t : Seen) (b : Bool) (begun : Beginning) (answer : Result (Fed Measure) E) → old.stage ≡ stage.Signs → beginning t ≡ begun → ((on : Bool → Reading Measure) (number : Reading ℤ) (rest : List Item) → size_begun old.units old.negative on number rest begun ≡ quantified old.units old.negative b number) → IfOk answer (IsMeasuring 0 (λ more. quantified old.units old.negative b (integer (Took t ∷ more))) t new) → IfOk answer (IsFed old t new)
+pub signed-quantity : {E : Type 0} (old new : DimenScan) (t : Seen) (b : Bool) (begun : Beginning) (answer : Result (Fed Measure) E) → old.stage ≡ stage.Signs → beginning t ≡ begun → ((on : Bool → Reading Measure) (number : Reading ℤ) (rest : List Item) → size_begun old.units old.negative on number rest begun ≡ quantified old.units old.negative b number begun rest) → IfOk answer (IsMeasuring 0 (λ more. quantified old.units old.negative b (integer (Took t ∷ more)) (beginning t) more) t new) → IfOk answer (IsFed old t new)
 signed-quantity old new t b begun answer s e same k =
-    fed-at 0 (λ more. quantified old.units old.negative b (integer (Took t ∷ more))) old new t answer (omega arith)
-    (λ behind more. rw s (ap (λ b. size_begun old.units old.negative (λ negative. size_signs old.units negative more) (integer (Took t ∷ more)) more b) e ∙ same (λ negative. size_signs old.units negative more) (integer (Took t ∷ more)) more)) k
+    fed-at 0 (λ more. quantified old.units old.negative b (integer (Took t ∷ more)) (beginning t) more) old new t answer (omega arith)
+    (λ behind more. rw s (ap (λ b. size_begun old.units old.negative (λ negative. size_signs old.units negative more) (integer (Took t ∷ more)) more b) e ∙ (same (λ negative. size_signs old.units negative more) (integer (Took t ∷ more)) more ∙ ap (λ g. quantified old.units old.negative b (integer (Took t ∷ more)) g more) (sym e)))) k
 
 -- the tokens behind the register of a factor
 abbrev pub behind_it : DimenScan → List Item
@@ -129,7 +172,7 @@ factor-ends-before old new scan t n m back (Err error) k e f later = tt
 
 -- a quantity that ends the dimension
 abbrev on_amount : DimenScan → Amount → ℤ → List Item → Reading Measure
-on_amount old amount = ended_with old.units old.negative (fraction_of old.digits) amount
+on_amount old amount = ended_with old.negative (fraction_of old.digits) amount
 
 pub amount-more : (old : DimenScan) (scan : IntScan) (amount : Amount) (t : Seen) (want : Want) → integers.IsFed old.number t scan (fed.More want) → (behind : List Item) → IsMeasuring (integers.most old.number) (λ more. next (integers.rest old.number behind (Took t) more) (on_amount old amount)) t (record old { stage = stage.Quantity amount; number = scan }) (fed.More want)
 amount-more old scan amount t want k = λ behind.

@@ -3,7 +3,7 @@ use Rattle.std.proofs.Common.{◌≡◌, ℕ, ◌+◌, ◌*◌, Bool, true, fals
 use Rattle.std.specs.Prelude.{nat_le}
 use Rattle.tx_seen.specs.declared.seen.Seen.{Seen}
 use Rattle.tx_seen.specs.declared.place.Place.{Place}
-use Rattle.tx_seen.specs.declared.fed.Value.TheVariants.{Int, Dimen, Flag, Absent}
+use Rattle.tx_seen.specs.declared.fed.Value.TheVariants.{Int, Dimen, Glue, Muglue, Magnification, Flag, Absent}
 use Rattle.tx_seen.specs.Seen.{is_undefined}
 use Rattle.tx_seen.specs.declared.error.TexError.TheVariants.{Undefined, MissingNumber, IntegerTooLarge}
 use Rattle.tx_seen.specs.declared.item.Item.{Item}
@@ -72,6 +72,9 @@ on-quantity : (more : List Item) (place : Place) (items : List Item) → ReadsOn
 on-quantity more place [] = tt
 on-quantity more place (Gave (Int n) ∷ rest) = on-range more n rest
 on-quantity more place (Gave (Dimen n) ∷ rest) = on-range more n rest
+on-quantity more place (Gave (Glue g) ∷ rest) = on-range more g.width rest
+on-quantity more place (Gave (Muglue g) ∷ rest) = refl
+on-quantity more place (Gave (Magnification n) ∷ rest) = refl
 on-quantity more place (Gave (Flag b) ∷ rest) = refl
 on-quantity more place (Gave Absent ∷ rest) = refl
 on-quantity more place (Took t ∷ rest) = refl

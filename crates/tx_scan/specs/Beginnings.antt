@@ -5,7 +5,7 @@ use Rattle.tx_char.specs.declared.category.Cat.TheVariants.{Space, Letter, Other
 use Rattle.tx_char.specs.declared.tokens.Token.{Token}
 use Rattle.tx_char.specs.declared.tokens.Token.TheVariants as token
 use Rattle.tx_prim.specs.declared.family.Numbered.{Numbered}
-use Rattle.tx_prim.specs.declared.family.Numbered.TheVariants.{Count, Dimen, Toks, Category, Code, Size}
+use Rattle.tx_prim.specs.declared.family.Numbered.TheVariants.{Count, Dimen, Skip, Muskip, Toks, Category, Code, Size}
 use Rattle.tx_prim.specs.declared.primitive.Primitive.{Primitive}
 use Rattle.tx_prim.specs.declared.primitive.Primitive.TheVariants as primitive
 use Rattle.tx_seen.specs.declared.error.TexError.TheVariants.{MissingNumber, Undefined}
@@ -46,6 +46,8 @@ no_number = begin.Nothing MissingNumber
 abbrev pub begun_by_number : Numbered → Beginning
 begun_by_number Count = begin.Numbered Count
 begun_by_number Dimen = begin.Numbered Dimen
+begun_by_number Skip = begin.Numbered Skip
+begun_by_number Muskip = begin.Numbered Muskip
 begun_by_number Toks = no_number
 begun_by_number Category = begin.Numbered Category
 begun_by_number (Code code) = begin.Numbered (Code code)
@@ -55,6 +57,7 @@ begun_by_number (Size side) = begin.Numbered (Size side)
 abbrev pub begun_by_command : Primitive → Beginning
 begun_by_command (primitive.Integer parameter) = begin.At (place.Integer parameter)
 begun_by_command (primitive.Dimension parameter) = begin.At (place.Dimension parameter)
+begun_by_command (primitive.Glue parameter) = begin.At (place.Glue parameter)
 begun_by_command (primitive.Numbered kind) = begun_by_number kind
 begun_by_command (primitive.Last kind) = begin.At (place.Last kind)
 begun_by_command primitive.Badness = begin.At place.Badness
@@ -84,8 +87,11 @@ begun_by_command (primitive.BoxFrom source) = no_number
 begun_by_command primitive.SetBox = no_number
 begun_by_command (primitive.Shift kind) = no_number
 begun_by_command (primitive.Unbox kind) = no_number
+begun_by_command (primitive.HorizontalGlue form) = no_number
+begun_by_command (primitive.VerticalGlue form) = no_number
 begun_by_command primitive.Penalty = no_number
 begun_by_command (primitive.Remove kind) = no_number
+begun_by_command (primitive.Leaders kind) = no_number
 
 -- a name that \chardef or \mathchardef defined is its number, and that of a register stands for its value; what means a
 -- space is one
@@ -98,6 +104,8 @@ begun_by_meaning (meaning.CharacterNumber n) = begin.Number n
 begun_by_meaning (meaning.MathNumber n) = begin.Number n
 begun_by_meaning (meaning.CountRegister n) = begin.At (place.Count n)
 begun_by_meaning (meaning.DimenRegister n) = begin.At (place.Dimen n)
+begun_by_meaning (meaning.SkipRegister n) = begin.At (place.Skip n)
+begun_by_meaning (meaning.MuskipRegister n) = begin.At (place.Muskip n)
 begun_by_meaning (meaning.ToksRegister n) = no_number
 begun_by_meaning (meaning.Expandable e) = no_number
 begun_by_meaning (meaning.Macro m) = no_number

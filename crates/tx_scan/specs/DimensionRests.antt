@@ -10,11 +10,14 @@ use Rattle.tx_seen.specs.declared.item.Item.TheVariants.{Took, Gave}
 use Rattle.tx_seen.specs.Readings.{Reading, next}
 use Rattle.tx_scan.specs.declared.scans.Units.{Units}
 use Rattle.tx_scan.specs.declared.scans.Measure.{Measure}
+use Rattle.tx_scan.specs.declared.scans.Portion.{Portion}
 use Rattle.tx_scan.specs.declared.scans.DimenScan.{DimenScan}
 use Rattle.tx_scan.specs.declared.scans.DimenStage.{DimenStage}
 use Rattle.tx_scan.specs.declared.scans.DimenStage.TheVariants as stage
 use Rattle.tx_scan.specs.Integers.{character_code, space_after}
-use Rattle.tx_scan.specs.Dimensions.{fraction, whole_units, first_unit, ended_with, measured, numbered_unit, unit_name, unit_ended, unit_rest, fil_rest, factored, counted, size_signs, dimension}
+use Rattle.tx_scan.specs.Dimensions.{Named, behind_true, fraction, whole_units, first_unit, ended_with, mathematical, measured, numbered_unit, true_ended, true_unit, unit_name, unit_ended, unit_rest, fil_rest, factored, counted, size_signs, dimension}
+use Rattle.tx_scan.specs.Mapped.{done_if}
+use Rattle.tx_scan.specs.QuantityRests as quantities
 use Rattle.tx_scan.specs.IntegerRests as integers
 use Rattle.tx_scan.specs.Rests.{HasTakenBy, IsAnswer, IsPassed}
 
@@ -23,6 +26,16 @@ abbrev pub held_items : ℕ → Option Seen → List Item
 held_items zero behind = []
 held_items (suc n) None = []
 held_items (suc n) (Some t) = Took t ∷ []
+
+-- the fraction behind whole units, which `true` may have changed
+abbrev pub part_of : Option Portion → List ℕ → ℕ
+part_of None digits = fraction_of digits
+part_of (Some portion) digits = portion.part
+
+-- what stands behind a unit's name, behind `true` or not
+abbrev pub name_ended : Option Portion → Units → Bool → ℕ → ℕ → Named → List Item → Reading Measure
+name_ended None units negative whole part named rest = unit_ended units negative whole part named rest
+name_ended (Some portion) units negative whole part named rest = true_ended negative (whole, portion.part) named rest
 
 -- the rest of a dimension by the stage of its scan
 abbrev pub stage_rest : DimenStage → DimenScan → List Item → Item → List Item → Reading Measure
@@ -33,11 +46,14 @@ stage_rest (stage.Fraction whole) scan behind item more = next (fraction whole s
 stage_rest stage.Character scan behind item more = next (character_code (item ∷ more)) (counted scan.units scan.negative)
 stage_rest (stage.AfterCharacter code) scan behind item more = next (space_after code (item ∷ more)) (counted scan.units scan.negative)
 stage_rest stage.Coefficient scan behind item more = next (integers.rest scan.number (held_items (integers.held scan.number) scan.behind) item more) (numbered_unit scan.units scan.negative)
-stage_rest (stage.Quantity amount) scan behind item more = next (integers.rest scan.number behind item more) (ended_with scan.units scan.negative (fraction_of scan.digits) amount)
+stage_rest (stage.Quantity amount) scan behind item more = next (integers.rest scan.number behind item more) (ended_with scan.negative (fraction_of scan.digits) amount)
+stage_rest (stage.Mathematical amount) scan behind item more = next (quantities.rest scan.quantity behind item more) (λ value rest. done_if (mathematical scan.negative (fraction_of scan.digits) amount value) rest)
 stage_rest (stage.Unit whole) scan behind item more = measured scan.units scan.negative whole (fraction_of scan.digits) (item ∷ more)
-stage_rest (stage.Name whole letters) scan behind item more = next (unit_name scan.units letters (item ∷ more)) (unit_ended scan.negative whole (fraction_of scan.digits))
-stage_rest (stage.AfterUnit whole unit) scan behind item more = unit_rest scan.negative whole (fraction_of scan.digits) unit (item ∷ more)
-stage_rest (stage.AfterFil whole order) scan behind item more = fil_rest scan.negative whole (fraction_of scan.digits) order (item ∷ more)
+stage_rest (stage.Name whole letters) scan behind item more = next (unit_name scan.units letters (item ∷ more)) (name_ended scan.magnified scan.units scan.negative whole (fraction_of scan.digits))
+stage_rest (stage.Magnification whole) scan behind item more = behind_true scan.units scan.negative whole (fraction_of scan.digits) (item ∷ more)
+stage_rest (stage.TrueUnit whole portion) scan behind item more = true_unit scan.units scan.negative (whole, portion.part) (item ∷ more)
+stage_rest (stage.AfterUnit whole unit) scan behind item more = unit_rest scan.negative whole (part_of scan.magnified scan.digits) unit (item ∷ more)
+stage_rest (stage.AfterFil whole order) scan behind item more = fil_rest scan.negative whole (part_of scan.magnified scan.digits) order (item ∷ more)
 
 abbrev pub rest : DimenScan → List Item → Item → List Item → Reading Measure
 rest scan behind item more = stage_rest scan.stage scan behind item more
@@ -45,6 +61,7 @@ rest scan behind item more = stage_rest scan.stage scan behind item more
 -- how many tokens are held behind the dimension
 abbrev pub stage_held : DimenStage → DimenScan → ℕ
 stage_held (stage.Quantity amount) scan = integers.held scan.number
+stage_held (stage.Mathematical amount) scan = quantities.held scan.quantity
 stage_held _ scan = 0
 
 abbrev pub held : DimenScan → ℕ
@@ -55,14 +72,18 @@ held scan = stage_held scan.stage scan
 abbrev pub stage_needed : DimenStage → DimenScan → ℕ
 stage_needed stage.Coefficient scan = integers.waiting scan.number + integers.held scan.number
 stage_needed (stage.Quantity amount) scan = integers.waiting scan.number
+stage_needed (stage.Mathematical amount) scan = quantities.more_needed scan.quantity
 stage_needed _ scan = 0
 
 abbrev pub more_needed : DimenScan → ℕ
 more_needed scan = stage_needed scan.stage scan
 
--- the scan of which nothing is read
+-- the scan of which nothing is read, or only signs
+abbrev pub begun_size_behind : Bool → Units → DimenScan
+begun_size_behind negative units = record { units = units; negative = negative; stage = stage.Signs; digits = []; magnified = None; number = integers.begun_integer; quantity = quantities.begun_quantity; behind = None }
+
 abbrev pub begun_size : Units → DimenScan
-begun_size units = record { units = units; negative = false; stage = stage.Signs; digits = []; number = integers.begun_integer; behind = None }
+begun_size units = begun_size_behind false units
 
 -- the scan that has taken these items reads on as the dimension that begins with them
 abbrev pub HasTaken : Units → DimenScan → List Item → Type 0

@@ -1,19 +1,24 @@
 -- Dimensions (The TeXbook, chapters 10 and 24; TeX: The Program, sections 448 to 458).
-use Rattle.std.specs.Prelude.{ℕ, ◌+◌, ◌*◌, ◌/◌, ◌∷◌, [], ◌++◌, ◌&&◌, Bool, true, false, not, nat_le, ℤ, pos, negsuc, unsigned_abs, List, Option, Some, None, if◌then◌else◌}
+use Rattle.std.specs.Prelude.{ℕ, zero, suc, ◌+◌, ◌*◌, ◌/◌, ◌%◌, ◌==◌, ◌∷◌, [], ◌++◌, ◌&&◌, Bool, true, false, not, nat_le, ℤ, pos, negsuc, unsigned_abs, List, Option, Some, None, Result, Ok, Err, if◌then◌else◌}
 use Rattle.tx_num.specs.Fractions.{signed}
 use Rattle.tx_num.specs.Decimals.{fraction_of}
 use Rattle.tx_num.specs.Units.{size_of}
 use Rattle.tx_num.specs.declared.units.PhysicalUnit.TheVariants.{Point, Pica, Inch, BigPoint, Centimetre, Millimetre, DidotPoint, Cicero, ScaledPoint}
 use Rattle.tx_char.specs.Character.{character}
 use Rattle.tx_prim.specs.declared.family.Numbered.{Numbered}
-use Rattle.tx_seen.specs.Places.{is_size, place_of}
-use Rattle.tx_seen.specs.declared.error.TexError.TheVariants.{MissingNumber, MissingUnit, DimensionTooLarge}
+use Rattle.tx_seen.specs.Places.{has_size, place_of}
+use Rattle.tx_seen.specs.declared.error.TexError.{TexError}
+use Rattle.tx_seen.specs.declared.fed.Kind.TheVariants.{Quantity}
+use Rattle.tx_seen.specs.declared.fed.Value.{Value}
+use Rattle.tx_seen.specs.declared.fed.Value.TheVariants.{Muglue, Magnification, Absent}
+use Rattle.tx_seen.specs.declared.place.Place.TheVariants.{Magnification as Magnifying}
+use Rattle.tx_seen.specs.declared.error.TexError.TheVariants.{BadMagnification, MissingNumber, MissingUnit, DimensionTooLarge}
 use Rattle.tx_seen.specs.declared.fed.Want.TheVariants.{Expanded}
 use Rattle.tx_seen.specs.declared.seen.Seen.{Seen}
 use Rattle.tx_seen.specs.Seen.{is_space, is_key, is_point}
 use Rattle.tx_seen.specs.declared.item.Item.{Item}
 use Rattle.tx_seen.specs.declared.item.Item.TheVariants.{Took, Gave}
-use Rattle.tx_seen.specs.Readings.{Reading, More, Done, Wrong, next}
+use Rattle.tx_seen.specs.Readings.{Reading, More, Need, Done, Wrong, next}
 use Rattle.tx_scan.specs.declared.scans.Radix.{Radix}
 use Rattle.tx_scan.specs.declared.scans.Radix.TheVariants.{Octal, Decimal, Hexadecimal}
 use Rattle.tx_scan.specs.declared.scans.Units.{Units}
@@ -25,12 +30,14 @@ use Rattle.tx_scan.specs.declared.scans.UnitName.TheVariants.{Physical, Mathemat
 use Rattle.tx_scan.specs.declared.scans.Amount.{Amount}
 use Rattle.tx_scan.specs.declared.scans.Amount.TheVariants.{Whole as The_size, Times}
 use Rattle.tx_scan.specs.declared.scans.Letters.{Letters}
-use Rattle.tx_scan.specs.declared.scans.Letters.TheVariants.{P, I, B, C, M, D, S, E, F, Fi}
+use Rattle.tx_scan.specs.declared.scans.Letters.TheVariants.{P, I, B, C, M, D, S, E, F, Fi, T, Tr, Tru}
 use Rattle.tx_scan.specs.declared.scans.Spelled.{Spelled}
-use Rattle.tx_scan.specs.declared.scans.Spelled.TheVariants.{On, Whole, Infinite, No}
+use Rattle.tx_scan.specs.declared.scans.Spelled.TheVariants.{On, Whole, Infinite, True, No}
 use Rattle.tx_scan.specs.declared.scans.Beginning.{Beginning}
 use Rattle.tx_scan.specs.declared.scans.Beginning.TheVariants as begin
 use Rattle.tx_scan.specs.Beginnings.{base, digit, beginning}
+use Rattle.tx_scan.specs.Mapped.{done_if}
+use Rattle.tx_scan.specs.Quantities.{quantity_begun}
 use Rattle.tx_scan.specs.Integers.{Ended, expanded, unless_space, with_digit, character_code, integer}
 
 -- what stands before a unit: whole units, the digits (as text) behind the point, and the token behind them that is read
@@ -81,8 +88,8 @@ first_unit radix (Took t ∷ rest) = units_from (digit radix t) t rest
     units_from None t rest = expanded t (Wrong MissingNumber)
     units_from (Some d) t rest = whole_units radix d rest
 
--- what the first letter makes of a name: p begins pt and pc, i in, b bp, c cm and cc, d dd, s sp, e em and ex, f fil, and m is
--- for mm, or for mu where that alone may stand
+-- what the first letter makes of a name: p begins pt and pc, i in, b bp, c cm and cc, d dd, s sp, e em and ex, f fil, t true, and m
+-- is for mm, or for mu where that alone may stand
 abbrev pub first_letter : Units → Seen → Spelled
 first_letter units t =
     if units.infinite && is_key (character "f") t then On F
@@ -95,6 +102,19 @@ first_letter units t =
     else if is_key (character "d") t then On D
     else if is_key (character "s") t then On S
     else if is_key (character "e") t then On E
+    else if is_key (character "t") t then On T
+    else No
+
+-- behind `true` a unit stands that is of the same size everywhere (section 458)
+abbrev pub first_letter_behind_true : Seen → Spelled
+first_letter_behind_true t =
+    if is_key (character "m") t then On M
+    else if is_key (character "p") t then On P
+    else if is_key (character "i") t then On I
+    else if is_key (character "b") t then On B
+    else if is_key (character "c") t then On C
+    else if is_key (character "d") t then On D
+    else if is_key (character "s") t then On S
     else No
 
 -- and then the letter behind these
@@ -121,16 +141,25 @@ letter_on units E t =
     else No
 letter_on units F t = if is_key (character "i") t then On Fi else No
 letter_on units Fi t = if is_key (character "l") t then Infinite else No
+letter_on units T t = if is_key (character "r") t then On Tr else No
+letter_on units Tr t = if is_key (character "u") t then On Tru else No
+letter_on units Tru t = if is_key (character "e") t then True else No
 
--- a unit that is named; None: fil
-abbrev pub spelled : (Letters → Reading (Option UnitName)) → Spelled → List Item → Reading (Option UnitName)
+-- a unit by its name, or what stands in its place
+pub data Named : Type 0 where
+  A_unit : UnitName → Named
+  Fil_unit : Named
+  True_unit : Named
+
+abbrev pub spelled : (Letters → Reading Named) → Spelled → List Item → Reading Named
 spelled on (On letters) rest = on letters
-spelled on (Whole unit) rest = Done (Some unit) rest
-spelled on Infinite rest = Done None rest
+spelled on (Whole unit) rest = Done (A_unit unit) rest
+spelled on Infinite rest = Done Fil_unit rest
+spelled on True rest = Done True_unit rest
 spelled on No rest = Wrong MissingUnit
 
 -- the name of a unit behind these letters of it, small or capital
-abbrev pub unit_name : Units → Letters → List Item → Reading (Option UnitName)
+abbrev pub unit_name : Units → Letters → List Item → Reading Named
 unit_name units letters [] = More Expanded
 unit_name units letters (Gave v ∷ rest) = Wrong MissingNumber
 unit_name units letters (Took t ∷ rest) = expanded t (spelled (λ more. unit_name units more rest) (letter_on units letters t) rest)
@@ -173,14 +202,46 @@ fil_rest negative whole part order (Took t ∷ rest) = expanded t (
     else if is_key (character "l") t then more_infinite (raised order) (λ more. fil_rest negative whole part more rest)
     else sized negative (size_of Point whole part) order (Took t ∷ rest))
 
--- what stands behind a unit's name
-abbrev pub unit_ended : Bool → ℕ → ℕ → Option UnitName → List Item → Reading Measure
-unit_ended negative whole part None rest = fil_rest negative whole part Fil rest
-unit_ended negative whole part (Some unit) rest = unit_rest negative whole part unit rest
+-- so many whole units and 65536ths of one, where `true` stands before the unit: they are divided by the magnification over 1000, so
+-- that they come out as long as they are told (section 457)
+abbrev pub magnified_part : ℕ → ℕ → ℕ → ℕ
+magnified_part whole part mag = (part * 1000 + 65536 * (whole * 1000 % mag)) / mag
 
--- whether a size stands at each number of a kind
+abbrev pub magnified : ℕ → ℕ → ℕ → ℕ × ℕ
+magnified whole part mag =
+    if mag == 1000 then (whole, part)
+    else (whole * 1000 / mag + magnified_part whole part mag / 65536, magnified_part whole part mag % 65536)
+
+-- the unit behind `true`, with spaces before it; no f begins one there, nor does a t
+abbrev pub true_ended : Bool → ℕ × ℕ → Named → List Item → Reading Measure
+true_ended negative told (A_unit unit) rest = unit_rest negative told.0 told.1 unit rest
+true_ended negative told Fil_unit rest = fil_rest negative told.0 told.1 Fil rest
+true_ended negative told True_unit rest = Wrong MissingUnit
+
+abbrev pub true_unit : Units → Bool → ℕ × ℕ → List Item → Reading Measure
+true_unit units negative told [] = More Expanded
+true_unit units negative told (Gave v ∷ rest) = Wrong MissingNumber
+true_unit units negative told (Took t ∷ rest) = expanded t (
+    if is_space t then true_unit units negative told rest
+    else next (spelled (λ more. unit_name units more rest) (first_letter_behind_true t) rest) (true_ended negative told))
+
+-- the magnification, if it may be used, and the unit
+abbrev pub behind_true : Units → Bool → ℕ → ℕ → List Item → Reading Measure
+behind_true units negative whole part [] = Need (Quantity Magnifying)
+behind_true units negative whole part (Gave (Magnification zero) ∷ rest) = Wrong BadMagnification
+behind_true units negative whole part (Gave (Magnification (suc mag)) ∷ rest) = true_unit units negative (magnified whole part (suc mag)) rest
+behind_true units negative whole part (Gave Absent ∷ rest) = Wrong BadMagnification
+behind_true units negative whole part (item ∷ rest) = Wrong MissingNumber
+
+-- what stands behind a unit's name
+abbrev pub unit_ended : Units → Bool → ℕ → ℕ → Named → List Item → Reading Measure
+unit_ended units negative whole part Fil_unit rest = fil_rest negative whole part Fil rest
+unit_ended units negative whole part True_unit rest = behind_true units negative whole part rest
+unit_ended units negative whole part (A_unit unit) rest = unit_rest negative whole part unit rest
+
+-- whether a size stands at each number of a kind, or what has one
 abbrev pub is_size_kind : Numbered → Bool
-is_size_kind kind = is_size (place_of kind 0)
+is_size_kind kind = has_size (place_of kind 0)
 
 -- whether a token begins an internal quantity
 abbrev pub is_internal : Beginning → Bool
@@ -205,10 +266,22 @@ abbrev pub amount : ℕ → Amount → ℕ → ℕ
 amount part The_size size = size
 amount part (Times whole) size = size * whole + size * part / 65536
 
--- an internal quantity that ends the dimension, in sp; none counts mu
-abbrev pub ended_with : Units → Bool → ℕ → Amount → ℤ → List Item → Reading Measure
-ended_with units negative part a n rest =
-    if units.mu then Wrong MissingUnit else sized (turned negative n) (amount part a (unsigned_abs n)) Normal rest
+-- an internal quantity that ends the dimension, in sp
+abbrev pub ended_with : Bool → ℕ → Amount → ℤ → List Item → Reading Measure
+ended_with negative part a n rest = sized (turned negative n) (amount part a (unsigned_abs n)) Normal rest
+
+-- one that has to be told in mu (sections 449, 451 and 455)
+abbrev pub measured_by : Bool → ℕ → Order → Result Measure TexError
+measured_by negative size order =
+    if nat_le size 1073741823 then Ok (record { size = signed negative size; order = order }) else Err DimensionTooLarge
+
+abbrev pub mathematical : Bool → ℕ → Amount → Value → Result Measure TexError
+mathematical negative part a (Muglue g) = measured_by (turned negative g.width) (amount part a (unsigned_abs g.width)) Normal
+mathematical negative part a other = Err MissingUnit
+
+abbrev pub in_mu : Bool → ℕ → Amount → Beginning → List Item → Reading Measure
+in_mu negative part a (begin.Number n) rest = Wrong MissingUnit
+in_mu negative part a begun rest = next (quantity_begun begun rest) (λ value rest. done_if (mathematical negative part a value) rest)
 
 -- the unit, with spaces before it, and what stands behind it
 abbrev pub measured : Units → Bool → ℕ → ℕ → List Item → Reading Measure
@@ -216,17 +289,20 @@ measured units negative whole part [] = More Expanded
 measured units negative whole part (Gave v ∷ rest) = Wrong MissingNumber
 measured units negative whole part (Took t ∷ rest) = expanded t (
     if is_space t then measured units negative whole part rest
-    else if is_internal (beginning t) then next (integer (Took t ∷ rest)) (ended_with units negative part (Times whole))
-    else next (spelled (λ more. unit_name units more rest) (first_letter units t) rest) (unit_ended negative whole part))
+    else if is_internal (beginning t) then
+    if units.mu then in_mu negative part (Times whole) (beginning t) rest
+    else next (integer (Took t ∷ rest)) (ended_with negative part (Times whole))
+    else next (spelled (λ more. unit_name units more rest) (first_letter units t) rest) (unit_ended units negative whole part))
 
 -- the unit behind an internal number
 abbrev pub numbered_unit : Units → Bool → ℤ → List Item → Reading Measure
 numbered_unit units negative n rest = measured units (turned negative n) (unsigned_abs n) (fraction_of []) rest
 
--- an internal quantity, which is a size or counts units
-abbrev pub quantified : Units → Bool → Bool → Reading ℤ → Reading Measure
-quantified units negative true reading = next reading (ended_with units negative 0 The_size)
-quantified units negative false reading = next reading (numbered_unit units negative)
+-- an internal quantity, which is a size, or has one, or counts units
+abbrev pub quantified : Units → Bool → Bool → Reading ℤ → Beginning → List Item → Reading Measure
+quantified units negative true reading begun rest =
+    if units.mu then in_mu negative 0 The_size begun rest else next reading (ended_with negative 0 The_size)
+quantified units negative false reading begun rest = next reading (numbered_unit units negative)
 
 -- the unit behind a factor
 abbrev pub factored : Units → Bool → Factor → List Item → Reading Measure
@@ -244,9 +320,9 @@ size_begun units negative on number rest (begin.Digit d) = next (whole_units Dec
 size_begun units negative on number rest (begin.Digits radix) = next (first_unit radix rest) (factored units negative)
 size_begun units negative on number rest begin.Point = next (fraction 0 [] rest) (factored units negative)
 size_begun units negative on number rest begin.Character = next (character_code rest) (counted units negative)
-size_begun units negative on number rest (begin.Number n) = quantified units negative false number
-size_begun units negative on number rest (begin.At place) = quantified units negative (is_size place) number
-size_begun units negative on number rest (begin.Numbered kind) = quantified units negative (is_size_kind kind) number
+size_begun units negative on number rest (begin.Number n) = quantified units negative false number (begin.Number n) rest
+size_begun units negative on number rest (begin.At place) = quantified units negative (has_size place) number (begin.At place) rest
+size_begun units negative on number rest (begin.Numbered kind) = quantified units negative (is_size_kind kind) number (begin.Numbered kind) rest
 size_begun units negative on number rest (begin.Nothing error) = Wrong error
 
 -- a dimension with its signs, whose sign so far is this

@@ -1,16 +1,29 @@
 -- Glue (The TeXbook, chapters 12 and 24; TeX: The Program, section 461).
-use Rattle.std.specs.Prelude.{ℕ, pos, codes, Bool, true, false, List}
-use Rattle.tx_num.specs.Glue.{GlueSpec, glue_of}
+use Rattle.std.specs.Prelude.{ℕ, pos, codes, Bool, true, false, not, ◌||◌, List, [], ◌∷◌, Result, Ok, Err, if◌then◌else◌}
+use Rattle.tx_num.specs.Glue.{GlueSpec, glue_negated, glue_of}
+use Rattle.tx_seen.specs.declared.error.TexError.{TexError}
+use Rattle.tx_seen.specs.declared.error.TexError.TheVariants.{MissingNumber, MissingUnit}
+use Rattle.tx_seen.specs.declared.fed.Value.{Value}
+use Rattle.tx_seen.specs.declared.fed.Value.TheVariants.{Glue, Muglue}
+use Rattle.tx_seen.specs.declared.fed.Want.TheVariants.{Expanded}
+use Rattle.tx_seen.specs.declared.item.Item.TheVariants.{Took, Gave}
+use Rattle.tx_seen.specs.declared.place.Place.{Place}
+use Rattle.tx_seen.specs.Places.{is_glue, is_muglue, place_of}
 use Rattle.tx_seen.specs.declared.item.Item.{Item}
-use Rattle.tx_seen.specs.Readings.{Reading, Done, next}
+use Rattle.tx_seen.specs.Readings.{Reading, More, Done, Wrong, next}
 use Rattle.tx_scan.specs.declared.scans.GluePart.{GluePart}
 use Rattle.tx_scan.specs.declared.scans.GluePart.TheVariants.{Width, Stretch, Shrink}
 use Rattle.tx_scan.specs.declared.scans.Measure.{Measure}
 use Rattle.tx_scan.specs.declared.scans.Order.{Order}
 use Rattle.tx_scan.specs.declared.scans.Order.TheVariants.{Normal, Fil, Fill, Filll}
 use Rattle.tx_scan.specs.declared.scans.Units.{Units}
-use Rattle.tx_scan.specs.Dimensions.{dimension}
+use Rattle.tx_scan.specs.declared.scans.Beginning.{Beginning}
+use Rattle.tx_scan.specs.declared.scans.Beginning.TheVariants as begin
+use Rattle.tx_scan.specs.Beginnings.{beginning}
+use Rattle.tx_scan.specs.Dimensions.{dimension, size_signs}
 use Rattle.tx_scan.specs.Keywords.{keyword}
+use Rattle.tx_scan.specs.Mapped.{done_if}
+use Rattle.tx_scan.specs.Quantities.{quantity_begun}
 
 -- the units of a width, and those of what stretches or shrinks, which may be infinite
 abbrev pub widths : Bool → Units
@@ -61,7 +74,42 @@ no_glue = glue_of (pos 0) (pos 0) 0 (pos 0) 0
 abbrev pub wide : Bool → Measure → List Item → Reading GlueSpec
 wide mu measure rest = stretching mu (with_size Width no_glue measure) rest
 
--- a width, and optional `plus` and `minus` with theirs, in mu or in all other units; the signs before the width are its own
--- alone. An internal dimension is a width; internal glue, whose three sizes the signs turn, isn't there yet.
+-- whether glue stands at a place
+abbrev pub is_elastic : Place → Bool
+is_elastic place = is_glue place || is_muglue place
+
+-- glue with its sign, which turns all three sizes
+abbrev pub signed_glue : Bool → GlueSpec → GlueSpec
+signed_glue negative g = if negative then glue_negated g else g
+
+-- internal glue, which has to be told in mu exactly where this is
+abbrev pub internal : Bool → Bool → Value → Result GlueSpec TexError
+internal mu negative (Glue g) = if mu then Err MissingUnit else Ok (signed_glue negative g)
+internal mu negative (Muglue g) = if mu then Ok (signed_glue negative g) else Err MissingUnit
+internal mu negative other = Err MissingNumber
+
+abbrev pub internal_glue : Bool → Bool → Beginning → List Item → Reading GlueSpec
+internal_glue mu negative begun rest = next (quantity_begun begun rest) (λ value rest. done_if (internal mu negative value) rest)
+
+-- a width behind its signs, and optional `plus` and `minus` with theirs
+abbrev pub told_glue : Bool → Bool → List Item → Reading GlueSpec
+told_glue mu negative items = next (size_signs (widths mu) negative items) (wide mu)
+
+-- what a token begins behind signs, or how reading goes on: internal glue is all of it, an internal dimension is a width
+abbrev pub glue_begun : Bool → Bool → (Bool → Reading GlueSpec) → List Item → List Item → Beginning → Reading GlueSpec
+glue_begun mu negative on items rest begin.Plus = on negative
+glue_begun mu negative on items rest begin.Minus = on (not negative)
+glue_begun mu negative on items rest (begin.At place) =
+    if is_elastic place then internal_glue mu negative (begin.At place) rest else told_glue mu negative items
+glue_begun mu negative on items rest (begin.Numbered kind) =
+    if is_elastic (place_of kind 0) then internal_glue mu negative (begin.Numbered kind) rest else told_glue mu negative items
+glue_begun mu negative on items rest other = told_glue mu negative items
+
+abbrev pub glue_signs : Bool → Bool → List Item → Reading GlueSpec
+glue_signs mu negative [] = More Expanded
+glue_signs mu negative (Gave v ∷ rest) = Wrong MissingNumber
+glue_signs mu negative (Took t ∷ rest) = glue_begun mu negative (λ negative. glue_signs mu negative rest) (Took t ∷ rest) rest (beginning t)
+
+-- glue, in mu or in all other units; the signs before a width are its own alone
 abbrev pub glue : Bool → List Item → Reading GlueSpec
-glue mu items = next (dimension (widths mu) items) (wide mu)
+glue mu items = glue_signs mu false items

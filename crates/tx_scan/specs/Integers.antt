@@ -2,10 +2,10 @@
 use Rattle.std.specs.Prelude.{ℕ, ◌+◌, ◌*◌, ◌∷◌, [], ◌++◌, Bool, false, not, nat_le, ℤ, pos, negsuc, neg_ℤ, ◌≤ℤ◌, int_le, ◌&&◌, List, Option, Some, None, if◌then◌else◌}
 use Rattle.tx_char.specs.declared.tokens.Token.{Token}
 use Rattle.tx_char.specs.declared.tokens.Token.TheVariants as token
-use Rattle.tx_seen.specs.declared.error.TexError.TheVariants.{Undefined, MissingNumber, NotAllowed, NumberOutOfRange, IntegerTooLarge}
+use Rattle.tx_seen.specs.declared.error.TexError.TheVariants.{Undefined, MissingNumber, MissingUnit, NotAllowed, NumberOutOfRange, IntegerTooLarge}
 use Rattle.tx_seen.specs.declared.fed.Want.TheVariants.{Raw, Expanded}
 use Rattle.tx_seen.specs.declared.fed.Kind.TheVariants.{Quantity}
-use Rattle.tx_seen.specs.declared.fed.Value.TheVariants.{Int, Dimen, Flag, Absent}
+use Rattle.tx_seen.specs.declared.fed.Value.TheVariants.{Int, Dimen, Glue, Muglue, Magnification, Flag, Absent}
 use Rattle.tx_seen.specs.declared.place.Place.{Place}
 use Rattle.tx_seen.specs.declared.seen.Seen.{Seen}
 use Rattle.tx_seen.specs.Seen.{is_space, is_undefined}
@@ -98,11 +98,14 @@ IsInRange n = (neg_ℤ (pos 2147483647) ≤ℤ n) × (n ≤ℤ pos 2147483647)
 abbrev pub in_range : ℤ → List Item → Reading ℤ
 in_range n rest = if is_in_range n then Done n rest else Wrong IntegerTooLarge
 
--- a value that was asked for; a size counts in scaled points, and a quantity that the mode lacks is an error (TeX: The Program,
--- section 418)
+-- a value that was asked for; a size counts in scaled points, of glue the width, which may not be told in mu; a quantity that the
+-- mode lacks is an error (TeX: The Program, sections 418 and 429)
 abbrev pub given : Item → List Item → Reading ℤ
 given (Gave (Int n)) rest = in_range n rest
 given (Gave (Dimen n)) rest = in_range n rest
+given (Gave (Glue g)) rest = in_range g.width rest
+given (Gave (Muglue g)) rest = Wrong MissingUnit
+given (Gave (Magnification n)) rest = Wrong MissingNumber
 given (Gave (Flag _)) rest = Wrong MissingNumber
 given (Gave Absent) rest = Wrong NotAllowed
 given (Took t) rest = Wrong MissingNumber

@@ -8,6 +8,8 @@ pub mod Laws
 pub mod Supplied
 pub mod Grammars
 pub mod GrammarRests
+pub mod Quantities
+pub mod QuantityRests
 pub mod Dimensions
 pub mod DimensionRests
 pub mod ControlNames

@@ -69,6 +69,7 @@ fn begun_by_number(kind: Numbered) -> Beginning
 {
     match kind {
         Numbered::Count | Numbered::Dimen => Beginning::Numbered(kind),
+        Numbered::Skip | Numbered::Muskip => Beginning::Numbered(kind),
         Numbered::Category | Numbered::Code(_) | Numbered::Size(_) => Beginning::Numbered(kind),
         Numbered::Toks => nothing(),
     }
@@ -81,6 +82,7 @@ fn begun_by_command(command: Primitive) -> Beginning
     match command {
         Primitive::Integer(parameter) => Beginning::At(Place::Integer(parameter)),
         Primitive::Dimension(parameter) => Beginning::At(Place::Dimension(parameter)),
+        Primitive::Glue(parameter) => Beginning::At(Place::Glue(parameter)),
         Primitive::Numbered(kind) => begun_by_number(kind),
         Primitive::Last(kind) => Beginning::At(Place::Last(kind)),
         Primitive::Badness => Beginning::At(Place::Badness),
@@ -97,7 +99,8 @@ fn begun_by_command(command: Primitive) -> Beginning
         Primitive::Sized(_) | Primitive::Rule(_) | Primitive::Shipout => nothing(),
         Primitive::Box(_) | Primitive::BoxFrom(_) | Primitive::SetBox => nothing(),
         Primitive::Shift(_) | Primitive::Unbox(_) | Primitive::Remove(_) => nothing(),
-        Primitive::Penalty => nothing(),
+        Primitive::HorizontalGlue(_) | Primitive::VerticalGlue(_) => nothing(),
+        Primitive::Penalty | Primitive::Leaders(_) => nothing(),
     }
 }
 
@@ -114,6 +117,8 @@ fn begun_by_meaning(meaning: &Meaning) -> Beginning
         Meaning::MathNumber(number) => Beginning::Number(*number),
         Meaning::CountRegister(number) => Beginning::At(Place::Count(*number)),
         Meaning::DimenRegister(number) => Beginning::At(Place::Dimen(*number)),
+        Meaning::SkipRegister(number) => Beginning::At(Place::Skip(*number)),
+        Meaning::MuskipRegister(number) => Beginning::At(Place::Muskip(*number)),
         Meaning::ToksRegister(_) => nothing(),
         Meaning::Expandable(_) | Meaning::Macro(_) | Meaning::Held => nothing(),
     }

@@ -1,7 +1,7 @@
 //! Clones of scans. Each is the same as its source; its only error is want of memory.
 ghost use Rattle.std.specs.Prelude.{◌≡◌};
 
-use crate::scans::{DimenScan, GlueScan, IntScan};
+use crate::scans::{DimenScan, GlueScan, IntScan, QuantityScan};
 use std::alloc::AllocError;
 
 impl Clone for IntScan {
@@ -12,6 +12,17 @@ impl Clone for IntScan {
             outers: self.outers.clone()?,
             negative: self.negative,
             stage: self.stage,
+        })
+    }
+}
+
+impl Clone for QuantityScan {
+    ghost is_clone = { λ source copy. copy ≡ source };
+
+    fn clone(&self) -> Result<Self, AllocError> {
+        Ok(QuantityScan {
+            stage: self.stage,
+            number: self.number.clone()?,
         })
     }
 }
@@ -29,7 +40,9 @@ impl Clone for DimenScan {
             negative: self.negative,
             stage: self.stage,
             digits: self.digits.clone()?,
+            magnified: self.magnified,
             number: self.number.clone()?,
+            quantity: self.quantity.clone()?,
             behind,
         })
     }

@@ -7,26 +7,31 @@ ghost use Rattle.tx_seen.specs.declared.item.Item.{Item};
 ghost use Rattle.tx_seen.specs.declared.item.Item.TheVariants.{Took, Gave};
 ghost use Rattle.tx_seen.specs.declared.seen.Seen.{Seen};
 ghost use Rattle.tx_seen.specs.Readings.{Answers, next};
-ghost use Rattle.tx_scan.specs.Dimensions.{dimension, ended_with, is_decimal, numbered_unit, quantified, spelled, unit_ended, unit_name};
+ghost use Rattle.tx_scan.specs.Dimensions.{dimension, ended_with, in_mu, is_decimal, numbered_unit, quantified, spelled, unit_ended, unit_name};
 ghost use Rattle.tx_scan.specs.Dimensions as spec;
+ghost use Rattle.tx_scan.specs.Dimensions.{True_unit};
 ghost use Rattle.tx_scan.specs.Integers.{integer, IsInRange};
 ghost use Rattle.tx_scan.specs.IntegerRests as integers;
 ghost use Rattle.tx_scan.specs.declared.scans.Units.{Units as Units_of_size};
 ghost use Rattle.tx_scan.specs.Rests.{IsFedBy, IsGivenBy, IsEnd};
 ghost use Rattle.tx_scan.specs.Supplied.{NeedsFewer, NeedsNoMore};
-ghost use Rattle.tx_scan.specs.DimensionRests.{HasTaken, IsFed, IsMeasuring, IsSize, IsUnit, begun_size, held, held_items, more_needed, rest};
+ghost use Rattle.tx_scan.specs.DimensionRests.{HasTaken, IsFed, IsMeasuring, IsSize, IsUnit, begun_size, begun_size_behind, held, held_items, more_needed, name_ended, part_of, rest};
+ghost use Rattle.tx_scan.specs.Beginnings as beginnings;
+ghost use Rattle.tx_scan.specs.Mapped.{fed_if, settled};
 
 use crate::beginnings::{beginning, digit};
 use crate::fraction::Digits;
 use crate::integer::{character_named, first, longer};
 use crate::scans::{
-    Amount, Beginning, Constant, DimenScan, DimenStage, IntScan, Letters, Measure, Order, Radix,
-    Spelled, UnitName, Units,
+    Amount, Beginning, Constant, DimenScan, DimenStage, IntScan, Letters, Measure, Order, Portion,
+    QuantityScan, Radix, Sought, Spelled, UnitName, Units,
 };
-use crate::units::{first_letter, is_internal, letter_on, raised, size_in};
+use crate::units::{
+    first_letter, first_letter_behind_true, is_internal, letter_on, magnified, raised, size_in,
+};
 use std::alloc::{AllocError, Global};
 use tx_num::PhysicalUnit;
-use tx_seen::{Fed, Place, Seen, TexError, Value, Want};
+use tx_seen::{Fed, Kind, Place, Seen, TexError, Value, Want};
 
 impl DimenScan {
     /// The scan of a dimension of which nothing is read: in mu alone or in all other units, with the infinite ones or without.
@@ -40,7 +45,9 @@ impl DimenScan {
             negative: false,
             stage: DimenStage::Signs,
             digits: Digits::new(alloc),
+            magnified: None,
             number: IntScan::new(alloc),
+            quantity: QuantityScan::new(alloc),
             behind: None,
         }
     }
@@ -50,12 +57,33 @@ impl DimenScan {
         ensures scan { self.new ≡ begun_size (record { mu = mu; infinite = infinite }) }
         ensures taken { HasTaken (record { mu = mu; infinite = infinite }) self.new [] }
     {
+        self.restart_behind(mu, infinite, false);
+    }
+
+    /// Forgets what was read, in the memory that it has, for a dimension in such units behind signs that make it negative or
+    /// don't.
+    pub(crate) fn restart_behind(&mut self, mu: bool, infinite: bool, negative: bool)
+        ensures { self.new ≡ begun_size_behind negative (record { mu = mu; infinite = infinite }) }
+    {
         self.units = Units { mu, infinite };
-        self.negative = false;
+        self.negative = negative;
         self.stage = DimenStage::Signs;
         self.digits.clear();
+        self.magnified = None;
         self.number.restart();
+        self.quantity.restart();
         self.behind = None;
+    }
+
+    /// The fraction behind whole units, in 65536ths.
+    fn part(&self) -> u32
+        ensures value { result ≡ part_of self.now.magnified self.now.digits }
+        ensures bound { result ≤ 65536 }
+    {
+        match self.magnified {
+            Some(portion) => portion.part,
+            None => self.digits.value(),
+        }
     }
 
     /// Takes one token, at first and after More. The answer is what reading gives of all that was taken. Its only error is
@@ -85,6 +113,14 @@ impl DimenScan {
             DimenStage::AfterCharacter(code) => self.feed_after_character(code, token),
             DimenStage::Coefficient => self.feed_coefficient(token),
             DimenStage::Quantity(amount) => self.feed_quantity(amount, token),
+            DimenStage::Mathematical(amount) => {
+                let fed = self.quantity.feed(token)?;
+                Ok(self.mathematical(amount, fed))
+            }
+            DimenStage::Magnification(_) => Ok(Fed::Wrong(TexError::MissingNumber)),
+            DimenStage::TrueUnit(whole, portion) => {
+                Ok(self.feed_true_unit(whole, portion, token))
+            }
             DimenStage::Unit(whole) => self.feed_unit(whole, token),
             DimenStage::Name(whole, letters) => Ok(self.feed_letter(whole, letters, token)),
             DimenStage::AfterUnit(whole, unit) => Ok(self.feed_end(whole, unit, token)),
@@ -112,13 +148,20 @@ impl DimenScan {
         match self.stage {
             DimenStage::Coefficient => self.give_coefficient(value),
             DimenStage::Quantity(amount) => Ok(self.give_quantity(amount, value)),
+            DimenStage::Mathematical(amount) => {
+                let fed = self.quantity.give(value);
+                Ok(self.mathematical(amount, fed))
+            }
+            DimenStage::Magnification(whole) => Ok(self.give_magnification(whole, value)),
             DimenStage::Signs | DimenStage::FirstDigit(_) | DimenStage::Digits(_) => {
                 Ok(Fed::Wrong(TexError::MissingNumber))
             }
             DimenStage::Fraction(_) | DimenStage::Character | DimenStage::AfterCharacter(_) => {
                 Ok(Fed::Wrong(TexError::MissingNumber))
             }
-            DimenStage::Unit(_) | DimenStage::Name(_, _) => Ok(Fed::Wrong(TexError::MissingNumber)),
+            DimenStage::Unit(_) | DimenStage::TrueUnit(_, _) | DimenStage::Name(_, _) => {
+                Ok(Fed::Wrong(TexError::MissingNumber))
+            }
             DimenStage::AfterUnit(_, _) | DimenStage::AfterFil(_, _) => {
                 Ok(Fed::Wrong(TexError::MissingNumber))
             }
@@ -161,9 +204,9 @@ impl DimenScan {
                 Ok(Fed::More(Want::Raw))
             }
             Beginning::Number(_) => self.begin_quantity(false, token),
-            Beginning::At(place) => self.begin_quantity(place.is_size(), token),
+            Beginning::At(place) => self.begin_quantity(place.has_size(), token),
             Beginning::Numbered(kind) => {
-                self.begin_quantity(Place::numbered(kind, 0).is_size(), token)
+                self.begin_quantity(Place::numbered(kind, 0).has_size(), token)
             }
             Beginning::Nothing(error) => Ok(Fed::Wrong(error)),
         }
@@ -171,16 +214,18 @@ impl DimenScan {
 
     /// An internal quantity: a size is the dimension, a number its factor. Its only error is want of memory.
     fn begin_quantity(&mut self, is_size: bool, token: &Seen) -> Result<Fed<Measure>, AllocError>
-        ensures fed { IfOk result (IsMeasuring 0 (λ more. quantified self.old.units self.old.negative is_size (integer (Took token.now ∷ more))) token.now self.new) }
+        ensures fed { IfOk result (IsMeasuring 0 (λ more. quantified self.old.units self.old.negative is_size (integer (Took token.now ∷ more)) (beginnings.beginning token.now) more) token.now self.new) }
         ensures size { IfOk result IsSize }
         ensures needed { IfOk result (NeedsNoMore 0 (more_needed self.new)) }
     {
         self.number.restart();
-        if is_size {
-            self.feed_quantity(Amount::Whole, token)
-        } else {
-            self.feed_coefficient(token)
+        if !is_size {
+            return self.feed_coefficient(token);
         }
+        if self.units.mu {
+            return Ok(self.begin_mathematical(Amount::Whole, beginning(token)));
+        }
+        self.feed_quantity(Amount::Whole, token)
     }
 
     /// A number that is the factor, or what ends it. Its only error is want of memory.
@@ -253,9 +298,99 @@ impl DimenScan {
         self.feed_unit(magnitude(number), token)
     }
 
+    /// An internal quantity that has to be told in mu.
+    fn begin_mathematical(&mut self, amount: Amount, beginning: Beginning) -> Fed<Measure>
+        ensures fed { (t : Seen) → IsMeasuring 0 (λ more. in_mu self.old.negative (fraction_of self.old.digits) amount beginning more) t self.new result }
+        ensures size { IsSize result }
+        ensures needed { NeedsNoMore 0 (more_needed self.new) result }
+    {
+        self.stage = DimenStage::Mathematical(amount);
+        match beginning {
+            Beginning::At(place) => {
+                let fed = self.quantity.begin_at(place);
+                self.mathematical(amount, fed)
+            }
+            Beginning::Numbered(kind) => {
+                let fed = self.quantity.begin_behind(Sought::Numbered(kind));
+                self.mathematical(amount, fed)
+            }
+            Beginning::Number(_) => Fed::Wrong(TexError::MissingUnit),
+            Beginning::Plus | Beginning::Minus | Beginning::Digit(_) | Beginning::Digits(_) => {
+                Fed::Wrong(TexError::MissingNumber)
+            }
+            Beginning::Character | Beginning::Point | Beginning::Nothing(_) => {
+                Fed::Wrong(TexError::MissingNumber)
+            }
+        }
+    }
+
+    /// What becomes of the dimension by what the scan of a quantity answers that has to be told in mu.
+    fn mathematical(&self, amount: Amount, fed: Fed<Value>) -> Fed<Measure>
+        ensures answer { result ≡ settled (spec.mathematical self.now.negative (fraction_of self.now.digits) amount) fed }
+        ensures size { IsSize result }
+    {
+        match fed {
+            Fed::More(want) => Fed::More(want),
+            Fed::Need(kind) => Fed::Need(kind),
+            Fed::Done(value, back) => self.in_mu(amount, &value, back),
+            Fed::Wrong(error) => Fed::Wrong(error),
+        }
+    }
+
+    /// The dimension that such a quantity is, where so many tokens are given back.
+    fn in_mu(&self, amount: Amount, value: &Value, back: usize) -> Fed<Measure>
+        ensures answer { result ≡ fed_if (spec.mathematical self.now.negative (fraction_of self.now.digits) amount value.now) back }
+        ensures size { IsSize result }
+    {
+        match value {
+            Value::Muglue(glue) => self.amounts(amount, glue.width(), back),
+            Value::Int(_) | Value::Dimen(_) | Value::Glue(_) | Value::Magnification(_) => {
+                Fed::Wrong(TexError::MissingUnit)
+            }
+            Value::Flag(_) | Value::Absent => Fed::Wrong(TexError::MissingUnit),
+        }
+    }
+
+    /// The magnification behind `true`, by which so many whole units and their fraction are divided.
+    fn give_magnification(&mut self, whole: u32, value: &Value) -> Fed<Measure>
+        requires { self.old.stage ≡ DimenStage.Magnification whole }
+        ensures part { IsGivenBy rest held self.old value.now self.new result }
+        ensures size { IsSize result }
+        ensures fewer { NeedsFewer (more_needed self.old) (more_needed self.new) result }
+    {
+        match value {
+            Value::Magnification(0) | Value::Absent => Fed::Wrong(TexError::BadMagnification),
+            Value::Magnification(magnification) => {
+                let (whole, part) = magnified(whole, self.digits.value(), *magnification);
+                self.on(DimenStage::TrueUnit(whole, Portion { part }))
+            }
+            Value::Int(_) | Value::Dimen(_) | Value::Glue(_) | Value::Muglue(_) => {
+                Fed::Wrong(TexError::MissingNumber)
+            }
+            Value::Flag(_) => Fed::Wrong(TexError::MissingNumber),
+        }
+    }
+
+    /// A space before the unit behind `true`, or the first letter of its name.
+    fn feed_true_unit(&mut self, whole: u32, portion: Portion, token: &Seen) -> Fed<Measure>
+        requires { self.old.stage ≡ DimenStage.TrueUnit whole portion }
+        ensures fed { IsFed self.old token.now self.new result }
+        ensures size { IsSize result }
+        ensures needed { NeedsNoMore (more_needed self.old) (more_needed self.new) result }
+    {
+        if token.is_undefined() {
+            return Fed::Wrong(TexError::Undefined);
+        }
+        if token.is_space() {
+            return self.on(DimenStage::TrueUnit(whole, portion));
+        }
+        self.magnified = Some(portion);
+        self.named(whole, first_letter_behind_true(token))
+    }
+
     /// An internal quantity that ends the dimension, or what ends it. Its only error is want of memory.
     fn feed_quantity(&mut self, amount: Amount, token: &Seen) -> Result<Fed<Measure>, AllocError>
-        ensures fed { IfOk result (λ answer. (behind : List Item) → IsMeasuring (integers.most self.old.number) (λ more. next (integers.rest self.old.number behind (Took token.now) more) (ended_with self.old.units self.old.negative (fraction_of self.old.digits) amount)) token.now self.new answer) }
+        ensures fed { IfOk result (λ answer. (behind : List Item) → IsMeasuring (integers.most self.old.number) (λ more. next (integers.rest self.old.number behind (Took token.now) more) (ended_with self.old.negative (fraction_of self.old.digits) amount)) token.now self.new answer) }
         ensures size { IfOk result IsSize }
         ensures needed { IfOk result (NeedsNoMore (integers.waiting self.old.number) (more_needed self.new)) }
     {
@@ -286,13 +421,10 @@ impl DimenScan {
     /// The quantity is whole, and so is the dimension; so many tokens behind it are given back.
     fn amounts(&self, amount: Amount, number: i64, back: usize) -> Fed<Measure>
         requires { IsInRange number }
-        ensures end { IsEnd (λ more. ended_with self.now.units self.now.negative (fraction_of self.now.digits) amount number more) back result }
+        ensures end { IsEnd (λ more. ended_with self.now.negative (fraction_of self.now.digits) amount number more) back result }
         ensures size { IsSize result }
         ensures needed { (old new : ℕ) → NeedsFewer old new result }
     {
-        if self.units.mu {
-            return Fed::Wrong(TexError::MissingUnit);
-        }
         let size = amount_of(self.digits.value(), amount, magnitude(number));
         if size > MAX_DIMENSION {
             return Fed::Wrong(TexError::DimensionTooLarge);
@@ -395,16 +527,21 @@ impl DimenScan {
         if token.is_space() {
             return Ok(self.on(DimenStage::Unit(whole)));
         }
-        if is_internal(&beginning(token)) {
+        let begun = beginning(token);
+        if is_internal(&begun) {
+            if self.units.mu {
+                return Ok(self.begin_mathematical(Amount::Times(whole), begun));
+            }
             self.number.restart();
             return self.feed_quantity(Amount::Times(whole), token);
         }
+        self.magnified = None;
         Ok(self.named(whole, first_letter(self.units, token)))
     }
 
     /// What one more letter makes of a unit's name.
     fn named(&mut self, whole: u32, spelling: Spelled) -> Fed<Measure>
-        ensures fed { (t : Seen) → IsMeasuring 0 (λ more. next (spelled (λ letters. unit_name self.old.units letters more) spelling more) (unit_ended self.old.negative whole (fraction_of self.old.digits))) t self.new result }
+        ensures fed { (t : Seen) → IsMeasuring 0 (λ more. next (spelled (λ letters. unit_name self.old.units letters more) spelling more) (name_ended self.old.magnified self.old.units self.old.negative whole (fraction_of self.old.digits))) t self.new result }
         ensures size { IsSize result }
         ensures needed { NeedsNoMore 0 (more_needed self.new) result }
     {
@@ -412,8 +549,22 @@ impl DimenScan {
             Spelled::On(letters) => self.on(DimenStage::Name(whole, letters)),
             Spelled::Whole(unit) => self.on(DimenStage::AfterUnit(whole, unit)),
             Spelled::Infinite => self.on(DimenStage::AfterFil(whole, Order::Fil)),
+            Spelled::True => self.to_magnification(whole),
             Spelled::No => Fed::Wrong(TexError::MissingUnit),
         }
+    }
+
+    /// The magnification is needed behind `true`, which stands once.
+    fn to_magnification(&mut self, whole: u32) -> Fed<Measure>
+        ensures fed { (t : Seen) → IsMeasuring 0 (λ more. name_ended self.old.magnified self.old.units self.old.negative whole (fraction_of self.old.digits) True_unit more) t self.new result }
+        ensures size { IsSize result }
+        ensures needed { NeedsNoMore 0 (more_needed self.new) result }
+    {
+        if self.magnified.is_some() {
+            return Fed::Wrong(TexError::MissingUnit);
+        }
+        self.stage = DimenStage::Magnification(whole);
+        Fed::Need(Kind::Quantity(Place::Magnification))
     }
 
     /// One more letter of a unit's name.
@@ -439,7 +590,7 @@ impl DimenScan {
         if token.is_undefined() {
             return Fed::Wrong(TexError::Undefined);
         }
-        match size_in(unit, whole, self.digits.value()) {
+        match size_in(unit, whole, self.part()) {
             Ok(size) => {
                 let size = signed_size(self.negative, size);
                 let measure = Measure {
@@ -475,7 +626,7 @@ impl DimenScan {
                 None => Fed::Wrong(TexError::MissingUnit),
             };
         }
-        match PhysicalUnit::Point.to_scaled(whole, self.digits.value()) {
+        match PhysicalUnit::Point.to_scaled(whole, self.part()) {
             Ok(size) => {
                 let size = signed_size(self.negative, size);
                 Fed::Done(Measure { size, order }, 1)

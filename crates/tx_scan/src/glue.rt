@@ -4,17 +4,22 @@ ghost use Rattle.tx_seen.specs.declared.item.Item.{Item};
 ghost use Rattle.tx_seen.specs.declared.item.Item.TheVariants.{Took, Gave};
 ghost use Rattle.tx_seen.specs.Readings.{Answers, last};
 ghost use Rattle.tx_scan.specs.Glues as spec;
+ghost use Rattle.tx_scan.specs.Mapped.{fed_if, settled};
+ghost use Rattle.tx_scan.specs.declared.scans.Beginning.TheVariants as begin;
 ghost use Rattle.tx_scan.specs.Rests.{IsFedBy, IsGivenBehind, IsRead};
 ghost use Rattle.tx_scan.specs.Supplied.{NeedsFewer, NeedsNoMore};
-ghost use Rattle.tx_scan.specs.GlueRests.{HasTaken, IsSizing, IsWaiting, begun_glue, behind_size, elastic, held, minus_rest, more_needed, plus_rest, rest};
+ghost use Rattle.tx_scan.specs.GlueRests.{HasTaken, IsBegun, IsSizing, IsWaiting, begun_glue, behind_size, elastic, held, minus_rest, more_needed, plus_rest, rest};
 ghost use Rattle.tx_scan.specs.GlueRests as rests;
 
+use crate::beginnings::beginning;
 use crate::scans::{
-    DimenScan, GluePart, GlueScan, GlueStage, KeyScan, Measure, MinusScan, Order, PlusScan,
+    Beginning, DimenScan, GluePart, GlueScan, GlueStage, KeyScan, Measure, MinusScan, Order,
+    PlusScan, Sought,
 };
 use std::alloc::{AllocError, Global};
 use tx_num::Glue;
-use tx_seen::{Fed, Seen, Value, Want};
+use tx_prim::Numbered;
+use tx_seen::{Fed, Place, Seen, TexError, Value, Want};
 
 impl GlueScan {
     /// The scan of glue of which nothing is read: in mu alone or in all other units. It takes no memory.
@@ -24,7 +29,7 @@ impl GlueScan {
     {
         GlueScan {
             mu,
-            stage: GlueStage::Size(GluePart::Width),
+            stage: GlueStage::Signs(false),
             size: DimenScan::new(alloc, mu, false),
             glue: Glue::zero(),
         }
@@ -36,7 +41,7 @@ impl GlueScan {
         ensures taken { HasTaken mu self.new [] }
     {
         self.mu = mu;
-        self.stage = GlueStage::Size(GluePart::Width);
+        self.stage = GlueStage::Signs(false);
         self.size.restart(mu, false);
         self.glue = Glue::zero();
     }
@@ -59,6 +64,11 @@ impl GlueScan {
         ensures waits { IfOk result (IsWaiting self.new) }
     {
         match self.stage {
+            GlueStage::Signs(negative) => self.feed_sign(negative, token),
+            GlueStage::Quantity(negative) => {
+                let fed = self.size.quantity.feed(token)?;
+                Ok(self.internal(negative, fed))
+            }
             GlueStage::Size(part) => self.feed_size(part, token),
             GlueStage::Plus(plus) => Ok(self.feed_plus(plus, token)),
             GlueStage::Minus(minus) => Ok(self.feed_minus(minus, token)),
@@ -87,8 +97,116 @@ impl GlueScan {
         ensures waits { IfOk result (IsWaiting self.new) }
     {
         match self.stage {
+            GlueStage::Quantity(negative) => {
+                let fed = self.size.quantity.give(value);
+                Ok(self.internal(negative, fed))
+            }
             GlueStage::Size(part) => self.give_size(part, value, behind),
-            GlueStage::Plus(_) | GlueStage::Minus(_) => unreachable!(),
+            GlueStage::Signs(_) | GlueStage::Plus(_) | GlueStage::Minus(_) => unreachable!(),
+        }
+    }
+
+    /// Signs and spaces, or what begins the glue. Its only error is want of memory.
+    fn feed_sign(&mut self, negative: bool, token: &Seen) -> Result<Fed<Glue>, AllocError>
+        requires { self.old.stage ≡ GlueStage.Signs negative }
+        ensures part { IfOk result (IsFedBy rest held self.old token.now self.new) }
+        ensures needed { IfOk result (NeedsNoMore (more_needed self.old) (more_needed self.new)) }
+        ensures waits { IfOk result (IsWaiting self.new) }
+    {
+        match beginning(token) {
+            Beginning::Plus => Ok(Fed::More(Want::Expanded)),
+            Beginning::Minus => Ok(self.on(GlueStage::Signs(!negative))),
+            Beginning::At(place) => self.begin_at(negative, place, token),
+            Beginning::Numbered(kind) => self.begin_behind(negative, kind, token),
+            Beginning::Digit(_) => self.begin_width(negative, token),
+            Beginning::Digits(_) => self.begin_width(negative, token),
+            Beginning::Character => self.begin_width(negative, token),
+            Beginning::Point => self.begin_width(negative, token),
+            Beginning::Number(_) => self.begin_width(negative, token),
+            Beginning::Nothing(_) => self.begin_width(negative, token),
+        }
+    }
+
+    /// What stands at a place: glue, or the width. Its only error is want of memory.
+    fn begin_at(
+        &mut self,
+        negative: bool,
+        place: Place,
+        token: &Seen,
+    ) -> Result<Fed<Glue>, AllocError>
+        ensures fed { IfOk result (IsBegun self.old.mu negative token.now (begin.At place) self.new) }
+        ensures needed { IfOk result (NeedsNoMore 0 (more_needed self.new)) }
+        ensures waits { IfOk result (IsWaiting self.new) }
+    {
+        if !is_elastic(&place) {
+            return self.begin_width(negative, token);
+        }
+        self.stage = GlueStage::Quantity(negative);
+        let fed = self.size.quantity.begin_at(place);
+        Ok(self.internal(negative, fed))
+    }
+
+    /// What stands at a number of this kind, which follows: glue, or the width. Its only error is want of memory.
+    fn begin_behind(
+        &mut self,
+        negative: bool,
+        kind: Numbered,
+        token: &Seen,
+    ) -> Result<Fed<Glue>, AllocError>
+        ensures fed { IfOk result (IsBegun self.old.mu negative token.now (begin.Numbered kind) self.new) }
+        ensures needed { IfOk result (NeedsNoMore 0 (more_needed self.new)) }
+        ensures waits { IfOk result (IsWaiting self.new) }
+    {
+        if !is_elastic(&Place::numbered(kind, 0)) {
+            return self.begin_width(negative, token);
+        }
+        self.stage = GlueStage::Quantity(negative);
+        let fed = self.size.quantity.begin_behind(Sought::Numbered(kind));
+        Ok(self.internal(negative, fed))
+    }
+
+    /// The first token of a width behind its signs. Its only error is want of memory.
+    fn begin_width(&mut self, negative: bool, token: &Seen) -> Result<Fed<Glue>, AllocError>
+        ensures fed { IfOk result (IsRead rest held 1 (λ more. spec.told_glue self.old.mu negative (Took token.now ∷ more)) (Took token.now ∷ []) self.new) }
+        ensures needed { IfOk result (NeedsNoMore 0 (more_needed self.new)) }
+        ensures waits { IfOk result (IsWaiting self.new) }
+    {
+        self.size.restart_behind(self.mu, false, negative);
+        self.stage = GlueStage::Size(GluePart::Width);
+        self.feed_size(GluePart::Width, token)
+    }
+
+    /// What becomes of the glue by what the scan of internal glue answers; it has to be told in mu exactly where this is.
+    fn internal(&self, negative: bool, fed: Fed<Value>) -> Fed<Glue>
+        ensures { result ≡ settled (spec.internal self.now.mu negative) fed }
+    {
+        match fed {
+            Fed::More(want) => Fed::More(want),
+            Fed::Need(kind) => Fed::Need(kind),
+            Fed::Done(value, back) => self.glue_in(negative, &value, back),
+            Fed::Wrong(error) => Fed::Wrong(error),
+        }
+    }
+
+    /// The glue that such a value is, where so many tokens are given back.
+    fn glue_in(&self, negative: bool, value: &Value, back: usize) -> Fed<Glue>
+        ensures { result ≡ fed_if (spec.internal self.now.mu negative value.now) back }
+    {
+        match value {
+            Value::Glue(glue) => {
+                if self.mu {
+                    return Fed::Wrong(TexError::MissingUnit);
+                }
+                Fed::Done(signed_glue(negative, *glue), back)
+            }
+            Value::Muglue(glue) => {
+                if self.mu {
+                    return Fed::Done(signed_glue(negative, *glue), back);
+                }
+                Fed::Wrong(TexError::MissingUnit)
+            }
+            Value::Int(_) | Value::Dimen(_) | Value::Flag(_) => Fed::Wrong(TexError::MissingNumber),
+            Value::Magnification(_) | Value::Absent => Fed::Wrong(TexError::MissingNumber),
         }
     }
 
@@ -220,6 +338,20 @@ impl GlueScan {
         self.stage = stage;
         Fed::More(Want::Expanded)
     }
+}
+
+/// Whether glue stands at a place, told in mu or not.
+fn is_elastic(place: &Place) -> bool
+    ensures { result ≡ spec.is_elastic place.now }
+{
+    place.is_glue() || place.is_muglue()
+}
+
+/// Glue with its sign.
+fn signed_glue(negative: bool, glue: Glue) -> Glue
+    ensures { result ≡ spec.signed_glue negative glue }
+{
+    if negative { glue.negated() } else { glue }
 }
 
 /// So many letters of `plus` are read, and so many of their tokens held.

@@ -151,7 +151,9 @@ impl IntScan {
         match value {
             Value::Int(number) => self.given(*number, held),
             Value::Dimen(size) => self.given(*size, held),
-            Value::Flag(_) => Fed::Wrong(TexError::MissingNumber),
+            Value::Glue(glue) => self.given(glue.width(), held),
+            Value::Muglue(_) => Fed::Wrong(TexError::MissingUnit),
+            Value::Flag(_) | Value::Magnification(_) => Fed::Wrong(TexError::MissingNumber),
             Value::Absent => Fed::Wrong(TexError::NotAllowed),
         }
     }

@@ -6,7 +6,7 @@
 //! Proved: each scan answers exactly what its grammar gives of all tokens and values that were taken; an integer's answers
 //! are final. Only tested: that the grammars are Knuth's, on numbers, keywords and names that his program reads alike.
 //!
-//! Read `scans`, `beginnings` and `lists`, then `integer`, `dimension`, `keyword`, `glue` and `grammars`; `spellings`, `control_name` and
+//! Read `scans`, `beginnings` and `lists`, then `integer`, `quantity`, `dimension`, `keyword`, `glue` and `grammars`; `spellings`, `control_name` and
 //! `file_name`; and `supplying`, `giving_back` and `laws`.
 #![tactic(auto)]
 
@@ -24,6 +24,7 @@ mod keyword;
 mod laws;
 mod lists;
 mod outers;
+mod quantity;
 mod scans;
 mod spellings;
 mod supplying;
@@ -37,7 +38,7 @@ pub use laws::integers_are_read_from_the_left;
 pub use lists::list_begun;
 pub use scans::{
     Beginning, BraceScan, DimenScan, EqualsScan, GlueScan, IntScan, KeyScan, ListBegun, Measure,
-    NameScan, Order, Units,
+    NameScan, Order, QuantityScan, Sought, Units,
 };
 pub use spellings::{ControlNameScan, FileNameScan};
 pub use supplying::{Needs, supply};

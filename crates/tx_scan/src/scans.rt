@@ -4,7 +4,7 @@ ghost use Rattle.std.specs.Prelude.{◌≤◌, ◌<◌};
 use crate::fraction::Digits;
 use tx_list::Stack;
 use tx_num::{Glue, PhysicalUnit};
-use tx_prim::Numbered;
+use tx_prim::{BoxTest, Numbered};
 use tx_seen::{Place, Seen, TexError};
 
 /// What the digits of a constant count in.
@@ -94,6 +94,31 @@ pub struct IntScan {
     pub(crate) stage: IntStage,
 }
 
+/// What the number behind a token tells apart.
+#[derive(Clone, Copy, PartialEq, Eq)]
+pub enum Sought {
+    /// Registers, codes and sizes of boxes.
+    Numbered(Numbered),
+    /// Box registers that are tested.
+    Box(BoxTest),
+}
+
+/// The part of an internal quantity that comes next.
+#[derive(Clone, Copy)]
+pub enum QuantityStage {
+    /// The number of one of these.
+    Number(Sought),
+    /// The value that is needed. So many tokens, at most one, were taken behind the number, and aren't part of it.
+    Given(usize),
+}
+
+/// An internal quantity that is being scanned.
+#[derive(Drop)]
+pub struct QuantityScan {
+    pub(crate) stage: QuantityStage,
+    pub(crate) number: IntScan,
+}
+
 /// A keyword that is being scanned; who feeds it knows the word.
 #[derive(Clone, Copy)]
 pub struct KeyScan {
@@ -163,6 +188,9 @@ pub enum Letters {
     E,
     F,
     Fi,
+    T,
+    Tr,
+    Tru,
 }
 
 /// What one more letter makes of a unit's name.
@@ -174,6 +202,8 @@ pub enum Spelled {
     Whole(UnitName),
     /// `fil`.
     Infinite,
+    /// `true`, behind which a unit is told.
+    True,
     /// No name.
     No,
 }
@@ -185,6 +215,13 @@ pub enum Amount {
     Whole,
     /// What is multiplied, by so many whole ones.
     Times(u32),
+}
+
+/// So many 65536ths of a unit, and no more than one.
+#[derive(Clone, Copy)]
+pub struct Portion {
+    pub(crate) part: u32,
+    ghost within: { part ≤ 65536 },
 }
 
 /// The part of a dimension that comes next.
@@ -206,10 +243,16 @@ pub enum DimenStage {
     Coefficient,
     /// An internal quantity, which ends the dimension.
     Quantity(Amount),
+    /// One that is told in mu.
+    Mathematical(Amount),
     /// Spaces, then an internal quantity or a unit's name, where so many whole ones are told.
     Unit(u32),
     /// The letters of a unit's name behind these.
     Name(u32, Letters),
+    /// The magnification, which is needed behind `true`.
+    Magnification(u32),
+    /// Spaces, then a unit's name, behind `true`, where so many whole ones and such a part of one are told.
+    TrueUnit(u32, Portion),
     /// An optional space behind the unit.
     AfterUnit(u32, UnitName),
     /// Spaces behind `fil`, and letters that make it more infinite.
@@ -225,8 +268,12 @@ pub struct DimenScan {
     pub(crate) stage: DimenStage,
     /// The digits of the fraction that are read and count.
     pub(crate) digits: Digits,
+    /// The fraction where `true` has changed it.
+    pub(crate) magnified: Option<Portion>,
     /// An internal quantity.
     pub(crate) number: IntScan,
+    /// One that is told in mu, or internal glue.
+    pub(crate) quantity: QuantityScan,
     /// The token behind the register of a number that is the factor, where that waits for its value.
     pub(crate) behind: Option<Seen>,
 }
@@ -262,6 +309,10 @@ pub enum GluePart {
 /// The part of glue that comes next.
 #[derive(Clone, Copy)]
 pub enum GlueStage {
+    /// Signs and spaces, then the glue; whether the signs so far make it negative.
+    Signs(bool),
+    /// Internal glue, with this sign.
+    Quantity(bool),
     /// This size.
     Size(GluePart),
     /// The letters of `plus`, or what stands in their place.

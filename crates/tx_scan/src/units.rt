@@ -81,7 +81,35 @@ pub(crate) fn first_letter(units: Units, token: &Seen) -> Spelled
     if token.is_key(b's') {
         return Spelled::On(Letters::S);
     }
-    on_if(token.is_key(b'e'), Letters::E)
+    if token.is_key(b'e') {
+        return Spelled::On(Letters::E);
+    }
+    on_if(token.is_key(b't'), Letters::T)
+}
+
+/// What the first letter begins behind `true`: a unit that is of the same size everywhere.
+pub(crate) fn first_letter_behind_true(token: &Seen) -> Spelled
+    ensures { result ≡ spec.first_letter_behind_true token.now }
+{
+    if token.is_key(b'm') {
+        return Spelled::On(Letters::M);
+    }
+    if token.is_key(b'p') {
+        return Spelled::On(Letters::P);
+    }
+    if token.is_key(b'i') {
+        return Spelled::On(Letters::I);
+    }
+    if token.is_key(b'b') {
+        return Spelled::On(Letters::B);
+    }
+    if token.is_key(b'c') {
+        return Spelled::On(Letters::C);
+    }
+    if token.is_key(b'd') {
+        return Spelled::On(Letters::D);
+    }
+    on_if(token.is_key(b's'), Letters::S)
 }
 
 /// What an m begins that stands for so much by the next letter.
@@ -139,7 +167,42 @@ pub(crate) fn letter_on(units: Units, letters: Letters, token: &Seen) -> Spelled
                 Spelled::No
             }
         }
+        Letters::T => on_if(token.is_key(b'r'), Letters::Tr),
+        Letters::Tr => on_if(token.is_key(b'u'), Letters::Tru),
+        Letters::Tru => {
+            if token.is_key(b'e') {
+                Spelled::True
+            } else {
+                Spelled::No
+            }
+        }
     }
+}
+
+/// Past every dimension, in whole units of each kind.
+const TOO_MANY: u64 = 2_147_483_647;
+
+/// So many whole units and 65536ths of one where `true` stands before the unit: they are divided by this magnification over 1000,
+/// so that they come out as long as they are told; too many units are as many as don't fit (TeX: The Program, section 457).
+pub(crate) fn magnified(whole: u32, part: u32, magnification: u16) -> (u32, u32)
+    requires part { part ≤ 65536 }
+    requires some { 0 < magnification }
+    ensures value { result.0 < 2147483647 → result ≡ spec.magnified whole part magnification }
+    ensures many { 2147483647 ≤ result.0 → 2147483647 ≤ (spec.magnified whole part magnification).0 }
+    ensures bound { result.1 ≤ 65536 }
+{
+    if magnification == 1000 {
+        return (whole, part);
+    }
+    let magnification = u64::from(magnification);
+    let thousandfold = u64::from(whole) * 1000;
+    let fraction = (u64::from(part) * 1000 + 65536 * (thousandfold % magnification))
+        / magnification;
+    let units = thousandfold / magnification + fraction / 65536;
+    if units > TOO_MANY {
+        return (TOO_MANY as u32, 0);
+    }
+    (units as u32, (fraction % 65536) as u32)
 }
 
 /// One more l makes a size more infinite.

@@ -5,6 +5,7 @@ use Rattle.tx_seen.specs.Readings.{next}
 use Rattle.tx_scan.specs.IntegerRests as integers
 use Rattle.tx_scan.specs.Dimensions.{ended_with, measured, numbered_unit}
 use Rattle.tx_scan.specs.DimensionRests.{more_needed}
+use Rattle.tx_scan.proofs.Mathematical.{mu-fed}
 use Rattle.tx_scan.proofs.Mosts.{most-integer}
 use Rattle.tx_scan.proofs.Quantities.{behind_it, fed-at, fed-at-all, needs-wider-ok}
 use Rattle.tx_scan.proofs.scans.DimenScan.behind.Goals as goal
@@ -20,10 +21,15 @@ returns-in-Coefficient-clause-needed c =
 
 pub returns-in-Quantity-clause-fed : goal.returns-in-Quantity-clause-fed
 returns-in-Quantity-clause-fed c =
-    fed-at-all (integers.most c.args.self.now.number) (λ behind more. next (integers.rest c.args.self.now.number behind (Took c.args.token.now) more) (ended_with c.args.self.now.units c.args.self.now.negative (fraction_of c.args.self.now.digits) c.in-Quantity.amount)) c.args.self.now c.feed_quantity.new.self c.args.token.now c.feed_quantity.result
+    fed-at-all (integers.most c.args.self.now.number) (λ behind more. next (integers.rest c.args.self.now.number behind (Took c.args.token.now) more) (ended_with c.args.self.now.negative (fraction_of c.args.self.now.digits) c.in-Quantity.amount)) c.args.self.now c.feed_quantity.new.self c.args.token.now c.feed_quantity.result
     (rw c.in-Quantity.is (most-integer c.args.self.now.number)) (λ behind more. rw c.in-Quantity.is refl) c.feed_quantity.ensures.fed
 
 pub returns-in-Unit-clause-fed : goal.returns-in-Unit-clause-fed
 returns-in-Unit-clause-fed c =
     fed-at 0 (λ more. measured c.args.self.now.units c.args.self.now.negative c.in-Unit.whole (fraction_of c.args.self.now.digits) (Took c.args.token.now ∷ more)) c.args.self.now c.feed_unit.new.self c.args.token.now c.feed_unit.result
     (omega arith) (λ behind more. rw c.in-Unit.is refl) c.feed_unit.ensures.fed
+
+pub returns-in_ok-fed-in-Mathematical-clause-fed : goal.returns-in_ok-fed-in-Mathematical-clause-fed
+returns-in_ok-fed-in-Mathematical-clause-fed c =
+    mu-fed c.args.self.now c.feed.new.self c.in-Mathematical.amount c.args.token.now c.in_ok-fed-in-Mathematical.fed c.mathematical.result
+    c.in-Mathematical.is c.in_ok-fed-in-Mathematical.ensures.fed c.mathematical.ensures.answer

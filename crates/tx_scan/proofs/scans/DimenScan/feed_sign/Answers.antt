@@ -9,4 +9,4 @@ returns-in-Number-clause-fed c =
 
 pub returns-in-At-clause-fed : goal.returns-in-At-clause-fed
 returns-in-At-clause-fed c =
-    signed-quantity c.args.self.now c.begin_quantity-in-At.new.self c.args.token.now c.is_size.result (begin.At c.in-At.place) c.begin_quantity-in-At.result c.requires (search rules) (λ on number rest. rw c.is_size.ensures refl) c.begin_quantity-in-At.ensures.fed
+    signed-quantity c.args.self.now c.begin_quantity-in-At.new.self c.args.token.now c.has_size.result (begin.At c.in-At.place) c.begin_quantity-in-At.result c.requires (search rules) (λ on number rest. rw c.has_size.ensures refl) c.begin_quantity-in-At.ensures.fed

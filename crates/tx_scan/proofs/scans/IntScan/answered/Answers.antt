@@ -11,3 +11,8 @@ pub returns-in-Dimen-clause-given : goal.returns-in-Dimen-clause-given
 returns-in-Dimen-clause-given c =
     value-given c.args.self.now c.given-in-Dimen.new.self c.args.value.now (to_z w64 (of_z w64 c.in-Dimen.size)) c.in-Dimen.size c.in-Given.held c.given-in-Dimen.result
     c.in-Given.is c.given-in-Dimen.ensures.given (search rules) (λ more. rw c.in-Dimen.is refl)
+
+pub returns-in-Glue-clause-given : goal.returns-in-Glue-clause-given
+returns-in-Glue-clause-given c =
+    value-given c.args.self.now c.given-in-Glue.new.self c.args.value.now (to_z w64 (of_z w64 c.width.result)) c.in-Glue.glue.width c.in-Given.held c.given-in-Glue.result
+    c.in-Given.is c.given-in-Glue.ensures.given (search rules) (λ more. rw c.in-Glue.is refl)
