@@ -14,6 +14,7 @@ use Rattle.tx_seen.specs.declared.meaning.Meaning.{Meaning}
 use Rattle.tx_seen.specs.declared.meaning.Meaning.TheVariants.{Undefined, Command, Expandable}
 use Rattle.tx_eqtb.specs.declared.table.Table.{Table}
 use Rattle.tx_eqtb.specs.Boxes.{void}
+use Rattle.tx_num.specs.Glue.{zero_glue}
 
 -- whether a code is that of A to Z, and of a to z
 abbrev pub is_capital : ℕ → Bool
@@ -43,7 +44,7 @@ expandable_entries = map (λ e. (expandable.name_of e, Expandable e)) expandable
 abbrev pub initial_names : Names Meaning
 initial_names = from_entries (map (λ p. (name_of p, Command p)) all ++ expandable_entries)
 
--- no active character has a meaning, registers are 0, lists of tokens empty, boxes void, and the parameters begin as their table says
+-- no active character has a meaning, registers are 0 or zero glue, lists of tokens empty, boxes void, and the parameters begin as their table says
 unfoldable pub initial_table : Moment → Table
 initial_table begun = record {
   names = initial_names;
@@ -58,6 +59,9 @@ initial_table begun = record {
   delimiters = codes_of Delimiter;
   integers = map (initial_integer begun) all_integers;
   dimensions = replicate 21 (pos 0);
+  skips = replicate 256 zero_glue;
+  muskips = replicate 256 zero_glue;
+  glue_parameters = replicate 18 zero_glue;
   token_registers = replicate 256 [];
   token_parameters = replicate 9 [];
   boxes = replicate 256 void;

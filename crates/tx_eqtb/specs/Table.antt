@@ -1,6 +1,7 @@
 -- What stands at the places of a table, and how that changes.
 use Rattle.std.specs.Prelude.{◌≡◌, ℕ, ℤ, pos, List, [], Option, None, unwrap_or, slice_get, slice_set}
 use Rattle.std.specs.FinMap.{get, insert, remove}
+use Rattle.tx_num.specs.Glue.{GlueSpec, zero_glue}
 use Rattle.tx_char.specs.declared.category.Cat.{Cat}
 use Rattle.tx_char.specs.declared.category.Cat.TheVariants as category
 use Rattle.tx_char.specs.declared.tokens.Token.{Token}
@@ -9,14 +10,15 @@ use Rattle.tx_name.specs.Names.{Names}
 use Rattle.tx_prim.specs.declared.primitive.Primitive.TheVariants.{Relax}
 use Rattle.tx_prim.specs.Integers.{integer_number}
 use Rattle.tx_prim.specs.Dimensions.{dimension_number}
+use Rattle.tx_prim.specs.Glues.{glue_number}
 use Rattle.tx_prim.specs.Tokens.{token_number}
 use Rattle.tx_prim.specs.declared.family.CharacterCode.TheVariants.{LowerCase, UpperCase, SpaceFactor, Math, Delimiter}
 use Rattle.tx_seen.specs.declared.place.Place.{Place}
-use Rattle.tx_seen.specs.declared.place.Place.TheVariants.{Name, Active, Count, Dimen, Toks, Category, Code, Integer, Dimension, Tokens, Box, BoxSize}
+use Rattle.tx_seen.specs.declared.place.Place.TheVariants.{Name, Active, Count, Dimen, Skip, Muskip, Toks, Category, Code, Integer, Dimension, Glue, Tokens, Box, BoxSize}
 use Rattle.tx_seen.specs.declared.meaning.Meaning.{Meaning}
 use Rattle.tx_seen.specs.declared.meaning.Meaning.TheVariants.{Undefined, Command, Character}
 use Rattle.tx_eqtb.specs.declared.entry.Entry.{Entry}
-use Rattle.tx_eqtb.specs.declared.entry.Entry.TheVariants.{Means, InCategory, Number, Tokens as Listed, Box as Boxed}
+use Rattle.tx_eqtb.specs.declared.entry.Entry.TheVariants.{Means, InCategory, Number, Glue as Elastic, Tokens as Listed, Box as Boxed}
 use Rattle.tx_eqtb.specs.declared.table.Table.{Table}
 use Rattle.tx_node.specs.Items.{PackedBox}
 use Rattle.tx_eqtb.specs.declared.boxes.BoxRegister.{BoxRegister}
@@ -53,6 +55,16 @@ number_at table (Dimension parameter) = number_of table.dimensions (dimension_nu
 number_at table (BoxSize side number) = size_of side (box_of table.boxes number)
 number_at table other = pos 0
 
+-- the glue of a list of registers or parameters, and what stands at a place; zero glue where none stands
+abbrev pub glue_of : List GlueSpec → ℕ → GlueSpec
+glue_of glues at = unwrap_or (slice_get glues at) zero_glue
+
+abbrev pub glue_at : Table → Place → GlueSpec
+glue_at table (Skip number) = glue_of table.skips number
+glue_at table (Muskip number) = glue_of table.muskips number
+glue_at table (Glue parameter) = glue_of table.glue_parameters (glue_number parameter)
+glue_at table other = zero_glue
+
 -- the list of tokens of a register or a parameter, and the one that stands at a place; an empty one where none stands
 abbrev pub list_of : List (List Token) → ℕ → List Token
 list_of lists at = unwrap_or (slice_get lists at) []
@@ -70,7 +82,7 @@ token_meaning table (token.Character code category.Active) = active_meaning tabl
 token_meaning table (token.Character code other) = Character code other
 token_meaning table token.FrozenRelax = Command Relax
 
--- the table with a meaning, a category, a number or a list of tokens at a place, all else as it was
+-- the table with a meaning, a category, a number, glue or a list of tokens at a place, all else as it was
 abbrev pub with_meaning_at : Table → Place → Meaning → Table
 with_meaning_at table (Name name) meaning = record table { names = with_meaning table.names name meaning }
 with_meaning_at table (Active code) meaning = record table { active = slice_set table.active code meaning }
@@ -92,6 +104,12 @@ with_number_at table other value = table
 abbrev pub with_category_at : Table → Place → Cat → Table
 with_category_at table (Category code) category = record table { categories = slice_set table.categories code category }
 with_category_at table other category = table
+
+abbrev pub with_glue_at : Table → Place → GlueSpec → Table
+with_glue_at table (Skip number) glue = record table { skips = slice_set table.skips number glue }
+with_glue_at table (Muskip number) glue = record table { muskips = slice_set table.muskips number glue }
+with_glue_at table (Glue parameter) glue = record table { glue_parameters = slice_set table.glue_parameters (glue_number parameter) glue }
+with_glue_at table other glue = table
 
 abbrev pub with_tokens_at : Table → Place → List Token → Table
 with_tokens_at table (Toks number) tokens = record table { token_registers = slice_set table.token_registers number tokens }
@@ -118,6 +136,7 @@ unfoldable pub with_entry : ℕ → Table → Place → Entry → Table
 with_entry level table place (Means meaning) = with_meaning_at table place meaning
 with_entry level table place (InCategory category) = with_category_at table place category
 with_entry level table place (Number value) = with_number_at table place value
+with_entry level table place (Elastic glue) = with_glue_at table place glue
 with_entry level table place (Listed tokens) = with_tokens_at table place tokens
 with_entry level table place (Boxed held) = with_box_at table place (record { level = level; held = held })
 
@@ -128,3 +147,9 @@ pub record HasSameCodes (some other : Table) : Type 0 where
   pub space_factors : some.space_factors ≡ other.space_factors
   pub math : some.math ≡ other.math
   pub delimiters : some.delimiters ≡ other.delimiters
+
+-- all registers and parameters of glue hold the same in two tables
+pub record HasSameGlue (some other : Table) : Type 0 where
+  pub skips : some.skips ≡ other.skips
+  pub muskips : some.muskips ≡ other.muskips
+  pub glue_parameters : some.glue_parameters ≡ other.glue_parameters

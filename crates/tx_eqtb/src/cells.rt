@@ -7,6 +7,7 @@ use std::alloc::{AllocError, Global};
 use std::marker::Model;
 use std::rc::Rc;
 use tx_list::{Items, Kept, same_items};
+use tx_num::Glue;
 use tx_seen::Meaning;
 use tx_toklist::TokList;
 
@@ -20,6 +21,13 @@ pub trait Cell: Kept {
 /// Integers are copied all in one.
 impl Cell for i32 {
     fn twins(alloc: Global, values: &[i32]) -> Result<Vec<i32>, AllocError> {
+        Vec::from_slice(alloc, values)
+    }
+}
+
+/// So is glue.
+impl Cell for Glue {
+    fn twins(alloc: Global, values: &[Glue]) -> Result<Vec<Glue>, AllocError> {
         Vec::from_slice(alloc, values)
     }
 }

@@ -4,6 +4,7 @@ ghost use Rattle.std.specs.Prelude.{◌≡◌};
 use crate::contents::BoxContents;
 use std::alloc::AllocError;
 use tx_char::Cat;
+use tx_num::Glue;
 use tx_seen::Meaning;
 use tx_toklist::TokList;
 
@@ -16,6 +17,8 @@ pub enum Entry {
     InCategory(Cat),
     /// At a register, a code and a parameter: an integer, or a dimension in scaled points.
     Number(i32),
+    /// At a register and a parameter of glue.
+    Glue(Glue),
     /// At a register and a parameter that is a list of tokens.
     Tokens(TokList),
     /// At a box register: its box, or none where it is to be void.
@@ -32,6 +35,7 @@ impl Clone for Entry {
             Entry::Means(meaning) => Ok(Entry::Means(meaning.clone()?)),
             Entry::InCategory(category) => Ok(Entry::InCategory(*category)),
             Entry::Number(number) => Ok(Entry::Number(*number)),
+            Entry::Glue(glue) => Ok(Entry::Glue(*glue)),
             Entry::Tokens(tokens) => Ok(Entry::Tokens(tokens.share()?)),
             Entry::Box(held) => Ok(Entry::Box(held.clone()?)),
         }

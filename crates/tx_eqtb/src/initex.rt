@@ -5,6 +5,7 @@ ghost use Rattle.tx_seen.specs.declared.meaning.Meaning.TheVariants.{Undefined};
 ghost use Rattle.tx_prim.specs.Integers.{initial_integer, all_integers};
 ghost use Rattle.tx_eqtb.specs.Boxes.{void};
 ghost use Rattle.tx_eqtb.specs.Initex as spec;
+ghost use Rattle.tx_num.specs.Glue.{zero_glue};
 
 use crate::boxes::BoxRegister;
 use crate::cells::Cells;
@@ -13,9 +14,10 @@ use crate::table::Table;
 use std::alloc::{AllocError, Global};
 use tx_char::{Codes, ControlName};
 use tx_name::NameMap;
+use tx_num::Glue;
 use tx_prim::{
-    CharacterCode, DimensionParameter, Expandable, IntegerParameter, Moment, Primitive,
-    TokenParameter,
+    CharacterCode, DimensionParameter, Expandable, GlueParameter, IntegerParameter, Moment,
+    Primitive, TokenParameter,
 };
 use tx_seen::Meaning;
 use tx_toklist::TokList;
@@ -73,6 +75,13 @@ fn zeros(alloc: Global, count: usize) -> Result<Cells<i32>, AllocError>
     ensures { IfOk result (λ values. values ≡ replicate count (pos 0)) }
 {
     Cells::from_vec(vec![in alloc; 0i32; count]?)
+}
+
+/// As much zero glue.
+fn zero_glues(alloc: Global, count: usize) -> Result<Cells<Glue>, AllocError>
+    ensures { IfOk result (λ values. values ≡ replicate count zero_glue) }
+{
+    Cells::from_vec(vec![in alloc; Glue::zero(); count]?)
 }
 
 /// As many meanings, none of which is defined.
@@ -149,6 +158,9 @@ pub fn initial_table(alloc: Global, begun: &Moment) -> Result<Table, AllocError>
         delimiters: initial_codes(alloc, CharacterCode::Delimiter)?,
         integers: initial_integers(alloc, begun)?,
         dimensions: zeros(alloc, DimensionParameter::COUNT)?,
+        skips: zero_glues(alloc, ALL)?,
+        muskips: zero_glues(alloc, ALL)?,
+        glue_parameters: zero_glues(alloc, GlueParameter::COUNT)?,
         token_registers: empty_lists(alloc, ALL)?,
         token_parameters: empty_lists(alloc, TokenParameter::COUNT)?,
         boxes: void_boxes(alloc, ALL)?,

@@ -1,7 +1,7 @@
 //! Reading the table, comparing two, and making a second one.
 ghost use Rattle.std.specs.Prelude.{◌≡◌, ◌↔◌, [], option_copied, IsTrue, IfOk};
 ghost use Rattle.tx_eqtb.specs.Table as spec;
-ghost use Rattle.tx_eqtb.specs.Table.{HasSameCodes};
+ghost use Rattle.tx_eqtb.specs.Table.{HasSameCodes, HasSameGlue};
 
 use crate::boxes::{box_of, level_of, size_of};
 use crate::cells::Cells;
@@ -9,6 +9,7 @@ use crate::table::Table;
 use std::alloc::{AllocError, Global};
 use tx_char::{Cat, ControlName, Token};
 use tx_node::BoxNode;
+use tx_num::Glue;
 use tx_prim::{CharacterCode, Primitive};
 use tx_seen::{Meaning, Place};
 use tx_toklist::{TokList, Toks};
@@ -20,6 +21,16 @@ fn number_of(numbers: &Cells<i32>, at: usize) -> i32
     match numbers.get(at) {
         Some(number) => *number,
         None => 0,
+    }
+}
+
+/// Glue of a register or a parameter.
+fn glue_of(glues: &Cells<Glue>, at: usize) -> Glue
+    ensures { result ≡ spec.glue_of glues.now at }
+{
+    match glues.get(at) {
+        Some(glue) => *glue,
+        None => Glue::zero(),
     }
 }
 
@@ -69,8 +80,26 @@ impl Table {
             Place::Dimension(parameter) => number_of(&self.dimensions, parameter.number()),
             Place::BoxSize(side, number) => size_of(&self.boxes, *side, *number as usize),
             Place::Name(_) | Place::Active(_) | Place::Category(_) => 0,
-            Place::Toks(_) | Place::Tokens(_) | Place::Box(_) => 0,
-            Place::Last(_) | Place::Badness | Place::PrevDepth => 0,
+            Place::Toks(_) | Place::Tokens(_) | Place::Box(_) | Place::BoxTest(_, _) => 0,
+            Place::Skip(_) | Place::Muskip(_) | Place::Glue(_) => 0,
+            Place::Last(_) | Place::Badness | Place::PrevDepth | Place::Magnification => 0,
+        }
+    }
+
+    /// The glue that stands at a place, and zero glue where none does.
+    pub fn glue(&self, place: &Place) -> Glue
+        ensures { result ≡ spec.glue_at self.now place.now }
+    {
+        match place {
+            Place::Skip(number) => glue_of(&self.skips, *number as usize),
+            Place::Muskip(number) => glue_of(&self.muskips, *number as usize),
+            Place::Glue(parameter) => glue_of(&self.glue_parameters, parameter.number()),
+            Place::Name(_) | Place::Active(_) | Place::Category(_) => Glue::zero(),
+            Place::Count(_) | Place::Dimen(_) | Place::Code(_, _) => Glue::zero(),
+            Place::Integer(_) | Place::Dimension(_) | Place::BoxSize(_, _) => Glue::zero(),
+            Place::Toks(_) | Place::Tokens(_) | Place::Box(_) => Glue::zero(),
+            Place::BoxTest(_, _) | Place::Magnification => Glue::zero(),
+            Place::Last(_) | Place::Badness | Place::PrevDepth => Glue::zero(),
         }
     }
 
@@ -94,8 +123,9 @@ impl Table {
             Place::Box(number) => box_of(&self.boxes, *number as usize),
             Place::Name(_) | Place::Active(_) | Place::Category(_) | Place::Code(_, _) => None,
             Place::Count(_) | Place::Dimen(_) | Place::Toks(_) | Place::BoxSize(_, _) => None,
+            Place::Skip(_) | Place::Muskip(_) | Place::Glue(_) | Place::BoxTest(_, _) => None,
             Place::Integer(_) | Place::Dimension(_) | Place::Tokens(_) => None,
-            Place::Last(_) | Place::Badness | Place::PrevDepth => None,
+            Place::Last(_) | Place::Badness | Place::PrevDepth | Place::Magnification => None,
         }
     }
 
@@ -108,9 +138,10 @@ impl Table {
             Place::Box(number) => level_of(&self.boxes, *number as usize),
             Place::BoxSize(_, number) => level_of(&self.boxes, *number as usize),
             Place::Name(_) | Place::Active(_) | Place::Category(_) | Place::Code(_, _) => 0,
-            Place::Count(_) | Place::Dimen(_) | Place::Toks(_) => 0,
+            Place::Count(_) | Place::Dimen(_) | Place::Toks(_) | Place::BoxTest(_, _) => 0,
+            Place::Skip(_) | Place::Muskip(_) | Place::Glue(_) => 0,
             Place::Integer(_) | Place::Dimension(_) | Place::Tokens(_) => 0,
-            Place::Last(_) | Place::Badness | Place::PrevDepth => 0,
+            Place::Last(_) | Place::Badness | Place::PrevDepth | Place::Magnification => 0,
         }
     }
 
@@ -155,6 +186,7 @@ impl Table {
             && self.dimens.same(&other.dimens)
             && self.integers.same(&other.integers)
             && self.dimensions.same(&other.dimensions)
+            && self.same_glue(other)
             && self.token_registers.same(&other.token_registers)
             && self.token_parameters.same(&other.token_parameters)
             && self.boxes.same(&other.boxes)
@@ -162,6 +194,15 @@ impl Table {
             && self.active.same(&other.active)
             && self.same_codes(other)
             && self.names.same(&other.names)
+    }
+
+    /// Whether the same glue stands in both.
+    fn same_glue(&self, other: &Table) -> bool
+        ensures { IsTrue result ↔ HasSameGlue self.now other.now }
+    {
+        self.skips.same(&other.skips)
+            && self.muskips.same(&other.muskips)
+            && self.glue_parameters.same(&other.glue_parameters)
     }
 
     /// Whether all characters have the same codes in both, whatever their categories.
@@ -192,6 +233,9 @@ impl Table {
             delimiters: self.delimiters.share()?,
             integers: self.integers.share()?,
             dimensions: self.dimensions.share()?,
+            skips: self.skips.share()?,
+            muskips: self.muskips.share()?,
+            glue_parameters: self.glue_parameters.share()?,
             token_registers: self.token_registers.share()?,
             token_parameters: self.token_parameters.share()?,
             boxes: self.boxes.share()?,

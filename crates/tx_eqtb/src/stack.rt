@@ -2,7 +2,7 @@
 ghost use Rattle.std.specs.Prelude.{◌≡◌, ◌↔◌, ◌≤◌, [], length, option_copied, Some, Ok, Err, IsOk, IsTrue, IfOk, IfErr, OnOk, OnErr};
 ghost use Rattle.tx_eqtb.specs.Initex.{initial_table};
 ghost use Rattle.tx_eqtb.specs.Stack.{assigned, assigned_everywhere, closed, kind_of, opened, replaced};
-ghost use Rattle.tx_eqtb.specs.Table.{active_meaning, box_at, meaning_of, number_at, token_meaning, tokens_at};
+ghost use Rattle.tx_eqtb.specs.Table.{active_meaning, box_at, glue_at, meaning_of, number_at, token_meaning, tokens_at};
 ghost use Rattle.tx_char.specs.Category.{category};
 
 use crate::entry::Entry;
@@ -14,6 +14,7 @@ use crate::nesting::Nesting;
 use std::alloc::{AllocError, Global};
 use tx_char::{Cat, Codes, ControlName, Token};
 use tx_node::BoxNode;
+use tx_num::Glue;
 use tx_prim::Moment;
 use tx_seen::{Meaning, Place};
 use tx_toklist::TokList;
@@ -39,6 +40,13 @@ impl Eqtb {
         ensures { result ≡ number_at self.now.table place.now }
     {
         self.table.number(place)
+    }
+
+    /// The glue that stands at a place, a register or a parameter; zero glue where none stands.
+    pub fn glue(&self, place: &Place) -> Glue
+        ensures { result ≡ glue_at self.now.table place.now }
+    {
+        self.table.glue(place)
     }
 
     /// The list of tokens that stands at a place, a register or a parameter, of which one more owner is answered; an empty one

@@ -4,6 +4,7 @@ use crate::boxes::BoxRegister;
 use crate::cells::Cells;
 use tx_char::Codes;
 use tx_name::NameMap;
+use tx_num::Glue;
 use tx_seen::Meaning;
 use tx_toklist::TokList;
 
@@ -22,6 +23,9 @@ pub struct Table {
     pub(crate) delimiters: Cells<i32>,
     pub(crate) integers: Cells<i32>,
     pub(crate) dimensions: Cells<i32>,
+    pub(crate) skips: Cells<Glue>,
+    pub(crate) muskips: Cells<Glue>,
+    pub(crate) glue_parameters: Cells<Glue>,
     pub(crate) token_registers: Cells<TokList>,
     pub(crate) token_parameters: Cells<TokList>,
     pub(crate) boxes: Cells<BoxRegister>,

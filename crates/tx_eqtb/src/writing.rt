@@ -1,6 +1,6 @@
 //! Writing into the table.
 ghost use Rattle.std.specs.Prelude.{◌≡◌, OnOk};
-ghost use Rattle.tx_eqtb.specs.Table.{with_box_at, with_category_at, with_entry, with_meaning, with_meaning_at, with_number_at, with_tokens_at};
+ghost use Rattle.tx_eqtb.specs.Table.{with_box_at, with_category_at, with_entry, with_glue_at, with_meaning, with_meaning_at, with_number_at, with_tokens_at};
 
 use crate::boxes::{BoxRegister, set_size};
 use crate::entry::Entry;
@@ -8,6 +8,7 @@ use crate::table::Table;
 use std::alloc::AllocError;
 use tx_char::{Cat, ControlName};
 use tx_name::NameMap;
+use tx_num::Glue;
 use tx_prim::CharacterCode;
 use tx_seen::{Meaning, Place};
 use tx_toklist::TokList;
@@ -54,8 +55,25 @@ impl Table {
                 set_size(&mut self.boxes, *side, *number as usize, value)
             }
             Place::Name(_) | Place::Active(_) | Place::Category(_) => Ok(()),
-            Place::Toks(_) | Place::Tokens(_) | Place::Box(_) => Ok(()),
-            Place::Last(_) | Place::Badness | Place::PrevDepth => Ok(()),
+            Place::Toks(_) | Place::Tokens(_) | Place::Box(_) | Place::BoxTest(_, _) => Ok(()),
+            Place::Skip(_) | Place::Muskip(_) | Place::Glue(_) => Ok(()),
+            Place::Last(_) | Place::Badness | Place::PrevDepth | Place::Magnification => Ok(()),
+        }
+    }
+
+    /// Gives a register or a parameter glue. Other places have none.
+    fn set_glue(&mut self, place: &Place, glue: Glue) -> Result<(), AllocError>
+        ensures { OnOk result (self.new ≡ with_glue_at self.old place.now glue) }
+    {
+        match place {
+            Place::Skip(number) => self.skips.set(*number as usize, glue),
+            Place::Muskip(number) => self.muskips.set(*number as usize, glue),
+            Place::Glue(parameter) => self.glue_parameters.set(parameter.number(), glue),
+            Place::Name(_) | Place::Active(_) | Place::Category(_) => Ok(()),
+            Place::Count(_) | Place::Dimen(_) | Place::Code(_, _) => Ok(()),
+            Place::Integer(_) | Place::Dimension(_) | Place::BoxSize(_, _) => Ok(()),
+            Place::Toks(_) | Place::Tokens(_) | Place::Box(_) | Place::BoxTest(_, _) => Ok(()),
+            Place::Last(_) | Place::Badness | Place::PrevDepth | Place::Magnification => Ok(()),
         }
     }
 
@@ -99,8 +117,9 @@ impl Table {
             Place::Box(number) => self.boxes.set(*number as usize, register),
             Place::Name(_) | Place::Active(_) | Place::Category(_) | Place::Code(_, _) => Ok(()),
             Place::Count(_) | Place::Dimen(_) | Place::Toks(_) | Place::BoxSize(_, _) => Ok(()),
+            Place::Skip(_) | Place::Muskip(_) | Place::Glue(_) | Place::BoxTest(_, _) => Ok(()),
             Place::Integer(_) | Place::Dimension(_) | Place::Tokens(_) => Ok(()),
-            Place::Last(_) | Place::Badness | Place::PrevDepth => Ok(()),
+            Place::Last(_) | Place::Badness | Place::PrevDepth | Place::Magnification => Ok(()),
         }
     }
 
@@ -113,6 +132,7 @@ impl Table {
             Entry::Means(meaning) => self.set_meaning(place, meaning),
             Entry::InCategory(category) => self.set_category(place, category),
             Entry::Number(number) => self.set_number(place, number),
+            Entry::Glue(glue) => self.set_glue(place, glue),
             Entry::Tokens(tokens) => self.set_tokens(place, tokens),
             Entry::Box(held) => self.set_box(place, BoxRegister { level, held }),
         }

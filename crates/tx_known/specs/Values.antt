@@ -1,16 +1,18 @@
 -- The quantities that scans ask for: those of the list that is being built, and else those of the table (TeX: The Program, sections
 -- 413 to 424).
-use Rattle.std.specs.Prelude.{ℤ, List, Option, Some, None}
+use Rattle.std.specs.Prelude.{ℤ, pos, int_le, unsigned_abs, ◌&&◌, Bool, true, List, Option, Some, None, if◌then◌else◌}
 use Rattle.tx_eqtb.specs.declared.eqtb.Eqtb.{Eqtb}
 use Rattle.tx_eqtb.specs.Quantities.{value_in}
+use Rattle.tx_eqtb.specs.Table.{number_at}
 use Rattle.tx_nest.specs.declared.nest.Nest.{Nest}
 use Rattle.tx_nest.specs.Lasts.{last_kern, last_penalty, last_skip}
 use Rattle.tx_nest.specs.States.{prev_depth}
 use Rattle.tx_node.specs.Items.{Item}
+use Rattle.tx_prim.specs.declared.integer.IntegerParameter.TheVariants.{Mag}
 use Rattle.tx_prim.specs.declared.family.ItemKind.{ItemKind}
 use Rattle.tx_prim.specs.declared.family.ItemKind.TheVariants as item
 use Rattle.tx_seen.specs.declared.fed.Value.{Value}
-use Rattle.tx_seen.specs.declared.fed.Value.TheVariants.{Absent, Dimen, Int}
+use Rattle.tx_seen.specs.declared.fed.Value.TheVariants.{Absent, Dimen, Glue, Int, Magnification}
 use Rattle.tx_seen.specs.declared.place.Place.{Place}
 use Rattle.tx_seen.specs.declared.place.Place.TheVariants as place
 use Rattle.tx_known.specs.declared.known.Known.{Known}
@@ -19,21 +21,34 @@ use Rattle.tx_known.specs.declared.known.Known.{Known}
 abbrev pub last_value : ItemKind → List Item → Value
 last_value item.Penalty nodes = Int (last_penalty nodes)
 last_value item.Kern nodes = Dimen (last_kern nodes)
-last_value item.Skip nodes = Dimen (last_skip nodes).width
+last_value item.Skip nodes = Glue (last_skip nodes)
 
 -- \prevdepth, which vertical modes have
 abbrev pub depth_value : Option ℤ → Value
 depth_value None = Absent
 depth_value (Some depth) = Dimen depth
 
--- the table, the lists and \badness, without the loans
+-- whether a magnification may be used: 1 to 32768, and the one that was used first (section 288)
+abbrev pub may_be : Option ℤ → ℤ → Bool
+may_be first mag = (int_le (pos 1) mag && int_le mag (pos 32768)) && is_that first mag
+  where
+    is_that : Option ℤ → ℤ → Bool
+    is_that None mag = true
+    is_that (Some n) mag = int_le n mag && int_le mag n
+
+-- \mag, if it may be used
+abbrev pub magnification_value : Option ℤ → ℤ → Value
+magnification_value first mag = if may_be first mag then Magnification (unsigned_abs mag) else Absent
+
+-- the table, the lists, \badness and the magnification if it is used, without the loans
 pub record Lent : Type 0 where
   pub table : Eqtb
   pub nest : Nest
   pub badness : ℤ
+  pub magnification : Option ℤ
 
 abbrev pub lent : Known → Lent
-lent known = record { table = known.table.now; nest = known.nest.now; badness = known.badness }
+lent known = record { table = known.table.now; nest = known.nest.now; badness = known.badness; magnification = known.magnification }
 
 abbrev pub value_now : Lent → Place → Value
 value_now known (place.Last kind) = last_value kind known.nest.innermost.nodes
@@ -45,6 +60,11 @@ value_now known (place.Category code) = value_in known.table (place.Category cod
 value_now known (place.Code kind code) = value_in known.table (place.Code kind code)
 value_now known (place.Count number) = value_in known.table (place.Count number)
 value_now known (place.Dimen number) = value_in known.table (place.Dimen number)
+value_now known place.Magnification = magnification_value known.magnification (number_at known.table.table (place.Integer Mag))
+value_now known (place.Skip number) = value_in known.table (place.Skip number)
+value_now known (place.Muskip number) = value_in known.table (place.Muskip number)
+value_now known (place.Glue parameter) = value_in known.table (place.Glue parameter)
+value_now known (place.BoxTest test number) = value_in known.table (place.BoxTest test number)
 value_now known (place.Toks number) = value_in known.table (place.Toks number)
 value_now known (place.Integer parameter) = value_in known.table (place.Integer parameter)
 value_now known (place.Dimension parameter) = value_in known.table (place.Dimension parameter)

@@ -8,3 +8,4 @@ mod known;
 mod values;
 
 pub use known::Known;
+pub use values::may_be;
