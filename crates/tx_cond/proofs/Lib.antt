@@ -3,3 +3,4 @@ pub mod Decided
 pub mod Skipped
 pub mod Lefts
 pub mod Givens
+pub mod Registers

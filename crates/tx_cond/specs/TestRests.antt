@@ -9,6 +9,7 @@ use Rattle.tx_seen.specs.declared.item.Item.TheVariants.{Took}
 use Rattle.tx_seen.specs.declared.seen.Seen.{Seen}
 use Rattle.tx_seen.specs.Seen.{is_undefined}
 use Rattle.tx_seen.specs.Readings.{Reading, Wrong, next}
+use Rattle.tx_scan.specs.QuantityRests as quantities
 use Rattle.tx_scan.specs.Rests.{HasTakenBy, IsAnswer}
 use Rattle.tx_cond.specs.ComparandRests as comparands
 use Rattle.tx_cond.specs.declared.test.Compared.{Compared}
@@ -16,7 +17,7 @@ use Rattle.tx_cond.specs.declared.test.Compared.TheVariants as compared
 use Rattle.tx_cond.specs.declared.test.TestScan.{TestScan}
 use Rattle.tx_cond.specs.declared.test.TestStage.{TestStage}
 use Rattle.tx_cond.specs.declared.test.TestStage.TheVariants as stage
-use Rattle.tx_cond.specs.Tests.{against, behind_left, judged, relation, second, test, two_tokens}
+use Rattle.tx_cond.specs.Tests.{against, answered, behind_left, judged, relation, second, test, two_tokens}
 
 -- the token behind the first of two comparands that waits for a value, if one is held
 abbrev pub held_items : ℕ → Option Seen → List Item
@@ -40,23 +41,29 @@ abbrev pub stage_rest : TestStage → TestScan → List Item → Item → List I
 stage_rest (stage.Left c) scan behind item more = next (comparands.rest scan.scan (held_items (comparands.held scan.scan) scan.token) item more) (behind_left c)
 stage_rest (stage.Relation c m) scan behind item more = next (relation (item ∷ more)) (against c m)
 stage_rest (stage.Last j) scan behind item more = next (comparands.rest scan.scan behind item more) (judged j)
+stage_rest stage.Register scan behind item more = next (quantities.rest scan.quantity behind item more) answered
 stage_rest (stage.First c) scan behind item more = two_tokens c (item ∷ more)
 stage_rest (stage.Second c) scan behind item more = second_of c scan.token (item ∷ more)
 
 abbrev pub rest : TestScan → List Item → Item → List Item → Reading ℤ
 rest scan behind item more = stage_rest scan.stage scan behind item more
 
--- how many tokens are held behind the last number
+-- how many tokens are held behind the last number, or behind that of a register
 abbrev pub stage_held : TestStage → TestScan → ℕ
 stage_held (stage.Last j) scan = comparands.held scan.scan
+stage_held stage.Register scan = quantities.held scan.quantity
 stage_held _ scan = 0
 
 abbrev pub held : TestScan → ℕ
 held scan = stage_held scan.stage scan
 
 -- how many values are needed at most, unless more tokens need more
+abbrev pub stage_needed : TestStage → TestScan → ℕ
+stage_needed stage.Register scan = quantities.more_needed scan.quantity
+stage_needed _ scan = comparands.more_needed scan.scan
+
 abbrev pub more_needed : TestScan → ℕ
-more_needed scan = comparands.more_needed scan.scan
+more_needed scan = stage_needed scan.stage scan
 
 -- the scan that has taken these items reads on as the test that begins with them
 abbrev pub HasTaken : Test → Mode → TestScan → List Item → Type 0

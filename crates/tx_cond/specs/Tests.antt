@@ -1,6 +1,6 @@
 -- The tests of conditionals (The TeXbook, chapter 20; TeX: The Program, sections 501 to 509). The value of a test is 1 where it
 -- is true and 0 where it is false, and that of \ifcase the number of a branch.
-use Rattle.std.specs.Prelude.{ℕ, ◌%◌, ◌==◌, ◌&&◌, ◌∷◌, [], Bool, true, false, ℤ, pos, int_lt, int_le, unsigned_abs, List, Option, Some, None, if◌then◌else◌}
+use Rattle.std.specs.Prelude.{ℕ, ◌%◌, ◌==◌, ◌&&◌, ◌∷◌, [], Bool, true, false, ℤ, pos, int_lt, int_le, unsigned_abs, List, Option, Some, None, Result, Ok, Err, if◌then◌else◌}
 use Rattle.tx_char.specs.Character.{character}
 use Rattle.tx_char.specs.Category.{number_of}
 use Rattle.tx_char.specs.declared.category.Cat.TheVariants.{Other, Active}
@@ -10,6 +10,7 @@ use Rattle.tx_prim.specs.declared.modes.Mode.{Mode}
 use Rattle.tx_prim.specs.declared.expandable.Test.{Test}
 use Rattle.tx_prim.specs.declared.expandable.Test.TheVariants as kind
 use Rattle.tx_prim.specs.Modes.{holds}
+use Rattle.tx_seen.specs.declared.error.TexError.{TexError}
 use Rattle.tx_seen.specs.declared.error.TexError.TheVariants.{MissingNumber, MissingUnit}
 use Rattle.tx_seen.specs.declared.fed.Want.{Want}
 use Rattle.tx_seen.specs.declared.fed.Want.TheVariants.{Raw, Expanded}
@@ -22,7 +23,12 @@ use Rattle.tx_seen.specs.Seen.{is_space}
 use Rattle.tx_seen.specs.Readings.{Reading, More, Done, Wrong, next}
 use Rattle.tx_scan.specs.declared.scans.Measure.{Measure}
 use Rattle.tx_scan.specs.Dimensions.{dimension, lengths}
+use Rattle.tx_seen.specs.declared.fed.Value.{Value}
+use Rattle.tx_seen.specs.declared.fed.Value.TheVariants.{Flag}
 use Rattle.tx_scan.specs.Integers.{integer, expanded}
+use Rattle.tx_scan.specs.Mapped.{done_if}
+use Rattle.tx_scan.specs.Quantities.{numbered_value}
+use Rattle.tx_scan.specs.declared.scans.Sought.TheVariants as sought
 use Rattle.tx_cond.specs.Alike.{same_meaning}
 use Rattle.tx_cond.specs.declared.test.Comparand.{Comparand}
 use Rattle.tx_cond.specs.declared.test.Comparand.TheVariants.{Number, Size}
@@ -145,6 +151,14 @@ two_tokens c [] = More (want c)
 two_tokens c (Gave v ∷ rest) = Wrong MissingNumber
 two_tokens c (Took t ∷ rest) = wanted c t (second c t rest)
 
+-- whether the box of a register is as it is tested (section 505)
+abbrev pub answer_of : Value → Result ℤ TexError
+answer_of (Flag holds) = Ok (truth holds)
+answer_of other = Err MissingNumber
+
+abbrev pub answered : Value → List Item → Reading ℤ
+answered value rest = done_if (answer_of value) rest
+
 -- what the relation of a test stands between, where it has one
 abbrev pub compared_by : Test → Comparand
 compared_by kind.Character = Number
@@ -152,6 +166,7 @@ compared_by kind.Category = Number
 compared_by kind.Same = Number
 compared_by kind.Number = Number
 compared_by kind.Dimension = Size
+compared_by (kind.Box t) = Number
 compared_by kind.Odd = Number
 compared_by kind.Case = Number
 compared_by (kind.Mode which) = Number
@@ -165,6 +180,7 @@ test kind.Category mode items = two_tokens compared.Category items
 test kind.Same mode items = two_tokens compared.Meaning items
 test kind.Number mode items = next (comparand Number items) (behind_left Number)
 test kind.Dimension mode items = next (comparand Size items) (behind_left Size)
+test (kind.Box t) mode items = next (numbered_value (sought.Box t) items) answered
 test kind.Odd mode items = last_one Number Odd items
 test kind.Case mode items = last_one Number Case items
 test (kind.Mode which) mode items = Done (truth (holds which mode)) items

@@ -1,6 +1,6 @@
 //! How far a test is.
 
-use tx_scan::{DimenScan, IntScan};
+use tx_scan::{DimenScan, IntScan, QuantityScan};
 use tx_seen::Seen;
 
 /// What a relation stands between.
@@ -51,6 +51,8 @@ pub enum TestStage {
     Relation(Comparand, i64),
     /// The last number.
     Last(Judged),
+    /// The box register that is tested.
+    Register,
     /// The first of two tokens.
     First(Compared),
     /// The second of two tokens.
@@ -72,6 +74,8 @@ pub struct TestScan {
     pub(crate) stage: TestStage,
     /// The number or the size that is read.
     pub(crate) scan: ComparandScan,
+    /// The answer of a box register that is read.
+    pub(crate) quantity: QuantityScan,
     /// The first of two tokens; or the token behind the first of two comparands, where that waits for a value.
     pub(crate) token: Option<Seen>,
 }

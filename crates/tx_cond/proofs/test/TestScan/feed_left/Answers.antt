@@ -23,3 +23,9 @@ returns-in-Done-clause-fed c =
 pub returns-in-Wrong-clause-fed : goal.returns-in-Wrong-clause-fed
 returns-in-Wrong-clause-fed c =
     left-wrong c.args.comparand c.args.self.now c.args.self.now c.feed.new.self c.args.token.now c.in-Wrong.error c.requires (rw c.in-Wrong.is at c.in_ok-want.ensures.fed)
+
+pub returns-in-More-clause-needed : goal.returns-in-More-clause-needed
+returns-in-More-clause-needed c = rw c.requires (rw c.in-More.is at c.in_ok-want.ensures.needed)
+
+pub returns-in_ok-clone-in-Need-clause-needed : goal.returns-in_ok-clone-in-Need-clause-needed
+returns-in_ok-clone-in-Need-clause-needed c = rw c.requires (rw c.in-Need.is at c.in_ok-want.ensures.needed)

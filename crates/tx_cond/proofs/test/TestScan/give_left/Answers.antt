@@ -34,3 +34,9 @@ returns-in-None-clause-part c =
 pub returns-in-Wrong-clause-part : goal.returns-in-Wrong-clause-part
 returns-in-Wrong-clause-part c =
     left-wrong c.args.comparand c.args.self.now c.args.self.now c.give.new.self c.args.value.now c.in-Wrong.error c.requires (rw c.in-Wrong.is at c.in_ok-want.ensures.given)
+
+pub returns-in-More-clause-fewer : goal.returns-in-More-clause-fewer
+returns-in-More-clause-fewer c = rw c.requires (rw c.in-More.is at c.in_ok-want.ensures.fewer)
+
+pub returns-in-Need-clause-fewer : goal.returns-in-Need-clause-fewer
+returns-in-Need-clause-fewer c = rw c.requires (rw c.in-Need.is at c.in_ok-want.ensures.fewer)
