@@ -1,10 +1,8 @@
 -- The values that numbers in an assignment wait for.
-use Rattle.std.proofs.Common.{◌≡◌, ◌≤◌, ℕ, zero, suc, ℤ, List, [], ◌∷◌, ◌++◌, length, Option, None, Some, Result, Ok, Err, IfOk, refl, ap, sym, ◌∙◌, arith}
-use Rattle.tx_char.specs.declared.tokens.Token.TheVariants.{FrozenRelax}
+use Rattle.std.proofs.Common.{◌≡◌, ◌≤◌, ◌+◌, ℕ, zero, suc, ℤ, List, [], ◌∷◌, ◌++◌, length, Option, Result, Ok, Err, IfOk, refl, ap, sym, ◌∙◌, arith}
 use Rattle.tx_prim.specs.declared.family.Numbered.{Numbered}
 use Rattle.tx_prim.specs.declared.family.Operation.{Operation}
 use Rattle.tx_seen.specs.declared.error.TexError.{TexError}
-use Rattle.tx_seen.specs.declared.meaning.Meaning.TheVariants.{Undefined}
 use Rattle.tx_seen.specs.declared.seen.Seen.{Seen}
 use Rattle.tx_seen.specs.declared.item.Item.{Item}
 use Rattle.tx_seen.specs.declared.item.Item.TheVariants.{Took, Gave}
@@ -13,11 +11,16 @@ use Rattle.tx_seen.specs.declared.fed.Value.{Value}
 use Rattle.tx_seen.specs.declared.fed.Want.{Want}
 use Rattle.tx_seen.specs.declared.fed.Fed.{Fed}
 use Rattle.tx_seen.specs.declared.fed.Fed.TheVariants as fed
-use Rattle.tx_seen.specs.Readings.{Reading, next}
+use Rattle.tx_num.specs.Glue.{GlueSpec}
+use Rattle.tx_seen.specs.declared.place.Place.{Place}
+use Rattle.tx_seen.specs.Readings.{Reading, Done, ending, next}
 use Rattle.tx_scan.specs.declared.scans.IntScan.{IntScan}
-use Rattle.tx_scan.specs.Rests.{IsPassed, IsGivenBy, IsEnd}
+use Rattle.tx_scan.specs.Rests.{IsEnd, IsFedBy, IsGivenBehind, IsGivenBy, IsPassed, IsRead, kept}
 use Rattle.tx_scan.specs.IntegerRests as integers
+use Rattle.tx_scan.specs.declared.scans.GlueScan.{GlueScan}
+use Rattle.tx_scan.specs.GlueRests as glues
 use Rattle.tx_scan.proofs.Answering.{same-passed}
+use Rattle.tx_scan.proofs.Mappings.{mapped-read, read-none, same-read}
 use Rattle.tx_assign.specs.declared.scan.AssignScan.{AssignScan}
 use Rattle.tx_assign.specs.declared.scan.AssignStage.TheVariants as stage
 use Rattle.tx_assign.specs.declared.types.Assignment.{Assignment}
@@ -25,77 +28,57 @@ use Rattle.tx_scan.specs.declared.scans.DimenScan.{DimenScan}
 use Rattle.tx_scan.specs.declared.scans.Measure.{Measure}
 use Rattle.tx_scan.specs.DimensionRests as sizes
 use Rattle.tx_assign.specs.declared.types.Purpose.{Purpose}
-use Rattle.tx_assign.specs.Assignments.{behind_number, sized}
-use Rattle.tx_assign.specs.Rests.{rest, held, held_items, IsAssigning}
-use Rattle.tx_assign.proofs.Steps.{answer-passed}
+use Rattle.tx_assign.specs.Assignments.{behind_number, elastic, sized}
+use Rattle.tx_assign.specs.Targets.{change_by_glue}
+use Rattle.tx_assign.specs.Rests.{rest, held, IsAssigning, IsBehind}
+use Rattle.tx_assign.proofs.Steps.{to-none}
 
--- the tokens behind the number of a register
-abbrev behind_it : AssignScan → List Item
-behind_it old = held_items (integers.held old.integer) old.behind
+-- the assignment of glue
+abbrev glued : Purpose → Place → GlueSpec → Assignment
+glued purpose place g = record { place = place; change = change_by_glue purpose g }
 
+one-held : (back held : ℕ) → (back ≡ 0 → ⊥) → back ≡ held → held ≤ 1 → held ≡ 1
+one-held zero held some same few = absurd (some refl)
+one-held (suc back) held some same few = omega (arith, same, few)
+
+-- the value that the number of a register waits for
 pub number-more : (old : AssignScan) (scan : IntScan) (kind : Numbered) (operation : Option Operation) (v : Value) (want : Want) → old.stage ≡ stage.Number kind operation → integers.IsGiven old.integer v scan (fed.More want) → IsGivenBy rest held old v (record old { integer = scan }) (fed.More want)
 number-more old scan kind operation v want s k = λ behind short. rw s (
-  ap (λ r. next r (behind_number operation kind)) (k (behind_it old)).0,
-  refl,
-  λ item more. ap (λ r. next r (behind_number operation kind)) ((k (behind_it old)).2 item more ∙ ap (λ (n : ℕ). integers.rest scan (held_items n old.behind) item more) (sym (k (behind_it old)).1)),
+  ap (λ r. next r (behind_number operation kind)) (k behind).0,
+  (k behind).1,
+  λ item more. ap (λ r. next r (behind_number operation kind)) ((k behind).2 item more),
 )
 
 pub number-need : (old : AssignScan) (scan : IntScan) (kind : Numbered) (operation : Option Operation) (v : Value) (wanted : Kind) → old.stage ≡ stage.Number kind operation → integers.IsGiven old.integer v scan (fed.Need wanted) → IsGivenBy rest held old v (record old { integer = scan }) (fed.Need wanted)
 number-need old scan kind operation v wanted s k = λ behind short. rw s (
-  ap (λ r. next r (behind_number operation kind)) (k (behind_it old)).0,
-  refl,
-  λ item more. ap (λ r. next r (behind_number operation kind)) ((k (behind_it old)).2 item more ∙ ap (λ (n : ℕ). integers.rest scan (held_items n old.behind) item more) (sym (k (behind_it old)).1)),
+  ap (λ r. next r (behind_number operation kind)) (k behind).0,
+  (k behind).1,
+  λ item more. ap (λ r. next r (behind_number operation kind)) ((k behind).2 item more),
 )
 
 pub number-wrong : (old new : AssignScan) (scan : IntScan) (kind : Numbered) (operation : Option Operation) (v : Value) (error : TexError) → old.stage ≡ stage.Number kind operation → integers.IsGiven old.integer v scan (fed.Wrong error) → IsGivenBy rest held old v new (fed.Wrong error)
-number-wrong old new scan kind operation v error s k = λ behind short more.
-    rw s (ap (λ r. next r (behind_number operation kind)) (k (behind_it old) more))
+number-wrong old new scan kind operation v error s k = λ behind short more. rw s (ap (λ r. next r (behind_number operation kind)) (k behind more))
 
--- no token is held
-none-passed : (reading : List Item → Reading Assignment) (behind : List Item) (n : ℕ) (new : AssignScan) (answer : Fed Assignment) → n ≡ 0 → length behind ≤ n → IsPassed rest held reading [] 0 new answer → IsPassed rest held reading behind n new answer
-none-passed reading [] n new answer e short k = rw e k
-none-passed reading (i ∷ behind) n new answer e short k = absurd (omega (arith, e, short))
+pub number-ends : (old new : AssignScan) (scan : IntScan) (kind : Numbered) (operation : Option Operation) (v : Value) (t : Seen) (n m : ℤ) (back : ℕ) (answer : Fed Assignment) → old.stage ≡ stage.Number kind operation → integers.IsGiven old.integer v scan (fed.Done n back) → back ≡ 0 → m ≡ n → ((t : Seen) → IsAssigning 0 (λ more. behind_number operation kind m more) t new answer) → IsGivenBehind rest held old v t new answer
+number-ends old new scan kind operation v t n m back answer s k none f later =
+    let same : back ≡ integers.held old.integer = (k []).0 in
+    let zero_held : integers.held old.integer ≡ 0 = sym same ∙ none in
+    rw s
+    (same-read rest held (integers.held old.integer) (λ more. next (integers.rest old.integer (kept (integers.held old.integer) t) (Gave v) more) (behind_number operation kind)) (λ more. behind_number operation kind n more) (kept (integers.held old.integer) t) new answer
+    (λ more. ap (λ r. next r (behind_number operation kind)) ((k (kept (integers.held old.integer) t)).1 more) ∙ ap (λ (i : ℕ). behind_number operation kind n (kept i t ++ more)) zero_held)
+    (read-none rest held (integers.held old.integer) (λ more. behind_number operation kind n more) (kept (integers.held old.integer) t) new answer
+    (to-none (λ more. behind_number operation kind n more) t new answer (rw f at (later t)))))
 
-number-done : (old new : AssignScan) (scan : IntScan) (kind : Numbered) (operation : Option Operation) (v : Value) (n : ℤ) (back : ℕ) (t : Seen) (answer : Fed Assignment) → old.stage ≡ stage.Number kind operation → integers.IsGiven old.integer v scan (fed.Done n back) → IsAssigning 0 (λ more. behind_number operation kind n (behind_it old ++ more)) t new answer → IsGivenBy rest held old v new answer
-number-done old new scan kind operation v n back t answer s k later = λ behind short.
-    none-passed (λ more. rest old behind (Gave v) more) behind (held old) new answer (rw s refl) short
-    (same-passed rest held (λ more. rest old behind (Gave v) more) (λ more. behind_number operation kind n (behind_it old ++ more)) [] 0 0 new answer
-    (λ more. rw s (ap (λ r. next r (behind_number operation kind)) ((k (behind_it old)).1 more))) refl
-    (answer-passed (λ more. behind_number operation kind n (behind_it old ++ more)) t new answer later))
-
--- some token, where none is asked
-abbrev some_token : Seen
-some_token = record { token = FrozenRelax; meaning = Undefined }
-
-pub number-ends : (old new : AssignScan) (scan : IntScan) (kind : Numbered) (operation : Option Operation) (v : Value) (n m : ℤ) (back : ℕ) (answer : Fed Assignment) → old.stage ≡ stage.Number kind operation → integers.IsGiven old.integer v scan (fed.Done n back) → behind_it old ≡ [] → m ≡ n → ((t : Seen) → IsAssigning 0 (λ more. behind_number operation kind m more) t new answer) → IsGivenBy rest held old v new answer
-number-ends old new scan kind operation v n m back answer s k e f later =
-    number-done old new scan kind operation v n back some_token answer s k (rw e (rw f at (later some_token)))
-
-pub number-ends-before : {E : Type 0} (old new : AssignScan) (scan : IntScan) (kind : Numbered) (operation : Option Operation) (v : Value) (n m : ℤ) (back : ℕ) (t : Seen) (answer : Result (Fed Assignment) E) → old.stage ≡ stage.Number kind operation → integers.IsGiven old.integer v scan (fed.Done n back) → behind_it old ≡ Took t ∷ [] → m ≡ n → IfOk answer (IsAssigning 0 (λ more. behind_number operation kind m (Took t ∷ more)) t new) → IfOk answer (IsGivenBy rest held old v new)
-number-ends-before old new scan kind operation v n m back t (Ok answer) s k e f later =
-    number-done old new scan kind operation v n back t answer s k (rw e (rw f at later))
-number-ends-before old new scan kind operation v n m back t (Err error) s k e f later = tt
-
--- which tokens are behind a number that has ended
-none-held : (n : ℕ) (behind : Option Seen) → n ≡ 0 → held_items n behind ≡ []
-none-held n behind e = rw e refl
-
-pub ends-alone : (old : AssignScan) (scan : IntScan) (v : Value) (n : ℤ) (back : ℕ) → integers.IsGiven old.integer v scan (fed.Done n back) → back ≡ 0 → behind_it old ≡ []
-ends-alone old scan v n back k e = none-held (integers.held old.integer) old.behind (sym (k []).0 ∙ e)
-
-none-behind : (n : ℕ) → held_items n None ≡ []
-none-behind zero = refl
-none-behind (suc n) = refl
-
-pub ends-unseen : (old : AssignScan) → old.behind ≡ None → behind_it old ≡ []
-ends-unseen old e = rw e (none-behind (integers.held old.integer))
-
-one-behind : (n : ℕ) (t : Seen) → (n ≡ 0 → ⊥) → held_items n (Some t) ≡ Took t ∷ []
-one-behind zero t e = absurd (e refl)
-one-behind (suc n) t e = refl
-
-pub ends-seen : (old : AssignScan) (scan : IntScan) (v : Value) (n : ℤ) (back : ℕ) (t : Seen) → integers.IsGiven old.integer v scan (fed.Done n back) → (back ≡ 0 → ⊥) → old.behind ≡ Some t → behind_it old ≡ Took t ∷ []
-ends-seen old scan v n back t k e b = rw b (one-behind (integers.held old.integer) t (λ none. e ((k []).0 ∙ none)))
+pub number-ends-before : {E : Type 0} (old new : AssignScan) (scan : IntScan) (kind : Numbered) (operation : Option Operation) (v : Value) (t : Seen) (n m : ℤ) (back : ℕ) (answer : Result (Fed Assignment) E) → old.stage ≡ stage.Number kind operation → integers.IsGiven old.integer v scan (fed.Done n back) → (back ≡ 0 → ⊥) → m ≡ n → held old ≤ 1 → IfOk answer (IsBehind (λ more. behind_number operation kind m (Took t ∷ more)) t new) → IfOk answer (IsGivenBehind rest held old v t new)
+number-ends-before old new scan kind operation v t n m back (Ok answer) s k some f few later =
+    let short : integers.held old.integer ≤ 1 = rw s at few in
+    let same : back ≡ integers.held old.integer = (k []).0 in
+    let one : integers.held old.integer ≡ 1 = one-held back (integers.held old.integer) some same short in
+    rw (s, one)
+    (same-read rest held 1 (λ more. next (integers.rest old.integer (Took t ∷ []) (Gave v) more) (behind_number operation kind)) (λ more. behind_number operation kind n (Took t ∷ more)) (Took t ∷ []) new answer
+    (λ more. ap (λ r. next r (behind_number operation kind)) ((k (Took t ∷ [])).1 more))
+    (rw f at later))
+number-ends-before old new scan kind operation v t n m back (Err error) s k some f few later = tt
 
 -- the value that a size waits for
 pub size-more : (old : AssignScan) (scan : DimenScan) (purpose : Purpose) (v : Value) (want : Want) → old.stage ≡ stage.Size purpose → IsGivenBy sizes.rest sizes.held old.size v scan (fed.More want) → IsGivenBy rest held old v (record old { size = scan }) (fed.More want)
@@ -128,3 +111,36 @@ size-done old new scan purpose v measure back (Ok answer) s k e = λ behind shor
     (λ more. rw s (ap (λ r. next r (sized purpose old.place)) ((k behind (rw s at short)).1 more))) (rw s (sym (k behind (rw s at short)).0))
     (end-passed (sized purpose old.place measure) behind back new answer e)
 size-done old new scan purpose v measure back (Err error) s k e = tt
+
+-- glue, of whatever is read
+pub glue-more : (old : AssignScan) (scan : GlueScan) (purpose : Purpose) (most : ℕ) (reading : List Item → Reading GlueSpec) (tokens : List Item) (want : Want) → IsRead glues.rest glues.held most reading tokens scan (fed.More want) → IsRead rest held most (λ more. next (reading more) (elastic purpose old.place)) tokens (record old { stage = stage.Glue purpose; glue = scan }) (fed.More want)
+glue-more old scan purpose most reading tokens want k =
+    mapped-read glues.rest glues.held rest held (glued purpose old.place) most reading tokens scan (record old { stage = stage.Glue purpose; glue = scan }) (fed.More want) (λ behind item more. refl) refl k
+
+pub glue-need : (old : AssignScan) (scan : GlueScan) (purpose : Purpose) (most : ℕ) (reading : List Item → Reading GlueSpec) (tokens : List Item) (kind : Kind) → IsRead glues.rest glues.held most reading tokens scan (fed.Need kind) → IsRead rest held most (λ more. next (reading more) (elastic purpose old.place)) tokens (record old { stage = stage.Glue purpose; glue = scan }) (fed.Need kind)
+glue-need old scan purpose most reading tokens kind k =
+    mapped-read glues.rest glues.held rest held (glued purpose old.place) most reading tokens scan (record old { stage = stage.Glue purpose; glue = scan }) (fed.Need kind) (λ behind item more. refl) refl k
+
+pub glue-wrong : (new : AssignScan) (scan : GlueScan) (purpose : Purpose) (p : Place) (most : ℕ) (reading : List Item → Reading GlueSpec) (tokens : List Item) (error : TexError) → IsRead glues.rest glues.held most reading tokens scan (fed.Wrong error) → IsRead rest held most (λ more. next (reading more) (elastic purpose p)) tokens new (fed.Wrong error)
+glue-wrong new scan purpose p most reading tokens error k = λ more. ap (λ r. next r (elastic purpose p)) (k more)
+
+end-read : (reading other : List Item → Reading Assignment) (most : ℕ) (tokens : List Item) (back : ℕ) (new : AssignScan) (answer : Fed Assignment) → back ≤ most → ((more : List Item) → reading more ≡ other (ending back tokens ++ more)) → IsEnd other back answer → IsRead rest held most reading tokens new answer
+end-read reading other most tokens back new (fed.More want) h same k = absurd k
+end-read reading other most tokens back new (fed.Need kind) h same k = absurd k
+end-read reading other most tokens back new (fed.Done value count) h same k =
+    (omega (arith, h, k.0), λ more. same more ∙ (k.1 (ending back tokens ++ more) ∙ ap (λ (n : ℕ). Done value (ending n tokens ++ more)) (sym k.0)))
+end-read reading other most tokens back new (fed.Wrong error) h same k = λ more. same more ∙ k (ending back tokens ++ more)
+
+pub glue-done : {E : Type 0} (new : AssignScan) (scan : GlueScan) (purpose : Purpose) (p : Place) (most : ℕ) (reading : List Item → Reading GlueSpec) (tokens : List Item) (g : GlueSpec) (back : ℕ) (answer : Result (Fed Assignment) E) → IsRead glues.rest glues.held most reading tokens scan (fed.Done g back) → IfOk answer (IsEnd (λ more. elastic purpose p g more) back) → IfOk answer (IsRead rest held most (λ more. next (reading more) (elastic purpose p)) tokens new)
+glue-done new scan purpose p most reading tokens g back (Ok answer) k e =
+    end-read (λ more. next (reading more) (elastic purpose p)) (λ more. elastic purpose p g more) most tokens back new answer k.0 (λ more. ap (λ r. next r (elastic purpose p)) (k.1 more)) e
+glue-done new scan purpose p most reading tokens g back (Err error) k e = tt
+
+pub glue-ends : {E : Type 0} (new : AssignScan) (old scan : GlueScan) (purpose : Purpose) (p : Place) (t : Seen) (g : GlueSpec) (back : ℕ) (answer : Result (Fed Assignment) E) → IsFedBy glues.rest glues.held old t scan (fed.Done g back) → IfOk answer (IsEnd (λ more. elastic purpose p g more) back) → IfOk answer (λ a. (behind : List Item) → length behind ≤ glues.held old → IsRead rest held (glues.held old + 1) (λ more. next (glues.rest old behind (Took t) more) (elastic purpose p)) (behind ++ Took t ∷ []) new a)
+glue-ends new old scan purpose p t g back (Ok answer) k e = λ behind h.
+    glue-done {E = ⊥} new scan purpose p (glues.held old + 1) (λ more. glues.rest old behind (Took t) more) (behind ++ Took t ∷ []) g back (Ok answer) (k behind h) e
+glue-ends new old scan purpose p t g back (Err error) k e = tt
+
+pub glue-fed : {E : Type 0} (old new : AssignScan) (purpose : Purpose) (t : Seen) (answer : Result (Fed Assignment) E) → old.stage ≡ stage.Glue purpose → IfOk answer (λ a. (behind : List Item) → length behind ≤ glues.held old.glue → IsRead rest held (glues.held old.glue + 1) (λ more. next (glues.rest old.glue behind (Took t) more) (elastic purpose old.place)) (behind ++ Took t ∷ []) new a) → IfOk answer (IsFedBy rest held old t new)
+glue-fed old new purpose t (Ok answer) s k = λ behind h. rw s (k behind (rw s at h))
+glue-fed old new purpose t (Err error) s k = tt

@@ -2,4 +2,5 @@ pub mod Steps
 pub mod Numbers
 pub mod Givens
 pub mod Parts
+mod Sums
 mod Operands

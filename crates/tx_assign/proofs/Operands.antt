@@ -9,6 +9,7 @@ use Rattle.tx_seen.specs.declared.fed.Want.{Want}
 use Rattle.tx_seen.specs.declared.item.Item.{Item}
 use Rattle.tx_seen.specs.declared.item.Item.TheVariants.{Took, Gave}
 use Rattle.tx_seen.specs.declared.place.Place.{Place}
+use Rattle.tx_seen.specs.Places.{is_muglue}
 use Rattle.tx_seen.specs.declared.seen.Seen.{Seen}
 use Rattle.tx_seen.specs.Seen.{is_key, is_space, is_undefined}
 use Rattle.tx_seen.specs.declared.fed.Want.TheVariants.{Expanded}
@@ -23,13 +24,15 @@ use Rattle.tx_assign.specs.declared.scan.AssignStage.TheVariants as stage
 use Rattle.tx_assign.specs.declared.types.Assignment.{Assignment}
 use Rattle.tx_assign.specs.declared.types.Purpose.TheVariants.{Compute}
 use Rattle.tx_scan.specs.Dimensions.{dimension, lengths}
+use Rattle.tx_scan.specs.Glues.{glue}
 use Rattle.tx_scan.specs.Integers.{integer}
 use Rattle.tx_seen.specs.declared.fed.Value.{Value}
 use Rattle.tx_assign.specs.declared.types.Purpose.{Purpose}
-use Rattle.tx_assign.specs.Targets.{takes_list, takes_size}
-use Rattle.tx_assign.specs.Assignments.{list_value, value, valued, sized, operand, behind_place}
-use Rattle.tx_assign.specs.Rests.{by_rest, behind_by, IsAssigning}
+use Rattle.tx_assign.specs.Targets.{takes_glue, takes_list, takes_size}
+use Rattle.tx_assign.specs.Assignments.{elastic, list_value, value, valued, sized, operand, behind_place}
+use Rattle.tx_assign.specs.Rests.{by_rest, behind_by, IsAssigning, IsBehind}
 use Rattle.tx_assign.specs.Rests as rests
+use Rattle.tx_assign.proofs.Steps.{same-behind}
 
 abbrev pub by : List ℕ
 by = codes "by"
@@ -110,9 +113,9 @@ one-back : (back : ℕ) (t : Seen) → (back ≡ 0 → ⊥) → ending back (Too
 one-back zero t h = absurd (h refl)
 one-back (suc back) t h = ending-all (suc back) (Took t ∷ []) (omega arith)
 
-pub by-before : {E : Type 0} (new : AssignScan) (word now : KeyScan) (operation : Operation) (p : Place) (t : Seen) (found : Bool) (back : ℕ) (answer : Result (Fed Assignment) E) → IsFedBy (rest by) held word t now (fed.Done found back) → found ≡ true → (back ≡ 0 → ⊥) → IfOk answer (IsAssigning 0 (λ more. value (Compute operation) p (Took t ∷ more)) t new) → IfOk answer (IsAssigning 0 (λ more. by_rest word operation p (Took t) more) t new)
+pub by-before : {E : Type 0} (new : AssignScan) (word now : KeyScan) (operation : Operation) (p : Place) (t : Seen) (found : Bool) (back : ℕ) (answer : Result (Fed Assignment) E) → IsFedBy (rest by) held word t now (fed.Done found back) → found ≡ true → (back ≡ 0 → ⊥) → IfOk answer (IsBehind (λ more. value (Compute operation) p (Took t ∷ more)) t new) → IfOk answer (IsBehind (λ more. by_rest word operation p (Took t) more) t new)
 by-before new word now operation p t found back (Ok answer) k e some later =
-    same-answer rests.rest rests.held 0 (λ more. by_rest word operation p (Took t) more) (λ more. value (Compute operation) p (Took t ∷ more)) t new answer
+    same-behind {E = ⊥} (λ more. by_rest word operation p (Took t) more) (λ more. value (Compute operation) p (Took t ∷ more)) t new (Ok answer)
     (λ more. ap (λ r. next r (behind_by word.read operation p)) ((k [] (omega arith)).1 more ∙ ap (λ (b : Bool). Done b (ending back (Took t ∷ []) ++ more)) e) ∙ on-true word.read operation p (ending back (Took t ∷ []) ++ more) ∙ ap (λ (xs : List Item). value (Compute operation) p (xs ++ more)) (one-back back t some))
     later
 by-before new word now operation p t found back (Err error) k e some later = tt
@@ -122,10 +125,10 @@ none-there : (operation : Operation) (p : Place) (read : ℕ) (t : Seen) → rea
 none-there operation p (suc read) t e k more = absurd (omega (arith, e))
 none-there operation p zero t e k more = ap (λ r. next r (operand operation p)) (k more) ∙ rw (no-letter t (Took t ∷ []) (k [])) refl
 
-pub by-none : {E : Type 0} (new : AssignScan) (word now : KeyScan) (operation : Operation) (p : Place) (t : Seen) (found : Bool) (back : ℕ) (answer : Result (Fed Assignment) E) → IsFedBy (rest by) held word t now (fed.Done found back) → IsGone by word t now (fed.Done found back) → found ≡ false → back ≡ 1 → IfOk answer (IsAssigning 0 (λ more. value (Compute operation) p (Took t ∷ more)) t new) → IfOk answer (IsAssigning 0 (λ more. by_rest word operation p (Took t) more) t new)
+pub by-none : {E : Type 0} (new : AssignScan) (word now : KeyScan) (operation : Operation) (p : Place) (t : Seen) (found : Bool) (back : ℕ) (answer : Result (Fed Assignment) E) → IsFedBy (rest by) held word t now (fed.Done found back) → IsGone by word t now (fed.Done found back) → found ≡ false → back ≡ 1 → IfOk answer (IsBehind (λ more. value (Compute operation) p (Took t ∷ more)) t new) → IfOk answer (IsBehind (λ more. by_rest word operation p (Took t) more) t new)
 by-none new word now operation p t true back answer k g e one later = absurd (cc)
 by-none new word now operation p t false back (Ok answer) k g e one later =
-    same-answer rests.rest rests.held 0 (λ more. by_rest word operation p (Took t) more) (λ more. value (Compute operation) p (Took t ∷ more)) t new answer
+    same-behind {E = ⊥} (λ more. by_rest word operation p (Took t) more) (λ more. value (Compute operation) p (Took t ∷ more)) t new (Ok answer)
     (none-there operation p word.read t (omega (arith, g, one)) (λ more. (k [] (omega arith)).1 more ∙ ap (λ (xs : List Item). Done false (xs ++ more)) (one-back back t (λ z. omega (arith, z, one)))))
     later
 by-none new word now operation p t false back (Err error) k g e one later = tt
@@ -134,17 +137,18 @@ by-none new word now operation p t false back (Err error) k g e one later = tt
 pub by-begun : (o : Option Operation) (operation : Operation) (old new : AssignScan) (word : KeyScan) (t : Seen) (answer : Fed Assignment) → o ≡ Some operation → word ≡ begun_word → new ≡ record old { stage = stage.By operation word } → answer ≡ fed.More Expanded → IsAssigning 0 (λ more. behind_place o old.place more) t new answer
 by-begun o operation old new word t answer e w n a = rw (e, n, a, w) (refl, refl, λ item more. refl)
 
-pub by-first : {E : Type 0} (o : Option Operation) (operation : Operation) (p : Place) (word : KeyScan) (t : Seen) (new : AssignScan) (answer : Result (Fed Assignment) E) → o ≡ Some operation → word ≡ begun_word → IfOk answer (IsAssigning 0 (λ more. by_rest word operation p (Took t) more) t new) → IfOk answer (IsAssigning 0 (λ more. behind_place o p (Took t ∷ more)) t new)
+pub by-first : {E : Type 0} (o : Option Operation) (operation : Operation) (p : Place) (word : KeyScan) (t : Seen) (new : AssignScan) (answer : Result (Fed Assignment) E) → o ≡ Some operation → word ≡ begun_word → IfOk answer (IsBehind (λ more. by_rest word operation p (Took t) more) t new) → IfOk answer (IsBehind (λ more. behind_place o p (Took t ∷ more)) t new)
 by-first o operation p word t new answer e w k = rw e (rw w at k)
 
 -- no value is needed there
-given-if : (l b : Bool) (purpose : Purpose) (p : Place) (v : Value) (more : List Item) → (if l then list_value p (Gave v ∷ more) else (if b then next (dimension lengths (Gave v ∷ more)) (sized purpose p) else next (integer (Gave v ∷ more)) (valued purpose p))) ≡ Wrong MissingNumber
-given-if true b purpose p v more = refl
-given-if false true purpose p v more = refl
-given-if false false purpose p v more = refl
+given-if : (l g b : Bool) (purpose : Purpose) (p : Place) (v : Value) (more : List Item) → (if l then list_value p (Gave v ∷ more) else (if g then next (glue (is_muglue p) (Gave v ∷ more)) (elastic purpose p) else (if b then next (dimension lengths (Gave v ∷ more)) (sized purpose p) else next (integer (Gave v ∷ more)) (valued purpose p)))) ≡ Wrong MissingNumber
+given-if true g b purpose p v more = refl
+given-if false true b purpose p v more = refl
+given-if false false true purpose p v more = refl
+given-if false false false purpose p v more = refl
 
 value-given : (purpose : Purpose) (p : Place) (v : Value) (more : List Item) → value purpose p (Gave v ∷ more) ≡ Wrong MissingNumber
-value-given purpose p v more = given-if (takes_list purpose p) (takes_size purpose p) purpose p v more
+value-given purpose p v more = given-if (takes_list purpose p) (takes_glue purpose p) (takes_size purpose p) purpose p v more
 
 letters-given : (read : ℕ) (word : List ℕ) (operation : Operation) (p : Place) (v : Value) (more : List Item) → next (letters word (Gave v ∷ more) (Gave v ∷ more)) (behind_by (suc read) operation p) ≡ Wrong MissingNumber
 letters-given read [] operation p v more = value-given (Compute operation) p v more

@@ -1,5 +1,5 @@
 -- The name that \let defines, and the value of an assignment, as parts of it.
-use Rattle.std.proofs.Common.{◌≡◌, ℕ, Bool, List, [], ◌∷◌, ◌++◌, Result, IfOk, refl, ap, arith}
+use Rattle.std.proofs.Common.{◌≡◌, ℕ, Bool, List, [], ◌∷◌, ◌++◌, Result, IfOk, refl, ap, ◌∙◌, arith}
 use Rattle.tx_seen.specs.declared.error.TexError.{TexError}
 use Rattle.tx_seen.specs.declared.place.Place.{Place}
 use Rattle.tx_seen.specs.declared.seen.Seen.{Seen}
@@ -19,14 +19,15 @@ use Rattle.tx_scan.specs.Grammars.{equals, name}
 use Rattle.tx_scan.specs.GrammarRests.{held_none, equals_rest, name_rest, IsEqualsFed, IsNameFed}
 use Rattle.tx_scan.specs.IntegerRests as integers
 use Rattle.tx_scan.specs.DimensionRests as sizes
-use Rattle.tx_scan.proofs.Composing.{more-next, need-next, done-next, none-back, one-back}
+use Rattle.tx_scan.proofs.Composing.{more-next, need-next, done-next, none-back}
 use Rattle.tx_assign.specs.declared.scan.AssignScan.{AssignScan}
 use Rattle.tx_assign.specs.declared.scan.AssignStage.TheVariants as stage
 use Rattle.tx_assign.specs.declared.types.Assignment.{Assignment}
 use Rattle.tx_assign.specs.declared.types.Purpose.{Purpose}
 use Rattle.tx_assign.specs.Assignments.{given, let_behind_name, sized, value, valued}
-use Rattle.tx_assign.specs.Rests.{rest, held, IsAssigning}
-use Rattle.tx_assign.proofs.Numbers.{done-ok}
+use Rattle.tx_assign.specs.Rests.{rest, held, IsAssigning, IsBehind}
+use Rattle.tx_assign.proofs.Numbers.{one-kept}
+use Rattle.tx_assign.proofs.Steps.{same-behind}
 
 -- the name
 pub name-more : (old : AssignScan) (scan : NameScan) (t : Seen) (want : Want) → old.stage ≡ stage.LetName → IsNameFed scan t (fed.More want) → IsAssigning 0 (λ more. next (name (Took t ∷ more)) let_behind_name) t old (fed.More want)
@@ -55,10 +56,10 @@ equals-ends new scan purpose p t found back answer k e later =
     done-next equals_rest held_none rest held 1 0 (λ more. equals (Took t ∷ more)) (λ _ rest. value purpose p rest) t scan new found back answer (k [])
     (none-back (λ items. IsAssigning 0 (λ more. value purpose p (items ++ more)) t new answer) back t e later)
 
-pub equals-ends-before : {E : Type 0} (new : AssignScan) (scan : EqualsScan) (purpose : Purpose) (p : Place) (t : Seen) (found : Bool) (back : ℕ) (answer : Result (Fed Assignment) E) → IsEqualsFed scan t (fed.Done found back) → (back ≡ 0 → ⊥) → IfOk answer (IsAssigning 0 (λ more. value purpose p (Took t ∷ more)) t new) → IfOk answer (IsAssigning 0 (λ more. given purpose p (Took t ∷ more)) t new)
+pub equals-ends-before : {E : Type 0} (new : AssignScan) (scan : EqualsScan) (purpose : Purpose) (p : Place) (t : Seen) (found : Bool) (back : ℕ) (answer : Result (Fed Assignment) E) → IsEqualsFed scan t (fed.Done found back) → (back ≡ 0 → ⊥) → IfOk answer (IsBehind (λ more. value purpose p (Took t ∷ more)) t new) → IfOk answer (IsBehind (λ more. given purpose p (Took t ∷ more)) t new)
 equals-ends-before new scan purpose p t found back answer k e later =
-    done-ok equals_rest held_none 1 0 (λ more. equals (Took t ∷ more)) (λ _ rest. value purpose p rest) t scan new found back answer (k [])
-    (one-back (λ items. IfOk answer (IsAssigning 0 (λ more. value purpose p (items ++ more)) t new)) back t e later)
+    same-behind (λ more. given purpose p (Took t ∷ more)) (λ more. value purpose p (Took t ∷ more)) t new answer
+    (λ more. ap (λ r. next r (λ _ rest. value purpose p rest)) ((k []).1 more) ∙ ap (λ (items : List Item). value purpose p (items ++ more)) (one-kept back t e)) later
 
 -- a number
 pub integer-more : (old : AssignScan) (scan : IntScan) (purpose : Purpose) (t : Seen) (want : Want) → integers.IsFed old.integer t scan (fed.More want) → (behind : List Item) → IsAssigning (integers.most old.integer) (λ more. next (integers.rest old.integer behind (Took t) more) (valued purpose old.place)) t (record old { stage = stage.Integer purpose; integer = scan }) (fed.More want)

@@ -9,7 +9,9 @@ use Rattle.tx_seen.specs.declared.fed.Want.TheVariants.{Raw, Expanded}
 use Rattle.tx_seen.specs.declared.item.Item.{Item}
 use Rattle.tx_seen.specs.declared.item.Item.TheVariants.{Took, Gave}
 use Rattle.tx_seen.specs.declared.seen.Seen.{Seen}
-use Rattle.tx_seen.specs.Places.{place_of}
+use Rattle.tx_num.specs.Glue.{GlueSpec}
+use Rattle.tx_scan.specs.Glues.{glue}
+use Rattle.tx_seen.specs.Places.{is_muglue, place_of}
 use Rattle.tx_seen.specs.Seen.{is_begin_group, is_space, is_relax, is_other, is_key}
 use Rattle.tx_seen.specs.Readings.{Reading, More, Done, Wrong, next}
 use Rattle.tx_scan.specs.Integers.{integer, byte_of, expanded}
@@ -30,9 +32,12 @@ use Rattle.tx_assign.specs.declared.types.Purpose.TheVariants.{Set, Define, Comp
 use Rattle.tx_assign.specs.declared.types.Variable.{Variable}
 use Rattle.tx_assign.specs.declared.types.Variable.TheVariants.{Numbered as Left_numbered, Standing as Left_standing}
 use Rattle.tx_assign.specs.Beginnings.{variable_of, is_changeable}
-use Rattle.tx_assign.specs.Targets.{takes_list, takes_size, purpose_bounds, is_within, change_by, change_by_size}
+use Rattle.tx_assign.specs.Targets.{takes_glue, takes_list, takes_size, purpose_bounds, is_within, change_by, change_by_glue, change_by_size}
 
--- a size, and a number that is within the range of its purpose
+-- glue, a size, and a number that is within the range of its purpose
+abbrev pub elastic : Purpose → Place → GlueSpec → List Item → Reading Assignment
+elastic purpose place g rest = Done (record { place = place; change = change_by_glue purpose g }) rest
+
 abbrev pub sized : Purpose → Place → Measure → List Item → Reading Assignment
 sized purpose place measure rest = Done (record { place = place; change = change_by_size purpose measure.size }) rest
 
@@ -55,10 +60,11 @@ list_value place (Gave v ∷ rest) = Wrong MissingNumber
 list_value place (Took t ∷ rest) =
     expanded t (if is_space t || is_relax t then list_value place rest else listed place (list_begun t.meaning) t rest)
 
--- a number or a size
+-- a number, a size, or glue, in mu where that stands there
 abbrev pub number_value : Purpose → Place → List Item → Reading Assignment
 number_value purpose place items =
-    if takes_size purpose place then next (dimension lengths items) (sized purpose place) else next (integer items) (valued purpose place)
+    if takes_glue purpose place then next (glue (is_muglue place) items) (elastic purpose place)
+    else if takes_size purpose place then next (dimension lengths items) (sized purpose place) else next (integer items) (valued purpose place)
 
 -- the value
 abbrev pub value : Purpose → Place → List Item → Reading Assignment

@@ -5,7 +5,7 @@ use Rattle.tx_prim.specs.declared.primitive.Primitive.TheVariants as primitive
 use Rattle.tx_prim.specs.declared.family.Numbered.TheVariants as number
 use Rattle.tx_seen.specs.declared.place.Place.TheVariants as place
 use Rattle.tx_seen.specs.declared.meaning.Meaning.{Meaning}
-use Rattle.tx_seen.specs.declared.meaning.Meaning.TheVariants.{Undefined, Command, Character, CharacterNumber, MathNumber, CountRegister, DimenRegister, ToksRegister, Expandable, Macro, Held}
+use Rattle.tx_seen.specs.declared.meaning.Meaning.TheVariants.{Undefined, Command, Character, CharacterNumber, MathNumber, CountRegister, DimenRegister, SkipRegister, MuskipRegister, ToksRegister, Expandable, Macro, Held}
 use Rattle.tx_seen.specs.Places.{is_list}
 use Rattle.tx_assign.specs.declared.types.Variable.{Variable}
 use Rattle.tx_assign.specs.declared.types.Variable.TheVariants.{Numbered, Standing}
@@ -15,6 +15,7 @@ abbrev pub primitive_variable : Primitive → Option Variable
 primitive_variable (primitive.Numbered kind) = Some (Numbered kind)
 primitive_variable (primitive.Integer parameter) = Some (Standing (place.Integer parameter))
 primitive_variable (primitive.Dimension parameter) = Some (Standing (place.Dimension parameter))
+primitive_variable (primitive.Glue parameter) = Some (Standing (place.Glue parameter))
 primitive_variable (primitive.Tokens parameter) = Some (Standing (place.Tokens parameter))
 primitive_variable primitive.Relax = None
 primitive_variable primitive.EndCsName = None
@@ -40,17 +41,22 @@ primitive_variable (primitive.BoxFrom source) = None
 primitive_variable primitive.SetBox = None
 primitive_variable (primitive.Shift kind) = None
 primitive_variable (primitive.Unbox kind) = None
+primitive_variable (primitive.HorizontalGlue form) = None
+primitive_variable (primitive.VerticalGlue form) = None
 primitive_variable primitive.Penalty = None
 primitive_variable (primitive.Remove kind) = None
 primitive_variable (primitive.Last kind) = None
 primitive_variable primitive.Badness = None
 primitive_variable primitive.PrevDepth = None
+primitive_variable (primitive.Leaders kind) = None
 
 -- a register's name of its own is a left side too
 abbrev pub variable_of : Meaning → Option Variable
 variable_of (Command primitive) = primitive_variable primitive
 variable_of (CountRegister number) = Some (Standing (place.Count number))
 variable_of (DimenRegister number) = Some (Standing (place.Dimen number))
+variable_of (SkipRegister number) = Some (Standing (place.Skip number))
+variable_of (MuskipRegister number) = Some (Standing (place.Muskip number))
 variable_of (ToksRegister number) = Some (Standing (place.Toks number))
 variable_of Undefined = None
 variable_of (Character code category) = None
@@ -65,6 +71,8 @@ abbrev pub is_changeable : Variable → Bool
 is_changeable (Standing place) = not (is_list place)
 is_changeable (Numbered number.Count) = true
 is_changeable (Numbered number.Dimen) = true
+is_changeable (Numbered number.Skip) = true
+is_changeable (Numbered number.Muskip) = true
 is_changeable (Numbered number.Toks) = false
 is_changeable (Numbered number.Category) = false
 is_changeable (Numbered (number.Code code)) = false

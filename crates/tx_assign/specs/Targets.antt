@@ -1,5 +1,5 @@
 -- What assignments give values, and in what ranges (The TeXbook, chapter 24; TeX: The Program, sections 1224 to 1240).
-use Rattle.std.specs.Prelude.{ℕ, ℤ, pos, neg_ℤ, Bool, false, ◌&&◌, ◌∷◌, [], int_le, unsigned_abs, slice_index_or}
+use Rattle.std.specs.Prelude.{ℕ, ℤ, pos, neg_ℤ, Bool, false, ◌&&◌, ◌||◌, ◌∷◌, [], int_le, unsigned_abs, slice_index_or}
 use Rattle.tx_char.specs.declared.category.Cat.{Cat}
 use Rattle.tx_char.specs.declared.category.Cat.TheVariants as category
 use Rattle.tx_prim.specs.declared.family.CharacterCode.TheVariants.{LowerCase, UpperCase, SpaceFactor, Math, Delimiter}
@@ -10,9 +10,10 @@ use Rattle.tx_seen.specs.declared.place.Place.{Place}
 use Rattle.tx_seen.specs.declared.place.Place.TheVariants as place
 use Rattle.tx_seen.specs.declared.meaning.Meaning.{Meaning}
 use Rattle.tx_seen.specs.declared.meaning.Meaning.TheVariants as meaning
-use Rattle.tx_seen.specs.Places.{is_list, is_size}
+use Rattle.tx_num.specs.Glue.{GlueSpec}
+use Rattle.tx_seen.specs.Places.{is_glue, is_list, is_muglue, is_size}
 use Rattle.tx_eqtb.specs.declared.entry.Entry.{Entry}
-use Rattle.tx_eqtb.specs.declared.entry.Entry.TheVariants.{Means, InCategory, Number}
+use Rattle.tx_eqtb.specs.declared.entry.Entry.TheVariants.{Means, InCategory, Number, Glue}
 use Rattle.tx_assign.specs.declared.types.Bounds.{Bounds}
 use Rattle.tx_assign.specs.declared.types.Change.{Change}
 use Rattle.tx_assign.specs.declared.types.Change.TheVariants as change
@@ -27,6 +28,15 @@ takes_size (Compute Advance) place = is_size place
 takes_size (Compute Multiply) place = false
 takes_size (Compute Divide) place = false
 takes_size Copy place = false
+
+-- whether it is glue
+abbrev pub takes_glue : Purpose → Place → Bool
+takes_glue Set place = is_glue place || is_muglue place
+takes_glue (Define kind) place = false
+takes_glue (Compute Advance) place = is_glue place || is_muglue place
+takes_glue (Compute Multiply) place = false
+takes_glue (Compute Divide) place = false
+takes_glue Copy place = false
 
 -- whether it is a list of tokens
 abbrev pub takes_list : Purpose → Place → Bool
@@ -59,6 +69,8 @@ place_bounds other = all_integers
 abbrev pub name_bounds : Shorthand → Bounds
 name_bounds shorthand.CountRegister = up_to 255
 name_bounds shorthand.DimenRegister = up_to 255
+name_bounds shorthand.SkipRegister = up_to 255
+name_bounds shorthand.MuskipRegister = up_to 255
 name_bounds shorthand.ToksRegister = up_to 255
 name_bounds shorthand.Character = up_to 255
 name_bounds shorthand.MathCharacter = up_to 32767
@@ -89,6 +101,8 @@ entry_at other n = Number n
 abbrev pub meaning_by : Shorthand → ℤ → Meaning
 meaning_by shorthand.CountRegister n = meaning.CountRegister (unsigned_abs n)
 meaning_by shorthand.DimenRegister n = meaning.DimenRegister (unsigned_abs n)
+meaning_by shorthand.SkipRegister n = meaning.SkipRegister (unsigned_abs n)
+meaning_by shorthand.MuskipRegister n = meaning.MuskipRegister (unsigned_abs n)
 meaning_by shorthand.ToksRegister n = meaning.ToksRegister (unsigned_abs n)
 meaning_by shorthand.Character n = meaning.CharacterNumber (unsigned_abs n)
 meaning_by shorthand.MathCharacter n = meaning.MathNumber (unsigned_abs n)
@@ -106,3 +120,10 @@ change_by_size Set size = change.Set (Number size)
 change_by_size (Define kind) size = change.Set (Number size)
 change_by_size (Compute operation) size = change.Compute operation size
 change_by_size Copy size = change.Set (Number size)
+
+-- what becomes of it by glue
+abbrev pub change_by_glue : Purpose → GlueSpec → Change
+change_by_glue Set g = change.Set (Glue g)
+change_by_glue (Define kind) g = change.Set (Glue g)
+change_by_glue (Compute operation) g = change.Add g
+change_by_glue Copy g = change.Set (Glue g)

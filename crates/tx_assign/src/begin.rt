@@ -14,6 +14,7 @@ fn of_primitive(primitive: Primitive) -> Option<Variable>
         Primitive::Numbered(kind) => Some(Variable::Numbered(kind)),
         Primitive::Integer(parameter) => Some(Variable::Standing(Place::Integer(parameter))),
         Primitive::Dimension(parameter) => Some(Variable::Standing(Place::Dimension(parameter))),
+        Primitive::Glue(parameter) => Some(Variable::Standing(Place::Glue(parameter))),
         Primitive::Tokens(parameter) => Some(Variable::Standing(Place::Tokens(parameter))),
         Primitive::Relax | Primitive::Par | Primitive::End => None,
         Primitive::IgnoreSpaces | Primitive::Interaction(_) => None,
@@ -26,7 +27,9 @@ fn of_primitive(primitive: Primitive) -> Option<Variable>
         Primitive::Sized(_) | Primitive::Rule(_) | Primitive::Box(_) | Primitive::Shipout => None,
         Primitive::BoxFrom(_) | Primitive::SetBox | Primitive::Shift(_) => None,
         Primitive::Unbox(_) | Primitive::Penalty | Primitive::Remove(_) => None,
+        Primitive::HorizontalGlue(_) | Primitive::VerticalGlue(_) => None,
         Primitive::Last(_) | Primitive::Badness | Primitive::PrevDepth => None,
+        Primitive::Leaders(_) => None,
     }
 }
 
@@ -39,6 +42,8 @@ impl Variable {
             Meaning::Command(primitive) => of_primitive(*primitive),
             Meaning::CountRegister(number) => Some(Variable::Standing(Place::Count(*number))),
             Meaning::DimenRegister(number) => Some(Variable::Standing(Place::Dimen(*number))),
+            Meaning::SkipRegister(number) => Some(Variable::Standing(Place::Skip(*number))),
+            Meaning::MuskipRegister(number) => Some(Variable::Standing(Place::Muskip(*number))),
             Meaning::ToksRegister(number) => Some(Variable::Standing(Place::Toks(*number))),
             Meaning::Undefined | Meaning::Character(_, _) => None,
             Meaning::CharacterNumber(_) | Meaning::MathNumber(_) => None,
@@ -53,6 +58,7 @@ impl Variable {
         match self {
             Variable::Standing(place) => !place.is_list(),
             Variable::Numbered(Numbered::Count | Numbered::Dimen) => true,
+            Variable::Numbered(Numbered::Skip | Numbered::Muskip) => true,
             Variable::Numbered(Numbered::Category | Numbered::Code(_)) => false,
             Variable::Numbered(Numbered::Toks | Numbered::Size(_)) => false,
         }

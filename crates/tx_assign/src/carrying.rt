@@ -1,5 +1,6 @@
 //! How an assignment is carried out on the table (TeX: The Program, sections 1211 to 1218 and 1236 to 1240).
-ghost use Rattle.std.specs.Prelude.{◌≡◌, IfOk, OnOk};
+ghost use Rattle.std.specs.Prelude.{◌≡◌, ◌≤◌, unsigned_abs, IfOk, OnOk};
+ghost use Rattle.tx_num.specs.Glue.{IsDimension};
 ghost use Rattle.tx_num.specs.Limits.{limit};
 ghost use Rattle.tx_assign.specs.Changes as spec;
 ghost use Rattle.tx_assign.specs.Changes.{IsCarried};
@@ -8,7 +9,7 @@ use crate::types::{Assignment, Carried, Change};
 use std::alloc::{AllocError, Global};
 use tx_char::{Cat, Token};
 use tx_eqtb::{Entry, Eqtb};
-use tx_num::{Range, x_over_n};
+use tx_num::{Glue, Range, x_over_n};
 use tx_prim::{IntegerParameter, Operation, Primitive, TokenParameter};
 use tx_seen::{Meaning, Place, TexError};
 use tx_toklist::{TokList, Toks};
@@ -48,19 +49,21 @@ fn greatest(range: Range) -> u64
 }
 
 /// A result, if it is within the range.
-fn computed(range: Range, number: i64) -> Result<Entry, TexError>
-    ensures { result ≡ spec.computed range number }
+fn computed(range: Range, number: i64) -> Result<i32, TexError>
+    ensures value { result ≡ spec.computed range number }
+    ensures bound { IfOk result (λ n. unsigned_abs n ≤ limit range) }
 {
     if number.unsigned_abs() <= greatest(range) {
-        Ok(Entry::Number(number as i32))
+        Ok(number as i32)
     } else {
         Err(TexError::ArithmeticOverflow)
     }
 }
 
 /// A quotient, cut off towards 0.
-fn quotient(range: Range, number: i64, divisor: i64) -> Result<Entry, TexError>
-    ensures { result ≡ spec.quotient range number divisor }
+fn quotient(range: Range, number: i64, divisor: i64) -> Result<i32, TexError>
+    ensures value { result ≡ spec.quotient range number divisor }
+    ensures bound { IfOk result (λ n. unsigned_abs n ≤ limit range) }
 {
     if divisor == 0 {
         return Err(TexError::ArithmeticOverflow);
@@ -77,8 +80,9 @@ fn calculated(
     range: Range,
     number: i32,
     operand: i32,
-) -> Result<Entry, TexError>
-    ensures { result ≡ spec.result operation range number operand }
+) -> Result<i32, TexError>
+    ensures value { result ≡ spec.result operation range number operand }
+    ensures bound { IfOk result (λ n. unsigned_abs n ≤ limit range) }
 {
     let number = i64::from(number);
     let operand = i64::from(operand);
@@ -87,6 +91,63 @@ fn calculated(
         Operation::Multiply => computed(range, number * operand),
         Operation::Divide => quotient(range, number, operand),
     }
+}
+
+/// What an operation makes of a size in sp with a number.
+fn calculated_size(operation: Operation, size: i64, operand: i32) -> Result<i64, TexError>
+    requires { IsDimension size }
+    ensures value { result ≡ spec.result operation Range.Dimen size operand }
+    ensures bound { IfOk result IsDimension }
+{
+    Ok(i64::from(calculated(operation, Range::Dimen, size as i32, operand)?))
+}
+
+/// What an operation makes of each size of glue with a number; its orders stay (TeX: The Program, section 1240).
+fn calculated_glue(operation: Operation, glue: &Glue, operand: i32) -> Result<Glue, TexError>
+    ensures { result ≡ spec.glue_result operation glue.now operand }
+{
+    let width = calculated_size(operation, glue.width(), operand)?;
+    let stretch = calculated_size(operation, glue.stretch(), operand)?;
+    let shrink = calculated_size(operation, glue.shrink(), operand)?;
+    Ok(Glue::new(
+        width,
+        stretch,
+        glue.stretch_order(),
+        shrink,
+        glue.shrink_order(),
+    ))
+}
+
+/// The sum of glue (TeX: The Program, section 1239).
+fn glue_sum(glue: &Glue, other: &Glue) -> Result<Glue, TexError>
+    ensures { result ≡ spec.glue_added glue.now other.now }
+{
+    match other.plus(glue) {
+        Ok(sum) => Ok(sum),
+        Err(_) => Err(TexError::ArithmeticOverflow),
+    }
+}
+
+/// What an operation makes of what stands at a place, with a number.
+fn computed_entry(
+    table: &Eqtb,
+    place: &Place,
+    operation: Operation,
+    operand: i32,
+) -> Result<Entry, TexError>
+    ensures { result ≡ spec.computed_entry table.now.table place.now operation operand }
+{
+    if place.is_glue() || place.is_muglue() {
+        return Ok(Entry::Glue(calculated_glue(operation, &table.glue(place), operand)?));
+    }
+    Ok(Entry::Number(calculated(operation, range_of(place), table.number(place), operand)?))
+}
+
+/// What glue makes of the glue that stands at a place, to which it is added.
+fn added_entry(table: &Eqtb, place: &Place, glue: &Glue) -> Result<Entry, TexError>
+    ensures { result ≡ spec.added_entry table.now.table place.now glue.now }
+{
+    Ok(Entry::Glue(glue_sum(&table.glue(place), glue)?))
 }
 
 /// What stands at a place of the table after a change. Its only further error is want of memory.
@@ -99,12 +160,10 @@ fn changed_entry(
 {
     match change {
         Change::Set(entry) => Ok(Ok(entry)),
-        Change::Compute(operation, operand) => Ok(calculated(
-            operation,
-            range_of(place),
-            table.number(place),
-            operand,
-        )),
+        Change::Compute(operation, operand) => {
+            Ok(computed_entry(table, place, operation, operand))
+        }
+        Change::Add(glue) => Ok(added_entry(table, place, &glue)),
         Change::Copy(other) => Ok(Ok(Entry::Tokens(table.tokens(&other)?))),
         Change::Text => Ok(Err(TexError::MissingBeginGroup)),
     }

@@ -14,7 +14,7 @@ impl Clone for AssignScan {
             place: self.place.clone()?,
             integer: self.integer.clone()?,
             size: self.size.clone()?,
-            behind: self.behind.clone()?,
+            glue: self.glue.clone()?,
         })
     }
 }

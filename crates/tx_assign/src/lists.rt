@@ -4,7 +4,7 @@ ghost use Rattle.tx_seen.specs.declared.item.Item.TheVariants.{Took};
 ghost use Rattle.tx_scan.specs.Supplied.{NeedsNoMore};
 ghost use Rattle.tx_scan.specs.IntegerRests.{waiting};
 ghost use Rattle.tx_assign.specs.Assignments.{list_value, listed};
-ghost use Rattle.tx_assign.specs.Rests.{IsAssigning, more_needed};
+ghost use Rattle.tx_assign.specs.Rests.{IsAssigning, WaitsIfNeeded, more_needed};
 ghost use Rattle.tx_scan.specs.Lists as lists;
 
 use crate::scan::{AssignScan, AssignStage};
@@ -19,6 +19,7 @@ impl AssignScan {
     pub(crate) fn feed_list(&mut self, token: &Seen) -> Result<Fed<Assignment>, AllocError>
         ensures answer { IfOk result (IsAssigning 0 (λ more. list_value self.old.place (Took token.now ∷ more)) token.now self.new) }
         ensures needed { IfOk result (NeedsNoMore (waiting self.old.integer) (more_needed self.new)) }
+        ensures waits { IfOk result (WaitsIfNeeded self.new) }
     {
         if token.is_undefined() {
             return Ok(Fed::Wrong(TexError::Undefined));
@@ -33,6 +34,7 @@ impl AssignScan {
     fn begin_list(&mut self, token: &Seen) -> Result<Fed<Assignment>, AllocError>
         ensures answer { IfOk result (IsAssigning 0 (λ more. listed self.old.place (lists.list_begun token.now.meaning) token.now more) token.now self.new) }
         ensures needed { IfOk result (NeedsNoMore (waiting self.old.integer) (more_needed self.new)) }
+        ensures waits { IfOk result (WaitsIfNeeded self.new) }
     {
         match list_begun(&token.meaning) {
             ListBegun::At(place) => self.changed_to(Change::Copy(place)),

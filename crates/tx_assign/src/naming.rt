@@ -6,7 +6,7 @@ ghost use Rattle.tx_scan.specs.Grammars.{name};
 ghost use Rattle.tx_scan.specs.Supplied.{NeedsNoMore};
 ghost use Rattle.tx_scan.specs.IntegerRests.{waiting};
 ghost use Rattle.tx_assign.specs.Assignments as spec;
-ghost use Rattle.tx_assign.specs.Rests.{IsAssigning, more_needed};
+ghost use Rattle.tx_assign.specs.Rests.{IsAssigning, WaitsIfNeeded, more_needed};
 
 use crate::scan::{AssignScan, AssignStage};
 use crate::types::{Assignment, Change};
@@ -41,6 +41,7 @@ impl AssignScan {
         requires { self.old.stage ≡ AssignStage.LetName }
         ensures answer { IfOk result (IsAssigning 0 (λ more. next (name (Took token.now ∷ more)) spec.let_behind_name) token.now self.new) }
         ensures needed { IfOk result (NeedsNoMore (waiting self.old.integer) (more_needed self.new)) }
+        ensures waits { IfOk result (WaitsIfNeeded self.new) }
     {
         let mut name = NameScan::new();
         match name.feed(token)? {
@@ -58,6 +59,7 @@ impl AssignScan {
     pub(crate) fn feed_behind_name(&mut self, token: &Seen) -> Result<Fed<Assignment>, AllocError>
         ensures answer { IfOk result (IsAssigning 0 (λ more. spec.let_behind_name self.old.place (Took token.now ∷ more)) token.now self.new) }
         ensures needed { IfOk result (NeedsNoMore (waiting self.old.integer) (more_needed self.new)) }
+        ensures waits { IfOk result (WaitsIfNeeded self.new) }
     {
         if token.is_space() {
             return Ok(self.raw(AssignStage::LetBehindName));
@@ -73,6 +75,7 @@ impl AssignScan {
     pub(crate) fn feed_behind_equals(&mut self, token: &Seen) -> Result<Fed<Assignment>, AllocError>
         ensures answer { IfOk result (IsAssigning 0 (λ more. spec.let_behind_equals self.old.place (Took token.now ∷ more)) token.now self.new) }
         ensures needed { IfOk result (NeedsNoMore (waiting self.old.integer) (more_needed self.new)) }
+        ensures waits { IfOk result (WaitsIfNeeded self.new) }
     {
         if token.is_space() {
             return Ok(self.raw(AssignStage::LetToken));
@@ -85,6 +88,7 @@ impl AssignScan {
     pub(crate) fn feed_token(&mut self, token: &Seen) -> Result<Fed<Assignment>, AllocError>
         ensures answer { IfOk result (IsAssigning 0 (λ more. spec.let_token self.old.place (Took token.now ∷ more)) token.now self.new) }
         ensures needed { IfOk result (NeedsNoMore (waiting self.old.integer) (more_needed self.new)) }
+        ensures waits { IfOk result (WaitsIfNeeded self.new) }
     {
         let assignment = self.let_to(token)?;
         Ok(Fed::Done(assignment, 0))

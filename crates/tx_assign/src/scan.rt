@@ -2,8 +2,8 @@
 
 use crate::types::Purpose;
 use tx_prim::{Numbered, Operation};
-use tx_scan::{DimenScan, IntScan, KeyScan};
-use tx_seen::{Place, Seen};
+use tx_scan::{DimenScan, GlueScan, IntScan, KeyScan};
+use tx_seen::Place;
 
 /// The part of an assignment that comes next.
 #[derive(Clone, Copy)]
@@ -28,6 +28,8 @@ pub enum AssignStage {
     Integer(Purpose),
     /// A size.
     Size(Purpose),
+    /// Glue.
+    Glue(Purpose),
     /// A list of tokens, with spaces and \relax before it.
     List,
 }
@@ -42,6 +44,6 @@ pub struct AssignScan {
     pub(crate) integer: IntScan,
     /// The value, where it is a size.
     pub(crate) size: DimenScan,
-    /// The token behind the number of a register, where that waits for a value.
-    pub(crate) behind: Option<Seen>,
+    /// The value, where it is glue.
+    pub(crate) glue: GlueScan,
 }

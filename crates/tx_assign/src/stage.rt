@@ -6,17 +6,16 @@ ghost use Rattle.tx_seen.specs.declared.seen.Seen.{Seen};
 ghost use Rattle.tx_seen.specs.Readings.{Answers};
 ghost use Rattle.tx_scan.specs.Rests.{IsFedBy};
 ghost use Rattle.tx_scan.specs.Supplied.{NeedsNoMore};
-ghost use Rattle.tx_scan.specs.IntegerRests.{waiting};
+ghost use Rattle.tx_scan.specs.IntegerRests.{begun_integer, waiting};
 ghost use Rattle.tx_assign.specs.Assignments.{assignment, arithmetic, behind_place, given, left_side, value};
 ghost use Rattle.tx_assign.specs.declared.types.Assigning.{Assigning};
-ghost use Rattle.tx_assign.specs.Rests as rests;
-ghost use Rattle.tx_assign.specs.Rests.{HasTaken, IsAssigning, IsBegun, IsFed, at_stage, by_rest, more_needed, no_assignment};
+ghost use Rattle.tx_assign.specs.Rests.{HasTaken, IsAssigning, IsBegun, IsBehind, WaitsIfNeeded, by_rest, held, more_needed, no_assignment, rest};
 
 use crate::scan::{AssignScan, AssignStage};
 use crate::types::{Assigning, Assignment, Purpose, Variable};
 use std::alloc::{AllocError, Global};
 use tx_prim::Operation;
-use tx_scan::{DimenScan, EqualsScan, IntScan, KeyScan};
+use tx_scan::{DimenScan, EqualsScan, GlueScan, IntScan, KeyScan};
 use tx_seen::{Fed, Place, Seen, TexError, Want};
 
 /// The place where nothing is read of one.
@@ -36,7 +35,7 @@ impl AssignScan {
             place: unread(),
             integer: IntScan::new(alloc),
             size: DimenScan::new(alloc, false, false),
-            behind: None,
+            glue: GlueScan::new(alloc, false),
         }
     }
 
@@ -63,32 +62,31 @@ impl AssignScan {
         }
     }
 
-    /// It stands at the beginning of this stage.
+    /// It stands at the beginning of this stage, and a number is begun; a size and glue begin where one is needed.
     fn begin_at(&mut self, stage: AssignStage, place: Place)
-        ensures { self.new ≡ at_stage stage place }
+        ensures { self.new ≡ record self.old { stage = stage; place = place; integer = begun_integer } }
     {
         self.stage = stage;
         self.place = place;
         self.integer.restart();
-        self.size.restart(false, false);
-        self.behind = None;
     }
 
     /// Takes one token, at first and after More. The answer is what reading gives of all that was taken. Its only error is
     /// want of memory.
     pub fn feed(&mut self, token: &Seen) -> Result<Fed<Assignment>, AllocError>
         ensures answer { (assigning : Assigning) → (taken : List Item) → HasTaken assigning self.old taken → IfOk result (Answers (assignment assigning) (HasTaken assigning) (taken ++ Took token.now ∷ []) self.new) }
-        ensures part { IfOk result (IsFedBy rests.rest rests.held self.old token.now self.new) }
-        ensures fed { IfOk result (IsFed self.old token.now self.new) }
+        ensures part { IfOk result (IsFedBy rest held self.old token.now self.new) }
         ensures needed { IfOk result (NeedsNoMore (more_needed self.old) (more_needed self.new)) }
+        ensures waits { IfOk result (WaitsIfNeeded self.new) }
     {
         self.behind(token)
     }
 
     /// What it is behind one more token. Its only error is want of memory.
     fn behind(&mut self, token: &Seen) -> Result<Fed<Assignment>, AllocError>
-        ensures fed { IfOk result (IsFed self.old token.now self.new) }
+        ensures part { IfOk result (IsFedBy rest held self.old token.now self.new) }
         ensures needed { IfOk result (NeedsNoMore (more_needed self.old) (more_needed self.new)) }
+        ensures waits { IfOk result (WaitsIfNeeded self.new) }
     {
         match self.stage {
             AssignStage::LetName => self.feed_name(token),
@@ -101,6 +99,7 @@ impl AssignScan {
             AssignStage::By(operation, word) => self.feed_by(operation, word, token),
             AssignStage::Integer(purpose) => self.feed_integer(purpose, token),
             AssignStage::Size(purpose) => self.feed_size(purpose, token),
+            AssignStage::Glue(purpose) => self.feed_glue(purpose, token),
             AssignStage::List => self.feed_list(token),
         }
     }
@@ -125,6 +124,7 @@ impl AssignScan {
     pub(crate) fn to_place(&mut self, operation: Option<Operation>) -> Fed<Assignment>
         ensures answer { (t : Seen) → IsAssigning 0 (λ more. behind_place operation self.old.place more) t self.new result }
         ensures needed { NeedsNoMore (waiting self.old.integer) (more_needed self.new) result }
+        ensures waits { WaitsIfNeeded self.new result }
     {
         match operation {
             None => self.on(AssignStage::Equals(Purpose::Set)),
@@ -138,8 +138,9 @@ impl AssignScan {
         operation: Option<Operation>,
         token: &Seen,
     ) -> Result<Fed<Assignment>, AllocError>
-        ensures answer { IfOk result (IsAssigning 0 (λ more. behind_place operation self.old.place (Took token.now ∷ more)) token.now self.new) }
+        ensures answer { IfOk result (IsBehind (λ more. behind_place operation self.old.place (Took token.now ∷ more)) token.now self.new) }
         ensures needed { IfOk result (NeedsNoMore (waiting self.old.integer) (more_needed self.new)) }
+        ensures waits { IfOk result (WaitsIfNeeded self.new) }
     {
         match operation {
             None => self.feed_equals(Purpose::Set, token),
@@ -151,6 +152,7 @@ impl AssignScan {
     fn to_side(&mut self, operation: Operation, side: Variable) -> Fed<Assignment>
         ensures answer { (t : Seen) → IsAssigning 0 (λ more. left_side (Some operation) side more) t self.new result }
         ensures needed { NeedsNoMore (waiting self.old.integer) (more_needed self.new) result }
+        ensures waits { WaitsIfNeeded self.new result }
     {
         match side {
             Variable::Standing(place) => {
@@ -168,6 +170,7 @@ impl AssignScan {
     fn feed_operand(&mut self, operation: Operation, token: &Seen) -> Fed<Assignment>
         ensures answer { IsAssigning 0 (λ more. arithmetic operation (Took token.now ∷ more)) token.now self.new result }
         ensures needed { NeedsNoMore (waiting self.old.integer) (more_needed self.new) result }
+        ensures waits { WaitsIfNeeded self.new result }
     {
         if token.is_undefined() {
             return Fed::Wrong(TexError::Undefined);
@@ -184,8 +187,9 @@ impl AssignScan {
 
     /// An optional `=`, or the first token of the value. Its only error is want of memory.
     fn feed_equals(&mut self, purpose: Purpose, token: &Seen) -> Result<Fed<Assignment>, AllocError>
-        ensures answer { IfOk result (IsAssigning 0 (λ more. given purpose self.old.place (Took token.now ∷ more)) token.now self.new) }
+        ensures answer { IfOk result (IsBehind (λ more. given purpose self.old.place (Took token.now ∷ more)) token.now self.new) }
         ensures needed { IfOk result (NeedsNoMore (waiting self.old.integer) (more_needed self.new)) }
+        ensures waits { IfOk result (WaitsIfNeeded self.new) }
     {
         let mut equals = EqualsScan::new();
         match equals.feed(token) {
@@ -207,8 +211,9 @@ impl AssignScan {
         word: KeyScan,
         token: &Seen,
     ) -> Result<Fed<Assignment>, AllocError>
-        ensures answer { IfOk result (IsAssigning 0 (λ more. by_rest word operation self.old.place (Took token.now) more) token.now self.new) }
+        ensures answer { IfOk result (IsBehind (λ more. by_rest word operation self.old.place (Took token.now) more) token.now self.new) }
         ensures needed { IfOk result (NeedsNoMore (waiting self.old.integer) (more_needed self.new)) }
+        ensures waits { IfOk result (WaitsIfNeeded self.new) }
     {
         let mut word = word;
         match word.feed(b"by", token) {

@@ -5,6 +5,7 @@ ghost use Rattle.tx_assign.specs.Targets as spec;
 use crate::types::{Bounds, Change, Purpose};
 use tx_char::Cat;
 use tx_eqtb::Entry;
+use tx_num::Glue;
 use tx_prim::{CharacterCode, Operation, Shorthand};
 use tx_seen::{Meaning, Place};
 
@@ -54,6 +55,7 @@ fn name_bounds(kind: Shorthand) -> Bounds
 {
     match kind {
         Shorthand::CountRegister | Shorthand::DimenRegister | Shorthand::ToksRegister => up_to(255),
+        Shorthand::SkipRegister | Shorthand::MuskipRegister => up_to(255),
         Shorthand::Character => up_to(255),
         Shorthand::MathCharacter => up_to(32767),
     }
@@ -85,6 +87,8 @@ fn meaning_by(kind: Shorthand, number: i64) -> Meaning
     match kind {
         Shorthand::CountRegister => Meaning::CountRegister(number as u8),
         Shorthand::DimenRegister => Meaning::DimenRegister(number as u8),
+        Shorthand::SkipRegister => Meaning::SkipRegister(number as u8),
+        Shorthand::MuskipRegister => Meaning::MuskipRegister(number as u8),
         Shorthand::ToksRegister => Meaning::ToksRegister(number as u8),
         Shorthand::Character => Meaning::CharacterNumber(number as u8),
         Shorthand::MathCharacter => Meaning::MathNumber(number as u16),
@@ -100,6 +104,19 @@ impl Purpose {
             Purpose::Set | Purpose::Compute(Operation::Advance) => place.is_size(),
             Purpose::Define(_) | Purpose::Compute(Operation::Multiply | Operation::Divide) => false,
             Purpose::Copy => false,
+        }
+    }
+
+    /// Whether it takes glue, at a place: what multiplies or divides is a number.
+    pub(crate) fn takes_glue(self, place: &Place) -> bool
+        ensures { result ≡ spec.takes_glue self place.now }
+    {
+        match self {
+            Purpose::Set | Purpose::Compute(Operation::Advance) => {
+                place.is_glue() || place.is_muglue()
+            }
+            Purpose::Compute(Operation::Multiply | Operation::Divide) => false,
+            Purpose::Define(_) | Purpose::Copy => false,
         }
     }
 
@@ -143,6 +160,16 @@ impl Purpose {
             Purpose::Define(kind) => Change::Set(Entry::Means(meaning_by(kind, number))),
             Purpose::Compute(operation) => Change::Compute(operation, number as i32),
             Purpose::Copy => Change::Copy(Place::Toks(number as u8)),
+        }
+    }
+
+    /// What becomes of a place by glue.
+    pub(crate) fn change_by_glue(self, glue: Glue) -> Change
+        ensures { result ≡ spec.change_by_glue self glue }
+    {
+        match self {
+            Purpose::Set | Purpose::Define(_) | Purpose::Copy => Change::Set(Entry::Glue(glue)),
+            Purpose::Compute(_) => Change::Add(glue),
         }
     }
 

@@ -1,5 +1,6 @@
 //! What assignments are: what they begin with, and what they are once they are read whole.
 use tx_eqtb::Entry;
+use tx_num::Glue;
 use tx_prim::{Numbered, Operation, Shorthand};
 use tx_seen::{Place, TexError};
 
@@ -50,8 +51,10 @@ pub struct Bounds {
 pub enum Change {
     /// It has this entry.
     Set(Entry),
-    /// This is done to its number with another one.
+    /// This is done to its number, or to each size of its glue, with a number.
     Compute(Operation, i32),
+    /// This glue is added to the one there.
+    Add(Glue),
     /// It has the list of tokens that stands at this place.
     Copy(Place),
     /// It has the text that follows, whose begin-group token is taken.

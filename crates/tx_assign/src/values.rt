@@ -1,19 +1,21 @@
-//! The numbers and sizes in assignments, token by token and value by value.
-ghost use Rattle.std.specs.Prelude.{◌≡◌, ◌≤ℤ◌, ◌∷◌, ◌++◌, [], pos, neg_ℤ, List, IfOk};
+//! The numbers, sizes and glue in assignments, token by token and value by value.
+ghost use Rattle.std.specs.Prelude.{◌≡◌, ◌≤◌, ◌+◌, ◌≤ℤ◌, ◌∷◌, ◌++◌, [], pos, neg_ℤ, List, length, IfOk};
 ghost use Rattle.tx_seen.specs.declared.item.Item.{Item};
 ghost use Rattle.tx_seen.specs.declared.item.Item.TheVariants.{Took};
 ghost use Rattle.tx_seen.specs.declared.seen.Seen.{Seen};
 ghost use Rattle.tx_seen.specs.Readings.{next};
-ghost use Rattle.tx_scan.specs.Rests.{IsEnd};
+ghost use Rattle.tx_scan.specs.Rests.{IsEnd, IsFedBy, IsRead};
 ghost use Rattle.tx_scan.specs.Supplied.{NeedsNoMore};
 ghost use Rattle.tx_scan.specs.IntegerRests as integers;
 ghost use Rattle.tx_scan.specs.DimensionRests as sizes;
-ghost use Rattle.tx_assign.specs.Assignments.{behind_number, number_value, sized, value, valued};
-ghost use Rattle.tx_assign.specs.Rests.{IsAssigning, IsFed, more_needed};
+ghost use Rattle.tx_scan.specs.GlueRests as glues;
+ghost use Rattle.tx_assign.specs.Assignments.{behind_number, elastic, number_value, sized, value, valued};
+ghost use Rattle.tx_assign.specs.Rests.{IsAssigning, IsBehind, WaitsIfNeeded, held, more_needed, rest};
 
 use crate::scan::{AssignScan, AssignStage};
 use crate::types::{Assignment, Purpose};
 use std::alloc::AllocError;
+use tx_num::Glue;
 use tx_prim::{Numbered, Operation};
 use tx_scan::{Measure, byte};
 use tx_seen::{Fed, Place, Seen, TexError};
@@ -24,6 +26,7 @@ impl AssignScan {
     pub(crate) fn to_value(&mut self, purpose: Purpose) -> Fed<Assignment>
         ensures answer { (t : Seen) → IsAssigning 0 (λ more. value purpose self.old.place more) t self.new result }
         ensures needed { NeedsNoMore (integers.waiting self.old.integer) (more_needed self.new) result }
+        ensures waits { WaitsIfNeeded self.new result }
     {
         if purpose.takes_list(&self.place) {
             self.on(AssignStage::List)
@@ -32,12 +35,16 @@ impl AssignScan {
         }
     }
 
-    /// A number or a size comes next.
+    /// A number, a size or glue comes next.
     fn to_number(&mut self, purpose: Purpose) -> Fed<Assignment>
         ensures answer { (t : Seen) → IsAssigning 0 (λ more. number_value purpose self.old.place more) t self.new result }
         ensures needed { NeedsNoMore (integers.waiting self.old.integer) (more_needed self.new) result }
+        ensures waits { WaitsIfNeeded self.new result }
     {
-        if purpose.takes_size(&self.place) {
+        if purpose.takes_glue(&self.place) {
+            self.glue.restart(self.place.is_muglue());
+            self.on(AssignStage::Glue(purpose))
+        } else if purpose.takes_size(&self.place) {
             self.size.restart(false, false);
             self.on(AssignStage::Size(purpose))
         } else {
@@ -52,8 +59,9 @@ impl AssignScan {
         purpose: Purpose,
         token: &Seen,
     ) -> Result<Fed<Assignment>, AllocError>
-        ensures answer { IfOk result (IsAssigning 0 (λ more. value purpose self.old.place (Took token.now ∷ more)) token.now self.new) }
+        ensures answer { IfOk result (IsBehind (λ more. value purpose self.old.place (Took token.now ∷ more)) token.now self.new) }
         ensures needed { IfOk result (NeedsNoMore (integers.waiting self.old.integer) (more_needed self.new)) }
+        ensures waits { IfOk result (WaitsIfNeeded self.new) }
     {
         if purpose.takes_list(&self.place) {
             self.feed_list(token)
@@ -62,12 +70,16 @@ impl AssignScan {
         }
     }
 
-    /// The first token of a number or a size.
+    /// The first token of a number, a size or glue.
     fn feed_first(&mut self, purpose: Purpose, token: &Seen) -> Result<Fed<Assignment>, AllocError>
-        ensures answer { IfOk result (IsAssigning 0 (λ more. number_value purpose self.old.place (Took token.now ∷ more)) token.now self.new) }
+        ensures answer { IfOk result (IsBehind (λ more. number_value purpose self.old.place (Took token.now ∷ more)) token.now self.new) }
         ensures needed { IfOk result (NeedsNoMore (integers.waiting self.old.integer) (more_needed self.new)) }
+        ensures waits { IfOk result (WaitsIfNeeded self.new) }
     {
-        if purpose.takes_size(&self.place) {
+        if purpose.takes_glue(&self.place) {
+            self.glue.restart(self.place.is_muglue());
+            self.feed_glue(purpose, token)
+        } else if purpose.takes_size(&self.place) {
             self.size.restart(false, false);
             self.feed_size(purpose, token)
         } else {
@@ -84,6 +96,7 @@ impl AssignScan {
     ) -> Result<Fed<Assignment>, AllocError>
         ensures answer { IfOk result (λ answer. (behind : List Item) → IsAssigning (integers.most self.old.integer) (λ more. next (integers.rest self.old.integer behind (Took token.now) more) (valued purpose self.old.place)) token.now self.new answer) }
         ensures needed { IfOk result (NeedsNoMore (integers.waiting self.old.integer) (more_needed self.new)) }
+        ensures waits { IfOk result (WaitsIfNeeded self.new) }
     {
         self.stage = AssignStage::Integer(purpose);
         match self.integer.feed(token)? {
@@ -119,6 +132,7 @@ impl AssignScan {
     ) -> Result<Fed<Assignment>, AllocError>
         ensures answer { IfOk result (λ answer. (behind : List Item) → IsAssigning (sizes.most self.old.size) (λ more. next (sizes.rest self.old.size behind (Took token.now) more) (sized purpose self.old.place)) token.now self.new answer) }
         ensures needed { IfOk result (NeedsNoMore (sizes.more_needed self.old.size) (more_needed self.new)) }
+        ensures waits { IfOk result (WaitsIfNeeded self.new) }
     {
         self.stage = AssignStage::Size(purpose);
         match self.size.feed(token)? {
@@ -145,6 +159,39 @@ impl AssignScan {
         Ok(Fed::Done(Assignment { place, change }, back))
     }
 
+    /// Glue that is given.
+    pub(crate) fn feed_glue(
+        &mut self,
+        purpose: Purpose,
+        token: &Seen,
+    ) -> Result<Fed<Assignment>, AllocError>
+        ensures answer { IfOk result (λ answer. (behind : List Item) → length behind ≤ glues.held self.old.glue → IsRead rest held (glues.held self.old.glue + 1) (λ more. next (glues.rest self.old.glue behind (Took token.now) more) (elastic purpose self.old.place)) (behind ++ Took token.now ∷ []) self.new answer) }
+        ensures needed { IfOk result (NeedsNoMore (glues.more_needed self.old.glue) (more_needed self.new)) }
+        ensures waits { IfOk result (WaitsIfNeeded self.new) }
+    {
+        self.stage = AssignStage::Glue(purpose);
+        match self.glue.feed(token)? {
+            Fed::More(want) => Ok(Fed::More(want)),
+            Fed::Need(kind) => Ok(Fed::Need(kind)),
+            Fed::Done(glue, back) => self.end_glue(purpose, glue, back),
+            Fed::Wrong(error) => Ok(Fed::Wrong(error)),
+        }
+    }
+
+    /// The glue is whole; so many tokens behind it are given back.
+    pub(crate) fn end_glue(
+        &self,
+        purpose: Purpose,
+        glue: Glue,
+        back: usize,
+    ) -> Result<Fed<Assignment>, AllocError>
+        ensures { IfOk result (IsEnd (λ more. elastic purpose self.now.place glue more) back) }
+    {
+        let change = purpose.change_by_glue(glue);
+        let place = self.place.clone()?;
+        Ok(Fed::Done(Assignment { place, change }, back))
+    }
+
     /// The number of a register or a code, or what ends it.
     pub(crate) fn feed_number(
         &mut self,
@@ -153,15 +200,13 @@ impl AssignScan {
         token: &Seen,
     ) -> Result<Fed<Assignment>, AllocError>
         requires { self.old.stage ≡ AssignStage.Number kind operation }
-        ensures fed { IfOk result (IsFed self.old token.now self.new) }
+        ensures part { IfOk result (IsFedBy rest held self.old token.now self.new) }
         ensures needed { IfOk result (NeedsNoMore (more_needed self.old) (more_needed self.new)) }
+        ensures waits { IfOk result (WaitsIfNeeded self.new) }
     {
         match self.integer.feed(token)? {
             Fed::More(want) => Ok(Fed::More(want)),
-            Fed::Need(wanted) => {
-                self.behind = Some(token.clone()?);
-                Ok(Fed::Need(wanted))
-            }
+            Fed::Need(wanted) => Ok(Fed::Need(wanted)),
             Fed::Done(number, 0) => Ok(self.end_number(kind, operation, number)),
             Fed::Done(number, _) => self.feed_behind_number(kind, operation, number, token),
             Fed::Wrong(error) => Ok(Fed::Wrong(error)),
@@ -177,6 +222,7 @@ impl AssignScan {
     ) -> Fed<Assignment>
         ensures answer { (t : Seen) → IsAssigning 0 (λ more. behind_number operation kind number more) t self.new result }
         ensures needed { NeedsNoMore 0 (more_needed self.new) result }
+        ensures waits { WaitsIfNeeded self.new result }
     {
         let Some(byte) = byte(number) else {
             return Fed::Wrong(TexError::NumberOutOfRange);
@@ -194,8 +240,9 @@ impl AssignScan {
         number: i64,
         token: &Seen,
     ) -> Result<Fed<Assignment>, AllocError>
-        ensures answer { IfOk result (IsAssigning 0 (λ more. behind_number operation kind number (Took token.now ∷ more)) token.now self.new) }
+        ensures answer { IfOk result (IsBehind (λ more. behind_number operation kind number (Took token.now ∷ more)) token.now self.new) }
         ensures needed { IfOk result (NeedsNoMore 0 (more_needed self.new)) }
+        ensures waits { IfOk result (WaitsIfNeeded self.new) }
     {
         let Some(byte) = byte(number) else {
             return Ok(Fed::Wrong(TexError::NumberOutOfRange));

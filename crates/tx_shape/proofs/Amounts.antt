@@ -192,7 +192,7 @@ fewer-need scan old kind was k = rw was k
 
 -- where a value is needed
 pub waits-need : (scan : ShapeScan) (kind : Kind) → scan.stage ≡ stage.Amount → HoldsOne {A = Next} (amount_held scan.amount) (fed.Need kind) → WaitsIfNeeded scan (fed.Need kind)
-waits-need scan kind was k = (was, rw was k)
+waits-need scan kind was k = rw was (tt, k)
 
 pub none-waits : (scan : ShapeScan) (n : ℕ) (answer : Fed Shaped) → NeedsFewer 0 n answer → WaitsIfNeeded scan answer
 none-waits scan n (fed.More want) k = tt

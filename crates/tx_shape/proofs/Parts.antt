@@ -8,6 +8,7 @@ use Rattle.tx_seen.specs.declared.item.Item.{Item}
 use Rattle.tx_seen.specs.Readings.{Reading, More, Need, Done, Wrong, next, ending}
 use Rattle.tx_scan.specs.Dimensions.{dimension, lengths}
 use Rattle.tx_scan.specs.Integers.{integer, byte_of}
+use Rattle.tx_scan.specs.declared.scans.GlueScan.{GlueScan}
 use Rattle.tx_scan.proofs.Mappings.{same-read}
 use Rattle.tx_shape.specs.declared.scans.Amount.{Amount}
 use Rattle.tx_shape.specs.declared.scans.Amount.TheVariants as amount
@@ -82,28 +83,28 @@ amount-begun amount.Penalty item more = sym (next-made (integer (item ∷ more))
 amount-begun (amount.Register what) item more = sym (next-made (integer (item ∷ more)) (behind_number what) next_rest)
 amount-begun (amount.Size what) item more = sym (next-made (dimension lengths (item ∷ more)) _ next_rest)
 
-none-held : (what : Amount) → held (begun_at what) ≡ 0
-none-held amount.Penalty = refl
-none-held (amount.Register what) = refl
-none-held (amount.Size what) = refl
+none-held : (what : Amount) (glue : GlueScan) → held (begun_at what glue) ≡ 0
+none-held amount.Penalty glue = refl
+none-held (amount.Register what) glue = refl
+none-held (amount.Size what) glue = refl
 
-none-needed : (what : Amount) → stage_needed stage.Amount (begun_at what) ≤ 0
-none-needed amount.Penalty = omega arith
-none-needed (amount.Register what) = omega arith
-none-needed (amount.Size what) = omega arith
+none-needed : (what : Amount) (glue : GlueScan) → stage_needed stage.Amount (begun_at what glue) ≤ 0
+none-needed amount.Penalty glue = omega arith
+none-needed (amount.Register what) glue = omega arith
+none-needed (amount.Size what) glue = omega arith
 
-pub amount-on : (reading : List Item → Reading Shaped) (what : Amount) (new : ShapeScan) → new ≡ begun_at what → ((more : List Item) → reading more ≡ amount_reading what more) → Begins reading new (fed.More Expanded)
-amount-on reading what new was same = record {
+pub amount-on : (reading : List Item → Reading Shaped) (what : Amount) (glue : GlueScan) (new : ShapeScan) → new ≡ begun_at what glue → ((more : List Item) → reading more ≡ amount_reading what more) → Begins reading new (fed.More Expanded)
+amount-on reading what glue new was same = record {
   reads = (
     same [] ∙ amount-unread what,
-    rw was (rw (none-held what) (omega arith)),
+    rw was (rw (none-held what glue) (omega arith)),
     λ item more.
         same (item ∷ more)
         ∙ (amount-begun what item more
-        ∙ (ap (λ (n : ℕ). rest (begun_at what) (ending n []) item more) (sym (none-held what))
+        ∙ (ap (λ (n : ℕ). rest (begun_at what glue) (ending n []) item more) (sym (none-held what glue))
         ∙ ap (λ (scan : ShapeScan). rest scan (ending (held scan) []) item more) (sym was))),
   );
-  fewer = rw was (none-needed what);
+  fewer = rw was (none-needed what glue);
 }
 
 -- the number of a register

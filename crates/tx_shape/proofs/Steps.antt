@@ -15,6 +15,7 @@ use Rattle.tx_seen.specs.Readings.{Reading, More, Done, Wrong, next, ending}
 use Rattle.tx_scan.specs.Integers.{expanded}
 use Rattle.tx_scan.specs.declared.scans.BraceScan.{BraceScan}
 use Rattle.tx_scan.specs.declared.scans.EqualsScan.{EqualsScan}
+use Rattle.tx_scan.specs.declared.scans.GlueScan.{GlueScan}
 use Rattle.tx_scan.specs.GrammarRests.{IsBraceFed, IsEqualsFed}
 use Rattle.tx_scan.specs.Rests.{IsFedBy, IsRead, kept}
 use Rattle.tx_scan.specs.Supplied.{NeedsNoMore}
@@ -214,10 +215,10 @@ depth-on scan t new want k was = record {
   waits = tt;
 }
 
-pub depth-there : (scan : EqualsScan) (t : Seen) (new : ShapeScan) (there : Bool) (back : ℕ) → IsEqualsFed scan t (fed.Done there back) → back ≡ 0 → new ≡ begun_at (amount.Size sizing.Depth) → BeginsDepth (λ more. depth_setting (Took t ∷ more)) t new (fed.More Expanded)
-depth-there scan t new there back k none was =
+pub depth-there : (scan : EqualsScan) (t : Seen) (new : ShapeScan) (there : Bool) (back : ℕ) (glue : GlueScan) → IsEqualsFed scan t (fed.Done there back) → back ≡ 0 → new ≡ begun_at (amount.Size sizing.Depth) glue → BeginsDepth (λ more. depth_setting (Took t ∷ more)) t new (fed.More Expanded)
+depth-there scan t new there back glue k none was =
     depth-of _ t new (fed.More Expanded)
-    (amount-on _ (amount.Size sizing.Depth) new was (λ more. ap (λ r. next r to_depth) ((k []).1 more) ∙ ap (λ (m : ℕ). depth (kept m t ++ more)) none))
+    (amount-on _ (amount.Size sizing.Depth) glue new was (λ more. ap (λ r. next r to_depth) ((k []).1 more) ∙ ap (λ (m : ℕ). depth (kept m t ++ more)) none))
 
 depth-before : (scan : EqualsScan) (t : Seen) (new : ShapeScan) (there : Bool) (back : ℕ) (answer : Fed Shaped) → IsEqualsFed scan t (fed.Done there back) → (back ≡ 0 → ⊥) → BeginsDepth (λ more. depth (Took t ∷ more)) t new answer → BeginsDepth (λ more. depth_setting (Took t ∷ more)) t new answer
 depth-before scan t new there back answer k some later =
@@ -226,20 +227,20 @@ depth-before scan t new there back answer k some later =
 pub depth-wrong : (scan : EqualsScan) (t : Seen) (new : ShapeScan) (error : TexError) → IsEqualsFed scan t (fed.Wrong error) → BeginsDepth (λ more. depth_setting (Took t ∷ more)) t new (fed.Wrong error)
 depth-wrong scan t new error k = depth-of _ t new (fed.Wrong error) (begins-wrong _ new error (λ more. ap (λ r. next r to_depth) (k [] more)))
 
-depth-begun : (old new : ShapeScan) (t : Seen) (answer : Fed Shaped) → old ≡ begun_at (amount.Size sizing.Depth) → IsFedBy rest held old t new answer → NeedsNoMore (needed old) (needed new) answer → WaitsIfNeeded new answer → BeginsDepth (λ more. depth (Took t ∷ more)) t new answer
-depth-begun old new t answer was k needs waits =
-    let first : IsFedBy rest held (begun_at (amount.Size sizing.Depth)) t new answer = rw was at k in
+depth-begun : (old new : ShapeScan) (glue : GlueScan) (t : Seen) (answer : Fed Shaped) → old ≡ begun_at (amount.Size sizing.Depth) glue → IsFedBy rest held old t new answer → NeedsNoMore (needed old) (needed new) answer → WaitsIfNeeded new answer → BeginsDepth (λ more. depth (Took t ∷ more)) t new answer
+depth-begun old new glue t answer was k needs waits =
+    let first : IsFedBy rest held (begun_at (amount.Size sizing.Depth) glue) t new answer = rw was at k in
     let h : length {A = Item} [] ≤ 0 = omega arith in
     record {
-      reads = same-read rest held 1 _ (λ more. rest (begun_at (amount.Size sizing.Depth)) [] (Took t) more) (Took t ∷ []) new answer (λ more. amount-begun (amount.Size sizing.Depth) (Took t) more) (first [] h);
+      reads = same-read rest held 1 _ (λ more. rest (begun_at (amount.Size sizing.Depth) glue) [] (Took t) more) (Took t ∷ []) new answer (λ more. amount-begun (amount.Size sizing.Depth) (Took t) more) (first [] h);
       needs = rw was at needs;
       waits = waits;
     }
 
 -- the same of results that aren't want of memory
-pub depth-begun-ok : {E : Type 0} (old new : ShapeScan) (t : Seen) (answer : Result (Fed Shaped) E) → old ≡ begun_at (amount.Size sizing.Depth) → IfOk answer (IsFedBy rest held old t new) → IfOk answer (NeedsNoMore (needed old) (needed new)) → IfOk answer (WaitsIfNeeded new) → IfOk answer (BeginsDepth (λ more. depth (Took t ∷ more)) t new)
-depth-begun-ok old new t (Ok answer) was k needs waits = depth-begun old new t answer was k needs waits
-depth-begun-ok old new t (Err error) was k needs waits = tt
+pub depth-begun-ok : {E : Type 0} (old new : ShapeScan) (glue : GlueScan) (t : Seen) (answer : Result (Fed Shaped) E) → old ≡ begun_at (amount.Size sizing.Depth) glue → IfOk answer (IsFedBy rest held old t new) → IfOk answer (NeedsNoMore (needed old) (needed new)) → IfOk answer (WaitsIfNeeded new) → IfOk answer (BeginsDepth (λ more. depth (Took t ∷ more)) t new)
+depth-begun-ok old new glue t (Ok answer) was k needs waits = depth-begun old new glue t answer was k needs waits
+depth-begun-ok old new glue t (Err error) was k needs waits = tt
 
 pub depth-before-ok : {E : Type 0} (scan : EqualsScan) (t : Seen) (new : ShapeScan) (there : Bool) (back : ℕ) (answer : Result (Fed Shaped) E) → IsEqualsFed scan t (fed.Done there back) → (back ≡ 0 → ⊥) → IfOk answer (BeginsDepth (λ more. depth (Took t ∷ more)) t new) → IfOk answer (BeginsDepth (λ more. depth_setting (Took t ∷ more)) t new)
 depth-before-ok scan t new there back (Ok answer) k some later = depth-before scan t new there back answer k some later

@@ -3,6 +3,9 @@
 use Rattle.std.specs.Prelude.{ℕ, ℤ, pos, neg_ℤ, ◌∷◌, [], ◌||◌, Bool, true, false, codes, List, Option, Some, None, if◌then◌else◌}
 use Rattle.tx_prim.specs.declared.family.BoxSource.{BoxSource}
 use Rattle.tx_prim.specs.declared.family.BoxSource.TheVariants as source
+use Rattle.tx_num.specs.Glue.{GlueSpec, glue_of}
+use Rattle.tx_prim.specs.declared.family.GlueForm.{GlueForm}
+use Rattle.tx_prim.specs.declared.family.GlueForm.TheVariants as form
 use Rattle.tx_prim.specs.declared.family.ShiftKind.{ShiftKind}
 use Rattle.tx_prim.specs.declared.family.ShiftKind.TheVariants as shift
 use Rattle.tx_prim.specs.declared.family.UnboxKind.{UnboxKind}
@@ -16,6 +19,7 @@ use Rattle.tx_seen.specs.declared.meaning.Meaning.TheVariants as meaning
 use Rattle.tx_seen.specs.Seen.{is_space, is_relax}
 use Rattle.tx_seen.specs.Readings.{Reading, More, Done, Wrong, next}
 use Rattle.tx_scan.specs.Dimensions.{dimension, lengths}
+use Rattle.tx_scan.specs.Glues.{glue}
 use Rattle.tx_scan.specs.Grammars.{equals, left_brace}
 use Rattle.tx_scan.specs.Integers.{integer, byte_of, expanded}
 use Rattle.tx_scan.specs.Keywords.{keyword}
@@ -27,7 +31,7 @@ use Rattle.tx_shape.specs.declared.types.BoxRead.TheVariants.{Begin, Use, Copy, 
 use Rattle.tx_shape.specs.declared.types.Shaping.{Shaping}
 use Rattle.tx_shape.specs.declared.types.Shaping.TheVariants as shaping
 use Rattle.tx_shape.specs.declared.types.Shaped.{Shaped}
-use Rattle.tx_shape.specs.declared.types.Shaped.TheVariants.{Box, Unbox, Penalize, SetDepth}
+use Rattle.tx_shape.specs.declared.types.Shaped.TheVariants.{Box, Unbox, Penalize, SetDepth, Skip}
 use Rattle.tx_shape.specs.declared.scans.Opening.{Opening}
 
 -- what the list of a box is packed to: `to` or `spread` and a size, or nothing (section 645)
@@ -119,6 +123,28 @@ unboxing kind items = by_register (λ n rest. Done (Unbox kind n) rest) items
 abbrev pub penalizing : List Item → Reading Shaped
 penalizing items = next (integer items) (λ n rest. Done (Penalize n) rest)
 
+-- the glue of \hfil and its kin; none where glue follows (sections 162 and 1060)
+abbrev pub one : ℤ
+one = pos 65536
+
+abbrev pub standing_glue : GlueForm → Option GlueSpec
+standing_glue form.Skip = None
+standing_glue form.Fil = Some (glue_of (pos 0) one 1 (pos 0) 0)
+standing_glue form.Fill = Some (glue_of (pos 0) one 2 (pos 0) 0)
+standing_glue form.Both = Some (glue_of (pos 0) one 1 one 1)
+standing_glue form.Negative = Some (glue_of (pos 0) (neg_ℤ one) 1 (pos 0) 0)
+
+abbrev pub skipped : GlueSpec → List Item → Reading Shaped
+skipped g rest = Done (Skip g) rest
+
+-- \hskip and \vskip: glue; and their kin, which take nothing
+abbrev pub skipping_by : Option GlueSpec → List Item → Reading Shaped
+skipping_by (Some g) items = skipped g items
+skipping_by None items = next (glue false items) skipped
+
+abbrev pub skipping : GlueForm → List Item → Reading Shaped
+skipping form items = skipping_by (standing_glue form) items
+
 -- what a command takes behind its first token; a box that stands alone is appended as it is
 abbrev pub shape : Shaping → List Item → Reading Shaped
 shape (shaping.Box kind) items = box_begin (record { kind = kind; context = Append (pos 0) }) items
@@ -129,3 +155,4 @@ shape (shaping.Shift kind) items = shifting kind items
 shape (shaping.Unbox kind) items = unboxing kind items
 shape shaping.Penalty items = penalizing items
 shape shaping.PrevDepth items = depth_setting items
+shape (shaping.Glue form) items = skipping form items

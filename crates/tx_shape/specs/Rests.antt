@@ -1,5 +1,5 @@
 -- The scan of a command's rest means what it still reads.
-use Rattle.std.specs.Prelude.{◌≡◌, ◌≤◌, ℕ, ◌∷◌, ◌++◌, [], List, codes, if◌then◌else◌}
+use Rattle.std.specs.Prelude.{◌≤◌, ℕ, ◌∷◌, ◌++◌, [], List, codes, if◌then◌else◌}
 use Rattle.tx_seen.specs.declared.error.TexError.TheVariants.{MissingBeginGroup}
 use Rattle.tx_seen.specs.declared.fed.Fed.{Fed}
 use Rattle.tx_seen.specs.declared.fed.Fed.TheVariants as fed
@@ -10,6 +10,8 @@ use Rattle.tx_seen.specs.declared.seen.Seen.{Seen}
 use Rattle.tx_seen.specs.Seen.{is_key}
 use Rattle.tx_seen.specs.Readings.{Reading, More, Done, Wrong, next}
 use Rattle.tx_scan.specs.Dimensions.{dimension, lengths}
+use Rattle.tx_scan.specs.declared.scans.GlueScan.{GlueScan}
+use Rattle.tx_scan.specs.GlueRests as glues
 use Rattle.tx_scan.specs.Integers.{expanded}
 use Rattle.tx_scan.specs.Rests.{IsRead}
 use Rattle.tx_scan.specs.Supplied.{NeedsFewer, NeedsNoMore}
@@ -27,7 +29,7 @@ use Rattle.tx_shape.specs.declared.words.Lost.TheVariants as lost
 use Rattle.tx_shape.specs.declared.words.Word.{Word}
 use Rattle.tx_shape.specs.declared.words.Word.TheVariants as word
 use Rattle.tx_shape.specs.AmountRests.{amount_held, amount_needed, amount_rest, begun_amount}
-use Rattle.tx_shape.specs.Boxes.{begun, depth_setting, opened, spread_goal}
+use Rattle.tx_shape.specs.Boxes.{begun, depth_setting, opened, skipped, spread_goal}
 use Rattle.tx_shape.specs.Nexts.{behind_measure, next_rest, plain_rest}
 use Rattle.tx_shape.specs.Words.{behind_group, lost_behind}
 
@@ -85,6 +87,7 @@ abbrev pub stage_rest : Stage → ShapeScan → List Item → Item → List Item
 stage_rest stage.Amount scan behind item more = next (amount_rest scan.amount behind item more) next_rest
 stage_rest (stage.Plain part) scan behind item more = plain_rest part (item ∷ more)
 stage_rest stage.Depth scan behind item more = depth_setting (item ∷ more)
+stage_rest stage.Glue scan behind item more = next (glues.rest scan.glue behind item more) skipped
 stage_rest (stage.Word opening letters) scan behind item more = word_rest opening letters.word letters.lost behind (item ∷ more)
 
 abbrev pub rest : ShapeScan → List Item → Item → List Item → Reading Shaped
@@ -95,6 +98,7 @@ abbrev pub stage_held : Stage → ShapeScan → ℕ
 stage_held stage.Amount scan = amount_held scan.amount
 stage_held (stage.Plain part) scan = 0
 stage_held stage.Depth scan = 0
+stage_held stage.Glue scan = glues.held scan.glue
 stage_held (stage.Word opening letters) scan = behind_group letters.lost
 
 abbrev pub held : ShapeScan → ℕ
@@ -105,18 +109,26 @@ abbrev pub stage_needed : Stage → ShapeScan → ℕ
 stage_needed stage.Amount scan = amount_needed scan.amount
 stage_needed (stage.Plain part) scan = 0
 stage_needed stage.Depth scan = 0
+stage_needed stage.Glue scan = glues.more_needed scan.glue
 stage_needed (stage.Word opening letters) scan = 0
 
 abbrev pub needed : ShapeScan → ℕ
 needed scan = stage_needed scan.stage scan
 
--- the scan at the beginning of a number or a size
-abbrev pub begun_at : Amount → ShapeScan
-begun_at what = record { stage = stage.Amount; amount = begun_amount what }
+-- the scan at the beginning of a number or a size, whatever glue was read before
+abbrev pub begun_at : Amount → GlueScan → ShapeScan
+begun_at what glue = record { stage = stage.Amount; amount = begun_amount what; glue = glue }
 
--- only a number or a size needs values, and then one token at most is held
+-- only a number, a size or glue needs values, and then one token at most is held
+abbrev pub IsValued : Stage → ShapeScan → Type 0
+IsValued stage.Amount scan = Unit {0}
+IsValued (stage.Plain part) scan = ⊥
+IsValued stage.Depth scan = ⊥
+IsValued stage.Glue scan = glues.IsSizing scan.glue.stage
+IsValued (stage.Word opening letters) scan = ⊥
+
 abbrev pub IsWaiting : ShapeScan → Type 0
-IsWaiting scan = (scan.stage ≡ stage.Amount) × (held scan ≤ 1)
+IsWaiting scan = IsValued scan.stage scan × (held scan ≤ 1)
 
 abbrev pub WaitsIfNeeded : ShapeScan → Fed Shaped → Type 0
 WaitsIfNeeded scan (fed.More want) = Unit {0}

@@ -23,6 +23,7 @@ impl Clone for ShapeScan {
         Ok(ShapeScan {
             stage: self.stage,
             amount: self.amount.clone()?,
+            glue: self.glue.clone()?,
         })
     }
 }

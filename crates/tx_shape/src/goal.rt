@@ -40,7 +40,7 @@ impl ShapeScan {
 
     /// A number or a size comes next.
     pub(crate) fn to_amount(&mut self, amount: Amount) -> Fed<Shaped>
-        ensures scan { self.new ≡ begun_at amount }
+        ensures scan { self.new ≡ begun_at amount self.old.glue }
         ensures answer { result ≡ Fed.More Want.Expanded }
     {
         self.amount.begin(amount);

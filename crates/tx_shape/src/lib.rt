@@ -11,6 +11,7 @@
 mod amount;
 mod boxes;
 mod clones;
+mod elastic;
 mod goal;
 mod letters;
 mod next;

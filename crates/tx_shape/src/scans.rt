@@ -3,7 +3,7 @@
 use crate::letters::Letters;
 use crate::types::{BoxContext, BoxGoal, Shaped};
 use tx_prim::{BoxKind, ShiftKind, UnboxKind};
-use tx_scan::{DimenScan, IntScan};
+use tx_scan::{DimenScan, GlueScan, IntScan};
 use tx_seen::TexError;
 
 /// A box that is to be begun: which list makes it, and what becomes of it.
@@ -80,6 +80,8 @@ pub enum Stage {
     Plain(Plain),
     /// An optional `=`, with spaces before it, and the size for \prevdepth.
     Depth,
+    /// Glue.
+    Glue,
     /// The letters of `to` or `spread` behind these.
     Word(Opening, Letters),
 }
@@ -97,4 +99,5 @@ pub struct AmountScan {
 pub struct ShapeScan {
     pub(crate) stage: Stage,
     pub(crate) amount: AmountScan,
+    pub(crate) glue: GlueScan,
 }

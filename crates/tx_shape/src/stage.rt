@@ -1,8 +1,9 @@
 //! The rests of commands, token by token.
-ghost use Rattle.std.specs.Prelude.{◌≡◌, ◌≤◌, ◌+◌, ℕ, ◌∷◌, ◌++◌, [], List, IfOk};
+ghost use Rattle.std.specs.Prelude.{◌≡◌, ◌≤◌, ◌+◌, ℕ, ◌∷◌, ◌++◌, [], false, List, IfOk};
 ghost use Rattle.tx_seen.specs.declared.item.Item.{Item};
 ghost use Rattle.tx_seen.specs.declared.item.Item.TheVariants.{Took};
 ghost use Rattle.tx_seen.specs.Readings.{Reading, next};
+ghost use Rattle.tx_scan.specs.GlueRests.{begun_glue};
 ghost use Rattle.tx_scan.specs.Rests.{HoldsOne, IsAnswer, IsFedBy, IsGivenBehind, IsRead, kept};
 ghost use Rattle.tx_scan.specs.Supplied.{NeedsFewer, NeedsNoMore};
 ghost use Rattle.tx_shape.specs.declared.scans.Next.{Next as Next_what};
@@ -11,21 +12,24 @@ ghost use Rattle.tx_shape.specs.Boxes.{shape};
 ghost use Rattle.tx_shape.specs.Nexts.{next_rest, plain_rest};
 ghost use Rattle.tx_shape.specs.Rests.{Begins, IsWaiting, WaitsIfNeeded, begun_at, held, needed, rest};
 
+use crate::elastic::skipped;
 use crate::scans::{
     Amount, AmountScan, Next, Opening, Plain, Registering, ShapeScan, Sizing, Stage,
 };
 use crate::types::{BoxContext, Shaped, Shaping};
 use std::alloc::{AllocError, Global};
+use tx_scan::GlueScan;
 use tx_seen::{Fed, Seen, Value};
 
 impl ShapeScan {
     /// The scan of no command's rest yet. It takes no memory.
     pub fn new(alloc: Global) -> ShapeScan
-        ensures { result ≡ begun_at Amount.Penalty }
+        ensures { result ≡ begun_at Amount.Penalty (begun_glue false) }
     {
         ShapeScan {
             stage: Stage::Amount,
             amount: AmountScan::new(alloc),
+            glue: GlueScan::new(alloc, false),
         }
     }
 
@@ -46,6 +50,7 @@ impl ShapeScan {
             Shaping::Unbox(kind) => self.to_amount(Amount::Register(Registering::Unbox(kind))),
             Shaping::Penalty => self.to_amount(Amount::Penalty),
             Shaping::PrevDepth => self.on(Stage::Depth),
+            Shaping::Glue(form) => self.begin_glue(form),
         }
     }
 
@@ -59,6 +64,7 @@ impl ShapeScan {
             Stage::Amount => self.feed_amount(token),
             Stage::Plain(plain) => Ok(self.feed_plain(plain, token)),
             Stage::Depth => self.feed_depth(token),
+            Stage::Glue => Ok(skipped(self.glue.feed(token)?)),
             Stage::Word(opening, letters) => Ok(self.feed_word(opening, letters, token)),
         }
     }
@@ -70,8 +76,14 @@ impl ShapeScan {
         ensures needs { IfOk result (NeedsFewer (needed self.old) (needed self.new)) }
         ensures waits { IfOk result (WaitsIfNeeded self.new) }
     {
-        let fed = self.amount.give(value)?;
-        Ok(self.go_on(fed, behind))
+        match self.stage {
+            Stage::Amount => {
+                let fed = self.amount.give(value)?;
+                Ok(self.go_on(fed, behind))
+            }
+            Stage::Glue => Ok(skipped(self.glue.give(value, behind)?)),
+            Stage::Plain(_) | Stage::Depth | Stage::Word(_, _) => unreachable!(),
+        }
     }
 
     /// A token of a number or a size, or what ends it. Its only error is want of memory.

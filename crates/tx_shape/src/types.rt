@@ -1,5 +1,6 @@
 //! What families of commands are, and what they come to once they are read whole.
-use tx_prim::{BoxKind, BoxSource, ShiftKind, UnboxKind};
+use tx_num::Glue;
+use tx_prim::{BoxKind, BoxSource, GlueForm, ShiftKind, UnboxKind};
 
 /// What becomes of a box (TeX: The Program, section 1071).
 #[derive(Clone, Copy, PartialEq, Eq)]
@@ -52,6 +53,8 @@ pub enum Shaping {
     Penalty,
     /// \prevdepth.
     PrevDepth,
+    /// \hskip, \vskip and their kin.
+    Glue(GlueForm),
 }
 
 /// What such a command is once it is whole.
@@ -65,4 +68,6 @@ pub enum Shaped {
     Penalize(i32),
     /// \prevdepth is to be so many sp.
     SetDepth(i32),
+    /// Glue.
+    Skip(Glue),
 }

@@ -3,7 +3,7 @@ use Rattle.tx_scan.specs.IntegerRests as integers
 use Rattle.tx_seen.specs.declared.item.Item.TheVariants.{Took}
 use Rattle.tx_assign.specs.declared.scan.AssignStage.TheVariants.{Integer}
 use Rattle.tx_assign.specs.Assignments.{valued}
-use Rattle.tx_assign.proofs.Numbers.{end-all}
+use Rattle.tx_assign.proofs.Numbers.{end-all, end-waits, few-held}
 use Rattle.tx_assign.proofs.Parts.{integer-more, integer-need, integer-wrong}
 use Rattle.tx_assign.proofs.scan.AssignScan.feed_integer.Goals as goal
 
@@ -23,3 +23,11 @@ returns-in-Done-clause-answer c =
 pub returns-in-Wrong-clause-answer : goal.returns-in-Wrong-clause-answer
 returns-in-Wrong-clause-answer c =
     integer-wrong c.args.self.now c.args.self.now c.feed.new.self c.args.purpose c.args.token.now c.in-Wrong.error (rw c.in-Wrong.is at c.in_ok-want.ensures.fed)
+
+pub returns-in-Need-clause-waits : goal.returns-in-Need-clause-waits
+returns-in-Need-clause-waits c =
+    (tt, few-held c.args.self.now.integer c.feed.new.self c.args.token.now c.in-Need.kind (rw c.in-Need.is at c.in_ok-want.ensures.fed))
+
+pub returns-in-Done-clause-waits : goal.returns-in-Done-clause-waits
+returns-in-Done-clause-waits c =
+    end-waits (valued c.args.purpose c.args.self.now.place (to_z w64 (of_z w64 c.in-Done.number))) c.in-Done.back (record c.args.self.now { stage = Integer c.args.purpose; integer = c.feed.new.self }) c.end_integer.result c.end_integer.ensures

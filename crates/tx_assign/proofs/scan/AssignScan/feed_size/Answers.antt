@@ -3,7 +3,7 @@ use Rattle.tx_scan.specs.DimensionRests as sizes
 use Rattle.tx_seen.specs.declared.item.Item.TheVariants.{Took}
 use Rattle.tx_assign.specs.declared.scan.AssignStage.TheVariants.{Size}
 use Rattle.tx_assign.specs.Assignments.{sized}
-use Rattle.tx_assign.proofs.Numbers.{end-all}
+use Rattle.tx_assign.proofs.Numbers.{end-all, end-waits, few-held-size}
 use Rattle.tx_assign.proofs.Parts.{size-more, size-need, size-wrong}
 use Rattle.tx_assign.proofs.scan.AssignScan.feed_size.Goals as goal
 
@@ -23,3 +23,11 @@ returns-in-Done-clause-answer c =
 pub returns-in-Wrong-clause-answer : goal.returns-in-Wrong-clause-answer
 returns-in-Wrong-clause-answer c =
     size-wrong c.args.self.now c.args.self.now c.feed.new.self c.args.purpose c.args.token.now c.in-Wrong.error (rw c.in-Wrong.is at c.in_ok-want.ensures.fed)
+
+pub returns-in-Need-clause-waits : goal.returns-in-Need-clause-waits
+returns-in-Need-clause-waits c =
+    (tt, few-held-size c.args.self.now.size c.feed.new.self c.args.token.now c.in-Need.kind (rw c.in-Need.is at c.in_ok-want.ensures.fed))
+
+pub returns-in-Done-clause-waits : goal.returns-in-Done-clause-waits
+returns-in-Done-clause-waits c =
+    end-waits (sized c.args.purpose c.args.self.now.place c.in-Done.measure) c.in-Done.back (record c.args.self.now { stage = Size c.args.purpose; size = c.feed.new.self }) c.end_size.result c.end_size.ensures

@@ -5,4 +5,4 @@ use Rattle.tx_shape.proofs.scans.ShapeScan.begin_depth.Goals as goal
 
 pub returns : goal.returns
 returns c =
-    depth-begun-ok (record { stage = stage.Amount; amount = c.begin.new.self }) c.feed_amount.new.self c.args.token.now c.feed_amount.result (rw c.begin.ensures refl) c.feed_amount.ensures.fed c.feed_amount.ensures.needs c.feed_amount.ensures.waits
+    depth-begun-ok (record { stage = stage.Amount; amount = c.begin.new.self; glue = c.args.self.now.glue }) c.feed_amount.new.self c.args.self.now.glue c.args.token.now c.feed_amount.result (rw c.begin.ensures refl) c.feed_amount.ensures.fed c.feed_amount.ensures.needs c.feed_amount.ensures.waits

@@ -8,7 +8,7 @@ returns-in-More c =
 
 pub returns-in-Done-default-eq0 : goal.returns-in-Done-default-eq0
 returns-in-Done-default-eq0 c =
-    rw c.to_amount.ensures.answer (depth-there c.feed.new.self c.args.token.now c.to_amount.new.self c.in-Done-default-eq0.field-0 c.in-Done-default-eq0.field-1 (rw c.in-Done-default-eq0.is at c.feed.ensures.fed) (search rules) c.to_amount.ensures.scan)
+    rw c.to_amount.ensures.answer (depth-there c.feed.new.self c.args.token.now c.to_amount.new.self c.in-Done-default-eq0.field-0 c.in-Done-default-eq0.field-1 c.args.self.now.glue (rw c.in-Done-default-eq0.is at c.feed.ensures.fed) (search rules) c.to_amount.ensures.scan)
 
 pub returns-in-Done : goal.returns-in-Done
 returns-in-Done c =

@@ -1,0 +1,12 @@
+use Rattle.std.proofs.Common.{to_z, of_z, w64}
+use Rattle.tx_assign.specs.Assignments.{valued}
+use Rattle.tx_assign.proofs.Numbers.{end-waits, few-given}
+use Rattle.tx_assign.proofs.scan.AssignScan.give_integer.Goals as goal
+
+pub returns-in-Need-clause-waits : goal.returns-in-Need-clause-waits
+returns-in-Need-clause-waits c =
+    rw c.requires.stage (tt, few-given c.args.self.now.integer c.give.new.self c.args.value.now c.in-Need.wanted (rw c.requires.stage at c.requires.few) (rw c.in-Need.is at c.give.ensures.given))
+
+pub returns-in-Done-clause-waits : goal.returns-in-Done-clause-waits
+returns-in-Done-clause-waits c =
+    end-waits (valued c.args.purpose c.args.self.now.place (to_z w64 (of_z w64 c.in-Done.number))) c.in-Done.back (record c.args.self.now { integer = c.give.new.self }) c.end_integer.result c.end_integer.ensures
