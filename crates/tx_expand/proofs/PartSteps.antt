@@ -1,35 +1,58 @@
 -- What an expansion reads is read as the scan of it says.
-use Rattle.std.proofs.Common.{◌≡◌, Bool, ℤ, Some, Result, Ok, Err, IfOk, [], ◌∷◌, refl, ap, arith}
+use Rattle.std.proofs.Common.{◌≡◌, Bool, ℕ, Result, Ok, Err, IfOk, [], ◌∷◌, refl, arith, lit≤}
+use Rattle.tx_prim.specs.declared.family.Numbered.{Numbered}
 use Rattle.tx_seen.specs.declared.fed.Fed.{Fed}
+use Rattle.tx_seen.specs.declared.fed.Fed.TheVariants as fed
+use Rattle.tx_seen.specs.declared.fed.Kind.TheVariants.{Quantity}
+use Rattle.tx_seen.specs.declared.fed.Value.{Value}
+use Rattle.tx_seen.specs.declared.fed.Want.TheVariants.{Expanded}
 use Rattle.tx_seen.specs.declared.item.Item.TheVariants.{Took}
+use Rattle.tx_seen.specs.declared.place.Place.{Place}
 use Rattle.tx_seen.specs.declared.seen.Seen.{Seen}
-use Rattle.tx_seen.specs.Readings.{Done, next}
-use Rattle.tx_scan.specs.Beginnings.{beginning}
-use Rattle.tx_scan.specs.IntegerRests as integers
-use Rattle.tx_scan.specs.Integers.{integer}
-use Rattle.tx_scan.specs.Rests.{IsFedBy, IsRead}
-use Rattle.tx_scan.specs.Mapped.{mapped}
-use Rattle.tx_scan.specs.declared.scans.IntScan.{IntScan}
-use Rattle.tx_expand.specs.declared.part.Figures.TheVariants as figures
+use Rattle.tx_scan.specs.declared.scans.Beginning.{Beginning}
+use Rattle.tx_scan.specs.declared.scans.Beginning.TheVariants as begin
+use Rattle.tx_scan.specs.declared.scans.QuantityScan.{QuantityScan}
+use Rattle.tx_scan.specs.declared.scans.Sought.TheVariants as sought
+use Rattle.tx_scan.specs.Mapped.{settled}
+use Rattle.tx_scan.specs.QuantityRests as quantities
+use Rattle.tx_scan.specs.Rests.{IsFedBy, IsGivenBy, IsRead}
+use Rattle.tx_scan.specs.Supplied.{NeedsFewer, NeedsNoMore}
 use Rattle.tx_expand.specs.declared.part.Part.{Part}
 use Rattle.tx_expand.specs.declared.part.Part.TheVariants as part
 use Rattle.tx_expand.specs.declared.types.Made.{Made}
-use Rattle.tx_expand.specs.Parts.{held, printed, rest}
-use Rattle.tx_expand.specs.Scans.{quantity, quantity_begun, the}
-use Rattle.tx_scan.proofs.Mappings.{fed-first, mapped-read, same-read}
+use Rattle.tx_expand.specs.Parts.{held, more_needed, rest}
+use Rattle.tx_expand.specs.Scans.{quantity, the, value_shown}
+use Rattle.tx_scan.proofs.Mappings.{fed-first, fewer-settled, needs-settled, settled-fed, settled-given}
 
-pub quantity-read : (text size : Bool) (t : Seen) (old new : IntScan) (answer : Fed ℤ) → old ≡ integers.begun_integer → quantity_begun (beginning t) ≡ Some size → IsFedBy integers.rest integers.held old t new answer → IsRead rest held 1 (λ more. quantity text (quantity_begun (beginning t)) (Took t ∷ more)) (Took t ∷ []) (part.Integer new (figures.Quantity text size)) (mapped (printed (figures.Quantity text size)) answer)
-quantity-read text size t old new answer begun some k =
-    let first : IsFedBy integers.rest integers.held integers.begun_integer t new answer = rw begun at k in
-    same-read rest held 1 (λ more. quantity text (quantity_begun (beginning t)) (Took t ∷ more)) (λ more. next (integer (Took t ∷ more)) (λ n rest. Done (printed (figures.Quantity text size) n) rest)) (Took t ∷ []) (part.Integer new (figures.Quantity text size)) (mapped (printed (figures.Quantity text size)) answer)
-    (λ more. ap (λ q. quantity text q (Took t ∷ more)) some)
-    (mapped-read integers.rest integers.held rest held (printed (figures.Quantity text size)) 1 (λ more. integer (Took t ∷ more)) (Took t ∷ []) new (part.Integer new (figures.Quantity text size)) answer
-    (λ behind item more. refl) refl (first [] (omega arith)))
+-- a quantity that stands at a place
+pub place-read : {E : Type 0} (text : Bool) (place : Place) (b : Beginning) (t : Seen) (scan : QuantityScan) (begun : Fed Value) (answer : Result (Fed Made) E) → b ≡ begin.At place → scan ≡ quantities.begun_quantity → begun ≡ fed.Need (Quantity place) → IfOk answer (λ of. of ≡ settled (value_shown text) begun) → IfOk answer (IsRead rest held 1 (λ more. quantity text b more) (Took t ∷ []) (part.Shown scan text))
+place-read text place b t scan begun (Ok of) at first needed is = rw (is, needed, at, first) (refl, lit≤ tt, λ item more. refl)
+place-read text place b t scan begun (Err e) at first needed is = tt
 
--- it is printed
-pub quantity-printed : {E : Type 0} (text size : Bool) (t : Seen) (old new : IntScan) (fed : Fed ℤ) (answer : Result (Fed Made) E) → old ≡ integers.begun_integer → quantity_begun (beginning t) ≡ Some size → IsFedBy integers.rest integers.held old t new fed → IfOk answer (λ of. of ≡ mapped (printed (figures.Quantity text size)) fed) → IfOk answer (IsRead rest held 1 (λ more. quantity text (quantity_begun (beginning t)) (Took t ∷ more)) (Took t ∷ []) (part.Integer new (figures.Quantity text size)))
-quantity-printed text size t old new fed (Ok of) begun some k is = rw is (quantity-read text size t old new fed begun some k)
-quantity-printed text size t old new fed (Err e) begun some k is = tt
+-- and one at the number that follows
+pub numbered-read : {E : Type 0} (text : Bool) (kind : Numbered) (b : Beginning) (t : Seen) (scan : QuantityScan) (begun : Fed Value) (answer : Result (Fed Made) E) → b ≡ begin.Numbered kind → scan ≡ quantities.begun_at_number (sought.Numbered kind) → begun ≡ fed.More Expanded → IfOk answer (λ of. of ≡ settled (value_shown text) begun) → IfOk answer (IsRead rest held 1 (λ more. quantity text b more) (Took t ∷ []) (part.Shown scan text))
+numbered-read text kind b t scan begun (Ok of) at first wanted is = rw (is, wanted, at, first) (refl, lit≤ tt, λ item more. refl)
+numbered-read text kind b t scan begun (Err e) at first wanted is = tt
+
+-- one more token or value of it
+pub shown-fed : {E : Type 0} (text : Bool) (t : Seen) (before : Part) (old new : QuantityScan) (fed : Fed Value) (answer : Result (Fed Made) E) → before ≡ part.Shown old text → IsFedBy quantities.rest quantities.held old t new fed → IfOk answer (λ of. of ≡ settled (value_shown text) fed) → IfOk answer (IsFedBy rest held before t (part.Shown new text))
+shown-fed text t before old new fed (Ok of) was k is =
+    rw (was, is) (settled-fed quantities.rest quantities.held rest held (value_shown text) old new (part.Shown old text) (part.Shown new text) t fed (λ behind item more. refl) refl (λ behind item more. refl) refl k)
+shown-fed text t before old new fed (Err e) was k is = tt
+
+pub shown-given : {E : Type 0} (text : Bool) (v : Value) (before : Part) (old new : QuantityScan) (fed : Fed Value) (answer : Result (Fed Made) E) → before ≡ part.Shown old text → IsGivenBy quantities.rest quantities.held old v new fed → IfOk answer (λ of. of ≡ settled (value_shown text) fed) → IfOk answer (IsGivenBy rest held before v (part.Shown new text))
+shown-given text v before old new fed (Ok of) was k is =
+    rw (was, is) (settled-given quantities.rest quantities.held rest held (value_shown text) old new (part.Shown old text) (part.Shown new text) v fed (λ behind item more. refl) refl (λ behind item more. refl) refl k)
+shown-given text v before old new fed (Err e) was k is = tt
+
+-- it needs as many values
+pub shown-needs : {E : Type 0} (text : Bool) (before : Part) (old new : QuantityScan) (fed : Fed Value) (answer : Result (Fed Made) E) → before ≡ part.Shown old text → NeedsNoMore (quantities.more_needed old) (quantities.more_needed new) fed → IfOk answer (λ of. of ≡ settled (value_shown text) fed) → IfOk answer (NeedsNoMore (more_needed before) (more_needed (part.Shown new text)))
+shown-needs text before old new fed (Ok of) was n is = rw (was, is) (needs-settled (value_shown text) (quantities.more_needed old) (quantities.more_needed new) fed n)
+shown-needs text before old new fed (Err e) was n is = tt
+
+pub shown-fewer : {E : Type 0} (text : Bool) (before : Part) (old new : QuantityScan) (fed : Fed Value) (answer : Result (Fed Made) E) → before ≡ part.Shown old text → NeedsFewer (quantities.more_needed old) (quantities.more_needed new) fed → IfOk answer (λ of. of ≡ settled (value_shown text) fed) → IfOk answer (NeedsFewer (more_needed before) (more_needed (part.Shown new text)))
+shown-fewer text before old new fed (Ok of) was n is = rw (was, is) (fewer-settled (value_shown text) (quantities.more_needed old) (quantities.more_needed new) fed n)
+shown-fewer text before old new fed (Err e) was n is = tt
 
 -- a scan of which nothing is read holds nothing
 pub quantity-first : {E : Type 0} (text : Bool) (t : Seen) (old new : Part) (answer : Result (Fed Made) E) → old ≡ part.Quantity text → IfOk answer (IsRead rest held 1 (λ more. the text (Took t ∷ more)) (Took t ∷ []) new) → IfOk answer (IsFedBy rest held old t new)

@@ -139,6 +139,8 @@ taken-otherwise w text t r (meaning.CharacterNumber code) undefined expandable m
 taken-otherwise w text t r (meaning.MathNumber number) undefined expandable made = refl
 taken-otherwise w text t r (meaning.CountRegister number) undefined expandable made = refl
 taken-otherwise w text t r (meaning.DimenRegister number) undefined expandable made = refl
+taken-otherwise w text t r (meaning.SkipRegister number) undefined expandable made = refl
+taken-otherwise w text t r (meaning.MuskipRegister number) undefined expandable made = refl
 taken-otherwise w text t r (meaning.ToksRegister number) undefined expandable made = refl
 taken-otherwise w text t r (meaning.Expandable e) undefined expandable made = absurd (expandable e refl)
 taken-otherwise w text t r (meaning.Macro d) undefined expandable made = absurd (made d refl)

@@ -6,6 +6,7 @@ use Rattle.tx_seen.specs.Readings.{Reading, Done, next}
 use Rattle.tx_scan.specs.Rests.{HasTakenBy}
 use Rattle.tx_scan.specs.Settled.{WantsNext}
 use Rattle.tx_scan.specs.IntegerRests as integers
+use Rattle.tx_scan.specs.QuantityRests as quantities
 use Rattle.tx_scan.specs.ControlNames as names
 use Rattle.tx_scan.specs.FileNames as files
 use Rattle.tx_cond.specs.TestRests as tests
@@ -18,31 +19,33 @@ use Rattle.tx_expand.specs.declared.part.Part.TheVariants as part
 use Rattle.tx_expand.specs.declared.types.Made.{Made}
 use Rattle.tx_expand.specs.declared.types.Made.TheVariants as made
 use Rattle.tx_expand.specs.declared.types.Scanned.{Scanned}
-use Rattle.tx_expand.specs.Scans.{quantity_tokens, reading, shown, the}
+use Rattle.tx_expand.specs.Scans.{printed_value, reading, the}
 
 -- what comes of an integer
 abbrev pub printed : Figures → ℤ → Made
 printed figures.Decimal n = made.Puts (as_tokens (number_text n))
 printed figures.Roman n = made.Puts (as_tokens (roman_text n))
-printed (figures.Quantity text size) n = shown text (quantity_tokens size n)
 printed (figures.Register text) n = made.Register text n
 
 -- the rest, by the scan
 abbrev pub rest : Part → List Item → Item → List Item → Reading Made
 rest (part.Name scan) behind item more = next (names.rest scan behind item more) (λ name rest. Done (made.Names name) rest)
 rest (part.Quantity text) behind item more = the text (item ∷ more)
+rest (part.Shown scan text) behind item more = next (quantities.rest scan behind item more) (printed_value text)
 rest (part.Integer scan figures) behind item more = next (integers.rest scan behind item more) (λ n rest. Done (printed figures n) rest)
 rest (part.Test scan) behind item more = next (tests.rest scan behind item more) (λ value rest. Done (made.Decides value) rest)
 rest (part.File scan) behind item more = next (files.rest scan behind item more) (λ name rest. Done (made.Opens (files.input_name name)) rest)
 
 -- how many of its tokens it holds
 abbrev pub held : Part → ℕ
+held (part.Shown scan text) = quantities.held scan
 held (part.Integer scan figures) = integers.held scan
 held (part.Test scan) = tests.held scan
 held _ = 0
 
 -- how many values it may need at most, unless more tokens need more
 abbrev pub more_needed : Part → ℕ
+more_needed (part.Shown scan text) = quantities.more_needed scan
 more_needed (part.Integer scan figures) = integers.waiting scan
 more_needed (part.Test scan) = tests.more_needed scan
 more_needed _ = 0

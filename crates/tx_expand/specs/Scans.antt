@@ -1,13 +1,15 @@
 -- What an expansion reads off tokens that are expanded, and what comes of it: a line for each, by the definition of its own
 -- crate (TeX: The Program, parts 25 to 28).
-use Rattle.std.specs.Prelude.{Bool, true, false, ℤ, Option, None, Some, List, [], ◌∷◌}
+use Rattle.std.specs.Prelude.{Bool, true, false, pos, Option, None, Some, Result, Ok, Err, List, [], ◌∷◌}
 use Rattle.tx_char.specs.declared.tokens.Token.{Token}
 use Rattle.tx_seen.specs.declared.error.TexError.TheVariants.{NoAssignment}
 use Rattle.tx_seen.specs.declared.fed.Want.TheVariants.{Expanded}
 use Rattle.tx_seen.specs.declared.item.Item.{Item}
 use Rattle.tx_seen.specs.declared.item.Item.TheVariants.{Took, Gave}
 use Rattle.tx_seen.specs.declared.seen.Seen.{Seen}
-use Rattle.tx_seen.specs.Places.{is_size, place_of}
+use Rattle.tx_seen.specs.declared.error.TexError.{TexError}
+use Rattle.tx_seen.specs.declared.fed.Value.{Value}
+use Rattle.tx_seen.specs.declared.fed.Value.TheVariants.{Int, Dimen, Glue, Muglue}
 use Rattle.tx_seen.specs.Readings.{Reading, More, Done, Wrong, next}
 use Rattle.tx_scan.specs.declared.scans.Beginning.{Beginning}
 use Rattle.tx_scan.specs.declared.scans.Beginning.TheVariants as begin
@@ -16,10 +18,13 @@ use Rattle.tx_scan.specs.declared.scans.ListBegun.TheVariants as list
 use Rattle.tx_scan.specs.Beginnings.{beginning}
 use Rattle.tx_scan.specs.Lists.{list_begun}
 use Rattle.tx_scan.specs.Integers.{integer}
+use Rattle.tx_scan.specs.Mapped.{done_if}
+use Rattle.tx_scan.specs.Quantities.{quantity_begun}
 use Rattle.tx_scan.specs.ControlNames.{control_name}
 use Rattle.tx_scan.specs.FileNames.{file_name, input_name}
 use Rattle.tx_cond.specs.Tests.{test}
 use Rattle.tx_convert.specs.Numerals.{number_text, roman_text, size_text}
+use Rattle.tx_convert.specs.Glues.{glue_text}
 use Rattle.tx_convert.specs.Texts.{as_tokens}
 use Rattle.tx_expand.specs.declared.types.Made.{Made}
 use Rattle.tx_expand.specs.declared.types.Made.TheVariants as made
@@ -31,34 +36,42 @@ pub record Scan : Type 0 where
   pub what : Scanned
   pub taken : List Item
 
--- whether what a token begins stands for a size, if it stands for a quantity: a number that a name stands for, what stands at a
--- place, or at the number that follows (section 413)
-abbrev pub quantity_begun : Beginning → Option Bool
-quantity_begun (begin.Number n) = Some false
-quantity_begun (begin.At place) = Some (is_size place)
-quantity_begun (begin.Numbered kind) = Some (is_size (place_of kind 0))
-quantity_begun _ = None
-
--- a quantity as \the prints it (section 465)
-abbrev pub quantity_tokens : Bool → ℤ → List Token
-quantity_tokens false n = as_tokens (number_text n)
-quantity_tokens true n = as_tokens (size_text n)
-
 -- it is put in, or belongs to a text (section 478)
 abbrev pub shown : Bool → List Token → Made
 shown false tokens = made.Puts tokens
 shown true tokens = made.Gives tokens
 
--- what \the prints, by whether it is a size
-abbrev pub quantity : Bool → Option Bool → List Item → Reading Made
-quantity text None items = Wrong NoAssignment
-quantity text (Some size) items = next (integer items) (λ n rest. Done (shown text (quantity_tokens size n)) rest)
+-- a value as \the prints it (section 465)
+abbrev pub value_tokens : Value → Option (List Token)
+value_tokens (Int n) = Some (as_tokens (number_text n))
+value_tokens (Dimen size) = Some (as_tokens (size_text size))
+value_tokens (Glue g) = Some (as_tokens (glue_text false g))
+value_tokens (Muglue g) = Some (as_tokens (glue_text true g))
+value_tokens other = None
+
+abbrev pub shown_if : Bool → Option (List Token) → Result Made TexError
+shown_if text None = Err NoAssignment
+shown_if text (Some tokens) = Ok (shown text tokens)
+
+abbrev pub value_shown : Bool → Value → Result Made TexError
+value_shown text value = shown_if text (value_tokens value)
+
+-- what \the prints of what a token begins: a number that a name stands for, what stands at a place, or at the number that follows
+-- (section 413)
+abbrev pub printed_value : Bool → Value → List Item → Reading Made
+printed_value text value rest = done_if (value_shown text value) rest
+
+abbrev pub quantity : Bool → Beginning → List Item → Reading Made
+quantity text (begin.Number n) rest = printed_value text (Int (pos n)) rest
+quantity text (begin.At place) rest = next (quantity_begun (begin.At place) rest) (printed_value text)
+quantity text (begin.Numbered kind) rest = next (quantity_begun (begin.Numbered kind) rest) (printed_value text)
+quantity text other rest = Wrong NoAssignment
 
 -- the list of tokens that a token stands for, or a quantity (section 465)
 abbrev pub shown_by : Bool → ListBegun → Seen → List Item → Reading Made
 shown_by text (list.At place) t rest = Done (made.List text place) rest
 shown_by text list.Register t rest = next (integer rest) (λ n rest. Done (made.Register text n) rest)
-shown_by text list.Nothing t rest = quantity text (quantity_begun (beginning t)) (Took t ∷ rest)
+shown_by text list.Nothing t rest = quantity text (beginning t) rest
 
 -- what stands behind \the, with its value
 abbrev pub the : Bool → List Item → Reading Made

@@ -24,6 +24,7 @@ use Rattle.tx_seen.specs.declared.meaning.Meaning.TheVariants as meaning
 use Rattle.tx_seen.specs.declared.place.Place.{Place}
 use Rattle.tx_seen.specs.declared.place.Place.TheVariants as place
 use Rattle.tx_seen.specs.declared.seen.Seen.{Seen}
+use Rattle.tx_seen.specs.Magnified.{magnification_in}
 use Rattle.tx_seen.specs.Seen.{held}
 use Rattle.tx_seen.specs.Readings.{Reading, More, Need, Done, Wrong}
 use Rattle.tx_scan.specs.Integers.{byte_of}
@@ -204,6 +205,15 @@ is_scanning (b ∷ outer) = scans b
 abbrev pub is_skipping : List Begun → Bool
 is_skipping [] = false
 is_skipping (b ∷ outer) = skips b
+
+-- the magnification, where the innermost one took it last
+abbrev pub magnification_by : Begun → Option ℕ
+magnification_by (begun.Scanning scan) = magnification_in scan.taken
+magnification_by other = None
+
+abbrev pub magnification_taken : List Begun → Option ℕ
+magnification_taken [] = None
+magnification_taken (b ∷ outer) = magnification_by b
 
 -- so does an \expandafter that waits for one: the token that it holds back
 abbrev pub waits : Begun → Bool

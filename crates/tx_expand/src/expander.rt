@@ -6,6 +6,7 @@ ghost use Rattle.tx_expand.specs.Turns as turns;
 ghost use Rattle.tx_expand.specs.Turns.{file_ended, turn, IsTurned};
 ghost use Rattle.tx_pending.specs.Elements.{Input};
 
+use crate::begun::Begun;
 use crate::kept::{same_begun, share_begun};
 use crate::state::Open;
 use crate::types::{Expanded, Wanted};
@@ -47,6 +48,20 @@ impl Expander {
                 conditionals: CondStack::new(alloc),
                 job,
             },
+        }
+    }
+
+    /// The magnification, where the innermost expansion took it last.
+    pub fn magnification(&self) -> Option<u16>
+        ensures { result ≡ turns.magnification_taken self.now.begun.items }
+    {
+        if self.open.begun.is_empty() {
+            return None;
+        }
+        match &self.open.begun[0] {
+            Begun::Scanning(scanning) => scanning.magnification(),
+            Begun::Use(_) | Begun::After | Begun::Before(_) | Begun::Hold => None,
+            Begun::Print(_) | Begun::Skipping(_) | Begun::Opening => None,
         }
     }
 

@@ -5,30 +5,19 @@ ghost use Rattle.tx_seen.specs.Readings.{Answers};
 ghost use Rattle.tx_scan.specs.Rests.{HasTakenBy, IsFedBy, IsGivenBy, IsRead};
 ghost use Rattle.tx_scan.specs.Supplied.{NeedsFewer, NeedsNoMore};
 ghost use Rattle.tx_expand.specs.Parts.{held, more_needed, rest};
-ghost use Rattle.tx_expand.specs.Scans.{quantity, quantity_begun, reading, the};
+ghost use Rattle.tx_expand.specs.Scans.{quantity, reading, the};
 ghost use Rattle.tx_scan.specs.Beginnings as beginnings;
 
-use crate::mapping::{decided, named, opened, printed};
+use crate::mapping::{decided, named, number_shown, opened, printed, quantity_shown};
 use crate::part::{Figures, Part};
 use crate::types::{Made, Scanned};
 use std::alloc::{AllocError, Global};
 use tx_cond::TestScan;
 use tx_scan::{
-    Beginning, ControlNameScan, FileNameScan, IntScan, ListBegun, beginning, list_begun,
+    Beginning, ControlNameScan, FileNameScan, IntScan, ListBegun, QuantityScan, Sought, beginning,
+    list_begun,
 };
-use tx_seen::{Fed, Place, Seen, TexError, Value, Want};
-
-/// Whether what a token begins stands for a size, if it stands for a quantity.
-fn quantity_begun_by(token: &Seen) -> Option<bool>
-    ensures { result ≡ quantity_begun (beginnings.beginning token.now) }
-{
-    match beginning(token) {
-        Beginning::Number(_) => Some(false),
-        Beginning::At(place) => Some(place.is_size()),
-        Beginning::Numbered(kind) => Some(Place::numbered(kind, 0).is_size()),
-        _ => None,
-    }
-}
+use tx_seen::{Fed, Seen, TexError, Value, Want};
 
 impl Part {
     /// The scan of what is read so, of which nothing is taken, and what it answers before the first token. It takes no memory.
@@ -73,6 +62,7 @@ impl Part {
                 let text = *text;
                 self.feed_quantity(alloc, text, token)
             }
+            Part::Shown(scan, text) => quantity_shown(alloc, *text, scan.feed(token)?),
             Part::Integer(scan, figures) => printed(alloc, *figures, scan.feed(token)?),
             Part::Test(scan) => Ok(decided(scan.feed(token)?)),
             Part::File(scan) => opened(scan.feed(token)?),
@@ -106,17 +96,23 @@ impl Part {
         text: bool,
         token: &Seen,
     ) -> Result<Fed<Made>, AllocError>
-        ensures fed { IfOk result (IsRead rest held 1 (λ more. quantity text (quantity_begun (beginnings.beginning token.now)) (Took token.now ∷ more)) (Took token.now ∷ []) self.new) }
+        ensures fed { IfOk result (IsRead rest held 1 (λ more. quantity text (beginnings.beginning token.now) more) (Took token.now ∷ []) self.new) }
         ensures needs { IfOk result (NeedsNoMore 0 (more_needed self.new)) }
     {
-        let Some(size) = quantity_begun_by(token) else {
-            return Ok(Fed::Wrong(TexError::NoAssignment));
+        let mut scan = QuantityScan::new(alloc);
+        let fed = match beginning(token) {
+            Beginning::Number(number) => return number_shown(alloc, text, number),
+            Beginning::At(place) => scan.begin_at(place),
+            Beginning::Numbered(kind) => scan.begin_behind(Sought::Numbered(kind)),
+            Beginning::Plus | Beginning::Minus | Beginning::Digit(_) | Beginning::Digits(_) => {
+                return Ok(Fed::Wrong(TexError::NoAssignment));
+            }
+            Beginning::Character | Beginning::Point | Beginning::Nothing(_) => {
+                return Ok(Fed::Wrong(TexError::NoAssignment));
+            }
         };
-        let figures = Figures::Quantity { text, size };
-        let mut scan = IntScan::new(alloc);
-        let fed = scan.feed(token)?;
-        *self = Part::Integer(scan, figures);
-        printed(alloc, figures, fed)
+        *self = Part::Shown(scan, text);
+        quantity_shown(alloc, text, fed)
     }
 
     /// Takes the value that it needs. Its only error is want of memory.
@@ -127,6 +123,7 @@ impl Part {
         match self {
             Part::Name(_) => Ok(Fed::Wrong(TexError::BadName)),
             Part::Quantity { .. } => Ok(Fed::Wrong(TexError::NoAssignment)),
+            Part::Shown(scan, text) => quantity_shown(alloc, *text, scan.give(value)),
             Part::Integer(scan, figures) => printed(alloc, *figures, scan.give(value)),
             Part::Test(scan) => Ok(decided(scan.give(value)?)),
             Part::File(_) => Ok(Fed::Wrong(TexError::MissingName)),

@@ -15,6 +15,7 @@ impl Clone for Part {
         match self {
             Part::Name(scan) => Ok(Part::Name(scan.clone()?)),
             Part::Quantity { text } => Ok(Part::Quantity { text: *text }),
+            Part::Shown(scan, text) => Ok(Part::Shown(scan.clone()?, *text)),
             Part::Integer(scan, figures) => Ok(Part::Integer(scan.clone()?, *figures)),
             Part::Test(scan) => Ok(Part::Test(scan.clone()?)),
             Part::File(scan) => Ok(Part::File(scan.clone()?)),

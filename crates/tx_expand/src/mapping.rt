@@ -1,7 +1,8 @@
 //! What comes of what was read.
-ghost use Rattle.std.specs.Prelude.{◌≡◌, IfOk};
+ghost use Rattle.std.specs.Prelude.{◌≡◌, pos, IfOk};
+ghost use Rattle.tx_seen.specs.declared.fed.Value.TheVariants.{Int};
 ghost use Rattle.tx_convert.specs.Texts.{as_tokens};
-ghost use Rattle.tx_scan.specs.Mapped.{mapped};
+ghost use Rattle.tx_scan.specs.Mapped.{fed_if, mapped, settled};
 ghost use Rattle.tx_expand.specs.Parts as parts;
 ghost use Rattle.tx_expand.specs.Scans as scans;
 ghost use Rattle.tx_scan.specs.FileNames as files;
@@ -12,9 +13,9 @@ use crate::types::Made;
 use std::alloc::{AllocError, Global};
 use tx_bytes::Bytes;
 use tx_char::ControlName;
-use tx_convert::{push_number, push_roman, push_size};
+use tx_convert::{push_glue, push_number, push_roman, push_size};
 use tx_scan::input_name;
-use tx_seen::Fed;
+use tx_seen::{Fed, TexError, Value};
 use tx_toklist::Toks;
 
 /// A name behind \csname.
@@ -87,16 +88,54 @@ fn made_of(alloc: Global, figures: Figures, number: i64) -> Result<Made, AllocEr
             push_roman(&mut tokens, number)?;
             Ok(Made::Puts(tokens))
         }
-        Figures::Quantity { text, size: true } => {
-            push_size(alloc, &mut tokens, number)?;
-            Ok(shown(text, tokens))
-        }
-        Figures::Quantity { text, size: false } => {
-            push_number(&mut tokens, number)?;
-            Ok(shown(text, tokens))
-        }
         Figures::Register { text } => Ok(Made::Register(text, number)),
     }
+}
+
+/// A number that a name stands for, as \the prints it. Its only error is want of memory.
+pub(crate) fn number_shown(alloc: Global, text: bool, number: u16) -> Result<Fed<Made>, AllocError>
+    ensures { IfOk result (λ of. of ≡ fed_if (scans.value_shown text (Int (pos number))) 0) }
+{
+    value_shown(alloc, text, &Value::Int(i64::from(number)), 0)
+}
+
+/// A quantity as \the prints it. Its only error is want of memory.
+pub(crate) fn quantity_shown(
+    alloc: Global,
+    text: bool,
+    fed: Fed<Value>,
+) -> Result<Fed<Made>, AllocError>
+    ensures { IfOk result (λ of. of ≡ settled (scans.value_shown text) fed) }
+{
+    match fed {
+        Fed::More(want) => Ok(Fed::More(want)),
+        Fed::Need(kind) => Ok(Fed::Need(kind)),
+        Fed::Done(value, back) => value_shown(alloc, text, &value, back),
+        Fed::Wrong(error) => Ok(Fed::Wrong(error)),
+    }
+}
+
+/// A value as \the prints it, with the unit of a size and those of glue; so many tokens behind it are given back. Its only error is
+/// want of memory.
+fn value_shown(
+    alloc: Global,
+    text: bool,
+    value: &Value,
+    back: usize,
+) -> Result<Fed<Made>, AllocError>
+    ensures { IfOk result (λ of. of ≡ fed_if (scans.value_shown text value.now) back) }
+{
+    let mut tokens = Toks::new(alloc);
+    match value {
+        Value::Int(number) => push_number(&mut tokens, *number)?,
+        Value::Dimen(size) => push_size(alloc, &mut tokens, *size)?,
+        Value::Glue(glue) => push_glue(alloc, &mut tokens, glue, false)?,
+        Value::Muglue(glue) => push_glue(alloc, &mut tokens, glue, true)?,
+        Value::Flag(_) | Value::Magnification(_) | Value::Absent => {
+            return Ok(Fed::Wrong(TexError::NoAssignment));
+        }
+    }
+    Ok(Fed::Done(shown(text, tokens), back))
 }
 
 /// The characters that \the prints: they are put in, or belong to a text.

@@ -1,6 +1,6 @@
 //! How far the reading of an expansion is.
 use tx_cond::TestScan;
-use tx_scan::{ControlNameScan, FileNameScan, IntScan};
+use tx_scan::{ControlNameScan, FileNameScan, IntScan, QuantityScan};
 
 /// How an integer is printed, or what it tells.
 #[derive(Clone, Copy, PartialEq, Eq)]
@@ -9,9 +9,6 @@ pub enum Figures {
     Decimal,
     /// In Roman letters.
     Roman,
-    /// As what stands at a place, with its unit where that is a size; whether its tokens belong to the text that the caller
-    /// takes.
-    Quantity { text: bool, size: bool },
     /// It tells a register of \toks, whose list of tokens stands in its place; whether these belong to that text.
     Register { text: bool },
 }
@@ -23,6 +20,8 @@ pub enum Part {
     Name(ControlNameScan),
     /// The first token behind \the.
     Quantity { text: bool },
+    /// What stands at a place, and is printed with its units; whether its tokens belong to the text that the caller takes.
+    Shown(QuantityScan, bool),
     /// An integer that is printed.
     Integer(IntScan, Figures),
     /// The test of a conditional.

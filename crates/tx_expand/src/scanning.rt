@@ -2,6 +2,7 @@
 ghost use Rattle.std.specs.Prelude.{◌≡◌, ◌↔◌, ◌≤◌, ◌+◌, ◌∷◌, ◌++◌, [], List, length, IfOk, IsTrue, OnOk};
 ghost use Rattle.tx_seen.specs.declared.item.Item.{Item};
 ghost use Rattle.tx_seen.specs.declared.item.Item.TheVariants.{Gave};
+ghost use Rattle.tx_seen.specs.Magnified.{magnification_in};
 ghost use Rattle.tx_seen.specs.Readings.{More};
 ghost use Rattle.tx_scan.specs.Rests.{HasTakenBy, IsGivenBy};
 ghost use Rattle.tx_scan.specs.Supplied.{value_for, NeedsFewer};
@@ -64,6 +65,16 @@ impl Scanning {
         ensures { result ≡ self.now.what }
     {
         self.what
+    }
+
+    /// The magnification, where it was taken last.
+    pub(crate) fn magnification(&self) -> Option<u16>
+        ensures { result ≡ magnification_in self.now.taken }
+    {
+        match self.taken.as_slice().last() {
+            Some(item) => item.magnification(),
+            None => None,
+        }
     }
 
     /// Whether both read the same, and have taken the same.
