@@ -4,17 +4,17 @@ use Rattle.tx_eqtb.specs.declared.entry.Entry.TheVariants.{Box as Boxed}
 use Rattle.tx_eqtb.specs.declared.eqtb.Eqtb.{Eqtb}
 use Rattle.tx_eqtb.specs.declared.table.Table.{Table}
 use Rattle.tx_eqtb.specs.Stack.{assigned_by}
-use Rattle.tx_eqtb.specs.Table.{number_at}
+use Rattle.tx_eqtb.specs.Table.{glue_at, number_at}
 use Rattle.tx_nest.specs.declared.leading.LeadingParams.{LeadingParams}
 use Rattle.tx_nest.specs.declared.leading.NestError.{NestError}
 use Rattle.tx_nest.specs.declared.list.ModeList.{ModeList}
 use Rattle.tx_nest.specs.Appended.{box_appended}
-use Rattle.tx_nest.specs.Lasts.{no_glue}
 use Rattle.tx_nest.specs.Lending.{with_top}
 use Rattle.tx_node.specs.Items.{PackedBox}
 use Rattle.tx_prim.specs.declared.dimension.DimensionParameter.TheVariants.{Lineskiplimit}
+use Rattle.tx_prim.specs.declared.glue.GlueParameter.TheVariants.{Baselineskip, Lineskip}
 use Rattle.tx_seen.specs.declared.error.TexError.TheVariants.{SizeOutOfRange}
-use Rattle.tx_seen.specs.declared.place.Place.TheVariants.{Box, Dimension}
+use Rattle.tx_seen.specs.declared.place.Place.TheVariants.{Box, Dimension, Glue}
 use Rattle.tx_shape.specs.declared.types.BoxContext.{BoxContext}
 use Rattle.tx_shape.specs.declared.types.BoxContext.TheVariants.{Append, Register, Ship}
 use Rattle.tx_box.specs.declared.parts.Lists.{Lists}
@@ -26,9 +26,9 @@ use Rattle.tx_box.specs.Effects.{Effect, leaves, leaves_due}
 abbrev pub with_list : Lists → ModeList → Lists
 with_list lists list = record lists { nest = with_top lists.nest list }
 
--- the parameters of leading; \baselineskip and \lineskip are no glue, as INITEX begins with them, until there are glue parameters
+-- the parameters of leading
 abbrev pub leading_of : Table → LeadingParams
-leading_of table = record { baseline_skip = no_glue; line_skip = no_glue; line_skip_limit = number_at table (Dimension Lineskiplimit) }
+leading_of table = record { baseline_skip = glue_at table (Glue Baselineskip); line_skip = glue_at table (Glue Lineskip); line_skip_limit = number_at table (Dimension Lineskiplimit) }
 
 -- a box that is appended, with its leading
 abbrev pub appending : Lists → Eqtb → Result ModeList NestError → Effect

@@ -2,14 +2,14 @@
 ghost use Rattle.std.specs.Prelude.{◌≡◌};
 ghost use Rattle.tx_box.specs.Building as building;
 ghost use Rattle.tx_box.specs.Placing as placing;
-ghost use Rattle.tx_eqtb.specs.Table.{number_at};
+ghost use Rattle.tx_eqtb.specs.Table.{glue_at, number_at};
 ghost use Rattle.tx_seen.specs.declared.place.Place.TheVariants as place;
 
 use tx_eqtb::Eqtb;
 use tx_nest::LeadingParams;
 use tx_num::Glue;
 use tx_pack::PackParams;
-use tx_prim::{DimensionParameter, IntegerParameter};
+use tx_prim::{DimensionParameter, GlueParameter, IntegerParameter};
 use tx_seen::Place;
 
 /// A dimension parameter, in sp.
@@ -17,6 +17,13 @@ pub(crate) fn dimension(table: &Eqtb, parameter: DimensionParameter) -> i64
     ensures { result ≡ number_at table.now.table (place.Dimension parameter) }
 {
     i64::from(table.number(&Place::Dimension(parameter)))
+}
+
+/// A glue parameter.
+fn glue(table: &Eqtb, parameter: GlueParameter) -> Glue
+    ensures { result ≡ glue_at table.now.table (place.Glue parameter) }
+{
+    table.glue(&Place::Glue(parameter))
 }
 
 /// An integer parameter.
@@ -31,8 +38,8 @@ pub(crate) fn leading_of(table: &Eqtb) -> LeadingParams
     ensures { result ≡ placing.leading_of table.now.table }
 {
     LeadingParams {
-        baseline_skip: Glue::zero(),
-        line_skip: Glue::zero(),
+        baseline_skip: glue(table, GlueParameter::Baselineskip),
+        line_skip: glue(table, GlueParameter::Lineskip),
         line_skip_limit: dimension(table, DimensionParameter::Lineskiplimit),
     }
 }

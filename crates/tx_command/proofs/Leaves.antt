@@ -1,5 +1,5 @@
 -- What is read leaves no more items than there were.
-use Rattle.std.proofs.Common.{◌≡◌, ℕ, ◌+◌, ◌*◌, ◌≤◌, ◌&&◌, Bool, true, false, cond, not, Option, Some, None, List, [], ◌∷◌, ◌++◌, length, pos, length-append, refl, arith}
+use Rattle.std.proofs.Common.{◌≡◌, ℕ, zero, suc, ◌+◌, ◌*◌, ◌≤◌, ◌&&◌, Bool, true, false, cond, not, Option, Some, None, List, [], ◌∷◌, ◌++◌, length, pos, Result, Ok, Err, length-append, refl, arith}
 use Rattle.std.specs.Prelude.{ℤ, nat_le, unsigned_abs}
 use Rattle.tx_num.specs.declared.units.PhysicalUnit.TheVariants.{Point}
 use Rattle.tx_num.specs.Decimals.{fraction_of}
@@ -9,6 +9,7 @@ use Rattle.tx_seen.specs.declared.item.Item.{Item}
 use Rattle.tx_seen.specs.declared.item.Item.TheVariants.{Took, Gave}
 use Rattle.tx_seen.specs.declared.seen.Seen.{Seen}
 use Rattle.tx_seen.specs.Seen.{is_undefined, is_space, is_point, is_key}
+use Rattle.tx_seen.specs.declared.error.TexError.{TexError}
 use Rattle.tx_seen.specs.Readings.{Reading, More, Need, Done, Wrong, next}
 use Rattle.tx_scan.specs.declared.scans.Radix.{Radix}
 use Rattle.tx_scan.specs.declared.scans.Radix.TheVariants.{Decimal}
@@ -27,11 +28,16 @@ use Rattle.tx_scan.specs.declared.scans.Amount.{Amount}
 use Rattle.tx_scan.specs.declared.scans.Amount.TheVariants.{Whole as All, Times}
 use Rattle.tx_prim.specs.declared.family.Numbered.{Numbered}
 use Rattle.tx_seen.specs.declared.place.Place.{Place}
-use Rattle.tx_seen.specs.Places.{is_size, place_of}
-use Rattle.tx_seen.specs.declared.fed.Value.TheVariants.{Int, Dimen, Flag, Absent}
+use Rattle.tx_seen.specs.Places.{has_size, place_of}
+use Rattle.tx_seen.specs.declared.fed.Value.{Value}
+use Rattle.tx_seen.specs.declared.fed.Value.TheVariants.{Int, Dimen, Glue, Muglue, Magnification, Flag, Absent}
 use Rattle.tx_scan.specs.declared.scans.Spelled.{Spelled}
-use Rattle.tx_scan.specs.declared.scans.Spelled.TheVariants.{On, Whole, Infinite, No}
-use Rattle.tx_scan.specs.Dimensions.{Factor, factor_ended, fraction, is_decimal, whole_units, first_unit, is_internal, is_size_kind, turned, amount, ended_with, quantified, numbered_unit, measured, first_letter, letter_on, spelled, unit_name, size_in, sized, unit_rest, raised, more_infinite, fil_rest, unit_ended, factored, counted, size_begun, size_signs, dimension}
+use Rattle.tx_scan.specs.declared.scans.Spelled.TheVariants.{On, Whole, Infinite, True, No}
+use Rattle.tx_scan.specs.declared.scans.Sought.{Sought}
+use Rattle.tx_scan.specs.declared.scans.Sought.TheVariants as sought
+use Rattle.tx_scan.specs.Mapped.{done_if}
+use Rattle.tx_scan.specs.Quantities.{found, numbered_value, quantity_begun, unless_whole, value_at, value_behind, value_counted}
+use Rattle.tx_scan.specs.Dimensions.{Factor, Named, A_unit, Fil_unit, True_unit, factor_ended, fraction, is_decimal, whole_units, first_unit, is_internal, is_size_kind, turned, amount, behind_true, ended_with, in_mu, magnified, mathematical, quantified, numbered_unit, measured, first_letter, first_letter_behind_true, letter_on, spelled, true_ended, true_unit, unit_name, size_in, sized, unit_rest, raised, more_infinite, fil_rest, unit_ended, factored, counted, size_begun, size_signs, dimension}
 
 -- at most so many items are behind what is read, with those that it keeps itself
 abbrev pub LeavesBy : {A : Type 0} → (A → List Item) → ℕ → Reading A → Type 0
@@ -156,6 +162,9 @@ leaves-in-range n rest = leaves-if none_kept _ (is_in_range n) _ _ (omega arith)
 leaves-given : (item : Item) (rest : List Item) → Leaves (length rest) (given item rest)
 leaves-given (Gave (Int n)) rest = leaves-in-range n rest
 leaves-given (Gave (Dimen n)) rest = leaves-in-range n rest
+leaves-given (Gave (Glue g)) rest = leaves-in-range g.width rest
+leaves-given (Gave (Muglue g)) rest = tt
+leaves-given (Gave (Magnification n)) rest = tt
 leaves-given (Gave (Flag b)) rest = tt
 leaves-given (Gave Absent) rest = tt
 leaves-given (Took t) rest = tt
@@ -205,10 +214,11 @@ leaves-number (Took t ∷ rest) outers negative =
     leaves-number-begun outers negative (λ outers negative. signs outers negative rest) rest (beginning t) (length (Took t ∷ rest)) (omega arith)
     (λ outers negative. leaves-more none_kept (length rest) (length (Took t ∷ rest)) (signs outers negative rest) (omega arith) (leaves-number rest outers negative))
 
-leaves-spelled : (n : ℕ) (on : Letters → Reading (Option UnitName)) (spelling : Spelled) (rest : List Item) → length rest ≤ n → ((letters : Letters) → Leaves n (on letters)) → Leaves n (spelled on spelling rest)
+leaves-spelled : (n : ℕ) (on : Letters → Reading Named) (spelling : Spelled) (rest : List Item) → length rest ≤ n → ((letters : Letters) → Leaves n (on letters)) → Leaves n (spelled on spelling rest)
 leaves-spelled n on (On letters) rest h k = k letters
 leaves-spelled n on (Whole unit) rest h k = h
 leaves-spelled n on Infinite rest h k = h
+leaves-spelled n on True rest h k = h
 leaves-spelled n on No rest h k = tt
 
 leaves-name : (units : Units) (items : List Item) (letters : Letters) → Leaves (length items) (unit_name units letters items)
@@ -242,12 +252,120 @@ leaves-fil negative whole part (Took t ∷ rest) order =
     (leaves-if none_kept _ (is_key (character "l") t) _ _ (leaves-raised (length (Took t ∷ rest)) (raised order) (λ more. fil_rest negative whole part more rest) later)
     (leaves-sized negative (size_of Point whole part) order (Took t ∷ rest) (length (Took t ∷ rest)) (omega arith))))
 
-leaves-unit-ended : (negative : Bool) (whole part : ℕ) (unit : Option UnitName) (items : List Item) → Leaves (length items) (unit_ended negative whole part unit items)
-leaves-unit-ended negative whole part None items = leaves-fil negative whole part items Fil
-leaves-unit-ended negative whole part (Some unit) items = leaves-unit-rest negative whole part unit items
+leaves-named : (units : Units) (spelling : Spelled) (rest : List Item) → Leaves (suc (length rest)) (spelled (λ more. unit_name units more rest) spelling rest)
+leaves-named units spelling rest =
+    leaves-spelled (suc (length rest)) (λ more. unit_name units more rest) spelling rest (omega arith)
+    (λ letters. leaves-more none_kept (length rest) (suc (length rest)) (unit_name units letters rest) (omega arith) (leaves-name units rest letters))
 
-leaves-internal : (units : Units) (negative : Bool) (part : ℕ) (a : Amount) (n : ℤ) (rest : List Item) (m : ℕ) → length rest ≤ m → Leaves m (ended_with units negative part a n rest)
-leaves-internal units negative part a n rest m h = leaves-if none_kept m units.mu _ _ tt (leaves-sized (turned negative n) (amount part a (unsigned_abs n)) Normal rest m h)
+leaves-true-ended : (negative : Bool) (told : ℕ × ℕ) (named : Named) (items : List Item) → Leaves (length items) (true_ended negative told named items)
+leaves-true-ended negative told (A_unit unit) items = leaves-unit-rest negative told.0 told.1 unit items
+leaves-true-ended negative told Fil_unit items = leaves-fil negative told.0 told.1 items Fil
+leaves-true-ended negative told True_unit items = tt
+
+leaves-true-unit : (units : Units) (negative : Bool) (told : ℕ × ℕ) (items : List Item) → Leaves (length items) (true_unit units negative told items)
+leaves-true-unit units negative told [] = tt
+leaves-true-unit units negative told (Gave v ∷ rest) = tt
+leaves-true-unit units negative told (Took t ∷ rest) =
+    leaves-if none_kept _ (is_undefined t) _ _ tt
+    (leaves-if none_kept _ (is_space t) _ _ (leaves-more none_kept (length rest) (length (Took t ∷ rest)) (true_unit units negative told rest) (omega arith) (leaves-true-unit units negative told rest))
+    (leaves-next none_kept none_kept (length (Took t ∷ rest)) (length (Took t ∷ rest)) (spelled (λ more. unit_name units more rest) (first_letter_behind_true t) rest) (true_ended negative told)
+    (leaves-named units (first_letter_behind_true t) rest)
+    (λ named after l. leaves-more none_kept (length after) (length (Took t ∷ rest)) (true_ended negative told named after) l (leaves-true-ended negative told named after))))
+
+leaves-behind-true : (units : Units) (negative : Bool) (whole part : ℕ) (items : List Item) → Leaves (length items) (behind_true units negative whole part items)
+leaves-behind-true units negative whole part [] = tt
+leaves-behind-true units negative whole part (Took t ∷ rest) = tt
+leaves-behind-true units negative whole part (Gave (Int n) ∷ rest) = tt
+leaves-behind-true units negative whole part (Gave (Dimen n) ∷ rest) = tt
+leaves-behind-true units negative whole part (Gave (Glue g) ∷ rest) = tt
+leaves-behind-true units negative whole part (Gave (Muglue g) ∷ rest) = tt
+leaves-behind-true units negative whole part (Gave (Magnification zero) ∷ rest) = tt
+leaves-behind-true units negative whole part (Gave (Magnification (suc mag)) ∷ rest) =
+    leaves-more none_kept (length rest) (suc (length rest)) (true_unit units negative (magnified whole part (suc mag)) rest) (omega arith) (leaves-true-unit units negative (magnified whole part (suc mag)) rest)
+leaves-behind-true units negative whole part (Gave (Flag b) ∷ rest) = tt
+leaves-behind-true units negative whole part (Gave Absent ∷ rest) = tt
+
+leaves-unit-ended : (units : Units) (negative : Bool) (whole part : ℕ) (named : Named) (items : List Item) → Leaves (length items) (unit_ended units negative whole part named items)
+leaves-unit-ended units negative whole part Fil_unit items = leaves-fil negative whole part items Fil
+leaves-unit-ended units negative whole part True_unit items = leaves-behind-true units negative whole part items
+leaves-unit-ended units negative whole part (A_unit unit) items = leaves-unit-rest negative whole part unit items
+
+leaves-internal : (negative : Bool) (part : ℕ) (a : Amount) (n : ℤ) (rest : List Item) (m : ℕ) → length rest ≤ m → Leaves m (ended_with negative part a n rest)
+leaves-internal negative part a n rest m h = leaves-sized (turned negative n) (amount part a (unsigned_abs n)) Normal rest m h
+
+-- internal quantities
+leaves-found : (item : Item) (rest : List Item) (n : ℕ) → length rest ≤ n → Leaves n (found item rest)
+leaves-found (Gave (Int m)) rest n h = h
+leaves-found (Gave (Dimen m)) rest n h = h
+leaves-found (Gave (Glue g)) rest n h = h
+leaves-found (Gave (Muglue g)) rest n h = h
+leaves-found (Gave (Magnification m)) rest n h = h
+leaves-found (Gave (Flag b)) rest n h = h
+leaves-found (Gave Absent) rest n h = tt
+leaves-found (Took t) rest n h = tt
+
+leaves-value-at : (place : Place) (items : List Item) (n : ℕ) → length items ≤ n → Leaves n (value_at place items)
+leaves-value-at place [] n h = tt
+leaves-value-at place (item ∷ rest) n h = leaves-found item rest n (omega (arith, h))
+
+leaves-counted : (what : Sought) (number : Option ℕ) (behind items : List Item) (n : ℕ) → length behind + length items ≤ n → Leaves n (value_counted what number behind items)
+leaves-counted what None behind items n h = tt
+leaves-counted what (Some m) behind [] n h = tt
+leaves-counted what (Some m) behind (item ∷ rest) n h =
+    let all : length (behind ++ rest) ≡ length behind + length rest = length-append behind rest in
+    leaves-found item (behind ++ rest) n (omega (arith, all, h))
+
+leaves-unless : (what : Sought) (reading : Reading ℤ) (items : List Item) (on : Reading Value) (m n : ℕ) → m + length items ≤ n → Leaves m reading → Leaves n on → Leaves n (unless_whole what reading items on)
+leaves-unless what (More want) items on m n h l k = k
+leaves-unless what (Need kind) items on m n h l k = k
+leaves-unless what (Done number behind) items on m n h l k = leaves-counted what (byte_of number) behind items n (omega (arith, h, l))
+leaves-unless what (Wrong error) items on m n h l k = tt
+
+leaves-value-behind : (what : Sought) (items : List Item) (number : List Item → Reading ℤ) (m : ℕ) → ((more : List Item) → Leaves (m + length more) (number more)) → Leaves (m + length items) (value_behind what number items)
+leaves-value-behind what [] number m k =
+    leaves-next none_kept none_kept (m + 0) (m + 0) (number []) (λ n behind. value_counted what (byte_of n) behind []) (k []) (λ n behind l. leaves-counted what (byte_of n) behind [] (m + 0) (omega (arith, l)))
+leaves-value-behind what (item ∷ rest) number m k =
+    leaves-unless what (number []) (item ∷ rest) (value_behind what (λ more. number (item ∷ more)) rest) (m + 0) (m + length (item ∷ rest)) (omega arith) (k [])
+    (leaves-more none_kept (suc m + length rest) (m + length (item ∷ rest)) (value_behind what (λ more. number (item ∷ more)) rest) (omega arith)
+    (leaves-value-behind what rest (λ more. number (item ∷ more)) (suc m) (λ more. leaves-more none_kept (m + length (item ∷ more)) (suc m + length more) (number (item ∷ more)) (omega arith) (k (item ∷ more)))))
+
+leaves-numbered-value : (what : Sought) (items : List Item) (n : ℕ) → length items ≤ n → Leaves n (numbered_value what items)
+leaves-numbered-value what items n h =
+    leaves-more none_kept (0 + length items) n (numbered_value what items) (omega (arith, h))
+    (leaves-value-behind what items integer 0 (λ more. leaves-more none_kept (length more) (0 + length more) (integer more) (omega arith) (leaves-number more [] false)))
+
+leaves-quantity-begun : (b : Beginning) (rest : List Item) (n : ℕ) → length rest ≤ n → Leaves n (quantity_begun b rest)
+leaves-quantity-begun begin.Plus rest n h = tt
+leaves-quantity-begun begin.Minus rest n h = tt
+leaves-quantity-begun (begin.Digit d) rest n h = tt
+leaves-quantity-begun (begin.Digits radix) rest n h = tt
+leaves-quantity-begun begin.Character rest n h = tt
+leaves-quantity-begun begin.Point rest n h = tt
+leaves-quantity-begun (begin.Number m) rest n h = tt
+leaves-quantity-begun (begin.At place) rest n h = leaves-value-at place rest n h
+leaves-quantity-begun (begin.Numbered kind) rest n h = leaves-numbered-value (sought.Numbered kind) rest n h
+leaves-quantity-begun (begin.Nothing error) rest n h = tt
+
+leaves-done-if : {A : Type 0} (result : Result A TexError) (rest : List Item) (n : ℕ) → length rest ≤ n → Leaves n (done_if result rest)
+leaves-done-if (Ok value) rest n h = h
+leaves-done-if (Err error) rest n h = tt
+
+leaves-mathematical : (negative : Bool) (part : ℕ) (a : Amount) (b : Beginning) (rest : List Item) (n : ℕ) → length rest ≤ n → Leaves n (next (quantity_begun b rest) (λ value rest. done_if (mathematical negative part a value) rest))
+leaves-mathematical negative part a b rest n h =
+    leaves-next none_kept none_kept n n (quantity_begun b rest) (λ value rest. done_if (mathematical negative part a value) rest) (leaves-quantity-begun b rest n h)
+    (λ value after l. leaves-done-if (mathematical negative part a value) after n l)
+
+leaves-in-mu : (negative : Bool) (part : ℕ) (a : Amount) (b : Beginning) (rest : List Item) (n : ℕ) → length rest ≤ n → Leaves n (in_mu negative part a b rest)
+leaves-in-mu negative part a begin.Plus rest n h = tt
+leaves-in-mu negative part a begin.Minus rest n h = tt
+leaves-in-mu negative part a (begin.Digit d) rest n h = tt
+leaves-in-mu negative part a (begin.Digits radix) rest n h = tt
+leaves-in-mu negative part a begin.Character rest n h = tt
+leaves-in-mu negative part a begin.Point rest n h = tt
+leaves-in-mu negative part a (begin.Number m) rest n h = tt
+leaves-in-mu negative part a (begin.At place) rest n h = leaves-mathematical negative part a (begin.At place) rest n h
+leaves-in-mu negative part a (begin.Numbered kind) rest n h = leaves-mathematical negative part a (begin.Numbered kind) rest n h
+leaves-in-mu negative part a (begin.Nothing error) rest n h = tt
 
 leaves-measured : (units : Units) (negative : Bool) (whole part : ℕ) (items : List Item) → Leaves (length items) (measured units negative whole part items)
 leaves-measured units negative whole part [] = tt
@@ -256,21 +374,22 @@ leaves-measured units negative whole part (Took t ∷ rest) =
     leaves-if none_kept _ (is_undefined t) _ _ tt
     (leaves-if none_kept _ (is_space t) _ _ (leaves-more none_kept (length rest) (length (Took t ∷ rest)) (measured units negative whole part rest) (omega arith) (leaves-measured units negative whole part rest))
     (leaves-if none_kept _ (is_internal (beginning t)) _ _
-    (leaves-next none_kept none_kept (length (Took t ∷ rest)) (length (Took t ∷ rest)) (integer (Took t ∷ rest)) (ended_with units negative part (Times whole)) (leaves-number (Took t ∷ rest) [] false)
-    (λ n after l. leaves-internal units negative part (Times whole) n after (length (Took t ∷ rest)) l))
-    (leaves-next none_kept none_kept (length (Took t ∷ rest)) (length (Took t ∷ rest)) (spelled (λ more. unit_name units more rest) (first_letter units t) rest) (unit_ended negative whole part)
-    (leaves-spelled (length (Took t ∷ rest)) (λ more. unit_name units more rest) (first_letter units t) rest (omega arith)
-    (λ letters. leaves-more none_kept (length rest) (length (Took t ∷ rest)) (unit_name units letters rest) (omega arith) (leaves-name units rest letters)))
-    (λ unit after l. leaves-more none_kept (length after) (length (Took t ∷ rest)) (unit_ended negative whole part unit after) l (leaves-unit-ended negative whole part unit after)))))
+    (leaves-if none_kept _ units.mu _ _ (leaves-in-mu negative part (Times whole) (beginning t) rest (length (Took t ∷ rest)) (omega arith))
+    (leaves-next none_kept none_kept (length (Took t ∷ rest)) (length (Took t ∷ rest)) (integer (Took t ∷ rest)) (ended_with negative part (Times whole)) (leaves-number (Took t ∷ rest) [] false)
+    (λ n after l. leaves-internal negative part (Times whole) n after (length (Took t ∷ rest)) l)))
+    (leaves-next none_kept none_kept (length (Took t ∷ rest)) (length (Took t ∷ rest)) (spelled (λ more. unit_name units more rest) (first_letter units t) rest) (unit_ended units negative whole part)
+    (leaves-named units (first_letter units t) rest)
+    (λ named after l. leaves-more none_kept (length after) (length (Took t ∷ rest)) (unit_ended units negative whole part named after) l (leaves-unit-ended units negative whole part named after)))))
 
 leaves-factored : (units : Units) (negative : Bool) (f : Factor) (rest : List Item) (n : ℕ) → length (f.behind ++ rest) ≤ n → Leaves n (factored units negative f rest)
 leaves-factored units negative f rest n h =
     leaves-more none_kept (length (f.behind ++ rest)) n (measured units negative f.whole (fraction_of f.digits) (f.behind ++ rest)) h (leaves-measured units negative f.whole (fraction_of f.digits) (f.behind ++ rest))
 
-leaves-quantified : (units : Units) (negative b : Bool) (reading : Reading ℤ) (n : ℕ) → Leaves n reading → Leaves n (quantified units negative b reading)
-leaves-quantified units negative true reading n l =
-    leaves-next none_kept none_kept n n reading (ended_with units negative 0 All) l (λ m after k. leaves-internal units negative 0 All m after n k)
-leaves-quantified units negative false reading n l =
+leaves-quantified : (units : Units) (negative b : Bool) (reading : Reading ℤ) (begun : Beginning) (rest : List Item) (n : ℕ) → length rest ≤ n → Leaves n reading → Leaves n (quantified units negative b reading begun rest)
+leaves-quantified units negative true reading begun rest n h l =
+    leaves-if none_kept n units.mu _ _ (leaves-in-mu negative 0 All begun rest n h)
+    (leaves-next none_kept none_kept n n reading (ended_with negative 0 All) l (λ m after k. leaves-internal negative 0 All m after n k))
+leaves-quantified units negative false reading begun rest n h l =
     leaves-next none_kept none_kept n n reading (numbered_unit units negative) l
     (λ m after k. leaves-more none_kept (length after) n (numbered_unit units negative m after) k (leaves-measured units (turned negative m) (unsigned_abs m) (fraction_of []) after))
 
@@ -286,9 +405,9 @@ leaves-begun units negative on number rest begin.Point n h l k =
 leaves-begun units negative on number rest begin.Character n h l k =
     leaves-next behind_number none_kept (length rest) n (character_code rest) (counted units negative) (leaves-code rest)
     (λ c behind e. leaves-factored units negative (record { whole = c.number; digits = []; behind = c.behind }) behind n (omega arith))
-leaves-begun units negative on number rest (begin.Number m) n h l k = leaves-quantified units negative false number n l
-leaves-begun units negative on number rest (begin.At place) n h l k = leaves-quantified units negative (is_size place) number n l
-leaves-begun units negative on number rest (begin.Numbered kind) n h l k = leaves-quantified units negative (is_size_kind kind) number n l
+leaves-begun units negative on number rest (begin.Number m) n h l k = leaves-quantified units negative false number (begin.Number m) rest n h l
+leaves-begun units negative on number rest (begin.At place) n h l k = leaves-quantified units negative (has_size place) number (begin.At place) rest n h l
+leaves-begun units negative on number rest (begin.Numbered kind) n h l k = leaves-quantified units negative (is_size_kind kind) number (begin.Numbered kind) rest n h l
 leaves-begun units negative on number rest (begin.Nothing error) n h l k = tt
 
 leaves-signs : (units : Units) (items : List Item) (negative : Bool) → Leaves (length items) (size_signs units negative items)

@@ -1,14 +1,18 @@
 -- Each part of a command reads on as its scan.
-use Rattle.std.proofs.Common.{◌≡◌, ◌≤◌, ◌||◌, ℕ, true, false, cond, List, [], ◌∷◌, ◌++◌, length, Result, Ok, Err, IfOk, refl, ap, sym, subst, ◌∙◌, arith}
+use Rattle.std.proofs.Common.{◌≡◌, ◌≤◌, ◌||◌, ℕ, true, false, cond, Some, List, [], ◌∷◌, ◌++◌, length, Result, Ok, Err, IfOk, refl, ap, sym, subst, ◌∙◌, arith}
 use Rattle.tx_node.specs.declared.rule.Rule.{Rule}
 use Rattle.tx_prim.specs.declared.family.AfterKind.{AfterKind}
 use Rattle.tx_prim.specs.declared.family.DefinitionKind.{DefinitionKind}
+use Rattle.tx_prim.specs.declared.family.GlueForm.{GlueForm}
+use Rattle.tx_prim.specs.declared.family.LeadersKind.{LeadersKind}
 use Rattle.tx_prim.specs.declared.family.RuleKind.{RuleKind}
+use Rattle.tx_prim.specs.declared.primitive.Primitive.TheVariants.{Rule as Rule_primitive}
+use Rattle.tx_seen.specs.declared.meaning.Meaning.TheVariants.{Command as Command_meaning}
 use Rattle.tx_prim.specs.declared.family.Shorthand.{Shorthand}
 use Rattle.tx_prim.specs.declared.family.SizeKind.{SizeKind}
 use Rattle.tx_prim.specs.declared.modes.Mode.{Mode}
 use Rattle.tx_seen.specs.declared.error.TexError.TheVariants.{NotAllowed, NoAssignment}
-use Rattle.tx_seen.specs.Seen.{is_space, is_relax}
+use Rattle.tx_seen.specs.Seen.{is_space, is_relax, is_undefined}
 use Rattle.tx_seen.specs.declared.fed.Fed.{Fed}
 use Rattle.tx_seen.specs.declared.fed.Fed.TheVariants as fed
 use Rattle.tx_seen.specs.declared.fed.Value.{Value}
@@ -29,9 +33,10 @@ use Rattle.tx_assign.specs.declared.types.Assigning.{Assigning}
 use Rattle.tx_assign.specs.declared.types.Assigning.TheVariants.{Named}
 use Rattle.tx_assign.specs.declared.types.Assignment.{Assignment}
 use Rattle.tx_assign.specs.Assignments.{assignment}
-use Rattle.tx_assign.specs.Rests.{rest as assign_rest, held as assign_held, more_needed as assign_needed, IsBegun}
+use Rattle.tx_assign.specs.Rests.{rest as assign_rest, held as assign_held, more_needed as assign_needed, IsBegun, WaitsIfNeeded as WaitsIfAssigning}
 use Rattle.tx_shape.specs.declared.types.Shaped.{Shaped}
 use Rattle.tx_shape.specs.declared.types.Shaping.{Shaping}
+use Rattle.tx_shape.specs.declared.types.Shaping.TheVariants as shape_glue
 use Rattle.tx_shape.specs.Boxes.{shape}
 use Rattle.tx_shape.specs.Rests.{rest as shape_rest, held as shape_held, needed as shape_needed, Begins as BeginsShape, WaitsIfNeeded}
 use Rattle.tx_shape.proofs.Amounts.{none-waits}
@@ -42,9 +47,9 @@ use Rattle.tx_command.specs.declared.scans.Stage.TheVariants as stage
 use Rattle.tx_command.specs.declared.types.Command.{Command}
 use Rattle.tx_command.specs.declared.types.Command.TheVariants.{Nothing, Assign, Keep}
 use Rattle.tx_command.specs.declared.types.Head.{Head}
-use Rattle.tx_command.specs.declared.types.Head.TheVariants.{Fresh, Prefixed, Defining, Future}
+use Rattle.tx_command.specs.declared.types.Head.TheVariants.{Fresh, Prefixed, Defining, Future, Leading}
 use Rattle.tx_command.specs.declared.types.Prefixes.{Prefixes}
-use Rattle.tx_command.specs.Commands.{command, command_meant, future_defining, future_of, future_second, keeping, macro_defining, fresh_command, may_be_prefixed, prefixed_command, assigning, defining, ruling, sizing, skipping, command_of, shaping}
+use Rattle.tx_command.specs.Commands.{command, command_meant, future_defining, future_of, future_second, keeping, macro_defining, fresh_command, may_be_prefixed, prefixed_command, assigning, defining, leaders_of, leaders_rule, leading_command, leading_glue, led_by, repeated, ruling, sizing, skipping, command_of, shaping}
 use Rattle.tx_command.specs.Standing.{may_stand}
 use Rattle.tx_scan.proofs.Answering.{ending-none}
 use Rattle.tx_scan.specs.Mapped.{mapped}
@@ -94,6 +99,12 @@ rule-goes f kind new (fed.Need need) is k = rw is k
 rule-goes f kind new (fed.Done a back) is k = tt
 rule-goes f kind new (fed.Wrong error) is k = tt
 
+pub led-goes : (f : Rule → Command) (kind : LeadersKind) (new : Scans) (answer : Fed Rule) → new.stage ≡ stage.LeadersRule kind → IsRuleFed new.rule answer → GoesOn new (mapped f answer)
+led-goes f kind new (fed.More want) is k = rw is k
+led-goes f kind new (fed.Need need) is k = rw is k
+led-goes f kind new (fed.Done a back) is k = tt
+led-goes f kind new (fed.Wrong error) is k = tt
+
 -- the same of values
 pub part-behind : {S A : Type 0} (part : Rest S A) (part_held : S → ℕ) (f : A → Command) (s : Stage) (mode : Mode) (head : Head) (was is : S) (old new : Scans) (v : Value) (t : Seen) (answer : Fed A) → old.stage ≡ s → new.stage ≡ s → ((behind : List Item) (item : Item) (more : List Item) → stage_rest mode head s old behind item more ≡ next (part was behind item more) (λ a rest. Done (f a) rest)) → stage_held s old ≡ part_held was → ((behind : List Item) (item : Item) (more : List Item) → stage_rest mode head s new behind item more ≡ next (part is behind item more) (λ a rest. Done (f a) rest)) → stage_held s new ≡ part_held is → IsGivenBehind part part_held was v t is answer → IsGivenBehind (command_rest mode head) held old v t new (mapped f answer)
 part-behind part part_held f s mode head was is old new v t answer at_old at_new old_reads old_holds new_reads new_holds k =
@@ -120,9 +131,15 @@ rule-needs f kind old new answer was is k = rw (was, is) (needs-mapped f (rule_n
 pub rule-fewer : (f : Rule → Command) (kind : RuleKind) (old new : Scans) (answer : Fed Rule) → old.stage ≡ stage.Rule kind → new.stage ≡ stage.Rule kind → NeedsFewer (rule_needed old.rule) (rule_needed new.rule) answer → NeedsFewer (more_needed old) (more_needed new) (mapped f answer)
 rule-fewer f kind old new answer was is k = rw (was, is) (fewer-mapped f (rule_needed old.rule) (rule_needed new.rule) answer k)
 
-pub assign-goes : (new : Scans) (answer : Fed Assignment) → new.stage ≡ stage.Assign → HoldsOne (assign_held new.assignment) answer → GoesOn new (mapped Assign answer)
+pub led-needs : (f : Rule → Command) (kind : LeadersKind) (old new : Scans) (answer : Fed Rule) → old.stage ≡ stage.LeadersRule kind → new.stage ≡ stage.LeadersRule kind → NeedsNoMore (rule_needed old.rule) (rule_needed new.rule) answer → NeedsNoMore (more_needed old) (more_needed new) (mapped f answer)
+led-needs f kind old new answer was is k = rw (was, is) (needs-mapped f (rule_needed old.rule) (rule_needed new.rule) answer k)
+
+pub led-fewer : (f : Rule → Command) (kind : LeadersKind) (old new : Scans) (answer : Fed Rule) → old.stage ≡ stage.LeadersRule kind → new.stage ≡ stage.LeadersRule kind → NeedsFewer (rule_needed old.rule) (rule_needed new.rule) answer → NeedsFewer (more_needed old) (more_needed new) (mapped f answer)
+led-fewer f kind old new answer was is k = rw (was, is) (fewer-mapped f (rule_needed old.rule) (rule_needed new.rule) answer k)
+
+pub assign-goes : (new : Scans) (answer : Fed Assignment) → new.stage ≡ stage.Assign → WaitsIfAssigning new.assignment answer → GoesOn new (mapped Assign answer)
 assign-goes new (fed.More want) is k = rw is tt
-assign-goes new (fed.Need kind) is k = rw is (tt, k)
+assign-goes new (fed.Need kind) is k = rw is (k, k.1)
 assign-goes new (fed.Done a back) is k = tt
 assign-goes new (fed.Wrong error) is k = tt
 
@@ -175,6 +192,14 @@ one-token mode head reading t new answer k = record {
   goes_on = k.goes_on;
 }
 
+-- leaders, behind which a rule is to come
+pub leaders-fed : (mode : Mode) (head : Head) (kind : LeadersKind) (t : Seen) (old new : Scans) (answer : Fed Command) → old.stage ≡ stage.Leaders kind → Begins (λ more. leaders_of kind (Took t ∷ more)) new answer → IsFedBy (command_rest mode head) held old t new answer
+leaders-fed mode head kind t old new answer was k =
+    fed-first (command_rest mode head) held old t new answer (rw was refl) (rw was (one-token mode head (λ more. leaders_of kind (Took t ∷ more)) t new answer (k mode head)).reads)
+
+pub leaders-needs : (mode : Mode) (head : Head) (kind : LeadersKind) (t : Seen) (old new : Scans) (answer : Fed Command) → old.stage ≡ stage.Leaders kind → Begins (λ more. leaders_of kind (Took t ∷ more)) new answer → NeedsNoMore (more_needed old) (more_needed new) answer
+leaders-needs mode head kind t old new answer was k = rw was (k mode head).needs
+
 -- the parts that a first token begins
 pub name-begun : (kind : Shorthand) (new : Scans) (want : Want) → defining kind [] ≡ More want → new.stage ≡ stage.Name kind → Begins (defining kind) new (fed.More want)
 name-begun kind new want wants is = λ mode head. record { reads = (wants, rw is (omega arith), λ item more. rw is refl); needs = rw is (omega arith); goes_on = rw is tt }
@@ -208,9 +233,30 @@ assign-begun begun want new wants is k few = λ mode head. record {
   goes_on = rw is tt;
 }
 
+pub leaders-begun : (kind : LeadersKind) (new : Scans) → new.stage ≡ stage.Leaders kind → Begins (leaders_of kind) new (fed.More Expanded)
+leaders-begun kind new is = λ mode head. record { reads = (refl, rw is (omega arith), λ item more. rw is refl); needs = rw is (omega arith); goes_on = rw is tt }
+
+led-begun : (kind : LeadersKind) (direction : RuleKind) (new : Scans) → new.stage ≡ stage.LeadersRule kind → new.rule.rule ≡ plain_rule direction → new.rule.part ≡ rule.Start → Begins (leaders_rule kind direction) new (fed.More Expanded)
+led-begun kind direction new is same part = λ mode head. record { reads = (refl, rw (is, part) (omega arith), λ item more. rw (is, part, same) refl); needs = rw (is, part) (omega arith); goes_on = rw (is, part) tt }
+
+-- what is skipped before the rule that leaders repeat, and its first token
+pub leaders-skip : (kind : LeadersKind) (t : Seen) (new : Scans) → is_undefined t ≡ false → (is_space t || is_relax t) ≡ true → new.stage ≡ stage.Leaders kind → Begins (λ more. leaders_of kind (Took t ∷ more)) new (fed.More Expanded)
+leaders-skip kind t new u s is = λ mode head.
+    alike mode head 0 (λ more. leaders_of kind (Took t ∷ more)) (leaders_of kind) [] new (fed.More Expanded) (λ more. rw (u, s) refl) (leaders-begun kind new is mode head)
+
+pub leaders-ruled : (kind : LeadersKind) (direction : RuleKind) (t : Seen) (new : Scans) → is_undefined t ≡ false → (is_space t || is_relax t) ≡ false → t.meaning ≡ Command_meaning (Rule_primitive direction) → new.stage ≡ stage.LeadersRule kind → new.rule.rule ≡ plain_rule direction → new.rule.part ≡ rule.Start → Begins (λ more. leaders_of kind (Took t ∷ more)) new (fed.More Expanded)
+leaders-ruled kind direction t new u s means is same part = λ mode head.
+    alike mode head 0 (λ more. leaders_of kind (Took t ∷ more)) (leaders_rule kind direction) [] new (fed.More Expanded) (λ more. rw (u, s) (ap (λ m. repeated kind m more) means)) (led-begun kind direction new is same part mode head)
+
+-- glue behind leaders
+pub leading-glued : (mode : Mode) (form : GlueForm) (t : Seen) (new : Scans) (answer : Fed Command) → is_undefined t ≡ false → (is_space t || is_relax t) ≡ false → leading_glue mode t.meaning ≡ Some form → Begins (shaping (shape_glue.Glue form)) new answer → Begins (λ more. leading_command mode (Took t ∷ more)) new answer
+leading-glued mode form t new answer u s found k = λ m head.
+    alike m head 0 (λ more. leading_command mode (Took t ∷ more)) (λ more. shaping (shape_glue.Glue form) more) [] new answer
+    (λ more. rw (u, s) (ap (λ f. led_by f more) found)) (k m head)
+
 -- the first token behind a name that is defined
-pub first-assigned : (mode : Mode) (head : Head) (begun : Assigning) (old : AssignScan) (new : Scans) (t : Seen) (answer : Fed Assignment) → new.stage ≡ stage.Assign → IsBegun begun old → assign_needed old ≤ 1 → IsFedBy assign_rest assign_held old t new.assignment answer → NeedsNoMore (assign_needed old) (assign_needed new.assignment) answer → HoldsOne (assign_held new.assignment) answer → IsBegunBy mode head 1 (λ more. assigning begun (Took t ∷ more)) (Took t ∷ []) new (mapped Assign answer)
-first-assigned mode head begun old new t answer is k few fits needs one =
+pub first-assigned : (mode : Mode) (head : Head) (begun : Assigning) (old : AssignScan) (new : Scans) (t : Seen) (answer : Fed Assignment) → new.stage ≡ stage.Assign → IsBegun begun old → assign_needed old ≤ 1 → IsFedBy assign_rest assign_held old t new.assignment answer → NeedsNoMore (assign_needed old) (assign_needed new.assignment) answer → WaitsIfAssigning new.assignment answer → IsBegunBy mode head 1 (λ more. assigning begun (Took t ∷ more)) (Took t ∷ []) new (mapped Assign answer)
+first-assigned mode head begun old new t answer is k few fits needs waits =
     let h : length {A = Item} [] ≤ assign_held old = omega arith in
     record {
       reads = same-read (command_rest mode head) held 1 (λ more. assigning begun (Took t ∷ more)) (λ more. next (assign_rest old [] (Took t) more) (λ a rest. Done (Assign a) rest)) (Took t ∷ []) new (mapped Assign answer)
@@ -218,7 +264,7 @@ first-assigned mode head begun old new t answer is k few fits needs one =
           (mapped-read assign_rest assign_held (command_rest mode head) held Assign 1 (λ more. assign_rest old [] (Took t) more) (Took t ∷ []) new.assignment new answer
           (λ behind item more. ap (λ s. stage_rest mode head s new behind item more) is) (ap (λ s. stage_held s new) is) (rw k.0 at (fits [] h)));
       needs = rw is (needs-mapped Assign 1 (assign_needed new.assignment) answer (needs-least (assign_needed old) 1 (assign_needed new.assignment) answer few needs));
-      goes_on = assign-goes new answer is one;
+      goes_on = assign-goes new answer is waits;
     }
 
 pub named-begun : (name same : Place) (kind : Shorthand) (scan : AssignScan) → name ≡ same → IsBegun (Named name kind) scan → IsBegun (Named same kind) scan
@@ -242,6 +288,9 @@ first-fresh mode head t new answer e k = rw e (one-token mode Fresh (λ more. fr
 
 pub first-prefixed : (mode : Mode) (head : Head) (prefixes : Prefixes) (t : Seen) (new : Scans) (answer : Fed Command) → head ≡ Prefixed prefixes → Begins (λ more. prefixed_command prefixes (Took t ∷ more)) new answer → IsBegunBy mode head 1 (λ more. command mode head (Took t ∷ more)) (Took t ∷ []) new answer
 first-prefixed mode head prefixes t new answer e k = rw e (one-token mode (Prefixed prefixes) (λ more. prefixed_command prefixes (Took t ∷ more)) t new answer (k mode (Prefixed prefixes)))
+
+pub first-leading : (mode : Mode) (head : Head) (kind : LeadersKind) (sides : Rule) (t : Seen) (new : Scans) (answer : Fed Command) → head ≡ Leading kind sides → Begins (λ more. leading_command mode (Took t ∷ more)) new answer → IsBegunBy mode head 1 (λ more. command mode head (Took t ∷ more)) (Took t ∷ []) new answer
+first-leading mode head kind sides t new answer e k = rw e (one-token mode (Leading kind sides) (λ more. leading_command mode (Took t ∷ more)) t new answer (k mode (Leading kind sides)))
 
 pub first-defining : {E : Type 0} (mode : Mode) (head : Head) (prefixes : Prefixes) (name : Place) (kind : Shorthand) (t : Seen) (new : Scans) (answer : Result (Fed Command) E) → head ≡ Defining prefixes name kind → ((m : Mode) (h : Head) → IfOk answer (IsBegunBy m h 1 (λ more. assigning (Named name kind) (Took t ∷ more)) (Took t ∷ []) new)) → IfOk answer (IsBegunBy mode head 1 (λ more. command mode head (Took t ∷ more)) (Took t ∷ []) new)
 first-defining mode head prefixes name kind t new (Ok answer) e k = rw e (k mode (Defining prefixes name kind))

@@ -1,17 +1,21 @@
 -- The commands, as items at the front of a list (TeX: The Program, part 46 on; The TeXbook, chapters 24 to 26): first the mode, then
 -- what the command takes, by its family.
-use Rattle.std.specs.Prelude.{ℕ, ◌∷◌, [], ◌||◌, Bool, true, false, not, List, if◌then◌else◌}
+use Rattle.std.specs.Prelude.{ℕ, ◌∷◌, [], ◌||◌, Bool, true, false, not, List, Option, Some, None, if◌then◌else◌}
 use Rattle.tx_char.specs.declared.category.Cat.{Cat}
 use Rattle.tx_char.specs.declared.category.Cat.TheVariants as category
 use Rattle.tx_prim.specs.declared.family.AfterKind.{AfterKind}
 use Rattle.tx_prim.specs.declared.family.DefinitionKind.{DefinitionKind}
+use Rattle.tx_node.specs.declared.rule.Rule.{Rule as Rule_sides}
+use Rattle.tx_prim.specs.declared.family.GlueForm.{GlueForm}
+use Rattle.tx_prim.specs.declared.family.LeadersKind.{LeadersKind}
 use Rattle.tx_prim.specs.declared.family.RuleKind.{RuleKind}
 use Rattle.tx_prim.specs.declared.family.Shorthand.{Shorthand}
 use Rattle.tx_prim.specs.declared.family.SizeKind.{SizeKind}
 use Rattle.tx_prim.specs.declared.modes.Mode.{Mode}
+use Rattle.tx_prim.specs.declared.modes.Mode.TheVariants as mode
 use Rattle.tx_prim.specs.declared.primitive.Primitive.{Primitive}
 use Rattle.tx_prim.specs.declared.primitive.Primitive.TheVariants as primitive
-use Rattle.tx_seen.specs.declared.error.TexError.TheVariants.{Undefined, NoAssignment, NotAllowed, MisplacedAlignment, BadName}
+use Rattle.tx_seen.specs.declared.error.TexError.TheVariants.{Undefined, NoAssignment, NotAllowed, MisplacedAlignment, MissingBox, BadName}
 use Rattle.tx_seen.specs.declared.fed.Want.TheVariants.{Raw, Expanded}
 use Rattle.tx_seen.specs.declared.item.Item.{Item}
 use Rattle.tx_seen.specs.declared.item.Item.TheVariants.{Took, Gave}
@@ -35,9 +39,9 @@ use Rattle.tx_shape.specs.declared.types.Shaped.{Shaped}
 use Rattle.tx_shape.specs.declared.types.Shaped.TheVariants as shaped
 use Rattle.tx_shape.specs.Boxes.{shape as shape_of}
 use Rattle.tx_command.specs.declared.types.Command.{Command}
-use Rattle.tx_command.specs.declared.types.Command.TheVariants.{Nothing, Space, Character, BeginGroup, EndGroup, BeginSemiSimple, EndSemiSimple, Prefix, Define, Assign, Sized, Rule, BeginBox, UseBox, CopyBox, LastBox, Unbox, Penalize, SetDepth, End, Interact, DefineMacro, BeginText, DefineFuture, Keep, Remove}
+use Rattle.tx_command.specs.declared.types.Command.TheVariants.{Nothing, Space, Character, BeginGroup, EndGroup, BeginSemiSimple, EndSemiSimple, Prefix, Define, Assign, Sized, Rule, BeginBox, UseBox, CopyBox, LastBox, Unbox, Penalize, Skip, BeginLeaders, SetDepth, End, Interact, DefineMacro, BeginText, DefineFuture, Keep, Remove}
 use Rattle.tx_command.specs.declared.types.Head.{Head}
-use Rattle.tx_command.specs.declared.types.Head.TheVariants.{Fresh, Prefixed, Defining, Future}
+use Rattle.tx_command.specs.declared.types.Head.TheVariants.{Fresh, Prefixed, Defining, Future, Leading}
 use Rattle.tx_command.specs.declared.types.Prefixes.{Prefixes}
 use Rattle.tx_command.specs.Rules.{plain_rule, rule_sides}
 use Rattle.tx_command.specs.Standing.{may_stand}
@@ -97,6 +101,7 @@ command_of (shaped.Box box.Last context) = LastBox context
 command_of (shaped.Unbox kind n) = Unbox kind n
 command_of (shaped.Penalize n) = Penalize n
 command_of (shaped.SetDepth size) = SetDepth size
+command_of (shaped.Skip g) = Skip g
 
 abbrev pub shaping : Shaping → List Item → Reading Command
 shaping what items = next (shape_of what items) (λ s behind. Done (command_of s) behind)
@@ -120,7 +125,22 @@ character_command code category.Active rest = Wrong NotAllowed
 character_command code category.Comment rest = Wrong NotAllowed
 character_command code category.Invalid rest = Wrong NotAllowed
 
--- what a primitive takes behind it, by its family; glue isn't there yet
+-- the sides of the rule that leaders repeat
+abbrev pub leaders_rule : LeadersKind → RuleKind → List Item → Reading Command
+leaders_rule kind direction items = next (rule_sides (plain_rule direction) items) (λ rule behind. Done (BeginLeaders kind rule) behind)
+
+-- a rule is needed, of either direction; boxes aren't repeated yet (section 1084)
+abbrev pub repeated : LeadersKind → Meaning → List Item → Reading Command
+repeated kind (meaning.Command (primitive.Rule direction)) rest = leaders_rule kind direction rest
+repeated kind other rest = Wrong MissingBox
+
+-- leaders: spaces and \relax, and a rule
+abbrev pub leaders_of : LeadersKind → List Item → Reading Command
+leaders_of kind [] = More Expanded
+leaders_of kind (Gave v ∷ rest) = Wrong MissingBox
+leaders_of kind (Took t ∷ rest) = expanded t (if is_space t || is_relax t then leaders_of kind rest else repeated kind t.meaning rest)
+
+-- what a primitive takes behind it, by its family
 abbrev pub family_command : Primitive → List Item → Reading Command
 family_command primitive.Relax rest = Done Nothing rest
 family_command primitive.EndCsName rest = Wrong BadName
@@ -134,6 +154,7 @@ family_command (primitive.Arithmetic operation) rest = assigning (assign.Arithme
 family_command (primitive.Numbered kind) rest = assigning (assign.Variable (Numbered kind)) rest
 family_command (primitive.Integer parameter) rest = assigning (assign.Variable (Standing (place.Integer parameter))) rest
 family_command (primitive.Dimension parameter) rest = assigning (assign.Variable (Standing (place.Dimension parameter))) rest
+family_command (primitive.Glue parameter) rest = assigning (assign.Variable (Standing (place.Glue parameter))) rest
 family_command (primitive.Tokens parameter) rest = assigning (assign.Variable (Standing (place.Tokens parameter))) rest
 family_command (primitive.Sized kind) rest = sizing kind rest
 family_command (primitive.Rule kind) rest = ruling kind rest
@@ -148,6 +169,9 @@ family_command primitive.PrevDepth rest = shaping shape.PrevDepth rest
 family_command (primitive.Remove kind) rest = Done (Remove kind) rest
 family_command (primitive.Last kind) rest = Wrong NotAllowed
 family_command primitive.Badness rest = Wrong NotAllowed
+family_command (primitive.HorizontalGlue form) rest = shaping (shape.Glue form) rest
+family_command (primitive.VerticalGlue form) rest = shaping (shape.Glue form) rest
+family_command (primitive.Leaders kind) rest = leaders_of kind rest
 family_command primitive.End rest = Done End rest
 family_command primitive.IgnoreSpaces rest = skipping rest
 family_command (primitive.Interaction kind) rest = Done (Interact kind) rest
@@ -168,6 +192,8 @@ command_meant (meaning.CharacterNumber code) rest = Done (Character code) rest
 command_meant (meaning.MathNumber number) rest = Wrong NotAllowed
 command_meant (meaning.CountRegister number) rest = assigning (assign.Variable (Standing (place.Count number))) rest
 command_meant (meaning.DimenRegister number) rest = assigning (assign.Variable (Standing (place.Dimen number))) rest
+command_meant (meaning.SkipRegister number) rest = assigning (assign.Variable (Standing (place.Skip number))) rest
+command_meant (meaning.MuskipRegister number) rest = assigning (assign.Variable (Standing (place.Muskip number))) rest
 command_meant (meaning.ToksRegister number) rest = assigning (assign.Variable (Standing (place.Toks number))) rest
 
 -- a command that nothing stands before
@@ -182,6 +208,12 @@ prefixes_of Fresh = record { global = false; long = false; outer = false }
 prefixes_of (Prefixed prefixes) = prefixes
 prefixes_of (Defining prefixes defined kind) = prefixes
 prefixes_of (Future prefixes defined) = prefixes
+prefixes_of (Leading kind rule) = record { global = false; long = false; outer = false }
+
+-- the leaders that stand before it, with the rule that they repeat
+abbrev pub leaders_before : Head → Option (LeadersKind × Rule_sides)
+leaders_before (Leading kind rule) = Some (kind, rule)
+leaders_before other = None
 
 -- \long and \outer stand before definitions alone
 abbrev pub want_definition : Prefixes → Bool
@@ -201,6 +233,7 @@ is_prefixable prefixes (primitive.Arithmetic operation) = not (want_definition p
 is_prefixable prefixes (primitive.Numbered kind) = not (want_definition prefixes)
 is_prefixable prefixes (primitive.Integer parameter) = not (want_definition prefixes)
 is_prefixable prefixes (primitive.Dimension parameter) = not (want_definition prefixes)
+is_prefixable prefixes (primitive.Glue parameter) = not (want_definition prefixes)
 is_prefixable prefixes (primitive.Tokens parameter) = not (want_definition prefixes)
 is_prefixable prefixes (primitive.Sized kind) = false
 is_prefixable prefixes (primitive.Rule kind) = false
@@ -217,11 +250,14 @@ is_prefixable prefixes (primitive.BoxFrom source) = false
 is_prefixable prefixes primitive.SetBox = not (want_definition prefixes)
 is_prefixable prefixes (primitive.Shift kind) = false
 is_prefixable prefixes (primitive.Unbox kind) = false
+is_prefixable prefixes (primitive.HorizontalGlue form) = false
+is_prefixable prefixes (primitive.VerticalGlue form) = false
 is_prefixable prefixes primitive.Penalty = false
 is_prefixable prefixes (primitive.Remove kind) = false
 is_prefixable prefixes (primitive.Last kind) = false
 is_prefixable prefixes primitive.Badness = false
 is_prefixable prefixes primitive.PrevDepth = not (want_definition prefixes)
+is_prefixable prefixes (primitive.Leaders kind) = false
 
 -- what has no meaning, or is expanded, is let through, since carrying it out is an error of its own
 abbrev pub may_be_prefixed : Prefixes → Meaning → Bool
@@ -232,6 +268,8 @@ may_be_prefixed prefixes (meaning.CharacterNumber code) = false
 may_be_prefixed prefixes (meaning.MathNumber number) = false
 may_be_prefixed prefixes (meaning.CountRegister number) = not (want_definition prefixes)
 may_be_prefixed prefixes (meaning.DimenRegister number) = not (want_definition prefixes)
+may_be_prefixed prefixes (meaning.SkipRegister number) = not (want_definition prefixes)
+may_be_prefixed prefixes (meaning.MuskipRegister number) = not (want_definition prefixes)
 may_be_prefixed prefixes (meaning.ToksRegister number) = not (want_definition prefixes)
 may_be_prefixed prefixes (meaning.Expandable e) = true
 may_be_prefixed prefixes (meaning.Macro m) = true
@@ -263,9 +301,31 @@ future head [] = More Raw
 future head (Gave v ∷ rest) = Wrong NotAllowed
 future head (Took first ∷ rest) = future_second head first rest
 
+-- behind leaders: glue of the direction of the list, with spaces and \relax before it, which do nothing (section 1078)
+abbrev pub is_down : Mode → Bool
+is_down mode.Vertical = true
+is_down mode.InternalVertical = true
+is_down other = false
+
+abbrev pub leading_glue : Mode → Meaning → Option GlueForm
+leading_glue mode (meaning.Command (primitive.HorizontalGlue form)) = if is_down mode then None else Some form
+leading_glue mode (meaning.Command (primitive.VerticalGlue form)) = if is_down mode then Some form else None
+leading_glue mode other = None
+
+abbrev pub led_by : Option GlueForm → List Item → Reading Command
+led_by None rest = Wrong MissingBox
+led_by (Some form) rest = shaping (shape.Glue form) rest
+
+abbrev pub leading_command : Mode → List Item → Reading Command
+leading_command mode [] = More Expanded
+leading_command mode (Gave v ∷ rest) = Wrong MissingBox
+leading_command mode (Took t ∷ rest) =
+    expanded t (if is_space t || is_relax t then Done Nothing rest else led_by (leading_glue mode t.meaning) rest)
+
 -- the command at the front of these items, by what stands before it
 abbrev pub command : Mode → Head → List Item → Reading Command
 command mode Fresh items = fresh_command mode items
 command mode (Prefixed prefixes) items = prefixed_command prefixes items
 command mode (Defining prefixes defined kind) items = assigning (assign.Named defined kind) items
 command mode (Future prefixes defined) items = future (Future prefixes defined) items
+command mode (Leading kind rule) items = leading_command mode items

@@ -17,9 +17,9 @@ use Rattle.tx_scan.specs.declared.scans.KeyScan.{KeyScan}
 use Rattle.tx_scan.specs.Keywords.{rest as key_rest, held as key_held}
 use Rattle.tx_scan.specs.DimensionRests.{rest as dimen_rest, held as dimen_held, more_needed as dimen_needed}
 use Rattle.tx_shape.specs.Rests.{rest as shape_rest, held as shape_held, needed as shape_needed, IsWaiting as IsWaiting_shape}
-use Rattle.tx_assign.specs.Rests.{rest as assign_rest, held as assign_held, more_needed as assign_needed}
+use Rattle.tx_assign.specs.Rests.{rest as assign_rest, held as assign_held, more_needed as assign_needed, IsWaiting as IsWaiting_assign}
 use Rattle.tx_command.specs.declared.types.Command.{Command}
-use Rattle.tx_command.specs.declared.types.Command.TheVariants.{Assign, Sized, Rule as Rule_command}
+use Rattle.tx_command.specs.declared.types.Command.TheVariants.{Assign, Sized, Rule as Rule_command, BeginLeaders}
 use Rattle.tx_command.specs.declared.types.Head.{Head}
 use Rattle.tx_command.specs.declared.types.Side.{Side}
 use Rattle.tx_command.specs.declared.scans.RuleScan.{RuleScan}
@@ -29,7 +29,7 @@ use Rattle.tx_command.specs.declared.scans.Scans.{Scans}
 use Rattle.tx_command.specs.declared.scans.Stage.{Stage}
 use Rattle.tx_command.specs.declared.scans.Stage.TheVariants as stage
 use Rattle.tx_command.specs.Rules.{letters_of, side_if, side_or_end, with_side, rule_sides}
-use Rattle.tx_command.specs.Commands.{command, defining, macro_defining, future_defining, future_of, keeping, command_of, skipping}
+use Rattle.tx_command.specs.Commands.{command, defining, macro_defining, future_defining, future_of, keeping, command_of, leaders_of, skipping}
 
 -- the rest of a rule by the part that comes next
 abbrev pub rule_part_rest : RulePart → RuleScan → List Item → Item → List Item → Reading Rule
@@ -98,6 +98,8 @@ stage_rest mode head stage.SecondToken scans behind item more = second_rest head
 stage_rest mode head (stage.KeptToken kind) scans behind item more = keeping kind (item ∷ more)
 stage_rest mode head (stage.Sized kind) scans behind item more = next (dimen_rest scans.size behind item more) (λ measure behind. Done (Sized kind measure.size) behind)
 stage_rest mode head (stage.Rule kind) scans behind item more = next (rule_rest scans.rule behind item more) (λ rule behind. Done (Rule_command kind rule) behind)
+stage_rest mode head (stage.Leaders kind) scans behind item more = leaders_of kind (item ∷ more)
+stage_rest mode head (stage.LeadersRule kind) scans behind item more = next (rule_rest scans.rule behind item more) (λ rule behind. Done (BeginLeaders kind rule) behind)
 stage_rest mode head stage.Shape scans behind item more = next (shape_rest scans.shape behind item more) (λ shaped behind. Done (command_of shaped) behind)
 stage_rest mode head stage.Spaces scans behind item more = skipping (item ∷ more)
 
@@ -109,6 +111,7 @@ abbrev pub stage_held : Stage → Scans → ℕ
 stage_held stage.Assign scans = assign_held scans.assignment
 stage_held (stage.Sized kind) scans = dimen_held scans.size
 stage_held (stage.Rule kind) scans = rule_held scans.rule
+stage_held (stage.LeadersRule kind) scans = rule_held scans.rule
 stage_held stage.Shape scans = shape_held scans.shape
 stage_held stage.SecondToken scans = 1
 stage_held _ scans = 0
@@ -122,6 +125,7 @@ stage_needs stage.Start scans = 1
 stage_needs stage.Assign scans = assign_needed scans.assignment
 stage_needs (stage.Sized kind) scans = dimen_needed scans.size
 stage_needs (stage.Rule kind) scans = rule_needed scans.rule
+stage_needs (stage.LeadersRule kind) scans = rule_needed scans.rule
 stage_needs stage.Shape scans = shape_needed scans.shape
 stage_needs _ scans = 0
 
@@ -131,7 +135,7 @@ more_needed scans = stage_needs scans.stage scans
 -- only assignments, sizes and what a box takes need values
 abbrev pub NeedsValues : Stage → Scans → Type 0
 NeedsValues stage.Start scans = ⊥
-NeedsValues stage.Assign scans = Unit {0}
+NeedsValues stage.Assign scans = IsWaiting_assign scans.assignment
 NeedsValues (stage.Name kind) scans = ⊥
 NeedsValues (stage.MacroName kind) scans = ⊥
 NeedsValues stage.FutureName scans = ⊥
@@ -139,6 +143,8 @@ NeedsValues stage.SecondToken scans = ⊥
 NeedsValues (stage.KeptToken kind) scans = ⊥
 NeedsValues (stage.Sized kind) scans = Unit {0}
 NeedsValues (stage.Rule kind) scans = IsSizing scans.rule.part
+NeedsValues (stage.Leaders kind) scans = ⊥
+NeedsValues (stage.LeadersRule kind) scans = IsSizing scans.rule.part
 NeedsValues stage.Shape scans = IsWaiting_shape scans.shape
 NeedsValues stage.Spaces scans = ⊥
 
@@ -149,6 +155,7 @@ IsWaiting scans = NeedsValues scans.stage scans × (held scans ≤ 1)
 -- a stage that goes on
 abbrev pub IsOnAt : Stage → Scans → Type 0
 IsOnAt (stage.Rule kind) scans = IsUnnamed scans.rule.part
+IsOnAt (stage.LeadersRule kind) scans = IsUnnamed scans.rule.part
 IsOnAt _ scans = Unit {0}
 
 abbrev pub IsOn : Scans → Type 0

@@ -47,6 +47,8 @@ modes_of_meaning (meaning.CharacterNumber code) = NotVertical
 modes_of_meaning (meaning.MathNumber number) = Math
 modes_of_meaning (meaning.CountRegister number) = All
 modes_of_meaning (meaning.DimenRegister number) = All
+modes_of_meaning (meaning.SkipRegister number) = All
+modes_of_meaning (meaning.MuskipRegister number) = All
 modes_of_meaning (meaning.ToksRegister number) = All
 modes_of_meaning (meaning.Expandable e) = All
 modes_of_meaning (meaning.Macro m) = All
@@ -81,6 +83,7 @@ adds_to_list (primitive.Arithmetic operation) = false
 adds_to_list (primitive.Numbered kind) = false
 adds_to_list (primitive.Integer parameter) = false
 adds_to_list (primitive.Dimension parameter) = false
+adds_to_list (primitive.Glue parameter) = false
 adds_to_list (primitive.Tokens parameter) = false
 adds_to_list (primitive.Sized kind) = true
 adds_to_list (primitive.Rule kind) = true
@@ -97,11 +100,14 @@ adds_to_list (primitive.BoxFrom source) = adds_box source
 adds_to_list primitive.SetBox = false
 adds_to_list (primitive.Shift kind) = true
 adds_to_list (primitive.Unbox kind) = true
+adds_to_list (primitive.HorizontalGlue form) = true
+adds_to_list (primitive.VerticalGlue form) = true
 adds_to_list primitive.Penalty = true
 adds_to_list (primitive.Remove kind) = false
 adds_to_list (primitive.Last kind) = false
 adds_to_list primitive.Badness = false
 adds_to_list primitive.PrevDepth = false
+adds_to_list (primitive.Leaders kind) = true
 
 -- nothing can be added to the pages' list yet
 abbrev pub is_there : Mode → Meaning → Bool

@@ -1,7 +1,30 @@
 //! What stands before a command can be shared, and compared exactly.
+ghost use Rattle.std.specs.Prelude.{◌≡◌, ◌↔◌, IsTrue};
+
 use crate::types::Head;
 use std::alloc::AllocError;
 use tx_list::Kept;
+use tx_node::Rule;
+
+/// Whether two sides are equal.
+fn same_side(one: Option<i32>, other: Option<i32>) -> bool
+    ensures { IsTrue result ↔ (one ≡ other) }
+{
+    match (one, other) {
+        (None, None) => true,
+        (Some(one), Some(other)) => one == other,
+        (None, Some(_)) | (Some(_), None) => false,
+    }
+}
+
+/// Whether two rules have the same sides.
+fn same_rule(one: Rule, other: Rule) -> bool
+    ensures { IsTrue result ↔ (one ≡ other) }
+{
+    same_side(one.width, other.width)
+        && same_side(one.height, other.height)
+        && same_side(one.depth, other.depth)
+}
 
 impl Kept for Head {
     fn share(&self) -> Result<Self, AllocError> {
@@ -14,6 +37,7 @@ impl Kept for Head {
                 *kind,
             )),
             Head::Future(prefixes, defined) => Ok(Head::Future(*prefixes, defined.clone()?)),
+            Head::Leading(kind, rule) => Ok(Head::Leading(*kind, *rule)),
         }
     }
 
@@ -26,6 +50,9 @@ impl Kept for Head {
             }
             (Head::Future(one, defined), Head::Future(other, also)) => {
                 one == other && defined.same(also)
+            }
+            (Head::Leading(one, rule), Head::Leading(other, also)) => {
+                one == other && same_rule(*rule, *also)
             }
             _ => false,
         }

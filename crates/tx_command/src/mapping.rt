@@ -7,10 +7,10 @@ ghost use Rattle.tx_command.specs.Commands as commands;
 use crate::types::Command;
 use tx_assign::Assignment;
 use tx_node::Rule;
-use tx_prim::{DefinitionKind, RuleKind, Shorthand, SizeKind};
+use tx_prim::{DefinitionKind, LeadersKind, RuleKind, Shorthand, SizeKind};
 use tx_scan::Measure;
 use tx_seen::{Fed, Place};
-use tx_shape::{BoxRead, Shaped};
+use tx_shape::{BoxContext, BoxRead, Shaped};
 
 /// An assignment.
 pub fn assigned(fed: Fed<Assignment>) -> Fed<Command>
@@ -85,18 +85,40 @@ pub fn ruled(rule_kind: RuleKind, fed: Fed<Rule>) -> Fed<Command>
     }
 }
 
+/// The rule that leaders repeat.
+pub fn led(leaders_kind: LeadersKind, fed: Fed<Rule>) -> Fed<Command>
+    ensures { result ≡ mapped (λ rule. Command.BeginLeaders leaders_kind rule) fed }
+{
+    match fed {
+        Fed::More(want) => Fed::More(want),
+        Fed::Need(kind) => Fed::Need(kind),
+        Fed::Done(rule, back) => Fed::Done(Command::BeginLeaders(leaders_kind, rule), back),
+        Fed::Wrong(error) => Fed::Wrong(error),
+    }
+}
+
+/// The command of a box that is read.
+fn box_command(read: BoxRead, context: BoxContext) -> Command
+    ensures { result ≡ commands.command_of (Shaped.Box read context) }
+{
+    match read {
+        BoxRead::Begin(kind, goal) => Command::BeginBox(kind, goal, context),
+        BoxRead::Use(register) => Command::UseBox(register, context),
+        BoxRead::Copy(register) => Command::CopyBox(register, context),
+        BoxRead::Last => Command::LastBox(context),
+    }
+}
+
 /// The command of what a box, or what is done with one, and its kin have come to.
 fn command_of(shaped: Shaped) -> Command
     ensures { result ≡ commands.command_of shaped }
 {
     match shaped {
-        Shaped::Box(BoxRead::Begin(kind, goal), context) => Command::BeginBox(kind, goal, context),
-        Shaped::Box(BoxRead::Use(register), context) => Command::UseBox(register, context),
-        Shaped::Box(BoxRead::Copy(register), context) => Command::CopyBox(register, context),
-        Shaped::Box(BoxRead::Last, context) => Command::LastBox(context),
+        Shaped::Box(read, context) => box_command(read, context),
         Shaped::Unbox(kind, register) => Command::Unbox(kind, register),
         Shaped::Penalize(penalty) => Command::Penalize(penalty),
         Shaped::SetDepth(depth) => Command::SetDepth(depth),
+        Shaped::Skip(glue) => Command::Skip(glue),
     }
 }
 

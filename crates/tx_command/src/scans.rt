@@ -2,7 +2,7 @@
 use crate::types::{Command, Side};
 use tx_assign::AssignScan;
 use tx_node::Rule;
-use tx_prim::{AfterKind, DefinitionKind, RuleKind, Shorthand, SizeKind};
+use tx_prim::{AfterKind, DefinitionKind, LeadersKind, RuleKind, Shorthand, SizeKind};
 use tx_scan::{DimenScan, KeyScan};
 use tx_seen::TexError;
 use tx_shape::ShapeScan;
@@ -49,6 +49,10 @@ pub enum Stage {
     Sized(SizeKind),
     /// The sides of a rule of this kind.
     Rule(RuleKind),
+    /// The rule that such leaders repeat, with spaces and \relax before it.
+    Leaders(LeadersKind),
+    /// The sides of that rule.
+    LeadersRule(LeadersKind),
     /// What a box, or what is done with one, takes, and its kin.
     Shape,
     /// Spaces that are skipped.

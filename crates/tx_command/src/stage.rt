@@ -8,7 +8,7 @@ ghost use Rattle.tx_assign.specs.Assignments.{assignment};
 ghost use Rattle.tx_command.specs.Commands as commands;
 ghost use Rattle.tx_command.specs.Rests.{command_rest, held, more_needed, Begins, GoesOn, IsBegunBy, IsOn, IsWaiting};
 
-use crate::mapping::{assigned, defined, future_defined, macro_defined, ruled, shaped, sized};
+use crate::mapping::{assigned, defined, future_defined, led, macro_defined, ruled, shaped, sized};
 use crate::scans::{RuleScan, Scans, Stage};
 use crate::standing::{may_be_prefixed, may_stand};
 use crate::types::{Command, Head, Prefixes};
@@ -16,7 +16,7 @@ use std::alloc::{AllocError, Global};
 use tx_assign::{AssignScan, Assigning, Assignment, Change, Variable};
 use tx_char::Cat;
 use tx_eqtb::Entry;
-use tx_prim::{AfterKind, Mode, Primitive, RuleKind, Shorthand, SizeKind};
+use tx_prim::{AfterKind, GlueForm, LeadersKind, Mode, Primitive, RuleKind, Shorthand, SizeKind};
 use tx_scan::{DimenScan, NameScan};
 use tx_seen::{Fed, Meaning, Place, Seen, TexError, Value, Want};
 use tx_shape::{ShapeScan, Shaping};
@@ -64,7 +64,7 @@ fn feed_second(head: &Head, token: &Seen) -> Result<Fed<Command>, AllocError>
             }),
             2,
         )),
-        Head::Fresh | Head::Prefixed(_) | Head::Defining(_, _, _) => {
+        Head::Fresh | Head::Prefixed(_) | Head::Defining(_, _, _) | Head::Leading(_, _) => {
             Ok(Fed::Done(Command::Nothing, 2))
         }
     }
@@ -75,6 +75,23 @@ fn feed_kept(kind: AfterKind, token: &Seen) -> Result<Fed<Command>, AllocError>
     ensures { IfOk result (λ fed. fed ≡ Fed.Done (Command.Keep kind token.now.token) 0) }
 {
     Ok(Fed::Done(Command::Keep(kind, token.token.clone()?), 0))
+}
+
+/// Which glue follows leaders in a mode: that of vertical lists in these, that of horizontal ones in all others; None where a
+/// token begins no such glue.
+fn leading_glue(mode: Mode, meaning: &Meaning) -> Option<GlueForm>
+    ensures { result ≡ commands.leading_glue mode meaning.now }
+{
+    let vertical = match mode {
+        Mode::Vertical | Mode::InternalVertical => true,
+        Mode::Horizontal | Mode::RestrictedHorizontal | Mode::Math | Mode::DisplayMath => false,
+    };
+    match meaning {
+        Meaning::Command(Primitive::HorizontalGlue(form)) if !vertical => Some(*form),
+        Meaning::Command(Primitive::VerticalGlue(form)) if vertical => Some(*form),
+        // of all others alike
+        _ => None,
+    }
 }
 
 impl Scans {
@@ -113,6 +130,8 @@ impl Scans {
             Stage::KeptToken(kind) => feed_kept(kind, token),
             Stage::Sized(kind) => Ok(sized(kind, self.size.feed(token)?)),
             Stage::Rule(kind) => Ok(ruled(kind, self.rule.feed(token)?)),
+            Stage::Leaders(kind) => Ok(self.feed_leaders(kind, token)),
+            Stage::LeadersRule(kind) => Ok(led(kind, self.rule.feed(token)?)),
             Stage::Shape => Ok(shaped(self.shape.feed(token)?)),
             Stage::Spaces => Ok(self.feed_space(token)),
         }
@@ -126,13 +145,14 @@ impl Scans {
         ensures on { IfOk result (GoesOn self.new) }
     {
         match self.stage {
-            Stage::Assign => Ok(assigned(self.assignment.give(value)?)),
+            Stage::Assign => Ok(assigned(self.assignment.give(value, behind)?)),
             Stage::Sized(kind) => Ok(sized(kind, self.size.give(value)?)),
             Stage::Rule(kind) => Ok(ruled(kind, self.rule.give(value, behind)?)),
+            Stage::LeadersRule(kind) => Ok(led(kind, self.rule.give(value, behind)?)),
             Stage::Shape => Ok(shaped(self.shape.give(value, behind)?)),
             Stage::Start | Stage::Name(_) | Stage::MacroName(_) => unreachable!(),
             Stage::FutureName | Stage::SecondToken | Stage::KeptToken(_) => unreachable!(),
-            Stage::Spaces => unreachable!(),
+            Stage::Spaces | Stage::Leaders(_) => unreachable!(),
         }
     }
 
@@ -150,6 +170,7 @@ impl Scans {
             Head::Prefixed(prefixes) => Ok(self.feed_prefixed(*prefixes, token)),
             Head::Defining(_, name, kind) => self.feed_defining(name, *kind, token),
             Head::Future(_, _) => Ok(self.on(Stage::SecondToken, Want::Raw)),
+            Head::Leading(_, _) => Ok(self.feed_leading(mode, token)),
         }
     }
 
@@ -175,6 +196,42 @@ impl Scans {
             self.begin(&token.meaning)
         } else {
             Fed::Wrong(TexError::NoAssignment)
+        }
+    }
+
+    /// The first token of the glue behind leaders, or what is skipped before it.
+    fn feed_leading(&mut self, mode: Mode, token: &Seen) -> Fed<Command>
+        ensures { Begins (λ more. commands.leading_command mode (Took token.now ∷ more)) self.new result }
+    {
+        if token.is_undefined() {
+            return Fed::Wrong(TexError::Undefined);
+        }
+        if token.is_space() || token.is_relax() {
+            return Fed::Done(Command::Nothing, 0);
+        }
+        match leading_glue(mode, &token.meaning) {
+            Some(form) => self.begin_shape(Shaping::Glue(form)),
+            None => Fed::Wrong(TexError::MissingBox),
+        }
+    }
+
+    /// The rule that leaders repeat, or what is skipped before it; boxes aren't repeated yet.
+    fn feed_leaders(&mut self, kind: LeadersKind, token: &Seen) -> Fed<Command>
+        ensures { Begins (λ more. commands.leaders_of kind (Took token.now ∷ more)) self.new result }
+    {
+        if token.is_undefined() {
+            return Fed::Wrong(TexError::Undefined);
+        }
+        if token.is_space() || token.is_relax() {
+            return self.on(Stage::Leaders(kind), Want::Expanded);
+        }
+        match &token.meaning {
+            Meaning::Command(Primitive::Rule(direction)) => {
+                self.rule.begin(*direction);
+                self.on(Stage::LeadersRule(kind), Want::Expanded)
+            }
+            // of all others alike
+            _ => Fed::Wrong(TexError::MissingBox),
         }
     }
 
@@ -207,6 +264,8 @@ impl Scans {
             Meaning::MathNumber(_) => Fed::Wrong(TexError::NotAllowed),
             Meaning::CountRegister(number) => self.begin_place(Place::Count(*number)),
             Meaning::DimenRegister(number) => self.begin_place(Place::Dimen(*number)),
+            Meaning::SkipRegister(number) => self.begin_place(Place::Skip(*number)),
+            Meaning::MuskipRegister(number) => self.begin_place(Place::Muskip(*number)),
             Meaning::ToksRegister(number) => self.begin_place(Place::Toks(*number)),
         }
     }
@@ -229,6 +288,7 @@ impl Scans {
             Primitive::Numbered(kind) => self.begin_variable(Variable::Numbered(kind)),
             Primitive::Integer(parameter) => self.begin_place(Place::Integer(parameter)),
             Primitive::Dimension(parameter) => self.begin_place(Place::Dimension(parameter)),
+            Primitive::Glue(parameter) => self.begin_place(Place::Glue(parameter)),
             Primitive::Tokens(parameter) => self.begin_place(Place::Tokens(parameter)),
             Primitive::Sized(kind) => {
                 self.size.restart(false, false);
@@ -248,6 +308,9 @@ impl Scans {
             Primitive::PrevDepth => self.begin_shape(Shaping::PrevDepth),
             Primitive::Remove(kind) => Fed::Done(Command::Remove(kind), 0),
             Primitive::Last(_) | Primitive::Badness => Fed::Wrong(TexError::NotAllowed),
+            Primitive::HorizontalGlue(form) => self.begin_shape(Shaping::Glue(form)),
+            Primitive::VerticalGlue(form) => self.begin_shape(Shaping::Glue(form)),
+            Primitive::Leaders(kind) => self.on(Stage::Leaders(kind), Want::Expanded),
             Primitive::End => Fed::Done(Command::End, 0),
             Primitive::IgnoreSpaces => self.on(Stage::Spaces, Want::Expanded),
             Primitive::Interaction(kind) => Fed::Done(Command::Interact(kind), 0),

@@ -33,6 +33,7 @@ fn modes_of_meaning(meaning: &Meaning) -> Modes
 {
     match meaning {
         Meaning::Undefined | Meaning::CountRegister(_) | Meaning::DimenRegister(_) => Modes::All,
+        Meaning::SkipRegister(_) | Meaning::MuskipRegister(_) => Modes::All,
         Meaning::ToksRegister(_) => Modes::All,
         Meaning::Command(primitive) => primitive.modes(),
         Meaning::Character(_, category) => modes_of_category(*category),
@@ -71,6 +72,7 @@ fn adds_to_list(primitive: Primitive) -> bool
         Primitive::Sized(_) | Primitive::Rule(_) | Primitive::Box(_) => true,
         Primitive::BoxFrom(source) => adds_box(source),
         Primitive::Shift(_) | Primitive::Unbox(_) => true,
+        Primitive::HorizontalGlue(_) | Primitive::VerticalGlue(_) | Primitive::Leaders(_) => true,
         Primitive::Penalty => true,
         Primitive::Text(purpose) => adds_text(purpose),
         Primitive::Relax
@@ -85,6 +87,7 @@ fn adds_to_list(primitive: Primitive) -> bool
         | Primitive::Numbered(_)
         | Primitive::Integer(_)
         | Primitive::Dimension(_)
+        | Primitive::Glue(_)
         | Primitive::Tokens(_)
         | Primitive::Shipout
         | Primitive::End
@@ -148,6 +151,7 @@ fn is_prefixable(prefixes: Prefixes, primitive: Primitive) -> bool
         | Primitive::Numbered(_)
         | Primitive::Integer(_)
         | Primitive::Dimension(_)
+        | Primitive::Glue(_)
         | Primitive::Tokens(_)
         | Primitive::Interaction(_)
         | Primitive::SetBox
@@ -168,10 +172,13 @@ fn is_prefixable(prefixes: Prefixes, primitive: Primitive) -> bool
         | Primitive::BoxFrom(_)
         | Primitive::Shift(_)
         | Primitive::Unbox(_)
+        | Primitive::HorizontalGlue(_)
+        | Primitive::VerticalGlue(_)
         | Primitive::Penalty
         | Primitive::Remove(_)
         | Primitive::Last(_)
-        | Primitive::Badness => false,
+        | Primitive::Badness
+        | Primitive::Leaders(_) => false,
     }
 }
 
@@ -183,6 +190,7 @@ pub fn may_be_prefixed(prefixes: Prefixes, meaning: &Meaning) -> bool
     match meaning {
         Meaning::Undefined => true,
         Meaning::CountRegister(_) | Meaning::DimenRegister(_) => !want_definition(prefixes),
+        Meaning::SkipRegister(_) | Meaning::MuskipRegister(_) => !want_definition(prefixes),
         Meaning::ToksRegister(_) => !want_definition(prefixes),
         Meaning::Command(primitive) => is_prefixable(prefixes, *primitive),
         Meaning::Character(_, _) | Meaning::CharacterNumber(_) | Meaning::MathNumber(_) => false,

@@ -8,7 +8,8 @@ ghost use Rattle.tx_scan.specs.Rests.{HasTakenBy, IsGivenBehind};
 ghost use Rattle.tx_scan.specs.Supplied.{value_for, NeedsFewer};
 ghost use Rattle.tx_command.specs.declared.types.Head.{Head};
 ghost use Rattle.tx_command.specs.Commands as commands;
-ghost use Rattle.tx_command.specs.Commands.{prefixes_of};
+ghost use Rattle.tx_command.specs.Commands.{leaders_before as leaders_of, prefixes_of};
+ghost use Rattle.tx_seen.specs.Magnified.{magnification_in};
 ghost use Rattle.tx_command.specs.Rests.{command_rest, held, more_needed, GoesOn, IsOn, IsWaiting};
 ghost use Rattle.tx_command.specs.Taken.{joined, IsEnd, IsPending, IsSettled, IsTaken};
 
@@ -17,8 +18,9 @@ use crate::types::{Command, Head, Prefixes};
 use std::alloc::{AllocError, Global};
 use std::marker::Model;
 use tx_list::{Items, Kept};
+use tx_node::Rule;
 use tx_pending::Pending;
-use tx_prim::{Mode, Prefix, Shorthand};
+use tx_prim::{LeadersKind, Mode, Prefix, Shorthand};
 use tx_scan::give_back;
 use tx_seen::{Fed, Item, Kind, Place, Quantities, Seen, Want};
 
@@ -31,7 +33,8 @@ pub struct CommandScan {
     taken: Items<Item>,
     /// How the next token is wanted.
     want: Want,
-    scans: Scans,
+    /// Behind a pointer, so that what holds a command is moved and dropped in few steps.
+    scans: Box<Scans>,
 }
 
 impl Model for CommandScan {
@@ -42,21 +45,22 @@ impl Model for CommandScan {
 
     ghost view = { λ s. record { mode = s.mode; head = s.head; taken = s.taken } };
 
-    ghost invariant = { λ s. IsAt s.mode s.head s.taken s.want s.scans };
+    ghost invariant = { λ s. IsAt s.mode s.head s.taken s.want s.scans.value };
 }
 
 impl CommandScan {
-    /// A command of which nothing is taken, in this mode, and nothing before it. Takes no memory.
-    pub fn new(alloc: Global, mode: Mode) -> CommandScan
-        ensures { result ≡ record { mode = mode; head = Head.Fresh; taken = [] } }
+    /// A command of which nothing is taken, in this mode, and nothing before it. Its only error is want of memory.
+    pub fn new(alloc: Global, mode: Mode) -> Result<CommandScan, AllocError>
+        ensures { IfOk result (λ scan. scan ≡ record { mode = mode; head = Head.Fresh; taken = [] }) }
     {
-        CommandScan {
+        let scans = Box::new(alloc, Scans::new(alloc))?;
+        Ok(CommandScan {
             mode,
             head: Head::Fresh,
             taken: Items::new(alloc),
             want: Want::Expanded,
-            scans: Scans::new(alloc),
-        }
+            scans,
+        })
     }
 
     /// How the command wants its next token.
@@ -78,13 +82,33 @@ impl CommandScan {
         ensures { result ≡ prefixes_of self.now.head }
     {
         match &self.head {
-            Head::Fresh => Prefixes {
+            Head::Fresh | Head::Leading(_, _) => Prefixes {
                 global: false,
                 long: false,
                 outer: false,
             },
             Head::Prefixed(prefixes) | Head::Defining(prefixes, _, _) | Head::Future(prefixes, _) =>
                 *prefixes,
+        }
+    }
+
+    /// The leaders that stand before the command, with the rule that they repeat.
+    pub fn leaders(&self) -> Option<(LeadersKind, Rule)>
+        ensures { result ≡ leaders_of self.now.head }
+    {
+        match &self.head {
+            Head::Leading(kind, rule) => Some((*kind, *rule)),
+            Head::Fresh | Head::Prefixed(_) | Head::Defining(_, _, _) | Head::Future(_, _) => None,
+        }
+    }
+
+    /// The magnification, where it was taken last.
+    pub fn magnification(&self) -> Option<u16>
+        ensures { result ≡ magnification_in self.now.taken }
+    {
+        match self.taken.as_slice().last() {
+            Some(item) => item.magnification(),
+            None => None,
         }
     }
 
@@ -184,6 +208,7 @@ fn begun_want(head: &Head) -> Want
 {
     match head {
         Head::Fresh | Head::Prefixed(_) | Head::Defining(_, _, _) => Want::Expanded,
+        Head::Leading(_, _) => Want::Expanded,
         Head::Future(_, _) => Want::Raw,
     }
 }

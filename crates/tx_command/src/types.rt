@@ -2,9 +2,10 @@
 use tx_assign::Assignment;
 use tx_char::Token;
 use tx_node::Rule;
+use tx_num::Glue;
 use tx_prim::{
-    AfterKind, BoxKind, DefinitionKind, Interaction, ItemKind, Prefix, RuleKind, Shorthand,
-    SizeKind, TextUse, UnboxKind,
+    AfterKind, BoxKind, DefinitionKind, Interaction, ItemKind, LeadersKind, Prefix, RuleKind,
+    Shorthand, SizeKind, TextUse, UnboxKind,
 };
 use tx_seen::Place;
 use tx_shape::{BoxContext, BoxGoal};
@@ -36,6 +37,8 @@ pub enum Head {
     Defining(Prefixes, Place, Shorthand),
     /// \futurelet, with its prefixes and the name that it defines: two tokens are to follow.
     Future(Prefixes, Place),
+    /// \leaders or its kin and the rule that they repeat: glue is to follow.
+    Leading(LeadersKind, Rule),
 }
 
 /// A command with all that belongs to it.
@@ -76,6 +79,10 @@ pub enum Command {
     Penalize(i32),
     /// `\unpenalty` or its kin.
     Remove(ItemKind),
+    /// `\hskip`, `\vskip` or their kin.
+    Skip(Glue),
+    /// `\leaders` or its kin and the rule that they repeat.
+    BeginLeaders(LeadersKind, Rule),
     /// An assignment to `\prevdepth`, in sp.
     SetDepth(i32),
     /// `\end`.

@@ -1,6 +1,6 @@
 use Rattle.std.proofs.Common.{refl, ap, ◌∙◌}
 use Rattle.tx_seen.specs.declared.fed.Want.TheVariants.{Raw}
-use Rattle.tx_command.proofs.Stages.{future-begun, kept-begun, macro-begun, name-begun, size-begun, rule-begun, spaces-begun}
+use Rattle.tx_command.proofs.Stages.{future-begun, kept-begun, leaders-begun, macro-begun, name-begun, size-begun, rule-begun, spaces-begun}
 use Rattle.tx_command.proofs.scans.Scans.begin_primitive.Goals as goal
 
 pub returns-in-Let : goal.returns-in-Let
@@ -17,6 +17,18 @@ returns-in-Integer c = rw c.in-Integer.is c.begin_place.ensures
 
 pub returns-in-Dimension : goal.returns-in-Dimension
 returns-in-Dimension c = rw c.in-Dimension.is c.begin_place-in-Dimension.ensures
+
+pub returns-in-Glue : goal.returns-in-Glue
+returns-in-Glue c = rw c.in-Glue.is c.begin_place-in-Glue.ensures
+
+pub returns-in-HorizontalGlue : goal.returns-in-HorizontalGlue
+returns-in-HorizontalGlue c = rw c.in-HorizontalGlue.is c.begin_shape-in-HorizontalGlue.ensures
+
+pub returns-in-VerticalGlue : goal.returns-in-VerticalGlue
+returns-in-VerticalGlue c = rw c.in-VerticalGlue.is c.begin_shape-in-VerticalGlue.ensures
+
+pub returns-in-Leaders : goal.returns-in-Leaders
+returns-in-Leaders c = rw (c.in-Leaders.is, c.on-in-Leaders.ensures.answer) (leaders-begun c.in-Leaders.kind c.on-in-Leaders.new.self (ap (λ scans. scans.stage) c.on-in-Leaders.ensures.scans))
 
 pub returns-in-Tokens : goal.returns-in-Tokens
 returns-in-Tokens c = rw c.in-Tokens.is c.begin_place-in-Tokens.ensures

@@ -1,14 +1,14 @@
-use Rattle.std.proofs.Common.{[], lit≤, refl}
+use Rattle.std.proofs.Common.{[], refl}
 use Rattle.tx_seen.specs.declared.item.Item.TheVariants.{Took}
 use Rattle.tx_scan.specs.DimensionRests.{rest as dimen_rest, held as dimen_held, most as dimen_most}
 use Rattle.tx_scan.specs.GrammarRests.{held_none, name_rest}
 use Rattle.tx_assign.specs.Rests.{rest as assign_rest, held as assign_held}
 use Rattle.tx_command.specs.declared.scans.Stage.TheVariants as stage
-use Rattle.tx_command.specs.declared.types.Command.TheVariants.{Assign, Define, DefineFuture, DefineMacro, Sized, Rule}
+use Rattle.tx_command.specs.declared.types.Command.TheVariants.{Assign, BeginLeaders, Define, DefineFuture, DefineMacro, Sized, Rule}
 use Rattle.tx_shape.specs.Rests.{rest as shape_rest, held as shape_held}
 use Rattle.tx_command.specs.Commands.{command_of}
 use Rattle.tx_command.specs.Rests.{rule_rest, rule_held}
-use Rattle.tx_command.proofs.Stages.{part-fed, part-needs, part-goes, size-needs, size-goes, rule-needs, rule-goes, assign-needs, assign-goes, start-fed, start-needs, start-goes, shape-needs, shape-goes, space-fed, end-goes, end-needs, kept-fed, second-fed}
+use Rattle.tx_command.proofs.Stages.{part-fed, part-needs, part-goes, size-needs, size-goes, rule-needs, rule-goes, led-needs, led-goes, leaders-fed, leaders-needs, assign-needs, assign-goes, start-fed, start-needs, start-goes, shape-needs, shape-goes, space-fed, end-goes, end-needs, kept-fed, second-fed}
 use Rattle.tx_scan.proofs.Mosts.{most-size}
 use Rattle.tx_scan.proofs.Behind.{fed-one}
 use Rattle.tx_command.proofs.scans.Scans.feed.Goals as goal
@@ -36,8 +36,7 @@ returns-in_ok-feed-in-Assign-clause-needs c = rw c.assigned.ensures (assign-need
 pub returns-in_ok-feed-in-Assign-clause-on : goal.returns-in_ok-feed-in-Assign-clause-on
 returns-in_ok-feed-in-Assign-clause-on c =
     rw c.assigned.ensures
-    (assign-goes _ c.in_ok-feed-in-Assign.field-0 c.in-Assign.is
-    (fed-one assign_rest assign_held 1 (λ more. assign_rest c.args.self.now.assignment [] (Took c.args.token.now) more) c.args.token.now c.feed.new.self c.in_ok-feed-in-Assign.field-0 (lit≤ tt) (c.in_ok-feed-in-Assign.ensures.fed [])))
+    (assign-goes _ c.in_ok-feed-in-Assign.field-0 c.in-Assign.is c.in_ok-feed-in-Assign.ensures.waits)
 
 pub returns-in_ok-feed-in-Name-clause-fed : goal.returns-in_ok-feed-in-Name-clause-fed
 returns-in_ok-feed-in-Name-clause-fed c =
@@ -77,6 +76,27 @@ returns-in_ok-feed-in-Rule-clause-needs c = rw c.ruled.ensures (rule-needs (λ r
 
 pub returns-in_ok-feed-in-Rule-clause-on : goal.returns-in_ok-feed-in-Rule-clause-on
 returns-in_ok-feed-in-Rule-clause-on c = rw c.ruled.ensures (rule-goes (λ rule. Rule c.in-Rule.kind rule) c.in-Rule.kind _ c.in_ok-feed-in-Rule.field-0 c.in-Rule.is c.in_ok-feed-in-Rule.ensures.on)
+
+pub returns-in_ok-feed-in-LeadersRule-clause-fed : goal.returns-in_ok-feed-in-LeadersRule-clause-fed
+returns-in_ok-feed-in-LeadersRule-clause-fed c =
+    rw c.led.ensures
+    (part-fed rule_rest rule_held (λ rule. BeginLeaders c.in-LeadersRule.kind rule) (stage.LeadersRule c.in-LeadersRule.kind) c.args.mode c.args.head.now c.args.self.now.rule c.feed-in-LeadersRule.new.self c.args.self.now _ c.args.token.now c.in_ok-feed-in-LeadersRule.field-0 c.in-LeadersRule.is c.in-LeadersRule.is
+    (λ behind item more. refl) refl (λ behind item more. refl) refl c.in_ok-feed-in-LeadersRule.ensures.fed)
+
+pub returns-in_ok-feed-in-LeadersRule-clause-needs : goal.returns-in_ok-feed-in-LeadersRule-clause-needs
+returns-in_ok-feed-in-LeadersRule-clause-needs c = rw c.led.ensures (led-needs (λ rule. BeginLeaders c.in-LeadersRule.kind rule) c.in-LeadersRule.kind c.args.self.now _ c.in_ok-feed-in-LeadersRule.field-0 c.in-LeadersRule.is c.in-LeadersRule.is c.in_ok-feed-in-LeadersRule.ensures.needed)
+
+pub returns-in_ok-feed-in-LeadersRule-clause-on : goal.returns-in_ok-feed-in-LeadersRule-clause-on
+returns-in_ok-feed-in-LeadersRule-clause-on c = rw c.led.ensures (led-goes (λ rule. BeginLeaders c.in-LeadersRule.kind rule) c.in-LeadersRule.kind _ c.in_ok-feed-in-LeadersRule.field-0 c.in-LeadersRule.is c.in_ok-feed-in-LeadersRule.ensures.on)
+
+pub returns-in-Leaders-clause-fed : goal.returns-in-Leaders-clause-fed
+returns-in-Leaders-clause-fed c = leaders-fed c.args.mode c.args.head.now c.in-Leaders.kind c.args.token.now c.args.self.now c.feed_leaders.new.self c.feed_leaders.result c.in-Leaders.is c.feed_leaders.ensures
+
+pub returns-in-Leaders-clause-needs : goal.returns-in-Leaders-clause-needs
+returns-in-Leaders-clause-needs c = leaders-needs c.args.mode c.args.head.now c.in-Leaders.kind c.args.token.now c.args.self.now c.feed_leaders.new.self c.feed_leaders.result c.in-Leaders.is c.feed_leaders.ensures
+
+pub returns-in-Leaders-clause-on : goal.returns-in-Leaders-clause-on
+returns-in-Leaders-clause-on c = (c.feed_leaders.ensures c.args.mode c.args.head.now).goes_on
 
 pub returns-in-Spaces-clause-fed : goal.returns-in-Spaces-clause-fed
 returns-in-Spaces-clause-fed c =

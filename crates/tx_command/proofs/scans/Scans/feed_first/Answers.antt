@@ -1,5 +1,5 @@
 use Rattle.std.proofs.Common.{ap}
-use Rattle.tx_command.proofs.Stages.{first-fresh, first-prefixed, first-defining, first-future}
+use Rattle.tx_command.proofs.Stages.{first-fresh, first-prefixed, first-defining, first-future, first-leading}
 use Rattle.tx_command.proofs.scans.Scans.feed_first.Goals as goal
 
 pub returns-in-Fresh : goal.returns-in-Fresh
@@ -10,6 +10,9 @@ returns-in-Prefixed c = first-prefixed c.args.mode c.args.head.now _ c.args.toke
 
 pub returns-in-Defining : goal.returns-in-Defining
 returns-in-Defining c = first-defining c.args.mode c.args.head.now _ c.in-Defining.name c.in-Defining.kind c.args.token.now c.feed_defining.new.self c.feed_defining.result c.in-Defining.is c.feed_defining.ensures
+
+pub returns-in-Leading : goal.returns-in-Leading
+returns-in-Leading c = first-leading c.args.mode c.args.head.now _ _ c.args.token.now c.feed_leading.new.self c.feed_leading.result c.in-Leading.is c.feed_leading.ensures
 
 pub returns-in-Future : goal.returns-in-Future
 returns-in-Future c = rw c.on.ensures.answer (first-future c.args.mode c.args.head.now _ _ c.args.token.now c.on.new.self c.in-Future.is (ap (λ scans. scans.stage) c.on.ensures.scans))

@@ -2,31 +2,25 @@ use Rattle.std.proofs.Common.{◌≤◌, refl}
 use Rattle.tx_scan.specs.DimensionRests.{rest as dimen_rest, held as dimen_held}
 use Rattle.tx_assign.specs.Rests.{rest as assign_rest, held as assign_held}
 use Rattle.tx_command.specs.declared.scans.Stage.TheVariants as stage
-use Rattle.tx_command.specs.declared.types.Command.TheVariants.{Assign, Sized, Rule}
+use Rattle.tx_command.specs.declared.types.Command.TheVariants.{Assign, BeginLeaders, Sized, Rule}
 use Rattle.tx_shape.specs.Rests.{rest as shape_rest, held as shape_held}
 use Rattle.tx_command.specs.Commands.{command_of}
 use Rattle.tx_command.specs.Rests.{rule_rest, rule_held}
 use Rattle.tx_scan.proofs.Behind.{given-behind, given-one}
-use Rattle.tx_command.proofs.Stages.{part-behind, assign-fewer, assign-goes, size-fewer, size-goes, rule-fewer, rule-goes, shape-fewer, shape-goes}
+use Rattle.tx_command.proofs.Stages.{part-behind, assign-fewer, assign-goes, size-fewer, size-goes, rule-fewer, rule-goes, led-fewer, led-goes, shape-fewer, shape-goes}
 use Rattle.tx_command.proofs.scans.Scans.give.Goals as goal
 
 pub returns-in_ok-give-in-Assign-clause-given : goal.returns-in_ok-give-in-Assign-clause-given
 returns-in_ok-give-in-Assign-clause-given c = λ mode head.
-    let few : assign_held c.args.self.now.assignment ≤ 1 = rw c.in-Assign.is at c.requires.1 in
     rw c.assigned.ensures
     (part-behind assign_rest assign_held Assign stage.Assign mode head c.args.self.now.assignment c.give.new.self c.args.self.now _ c.args.value.now c.args.behind.now c.in_ok-give-in-Assign.field-0 c.in-Assign.is c.in-Assign.is
-    (λ behind item more. refl) refl (λ behind item more. refl) refl
-    (given-behind assign_rest assign_held c.args.self.now.assignment c.give.new.self c.args.value.now c.args.behind.now c.in_ok-give-in-Assign.field-0 few c.in_ok-give-in-Assign.ensures.part))
+    (λ behind item more. refl) refl (λ behind item more. refl) refl c.in_ok-give-in-Assign.ensures.part)
 
 pub returns-in_ok-give-in-Assign-clause-needs : goal.returns-in_ok-give-in-Assign-clause-needs
 returns-in_ok-give-in-Assign-clause-needs c = rw c.assigned.ensures (assign-fewer c.args.self.now _ c.in_ok-give-in-Assign.field-0 c.in-Assign.is c.in-Assign.is c.in_ok-give-in-Assign.ensures.fewer)
 
 pub returns-in_ok-give-in-Assign-clause-on : goal.returns-in_ok-give-in-Assign-clause-on
-returns-in_ok-give-in-Assign-clause-on c =
-    let few : assign_held c.args.self.now.assignment ≤ 1 = rw c.in-Assign.is at c.requires.1 in
-    rw c.assigned.ensures
-    (assign-goes _ c.in_ok-give-in-Assign.field-0 c.in-Assign.is
-    (given-one assign_rest assign_held c.args.self.now.assignment c.give.new.self c.args.value.now c.in_ok-give-in-Assign.field-0 few c.in_ok-give-in-Assign.ensures.part))
+returns-in_ok-give-in-Assign-clause-on c = rw c.assigned.ensures (assign-goes _ c.in_ok-give-in-Assign.field-0 c.in-Assign.is c.in_ok-give-in-Assign.ensures.waits)
 
 pub returns-in_ok-give-in-Sized-clause-given : goal.returns-in_ok-give-in-Sized-clause-given
 returns-in_ok-give-in-Sized-clause-given c = λ mode head.
@@ -57,6 +51,18 @@ returns-in_ok-give-in-Rule-clause-needs c = rw c.ruled.ensures (rule-fewer (λ r
 
 pub returns-in_ok-give-in-Rule-clause-on : goal.returns-in_ok-give-in-Rule-clause-on
 returns-in_ok-give-in-Rule-clause-on c = rw c.ruled.ensures (rule-goes (λ rule. Rule c.in-Rule.kind rule) c.in-Rule.kind _ c.in_ok-give-in-Rule.field-0 c.in-Rule.is c.in_ok-give-in-Rule.ensures.on)
+
+pub returns-in_ok-give-in-LeadersRule-clause-given : goal.returns-in_ok-give-in-LeadersRule-clause-given
+returns-in_ok-give-in-LeadersRule-clause-given c = λ mode head.
+    rw c.led.ensures
+    (part-behind rule_rest rule_held (λ rule. BeginLeaders c.in-LeadersRule.kind rule) (stage.LeadersRule c.in-LeadersRule.kind) mode head c.args.self.now.rule c.give-in-LeadersRule.new.self c.args.self.now _ c.args.value.now c.args.behind.now c.in_ok-give-in-LeadersRule.field-0 c.in-LeadersRule.is c.in-LeadersRule.is
+    (λ behind item more. refl) refl (λ behind item more. refl) refl c.in_ok-give-in-LeadersRule.ensures.given)
+
+pub returns-in_ok-give-in-LeadersRule-clause-needs : goal.returns-in_ok-give-in-LeadersRule-clause-needs
+returns-in_ok-give-in-LeadersRule-clause-needs c = rw c.led.ensures (led-fewer (λ rule. BeginLeaders c.in-LeadersRule.kind rule) c.in-LeadersRule.kind c.args.self.now _ c.in_ok-give-in-LeadersRule.field-0 c.in-LeadersRule.is c.in-LeadersRule.is c.in_ok-give-in-LeadersRule.ensures.fewer)
+
+pub returns-in_ok-give-in-LeadersRule-clause-on : goal.returns-in_ok-give-in-LeadersRule-clause-on
+returns-in_ok-give-in-LeadersRule-clause-on c = rw c.led.ensures (led-goes (λ rule. BeginLeaders c.in-LeadersRule.kind rule) c.in-LeadersRule.kind _ c.in_ok-give-in-LeadersRule.field-0 c.in-LeadersRule.is c.in_ok-give-in-LeadersRule.ensures.on)
 
 pub returns-in_ok-give-in-Shape-clause-given : goal.returns-in_ok-give-in-Shape-clause-given
 returns-in_ok-give-in-Shape-clause-given c = λ mode head.
