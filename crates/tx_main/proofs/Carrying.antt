@@ -5,7 +5,7 @@ use Rattle.tx_box.specs.declared.parts.Done.{Done}
 use Rattle.tx_box.specs.declared.parts.Lists.{Lists}
 use Rattle.tx_box.specs.declared.parts.Target.{Target}
 use Rattle.tx_box.specs.Building.{Ended, ending, every_in, greatest_depth, reported}
-use Rattle.tx_box.specs.Effects.{Effect, Left, told}
+use Rattle.tx_box.specs.Effects.{Effect, told}
 use Rattle.tx_eqtb.specs.declared.eqtb.Eqtb.{Eqtb}
 use Rattle.tx_eqtb.specs.Stack.{closed}
 use Rattle.tx_eqtb.specs.Table.{tokens_at}
@@ -17,11 +17,11 @@ use Rattle.tx_seen.specs.declared.error.TexError.{TexError}
 use Rattle.tx_seen.specs.declared.place.Place.TheVariants.{Tokens}
 use Rattle.tx_shape.specs.declared.types.BoxContext.{BoxContext}
 use Rattle.tx_shape.specs.declared.types.BoxContext.TheVariants.{Append, Register, Ship}
-use Rattle.tx_main.specs.declared.state.State.{State}
+use Rattle.tx_state.specs.declared.state.State.{State}
 use Rattle.tx_main.specs.Effects.{boxed, carried, closing, ending_box, settled, target_of, with_after, with_every}
-use Rattle.tx_main.specs.Meanings.{IsStepped, state_of}
-use Rattle.tx_main.specs.Outcomes.{Outcome}
-use Rattle.tx_main.specs.State.{TexState}
+use Rattle.tx_state.specs.Meanings.{IsStepped, state_of}
+use Rattle.tx_state.specs.Outcomes.{Outcome}
+use Rattle.tx_state.specs.State.{TexState}
 
 -- other lists and another table in a state
 abbrev pub with_parts : State → Lists → Eqtb → State

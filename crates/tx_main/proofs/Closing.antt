@@ -4,10 +4,10 @@ use Rattle.tx_expand.specs.Turns.{file_ended}
 use Rattle.tx_machine.specs.declared.types.Ask.TheVariants.{Close}
 use Rattle.tx_machine.specs.declared.types.Event.{Event}
 use Rattle.tx_seen.specs.declared.error.TexError.{TexError}
-use Rattle.tx_main.specs.declared.state.State.{State}
-use Rattle.tx_main.specs.Meanings.{IsStepped}
-use Rattle.tx_main.specs.Outcomes.{Outcome, Asks, Fails}
-use Rattle.tx_main.specs.State.{TexState}
+use Rattle.tx_state.specs.declared.state.State.{State}
+use Rattle.tx_state.specs.Meanings.{IsStepped}
+use Rattle.tx_state.specs.Outcomes.{Outcome, Asks, Fails}
+use Rattle.tx_state.specs.State.{TexState}
 use Rattle.tx_main.specs.Turns.{closed_unless, closes}
 
 -- one outcome is another

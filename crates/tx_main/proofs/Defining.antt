@@ -11,10 +11,10 @@ use Rattle.tx_seen.specs.declared.meaning.Meaning.TheVariants.{Macro}
 use Rattle.tx_seen.specs.declared.place.Place.{Place}
 use Rattle.tx_text.specs.Definitions.{Defining as Defined_text}
 use Rattle.tx_toklist.specs.Macros.{Definition}
-use Rattle.tx_main.specs.declared.state.State.{State}
+use Rattle.tx_state.specs.declared.state.State.{State}
 use Rattle.tx_main.specs.Effects.{assigning, defining, macro_of}
-use Rattle.tx_main.specs.Meanings.{IsStepped, state_of}
-use Rattle.tx_main.specs.Texts.{is_global}
+use Rattle.tx_state.specs.Meanings.{IsStepped, state_of}
+use Rattle.tx_state.specs.Texts.{is_global}
 
 -- the macro and whether it is global, by the prefixes that were read
 pub defines : {E : Type 0} (s new : State) (defined : Place) (kind : DefinitionKind) (d : Defined_text) (prefixes : Prefixes) (made : Definition) (global : Bool) (answer : Result Event E) → prefixes ≡ prefixes_of s.scan.head → made ≡ macro_of prefixes d → global ≡ (prefixes.global || is_global kind) → IfOk answer (λ event. IsStepped (assigning (state_of s) (carried_out s.table (record { place = defined; change = Set (Means (Macro made)) }) global)) s event new) → IfOk answer (λ event. IsStepped (defining (state_of s) defined kind d) s event new)

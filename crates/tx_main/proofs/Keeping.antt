@@ -3,7 +3,7 @@ use Rattle.std.proofs.Common.{◌≡◌, ℕ, Bool, true, false, Option, Some, N
 use Rattle.std.specs.Prelude.{MatchOption}
 use Rattle.tx_char.specs.declared.tokens.Token.{Token}
 use Rattle.tx_pending.specs.Elements.{Element, Given, Input, with_token, with_tokens}
-use Rattle.tx_main.specs.declared.parts.KeptToken.{KeptToken}
+use Rattle.tx_state.specs.declared.parts.KeptToken.{KeptToken}
 use Rattle.tx_main.specs.Effects.{kept_for, kept_tokens, left_after}
 
 map-append : (ts us : List Token) → map Given (ts ++ us) ≡ map Given ts ++ map Given us

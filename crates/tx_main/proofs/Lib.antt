@@ -4,6 +4,5 @@ pub mod Taking
 pub mod TextTurns
 pub mod Closing
 pub mod Turning
-pub mod Texting
 pub mod Carrying
 pub mod Defining

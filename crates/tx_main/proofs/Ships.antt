@@ -7,8 +7,8 @@ use Rattle.tx_ship.specs.declared.params.ShipParams.{ShipParams}
 use Rattle.tx_ship.specs.Pages as ship
 use Rattle.tx_seen.specs.declared.error.TexError.TheVariants.{SizeOutOfRange}
 use Rattle.tx_main.specs.Pages.{ship_params, page_of}
-use Rattle.tx_main.specs.Outcomes.{Ships, Fails}
-use Rattle.tx_main.specs.State.{TexState}
+use Rattle.tx_state.specs.Outcomes.{Ships, Fails}
+use Rattle.tx_state.specs.State.{TexState}
 use Rattle.tx_main.specs.Turns.{ships_with}
 
 pub shipped : (s : TexState) (mag : ℤ) (params : ShipParams) (box : PackedBox) (p : Page) → params ≡ ship_params s.table.table → ship.page_of box params ≡ Ok p → ships_with s mag (page_of s.table.table box) ≡ Ships p (record s { magnification = Some mag })

@@ -1,5 +1,5 @@
 -- What comes of a token by what the open command answers.
-use Rattle.std.proofs.Common.{◌≡◌, List, [], Result, Ok, Err, IfOk, refl, ap, sym, subst, append-nil}
+use Rattle.std.proofs.Common.{◌≡◌, ℕ, ℤ, List, [], Option, Result, Ok, Err, IfOk, refl, ap, sym, subst, append-nil}
 use Rattle.tx_machine.specs.declared.types.Event.{Event}
 use Rattle.tx_machine.specs.declared.types.Event.TheVariants.{Went}
 use Rattle.tx_pending.specs.Elements.{Input, with_tokens}
@@ -9,18 +9,19 @@ use Rattle.tx_seen.specs.declared.error.TexError.{TexError}
 use Rattle.tx_seen.specs.declared.fed.Want.{Want}
 use Rattle.tx_seen.specs.declared.item.Item.{Item}
 use Rattle.tx_seen.specs.declared.seen.Seen.{Seen}
+use Rattle.tx_seen.specs.Magnified.{magnification_in, noted}
 use Rattle.tx_seen.specs.Readings.{More, Done, Wrong}
-use Rattle.tx_main.specs.declared.parts.Phase.TheVariants.{Running}
+use Rattle.tx_state.specs.declared.parts.Phase.TheVariants.{Running}
 use Rattle.tx_command.specs.declared.scans.Taken.{Taken}
 use Rattle.tx_command.specs.declared.scans.Taken.TheVariants as taken
-use Rattle.tx_main.specs.declared.state.State.{State}
+use Rattle.tx_state.specs.declared.state.State.{State}
 use Rattle.tx_command.specs.declared.types.Command.{Command}
 use Rattle.tx_command.specs.Begun.{Begun}
 use Rattle.tx_command.specs.Commands.{command}
 use Rattle.tx_main.specs.Effects.{effect}
-use Rattle.tx_main.specs.Outcomes.{Fails, leaves}
-use Rattle.tx_main.specs.State.{TexState}
-use Rattle.tx_main.specs.Meanings.{IsStepped, state_of}
+use Rattle.tx_state.specs.Outcomes.{Fails, leaves}
+use Rattle.tx_state.specs.State.{TexState}
+use Rattle.tx_state.specs.Meanings.{IsStepped, state_of}
 use Rattle.tx_command.specs.Taken.{joined, IsTaken}
 use Rattle.tx_scan.specs.Settled.{tokens_of}
 use Rattle.tx_main.specs.Turns.{joining, known_of, scanned, taking}
@@ -29,7 +30,7 @@ use Rattle.tx_main.specs.Turns.{joining, known_of, scanned, taking}
 abbrev pub items_with : TexState → Seen → List Item
 items_with s t = joined (value_now (known_of s)) s.mode s.head s.taken t
 
-pub joins-more : (s : TexState) (t : Seen) (want : Want) → command s.mode s.head (items_with s t) ≡ More want → joining s (items_with s t) ≡ leaves (record s { taken = items_with s t })
+pub joins-more : (s : TexState) (t : Seen) (want : Want) → command s.mode s.head (items_with s t) ≡ More want → joining s (items_with s t) ≡ leaves (record s { taken = items_with s t; magnification = noted s.magnification (magnification_in (items_with s t)) })
 joins-more s t want is = ap (scanned s (items_with s t)) is
 
 pub joins-wrong : (s : TexState) (t : Seen) (e : TexError) → command s.mode s.head (items_with s t) ≡ Wrong e → joining s (items_with s t) ≡ Fails e
@@ -48,9 +49,13 @@ taken-by s known scan input t found same k =
     let Holds : Lent → Type 0 = λ l. IsTaken (value_now l) s.scan t s.input scan input found in
     subst Holds same k
 
-pub takes-more : (s : State) (scan : Begun) (input : Input) (t : Seen) → s.phase ≡ Running → IsTaken (value_now (known_of (state_of s))) s.scan t s.input scan input taken.More → IsStepped (taking (state_of s) t) s Went (fed_state s scan input)
-takes-more s scan input t running k =
-    rw (k.1.0, k.1.1)
+-- the same, and the magnification that was taken is used
+abbrev pub noted_state : State → Begun → Input → Option ℤ → State
+noted_state s scan input used = record s { input = input; scan = scan; magnification = used }
+
+pub takes-more : (s : State) (scan : Begun) (input : Input) (t : Seen) (found : Option ℕ) (used : Option ℤ) → s.phase ≡ Running → found ≡ magnification_in scan.taken → used ≡ noted s.magnification found → IsTaken (value_now (known_of (state_of s))) s.scan t s.input scan input taken.More → IsStepped (taking (state_of s) t) s Went (noted_state s scan input used)
+takes-more s scan input t found used running is_found is_used k =
+    rw (is_used, is_found, k.1.0, k.1.1)
     (rw (joins-more (state_of s) t k.0.0 k.0.1) (record { event_is = refl; state_is = rw running refl; said_is = sym (append-nil s.said) }))
 
 pub takes-wrong : (s new : State) (scan : Begun) (input : Input) (t : Seen) (e : TexError) (event : Event) → IsTaken (value_now (known_of (state_of s))) s.scan t s.input scan input (taken.Wrong e) → IsStepped (Fails e) (fed_state s scan input) event new → IsStepped (taking (state_of s) t) s event new

@@ -8,15 +8,15 @@ use Rattle.tx_seen.specs.declared.fed.Fed.TheVariants as fed
 use Rattle.tx_seen.specs.declared.fed.Kind.{Kind}
 use Rattle.tx_seen.specs.declared.fed.Want.{Want}
 use Rattle.tx_seen.specs.declared.seen.Seen.{Seen}
-use Rattle.tx_main.specs.declared.parts.OpenText.{OpenText}
-use Rattle.tx_main.specs.declared.parts.OpenText.TheVariants as texts
-use Rattle.tx_main.specs.declared.parts.Phase.TheVariants.{Running}
-use Rattle.tx_main.specs.declared.state.State.{State}
+use Rattle.tx_state.specs.declared.parts.OpenText.{OpenText}
+use Rattle.tx_state.specs.declared.parts.OpenText.TheVariants as texts
+use Rattle.tx_state.specs.declared.parts.Phase.TheVariants.{Running}
+use Rattle.tx_state.specs.declared.state.State.{State}
 use Rattle.tx_main.specs.Effects.{ending_text}
-use Rattle.tx_main.specs.Meanings.{IsStepped, state_of}
-use Rattle.tx_main.specs.Outcomes.{Fails, leaves}
-use Rattle.tx_main.specs.State.{TexState}
-use Rattle.tx_main.specs.Texts.{IsFedSome, IsTextAnswered, IsTextFed, is_whole, text_answer, text_wanted, with_token}
+use Rattle.tx_state.specs.Meanings.{IsStepped, state_of}
+use Rattle.tx_state.specs.Outcomes.{Fails, leaves}
+use Rattle.tx_state.specs.State.{TexState}
+use Rattle.tx_state.specs.Texts.{IsFedSome, IsTextAnswered, IsTextFed, is_whole, text_answer, text_wanted, with_token}
 use Rattle.tx_main.specs.Turns.{taken_by, texting}
 
 -- a text that is open has answered

@@ -1,21 +1,22 @@
 -- What comes of a turn of the expander by what it answers.
-use Rattle.std.proofs.Common.{◌≡◌, Result, Ok, Err, IfOk, refl, subst}
+use Rattle.std.proofs.Common.{◌≡◌, ℕ, ℤ, Option, Result, Ok, Err, IfOk, refl, ap, sym, subst, ◌∙◌}
 use Rattle.tx_expand.specs.declared.state.Open.{Open}
 use Rattle.tx_expand.specs.declared.types.Expanded.{Expanded as Answer}
 use Rattle.tx_expand.specs.declared.types.Wanted.{Wanted}
 use Rattle.tx_expand.specs.Expanding.{reader_of, world_of}
 use Rattle.tx_expand.specs.Reader.{Reader, Turn, Goes, Fails}
-use Rattle.tx_expand.specs.Turns.{turn, IsTurned}
+use Rattle.tx_expand.specs.Turns.{magnification_taken, turn, IsTurned}
 use Rattle.tx_known.specs.Values.{Lent}
 use Rattle.tx_machine.specs.declared.types.Event.{Event}
 use Rattle.tx_pending.specs.Elements.{Input}
 use Rattle.tx_prim.specs.declared.modes.Mode.{Mode}
-use Rattle.tx_main.specs.declared.state.State.{State}
-use Rattle.tx_main.specs.Meanings.{IsStepped, state_of}
-use Rattle.tx_main.specs.State.{TexState}
+use Rattle.tx_seen.specs.Magnified.{noted}
+use Rattle.tx_state.specs.declared.state.State.{State}
+use Rattle.tx_state.specs.Meanings.{IsStepped, state_of}
+use Rattle.tx_state.specs.State.{TexState}
 use Rattle.tx_main.specs.Turns.{answered, known_of, reads, turned, wanted_by}
 
-pub turned-by : (s : TexState) (t : Turn) (left : Reader) (given : Answer) → IsTurned t left given → turned s t ≡ answered (record s { reader = left }) given
+pub turned-by : (s : TexState) (t : Turn) (left : Reader) (given : Answer) → IsTurned t left given → turned s t ≡ answered (record s { reader = left; magnification = noted s.magnification (magnification_taken left.begun) }) given
 turned-by s (Goes answer behind) left given k = rw (k.0, k.1) refl
 turned-by s (Fails error) left given k = rw k refl
 
@@ -25,15 +26,23 @@ turned-known s known mode wanted left given same k =
     let Holds : Lent → Type 0 = λ l. IsTurned (turn (world_of l mode) wanted (reader_of s.expander s.input)) left given in
     subst Holds same k
 
--- the state once the expander has answered
-abbrev pub turned_state : State → Open → Input → State
-turned_state s expander input = record s { expander = expander; input = input }
+-- the state once the expander has answered, and the magnification that it took is used
+abbrev pub turned_state : State → Open → Input → Option ℤ → State
+turned_state s expander input used = record s { expander = expander; input = input; magnification = used }
 
-pub reads-on : (s new : State) (expander : Open) (input : Input) (wanted : Wanted) (given : Answer) (event : Event) → wanted ≡ wanted_by (state_of s) s.text → IsTurned (turn (world_of (known_of (state_of s)) s.scan.mode) wanted (reader_of s.expander s.input)) (reader_of expander input) given → IsStepped (answered (state_of (turned_state s expander input)) given) (turned_state s expander input) event new → IsStepped (reads (state_of s)) s event new
-reads-on s new expander input wanted given event wants k did =
-    rw (turned-by (state_of s) (turn (world_of (known_of (state_of s)) s.scan.mode) (wanted_by (state_of s) s.text) (reader_of s.expander s.input)) (reader_of expander input) given (rw wants at k))
+-- the magnification that the innermost expansion took is used
+abbrev pub IsNoted : State → Open → Input → Option ℤ → Type 0
+IsNoted s expander input used = used ≡ noted s.magnification (magnification_taken (reader_of expander input).begun)
+
+pub reads-on : (s new : State) (expander : Open) (input : Input) (used : Option ℤ) (wanted : Wanted) (given : Answer) (event : Event) → wanted ≡ wanted_by (state_of s) s.text → IsNoted s expander input used → IsTurned (turn (world_of (known_of (state_of s)) s.scan.mode) wanted (reader_of s.expander s.input)) (reader_of expander input) given → IsStepped (answered (state_of (turned_state s expander input used)) given) (turned_state s expander input used) event new → IsStepped (reads (state_of s)) s event new
+reads-on s new expander input used wanted given event wants notes k did =
+    rw (turned-by (state_of s) (turn (world_of (known_of (state_of s)) s.scan.mode) (wanted_by (state_of s) s.text) (reader_of s.expander s.input)) (reader_of expander input) given (rw wants at k), sym notes)
     (record { event_is = did.event_is; state_is = did.state_is; said_is = did.said_is })
 
-pub reads-by : {E : Type 0} (s new : State) (expander : Open) (input : Input) (mode : Mode) (wanted : Wanted) (given : Answer) (answer : Result Event E) → mode ≡ s.scan.mode → wanted ≡ wanted_by (state_of s) s.text → IsTurned (turn (world_of (known_of (state_of s)) mode) wanted (reader_of s.expander s.input)) (reader_of expander input) given → IfOk answer (λ event. IsStepped (answered (state_of (turned_state s expander input)) given) (turned_state s expander input) event new) → IfOk answer (λ event. IsStepped (reads (state_of s)) s event new)
-reads-by s new expander input mode wanted given (Ok event) in_mode wants k did = reads-on s new expander input wanted given event wants (rw in_mode at k) did
-reads-by s new expander input mode wanted given (Err e) in_mode wants k did = tt
+-- what was found is what the innermost expansion took
+pub notes : (s : State) (expander : Open) (input : Input) (found : Option ℕ) (used : Option ℤ) → found ≡ magnification_taken expander.begun.items → used ≡ noted s.magnification found → IsNoted s expander input used
+notes s expander input found used is_found is_used = is_used ∙ ap (λ (m : Option ℕ). noted s.magnification m) is_found
+
+pub reads-by : {E : Type 0} (s new : State) (expander : Open) (input : Input) (used : Option ℤ) (mode : Mode) (wanted : Wanted) (given : Answer) (answer : Result Event E) → mode ≡ s.scan.mode → wanted ≡ wanted_by (state_of s) s.text → IsNoted s expander input used → IsTurned (turn (world_of (known_of (state_of s)) mode) wanted (reader_of s.expander s.input)) (reader_of expander input) given → IfOk answer (λ event. IsStepped (answered (state_of (turned_state s expander input used)) given) (turned_state s expander input used) event new) → IfOk answer (λ event. IsStepped (reads (state_of s)) s event new)
+reads-by s new expander input used mode wanted given (Ok event) in_mode wants is_noted k did = reads-on s new expander input used wanted given event wants is_noted (rw in_mode at k) did
+reads-by s new expander input used mode wanted given (Err e) in_mode wants is_noted k did = tt

@@ -4,7 +4,10 @@ use Rattle.tx_char.specs.declared.tokens.Token.{Token}
 use Rattle.tx_node.specs.declared.plain.KernKind.TheVariants.{Explicit}
 use Rattle.tx_node.specs.declared.plain.Plain.TheVariants as small
 use Rattle.tx_node.specs.declared.plain.Shared.TheVariants as large
+use Rattle.tx_node.specs.declared.plain.LeadersKind.{LeadersKind as ItemLeaders}
+use Rattle.tx_node.specs.declared.plain.LeadersKind.TheVariants as item_leaders
 use Rattle.tx_node.specs.declared.rule.Rule.{Rule as ARule}
+use Rattle.tx_num.specs.Glue.{GlueSpec}
 use Rattle.tx_node.specs.Items.{Item, plain, shared}
 use Rattle.tx_nest.specs.declared.list.ModeList.{ModeList}
 use Rattle.tx_nest.specs.Appended.{rule_appended}
@@ -24,6 +27,8 @@ use Rattle.tx_prim.specs.declared.family.AfterKind.TheVariants as after
 use Rattle.tx_prim.specs.declared.family.BoxKind.{BoxKind}
 use Rattle.tx_prim.specs.declared.family.DefinitionKind.{DefinitionKind}
 use Rattle.tx_prim.specs.declared.family.ItemKind.{ItemKind}
+use Rattle.tx_prim.specs.declared.family.LeadersKind.{LeadersKind}
+use Rattle.tx_prim.specs.declared.family.LeadersKind.TheVariants as leaders
 use Rattle.tx_prim.specs.declared.integer.IntegerParameter.TheVariants.{Globaldefs}
 use Rattle.tx_prim.specs.declared.family.TextUse.{TextUse}
 use Rattle.tx_prim.specs.declared.family.TextUse.TheVariants as purposes
@@ -40,35 +45,35 @@ use Rattle.tx_seen.specs.declared.place.Place.{Place}
 use Rattle.tx_seen.specs.declared.place.Place.TheVariants.{Name, Tokens}
 use Rattle.tx_assign.specs.declared.types.Assignment.{Assignment}
 use Rattle.tx_assign.specs.declared.types.Change.{Change}
-use Rattle.tx_assign.specs.declared.types.Change.TheVariants.{Set, Compute, Copy, Text}
+use Rattle.tx_assign.specs.declared.types.Change.TheVariants.{Set, Compute, Add, Copy, Text}
 use Rattle.tx_assign.specs.Changes.{carried_out, is_global as globally, relaxed, with_text}
 use Rattle.tx_text.specs.Definitions.{Defining as Defined_text}
 use Rattle.tx_toklist.specs.Macros.{Definition}
 use Rattle.tx_toklist.specs.Text.{printed}
 use Rattle.tx_command.specs.declared.types.Command.{Command}
-use Rattle.tx_command.specs.declared.types.Command.TheVariants.{Nothing, Space, Character, BeginGroup, EndGroup, BeginSemiSimple, EndSemiSimple, Prefix, Define, Assign, Sized, Rule, BeginBox, UseBox, CopyBox, LastBox, Unbox, Penalize, Remove, SetDepth, End, Interact, DefineMacro, BeginText, DefineFuture, Keep}
+use Rattle.tx_command.specs.declared.types.Command.TheVariants.{Nothing, Space, Character, BeginGroup, EndGroup, BeginSemiSimple, EndSemiSimple, Prefix, Define, Assign, Sized, Rule, BeginBox, UseBox, CopyBox, LastBox, Unbox, Penalize, Remove, Skip, BeginLeaders, SetDepth, End, Interact, DefineMacro, BeginText, DefineFuture, Keep}
 use Rattle.tx_shape.specs.declared.types.BoxContext.{BoxContext}
 use Rattle.tx_shape.specs.declared.types.BoxContext.TheVariants.{Append, Register, Ship}
 use Rattle.tx_command.specs.declared.types.Head.{Head}
-use Rattle.tx_command.specs.declared.types.Head.TheVariants.{Fresh, Prefixed, Defining, Future}
+use Rattle.tx_command.specs.declared.types.Head.TheVariants.{Fresh, Prefixed, Defining, Future, Leading}
 use Rattle.tx_command.specs.declared.types.Prefixes.{Prefixes}
-use Rattle.tx_command.specs.Commands.{prefixes_of}
-use Rattle.tx_main.specs.declared.parts.KeptToken.{KeptToken}
-use Rattle.tx_main.specs.declared.parts.OpenText.{OpenText}
-use Rattle.tx_main.specs.declared.parts.OpenText.TheVariants as texts
-use Rattle.tx_box.specs.declared.parts.Lists.{Lists}
+use Rattle.tx_command.specs.Commands.{leaders_before, prefixes_of}
+use Rattle.tx_state.specs.declared.parts.KeptToken.{KeptToken}
+use Rattle.tx_state.specs.declared.parts.OpenText.{OpenText}
+use Rattle.tx_state.specs.declared.parts.OpenText.TheVariants as texts
 use Rattle.tx_box.specs.declared.parts.Target.{Target}
 use Rattle.tx_box.specs.declared.parts.Work.{Work}
 use Rattle.tx_box.specs.Building.{Ended, beginning, ending as ending_list, every_in, greatest_depth}
 use Rattle.tx_box.specs.Effects.{Effect, Left}
 use Rattle.tx_box.specs.Placing.{with_list}
 use Rattle.tx_box.specs.Sources.{appended, copying, taking_last, unboxing, using}
-use Rattle.tx_main.specs.declared.parts.Due.{Due}
-use Rattle.tx_main.specs.declared.parts.Due.TheVariants.{Boxes}
+use Rattle.tx_state.specs.declared.parts.Due.{Due}
+use Rattle.tx_state.specs.declared.parts.Due.TheVariants.{Boxes}
 use Rattle.tx_main.specs.Pages.{integer}
-use Rattle.tx_main.specs.State.{TexState}
-use Rattle.tx_main.specs.Texts.{absorbed_text, code_for, definition_text, is_global, list_text, token_for}
-use Rattle.tx_main.specs.Outcomes.{Outcome, Leaves, Fails, Ends, leaves}
+use Rattle.tx_state.specs.State.{TexState}
+use Rattle.tx_main.specs.Letters.{code_for, token_for}
+use Rattle.tx_state.specs.Texts.{absorbed_text, definition_text, is_global, list_text}
+use Rattle.tx_state.specs.Outcomes.{Outcome, Leaves, Fails, Ends, leaves}
 
 -- one more prefix
 abbrev pub with_prefix : Prefixes → APrefix → Prefixes
@@ -106,6 +111,7 @@ abbrev pub assigning_now : TexState → Assignment → Change → Outcome
 assigning_now s a Text = leaves (in_list s a.place)
 assigning_now s a (Set entry) = assigning s (carried_out s.table a (prefixes_of s.head).global)
 assigning_now s a (Compute operation n) = assigning s (carried_out s.table a (prefixes_of s.head).global)
+assigning_now s a (Add g) = assigning s (carried_out s.table a (prefixes_of s.head).global)
 assigning_now s a (Copy other) = assigning s (carried_out s.table a (prefixes_of s.head).global)
 
 -- the list that is being built changes
@@ -293,6 +299,17 @@ ending_semi_simple s (Some kind.HorizontalBox) = Fails ExtraGroupEnd
 ending_semi_simple s (Some kind.VerticalBox) = Fails ExtraGroupEnd
 ending_semi_simple s (Some kind.TopBox) = Fails ExtraGroupEnd
 
+-- how leaders are spread, as an item says it
+abbrev pub spread : LeadersKind → ItemLeaders
+spread leaders.Aligned = item_leaders.Aligned
+spread leaders.Centered = item_leaders.Centered
+spread leaders.Expanded = item_leaders.Expanded
+
+-- glue, or leaders where they stand before it (section 1078)
+abbrev pub skipping : TexState → GlueSpec → Option (LeadersKind × ARule) → Outcome
+skipping s g None = adding s (plain (small.Glue g))
+skipping s g (Some (kind, rule)) = adding (record s { head = Fresh }) (shared (large.Leaders (record { kind = spread kind; glue = g; rule = rule })))
+
 -- the effect of each command
 abbrev pub effect : TexState → Command → Outcome
 effect s Nothing = leaves s
@@ -315,6 +332,8 @@ effect s (CopyBox n context) = carried (settled context s) (copying (target_of s
 effect s (LastBox context) = carried (settled context s) (taking_last (target_of s context) s.lists s.table)
 effect s (Unbox kind n) = carried s (unboxing kind n s.lists s.table)
 effect s (Remove kind) = removing s kind
+effect s (Skip g) = skipping s g (leaders_before s.head)
+effect s (BeginLeaders kind rule) = leaves (record s { head = Leading kind rule })
 effect s (SetDepth depth) = setting_depth s depth
 effect s End = Ends
 effect s (Interact kind) = leaves (assigned s)

@@ -4,13 +4,13 @@ use Rattle.std.proofs.Common.{arith}
 use Rattle.tx_machine.specs.declared.types.AskKind.{AskKind}
 use Rattle.tx_machine.specs.declared.types.Reply.{Reply}
 use Rattle.tx_machine.specs.Machine.{Stepped, IsLawful, Ready, Awaits, mode_after}
-use Rattle.tx_main.specs.declared.parts.Due.{Due}
-use Rattle.tx_main.specs.declared.parts.Due.TheVariants.{OpenMain, FileAbsent, FileEnded, MainClosed, Boxes}
+use Rattle.tx_state.specs.declared.parts.Due.{Due}
+use Rattle.tx_state.specs.declared.parts.Due.TheVariants.{OpenMain, FileAbsent, FileEnded, MainClosed, Boxes}
 use Rattle.tx_box.specs.declared.parts.Work.TheVariants.{Copy, CopyList, Ship}
-use Rattle.tx_main.specs.Outcomes.{Outcome, Leaves, Asks, Ships, Fails, Ends, stepped}
+use Rattle.tx_state.specs.Outcomes.{Outcome, Leaves, Asks, Ships, Fails, Ends, stepped}
 use Rattle.tx_machine.specs.Same.{same-tells}
-use Rattle.tx_main.specs.Codes.{meaning_code}
-use Rattle.tx_main.specs.State.{Meaning, Runs, Waits, Stops, mode_of}
+use Rattle.tx_state.specs.Codes.{meaning_code}
+use Rattle.tx_state.specs.State.{Meaning, Runs, Waits, Stops, mode_of}
 use Rattle.tx_main.specs.Turns.{tex, cost, due_cost, outcome, takes}
 
 -- the mode after a turn is that of its event

@@ -1,9 +1,6 @@
 pub mod Pages
-pub mod State
-pub mod Outcomes
-pub mod Codes
-pub mod Texts
+pub mod Beginning
+pub mod Letters
 pub mod Effects
 pub mod Turns
-pub mod Meanings
 pub mod Lawful

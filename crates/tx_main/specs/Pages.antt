@@ -1,5 +1,5 @@
 -- What shipping and reading take from the table (TeX: The Program, sections 638 to 644 and 362).
-use Rattle.std.specs.Prelude.{ℕ, ℤ, pos, negsuc, Bool, true, ◌&&◌, nat_lt, int_le, List, [], ◌∷◌, Option, Some, None, Result, if◌then◌else◌}
+use Rattle.std.specs.Prelude.{ℕ, ℤ, pos, negsuc, nat_lt, List, [], ◌∷◌, Option, Some, None, Result, if◌then◌else◌}
 use Rattle.tx_dvi.specs.Page.{Page}
 use Rattle.tx_machine.specs.declared.types.Date.{Date}
 use Rattle.tx_node.specs.Items.{PackedBox}
@@ -49,14 +49,6 @@ ship_params table = record {
 -- the page of a box
 abbrev pub page_of : Table → PackedBox → Result Page ShipError
 page_of table box = ship.page_of box (ship_params table)
-
--- a page's magnification is 1 to 32768, and that of the first page
-abbrev pub may_be : Option ℤ → ℤ → Bool
-may_be first mag = (int_le (pos 1) mag && int_le mag (pos 32768)) && is_that first mag
-  where
-    is_that : Option ℤ → ℤ → Bool
-    is_that None mag = true
-    is_that (Some n) mag = int_le n mag && int_le mag n
 
 -- the character at the end of each line that is read, if there is one (TeX: The Program, section 362)
 abbrev pub line_end : Table → Option ℕ

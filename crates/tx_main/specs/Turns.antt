@@ -1,5 +1,5 @@
 -- One turn of TeX: due work, the ask for a line, or one token and its expansion (TeX: The Program, sections 1030, 343, 360 and 366).
-use Rattle.std.specs.Prelude.{ℕ, suc, ℤ, Bool, true, false, List, [], ◌∷◌, ◌++◌, Option, None, Some, is_some, Result, Ok, Err, if◌then◌else◌}
+use Rattle.std.specs.Prelude.{ℕ, suc, ℤ, true, false, List, [], ◌∷◌, ◌++◌, Option, None, Some, is_some, Result, Ok, Err, if◌then◌else◌}
 use Rattle.tx_char.specs.declared.tokens.Token.{Token}
 use Rattle.tx_seen.specs.declared.item.Item.{Item}
 use Rattle.tx_seen.specs.declared.item.Item.TheVariants.{Took}
@@ -16,9 +16,9 @@ use Rattle.tx_machine.specs.declared.types.Reply.TheVariants.{Found, Absent, Lin
 use Rattle.tx_machine.specs.Machine.{Formatter, Stepped}
 use Rattle.tx_seen.specs.declared.error.TexError.{TexError}
 use Rattle.tx_seen.specs.declared.error.TexError.TheVariants.{SizeOutOfRange, FileAbsent, BadMagnification, NoEnd}
-use Rattle.tx_main.specs.declared.parts.Due.{Due}
-use Rattle.tx_main.specs.declared.parts.Due.TheVariants.{OpenMain, FileAbsent as Due_file_absent, FileEnded, MainClosed, Boxes}
-use Rattle.tx_main.specs.declared.parts.OpenText.{OpenText}
+use Rattle.tx_state.specs.declared.parts.Due.{Due}
+use Rattle.tx_state.specs.declared.parts.Due.TheVariants.{OpenMain, FileAbsent as Due_file_absent, FileEnded, MainClosed, Boxes}
+use Rattle.tx_state.specs.declared.parts.OpenText.{OpenText}
 use Rattle.tx_command.specs.declared.types.Command.{Command}
 use Rattle.tx_box.specs.declared.parts.Work.{Work}
 use Rattle.tx_box.specs.declared.parts.Work.TheVariants.{Copy, CopyList, Ship}
@@ -31,28 +31,31 @@ use Rattle.tx_expand.specs.declared.types.Expanded.TheVariants as answer
 use Rattle.tx_expand.specs.declared.types.Wanted.{Wanted}
 use Rattle.tx_expand.specs.Expanding.{reader as reader_with, world_of}
 use Rattle.tx_expand.specs.Reader.{Turn, Goes, Fails as Turn_fails}
-use Rattle.tx_expand.specs.Turns.{file_ended, is_opening, opened, put, turn}
+use Rattle.tx_expand.specs.Turns.{file_ended, is_opening, magnification_taken, opened, put, turn}
 use Rattle.tx_pending.specs.Elements.{with_line}
 use Rattle.tx_prim.specs.declared.integer.IntegerParameter.TheVariants.{Mag}
 use Rattle.tx_scan.specs.Settled.{tokens_of}
 use Rattle.tx_scan.specs.Supplied.{with_values}
-use Rattle.tx_main.specs.Pages.{integer, line_end, page_of, may_be}
+use Rattle.tx_main.specs.Pages.{integer, line_end, page_of}
+use Rattle.tx_known.specs.Values.{may_be}
+use Rattle.tx_seen.specs.Magnified.{magnification_in, noted}
 use Rattle.tx_command.specs.Commands.{command}
 use Rattle.tx_main.specs.Effects.{carried, effect, ending_text, relaxing, with_items}
 use Rattle.tx_seen.specs.Readings.{Reading, More, Need, Done, Wrong}
-use Rattle.tx_main.specs.Outcomes.{Outcome, Asks, Ships, Fails, Ends, leaves, stepped}
+use Rattle.tx_state.specs.Outcomes.{Outcome, Asks, Ships, Fails, Ends, leaves, stepped}
 use Rattle.tx_machine.specs.Same.{same_by}
-use Rattle.tx_main.specs.Codes.{meaning_code}
-use Rattle.tx_main.specs.Texts.{is_whole, text_wanted, with_given, with_token}
-use Rattle.tx_main.specs.State.{TexState, Meaning, Runs, Waits, Stops, mode_of, first_state}
+use Rattle.tx_state.specs.Codes.{meaning_code}
+use Rattle.tx_state.specs.Texts.{is_whole, text_wanted, with_given, with_token}
+use Rattle.tx_state.specs.State.{TexState, Meaning, Runs, Waits, Stops, mode_of}
+use Rattle.tx_main.specs.Beginning.{first_state}
 
 -- what scans, expansions and tests may ask for
 abbrev pub known_of : TexState → Lent
-known_of s = record { table = s.table; nest = s.lists.nest; badness = s.lists.badness }
+known_of s = record { table = s.table; nest = s.lists.nest; badness = s.lists.badness; magnification = s.magnification }
 
 -- what comes of these items: the command goes on, or is wrong, or takes effect, and what it didn't need is read again
 abbrev pub scanned : TexState → List Item → Reading Command → Outcome
-scanned s items (More want) = leaves (record s { taken = items })
+scanned s items (More want) = leaves (record s { taken = items; magnification = noted s.magnification (magnification_in items) })
 scanned s items (Need kind) = leaves (record s { taken = items })
 scanned s items (Wrong error) = Fails error
 scanned s items (Done c behind) = effect (record s { taken = []; reader = put (tokens_of behind) s.reader }) c
@@ -114,7 +117,7 @@ answered s (answer.Wrong error) = Fails error
 
 -- what comes of a turn of the expander
 abbrev pub turned : TexState → Turn → Outcome
-turned s (Goes answer left) = answered (record s { reader = left }) answer
+turned s (Goes answer left) = answered (record s { reader = left; magnification = noted s.magnification (magnification_taken left.begun) }) answer
 turned s (Turn_fails error) = Fails error
 
 abbrev pub reads : TexState → Outcome

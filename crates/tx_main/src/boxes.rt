@@ -6,17 +6,15 @@ ghost use Rattle.tx_box.specs.Effects.{told};
 ghost use Rattle.tx_eqtb.specs.Stack.{kind_of};
 ghost use Rattle.tx_node.specs.Nodes.{item_of};
 ghost use Rattle.tx_command.specs.declared.types.Command.{Command};
-ghost use Rattle.tx_main.specs.declared.parts.Phase.{Phase};
+ghost use Rattle.tx_state.specs.declared.parts.Phase.{Phase};
 ghost use Rattle.tx_main.specs.Effects as effects;
-ghost use Rattle.tx_main.specs.Meanings.{IsStepped, state_of};
-ghost use Rattle.tx_main.specs.Outcomes.{Leaves};
+ghost use Rattle.tx_state.specs.Meanings.{IsStepped, state_of};
+ghost use Rattle.tx_state.specs.Outcomes.{Leaves};
 ghost use Rattle.tx_main.specs.Turns as turns;
 
 use crate::effects::{end_assignment, fail, finish_assignment};
 use crate::groups::leave_group;
 use crate::page::integer;
-use crate::parts::Due;
-use crate::state::State;
 use std::alloc::{AllocError, Global};
 use tx_assign::is_global;
 use tx_box::{
@@ -31,6 +29,7 @@ use tx_nest::{append_item, append_rule, remove_item, set_prev_depth};
 use tx_node::{BoxNode, Node, Nodes, Rule};
 use tx_prim::{BoxKind, IntegerParameter, ItemKind, UnboxKind};
 use tx_seen::{Place, TexError};
+use tx_state::{Due, State};
 
 /// Appends an item that changes nothing else of the list.
 pub fn add(s: &mut State, node: Node) -> Result<Event, AllocError>

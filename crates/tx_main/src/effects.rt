@@ -3,18 +3,15 @@ ghost use Rattle.std.specs.Prelude.{◌≡◌, ◌≢◌, ◌++◌, ◌||◌, []
 ghost use Rattle.tx_node.specs.Nodes.{item_of};
 ghost use Rattle.tx_assign.specs.Changes.{carried_out};
 ghost use Rattle.tx_main.specs.Effects as effects;
-ghost use Rattle.tx_main.specs.Outcomes.{Fails, Ends, leaves};
-ghost use Rattle.tx_main.specs.Meanings.{IsStepped, meaning_of, state_of};
-ghost use Rattle.tx_main.specs.Texts.{is_global as global_kind};
+ghost use Rattle.tx_state.specs.Outcomes.{Fails, Ends, leaves};
+ghost use Rattle.tx_state.specs.Meanings.{IsStepped, meaning_of, state_of};
+ghost use Rattle.tx_state.specs.Texts.{is_global as global_kind};
 
 use crate::boxes::{
     add, add_rule, copy_box, open_box, remove, set_depth, take_box, unbox, use_box,
 };
 use crate::groups::{end_group, end_semi_simple, open};
-use crate::letters::with_letters;
-use crate::parts::{KeptToken, OpenText, Phase};
-use crate::state::State;
-use crate::text::{code_for, is_global};
+use crate::letters::{code_for, with_letters};
 use itoa::Buffer;
 use std::alloc::{AllocError, Global};
 use std::mem;
@@ -25,12 +22,14 @@ use tx_command::{Command, Head, Prefixes};
 use tx_eqtb::{Entry, GroupKind};
 use tx_expand::escape_of;
 use tx_machine::{Event, Stop};
-use tx_node::{KernKind, Node, Plain, Shared};
+use tx_node::{KernKind, Leaders, Node, Plain, Rule, Shared};
 use tx_num::Glue;
 use tx_prim::{
-    AfterKind, DefinitionKind, Interaction, Mode, Prefix, Primitive, Shorthand, SizeKind, TextUse,
+    AfterKind, DefinitionKind, Interaction, LeadersKind, Mode, Prefix, Primitive, Shorthand,
+    SizeKind, TextUse,
 };
 use tx_seen::{Meaning, Place, TexError};
+use tx_state::{KeptToken, OpenText, Phase, State, is_global};
 use tx_text::{DefinitionScan, TextScan};
 use tx_toklist::{TokList, Toks, text_of};
 
@@ -368,6 +367,44 @@ fn use_size(s: &mut State, kind: SizeKind, size: i32) -> Result<Event, AllocErro
     }
 }
 
+/// How leaders are spread, as an item says it.
+fn spread(kind: LeadersKind) -> tx_node::LeadersKind
+    ensures { result ≡ effects.spread kind }
+{
+    match kind {
+        LeadersKind::Aligned => tx_node::LeadersKind::Aligned,
+        LeadersKind::Centered => tx_node::LeadersKind::Centered,
+        LeadersKind::Expanded => tx_node::LeadersKind::Expanded,
+    }
+}
+
+/// \hskip or its kin: glue is appended, or leaders where they stand before it. Its only error is want of memory.
+fn skip(alloc: Global, s: &mut State, glue: Glue) -> Result<Event, AllocError>
+    requires running { s.old.phase ≡ Phase.Running }
+    requires between { s.old.scan.taken ≡ [] }
+    ensures { IfOk result (λ event. IsStepped (effects.effect (state_of s.old) (Command.Skip glue)) s.old event s.new) }
+{
+    match s.scan.leaders() {
+        None => add(s, Node::Plain(Plain::Glue(glue))),
+        Some((kind, rule)) => {
+            let kind = spread(kind);
+            let leaders = Shared::Leaders(Leaders { kind, glue, rule });
+            s.scan.begin_fresh();
+            add(s, Node::from_shared(alloc, leaders)?)
+        }
+    }
+}
+
+/// \leaders or its kin and the rule that they repeat: glue is to follow.
+fn begin_leaders(s: &mut State, kind: LeadersKind, rule: Rule) -> Event
+    requires running { s.old.phase ≡ Phase.Running }
+    requires between { s.old.scan.taken ≡ [] }
+    ensures { IsStepped (effects.effect (state_of s.old) (Command.BeginLeaders kind rule)) s.old result s.new }
+{
+    s.scan.begin_behind(Head::Leading(kind, rule));
+    Event::Went
+}
+
 /// \batchmode or its kin: an assignment of which nothing comes.
 fn interact(s: &mut State, kind: Interaction) -> Result<Event, AllocError>
     requires running { s.old.phase ≡ Phase.Running }
@@ -420,6 +457,8 @@ pub fn carry_out(alloc: Global, s: &mut State, command: Command) -> Result<Event
         Command::LastBox(context) => take_box(alloc, s, context),
         Command::Unbox(kind, number) => unbox(s, kind, number),
         Command::Penalize(number) => add(s, Node::Plain(Plain::Penalty(number))),
+        Command::Skip(glue) => skip(alloc, s, glue),
+        Command::BeginLeaders(kind, rule) => Ok(begin_leaders(s, kind, rule)),
         Command::SetDepth(depth) => set_depth(s, depth),
         Command::Remove(kind) => Ok(remove(s, kind)),
         Command::End => Ok(finish(s)),

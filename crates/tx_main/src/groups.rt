@@ -3,15 +3,13 @@ ghost use Rattle.std.specs.Prelude.{◌≡◌, [], Some, IfOk, OnOk};
 ghost use Rattle.tx_eqtb.specs.Stack.{kind_of};
 ghost use Rattle.tx_pending.specs.Elements.{with_tokens};
 ghost use Rattle.tx_command.specs.declared.types.Command.{Command};
-ghost use Rattle.tx_main.specs.declared.parts.Phase.{Phase};
+ghost use Rattle.tx_state.specs.declared.parts.Phase.{Phase};
 ghost use Rattle.tx_main.specs.Effects as effects;
-ghost use Rattle.tx_main.specs.Outcomes.{leaves};
-ghost use Rattle.tx_main.specs.Meanings.{IsStepped, state_of};
+ghost use Rattle.tx_state.specs.Outcomes.{leaves};
+ghost use Rattle.tx_state.specs.Meanings.{IsStepped, state_of};
 
 use crate::boxes::end_box;
 use crate::effects::fail;
-use crate::parts::KeptToken;
-use crate::state::State;
 use std::alloc::{AllocError, Global};
 use tx_char::Token;
 use tx_eqtb::{GroupKind, OpenError};
@@ -19,6 +17,7 @@ use tx_list::Stack;
 use tx_machine::Event;
 use tx_pending::Pending;
 use tx_seen::TexError;
+use tx_state::{KeptToken, State};
 
 /// Opens a group of this kind.
 pub fn open(s: &mut State, kind: GroupKind) -> Result<Event, AllocError>

@@ -1,6 +1,6 @@
 //! Texts with other letters (TeX: The Program, section 1289).
 ghost use Rattle.std.specs.Prelude.{◌≡◌, map, IfOk};
-ghost use Rattle.tx_main.specs.Texts as spec;
+ghost use Rattle.tx_main.specs.Letters as spec;
 
 use std::alloc::{AllocError, Global};
 use tx_char::Token;
@@ -9,6 +9,17 @@ use tx_prim::CharacterCode;
 use tx_scan::byte;
 use tx_seen::Place;
 use tx_toklist::Toks;
+
+/// The code that tells which character stands for one in a text with other letters.
+pub fn code_for(upper: bool) -> CharacterCode
+    ensures { result ≡ spec.code_for upper }
+{
+    if upper {
+        CharacterCode::UpperCase
+    } else {
+        CharacterCode::LowerCase
+    }
+}
 
 /// The character for a character: that of its \uccode or \lccode, where this isn't 0.
 fn letter_for(table: &Eqtb, kind: CharacterCode, code: u8) -> u8

@@ -1,14 +1,12 @@
 //! TeX behind the seam.
 ghost use Rattle.std.specs.Prelude.{◌≡◌, List, ℕ};
-ghost use Rattle.tx_main.specs.State.{Meaning};
-ghost use Rattle.tx_main.specs.Meanings.{meaning_of};
+ghost use Rattle.tx_state.specs.State.{Meaning};
+ghost use Rattle.tx_state.specs.Meanings.{meaning_of};
 ghost use Rattle.tx_main.specs.Turns.{tex};
 ghost use Rattle.tx_main.specs.Lawful.{tex-lawful};
 
 use crate::page::moment_of;
-use crate::parts::Due;
-use crate::state::State;
-use crate::{same, share, turn};
+use crate::turn;
 use std::alloc::{AllocError, Global};
 use std::mem;
 use tx_bytes::Bytes;
@@ -16,6 +14,7 @@ use tx_eqtb::Eqtb;
 use tx_expand::Expander;
 use tx_files::Name;
 use tx_machine::{Date, Event, Machine, Reply, Steps};
+use tx_state::{Due, State, same_state, share_state};
 
 /// TeX, begun as INITEX.
 #[derive(Clone, Copy)]
@@ -39,9 +38,11 @@ impl Machine for Tex {
         let job = main.clone()?.into_bytes();
         let name = main.clone()?;
         let table = Eqtb::new(alloc, &moment_of(date))?;
-        let mut s = State::new(alloc, Expander::new(alloc, job), table);
+        let begun = State::new(alloc, Expander::new(alloc, job), table)?;
+        // behind a pointer, where the state is dropped by a call
+        let mut s = Box::new(alloc, begun)?;
         s.due.push(Due::OpenMain(name))?;
-        Ok(s)
+        Ok(Box::into_inner(s))
     }
 
     #[tactic(auto, unfolding(crate::specs::Turns::tex))]
@@ -66,10 +67,10 @@ impl Machine for Tex {
     }
 
     fn same(&self, a: &State, b: &State) -> bool {
-        same::same(a, b)
+        same_state(a, b)
     }
 
     fn share(&self, alloc: Global, s: &State) -> Result<State, AllocError> {
-        share::share(alloc, s)
+        share_state(alloc, s)
     }
 }

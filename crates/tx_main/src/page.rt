@@ -78,14 +78,6 @@ pub fn ship_params(table: &Eqtb) -> ShipParams
     }
 }
 
-/// Whether a page may have this magnification: 1 to 32768, and that of the first page.
-pub fn may_be(first: Option<i32>, magnification: i32) -> bool
-    ensures known { result ≡ spec.may_be first magnification }
-    ensures fits { IsTrue result → IsMag magnification }
-{
-    1 <= magnification && magnification <= 32768 && first.is_none_or(|first| first == magnification)
-}
-
 /// The character at the end of each line that is read: \endlinechar, if it is a character's code.
 pub fn line_end(table: &Eqtb) -> Option<u8>
     ensures { result ≡ spec.line_end table.now.table }

@@ -1,25 +1,24 @@
 //! One turn: due work, the ask for a line, or one token and its expansion (TeX: The Program, sections 1030, 343, 360 and 366).
+ghost use Rattle.tx_seen.specs.Magnified.{noted};
 ghost use Rattle.std.specs.Prelude.{◌≡◌, true, is_some, IfOk, OnOk};
 ghost use Rattle.tx_machine.specs.Machine.{kind_of, Ready};
 ghost use Rattle.tx_prim.specs.declared.integer.IntegerParameter.TheVariants.{Mag};
 ghost use Rattle.tx_ship.specs.Pages.{IsMag};
 ghost use Rattle.tx_main.specs.Pages.{integer as magnification_in, page_of};
-ghost use Rattle.tx_main.specs.State.{Runs, mode_of};
-ghost use Rattle.tx_main.specs.Outcomes.{Asks};
-ghost use Rattle.tx_main.specs.Texts.{IsTextAnswered};
+ghost use Rattle.tx_state.specs.State.{Runs, mode_of};
+ghost use Rattle.tx_state.specs.Outcomes.{Asks};
+ghost use Rattle.tx_state.specs.Texts.{IsTextAnswered};
 ghost use Rattle.tx_main.specs.Turns as turns;
-ghost use Rattle.tx_main.specs.Meanings.{IsStepped, meaning_of, state_of};
+ghost use Rattle.tx_state.specs.Meanings.{IsStepped, meaning_of, state_of};
 
 use crate::boxes::{add_copy, add_list};
 use crate::effects::{carry_out, end_text, fail, relax_name};
-use crate::page::{integer, line_end, may_be, ship_params};
-use crate::parts::{Due, OpenText, Phase};
-use crate::state::State;
+use crate::page::{integer, line_end, ship_params};
 use std::alloc::{AllocError, Global};
 use tx_box::Work;
 use tx_command::Taken;
 use tx_expand::{Expanded, Wanted};
-use tx_known::Known;
+use tx_known::{Known, may_be};
 use tx_lex::line_text;
 use tx_list::Stack;
 use tx_machine::{Ask, AskKind, Event, Reply};
@@ -27,6 +26,7 @@ use tx_node::BoxNode;
 use tx_prim::IntegerParameter;
 use tx_seen::{Fed, Seen, TexError, Want};
 use tx_ship::{ShipError, body};
+use tx_state::{Due, OpenText, Phase, State};
 use tx_toklist::Toks;
 
 /// The turn ends with an ask.
@@ -38,14 +38,26 @@ fn ask(s: &mut State, kind: AskKind, ask: Ask) -> Event
     Event::Asks(ask)
 }
 
+/// The magnification is used from now on, where it was taken.
+fn note(used: &mut Option<i32>, taken: Option<u16>)
+    ensures { used.new ≡ noted used.old taken }
+{
+    if let Some(magnification) = taken {
+        *used = Some(i32::from(magnification));
+    }
+}
+
 /// A token joins the open command.
 fn take_command(alloc: Global, s: &mut State, seen: Seen) -> Result<Event, AllocError>
     requires { s.old.phase ≡ Phase.Running }
     ensures { IfOk result (λ event. IsStepped (turns.taking (state_of s.old) seen) s.old event s.new) }
 {
-    let known = Known::new(&s.table, &s.lists.nest, s.lists.badness);
+    let known = Known::new(&s.table, &s.lists.nest, s.lists.badness, s.magnification);
     match s.scan.feed(&known, &mut s.input, seen)? {
-        Taken::More => Ok(Event::Went),
+        Taken::More => {
+            note(&mut s.magnification, s.scan.magnification());
+            Ok(Event::Went)
+        }
         Taken::Wrong(error) => Ok(fail(s, error)),
         Taken::Whole(command) => carry_out(alloc, s, command),
     }
@@ -148,8 +160,9 @@ fn read(alloc: Global, s: &mut State) -> Result<Event, AllocError>
 {
     let wanted = wanted(s);
     let mode = s.scan.mode();
-    let known = Known::new(&s.table, &s.lists.nest, s.lists.badness);
+    let known = Known::new(&s.table, &s.lists.nest, s.lists.badness, s.magnification);
     let answer = s.expander.turn(alloc, &mut s.input, &known, mode, wanted)?;
+    note(&mut s.magnification, s.expander.magnification());
     heed(alloc, s, answer)
 }
 

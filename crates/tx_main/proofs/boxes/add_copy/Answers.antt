@@ -1,6 +1,6 @@
 use Rattle.std.proofs.Common.{refl, Some}
 use Rattle.tx_box.specs.Placing.{placed}
-use Rattle.tx_main.specs.Meanings.{state_of}
+use Rattle.tx_state.specs.Meanings.{state_of}
 use Rattle.tx_main.proofs.Carrying.{carries}
 use Rattle.tx_main.proofs.boxes.add_copy.Goals as goal
 

@@ -1,7 +1,7 @@
 use Rattle.std.proofs.Common.{refl, ap, ◌∙◌}
 use Rattle.tx_box.specs.Building.{beginning}
 use Rattle.tx_main.specs.Effects.{settled, with_every}
-use Rattle.tx_main.specs.Meanings.{state_of}
+use Rattle.tx_state.specs.Meanings.{state_of}
 use Rattle.tx_main.proofs.Carrying.{every-read, settles}
 use Rattle.tx_main.proofs.boxes.open_box.Goals as goal
 

@@ -1,6 +1,6 @@
 use Rattle.std.proofs.Common.{refl}
 use Rattle.tx_box.specs.Sources.{taking_last}
-use Rattle.tx_main.specs.Meanings.{state_of}
+use Rattle.tx_state.specs.Meanings.{state_of}
 use Rattle.tx_main.proofs.Carrying.{settles}
 use Rattle.tx_main.proofs.boxes.take_box.Goals as goal
 

@@ -1,5 +1,5 @@
 use Rattle.std.proofs.Common.{◌≡◌, ◌++◌, map}
-use Rattle.tx_main.specs.Texts.{token_for}
+use Rattle.tx_main.specs.Letters.{token_for}
 use Rattle.tx_main.proofs.letters.with_letters.Given as goal
 
 -- those that are changed stand before the changes of those that are left

@@ -1,6 +1,6 @@
 use Rattle.tx_machine.specs.declared.types.Ask.TheVariants.{Close}
-use Rattle.tx_main.specs.Meanings.{state_of}
-use Rattle.tx_main.specs.Outcomes.{Asks, Fails}
+use Rattle.tx_state.specs.Meanings.{state_of}
+use Rattle.tx_state.specs.Outcomes.{Asks, Fails}
 use Rattle.tx_main.specs.Turns.{closes}
 use Rattle.tx_main.proofs.Closing.{closes-asked, closes-refused, stepped-as}
 use Rattle.tx_main.proofs.turn.close.Goals as goal

@@ -1,4 +1,4 @@
-use Rattle.tx_main.specs.Texts.{with_token}
+use Rattle.tx_state.specs.Texts.{with_token}
 use Rattle.tx_main.proofs.TextTurns.{fed-some}
 use Rattle.tx_main.proofs.turn.feed_text.Goals as goal
 

@@ -1,5 +1,5 @@
 use Rattle.std.proofs.Common.{rules}
-use Rattle.tx_main.specs.Meanings.{state_of}
+use Rattle.tx_state.specs.Meanings.{state_of}
 use Rattle.tx_main.proofs.Ships.{shipped, refused}
 use Rattle.tx_main.proofs.turn.ship_with.Goals as goal
 

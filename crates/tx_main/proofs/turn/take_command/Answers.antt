@@ -7,7 +7,7 @@ use Rattle.tx_main.proofs.turn.take_command.Goals as goal
 pub returns-in-More : goal.returns-in-More
 returns-in-More c =
     let same : to_z w64 (of_z w64 c.args.s.now.lists.badness) ≡ c.args.s.now.lists.badness = search rules in
-    takes-more c.args.s.now c.feed.new.self c.feed.new.input c.args.seen c.requires
+    takes-more c.args.s.now c.feed.new.self c.feed.new.input c.args.seen c.magnification.result c.note.new.used c.requires c.magnification.ensures c.note.ensures
     (taken-by c.args.s.now (lent c.new-known.result) c.feed.new.self c.feed.new.input c.args.seen taken.More (rw same at c.new-known.ensures) (rw c.in-More.is at c.in_ok-feed.ensures))
 
 pub returns-in-Wrong : goal.returns-in-Wrong

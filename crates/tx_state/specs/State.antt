@@ -1,28 +1,19 @@
 -- What TeX's state means: plain data (TeX: The Program, parts 15, 19 and 22).
-use Rattle.std.specs.Prelude.{ℕ, ℤ, List, [], ◌∷◌, Option, None}
+use Rattle.std.specs.Prelude.{ℕ, ℤ, List, Option}
 use Rattle.tx_char.specs.declared.tokens.Token.{Token}
 use Rattle.tx_eqtb.specs.declared.eqtb.Eqtb.{Eqtb}
-use Rattle.tx_eqtb.specs.Initex.{initial_table}
-use Rattle.tx_machine.specs.declared.types.Date.{Date}
 use Rattle.tx_machine.specs.declared.types.AskKind.{AskKind}
 use Rattle.tx_machine.specs.Machine.{Mode as Machine_mode, Ready, Awaits, Halted as Machine_halted}
 use Rattle.tx_box.specs.declared.parts.Lists.{Lists}
-use Rattle.tx_box.specs.Beginnings.{first_lists}
-use Rattle.tx_expand.specs.Expanding.{reader as reader_with}
 use Rattle.tx_expand.specs.Reader.{Reader}
-use Rattle.tx_pending.specs.Elements.{no_input}
 use Rattle.tx_prim.specs.declared.modes.Mode.{Mode}
-use Rattle.tx_prim.specs.declared.modes.Mode.TheVariants.{Vertical}
 use Rattle.tx_seen.specs.declared.item.Item.{Item}
-use Rattle.tx_main.specs.declared.parts.Due.{Due}
-use Rattle.tx_main.specs.declared.parts.Due.TheVariants.{OpenMain}
-use Rattle.tx_main.specs.declared.parts.KeptToken.{KeptToken}
-use Rattle.tx_main.specs.declared.parts.OpenText.{OpenText}
-use Rattle.tx_main.specs.declared.parts.Phase.{Phase}
-use Rattle.tx_main.specs.declared.parts.Phase.TheVariants.{Running, Waiting, Halted}
+use Rattle.tx_state.specs.declared.parts.Due.{Due}
+use Rattle.tx_state.specs.declared.parts.KeptToken.{KeptToken}
+use Rattle.tx_state.specs.declared.parts.OpenText.{OpenText}
+use Rattle.tx_state.specs.declared.parts.Phase.{Phase}
+use Rattle.tx_state.specs.declared.parts.Phase.TheVariants.{Running, Waiting, Halted}
 use Rattle.tx_command.specs.declared.types.Head.{Head}
-use Rattle.tx_command.specs.declared.types.Head.TheVariants.{Fresh}
-use Rattle.tx_main.specs.Pages.{moment_of}
 
 -- all that the next turns can depend on
 pub record TexState : Type 0 where
@@ -65,20 +56,3 @@ abbrev pub mode_of : Meaning → Machine_mode
 mode_of (Runs s) = Ready
 mode_of (Waits kind s) = Awaits kind
 mode_of Stops = Machine_halted
-
--- the first state of a run: the main file is to be asked for, and nothing is to be read yet
-abbrev pub first_state : Date → List ℕ → TexState
-first_state date main = record {
-  due = OpenMain main ∷ [];
-  files = 0;
-  reader = reader_with [] no_input [] main;
-  text = None;
-  mode = Vertical;
-  head = Fresh;
-  taken = [];
-  lists = first_lists;
-  table = record { table = initial_table (moment_of date); groups = [] };
-  after_groups = [];
-  after_assignment = None;
-  magnification = None;
-}

@@ -7,7 +7,7 @@ use Rattle.tx_machine.specs.declared.types.Stop.TheVariants.{End, Error}
 use Rattle.tx_machine.specs.Machine.{Stepped, kind_of}
 use Rattle.tx_seen.specs.declared.error.TexError.{TexError}
 use Rattle.tx_seen.specs.Errors.{number_of}
-use Rattle.tx_main.specs.State.{TexState, Meaning, Runs, Waits, Stops}
+use Rattle.tx_state.specs.State.{TexState, Meaning, Runs, Waits, Stops}
 
 -- a turn leaves a state and adds to the transcript, asks, ships a page, or ends the run by an error or as \end does
 pub data Outcome : Type 0 where

@@ -1,6 +1,6 @@
 //! Copies of TeX's state that go on by themselves.
 ghost use Rattle.std.specs.Prelude.{◌≡◌, IfOk, OnOk};
-ghost use Rattle.tx_main.specs.Meanings.{meaning_of};
+ghost use Rattle.tx_state.specs.Meanings.{meaning_of};
 
 use crate::parts::OpenText;
 use crate::state::State;
@@ -128,12 +128,15 @@ fn share_parts(alloc: Global, s: &State, twin: &mut State) -> Result<(), AllocEr
 
 /// A state that means the same, with the same bytes of the transcript that are still to be taken. Its only error is want of
 /// memory.
-pub fn share(alloc: Global, s: &State) -> Result<State, AllocError>
+pub fn share_state(alloc: Global, s: &State) -> Result<State, AllocError>
     ensures meaning { IfOk result (λ t. meaning_of t ≡ meaning_of s.now) }
     ensures said { IfOk result (λ t. t.said ≡ s.now.said) }
 {
+    let expander = s.expander.share(alloc)?;
     let table = s.table.share()?;
-    let mut twin = State::new(alloc, s.expander.share(alloc)?, table);
+    let twin = State::new(alloc, expander, table)?;
+    // behind a pointer, where the state is dropped by a call
+    let mut twin = Box::new(alloc, twin)?;
     share_parts(alloc, s, &mut twin)?;
-    Ok(twin)
+    Ok(Box::into_inner(twin))
 }

@@ -1,7 +1,7 @@
 //! Whether two states mean the same. What is cheap to compare is compared first.
 ghost use Rattle.std.specs.Prelude.{◌≡◌, ◌↔◌, IsTrue};
 ghost use Rattle.tx_expand.specs.Expanding.{reader_of};
-ghost use Rattle.tx_main.specs.Meanings.{meaning_of, state_of};
+ghost use Rattle.tx_state.specs.Meanings.{meaning_of, state_of};
 
 use crate::parts::{OpenText, Phase};
 use crate::state::State;
@@ -75,7 +75,7 @@ fn same_parts(one: &State, other: &State) -> bool
 }
 
 /// Whether two states mean the same; of one that is done for nothing else matters.
-pub fn same(one: &State, other: &State) -> bool
+pub fn same_state(one: &State, other: &State) -> bool
     ensures { IsTrue result ↔ (meaning_of one.now ≡ meaning_of other.now) }
 {
     match (one.phase, other.phase) {

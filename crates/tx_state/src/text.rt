@@ -1,12 +1,12 @@
 //! Texts that are being taken: definitions, lists of tokens, and what \message and its kin absorb (TeX: The Program, sections 473 to 482).
 ghost use Rattle.std.specs.Prelude.{◌≡◌, IfOk, OnOk};
-ghost use Rattle.tx_main.specs.Texts as spec;
-ghost use Rattle.tx_main.specs.Texts.{IsTextFed};
+ghost use Rattle.tx_state.specs.Texts as spec;
+ghost use Rattle.tx_state.specs.Texts.{IsTextFed};
 
 use crate::parts::OpenText;
 use std::alloc::{AllocError, Global};
 use tx_expand::Wanted;
-use tx_prim::{CharacterCode, DefinitionKind, TextUse};
+use tx_prim::{DefinitionKind, TextUse};
 use tx_seen::{Fed, Place, Seen};
 use tx_text::{DefinitionScan, TextScan};
 use tx_toklist::Toks;
@@ -110,16 +110,5 @@ impl OpenText {
             OpenText::Absorbed(_, scan) => scan.put(tokens),
             OpenText::List(_, scan) => scan.put(tokens),
         }
-    }
-}
-
-/// The code that tells which character stands for one in a text with other letters.
-pub fn code_for(upper: bool) -> CharacterCode
-    ensures { result ≡ spec.code_for upper }
-{
-    if upper {
-        CharacterCode::UpperCase
-    } else {
-        CharacterCode::LowerCase
     }
 }

@@ -17,20 +17,20 @@ use Rattle.tx_prim.specs.declared.modes.Mode.{Mode}
 use Rattle.tx_prim.specs.contracts.modes.Mode as mode
 use Rattle.tx_box.specs.declared.parts.Lists.{Lists}
 use Rattle.tx_box.specs.contracts.parts.Lists as lists
-use Rattle.tx_main.specs.declared.parts.Due.{Due}
-use Rattle.tx_main.specs.contracts.parts.Due as due
+use Rattle.tx_state.specs.declared.parts.Due.{Due}
+use Rattle.tx_state.specs.contracts.parts.Due as due
 use Rattle.tx_cond.specs.declared.types.Conditional.{Conditional}
 use Rattle.tx_cond.specs.contracts.types.Conditional as conditional
 use Rattle.tx_expand.specs.declared.begun.Begun.{Begun}
 use Rattle.tx_expand.specs.contracts.begun.Begun as begun
 use Rattle.tx_expand.specs.Reader.{Reader}
-use Rattle.tx_main.specs.declared.parts.KeptToken.{KeptToken}
-use Rattle.tx_main.specs.contracts.parts.KeptToken as kept_token
-use Rattle.tx_main.specs.declared.parts.OpenText.{OpenText}
-use Rattle.tx_main.specs.contracts.parts.OpenText as open_text
+use Rattle.tx_state.specs.declared.parts.KeptToken.{KeptToken}
+use Rattle.tx_state.specs.contracts.parts.KeptToken as kept_token
+use Rattle.tx_state.specs.declared.parts.OpenText.{OpenText}
+use Rattle.tx_state.specs.contracts.parts.OpenText as open_text
 use Rattle.tx_command.specs.declared.types.Head.{Head}
 use Rattle.tx_command.specs.contracts.types.Head as head
-use Rattle.tx_main.specs.State.{TexState, Meaning, Runs, Waits, Stops}
+use Rattle.tx_state.specs.State.{TexState, Meaning, Runs, Waits, Stops}
 
 -- elements of the pending input
 abbrev element_parts : Element → Token ⊎ (Token ⊎ (ℕ ⊎ (List ℕ × ReadState)))

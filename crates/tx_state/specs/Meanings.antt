@@ -2,9 +2,9 @@
 use Rattle.std.specs.Prelude.{◌≡◌, ◌++◌}
 use Rattle.tx_machine.specs.declared.types.Event.{Event}
 use Rattle.tx_expand.specs.Expanding.{reader_of}
-use Rattle.tx_main.specs.declared.state.State.{State}
-use Rattle.tx_main.specs.Outcomes.{Outcome, stepped}
-use Rattle.tx_main.specs.State.{TexState, Meaning, meaning_in}
+use Rattle.tx_state.specs.declared.state.State.{State}
+use Rattle.tx_state.specs.Outcomes.{Outcome, stepped}
+use Rattle.tx_state.specs.State.{TexState, Meaning, meaning_in}
 
 -- the parts of the state as they stand in the code
 abbrev pub state_of : State → TexState

@@ -1,23 +1,16 @@
 -- Texts that are being taken, each with what it is for (TeX: The Program, sections 473 to 482).
-use Rattle.std.specs.Prelude.{◌≡◌, ℕ, zero, suc, Bool, true, false, List, Option, None, Some, Result, Ok, Err, if◌then◌else◌}
+use Rattle.std.specs.Prelude.{◌≡◌, ℕ, Bool, true, false, List, Option, None, Some, Result, Ok, Err, if◌then◌else◌}
 use Rattle.tx_char.specs.declared.tokens.Token.{Token}
-use Rattle.tx_char.specs.declared.tokens.Token.TheVariants as token
-use Rattle.tx_eqtb.specs.declared.table.Table.{Table}
-use Rattle.tx_eqtb.specs.Table.{number_at}
 use Rattle.tx_expand.specs.declared.types.Wanted.{Wanted}
-use Rattle.tx_prim.specs.declared.family.CharacterCode.{CharacterCode}
-use Rattle.tx_prim.specs.declared.family.CharacterCode.TheVariants as codes
 use Rattle.tx_prim.specs.declared.family.DefinitionKind.{DefinitionKind}
 use Rattle.tx_prim.specs.declared.family.DefinitionKind.TheVariants as kinds
 use Rattle.tx_prim.specs.declared.family.TextUse.{TextUse}
 use Rattle.tx_prim.specs.declared.family.TextUse.TheVariants as purposes
-use Rattle.tx_scan.specs.Integers.{byte_of}
 use Rattle.tx_seen.specs.declared.error.TexError.{TexError}
 use Rattle.tx_seen.specs.declared.fed.Fed.{Fed}
 use Rattle.tx_seen.specs.declared.fed.Fed.TheVariants.{More, Done, Wrong}
 use Rattle.tx_seen.specs.declared.fed.Want.TheVariants.{Raw}
 use Rattle.tx_seen.specs.declared.place.Place.{Place}
-use Rattle.tx_seen.specs.declared.place.Place.TheVariants.{Code}
 use Rattle.tx_seen.specs.declared.seen.Seen.{Seen}
 use Rattle.tx_text.specs.declared.stages.Stage.{Stage}
 use Rattle.tx_text.specs.declared.stages.Stage.TheVariants.{Whole}
@@ -27,8 +20,8 @@ use Rattle.tx_text.specs.Absorbed as absorbed
 use Rattle.tx_text.specs.Absorbed.{Absorbing}
 use Rattle.tx_text.specs.Definitions as definition
 use Rattle.tx_text.specs.Definitions.{Defining}
-use Rattle.tx_main.specs.declared.parts.OpenText.{OpenText}
-use Rattle.tx_main.specs.declared.parts.OpenText.TheVariants as texts
+use Rattle.tx_state.specs.declared.parts.OpenText.{OpenText}
+use Rattle.tx_state.specs.declared.parts.OpenText.TheVariants as texts
 
 -- \edef and \xdef expand the body, \gdef and \xdef are global (The TeXbook, chapter 20)
 abbrev pub expands_body : DefinitionKind → Bool
@@ -121,21 +114,3 @@ IsFedSome (Ok text) fed new = (fed ≡ text_answer text) × (new ≡ Some text)
 abbrev pub IsTextAnswered : Option OpenText → Seen → Fed (Unit {0}) → Option OpenText → Type 0
 IsTextAnswered None t fed new = (fed ≡ More Raw) × (new ≡ None)
 IsTextAnswered (Some text) t fed new = IsFedSome (with_token text t) fed new
-
--- \uppercase and \lowercase put another character for each whose \uccode or \lccode isn't 0, in its category (section 1289)
-abbrev pub code_for : Bool → CharacterCode
-code_for true = codes.UpperCase
-code_for false = codes.LowerCase
-
-abbrev pub letter_for : Table → CharacterCode → ℕ → ℕ
-letter_for table kind code = by (byte_of (number_at table (Code kind code)))
-  where
-    by : Option ℕ → ℕ
-    by None = code
-    by (Some zero) = code
-    by (Some (suc n)) = suc n
-
-abbrev pub token_for : Table → CharacterCode → Token → Token
-token_for table kind (token.Character code category) = token.Character (letter_for table kind code) category
-token_for table kind (token.Name name) = token.Name name
-token_for table kind token.FrozenRelax = token.FrozenRelax

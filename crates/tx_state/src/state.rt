@@ -1,11 +1,11 @@
 //! TeX's state, in code.
-ghost use Rattle.std.specs.Prelude.{◌≡◌, [], None};
+ghost use Rattle.std.specs.Prelude.{◌≡◌, [], None, IfOk};
 ghost use Rattle.tx_box.specs.Beginnings.{first_lists};
 ghost use Rattle.tx_pending.specs.Elements.{no_input};
 ghost use Rattle.tx_prim.specs.declared.modes.Mode.TheVariants as mode;
 
 use crate::parts::{Due, KeptToken, OpenText, Phase};
-use std::alloc::Global;
+use std::alloc::{AllocError, Global};
 use tx_box::Lists;
 use tx_bytes::Bytes;
 use tx_char::Token;
@@ -19,46 +19,48 @@ use tx_prim::Mode;
 /// All that the next turns depend on, and the bytes of the transcript that are still to be taken.
 #[derive(Drop)]
 pub struct State {
-    pub(crate) phase: Phase,
+    pub phase: Phase,
     /// The next piece first.
-    pub(crate) due: Stack<Due>,
+    pub due: Stack<Due>,
     /// How many files are open.
-    pub(crate) files: u64,
-    pub(crate) input: Pending,
-    pub(crate) expander: Expander,
+    pub files: u64,
+    pub input: Pending,
+    pub expander: Expander,
     /// The text that is being taken, if one is.
-    pub(crate) text: Option<OpenText>,
-    pub(crate) scan: CommandScan,
+    pub text: Option<OpenText>,
+    pub scan: CommandScan,
     /// The lists that are being built, with their boxes.
-    pub(crate) lists: Lists,
-    pub(crate) table: Eqtb,
+    pub lists: Lists,
+    pub table: Eqtb,
     /// What \aftergroup keeps, the last first.
-    pub(crate) after_groups: Stack<KeptToken>,
+    pub after_groups: Stack<KeptToken>,
     /// What \afterassignment keeps.
-    pub(crate) after_assignment: Option<Token>,
-    pub(crate) magnification: Option<i32>,
-    pub(crate) said: Bytes,
+    pub after_assignment: Option<Token>,
+    pub magnification: Option<i32>,
+    pub said: Bytes,
 }
 
 impl State {
-    /// A state in which nothing is due or read, and the pages' list is built, with this table; takes no memory.
-    pub(crate) fn new(alloc: Global, expander: Expander, table: Eqtb) -> State
-        ensures { result ≡ record { phase = Phase.Running; due = []; files = 0; input = no_input; expander = expander; text = None; scan = record { mode = mode.Vertical; head = Head.Fresh; taken = [] }; lists = first_lists; table = table; after_groups = []; after_assignment = None; magnification = None; said = [] } }
+    /// A state in which nothing is due or read, and the pages' list is built, with this table. Its only error is
+    /// want of memory.
+    pub fn new(alloc: Global, expander: Expander, table: Eqtb) -> Result<State, AllocError>
+        ensures { IfOk result (λ s. s ≡ record { phase = Phase.Running; due = []; files = 0; input = no_input; expander = expander; text = None; scan = record { mode = mode.Vertical; head = Head.Fresh; taken = [] }; lists = first_lists; table = table; after_groups = []; after_assignment = None; magnification = None; said = [] }) }
     {
-        State {
+        let scan = CommandScan::new(alloc, Mode::Vertical)?;
+        Ok(State {
             phase: Phase::Running,
             due: Stack::new(alloc),
             files: 0,
             input: Pending::new(alloc),
             expander,
             text: None,
-            scan: CommandScan::new(alloc, Mode::Vertical),
+            scan,
             lists: Lists::new(alloc),
             table,
             after_groups: Stack::new(alloc),
             after_assignment: None,
             magnification: None,
             said: Bytes::new(alloc),
-        }
+        })
     }
 }

@@ -1,0 +1,5 @@
+pub mod State
+pub mod Outcomes
+pub mod Texts
+pub mod Meanings
+pub mod Codes
