@@ -106,6 +106,8 @@ fn meaning_of(alloc: Global, rest: &str) -> Result<Meaning, AllocError> {
         "mathchardef" => Meaning::MathNumber(rest.parse::<u16>().unwrap_or(0)),
         "count" => Meaning::CountRegister(byte),
         "dimen" => Meaning::DimenRegister(byte),
+        "skip" => Meaning::SkipRegister(byte),
+        "muskip" => Meaning::MuskipRegister(byte),
         "toks" => Meaning::ToksRegister(byte),
         "macro" => Meaning::Macro(worked(alloc, rest)?),
         _ => Meaning::Undefined,
