@@ -175,8 +175,9 @@ FOR_NOW = [
     (b'\\vrule\\end\n', 'run: 0 pages, error 24 at main.tex line 1', b''),
     (b'\\hbox{}\\end\n', 'run: 0 pages, error 24 at main.tex line 1', b''),
     (b'\\catcode`$=3 \\shipout\\hbox{$$}\\end\n', 'run: 0 pages, error 24 at main.tex line 1', b''),
-    (b'\\shipout\\hbox{\\hskip 3pt}\\end\n', 'run: 0 pages, error 2 at main.tex line 1', b''),
-    (b'\\shipout\\hbox{\\kern 1truein}\\end\n', 'run: 0 pages, error 4 at main.tex line 1', b''),
+    (b'\\hskip 3pt\\end\n', 'run: 0 pages, error 24 at main.tex line 1', b''),
+    (b'\\vskip 3pt\\end\n', 'run: 0 pages, error 24 at main.tex line 1', b''),
+    (b'\\shipout\\hbox{\\leaders\\hbox{}\\hskip 3pt}\\end\n', 'run: 0 pages, error 34 at main.tex line 1', b''),
+    (b'\\shipout\\hbox{\\mskip 3mu}\\end\n', 'run: 0 pages, error 2 at main.tex line 1', b''),
     (b'\\font\\a=cmr10 \\end\n', 'run: 0 pages, error 2 at main.tex line 1', b''),
-    (b'\\skip0=1pt\\end\n', 'run: 0 pages, error 2 at main.tex line 1', b''),
 ]

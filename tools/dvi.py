@@ -1,4 +1,5 @@
 """DVI files of rules and specials, for the checks that compare pages."""
+import os
 
 
 def signed(data):
@@ -61,3 +62,18 @@ class Dvi:
                     state[register] = by
                 state[axis] += by
                 return
+
+
+def page_complaint(folder):
+    """Where the pages of both differ, nothing where they don't."""
+    paths = [os.path.join(folder, name) for name in ("a.dvi", "main.dvi")]
+    there = [os.path.exists(path) for path in paths]
+    if there != [True, True]:
+        return None if there == [False, False] else f"DVI files {there}"
+    mine, theirs = [Dvi(open(path, "rb").read()) for path in paths]
+    for number, (one, other) in enumerate(zip(mine.pages, theirs.pages), 1):
+        if one != other:
+            return f"page {number}: {one}, Knuth's TeX {other}"
+    if mine.specials != theirs.specials:
+        return f"specials {mine.specials}, Knuth's TeX {theirs.specials}"
+    return None if mine.post == theirs.post else f"sizes {mine.post}, Knuth's TeX {theirs.post}"

@@ -19,7 +19,7 @@ ERRORS = [
     (1, "Text line contains an invalid character"),
     (2, "Undefined control sequence"),
     (3, "Missing number|Improper alphabetic constant"),
-    (4, "Illegal unit of measure|Missing = inserted for "),
+    (4, "Illegal unit of measure|Missing = inserted for |Incompatible glue units"),
     (5, "Bad (character|register) code|Bad mathchar|Invalid code"),
     (6, "Dimension too large"),
     (7, "Number too big"),
@@ -40,7 +40,8 @@ ERRORS = [
     (23, r"Missing \S{0,4}endcsname inserted|Extra \S{0,4}endcsname"),
     (24, "You can't use |Missing [$] inserted|Improper .*prevdepth"),
     (32, "Misplaced "),
-    (34, "A <box> was supposed"),
+    (34, "A <box> was supposed|Leaders not followed by proper glue"),
+    (35, "Incompatible magnification|Illegal magnification"),
     (36, "Emergency stop"),
 ]
 
