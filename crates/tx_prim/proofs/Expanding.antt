@@ -21,6 +21,7 @@ found (Convert converts.Number) = refl
 found (Convert converts.RomanNumeral) = refl
 found (Convert converts.Meaning) = refl
 found (Convert converts.JobName) = refl
+found (Convert converts.FontName) = refl
 found The = refl
 found Input = refl
 found EndInput = refl

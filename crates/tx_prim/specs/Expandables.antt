@@ -18,6 +18,7 @@ name_of (Convert converts.Number) = codes "number"
 name_of (Convert converts.RomanNumeral) = codes "romannumeral"
 name_of (Convert converts.Meaning) = codes "meaning"
 name_of (Convert converts.JobName) = codes "jobname"
+name_of (Convert converts.FontName) = codes "fontname"
 name_of The = codes "the"
 name_of Input = codes "input"
 name_of EndInput = codes "endinput"
@@ -43,7 +44,7 @@ name_of (Word word.Fi) = codes "fi"
 
 -- all expandable primitives
 unfoldable pub all : List Expandable
-all = ExpandAfter ∷ NoExpand ∷ CsName ∷ Convert converts.Token ∷ Convert converts.Number ∷ Convert converts.RomanNumeral ∷ Convert converts.Meaning ∷ Convert converts.JobName ∷ The ∷ Input ∷ EndInput ∷ Test tests.Character ∷ Test tests.Category ∷ Test tests.Number ∷ Test tests.Dimension ∷ Test tests.Odd ∷ Test (tests.Mode mode.Vertical) ∷ Test (tests.Mode mode.Horizontal) ∷ Test (tests.Mode mode.Math) ∷ Test (tests.Mode mode.Inner) ∷ Test (tests.Box box.Void) ∷ Test (tests.Box box.Horizontal) ∷ Test (tests.Box box.Vertical) ∷ Test tests.Same ∷ Test tests.True ∷ Test tests.False ∷ Test tests.Case ∷ Word word.Else ∷ Word word.Or ∷ Word word.Fi ∷ []
+all = ExpandAfter ∷ NoExpand ∷ CsName ∷ Convert converts.Token ∷ Convert converts.Number ∷ Convert converts.RomanNumeral ∷ Convert converts.Meaning ∷ Convert converts.JobName ∷ Convert converts.FontName ∷ The ∷ Input ∷ EndInput ∷ Test tests.Character ∷ Test tests.Category ∷ Test tests.Number ∷ Test tests.Dimension ∷ Test tests.Odd ∷ Test (tests.Mode mode.Vertical) ∷ Test (tests.Mode mode.Horizontal) ∷ Test (tests.Mode mode.Math) ∷ Test (tests.Mode mode.Inner) ∷ Test (tests.Box box.Void) ∷ Test (tests.Box box.Horizontal) ∷ Test (tests.Box box.Vertical) ∷ Test tests.Same ∷ Test tests.True ∷ Test tests.False ∷ Test tests.Case ∷ Word word.Else ∷ Word word.Or ∷ Word word.Fi ∷ []
 
 -- the first one of a list that has a name
 abbrev pub named : List Expandable → List ℕ → Option Expandable

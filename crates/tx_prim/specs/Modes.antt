@@ -5,12 +5,12 @@ use Rattle.tx_prim.specs.declared.modes.Mode.TheVariants.{Vertical, InternalVert
 use Rattle.tx_prim.specs.declared.modes.ModeTest.{ModeTest}
 use Rattle.tx_prim.specs.declared.modes.ModeTest.TheVariants as tests
 use Rattle.tx_prim.specs.declared.modes.Modes.{Modes}
-use Rattle.tx_prim.specs.declared.modes.Modes.TheVariants.{All, NotMath, NotVertical, InVertical, OnlyVertical, OutsideVertical, Pages, Math as Math_only, Nowhere}
+use Rattle.tx_prim.specs.declared.modes.Modes.TheVariants.{All, NotMath, NotVertical, InVertical, OnlyVertical, OutsideVertical, OnlyHorizontal, Pages, Math as Math_only, Nowhere}
 use Rattle.tx_prim.specs.declared.modes.Standing.{Standing}
 use Rattle.tx_prim.specs.declared.modes.Standing.TheVariants.{Stands, BeginsParagraph, EndsParagraph, Refused}
 
 -- a command of all modes stands in each; \par isn't for formulas; \vrule begins a paragraph in vertical modes; \hrule stands in
--- those and ends a paragraph; \moveleft stands in vertical modes alone, \raise in all others; \end stands on the pages' list and
+-- those and ends a paragraph; \moveleft stands in vertical modes alone, \raise in all others, \spacefactor in horizontal modes alone; \end stands on the pages' list and
 -- ends a paragraph, but may stand in no box and no formula; a subscript stands in formulas alone, and a parameter character in no
 -- mode (TeX: The Program, sections 1045 to 1056, 1071, 1090 to 1096)
 abbrev pub standing : Modes → Mode → Standing
@@ -31,6 +31,9 @@ standing OnlyVertical mode = Refused
 standing OutsideVertical Vertical = Refused
 standing OutsideVertical InternalVertical = Refused
 standing OutsideVertical mode = Stands
+standing OnlyHorizontal Horizontal = Stands
+standing OnlyHorizontal RestrictedHorizontal = Stands
+standing OnlyHorizontal mode = Refused
 standing Pages Vertical = Stands
 standing Pages Horizontal = EndsParagraph
 standing Pages mode = Refused

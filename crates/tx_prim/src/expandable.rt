@@ -18,6 +18,8 @@ pub enum Conversion {
     Meaning,
     /// \jobname.
     JobName,
+    /// \fontname: a font's name.
+    FontName,
 }
 
 /// What a conditional tests of a box register (TeX: The Program, section 505).
@@ -89,7 +91,7 @@ pub enum Expandable {
 }
 
 /// All of them, in the order of their table.
-const ALL: [Expandable; 30] = [
+const ALL: [Expandable; 31] = [
     Expandable::ExpandAfter,
     Expandable::NoExpand,
     Expandable::CsName,
@@ -98,6 +100,7 @@ const ALL: [Expandable; 30] = [
     Expandable::Convert(Conversion::RomanNumeral),
     Expandable::Convert(Conversion::Meaning),
     Expandable::Convert(Conversion::JobName),
+    Expandable::Convert(Conversion::FontName),
     Expandable::The,
     Expandable::Input,
     Expandable::EndInput,
@@ -145,6 +148,7 @@ impl Expandable {
             Expandable::Convert(Conversion::RomanNumeral) => b"romannumeral",
             Expandable::Convert(Conversion::Meaning) => b"meaning",
             Expandable::Convert(Conversion::JobName) => b"jobname",
+            Expandable::Convert(Conversion::FontName) => b"fontname",
             Expandable::The => b"the",
             Expandable::Input => b"input",
             Expandable::EndInput => b"endinput",

@@ -222,3 +222,12 @@ pub enum LeadersKind {
     /// \xleaders.
     Expanded,
 }
+
+/// An integer that each font has (The TeXbook, chapter 24).
+#[derive(Clone, Copy, PartialEq, Eq)]
+pub enum FontNumber {
+    /// \hyphenchar.
+    Hyphen,
+    /// \skewchar.
+    Skew,
+}

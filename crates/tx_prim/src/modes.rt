@@ -47,6 +47,8 @@ pub enum Modes {
     OnlyVertical,
     /// In horizontal modes and formulas alone.
     OutsideVertical,
+    /// In horizontal modes alone.
+    OnlyHorizontal,
     /// On the pages' list alone; in a paragraph it ends that first.
     Pages,
     /// In formulas alone.
@@ -102,6 +104,10 @@ impl Modes {
             (Modes::OnlyVertical, _) => Standing::Refused,
             (Modes::OutsideVertical, Mode::Vertical | Mode::InternalVertical) => Standing::Refused,
             (Modes::OutsideVertical, _) => Standing::Stands,
+            (Modes::OnlyHorizontal, Mode::Horizontal | Mode::RestrictedHorizontal) => {
+                Standing::Stands
+            }
+            (Modes::OnlyHorizontal, _) => Standing::Refused,
             (Modes::Pages, Mode::Horizontal) => Standing::EndsParagraph,
             (Modes::All | Modes::NotMath | Modes::NotVertical, _) => Standing::Stands,
             (Modes::Pages, Mode::Vertical) => Standing::Stands,

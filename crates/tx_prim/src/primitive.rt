@@ -5,9 +5,9 @@ ghost use Rattle.tx_prim.specs.Table.{all, modes_of, name_of, named};
 
 use crate::dimension::DimensionParameter;
 use crate::family::{
-    AfterKind, BoxKind, BoxSide, BoxSource, CharacterCode, DefinitionKind, GlueForm, Interaction,
-    ItemKind, LeadersKind, Numbered, Operation, Prefix, RuleKind, ShiftKind, Shorthand, SizeKind,
-    TextUse, UnboxKind,
+    AfterKind, BoxKind, BoxSide, BoxSource, CharacterCode, DefinitionKind, FontNumber, GlueForm,
+    Interaction, ItemKind, LeadersKind, Numbered, Operation, Prefix, RuleKind, ShiftKind,
+    Shorthand, SizeKind, TextUse, UnboxKind,
 };
 use crate::glue::GlueParameter;
 use crate::integer::IntegerParameter;
@@ -88,10 +88,26 @@ pub enum Primitive {
     PrevDepth,
     /// Leaders, as \leaders.
     Leaders(LeadersKind),
+    /// \nullfont: the font without characters.
+    NullFont,
+    /// \font.
+    LoadFont,
+    /// \fontdimen.
+    FontDimen,
+    /// \hyphenchar and \skewchar.
+    FontInteger(FontNumber),
+    /// \char.
+    Char,
+    /// \spacefactor.
+    SpaceFactor,
+    /// \/: the italic correction.
+    ItalicCorrection,
+    /// `\ `: a space between words, wherever it stands.
+    ControlSpace,
 }
 
 /// All primitives, in the order of their table.
-const ALL: [Primitive; 195] = [
+const ALL: [Primitive; 204] = [
     Primitive::Relax,
     Primitive::EndCsName,
     Primitive::BeginGroup,
@@ -184,6 +200,15 @@ const ALL: [Primitive; 195] = [
     Primitive::Numbered(Numbered::Muskip),
     Primitive::Shorthand(Shorthand::SkipRegister),
     Primitive::Shorthand(Shorthand::MuskipRegister),
+    Primitive::NullFont,
+    Primitive::LoadFont,
+    Primitive::FontDimen,
+    Primitive::FontInteger(FontNumber::Hyphen),
+    Primitive::FontInteger(FontNumber::Skew),
+    Primitive::Char,
+    Primitive::SpaceFactor,
+    Primitive::ItalicCorrection,
+    Primitive::ControlSpace,
     Primitive::Integer(IntegerParameter::Pretolerance),
     Primitive::Integer(IntegerParameter::Tolerance),
     Primitive::Integer(IntegerParameter::Hbadness),
@@ -396,6 +421,15 @@ impl Primitive {
             Primitive::Numbered(Numbered::Muskip) => b"muskip",
             Primitive::Shorthand(Shorthand::SkipRegister) => b"skipdef",
             Primitive::Shorthand(Shorthand::MuskipRegister) => b"muskipdef",
+            Primitive::NullFont => b"nullfont",
+            Primitive::LoadFont => b"font",
+            Primitive::FontDimen => b"fontdimen",
+            Primitive::FontInteger(FontNumber::Hyphen) => b"hyphenchar",
+            Primitive::FontInteger(FontNumber::Skew) => b"skewchar",
+            Primitive::Char => b"char",
+            Primitive::SpaceFactor => b"spacefactor",
+            Primitive::ItalicCorrection => b"/",
+            Primitive::ControlSpace => b" ",
             Primitive::Integer(parameter) => parameter.name(),
             Primitive::Dimension(parameter) => parameter.name(),
             Primitive::Tokens(parameter) => parameter.name(),
@@ -433,6 +467,11 @@ impl Primitive {
             Primitive::VerticalGlue(_) => Modes::InVertical,
             Primitive::Rule(RuleKind::Horizontal) => Modes::InVertical,
             Primitive::Rule(RuleKind::Vertical) => Modes::NotVertical,
+            Primitive::NullFont | Primitive::LoadFont => Modes::All,
+            Primitive::FontDimen | Primitive::FontInteger(_) => Modes::All,
+            Primitive::Char | Primitive::ControlSpace => Modes::NotVertical,
+            Primitive::ItalicCorrection => Modes::OutsideVertical,
+            Primitive::SpaceFactor => Modes::OnlyHorizontal,
             Primitive::Par => Modes::NotMath,
             Primitive::End => Modes::Pages,
         }

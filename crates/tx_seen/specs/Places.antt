@@ -25,6 +25,8 @@ is_size (place.Dimension parameter) = true
 is_size (place.BoxSize side n) = true
 is_size (place.Last item.Kern) = true
 is_size place.PrevDepth = true
+is_size (place.FontDimen font n) = true
+is_size (place.FontSize size) = true
 is_size other = false
 
 -- whether glue stands there, told in mu or in all other units

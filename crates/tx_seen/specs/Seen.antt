@@ -1,12 +1,14 @@
 -- Tokens with what they mean, and what they are to the commands that read them.
 use Rattle.std.specs.Prelude.{ℕ, ◌+◌, ◌-◌, ◌==◌, ◌&&◌, ◌||◌, Bool, true, false, nat_le, Option, Some, None, if◌then◌else◌}
 use Rattle.tx_char.specs.Character.{character}
-use Rattle.tx_char.specs.declared.category.Cat.TheVariants.{BeginGroup, Space, Other, Active}
+use Rattle.tx_char.specs.declared.category.Cat.TheVariants.{BeginGroup, Space, Letter, Other, Active}
 use Rattle.tx_char.specs.declared.tokens.Token.{Token}
 use Rattle.tx_char.specs.declared.tokens.Token.TheVariants as token
-use Rattle.tx_prim.specs.declared.primitive.Primitive.TheVariants.{Relax}
+use Rattle.tx_prim.specs.declared.primitive.Primitive.TheVariants.{Relax, Char, LoadFont, NullFont}
 use Rattle.tx_seen.specs.declared.meaning.Meaning.{Meaning}
-use Rattle.tx_seen.specs.declared.meaning.Meaning.TheVariants.{Undefined, Command, Character, Expandable, Macro, Held}
+use Rattle.tx_seen.specs.declared.meaning.Meaning.TheVariants.{Undefined, Command, Character, CharacterNumber, Font, Expandable, Macro, Held}
+use Rattle.tx_seen.specs.declared.place.FontName.{FontName}
+use Rattle.tx_seen.specs.declared.place.FontName.TheVariants.{Current, Number}
 use Rattle.tx_seen.specs.declared.seen.Seen.{Seen}
 
 -- a name without a meaning, or an active character without one
@@ -35,6 +37,28 @@ is_space t = is_blank t.meaning
     is_blank : Meaning → Bool
     is_blank (Character code Space) = true
     is_blank _ = false
+
+-- what goes on with a word of a horizontal list: a letter, another character, a name that stands for a character to be set, or
+-- \char (TeX: The Program, section 1038)
+abbrev pub continues_word : Seen → Bool
+continues_word t = continues t.meaning
+  where
+    continues : Meaning → Bool
+    continues (Character code Letter) = true
+    continues (Character code Other) = true
+    continues (CharacterNumber code) = true
+    continues (Command Char) = true
+    continues _ = false
+
+-- the font that a token tells where a font is needed (section 577)
+abbrev pub font_name : Seen → Option FontName
+font_name t = name_of t.meaning
+  where
+    name_of : Meaning → Option FontName
+    name_of (Command LoadFont) = Some Current
+    name_of (Command NullFont) = Some (Number 0)
+    name_of (Font number) = Some (Number number)
+    name_of _ = None
 
 -- a begin-group token, or a name that means one
 abbrev pub is_begin_group : Seen → Bool

@@ -39,6 +39,8 @@ pub enum Value {
     Flag(bool),
     /// Nothing: the mode has no such quantity, or it may not be used.
     Absent,
+    /// Nothing: no such number is in the range of its use.
+    OutOfRange,
 }
 
 impl Kept for Value {
@@ -55,6 +57,7 @@ impl Kept for Value {
             (Value::Magnification(one), Value::Magnification(other)) => one == other,
             (Value::Flag(one), Value::Flag(other)) => one == other,
             (Value::Absent, Value::Absent) => true,
+            (Value::OutOfRange, Value::OutOfRange) => true,
             _ => false,
         }
     }

@@ -22,7 +22,7 @@ impl Item {
         match self {
             Item::Gave(Value::Magnification(magnification)) => Some(*magnification),
             Item::Gave(Value::Int(_) | Value::Dimen(_) | Value::Glue(_) | Value::Muglue(_)) => None,
-            Item::Gave(Value::Flag(_) | Value::Absent) => None,
+            Item::Gave(Value::Flag(_) | Value::Absent | Value::OutOfRange) => None,
             Item::Took(_) => None,
         }
     }

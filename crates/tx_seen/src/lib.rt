@@ -21,6 +21,6 @@ pub use error::TexError;
 pub use fed::{Fed, Kind, Value, Want};
 pub use item::Item;
 pub use meaning::Meaning;
-pub use place::Place;
+pub use place::{FontName, FontSize, Place};
 pub use quantities::Quantities;
 pub use seen::Seen;

@@ -30,6 +30,8 @@ pub enum Meaning {
     MuskipRegister(u8),
     /// A register of \toks, by \toksdef.
     ToksRegister(u8),
+    /// A font that was loaded, by its number, by \font.
+    Font(u8),
     /// A primitive that is expanded.
     Expandable(Expandable),
     /// A macro, which any number of names share.
@@ -55,6 +57,7 @@ impl Clone for Meaning {
             Meaning::SkipRegister(number) => Ok(Meaning::SkipRegister(*number)),
             Meaning::MuskipRegister(number) => Ok(Meaning::MuskipRegister(*number)),
             Meaning::ToksRegister(number) => Ok(Meaning::ToksRegister(*number)),
+            Meaning::Font(number) => Ok(Meaning::Font(*number)),
             Meaning::Expandable(expandable) => Ok(Meaning::Expandable(*expandable)),
             Meaning::Macro(shared) => Ok(Meaning::Macro(shared.share()?)),
             Meaning::Held => Ok(Meaning::Held),
@@ -81,6 +84,7 @@ impl Kept for Meaning {
             (Meaning::SkipRegister(one), Meaning::SkipRegister(other)) => one == other,
             (Meaning::MuskipRegister(one), Meaning::MuskipRegister(other)) => one == other,
             (Meaning::ToksRegister(one), Meaning::ToksRegister(other)) => one == other,
+            (Meaning::Font(one), Meaning::Font(other)) => one == other,
             (Meaning::Expandable(one), Meaning::Expandable(other)) => one == other,
             (Meaning::Macro(one), Meaning::Macro(other)) => one.same(other),
             (Meaning::Held, Meaning::Held) => true,

@@ -7,9 +7,27 @@ use std::alloc::AllocError;
 use tx_char::ControlName;
 use tx_list::Kept;
 use tx_prim::{
-    BoxSide, BoxTest, CharacterCode, DimensionParameter, GlueParameter, IntegerParameter, ItemKind,
-    Numbered, Primitive, TokenParameter,
+    BoxSide, BoxTest, CharacterCode, DimensionParameter, FontNumber, GlueParameter,
+    IntegerParameter, ItemKind, Numbered, Primitive, TokenParameter,
 };
+
+/// How a document tells a font (TeX: The Program, section 577).
+#[derive(Clone, Copy, PartialEq, Eq)]
+pub enum FontName {
+    /// \font: the current one.
+    Current,
+    /// A name that means the font of this number; 0 is \nullfont.
+    Number(u8),
+}
+
+/// A size of the current font in which dimensions are told (TeX: The Program, section 455).
+#[derive(Clone, Copy, PartialEq, Eq)]
+pub enum FontSize {
+    /// `em`, its parameter 6.
+    Quad,
+    /// `ex`, its parameter 5.
+    XHeight,
+}
 
 /// A place of the table (TeX: The Program, part 17).
 #[derive(Drop)]
@@ -54,6 +72,16 @@ pub enum Place {
     PrevDepth,
     /// \mag where `true` stands before a unit (TeX: The Program, section 457).
     Magnification,
+    /// The number of the current font.
+    Font,
+    /// A size of the current font, and no place of the table.
+    FontSize(FontSize),
+    /// The \fontdimen of this number of a font, and no place of the table; 0 stands for all numbers that no parameter can have.
+    FontDimen(FontName, u16),
+    /// \hyphenchar or \skewchar of a font, and no place of the table.
+    FontInteger(FontNumber, FontName),
+    /// \spacefactor of the list that is being built.
+    SpaceFactor,
 }
 
 /// A clone is the same place, and shares its name. Its only error is that no more owners of a name can be counted.
@@ -82,6 +110,11 @@ impl Clone for Place {
             Place::Badness => Ok(Place::Badness),
             Place::PrevDepth => Ok(Place::PrevDepth),
             Place::Magnification => Ok(Place::Magnification),
+            Place::Font => Ok(Place::Font),
+            Place::FontSize(size) => Ok(Place::FontSize(*size)),
+            Place::FontDimen(font, number) => Ok(Place::FontDimen(*font, *number)),
+            Place::FontInteger(kind, font) => Ok(Place::FontInteger(*kind, *font)),
+            Place::SpaceFactor => Ok(Place::SpaceFactor),
         }
     }
 }
@@ -118,6 +151,13 @@ impl Kept for Place {
             (Place::Badness, Place::Badness) => true,
             (Place::PrevDepth, Place::PrevDepth) => true,
             (Place::Magnification, Place::Magnification) => true,
+            (Place::Font, Place::Font) => true,
+            (Place::FontSize(one), Place::FontSize(other)) => one == other,
+            (Place::FontDimen(font, one), Place::FontDimen(also, other)) => font == also
+                && one == other,
+            (Place::FontInteger(kind, one), Place::FontInteger(also, other)) => kind == also
+                && one == other,
+            (Place::SpaceFactor, Place::SpaceFactor) => true,
             _ => false,
         }
     }
@@ -147,6 +187,8 @@ impl Place {
         match self {
             Place::Dimen(_) | Place::Dimension(_) | Place::BoxSize(_, _) => true,
             Place::Last(ItemKind::Kern) | Place::PrevDepth => true,
+            Place::FontDimen(_, _) | Place::FontSize(_) => true,
+            Place::Font | Place::FontInteger(_, _) | Place::SpaceFactor => false,
             Place::Skip(_) | Place::Muskip(_) | Place::Glue(_) => false,
             Place::Last(ItemKind::Penalty | ItemKind::Skip) | Place::Badness => false,
             Place::Name(_) | Place::Active(_) | Place::Count(_) | Place::Toks(_) => false,
@@ -166,6 +208,8 @@ impl Place {
                 false
             }
             Place::Last(ItemKind::Penalty | ItemKind::Kern) | Place::PrevDepth => false,
+            Place::FontDimen(_, _) | Place::FontSize(_) | Place::Font => false,
+            Place::FontInteger(_, _) | Place::SpaceFactor => false,
             Place::Name(_) | Place::Active(_) | Place::Count(_) | Place::Toks(_) => false,
             Place::Category(_) | Place::Code(_, _) | Place::Integer(_) | Place::Tokens(_) => false,
             Place::Box(_) | Place::BoxTest(_, _) | Place::Badness | Place::Magnification => false,
@@ -181,6 +225,8 @@ impl Place {
             Place::Glue(parameter) => parameter.is_in_mu(),
             Place::Skip(_) | Place::Dimen(_) | Place::Dimension(_) | Place::BoxSize(_, _) => false,
             Place::Last(_) | Place::PrevDepth => false,
+            Place::FontDimen(_, _) | Place::FontSize(_) | Place::Font => false,
+            Place::FontInteger(_, _) | Place::SpaceFactor => false,
             Place::Name(_) | Place::Active(_) | Place::Count(_) | Place::Toks(_) => false,
             Place::Category(_) | Place::Code(_, _) | Place::Integer(_) | Place::Tokens(_) => false,
             Place::Box(_) | Place::BoxTest(_, _) | Place::Badness | Place::Magnification => false,

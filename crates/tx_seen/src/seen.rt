@@ -3,6 +3,7 @@ ghost use Rattle.std.specs.Prelude.{◌≡◌, ◌↔◌, ◌<◌, IsTrue, IfSom
 ghost use Rattle.tx_seen.specs.Seen as spec;
 
 use crate::meaning::Meaning;
+use crate::place::FontName;
 use std::alloc::AllocError;
 use tx_char::{Cat, Token};
 use tx_list::Kept;
@@ -70,6 +71,41 @@ impl Seen {
         ensures { result ≡ spec.is_space self.now }
     {
         matches!(self.meaning, Meaning::Character(_, Cat::Space))
+    }
+
+    /// Whether it goes on with a word of a horizontal list: a letter, another character, a name that stands for a character to be
+    /// set, or \char (TeX: The Program, section 1038).
+    pub fn continues_word(&self) -> bool
+        ensures { result ≡ spec.continues_word self.now }
+    {
+        match &self.meaning {
+            Meaning::Character(_, category) => matches!(category, Cat::Letter | Cat::Other),
+            Meaning::CharacterNumber(_) => true,
+            Meaning::Command(primitive) => matches!(primitive, Primitive::Char),
+            Meaning::Undefined | Meaning::Expandable(_) | Meaning::Macro(_) => false,
+            Meaning::MathNumber(_) | Meaning::Font(_) | Meaning::Held => false,
+            Meaning::CountRegister(_) | Meaning::DimenRegister(_) => false,
+            Meaning::SkipRegister(_) | Meaning::MuskipRegister(_) => false,
+            Meaning::ToksRegister(_) => false,
+        }
+    }
+
+    /// The font that it tells where a font is needed: \font the current one, and a name that means a font that one (TeX: The Program,
+    /// section 577).
+    pub fn font_name(&self) -> Option<FontName>
+        ensures { result ≡ spec.font_name self.now }
+    {
+        match &self.meaning {
+            Meaning::Command(Primitive::LoadFont) => Some(FontName::Current),
+            Meaning::Command(Primitive::NullFont) => Some(FontName::Number(0)),
+            Meaning::Font(number) => Some(FontName::Number(*number)),
+            Meaning::Undefined | Meaning::Command(_) | Meaning::Expandable(_) => None,
+            Meaning::Character(_, _) | Meaning::CharacterNumber(_) | Meaning::MathNumber(_) => None,
+            Meaning::Macro(_) | Meaning::Held => None,
+            Meaning::CountRegister(_) | Meaning::DimenRegister(_) => None,
+            Meaning::SkipRegister(_) | Meaning::MuskipRegister(_) => None,
+            Meaning::ToksRegister(_) => None,
+        }
     }
 
     /// Whether it begins a group, or is a name that means this.
