@@ -2,4 +2,5 @@ mod Inserted
 mod Rewritten
 mod Runs
 mod Steps
-mod Once
+pub mod Once
+mod Within

@@ -91,6 +91,22 @@ pub length-ahead-le : (w : Word) (current next : Piece) (rest : List Piece) → 
 unfolding ahead_by
 length-ahead-le w current next rest = short_by (kind_of w) w.d current next rest (legal w)
 
+-- and at least one piece
+some_by : (kind code : ℕ) (current next : Piece) (rest : List Piece) → Legal kind → 1 ≤ length (ahead_by kind code current next rest)
+unfolding ahead_by
+some_by kind code current next rest K0 = omega arith
+some_by kind code current next rest K1 = omega arith
+some_by kind code current next rest K2 = omega arith
+some_by kind code current next rest K3 = omega arith
+some_by kind code current next rest K5 = omega arith
+some_by kind code current next rest K6 = omega arith
+some_by kind code current next rest K7 = omega arith
+some_by kind code current next rest K11 = omega arith
+
+pub ahead-some : (w : Word) (current next : Piece) (rest : List Piece) → 1 ≤ length (ahead w current next rest)
+unfolding ahead_by
+ahead-some w current next rest = some_by (kind_of w) w.d current next rest (legal w)
+
 -- what a pair is rewritten to, a first piece and others, the rest being behind it; all of them are there
 pub record Rewrites (t : Tfm) (w : Word) (x y : Option ℕ) : Type 0 where
   pub first : Option ℕ

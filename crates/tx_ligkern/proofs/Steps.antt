@@ -84,6 +84,20 @@ pub record Going (m : Metrics) (start : List Piece) (limit : ℕ) (current : Pie
 pub measure : Metrics → ℕ → Piece → List Piece → ℕ
 measure m limit current rest = 2 * left_of m.file limit (map code_of (current ∷ rest)) + length rest
 
+-- no more commands are left than were allowed
+left_of-le : (t : Tfm) (n : ℕ) (list : List (Option ℕ)) → left_of t n list ≤ n
+unfolding left_of
+left_of-le t zero list = omega arith
+left_of-le t (suc n) list = by (is_empty (first_pair t list)) (left_of-le t n (after_command t (first_pair t list)))
+  where
+    by : (b : Bool) → left_of t n (after_command t (first_pair t list)) ≤ n → cond b 0 (suc (left_of t n (after_command t (first_pair t list)))) ≤ suc n
+    by true less = omega arith
+    by false less = omega (arith, less)
+
+pub measure-le : (m : Metrics) (limit : ℕ) (current : Piece) (rest : List Piece) → measure m limit current rest ≤ 2 * limit + length rest
+unfolding measure
+measure-le m limit current rest = let l = left_of-le m.file limit (map code_of (current ∷ rest)) in omega (arith, l)
+
 pub going-apart : {m : Metrics} {start : List Piece} {limit : ℕ} {current next : Piece} {rest : List Piece} {done : List LigItem}
     → Going m start limit current (next ∷ rest) done → command_of m.file (code_of current) (code_of next) ≡ None
     → Going m start limit next rest (done ++ items_of current)

@@ -1,3 +1,4 @@
 pub mod Pieces
 pub mod Composing
 pub mod Steps
+pub mod Composed

@@ -1,6 +1,7 @@
 ghost use Rattle.std.specs.Prelude.{◌≡◌, ◌∷◌, List, reverse, All, IsTrue, IfOk};
 ghost use Rattle.tx_tfm.specs.Format.{is_there};
 ghost use Rattle.tx_ligkern.specs.Composing.{AllWordsEnd, Becomes};
+ghost use Rattle.tx_ligkern.specs.Composed.{composed};
 ghost use Rattle.tx_ligkern.specs.Pieces.{word_of};
 ghost use Rattle.tx_ligkern.specs.Steps.{Ends, Moved};
 ghost use Rattle.tx_ligkern.specs.declared.item.LigItem.{LigItem};
@@ -13,7 +14,6 @@ use tx_tfm::Font;
 
 /// What a word becomes by its font's ligatures and kerns. `left` and `right` tell whether the boundaries before and behind
 /// the word count. Its only error is want of memory.
-
 pub fn compose(
     alloc: Global,
     font: &Font,
@@ -24,6 +24,7 @@ pub fn compose(
     requires { All (λ c. IsTrue (is_there font.now.file c)) chars.now }
     ensures becomes { IfOk result (λ items. Becomes font.now (word_of chars.now left right) items) }
     ensures only { IfOk result (λ items. (others : List LigItem) → Becomes font.now (word_of chars.now left right) others → items ≡ others) }
+    ensures value { IfOk result (λ items. items ≡ composed font.now chars.now left right) }
 {
     font.is_sound();
     let mut rest = word(alloc, chars, left, right)?;
@@ -42,7 +43,6 @@ pub fn every_word_ends(font: &Font)
 }
 
 /// What becomes of pieces, of which all but the first stand in `rest`, the last one first.
-
 fn run(alloc: Global, font: &Font, first: Piece, rest: Vec<Piece>) -> Result<Items, AllocError>
     requires { Ends font.now (first ∷ reverse rest.items) }
     ensures { IfOk result (λ items. Becomes font.now (first ∷ reverse rest.items) items) }
@@ -76,7 +76,7 @@ fn step(
         }
         Some(command) if command.c >= 128 => {
             put(done, current)?;
-            done.push(LigItem::Kern(font.kern(command)))?;
+            done.push(LigItem::Kern(font.kern(command) as i32))?;
             Ok(next)
         }
         Some(command) => carry_out(alloc, command, current, next, rest, done),

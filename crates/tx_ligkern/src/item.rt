@@ -10,7 +10,7 @@ pub enum LigItem {
     /// command was kept.
     Lig { code: u8, from: Bytes },
     /// A kern, in sp.
-    Kern(i64),
+    Kern(i32),
 }
 
 /// A list of these.

@@ -5,3 +5,7 @@ pub mod FirstFalse
 pub mod Pairs
 pub mod Rows
 pub mod Walks
+pub mod SameFonts
+pub mod Used
+pub mod Listed
+pub mod Numbered

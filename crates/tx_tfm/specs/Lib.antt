@@ -7,3 +7,5 @@ pub mod Table
 pub mod Filling
 pub mod Metrics
 pub mod Sound
+pub mod Parameters
+pub mod Fonts

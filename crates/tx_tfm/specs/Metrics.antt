@@ -1,5 +1,5 @@
 -- What a font answers, at the size at which it is used (TeX: The Program, section 549).
-use Rattle.std.specs.Prelude.{ℕ, ◌+◌, ◌*◌, ◌-◌, ◌/◌, ◌^◌, ◌==◌, nat_lt, if◌then◌else◌, Option, Some, None, List, ℤ, pos, ◌-ℤ◌, unsigned_abs}
+use Rattle.std.specs.Prelude.{ℕ, ◌+◌, ◌*◌, ◌-◌, ◌/◌, ◌^◌, ◌==◌, nat_lt, if◌then◌else◌, Bool, false, Option, Some, None, List, ℤ, pos, negsuc, ◌-ℤ◌, unsigned_abs}
 use Rattle.tx_tfm.specs.declared.file.Word.{Word}
 use Rattle.tx_tfm.specs.declared.rules.Size.{Size}
 use Rattle.tx_tfm.specs.declared.metrics.Metrics.{Metrics}
@@ -10,6 +10,15 @@ use Rattle.tx_tfm.specs.Rules.{size_in_sp}
 -- the font of these bytes at that size
 abbrev pub metrics_of : List ℕ → Size → Metrics
 metrics_of bytes size = record { file = tfm_of bytes; size = unsigned_abs (size_in_sp (tfm_of bytes) size) }
+
+-- whether an integer is this number
+abbrev pub is_number : ℕ → ℤ → Bool
+is_number n (pos z) = z == n
+is_number n (negsuc z) = false
+
+-- whether a font is used at the size that is asked for
+abbrev pub is_used_at : Metrics → Size → Bool
+is_used_at m size = is_number m.size (size_in_sp m.file size)
 
 -- the number at a place, times the size
 abbrev pub scaled_at : Metrics → ℕ → ℤ

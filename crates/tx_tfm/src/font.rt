@@ -1,9 +1,9 @@
 //! Fonts: read from the bytes of a font metric file, and asked for sizes.
-ghost use Rattle.std.specs.Prelude.{◌≡◌, ◌<◌, ◌≤◌, ◌^◌, pos, None, IfOk, MatchResult};
+ghost use Rattle.std.specs.Prelude.{◌≡◌, ◌↔◌, ◌<◌, ◌≤◌, ◌^◌, pos, unsigned_abs, None, IsTrue, IfOk, MatchResult};
 ghost use Rattle.tx_tfm.specs.Rules.{first_broken};
 ghost use Rattle.tx_tfm.specs.Format.{checksum_of, design_size_of, is_there};
 ghost use Rattle.tx_tfm.specs.LigKern.{command_of};
-ghost use Rattle.tx_tfm.specs.Metrics.{metrics_of, width_of, height_of, depth_of, italic_of, successor_of, recipe_of, parameter_of, parameter_count_of, kern_of};
+ghost use Rattle.tx_tfm.specs.Metrics.{metrics_of, width_of, height_of, depth_of, italic_of, successor_of, recipe_of, parameter_of, parameter_count_of, is_used_at, kern_of};
 ghost use Rattle.tx_tfm.specs.Sound.{IsSound, ErrorNames};
 
 use super::errors::FontError;
@@ -59,6 +59,16 @@ impl Font {
         }
     }
 
+    /// Whether both are used at the same size and have files of the same bytes.
+    #[tactic(auto, using(crate::proofs::SameFonts::same_fonts))]
+    pub fn same(&self, other: &Font) -> bool
+        ensures { IsTrue result ↔ (self.now ≡ other.now) }
+    {
+        self.is_sound();
+        other.is_sound();
+        same_use(&self.metrics, &other.metrics)
+    }
+
     /// What holds of every font: its file breaks no rule.
     pub fn is_sound(&self)
         ensures { IsSound self.now }
@@ -75,28 +85,32 @@ impl Font {
 
     /// A character's width, in sp as all sizes.
     pub fn width(&self, code: u8) -> i64
-        ensures { result ≡ width_of self.now code }
+        ensures value { result ≡ width_of self.now code }
+        ensures bound { unsigned_abs result < 2 ^ 31 }
     {
         self.metrics.width(code)
     }
 
     /// A character's height above the baseline.
     pub fn height(&self, code: u8) -> i64
-        ensures { result ≡ height_of self.now code }
+        ensures value { result ≡ height_of self.now code }
+        ensures bound { unsigned_abs result < 2 ^ 31 }
     {
         self.metrics.height(code)
     }
 
     /// A character's depth below the baseline.
     pub fn depth(&self, code: u8) -> i64
-        ensures { result ≡ depth_of self.now code }
+        ensures value { result ≡ depth_of self.now code }
+        ensures bound { unsigned_abs result < 2 ^ 31 }
     {
         self.metrics.depth(code)
     }
 
     /// A character's italic correction.
     pub fn italic(&self, code: u8) -> i64
-        ensures { result ≡ italic_of self.now code }
+        ensures value { result ≡ italic_of self.now code }
+        ensures bound { unsigned_abs result < 2 ^ 31 }
     {
         self.metrics.italic(code)
     }
@@ -118,7 +132,8 @@ impl Font {
     /// Parameter `number`, from 1 on. The first is the slant, a multiple of 2^-16; the others are sizes, 0 past the last one.
     pub fn parameter(&self, number: u16) -> i64
         requires { 1 ≤ number }
-        ensures { result ≡ parameter_of self.now number }
+        ensures value { result ≡ parameter_of self.now number }
+        ensures bound { unsigned_abs result < 2 ^ 31 }
     {
         self.metrics.parameter(number)
     }
@@ -128,6 +143,25 @@ impl Font {
         ensures { result ≡ parameter_count_of self.now }
     {
         self.metrics.parameter_count()
+    }
+
+    /// Whether this is the size at which it is used: so many thousandths of the design size are rounded towards zero.
+    #[tactic(auto, using(crate::proofs::Used::not_used))]
+    pub fn is_used_at(&self, size: Size) -> bool
+        ensures { result ≡ is_used_at self.now size }
+    {
+        self.is_sound();
+        match self.metrics.file.size_in_sp(size) {
+            Some(sp) => sp == self.metrics.size,
+            None => false,
+        }
+    }
+
+    /// How many parameters its file has.
+    pub fn file_parameters(&self) -> u16
+        ensures { result ≡ self.now.file.lengths.parameters }
+    {
+        self.metrics.file_parameters()
     }
 
     /// The command of a ligature and kerning program that a pair meets. `None` is a boundary of a word.
@@ -140,7 +174,8 @@ impl Font {
     /// The kern that a command puts in.
     pub fn kern(&self, command: Word) -> i64
         requires { 128 ≤ command.c }
-        ensures { result ≡ kern_of self.now command }
+        ensures value { result ≡ kern_of self.now command }
+        ensures bound { unsigned_abs result < 2 ^ 31 }
     {
         self.metrics.kern(command)
     }
@@ -154,7 +189,8 @@ impl Font {
 
     /// The design size in sp.
     pub fn design_size(&self) -> i64
-        ensures { result ≡ pos (design_size_of self.now.file) }
+        ensures value { result ≡ pos (design_size_of self.now.file) }
+        ensures bound { design_size_of self.now.file < 2 ^ 28 }
     {
         i64::from(self.metrics.file.design_size())
     }
@@ -167,4 +203,11 @@ impl Font {
     {
         i64::from(self.metrics.size)
     }
+}
+
+/// Whether two files have the same bytes and are used at the same size.
+fn same_use(a: &Metrics, b: &Metrics) -> bool
+    ensures { IsTrue result ↔ ((a.now.size ≡ b.now.size) × (a.now.file.bytes ≡ b.now.file.bytes)) }
+{
+    a.size == b.size && a.file.bytes.same(&b.file.bytes)
 }

@@ -1,5 +1,5 @@
 //! What a font answers, at the size at which it is used.
-ghost use Rattle.std.specs.Prelude.{◌≡◌, ◌<◌, ◌≤◌, ◌^◌};
+ghost use Rattle.std.specs.Prelude.{◌≡◌, ◌<◌, ◌≤◌, ◌^◌, unsigned_abs};
 ghost use Rattle.tx_tfm.specs.Metrics.{scaled_at, width_of, height_of, depth_of, italic_of, successor_of, recipe_of, slant_of, parameter_of, parameter_count_of, kern_of};
 
 use super::file::{Tfm, Word};
@@ -16,14 +16,16 @@ impl Metrics {
     fn scaled_at(&self, place: usize) -> i64
         requires place_in { place < 2 ^ 32 }
         requires size_in { self.now.size < 2 ^ 27 }
-        ensures { result ≡ scaled_at self.now place }
+        ensures value { result ≡ scaled_at self.now place }
+        ensures bound { unsigned_abs result < 2 ^ 31 }
     {
         scale(self.size, self.file.word(place))
     }
 
     pub fn width(&self, code: u8) -> i64
         requires { self.now.size < 2 ^ 27 }
-        ensures { result ≡ width_of self.now code }
+        ensures value { result ≡ width_of self.now code }
+        ensures bound { unsigned_abs result < 2 ^ 31 }
     {
         let info = self.file.info(usize::from(code));
         self.scaled_at(self.file.lengths.widths_at() + info.width_index())
@@ -31,7 +33,8 @@ impl Metrics {
 
     pub fn height(&self, code: u8) -> i64
         requires { self.now.size < 2 ^ 27 }
-        ensures { result ≡ height_of self.now code }
+        ensures value { result ≡ height_of self.now code }
+        ensures bound { unsigned_abs result < 2 ^ 31 }
     {
         let info = self.file.info(usize::from(code));
         self.scaled_at(self.file.lengths.heights_at() + info.height_index())
@@ -39,7 +42,8 @@ impl Metrics {
 
     pub fn depth(&self, code: u8) -> i64
         requires { self.now.size < 2 ^ 27 }
-        ensures { result ≡ depth_of self.now code }
+        ensures value { result ≡ depth_of self.now code }
+        ensures bound { unsigned_abs result < 2 ^ 31 }
     {
         let info = self.file.info(usize::from(code));
         self.scaled_at(self.file.lengths.depths_at() + info.depth_index())
@@ -47,7 +51,8 @@ impl Metrics {
 
     pub fn italic(&self, code: u8) -> i64
         requires { self.now.size < 2 ^ 27 }
-        ensures { result ≡ italic_of self.now code }
+        ensures value { result ≡ italic_of self.now code }
+        ensures bound { unsigned_abs result < 2 ^ 31 }
     {
         let info = self.file.info(usize::from(code));
         self.scaled_at(self.file.lengths.italics_at() + info.italic_index())
@@ -77,7 +82,8 @@ impl Metrics {
     pub fn parameter(&self, number: u16) -> i64
         requires size_in { self.now.size < 2 ^ 27 }
         requires some { 1 ≤ number }
-        ensures { result ≡ parameter_of self.now number }
+        ensures value { result ≡ parameter_of self.now number }
+        ensures bound { unsigned_abs result < 2 ^ 31 }
     {
         let first = self.file.lengths.parameters_at();
         if number > self.file.lengths.parameters {
@@ -87,6 +93,12 @@ impl Metrics {
         } else {
             self.scaled_at(first + (usize::from(number) - 1))
         }
+    }
+
+    pub fn file_parameters(&self) -> u16
+        ensures { result ≡ self.now.file.lengths.parameters }
+    {
+        self.file.lengths.parameters
     }
 
     pub fn parameter_count(&self) -> u16
@@ -102,7 +114,8 @@ impl Metrics {
     pub fn kern(&self, command: Word) -> i64
         requires size_in { self.now.size < 2 ^ 27 }
         requires is_kern { 128 ≤ command.c }
-        ensures { result ≡ kern_of self.now command }
+        ensures value { result ≡ kern_of self.now command }
+        ensures bound { unsigned_abs result < 2 ^ 31 }
     {
         let index = 256 * (usize::from(command.c) - 128) + usize::from(command.d);
         self.scaled_at(self.file.lengths.kerns_at() + index)
@@ -111,7 +124,8 @@ impl Metrics {
 
 /// A word as a number with sign over 16, rounded down.
 fn slant(word: Word) -> i64
-    ensures { result ≡ slant_of word }
+    ensures value { result ≡ slant_of word }
+    ensures bound { unsigned_abs result < 2 ^ 31 }
 {
     let number = i64::from(word.number() / 16);
     if word.a < 128 {

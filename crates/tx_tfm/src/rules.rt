@@ -13,7 +13,7 @@ use std::alloc::{AllocError, Global};
 use tx_num::{Range, xn_over_d};
 
 /// The size at which a font is used.
-#[derive(Clone, Copy)]
+#[derive(Clone, Copy, PartialEq, Eq)]
 pub enum Size {
     /// Its design size.
     Design,
@@ -161,7 +161,7 @@ impl Tfm {
     }
 
     /// The size at which the font is used, in sp, where it is in range.
-    fn size_in_sp(&self, size: Size) -> Option<u32>
+    pub fn size_in_sp(&self, size: Size) -> Option<u32>
         ensures { MatchOption result (is_size (size_in_sp self.now size) ≡ false)
             (λ z. (is_size (size_in_sp self.now size) ≡ true) × IsSizeOf self.now size z) }
     {

@@ -1,5 +1,5 @@
 //! Sizes of a font: multiples of 2^-20 times the size at which it is used.
-ghost use Rattle.std.specs.Prelude.{◌≡◌, ◌≤◌, ◌<◌, ◌^◌, ◌*◌, ◌/◌, ◌-ℤ◌, pos};
+ghost use Rattle.std.specs.Prelude.{◌≡◌, ◌≤◌, ◌<◌, ◌^◌, ◌*◌, ◌/◌, ◌-◌, ◌-ℤ◌, pos, unsigned_abs};
 ghost use Rattle.tx_tfm.specs.Scaling.{halvings, scaled};
 
 use super::file::Word;
@@ -8,14 +8,24 @@ use super::file::Word;
 #[tactic(auto, unfolding(crate::specs::Scaling::scaled))]
 pub fn scale(size: u32, word: Word) -> i64
     requires { size < 2 ^ 27 }
-    ensures { result ≡ scaled size word }
+    ensures value { result ≡ scaled size word }
+    ensures bound { unsigned_abs result < 2 ^ 31 }
 {
     let halved = halve(size);
     let z = halved.size;
-    let (b, c, d) = (u64::from(word.b), u64::from(word.c), u64::from(word.d));
-    let fraction = ((d * z / 256 + c * z) / 256 + b * z) / halved.beta;
+    let fraction = ((times(word.d, z) / 256 + times(word.c, z)) / 256 + times(word.b, z))
+        / halved.beta;
     let below = if word.a == 0 { 0 } else { halved.alpha * z };
     difference(fraction, below)
+}
+
+/// A byte times a size that was halved.
+fn times(byte: u8, size: u64) -> u64
+    requires { size < 2 ^ 23 }
+    ensures value { result ≡ byte * size }
+    ensures bound { result ≤ 255 * (2 ^ 23 - 1) }
+{
+    u64::from(byte) * size
 }
 
 /// A size that was halved until it is below 2^23, 16 doubled as often, and 16 halved as often.
@@ -70,9 +80,10 @@ fn halve(size: u32) -> Halved
 }
 
 fn difference(a: u64, b: u64) -> i64
-    requires a_in { a < 2 ^ 62 }
-    requires b_in { b < 2 ^ 62 }
-    ensures { result ≡ pos a -ℤ pos b }
+    requires a_in { a < 2 ^ 31 }
+    requires b_in { b < 2 ^ 31 }
+    ensures value { result ≡ pos a -ℤ pos b }
+    ensures bound { unsigned_abs result < 2 ^ 31 }
 {
     a as i64 - b as i64
 }

@@ -5,8 +5,10 @@ use Rattle.tx_ligkern.specs.declared.item.LigItem.{LigItem}
 use Rattle.tx_ligkern.specs.declared.piece.Piece.{Piece}
 use Rattle.tx_ligkern.specs.Composing.{Becomes, Empty}
 use Rattle.tx_ligkern.specs.Pieces.{word_of}
+use Rattle.tx_ligkern.specs.Composed.{composed}
 use Rattle.tx_ligkern.proofs.Once.{once}
 use Rattle.tx_ligkern.proofs.Steps.{first_taken, no_pieces, nothing_taken, word-ends}
+use Rattle.tx_ligkern.proofs.Within.{composed-is}
 use Rattle.tx_ligkern.proofs.composing.compose.Goals as goal
 
 pub run-requires : goal.run-requires
@@ -33,3 +35,14 @@ pub returns-in-Some-clause-only : goal.returns-in-Some-clause-only
 returns-in-Some-clause-only c =
     IfOk-weaker c.run.result (λ items. Becomes c.args.font.now (word_of c.args.chars.now c.args.left c.args.right) items) _
     (λ items b. once c.args.font.now (word_of c.args.chars.now c.args.left c.args.right) items b) (returns-in-Some-clause-becomes c)
+
+pub returns-in-None-clause-value : goal.returns-in-None-clause-value
+returns-in-None-clause-value c =
+    once c.args.font.now (word_of c.args.chars.now c.args.left c.args.right) c.new.result (returns-in-None-clause-becomes c) (composed c.args.font.now c.args.chars.now c.args.left c.args.right)
+    (composed-is c.args.font.now c.args.chars.now c.args.left c.args.right c.is_sound.ensures c.requires)
+
+pub returns-in-Some-clause-value : goal.returns-in-Some-clause-value
+returns-in-Some-clause-value c =
+    IfOk-weaker c.run.result (λ items. Becomes c.args.font.now (word_of c.args.chars.now c.args.left c.args.right) items) _
+    (λ items b. once c.args.font.now (word_of c.args.chars.now c.args.left c.args.right) items b (composed c.args.font.now c.args.chars.now c.args.left c.args.right)
+    (composed-is c.args.font.now c.args.chars.now c.args.left c.args.right c.is_sound.ensures c.requires)) (returns-in-Some-clause-becomes c)
