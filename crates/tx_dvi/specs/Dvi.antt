@@ -1,9 +1,10 @@
 -- The DVI file of a list of pages (TeX: The Program, parts 31 and 32). All places are counted in bytes from its start.
-use Rattle.std.specs.Prelude.{◌≡◌, ℕ, zero, suc, ◌+◌, ◌-◌, ◌/◌, ◌%◌, ℤ, pos, negsuc, int_div, int_rem, unsigned_abs, List, [], ◌∷◌, ◌++◌, length, take, drop, fold, max, sum_by, replicate, codes, Some, slice_get}
+use Rattle.std.specs.Prelude.{◌≡◌, ℕ, zero, suc, ◌+◌, ◌-◌, ◌/◌, ◌%◌, ◌^◌, ◌<◌, ◌≤◌, ◌==◌, ℤ, pos, negsuc, int_div, int_rem, unsigned_abs, List, [], ◌∷◌, ◌++◌, length, take, drop, fold, filter, max, sum_by, replicate, codes, Some, slice_get}
 use Rattle.std.specs.List.{flat_map, enumerate_from}
 use Rattle.std.specs.Int.{w32, cast_unsigned, int_max}
 use Rattle.std.specs.Fmt.{signed_decimal}
 use Rattle.byteorder.specs.Endian.{big_bytes}
+use Rattle.tx_dvi.specs.declared.font.FontDefinition.{FontDefinition}
 use Rattle.tx_dvi.specs.declared.page.DateParameters.{DateParameters}
 use Rattle.tx_dvi.specs.Page.{Page}
 
@@ -13,6 +14,10 @@ bop = 139
 
 abbrev pub eop : ℕ
 eop = 140
+
+-- the one that defines a font
+abbrev pub fnt_def1 : ℕ
+fnt_def1 = 243
 
 abbrev pub pre : ℕ
 pre = 247
@@ -37,6 +42,25 @@ four_bytes z = big_bytes 4 (cast_unsigned w32 z)
 -- a number of two bytes, the highest first
 unfoldable pub two_bytes : ℕ → List ℕ
 two_bytes n = big_bytes 2 n
+
+-- a number of four bytes without sign, the highest first
+unfoldable pub unsigned_bytes : ℕ → List ℕ
+unsigned_bytes n = big_bytes 4 n
+
+-- The definition of a font: its number, the checksum of its file, the size at which it is used and the one for which it was
+-- designed, and its name, which stands in no area.
+unfoldable pub definition_bytes : FontDefinition → List ℕ
+definition_bytes font =
+    fnt_def1 ∷ font.number ∷ unsigned_bytes font.checksum ++ unsigned_bytes font.size ++ unsigned_bytes font.design_size
+    ++ 0 ∷ length font.name ∷ font.name
+
+-- what a definition can hold
+pub record IsDefinable (font : FontDefinition) : Type 0 where
+  pub number : font.number < 256
+  pub checksum : font.checksum < 2 ^ 32
+  pub size : font.size < 2 ^ 32
+  pub design_size : font.design_size < 2 ^ 32
+  pub name : length font.name ≤ 255
 
 -- the last two digits of a number, without its sign
 abbrev pub two_digits : ℤ → List ℕ
@@ -97,9 +121,26 @@ abbrev pub sizes_bytes : List Page → List ℕ
 sizes_bytes pages =
     four_bytes (greatest_height pages) ++ four_bytes (greatest_width pages) ++ two_bytes (greatest_nesting pages) ++ two_bytes (length pages)
 
--- where the last page begins, the units and the sizes
+-- the fonts that the pages define, page by page
+abbrev pub fonts_of : List Page → List FontDefinition
+fonts_of pages = flat_map (λ (page : Page). page.fonts) pages
+
+-- those of them that have this number
+abbrev pub numbered : ℕ → List FontDefinition → List FontDefinition
+numbered number fonts = filter (λ (font : FontDefinition). font.number == number) fonts
+
+-- the definitions of those whose numbers are below a bound, from the last number to the first
+unfoldable pub definitions_below : ℕ → List FontDefinition → List ℕ
+definitions_below zero fonts = []
+definitions_below (suc number) fonts = flat_map definition_bytes (numbered number fonts) ++ definitions_below number fonts
+
+-- those of all fonts, whose numbers are bytes
+abbrev pub all_definitions : List Page → List ℕ
+all_definitions pages = definitions_below 256 (fonts_of pages)
+
+-- where the last page begins, the units, the sizes and the definitions of all fonts
 abbrev pub post_bytes : ℤ → ℕ → List Page → List ℕ
-post_bytes last mag pages = post ∷ four_bytes last ++ units mag ++ sizes_bytes pages
+post_bytes last mag pages = post ∷ four_bytes last ++ units mag ++ sizes_bytes pages ++ all_definitions pages
 
 -- where post stands
 abbrev pub post_post_bytes : ℤ → List ℕ

@@ -1,15 +1,20 @@
 ghost use Rattle.std.specs.Prelude.{◌≡◌, ◌≤◌, ◌+◌, ◌*◌, ◌++◌, ◌∷◌, ◌<◌, [], pos, length, IfOk, OnOk};
-ghost use Rattle.std.specs.List.{All};
+ghost use Rattle.std.specs.List.{All, flat_map};
 ghost use Rattle.tx_dvi.specs.Dvi as spec;
+ghost use Rattle.tx_dvi.specs.Page.{IsNamed};
 
+use crate::font::FontDefinition;
 use crate::page::{DateParameters, PageBody};
 use byteorder::{BigEndian, ByteOrder};
 use std::alloc::{AllocError, Global};
 use tx_bytes::Bytes;
+use tx_list::Items;
 
 const BOP: u8 = 139;
 
 const EOP: u8 = 140;
+
+const FNT_DEF1: u8 = 243;
 
 const PRE: u8 = 247;
 
@@ -29,6 +34,43 @@ pub fn four_bytes(n: i32) -> [u8; 4]
     let mut bytes = [0; 4];
     BigEndian::write_i32(&mut bytes, n);
     bytes
+}
+
+#[tactic(auto, unfolding(crate::specs::Dvi::unsigned_bytes))]
+fn unsigned_bytes(n: u32) -> [u8; 4]
+    ensures { result ≡ spec.unsigned_bytes n }
+{
+    let mut bytes = [0; 4];
+    BigEndian::write_u32(&mut bytes, n);
+    bytes
+}
+
+/// What holds of a definition whose name isn't too long.
+fn fits(font: &FontDefinition)
+    requires { IsNamed font.now }
+    ensures { spec.IsDefinable font.now }
+{
+    let _number = font.number;
+    let _checksum = font.checksum;
+    let _size = font.size;
+    let _design_size = font.design_size;
+}
+
+/// The definition of a font. Its only error is want of memory.
+#[tactic(auto, unfolding(crate::specs::Dvi::definition_bytes))]
+pub fn definition(alloc: Global, font: &FontDefinition) -> Result<Bytes, AllocError>
+    requires { IsNamed font.now }
+    ensures bytes { IfOk result (λ bytes. bytes ≡ spec.definition_bytes font.now) }
+    ensures fits { OnOk result (spec.IsDefinable font.now) }
+{
+    fits(font);
+    let mut bytes = Bytes::from_slice(alloc, &[FNT_DEF1, font.number])?;
+    bytes.append(&unsigned_bytes(font.checksum))?;
+    bytes.append(&unsigned_bytes(font.size))?;
+    bytes.append(&unsigned_bytes(font.design_size))?;
+    bytes.append(&[0, font.name.len() as u8])?;
+    bytes.append(font.name.as_slice())?;
+    Ok(bytes)
 }
 
 #[tactic(auto, unfolding(crate::specs::Dvi::two_bytes))]
@@ -164,7 +206,56 @@ fn append_sizes(file: &mut Bytes, pages: &[PageBody]) -> Result<(), AllocError>
     file.append(&two_bytes(pages.len() as u16))
 }
 
+/// The fonts that the pages define, page by page.
+fn defined_fonts(alloc: Global, pages: &[PageBody]) -> Result<Items<FontDefinition>, AllocError>
+    ensures fonts { IfOk result (λ fonts. fonts ≡ spec.fonts_of pages.now) }
+    ensures names { IfOk result (All IsNamed) }
+{
+    let mut fonts = Items::new(alloc);
+    for page in pages {
+        let mut more = Items::from_slice(alloc, page.fonts())?;
+        fonts.append(&mut more)?;
+    }
+    Ok(fonts)
+}
+
+/// Appends the definitions of the fonts that have this number.
+fn append_numbered(
+    alloc: Global,
+    file: &mut Bytes,
+    fonts: &[FontDefinition],
+    number: u8,
+) -> Result<(), AllocError>
+    requires { All IsNamed fonts.now }
+    ensures { OnOk result (file.new ≡ file.old ++ flat_map spec.definition_bytes (spec.numbered number fonts.now)) }
+{
+    for font in fonts {
+        if font.number == number {
+            file.append(definition(alloc, font)?.as_slice())?;
+        }
+    }
+    Ok(())
+}
+
+/// Appends the definitions of fonts, from the last number to the first.
+fn append_definitions(
+    alloc: Global,
+    file: &mut Bytes,
+    fonts: &[FontDefinition],
+) -> Result<(), AllocError>
+    requires { All IsNamed fonts.now }
+    ensures { OnOk result (file.new ≡ file.old ++ spec.definitions_below 256 fonts.now) }
+{
+    let mut below: u16 = 256;
+    while below > 0 {
+        below -= 1;
+        append_numbered(alloc, file, fonts, below as u8)?;
+    }
+    Ok(())
+}
+
 fn append_post(
+    alloc: Global,
     file: &mut Bytes,
     last: i32,
     first: &PageBody,
@@ -176,7 +267,9 @@ fn append_post(
     file.push(POST)?;
     file.append(&four_bytes(last))?;
     file.append(&units(first.parts().mag))?;
-    append_sizes(file, pages)
+    append_sizes(file, pages)?;
+    let fonts = defined_fonts(alloc, pages)?;
+    append_definitions(alloc, file, fonts.as_slice())
 }
 
 fn append_post_post(file: &mut Bytes, place: i32) -> Result<(), AllocError>
@@ -207,7 +300,7 @@ pub fn assemble(alloc: Global, pages: &[PageBody]) -> Result<Bytes, AllocError>
     let mut file = preamble(alloc, first)?;
     let last = append_pages(&mut file, pages)?;
     let place = file.len() as i32;
-    append_post(&mut file, last, first, pages)?;
+    append_post(alloc, &mut file, last, first, pages)?;
     append_post_post(&mut file, place)?;
     fill(&mut file)?;
     Ok(file)

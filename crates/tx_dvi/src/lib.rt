@@ -4,11 +4,13 @@
 //! Proved: the file is exactly the defined bytes, and each page's pointer names the place of the page before it. Only
 //! tested: the bytes against files worked out by hand and read by dvitype.
 //!
-//! Read `page`, then `file`.
+//! Read `font` and `page`, then `file`.
 #![tactic(auto)]
 
 pub mod file;
+pub mod font;
 pub mod page;
 
-pub use file::{assemble, four_bytes};
+pub use file::{assemble, definition, four_bytes};
+pub use font::FontDefinition;
 pub use page::{DateParameters, PageBody, PageParts};

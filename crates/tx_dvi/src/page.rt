@@ -1,9 +1,13 @@
 ghost use Rattle.std.specs.Prelude.{◌≡◌, ◌≤◌, length, IfOk};
+ghost use Rattle.std.specs.List.{All};
+ghost use Rattle.tx_dvi.specs.Page.{IsNamed};
 
+use crate::font::FontDefinition;
 use std::alloc::{AllocError, Global};
 use std::marker::Model;
 use std::rc::Rc;
 use tx_bytes::Bytes;
+use tx_list::Items;
 
 /// The parameters \year, \month, \day and \time (minutes since midnight). A document may set them to anything.
 #[derive(Clone, Copy, PartialEq, Eq)]
@@ -19,6 +23,8 @@ pub struct DateParameters {
 pub struct PageParts {
     /// The commands between bop and eop, at most 200,000 bytes.
     pub body: Bytes,
+    /// The fonts that these define, in their order; each name has at most 255 bytes.
+    pub fonts: Items<FontDefinition>,
     /// \count0 to \count9.
     pub counts: [i32; 10],
     /// Its height plus its depth plus \voffset, in sp.
@@ -41,6 +47,7 @@ impl Model for PageParts {
 
     ghost view = { λ p. record {
       body = p.body;
+      fonts = p.fonts;
       counts = p.counts;
       height = p.height;
       width = p.width;
@@ -49,7 +56,7 @@ impl Model for PageParts {
       date = p.date;
     } };
 
-    ghost invariant = { λ p. InRange (length p.body) (length p.counts) p.nesting p.mag };
+    ghost invariant = { λ p. InRange (length p.body) p.fonts (length p.counts) p.nesting p.mag };
 }
 
 /// A page as it stands in a DVI file, without the frame that depends on the pages before it. It is one pointer, so that an
@@ -91,6 +98,14 @@ impl PageBody {
         ensures ten { length self.now.counts ≡ 10 }
     {
         self.parts().body.as_slice()
+    }
+
+    /// The fonts that it defines, lent.
+    pub fn fonts(&self) -> &[FontDefinition]
+        ensures fonts { result.now ≡ self.now.fonts }
+        ensures names { All IsNamed self.now.fonts }
+    {
+        self.parts().fonts.as_slice()
     }
 }
 
