@@ -1,5 +1,5 @@
--- How commands change the list that is being built (TeX: The Program, sections 1080, 1103 to 1110 and 1243).
-use Rattle.std.specs.Prelude.{ℤ, Bool, true, false, List, [], ◌∷◌, ◌++◌, Option, Some, None, if◌then◌else◌}
+-- How commands change the list that is being built (TeX: The Program, sections 1034, 1080, 1103 to 1110 and 1243).
+use Rattle.std.specs.Prelude.{ℕ, ℤ, Bool, true, false, List, [], ◌∷◌, ◌++◌, Option, Some, None, if◌then◌else◌}
 use Rattle.tx_prim.specs.declared.family.ItemKind.{ItemKind}
 use Rattle.tx_prim.specs.declared.family.ItemKind.TheVariants as kind
 use Rattle.tx_node.specs.Items.{Item}
@@ -7,7 +7,7 @@ use Rattle.tx_nest.specs.declared.list.ModeList.{ModeList}
 use Rattle.tx_nest.specs.declared.state.ModeState.{ModeState}
 use Rattle.tx_nest.specs.declared.state.ModeState.TheVariants.{Vertical, InternalVertical, Horizontal, RestrictedHorizontal, Math, DisplayMath}
 use Rattle.tx_nest.specs.Lasts.{without_last}
-use Rattle.tx_nest.specs.States.{with_prev_depth}
+use Rattle.tx_nest.specs.States.{with_prev_depth, with_space_factor}
 
 -- items at the end that change nothing else: glue, kerns, penalties, specials, and what \unhbox brings
 abbrev pub with_items : ModeList → List Item → ModeList
@@ -20,6 +20,10 @@ with_nodes list nodes = record list { nodes = nodes }
 -- \prevdepth is set; lists that aren't vertical have none
 abbrev pub with_depth : ModeList → ℤ → ModeList
 with_depth list depth = record list { state = with_prev_depth list.state depth }
+
+-- \spacefactor is set; lists that aren't horizontal have none
+abbrev pub with_factor : ModeList → ℕ → ModeList
+with_factor list factor = record list { state = with_space_factor list.state factor }
 
 -- whether \lastbox may look at the last item: not on the pages' list while nothing stands there, since that would be the page's,
 -- nor in formulas (section 1080)

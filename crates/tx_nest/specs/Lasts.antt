@@ -4,7 +4,7 @@ use Rattle.tx_num.specs.Glue.{GlueSpec, glue_of}
 use Rattle.tx_prim.specs.declared.family.ItemKind.{ItemKind}
 use Rattle.tx_prim.specs.declared.family.ItemKind.TheVariants as kind
 use Rattle.tx_node.specs.declared.plain.Plain.{Plain}
-use Rattle.tx_node.specs.declared.plain.Plain.TheVariants.{Kern, Glue, Penalty}
+use Rattle.tx_node.specs.declared.plain.Plain.TheVariants.{Kern, Glue, Penalty, Character}
 use Rattle.tx_node.specs.Items.{Item, Items, none, more, plain, shared, boxed, PackedBox}
 use Rattle.tx_node.specs.Sizes.{glue_of_item}
 
@@ -17,6 +17,7 @@ abbrev pub plain_penalty : Plain → Option ℤ
 plain_penalty (Kern kind size) = None
 plain_penalty (Glue g) = None
 plain_penalty (Penalty n) = Some n
+plain_penalty (Character c) = None
 
 abbrev pub penalty_of : Item → Option ℤ
 penalty_of (plain p) = plain_penalty p
@@ -27,6 +28,7 @@ abbrev pub plain_kern : Plain → Option ℤ
 plain_kern (Kern kind size) = Some size
 plain_kern (Glue g) = None
 plain_kern (Penalty n) = None
+plain_kern (Character c) = None
 
 abbrev pub kern_of : Item → Option ℤ
 kern_of (plain p) = plain_kern p

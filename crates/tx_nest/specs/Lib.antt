@@ -1,3 +1,5 @@
+pub mod Factors
+pub mod FactorFields
 pub mod States
 pub mod Lending
 pub mod Leading

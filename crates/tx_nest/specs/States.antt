@@ -2,6 +2,7 @@
 use Rattle.std.specs.Prelude.{ℕ, ℤ, pos, neg_ℤ, Option, Some, None}
 use Rattle.tx_prim.specs.declared.modes.Mode.{Mode}
 use Rattle.tx_prim.specs.declared.modes.Mode.TheVariants as mode
+use Rattle.tx_nest.specs.Factors.{plain_factor}
 use Rattle.tx_nest.specs.declared.state.ModeState.{ModeState}
 use Rattle.tx_nest.specs.declared.state.ModeState.TheVariants.{Vertical, InternalVertical, Horizontal, RestrictedHorizontal, Math, DisplayMath}
 
@@ -9,16 +10,12 @@ use Rattle.tx_nest.specs.declared.state.ModeState.TheVariants.{Vertical, Interna
 abbrev pub ignore_depth : ℤ
 ignore_depth = neg_ℤ (pos 65536000)
 
--- the space factor of a new list, and behind a box or a rule
-abbrev pub plain_space : ℕ
-plain_space = 1000
-
 -- what a mode keeps when its list begins (sections 1083 and 1091)
 abbrev pub begun : Mode → ModeState
 begun mode.Vertical = Vertical ignore_depth
 begun mode.InternalVertical = InternalVertical ignore_depth
-begun mode.Horizontal = Horizontal plain_space
-begun mode.RestrictedHorizontal = RestrictedHorizontal plain_space
+begun mode.Horizontal = Horizontal plain_factor
+begun mode.RestrictedHorizontal = RestrictedHorizontal plain_factor
 begun mode.Math = Math
 begun mode.DisplayMath = DisplayMath
 
@@ -58,12 +55,21 @@ with_prev_depth (RestrictedHorizontal factor) depth = RestrictedHorizontal facto
 with_prev_depth Math depth = Math
 with_prev_depth DisplayMath depth = DisplayMath
 
+-- another \spacefactor, in horizontal modes
+abbrev pub with_space_factor : ModeState → ℕ → ModeState
+with_space_factor (Vertical depth) factor = Vertical depth
+with_space_factor (InternalVertical depth) factor = InternalVertical depth
+with_space_factor (Horizontal old) factor = Horizontal factor
+with_space_factor (RestrictedHorizontal old) factor = RestrictedHorizontal factor
+with_space_factor Math factor = Math
+with_space_factor DisplayMath factor = DisplayMath
+
 -- behind a box \prevdepth is its depth, and spaces are as wide as at the beginning (section 1076)
 abbrev pub behind_box : ModeState → ℤ → ModeState
 behind_box (Vertical old) depth = Vertical depth
 behind_box (InternalVertical old) depth = InternalVertical depth
-behind_box (Horizontal factor) depth = Horizontal plain_space
-behind_box (RestrictedHorizontal factor) depth = RestrictedHorizontal plain_space
+behind_box (Horizontal factor) depth = Horizontal plain_factor
+behind_box (RestrictedHorizontal factor) depth = RestrictedHorizontal plain_factor
 behind_box Math depth = Math
 behind_box DisplayMath depth = DisplayMath
 

@@ -3,6 +3,7 @@ ghost use Rattle.std.specs.Prelude.{◌≡◌, ◌∷◌, [], OnOk};
 ghost use Rattle.tx_node.specs.Nodes.{item_of};
 ghost use Rattle.tx_nest.specs.Changed as spec;
 
+use crate::factor::SpaceFactor;
 use crate::last::remove_last;
 use crate::list::ModeList;
 use crate::state::ModeState;
@@ -32,6 +33,13 @@ pub fn set_prev_depth(list: &mut ModeList, depth: i32)
     ensures { list.new ≡ spec.with_depth list.old depth }
 {
     list.state = list.state.with_prev_depth(depth);
+}
+
+/// Sets \spacefactor; nothing changes where the mode isn't horizontal.
+pub fn set_space_factor(list: &mut ModeList, factor: SpaceFactor)
+    ensures { list.new ≡ spec.with_factor list.old factor }
+{
+    list.state = list.state.with_space_factor(factor);
 }
 
 /// Whether \lastbox may look at the last item.

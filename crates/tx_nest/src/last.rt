@@ -23,7 +23,7 @@ fn penalty_of(node: &Node) -> Option<i32>
 {
     match node {
         Node::Plain(Plain::Penalty(number)) => Some(*number),
-        Node::Plain(Plain::Kern(_, _) | Plain::Glue(_)) => None,
+        Node::Plain(Plain::Kern(_, _) | Plain::Glue(_) | Plain::Character(_)) => None,
         Node::Shared(_) | Node::Box(_, _) => None,
     }
 }
@@ -34,7 +34,7 @@ fn kern_of(node: &Node) -> Option<i32>
 {
     match node {
         Node::Plain(Plain::Kern(_, size)) => Some(*size),
-        Node::Plain(Plain::Penalty(_) | Plain::Glue(_)) => None,
+        Node::Plain(Plain::Penalty(_) | Plain::Glue(_) | Plain::Character(_)) => None,
         Node::Shared(_) | Node::Box(_, _) => None,
     }
 }

@@ -2,13 +2,11 @@
 ghost use Rattle.std.specs.Prelude.{◌≡◌, ◌↔◌, IsTrue};
 ghost use Rattle.tx_nest.specs.States as spec;
 
+use crate::factor::SpaceFactor;
 use tx_prim::Mode;
 
 /// The depth that \prevdepth has where no leading is to come, -1000pt, in sp (TeX: The Program, section 212).
 pub(crate) const IGNORE_DEPTH: i32 = -65_536_000;
-
-/// The space factor of a new list (TeX: The Program, section 1083).
-const PLAIN_SPACE: u16 = 1000;
 
 /// A mode with what it keeps beside its list: \prevdepth in sp in vertical modes, \spacefactor in horizontal ones.
 #[derive(Clone, Copy, PartialEq, Eq)]
@@ -18,9 +16,9 @@ pub enum ModeState {
     /// The list of a vertical box.
     InternalVertical(i32),
     /// The list of a paragraph.
-    Horizontal(u16),
+    Horizontal(SpaceFactor),
     /// The list of a horizontal box.
-    RestrictedHorizontal(u16),
+    RestrictedHorizontal(SpaceFactor),
     /// A formula in a text.
     Math,
     /// A displayed formula.
@@ -35,8 +33,8 @@ impl ModeState {
         match mode {
             Mode::Vertical => ModeState::Vertical(IGNORE_DEPTH),
             Mode::InternalVertical => ModeState::InternalVertical(IGNORE_DEPTH),
-            Mode::Horizontal => ModeState::Horizontal(PLAIN_SPACE),
-            Mode::RestrictedHorizontal => ModeState::RestrictedHorizontal(PLAIN_SPACE),
+            Mode::Horizontal => ModeState::Horizontal(SpaceFactor::plain()),
+            Mode::RestrictedHorizontal => ModeState::RestrictedHorizontal(SpaceFactor::plain()),
             Mode::Math => ModeState::Math,
             Mode::DisplayMath => ModeState::DisplayMath,
         }
@@ -68,7 +66,7 @@ impl ModeState {
     }
 
     /// \spacefactor; None exactly where the mode isn't horizontal.
-    pub fn space_factor(self) -> Option<u16>
+    pub fn space_factor(self) -> Option<SpaceFactor>
         ensures { result ≡ spec.space_factor self }
     {
         match self {
@@ -92,6 +90,20 @@ impl ModeState {
         }
     }
 
+    /// The same mode with another \spacefactor; nothing changes where the mode isn't horizontal.
+    pub fn with_space_factor(self, factor: SpaceFactor) -> ModeState
+        ensures { result ≡ spec.with_space_factor self factor }
+    {
+        match self {
+            ModeState::Vertical(depth) => ModeState::Vertical(depth),
+            ModeState::InternalVertical(depth) => ModeState::InternalVertical(depth),
+            ModeState::Horizontal(_) => ModeState::Horizontal(factor),
+            ModeState::RestrictedHorizontal(_) => ModeState::RestrictedHorizontal(factor),
+            ModeState::Math => ModeState::Math,
+            ModeState::DisplayMath => ModeState::DisplayMath,
+        }
+    }
+
     /// What is kept behind a box of this depth, in sp.
     pub(crate) fn behind_box(self, depth: i32) -> ModeState
         ensures { result ≡ spec.behind_box self depth }
@@ -99,8 +111,10 @@ impl ModeState {
         match self {
             ModeState::Vertical(_) => ModeState::Vertical(depth),
             ModeState::InternalVertical(_) => ModeState::InternalVertical(depth),
-            ModeState::Horizontal(_) => ModeState::Horizontal(PLAIN_SPACE),
-            ModeState::RestrictedHorizontal(_) => ModeState::RestrictedHorizontal(PLAIN_SPACE),
+            ModeState::Horizontal(_) => ModeState::Horizontal(SpaceFactor::plain()),
+            ModeState::RestrictedHorizontal(_) => ModeState::RestrictedHorizontal(
+                SpaceFactor::plain(),
+            ),
             ModeState::Math => ModeState::Math,
             ModeState::DisplayMath => ModeState::DisplayMath,
         }

@@ -4,9 +4,10 @@
 //! Proved: a list is what was put into it, a box keeps its head and its list, and its glue is set by what it has of it.
 //! Where items stand once glue is set is defined here, in specs/, for all who place them. Only tested: nothing.
 //!
-//! Modules in reading order: `rule`, `plain`, `head`, `node`, `nodes`, `measure`, `same`, `sizes`, `setting`.
+//! Modules in reading order: `rule`, `character`, `plain`, `head`, `node`, `nodes`, `measure`, `same`, `sizes`, `setting`.
 #![tactic(auto)]
 
+mod character;
 mod head;
 mod measure;
 mod node;
@@ -17,6 +18,7 @@ mod same;
 mod setting;
 mod sizes;
 
+pub use character::{Character, Ligature};
 pub use head::{BoxHead, Change, Direction, GlueSet, Setting};
 pub use node::{BoxNode, Node};
 pub use nodes::Nodes;

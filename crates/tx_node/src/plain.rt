@@ -1,4 +1,5 @@
 //! Items that hold no list: those that a node keeps in itself, and those that it shares.
+use crate::character::{Character, Ligature};
 use crate::rule::Rule;
 use tx_bytes::Bytes;
 use tx_num::Glue;
@@ -21,6 +22,8 @@ pub enum Plain {
     Glue(Glue),
     /// A penalty for a break at this place.
     Penalty(i32),
+    /// A character.
+    Character(Character),
 }
 
 /// How the copies of leaders are spread (TeX: The Program, section 149).
@@ -51,4 +54,6 @@ pub enum Shared {
     Leaders(Leaders),
     /// The bytes of a \special.
     Special(Bytes),
+    /// A ligature.
+    Ligature(Ligature),
 }

@@ -2,6 +2,7 @@
 ghost use Rattle.std.specs.Prelude.{◌≡◌, ◌↔◌, IsTrue};
 ghost use Rattle.tx_node.specs.Nodes.{item_of, list_of};
 
+use crate::character::{Character, Ligature};
 use crate::head::{BoxHead, Change, Direction, GlueSet, Setting};
 use crate::node::{BoxNode, Node};
 use crate::plain::{KernKind, Leaders, LeadersKind, Plain, Shared};
@@ -100,6 +101,24 @@ fn same_leaders(a: Leaders, b: Leaders) -> bool
     same_rule(a.rule, b.rule)
 }
 
+/// Whether two characters are equal.
+fn same_character(a: Character, b: Character) -> bool
+    ensures { IsTrue result ↔ (a ≡ b) }
+{
+    a.font == b.font
+        && a.code == b.code
+        && a.width == b.width
+        && a.height == b.height
+        && a.depth == b.depth
+}
+
+/// Whether two ligatures are equal.
+fn same_ligature(a: &Ligature, b: &Ligature) -> bool
+    ensures { IsTrue result ↔ (a.now ≡ b.now) }
+{
+    same_character(a.character, b.character) && a.from.same(&b.from)
+}
+
 /// Whether two small items are equal.
 fn same_plain(a: &Plain, b: &Plain) -> bool
     ensures { IsTrue result ↔ (a.now ≡ b.now) }
@@ -108,9 +127,11 @@ fn same_plain(a: &Plain, b: &Plain) -> bool
         (Plain::Kern(k, x), Plain::Kern(l, y)) => same_origin(*k, *l) && *x == *y,
         (Plain::Glue(x), Plain::Glue(y)) => same_glue(*x, *y),
         (Plain::Penalty(x), Plain::Penalty(y)) => *x == *y,
-        (Plain::Kern(_, _), Plain::Glue(_) | Plain::Penalty(_))
-        | (Plain::Glue(_), Plain::Kern(_, _) | Plain::Penalty(_))
-        | (Plain::Penalty(_), Plain::Kern(_, _) | Plain::Glue(_)) => false,
+        (Plain::Character(x), Plain::Character(y)) => same_character(*x, *y),
+        (Plain::Kern(_, _), Plain::Glue(_) | Plain::Penalty(_) | Plain::Character(_))
+        | (Plain::Glue(_), Plain::Kern(_, _) | Plain::Penalty(_) | Plain::Character(_))
+        | (Plain::Penalty(_), Plain::Kern(_, _) | Plain::Glue(_) | Plain::Character(_))
+        | (Plain::Character(_), Plain::Kern(_, _) | Plain::Glue(_) | Plain::Penalty(_)) => false,
     }
 }
 
@@ -129,9 +150,11 @@ fn same_shared(a: &Shared, b: &Shared) -> bool
         (Shared::Rule(a), Shared::Rule(b)) => same_rule(*a, *b),
         (Shared::Leaders(a), Shared::Leaders(b)) => same_leaders(*a, *b),
         (Shared::Special(a), Shared::Special(b)) => a.same(b),
-        (Shared::Rule(_), Shared::Leaders(_) | Shared::Special(_))
-        | (Shared::Leaders(_), Shared::Rule(_) | Shared::Special(_))
-        | (Shared::Special(_), Shared::Rule(_) | Shared::Leaders(_)) => false,
+        (Shared::Ligature(a), Shared::Ligature(b)) => same_ligature(a, b),
+        (Shared::Rule(_), Shared::Leaders(_) | Shared::Special(_) | Shared::Ligature(_))
+        | (Shared::Leaders(_), Shared::Rule(_) | Shared::Special(_) | Shared::Ligature(_))
+        | (Shared::Special(_), Shared::Rule(_) | Shared::Leaders(_) | Shared::Ligature(_))
+        | (Shared::Ligature(_), Shared::Rule(_) | Shared::Leaders(_) | Shared::Special(_)) => false,
     }
 }
 

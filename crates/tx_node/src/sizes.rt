@@ -3,6 +3,7 @@ ghost use Rattle.std.specs.Prelude.{◌≡◌, ◌≤◌, ◌^◌, unsigned_abs}
 ghost use Rattle.tx_node.specs.Nodes.{item_of};
 ghost use Rattle.tx_node.specs.Sizes as spec;
 
+use crate::character::Character;
 use crate::head::{BoxHead, Direction};
 use crate::node::Node;
 use crate::plain::{Plain, Shared};
@@ -40,19 +41,33 @@ impl BoxHead {
     }
 }
 
-/// How far a small item moves the reference point naturally, in sp.
-fn plain_advance(item: Plain) -> i64
-    ensures value { result ≡ spec.plain_advance item }
+impl Character {
+    /// How far the character reaches in a list of this direction, in sp.
+    pub fn advance(&self, direction: Direction) -> i64
+        ensures value { result ≡ spec.character_advance direction self.now }
+        ensures size { unsigned_abs result ≤ 2 ^ 32 }
+    {
+        match direction {
+            Direction::Horizontal => i64::from(self.width),
+            Direction::Vertical => i64::from(self.height) + i64::from(self.depth),
+        }
+    }
+}
+
+/// How far a small item moves the reference point naturally, in a list of this direction, in sp.
+fn plain_advance(direction: Direction, item: Plain) -> i64
+    ensures value { result ≡ spec.plain_advance direction item }
     ensures size { unsigned_abs result ≤ 2 ^ 32 }
 {
     match item {
         Plain::Kern(_, size) => i64::from(size),
         Plain::Glue(glue) => glue.width(),
         Plain::Penalty(_) => 0,
+        Plain::Character(character) => character.advance(direction),
     }
 }
 
-/// How far a larger item does, in a list of this direction.
+/// How far a larger item does.
 fn shared_advance(direction: Direction, item: &Shared) -> i64
     ensures value { result ≡ spec.shared_advance direction item.now }
     ensures size { unsigned_abs result ≤ 2 ^ 32 }
@@ -61,6 +76,7 @@ fn shared_advance(direction: Direction, item: &Shared) -> i64
         Shared::Rule(rule) => rule_advance(direction, *rule),
         Shared::Leaders(leaders) => leaders.glue.width(),
         Shared::Special(_) => 0,
+        Shared::Ligature(ligature) => ligature.character.advance(direction),
     }
 }
 
@@ -71,7 +87,7 @@ impl Node {
         ensures size { unsigned_abs result ≤ 2 ^ 32 }
     {
         match self {
-            Node::Plain(item) => plain_advance(*item),
+            Node::Plain(item) => plain_advance(direction, *item),
             Node::Shared(item) => shared_advance(direction, item),
             Node::Box(_, inner) => inner.head().advance(direction),
         }
@@ -93,7 +109,7 @@ fn plain_glue(item: Plain) -> Option<Glue>
     ensures { result ≡ spec.plain_glue item }
 {
     match item {
-        Plain::Kern(_, _) | Plain::Penalty(_) => None,
+        Plain::Kern(_, _) | Plain::Penalty(_) | Plain::Character(_) => None,
         Plain::Glue(glue) => Some(glue),
     }
 }
@@ -102,7 +118,7 @@ fn shared_glue(item: &Shared) -> Option<Glue>
     ensures { result ≡ spec.shared_glue item.now }
 {
     match item {
-        Shared::Rule(_) | Shared::Special(_) => None,
+        Shared::Rule(_) | Shared::Special(_) | Shared::Ligature(_) => None,
         Shared::Leaders(leaders) => Some(leaders.glue),
     }
 }

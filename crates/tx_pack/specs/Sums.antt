@@ -3,14 +3,15 @@ use Rattle.std.specs.Prelude.{Bool, ◌&&◌, nat_lt, ◌^◌, ℤ, pos, ◌+ℤ
 use Rattle.std.specs.Int.{int_max}
 use Rattle.std.specs.Option.{option_and_then}
 use Rattle.tx_num.specs.Glue.{GlueSpec, IsDimension}
+use Rattle.tx_node.specs.declared.character.Character.{Character as CharacterItem}
 use Rattle.tx_node.specs.declared.head.Change.{Change}
 use Rattle.tx_node.specs.declared.head.Change.TheVariants.{Stretch, Shrink}
 use Rattle.tx_node.specs.declared.head.Direction.{Direction}
 use Rattle.tx_node.specs.declared.head.Direction.TheVariants.{Horizontal, Vertical}
 use Rattle.tx_node.specs.declared.plain.Plain.{Plain}
-use Rattle.tx_node.specs.declared.plain.Plain.TheVariants.{Kern, Glue, Penalty}
+use Rattle.tx_node.specs.declared.plain.Plain.TheVariants.{Kern, Glue, Penalty, Character}
 use Rattle.tx_node.specs.declared.plain.Shared.{Shared}
-use Rattle.tx_node.specs.declared.plain.Shared.TheVariants.{Rule, Leaders, Special}
+use Rattle.tx_node.specs.declared.plain.Shared.TheVariants.{Rule, Leaders, Special, Ligature}
 use Rattle.tx_node.specs.declared.rule.Rule.{Rule as RuleSides}
 use Rattle.tx_node.specs.Items.{Item, plain, shared, boxed}
 use Rattle.tx_node.specs.Sizes.{side, advance, glue_of_item}
@@ -18,41 +19,57 @@ use Rattle.tx_node.specs.Setting.{glue_part}
 use Rattle.tx_pack.specs.declared.sums.Orders.{Orders}
 use Rattle.tx_pack.specs.declared.sums.Sums.{Sums}
 
--- the rule that a larger item shows, that of leaders too; a special shows none, and has none of its sides
-abbrev pub rule_shown : Shared → RuleSides
-rule_shown (Rule r) = r
-rule_shown (Leaders l) = l.rule
-rule_shown (Special text) = record { width = None; height = None; depth = None }
+-- the sides that an item without a list shows: those of a rule, also of the one that leaders show, of a character and of that of a
+-- ligature; all else shows none
+abbrev pub no_sides : RuleSides
+no_sides = record { width = None; height = None; depth = None }
+
+abbrev pub character_sides : CharacterItem → RuleSides
+character_sides c = record { width = Some c.width; height = Some c.height; depth = Some c.depth }
+
+abbrev pub plain_sides : Plain → RuleSides
+plain_sides (Kern kind size) = no_sides
+plain_sides (Glue g) = no_sides
+plain_sides (Penalty n) = no_sides
+plain_sides (Character c) = character_sides c
+
+abbrev pub shared_sides : Shared → RuleSides
+shared_sides (Rule r) = r
+shared_sides (Leaders l) = l.rule
+shared_sides (Special text) = no_sides
+shared_sides (Ligature l) = character_sides l.character
 
 -- the height and the depth that an item asks of a horizontal list's box; a box that is shifted down asks for less height and
 -- more depth
 abbrev pub height_asked : Item → ℤ
-height_asked (plain p) = pos 0
-height_asked (shared s) = side (rule_shown s).height
+height_asked (plain p) = side (plain_sides p).height
+height_asked (shared s) = side (shared_sides s).height
 height_asked (boxed shift head inner) = head.height -ℤ shift
 
 abbrev pub depth_asked : Item → ℤ
-depth_asked (plain p) = pos 0
-depth_asked (shared s) = side (rule_shown s).depth
+depth_asked (plain p) = side (plain_sides p).depth
+depth_asked (shared s) = side (shared_sides s).depth
 depth_asked (boxed shift head inner) = head.depth +ℤ shift
 
 -- the width that an item asks of a vertical list's box
 abbrev pub width_asked : Item → ℤ
-width_asked (plain p) = pos 0
-width_asked (shared s) = side (rule_shown s).width
+width_asked (plain p) = side (plain_sides p).width
+width_asked (shared s) = side (shared_sides s).width
 width_asked (boxed shift head inner) = head.width +ℤ shift
 
--- the depth of a vertical list whose last item this is, where it was so deep before: that of a box or rule; none behind glue and
--- kerns; penalties and specials change nothing
+-- the depth of a vertical list whose last item this is, where it was so deep before: that of a box, rule or character; none behind glue
+-- and kerns; penalties and specials change nothing
 abbrev pub plain_left : ℤ → Plain → ℤ
 plain_left depth (Kern kind size) = pos 0
 plain_left depth (Glue g) = pos 0
 plain_left depth (Penalty n) = depth
+plain_left depth (Character c) = c.depth
 
 abbrev pub shared_left : ℤ → Shared → ℤ
 shared_left depth (Rule r) = side r.depth
 shared_left depth (Leaders l) = pos 0
 shared_left depth (Special text) = depth
+shared_left depth (Ligature l) = l.character.depth
 
 abbrev pub depth_left : ℤ → Item → ℤ
 depth_left depth (plain p) = plain_left depth p

@@ -1,7 +1,9 @@
 -- Boxes of \vtop (TeX: The Program, section 1087).
 use Rattle.std.specs.Prelude.{ℤ, pos, ◌+ℤ◌, ◌-ℤ◌, List, [], ◌∷◌, Option, Some, None, Result, Ok, Err}
+use Rattle.tx_node.specs.declared.plain.Plain.{Plain}
+use Rattle.tx_node.specs.declared.plain.Plain.TheVariants.{Kern, Glue, Penalty, Character}
 use Rattle.tx_node.specs.declared.plain.Shared.{Shared}
-use Rattle.tx_node.specs.declared.plain.Shared.TheVariants.{Rule, Leaders, Special}
+use Rattle.tx_node.specs.declared.plain.Shared.TheVariants.{Rule, Leaders, Special, Ligature}
 use Rattle.tx_node.specs.Items.{Item, plain, shared, boxed, PackedBox}
 use Rattle.tx_node.specs.Sizes.{side}
 use Rattle.tx_pack.specs.declared.types.Goal.{Goal}
@@ -11,14 +13,21 @@ use Rattle.tx_pack.specs.declared.types.PackError.{PackError}
 use Rattle.tx_pack.specs.declared.types.PackError.TheVariants.{SizeOutOfRange}
 use Rattle.tx_pack.specs.Packing.{if_fits, vpacked}
 
--- the height of a list's first item, which is that of a box or a rule, and 0 of all else and of the empty list
+-- the height of a list's first item, which is that of a box, a rule or a character, and 0 of all else and of the empty list
+abbrev pub plain_top : Plain → ℤ
+plain_top (Kern kind size) = pos 0
+plain_top (Glue g) = pos 0
+plain_top (Penalty n) = pos 0
+plain_top (Character c) = c.height
+
 abbrev pub shared_top : Shared → ℤ
 shared_top (Rule r) = side r.height
 shared_top (Leaders l) = pos 0
 shared_top (Special text) = pos 0
+shared_top (Ligature l) = l.character.height
 
 abbrev pub item_top : Item → ℤ
-item_top (plain p) = pos 0
+item_top (plain p) = plain_top p
 item_top (shared s) = shared_top s
 item_top (boxed shift head inner) = head.height
 

@@ -3,20 +3,49 @@ ghost use Rattle.std.specs.Prelude.{◌≡◌, ◌≤◌, ◌^◌, unsigned_abs}
 ghost use Rattle.tx_node.specs.Nodes.{item_of};
 ghost use Rattle.tx_pack.specs.Sums as spec;
 
-use tx_node::{Node, Plain, Rule, Shared, side};
+use tx_node::{Character, Node, Plain, Rule, Shared, side};
 
-/// The rule that a larger item shows, that of leaders too; a special shows none, and has none of its sides.
-fn rule_shown(item: &Shared) -> Rule
-    ensures { result ≡ spec.rule_shown item.now }
+/// No sides at all.
+fn no_sides() -> Rule
+    ensures { result ≡ spec.no_sides }
+{
+    Rule {
+        width: None,
+        height: None,
+        depth: None,
+    }
+}
+
+/// The sides of a character.
+fn character_sides(character: Character) -> Rule
+    ensures { result ≡ spec.character_sides character }
+{
+    Rule {
+        width: Some(character.width),
+        height: Some(character.height),
+        depth: Some(character.depth),
+    }
+}
+
+/// The sides that a small item shows: those of a character, none of all else.
+fn plain_sides(item: Plain) -> Rule
+    ensures { result ≡ spec.plain_sides item }
+{
+    match item {
+        Plain::Kern(_, _) | Plain::Glue(_) | Plain::Penalty(_) => no_sides(),
+        Plain::Character(character) => character_sides(character),
+    }
+}
+
+/// The sides that a larger item shows: those of a rule, that of leaders too, and of a ligature; a special has none.
+fn shared_sides(item: &Shared) -> Rule
+    ensures { result ≡ spec.shared_sides item.now }
 {
     match item {
         Shared::Rule(rule) => *rule,
         Shared::Leaders(leaders) => leaders.rule,
-        Shared::Special(_) => Rule {
-            width: None,
-            height: None,
-            depth: None,
-        },
+        Shared::Special(_) => no_sides(),
+        Shared::Ligature(ligature) => character_sides(ligature.character),
     }
 }
 
@@ -25,8 +54,8 @@ pub fn height_asked(node: &Node) -> i64
     ensures { result ≡ spec.height_asked (item_of node.now) }
 {
     match node {
-        Node::Plain(_) => 0,
-        Node::Shared(item) => i64::from(side(rule_shown(item).height)),
+        Node::Plain(item) => i64::from(side(plain_sides(*item).height)),
+        Node::Shared(item) => i64::from(side(shared_sides(item).height)),
         Node::Box(shift, inner) => i64::from(inner.height()) - i64::from(*shift),
     }
 }
@@ -36,8 +65,8 @@ pub fn depth_asked(node: &Node) -> i64
     ensures { result ≡ spec.depth_asked (item_of node.now) }
 {
     match node {
-        Node::Plain(_) => 0,
-        Node::Shared(item) => i64::from(side(rule_shown(item).depth)),
+        Node::Plain(item) => i64::from(side(plain_sides(*item).depth)),
+        Node::Shared(item) => i64::from(side(shared_sides(item).depth)),
         Node::Box(shift, inner) => i64::from(inner.depth()) + i64::from(*shift),
     }
 }
@@ -47,18 +76,21 @@ pub fn width_asked(node: &Node) -> i64
     ensures { result ≡ spec.width_asked (item_of node.now) }
 {
     match node {
-        Node::Plain(_) => 0,
-        Node::Shared(item) => i64::from(side(rule_shown(item).width)),
+        Node::Plain(item) => i64::from(side(plain_sides(*item).width)),
+        Node::Shared(item) => i64::from(side(shared_sides(item).width)),
         Node::Box(shift, inner) => i64::from(inner.width()) + i64::from(*shift),
     }
 }
 
 fn plain_left(depth: i64, item: Plain) -> i64
-    ensures { result ≡ spec.plain_left depth item }
+    requires { unsigned_abs depth ≤ 2 ^ 31 }
+    ensures value { result ≡ spec.plain_left depth item }
+    ensures size { unsigned_abs result ≤ 2 ^ 31 }
 {
     match item {
         Plain::Kern(_, _) | Plain::Glue(_) => 0,
         Plain::Penalty(_) => depth,
+        Plain::Character(character) => i64::from(character.depth),
     }
 }
 
@@ -71,6 +103,7 @@ fn shared_left(depth: i64, item: &Shared) -> i64
         Shared::Rule(rule) => i64::from(side(rule.depth)),
         Shared::Leaders(_) => 0,
         Shared::Special(_) => depth,
+        Shared::Ligature(ligature) => i64::from(ligature.character.depth),
     }
 }
 

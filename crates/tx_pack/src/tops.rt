@@ -10,24 +10,35 @@ use crate::packing::{if_fits, vpack};
 use crate::sums::{minus, plus};
 use crate::types::{Goal, PackError, PackParams, Packed};
 use std::alloc::Global;
-use tx_node::{BoxNode, Node, Nodes, Shared, side};
+use tx_node::{BoxNode, Node, Nodes, Plain, Shared, side};
 
-/// The height of a larger item without a list, where it is a rule, in sp, else 0.
+/// The height of a small item, where it is a character, in sp, else 0.
+fn plain_top(item: Plain) -> i32
+    ensures { result ≡ spec.plain_top item }
+{
+    match item {
+        Plain::Kern(_, _) | Plain::Glue(_) | Plain::Penalty(_) => 0,
+        Plain::Character(character) => character.height,
+    }
+}
+
+/// The height of a larger item without a list, where it is a rule or a ligature, in sp, else 0.
 fn shared_top(item: &Shared) -> i32
     ensures { result ≡ spec.shared_top item.now }
 {
     match item {
         Shared::Rule(rule) => side(rule.height),
         Shared::Leaders(_) | Shared::Special(_) => 0,
+        Shared::Ligature(ligature) => ligature.character.height,
     }
 }
 
-/// The height of a node, where it is a rule or a box, in sp, else 0.
+/// The height of a node, where it is a rule, a box or a character, in sp, else 0.
 fn item_top(node: &Node) -> i32
     ensures { result ≡ spec.item_top (item_of node.now) }
 {
     match node {
-        Node::Plain(_) => 0,
+        Node::Plain(item) => plain_top(*item),
         Node::Shared(item) => shared_top(item),
         Node::Box(_, inner) => inner.height(),
     }
@@ -75,8 +86,8 @@ fn reset_to_top(packed: &mut BoxNode) -> Result<(), PackError>
     reset(packed, top, if_fits(below))
 }
 
-/// A vertical list in the box of \vtop: it is packed as `vpack` does, and then has the height of its first item, if that is a box
-/// or a rule, else 0, and the rest of height and depth as its depth (TeX: The Program, section 1087). `SizeOutOfRange` exactly
+/// A vertical list in the box of \vtop: it is packed as `vpack` does, and then has the height of its first item, if that is a box,
+/// a rule or a character, else 0, and the rest of height and depth as its depth (TeX: The Program, section 1087). `SizeOutOfRange` exactly
 /// where `vpack` answers it and where that depth is no dimension; `TooDeep` exactly where `vpack` answers it.
 pub fn vtop(
     alloc: Global,
