@@ -1,0 +1,4 @@
+mod Made
+mod Worked
+mod Opened
+mod Spaced

@@ -1,0 +1,155 @@
+-- The definitions at spaces, factors and words that Knuth's TeX sets so, as \showbox shows them, in the font t at its design size
+-- where nothing else is said: a space of 2.5pt plus 1.25pt minus 0.625pt, a kern of 0.625pt between two of its characters a.
+use Rattle.std.proofs.Common.{◌≡◌, ℕ, pos, negsuc, false, true, List, [], ◌∷◌, Some, None, refl, arith}
+use Rattle.tx_ligkern.specs.declared.item.LigItem.TheVariants as lig
+use Rattle.tx_ligkern.specs.Composing.{Becomes, Last, Apart, Kerned}
+use Rattle.tx_ligkern.specs.Pieces.{word_of}
+use Rattle.tx_num.specs.Glue.{GlueSpec, glue_of}
+use Rattle.tx_tfm.specs.declared.state.FontState.{FontState}
+use Rattle.tx_tfm.specs.Fonts.{loaded_state, null_state}
+use Rattle.tx_tfm.specs.declared.metrics.Metrics.{Metrics}
+use Rattle.tx_tfm.specs.Format.{tfm_of, word_at}
+use Rattle.tx_tfm.specs.LigKern.{boundary_code, boundary_start, character_start, command_at, command_of, found}
+use Rattle.tx_tfm.specs.Scaling.{scaled}
+use Rattle.tx_word.specs.declared.piece.WordParams.{WordParams}
+use Rattle.tx_word.specs.Collecting.{Collecting, collected, ended, without_word}
+use Rattle.tx_word.specs.Composed.{word_list}
+use Rattle.tx_word.specs.Divisions.{Division, Seam, Whole, before_break, divided, hyphen_code}
+use Rattle.tx_word.specs.Factors.{factor_behind}
+use Rattle.tx_word.specs.Spaces.{at_factor, interword_glue}
+
+-- t.tfm, which has the characters a and b
+abbrev metric_file : List ℕ
+metric_file =
+    0 ∷ 40 ∷ 0 ∷ 2 ∷ 0 ∷ 97 ∷ 0 ∷ 98 ∷ 0 ∷ 2 ∷ 0 ∷ 2 ∷ 0 ∷ 1 ∷ 0 ∷ 1 ∷ 0 ∷ 1 ∷ 0 ∷ 1 ∷ 0 ∷ 0 ∷ 0 ∷ 22 ∷ 0 ∷ 0 ∷ 0 ∷ 0 ∷ 0 ∷ 160 ∷ 0 ∷ 0 ∷
+    1 ∷ 16 ∷ 1 ∷ 0 ∷ 1 ∷ 16 ∷ 0 ∷ 0 ∷ 0 ∷ 0 ∷ 0 ∷ 0 ∷ 0 ∷ 8 ∷ 0 ∷ 0 ∷ 0 ∷ 0 ∷ 0 ∷ 0 ∷ 0 ∷ 4 ∷ 0 ∷ 0 ∷ 0 ∷ 0 ∷ 0 ∷ 0 ∷ 0 ∷ 0 ∷ 0 ∷ 0 ∷
+    128 ∷ 97 ∷ 128 ∷ 0 ∷ 0 ∷ 1 ∷ 0 ∷ 0 ∷ 0 ∷ 0 ∷ 0 ∷ 0 ∷ 0 ∷ 4 ∷ 0 ∷ 0 ∷ 0 ∷ 2 ∷ 0 ∷ 0 ∷ 0 ∷ 1 ∷ 0 ∷ 0 ∷ 0 ∷ 8 ∷ 0 ∷ 0 ∷ 0 ∷ 16 ∷ 0 ∷ 0 ∷
+    0 ∷ 0 ∷ 0 ∷ 0 ∷ 0 ∷ 0 ∷ 0 ∷ 0 ∷ 0 ∷ 0 ∷ 0 ∷ 0 ∷ 0 ∷ 0 ∷ 0 ∷ 0 ∷ 0 ∷ 0 ∷ 0 ∷ 0 ∷ 0 ∷ 0 ∷ 0 ∷ 0 ∷ 0 ∷ 0 ∷ 0 ∷ 0 ∷ 0 ∷ 0 ∷ 0 ∷ 0 ∷
+    0 ∷ 0 ∷ 0 ∷ 0 ∷ 0 ∷ 0 ∷ 0 ∷ 0 ∷ 0 ∷ 0 ∷ 0 ∷ 0 ∷ 0 ∷ 0 ∷ 0 ∷ 0 ∷ 0 ∷ 0 ∷ 0 ∷ 0 ∷ 0 ∷ 0 ∷ 0 ∷ 0 ∷ 0 ∷ 0 ∷ 0 ∷ 0 ∷ 0 ∷ 4 ∷ 0 ∷ 0 ∷ []
+
+abbrev metrics_t : Metrics
+metrics_t = record { file = tfm_of metric_file; size = 655360 }
+
+abbrev fonts : List FontState
+fonts = null_state ∷ loaded_state (record { name = 116 ∷ []; font = metrics_t }) (pos 45) (negsuc 0) ∷ []
+
+abbrev no_glue : GlueSpec
+no_glue = glue_of (pos 0) (pos 0) 0 (pos 0) 0
+
+abbrev params : GlueSpec → GlueSpec → WordParams
+params spaceskip xspaceskip = record { spaceskip = spaceskip; xspaceskip = xspaceskip }
+
+-- 3pt plus 2pt minus 1pt, and 4pt plus 1fil minus 7pt
+abbrev skip_3 : GlueSpec
+skip_3 = glue_of (pos 196608) (pos 131072) 0 (pos 65536) 0
+
+abbrev skip_4 : GlueSpec
+skip_4 = glue_of (pos 262144) (pos 65536) 1 (pos 458752) 0
+
+-- the font's space, plain and behind a full stop
+plain : interword_glue fonts (params no_glue no_glue) 1 (pos 1000) ≡ glue_of (pos 163840) (pos 81920) 0 (pos 40960) 0
+unfolding word_at scaled
+plain = refl
+
+behind-stop : interword_glue fonts (params no_glue no_glue) 1 (pos 3000) ≡ glue_of (pos 163840) (pos 245760) 0 (pos 13653) 0
+unfolding word_at scaled
+behind-stop = refl
+
+-- \nullfont has no space
+in-nullfont : interword_glue fonts (params no_glue no_glue) 0 (pos 3000) ≡ no_glue
+in-nullfont = refl
+
+-- \spaceskip in its place
+skipped : interword_glue fonts (params skip_3 no_glue) 1 (pos 3000) ≡ glue_of (pos 196608) (pos 393216) 0 (pos 21845) 0
+unfolding word_at scaled
+skipped = refl
+
+-- \xspaceskip from 2000 on, and not below
+behind-sentence : interword_glue fonts (params skip_3 skip_4) 1 (pos 3000) ≡ skip_4
+unfolding word_at scaled
+behind-sentence = refl
+
+below : interword_glue fonts (params skip_3 skip_4) 1 (pos 1999) ≡ glue_of (pos 196608) (pos 262012) 0 (pos 32784) 0
+unfolding word_at scaled
+below = refl
+
+-- the least and the greatest factor, and one between
+least : interword_glue fonts (params skip_3 skip_4) 1 (pos 1) ≡ glue_of (pos 196608) (pos 131) 0 (pos 65536000) 0
+unfolding word_at scaled
+least = refl
+
+greatest : interword_glue fonts (params skip_3 no_glue) 1 (pos 32767) ≡ glue_of (pos 196608) (pos 4294836) 0 (pos 2000) 0
+unfolding word_at scaled
+greatest = refl
+
+between : interword_glue fonts (params skip_3 no_glue) 1 (pos 1234) ≡ glue_of (pos 196608) (pos 161742) 0 (pos 53108) 0
+unfolding word_at scaled
+between = refl
+
+-- -3pt plus -2.5pt minus -1.7pt: sizes below 0 round towards zero; 3pt plus 2fil minus 1fill: orders stay
+towards-zero : at_factor (pos 0) (pos 777) (glue_of (negsuc 196607) (negsuc 163839) 0 (negsuc 111410) 0) ≡ glue_of (negsuc 196607) (negsuc 127302) 0 (negsuc 143385) 0
+towards-zero = refl
+
+orders : at_factor (pos 0) (pos 1500) (glue_of (pos 196608) (pos 131072) 1 (pos 65536) 2) ≡ glue_of (pos 196608) (pos 196608) 1 (pos 43690) 2
+orders = refl
+
+-- the font's space where its extra space is 1.5pt
+extra : at_factor (pos 98304) (pos 2000) (glue_of (pos 163840) (pos 81920) 0 (pos 40960) 0) ≡ glue_of (pos 262144) (pos 163840) 0 (pos 20480) 0
+extra = refl
+
+-- space factors: a code of 0 leaves them; `A.' ends no sentence, `a.' does
+stays : factor_behind 1234 0 ≡ 1234
+stays = refl
+
+behind-initial : factor_behind 999 3000 ≡ 1000
+behind-initial = refl
+
+behind-letter : factor_behind 1000 3000 ≡ 3000
+behind-letter = refl
+
+lowered : factor_behind 3000 999 ≡ 999
+lowered = refl
+
+-- aa is kerned, and ab isn't; t has no programs for boundaries
+word-aa : Becomes metrics_t (word_of (97 ∷ 97 ∷ []) true false) (lig.Char 97 ∷ lig.Kern (pos 40960) ∷ lig.Char 97 ∷ [])
+unfolding word_at scaled command_of boundary_start boundary_code character_start found
+word-aa =
+    Apart _ _ _ (lig.Char 97 ∷ lig.Kern (pos 40960) ∷ lig.Char 97 ∷ []) refl
+    (Kerned _ _ _ (lig.Char 97 ∷ []) (command_at metrics_t.file 0) refl (omega arith) (Last _))
+
+word-ab : Becomes metrics_t (word_of (97 ∷ 98 ∷ []) false false) (lig.Char 97 ∷ lig.Char 98 ∷ [])
+unfolding word_at scaled command_of boundary_start boundary_code character_start found
+word-ab = Apart _ _ _ (lig.Char 98 ∷ []) refl (Last _)
+
+-- a word grows, and ends without its right boundary before a character that the font lacks; before another command it counts
+abbrev open_aa : Collecting
+open_aa = record { fonts = fonts; word = Some (record { font = 1; chars = 97 ∷ 97 ∷ [] }) }
+
+grows : collected open_aa 0 98 ≡ record { items = []; words = record { fonts = fonts; word = Some (record { font = 1; chars = 97 ∷ 97 ∷ 98 ∷ [] }) }; lacking = None }
+unfolding word_at
+grows = refl
+
+begins : collected (without_word open_aa) 1 97 ≡ record { items = []; words = record { fonts = fonts; word = Some (record { font = 1; chars = 97 ∷ [] }) }; lacking = None }
+unfolding word_at
+begins = refl
+
+broken-off : collected open_aa 1 99 ≡ record { items = word_list fonts 1 (97 ∷ 97 ∷ []) true false; words = without_word open_aa; lacking = Some 1 }
+unfolding word_at
+broken-off = refl
+
+closed : ended open_aa true ≡ word_list fonts 1 (97 ∷ 97 ∷ []) true true
+closed = refl
+
+-- aa with a place between its characters, where b is the hyphen: the kern is the no-break text
+abbrev seam : Seam
+seam = record { item = 1; replaced = 1 }
+
+divided-aa : divided (before_break metrics_t (hyphen_code (pos 98))) (seam ∷ []) 0 (lig.Char 97 ∷ lig.Kern (pos 40960) ∷ lig.Char 97 ∷ [])
+    ≡ Whole (lig.Char 97) ∷ Division (lig.Char 98 ∷ []) 1 ∷ Whole (lig.Kern (pos 40960)) ∷ Whole (lig.Char 97) ∷ []
+unfolding word_at
+divided-aa = refl
+
+-- a hyphen that the font lacks leaves the text before the break empty
+lacking : before_break metrics_t (hyphen_code (pos 45)) ≡ []
+unfolding word_at
+lacking = refl

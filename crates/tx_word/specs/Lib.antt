@@ -1,0 +1,9 @@
+pub mod Factors
+pub mod Sizes
+pub mod Spaces
+pub mod Words
+pub mod Composed
+pub mod Lists
+pub mod Divisions
+pub mod Collecting
+pub mod Italics

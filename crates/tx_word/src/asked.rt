@@ -1,0 +1,45 @@
+//! What is asked of pieces.
+ghost use Rattle.std.specs.Prelude.{◌≡◌, ◌↔◌, true, IsTrue};
+ghost use Rattle.std.specs.List.{All};
+ghost use Rattle.tx_tfm.specs.Fonts.{has_character};
+ghost use Rattle.tx_word.specs.Factors.{IsFactor};
+ghost use Rattle.tx_word.specs.Lists as spec;
+
+use crate::piece::Piece;
+use tx_tfm::Fonts;
+
+/// Whether a number is a space factor.
+fn is_factor(factor: i64) -> bool
+    ensures { IsTrue result ↔ IsFactor factor }
+{
+    1 <= factor && factor <= 32767
+}
+
+/// Whether the font of a number has all these characters.
+fn has_characters(fonts: &Fonts, font: u8, chars: &[u8]) -> bool
+    ensures { IsTrue result ↔ All (λ c. has_character fonts.now font c ≡ true) chars.now }
+{
+    chars.iter().all(|c| fonts.has_character(font, *c))
+}
+
+/// Whether each character of a word is in its font, and a space has a space factor.
+fn is_piece(fonts: &Fonts, piece: &Piece) -> bool
+    ensures { IsTrue result ↔ spec.IsPiece fonts.now piece.now }
+{
+    match piece {
+        Piece::Word {
+            font,
+            chars,
+            places,
+            ..
+        } => has_characters(fonts, *font, chars.as_slice()) && places.is_empty(),
+        Piece::Space { factor, .. } => is_factor(*factor),
+    }
+}
+
+/// Whether pieces are such as `nodes` requires.
+pub fn are_pieces(fonts: &Fonts, pieces: &[Piece]) -> bool
+    ensures { IsTrue result ↔ All (spec.IsPiece fonts.now) pieces.now }
+{
+    pieces.iter().all(|piece| is_piece(fonts, piece))
+}
