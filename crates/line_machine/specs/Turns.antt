@@ -38,6 +38,7 @@ date_parameters date = record { year = pos date.year; month = pos date.month; da
 abbrev pub page_of : DateParameters → List ℕ → Page
 page_of date body = record {
   body = body;
+  fonts = [];
   counts = replicate 10 (pos 0);
   height = pos 0;
   width = pos 0;

@@ -13,6 +13,7 @@ use std::alloc::{AllocError, Global};
 use std::mem;
 use tx_bytes::Bytes;
 use tx_dvi::{DateParameters, PageBody, PageParts};
+use tx_list::Items;
 use tx_machine::{Ask, AskKind, Date, Event, Reply, Stop};
 
 /// The most bytes that the body of a page may have.
@@ -69,6 +70,7 @@ fn ship(alloc: Global, s: &mut State, text: Bytes, first: u8) -> Result<Event, A
     s.phase = Phase::Reads(Bytes::new(alloc));
     let parts = PageParts {
         body: text,
+        fonts: Items::new(alloc),
         counts: [0; 10],
         height: 0,
         width: 0,

@@ -1,41 +1,54 @@
 -- The commands of a list mean what it places.
-use Rattle.std.proofs.Common.{◌≡◌, ℕ, ◌^◌, ◌<◌, ◌≤◌, ℤ, pos, ◌+ℤ◌, ◌-ℤ◌, Bool, true, false, cond, min, not, ◌&&◌, ◌||◌, nat_lt, unsigned_abs, List, [], ◌∷◌, ◌++◌, length, Option, Some, None, refl, sym, ap, ◌∙◌, arith, append_assoc}
-use Rattle.std.proofs.lemmas.Bool.{ltb-true}
+use Rattle.std.proofs.Common.{◌≡◌, ◌==◌, ℕ, zero, suc, ◌+◌, ◌^◌, ◌<◌, ◌≤◌, ℤ, pos, ◌+ℤ◌, ◌-ℤ◌, Bool, true, false, cond, min, not, ◌&&◌, ◌||◌, nat_lt, unsigned_abs, List, [], ◌∷◌, ◌++◌, length, Option, Some, None, refl, sym, ap, ◌∙◌, arith, append_assoc}
+use Rattle.std.specs.Option.{option_map_or}
+use Rattle.std.specs.List.{list_any}
+use Rattle.std.proofs.lemmas.List.Folds.{list_any-append}
+use Rattle.std.proofs.lemmas.Bool.{ltb-true, eqb-true, eq-eqb}
 use Rattle.std.proofs.lemmas.Int.{ints}
 use Rattle.std.proofs.lemmas.List.{append-nil, length-append}
 use Rattle.std.specs.Int.{is_positive}
 use Rattle.tx_node.specs.declared.head.Direction.{Direction}
 use Rattle.tx_node.specs.declared.head.Direction.TheVariants.{Horizontal, Vertical}
+use Rattle.tx_node.specs.declared.character.Character.{Character as CharacterItem}
+use Rattle.tx_node.specs.declared.plain.Plain.{Plain}
+use Rattle.tx_node.specs.declared.plain.Plain.TheVariants.{Kern, Glue, Penalty, Character}
 use Rattle.tx_node.specs.declared.plain.Shared.{Shared}
-use Rattle.tx_node.specs.declared.plain.Shared.TheVariants.{Rule, Leaders, Special}
+use Rattle.tx_node.specs.declared.plain.Shared.TheVariants.{Rule, Leaders, Special, Ligature}
 use Rattle.tx_node.specs.Items.{Item, plain, shared, boxed, Items, none, more, PackedBox, items_of}
 use Rattle.tx_node.specs.Setting.{Reach, begun}
-use Rattle.tx_dvi.specs.Dvi.{four_bytes}
-use Rattle.tx_dvi.specs.Meaning.{Registers, Reader, Placed, ruled, right_by, rule_met, special_met, all_met, page_start, meaning}
-use Rattle.tx_dvi.proofs.Reading.{run, reader, run-append, run-push, run-pop, run-xxx1, run-xxx4}
+use Rattle.tx_dvi.specs.declared.font.FontDefinition.{FontDefinition}
+use Rattle.tx_dvi.specs.Dvi.{four_bytes, definition_bytes, IsDefinable}
+use Rattle.tx_dvi.specs.Meaning.{Widths, Registers, ReaderFonts, Reader, Placed, ruled, right_by, character_met, rule_met, special_met, is_known, choosing, defining, all_met, page_start, meaning}
+use Rattle.tx_dvi.proofs.Reading.{run, reader, run-append, run-push, run-pop, run-xxx1, run-xxx4, run-set_char, run-set1, run-fnt_num, run-fnt1, run-fnt_def1}
+use Rattle.tx_tfm.specs.declared.named.NamedFont.{NamedFont}
+use Rattle.tx_tfm.specs.declared.state.FontState.{FontState}
+use Rattle.tx_tfm.specs.Format.{is_there}
+use Rattle.tx_tfm.specs.Fonts.{font_at, character_width, AreFonts}
+use Rattle.tx_tfm.proofs.Numbered.{tellable_at}
 use Rattle.tx_ship.specs.declared.places.Point.{Point}
 use Rattle.tx_ship.specs.declared.places.Frame.{Frame}
 use Rattle.tx_ship.specs.declared.places.Span.{Span}
 use Rattle.tx_ship.specs.declared.places.Sides.{Sides}
 use Rattle.tx_ship.specs.declared.places.Cursor.{Cursor}
 use Rattle.tx_ship.specs.declared.places.CornerRule.{CornerRule}
+use Rattle.tx_ship.specs.Characters.{dvi_number, widths_of, definition_for, IsOfFont, IsPlainOfFonts, IsSharedOfFonts, AreOfFonts, IsItemOfFonts, definition_commands, choice, is_chosen, font_commands, set_code}
 use Rattle.tx_ship.specs.Standing.{next, span_of, size_of, reference, upright, shifted, rule_sides, leaders_sides, frame_at, page_frame}
-use Rattle.tx_ship.specs.Commands.{is_entered, is_visible, cornered, page_cursor, body_of, right, down, way, rule_bytes, rule_item, rule_commands, shared_commands, behind_rule, special, special_item, cursor_at, framed, approach, approached, list_commands, item_commands}
-use Rattle.tx_ship.specs.Within.{Lies, IsReader, head_lies, rule_lies, shared_lies, list_lies, item_lies, page_lies}
-use Rattle.tx_ship.specs.Placing.{placed, placed_in, placed_shared, placed_list, placed_item}
+use Rattle.tx_ship.specs.Commands.{Pen, pen_at, is_entered, is_visible, cornered, page_pen, written_of, right, down, way, rule_bytes, rule_item, rule_commands, keeping_fonts, character_item, character_commands, behind_character, plain_commands, shared_commands, behind_rule, special, special_item, cursor_at, framed, approach, approached, entering, list_commands, item_commands}
+use Rattle.tx_ship.specs.Within.{Lies, IsReader, head_lies, rule_lies, character_lies, plain_lies, shared_lies, list_lies, item_lies, page_lies}
+use Rattle.tx_ship.specs.Placing.{placed, placed_in, placed_character, placed_plain, placed_shared, placed_list, placed_item}
 use Rattle.tx_ship.proofs.Steps.{both, lies-is, point-is}
 use Rattle.tx_ship.proofs.Moves.{run-right, run-down, run-set, run-put}
 
--- the registers of a reader at a cursor, the others as they were, and that reader between two commands
+-- the registers of a reader at a cursor, the others as they were, and that reader between two commands, which knows these fonts
 abbrev pub at_cursor : Registers → Cursor → Registers
 at_cursor now c = record now { h = c.right; v = c.down }
 
-abbrev pub here : Registers → Cursor → List Registers → List Placed → Option Reader
-here now c stack met = Some (reader (at_cursor now c) stack met)
+abbrev pub here : Registers → Cursor → ReaderFonts → List Registers → List Placed → Option Reader
+here now c known stack met = Some (reader (at_cursor now c) known stack met)
 
--- commands that take a reader from one cursor to another, past what it meets
-abbrev pub Takes : Registers → List Registers → List Placed → Cursor → Cursor → List ℕ → List Placed → Type 0
-Takes now stack met c end bytes new = run (here now c stack met) bytes ≡ here now end stack (met ++ new)
+-- commands that take a reader from one pen to another, past what it meets
+abbrev pub Takes : Widths → Registers → List Registers → List Placed → Pen → Pen → List ℕ → List Placed → Type 0
+Takes widths now stack met pen end bytes new = run widths (here now pen.at pen.fonts stack met) bytes ≡ here now end.at end.fonts stack (met ++ new)
 
 -- a rule that isn't written isn't met
 hidden : (h v height width : ℤ) → (is_positive width && is_positive height) ≡ false → rule_met h v height width ≡ []
@@ -66,72 +79,67 @@ cornered-fits at sides lies = record {
 }
 
 -- commands that take the reader to a cursor on the page
-pub record ItemMeans (now : Registers) (stack : List Registers) (met : List Placed) (c end : Cursor) (bytes : List ℕ) (new : List Placed) : Type 0 where
-  pub takes : Takes now stack met c end bytes new
-  pub reads : IsReader end
+pub record ItemMeans (widths : Widths) (now : Registers) (stack : List Registers) (met : List Placed) (pen : Pen) (made : List ℕ × Pen) (new : List Placed) : Type 0 where
+  pub takes : Takes widths now stack met pen made.1 made.0 new
+  pub reads : IsReader made.1.at
 
--- and the commands of a list, to anywhere
-pub record Means (now : Registers) (stack : List Registers) (met : List Placed) (c : Cursor) (bytes : List ℕ) (new : List Placed) : Type 0 where
-  pub end : Cursor
-  pub takes : Takes now stack met c end bytes new
-
-module _ (now : Registers) (stack : List Registers) (met : List Placed) where
+module _ (widths : Widths) (now : Registers) (known : ReaderFonts) (stack : List Registers) (met : List Placed) where
   -- no command meets nothing
-  still : (c : Cursor) → Takes now stack met c c [] []
-  still c = ap (λ ms. here now c stack ms) (sym (append-nil met))
+  still : (c : Cursor) → Takes widths now stack met (pen_at known c) (pen_at known c) [] []
+  still c = ap (λ ms. here now c known stack ms) (sym (append-nil met))
 
-  way-takes : (c to : Cursor) → IsReader c → IsReader to → run (here now c stack met) (way c to) ≡ here now to stack met
+  way-takes : (c to : Cursor) → IsReader c → IsReader to → run widths (here now c known stack met) (way c to) ≡ here now to known stack met
   unfolding way
   way-takes c to reads aims =
       let across : unsigned_abs (to.right -ℤ c.right) < 2 ^ 31 = omega (arith, ints, aims.right, reads.right) in
       let along : unsigned_abs (to.down -ℤ c.down) < 2 ^ 31 = omega (arith, ints, aims.down, reads.down) in
       let h_is : c.right +ℤ (to.right -ℤ c.right) ≡ to.right = omega (arith, ints) in
       let v_is : c.down +ℤ (to.down -ℤ c.down) ≡ to.down = omega (arith, ints) in
-      run-append (here now c stack met) (right (to.right -ℤ c.right)) (down (to.down -ℤ c.down))
-      ∙ ap (λ o. run o (down (to.down -ℤ c.down))) (run-right (at_cursor now c) stack met (to.right -ℤ c.right) across)
-      ∙ run-down (right_by (to.right -ℤ c.right) (at_cursor now c)) stack met (to.down -ℤ c.down) along
-      ∙ (λ i. Some (reader (record now { h = h_is i; v = v_is i }) stack met))
+      run-append widths (here now c known stack met) (right (to.right -ℤ c.right)) (down (to.down -ℤ c.down))
+      ∙ ap (λ o. run widths o (down (to.down -ℤ c.down))) (run-right widths (at_cursor now c) known stack met (to.right -ℤ c.right) across)
+      ∙ run-down widths (right_by (to.right -ℤ c.right) (at_cursor now c)) known stack met (to.down -ℤ c.down) along
+      ∙ (λ i. Some (reader (record now { h = h_is i; v = v_is i }) known stack met))
 
   bytes-take : (direction : Direction) (r : CornerRule) → Fits r
-      → Takes now stack met r.corner (behind_rule direction r) (rule_bytes direction r) (rule_met r.corner.right r.corner.down r.height r.width)
+      → Takes widths now stack met (pen_at known r.corner) (pen_at known (behind_rule direction r)) (rule_bytes direction r) (rule_met r.corner.right r.corner.down r.height r.width)
   unfolding rule_bytes
-  bytes-take Horizontal r fits = run-set (at_cursor now r.corner) stack met r.height r.width fits.high fits.wide
-  bytes-take Vertical r fits = run-put (at_cursor now r.corner) stack met r.height r.width fits.high fits.wide
+  bytes-take Horizontal r fits = run-set widths (at_cursor now r.corner) known stack met r.height r.width fits.high fits.wide
+  bytes-take Vertical r fits = run-put widths (at_cursor now r.corner) known stack met r.height r.width fits.high fits.wide
 
   behind-reads : (direction : Direction) (r : CornerRule) → Fits r → IsReader (behind_rule direction r)
   behind-reads Horizontal r fits = fits.right
   behind-reads Vertical r fits = fits.corner
 
   rule-means : (direction : Direction) (c : Cursor) (r : CornerRule) → Fits r → IsReader c
-      → ItemMeans now stack met c (rule_item direction c r).1 (rule_item direction c r).0 (rule_met r.corner.right r.corner.down r.height r.width)
+      → ItemMeans widths now stack met (pen_at known c) (keeping_fonts known (rule_item direction c r)) (rule_met r.corner.right r.corner.down r.height r.width)
   unfolding rule_item
   rule-means direction c r fits reads = by (is_visible r) refl
     where
       by : (b : Bool) → is_visible r ≡ b
-          → ItemMeans now stack met c (cond {A = List ℕ × Cursor} b (way c r.corner ++ rule_bytes direction r, behind_rule direction r) ([], c)).1
-          (cond {A = List ℕ × Cursor} b (way c r.corner ++ rule_bytes direction r, behind_rule direction r) ([], c)).0 (rule_met r.corner.right r.corner.down r.height r.width)
+          → ItemMeans widths now stack met (pen_at known c) (keeping_fonts known (cond {A = List ℕ × Cursor} b (way c r.corner ++ rule_bytes direction r, behind_rule direction r) ([], c)))
+          (rule_met r.corner.right r.corner.down r.height r.width)
       by true e = record {
-        takes = run-append (here now c stack met) (way c r.corner) (rule_bytes direction r)
-            ∙ ap (λ o. run o (rule_bytes direction r)) (way-takes c r.corner reads fits.corner) ∙ bytes-take direction r fits;
+        takes = run-append widths (here now c known stack met) (way c r.corner) (rule_bytes direction r)
+            ∙ ap (λ o. run widths o (rule_bytes direction r)) (way-takes c r.corner reads fits.corner) ∙ bytes-take direction r fits;
         reads = behind-reads direction r fits;
       }
       by false e = record {
-        takes = still c ∙ ap (λ new. here now c stack (met ++ new)) (sym (hidden r.corner.right r.corner.down r.height r.width e));
+        takes = still c ∙ ap (λ new. here now c known stack (met ++ new)) (sym (hidden r.corner.right r.corner.down r.height r.width e));
         reads = reads;
       }
 
   -- a special
-  text-takes : (c : Cursor) (text : List ℕ) → length text < 2 ^ 31 → Takes now stack met c c (special text) (special_met c.right c.down text)
+  text-takes : (c : Cursor) (text : List ℕ) → length text < 2 ^ 31 → Takes widths now stack met (pen_at known c) (pen_at known c) (special text) (special_met c.right c.down text)
   unfolding special
   text-takes c text short = by (nat_lt (length text) 256) refl
     where
       by : (b : Bool) → nat_lt (length text) 256 ≡ b
-          → run (here now c stack met) (cond {A = List ℕ} b (239 ∷ length text ∷ text) (242 ∷ four_bytes (pos (min (length text) 2147483647)) ++ text))
-          ≡ here now c stack (met ++ special_met c.right c.down text)
-      by true e = run-xxx1 (at_cursor now c) stack met text (ltb-true _ _ e)
+          → run widths (here now c known stack met) (cond {A = List ℕ} b (239 ∷ length text ∷ text) (242 ∷ four_bytes (pos (min (length text) 2147483647)) ++ text))
+          ≡ here now c known stack (met ++ special_met c.right c.down text)
+      by true e = run-xxx1 widths (at_cursor now c) known stack met text (ltb-true _ _ e)
       by false e =
           let whole : min (length text) 2147483647 ≡ length text = omega (arith, short) in
-          ap (λ n. run (here now c stack met) (242 ∷ four_bytes (pos n) ++ text)) whole ∙ run-xxx4 (at_cursor now c) stack met text short
+          ap (λ n. run widths (here now c known stack met) (242 ∷ four_bytes (pos n) ++ text)) whole ∙ run-xxx4 widths (at_cursor now c) known stack met text short
 
   -- which holds its text
   text-short : (text before : List ℕ) → IsShort (before ++ special text) → length text < 2 ^ 31
@@ -143,60 +151,48 @@ module _ (now : Registers) (stack : List Registers) (met : List Placed) where
       by false k = let l = length-append (four_bytes (pos (min (length text) 2147483647))) text in omega (arith, l, k)
 
   special-means : (c to : Cursor) (text : List ℕ) → IsReader c → IsReader to → IsShort (special_item c to text).0
-      → ItemMeans now stack met c (special_item c to text).1 (special_item c to text).0 (special_met to.right to.down text)
+      → ItemMeans widths now stack met (pen_at known c) (keeping_fonts known (special_item c to text)) (special_met to.right to.down text)
   special-means c to text reads aims short = record {
-    takes = run-append (here now c stack met) (way c to) (special text)
-        ∙ ap (λ o. run o (special text)) (way-takes c to reads aims) ∙ text-takes to text (text-short text (way c to) short);
+    takes = run-append widths (here now c known stack met) (way c to) (special text)
+        ∙ ap (λ o. run widths o (special text)) (way-takes c to reads aims) ∙ text-takes to text (text-short text (way c to) short);
     reads = aims;
   }
 
-  -- a rule of a list, and any item without a list
+  -- a rule of a list
   in-means : (frame : Frame) (span : Span) (c : Cursor) (sides : Sides) → rule_lies frame span sides ≡ true → IsReader c
-      → ItemMeans now stack met c (rule_commands frame span c sides).1 (rule_commands frame span c sides).0 (placed_in frame span sides)
+      → ItemMeans widths now stack met (pen_at known c) (keeping_fonts known (rule_commands frame span c sides)) (placed_in frame span sides)
   in-means frame span c sides lies reads =
       let at : Point = reference frame.head.direction frame (upright span.from sides.height) in
       rule-means frame.head.direction c (cornered at sides) (cornered-fits at sides (lies-is lies)) reads
 
-  shared-means : (frame : Frame) (span : Span) (c : Cursor) (s : Shared) → shared_lies frame span s ≡ true → IsReader c → IsShort (shared_commands frame span c s).0
-      → ItemMeans now stack met c (shared_commands frame span c s).1 (shared_commands frame span c s).0 (placed_shared frame span s)
-  shared-means frame span c (Rule r) lies reads short = in-means frame span c (rule_sides frame.head.direction frame.head r) lies reads
-  shared-means frame span c (Leaders l) lies reads short = by (is_positive (size_of span)) lies
-    where
-      sides : Sides
-      sides = leaders_sides frame.head.direction frame.head l.rule (size_of span)
-
-      by : (b : Bool) → cond b (rule_lies frame span sides) true ≡ true
-          → ItemMeans now stack met c (cond {A = List ℕ × Cursor} b (rule_commands frame span c sides) ([], c)).1 (cond {A = List ℕ × Cursor} b (rule_commands frame span c sides) ([], c)).0
-          (cond {A = List Placed} b (placed_in frame span sides) [])
-      by true e = in-means frame span c sides e reads
-      by false e = record { takes = still c; reads = reads }
-  shared-means frame span c (Special text) lies reads short =
-      special-means c (cursor_at (reference frame.head.direction frame (upright span.from (pos 0)))) text reads (point-is lies) short
-
   -- to the baseline of a box
-  approach-takes : (direction : Direction) (c to : Cursor) → IsReader c → IsReader to → run (here now c stack met) (approach direction c to) ≡ here now (approached direction c to) stack met
+  approach-takes : (direction : Direction) (c to : Cursor) → IsReader c → IsReader to → run widths (here now c known stack met) (approach direction c to) ≡ here now (approached direction c to) known stack met
   approach-takes Horizontal c to reads aims = refl
   approach-takes Vertical c to reads aims =
       let along : unsigned_abs (to.down -ℤ c.down) < 2 ^ 31 = omega (arith, ints, aims.down, reads.down) in
       let v_is : c.down +ℤ (to.down -ℤ c.down) ≡ to.down = omega (arith, ints) in
-      run-down (at_cursor now c) stack met (to.down -ℤ c.down) along ∙ (λ i. Some (reader (record now { h = c.right; v = v_is i }) stack met))
+      run-down widths (at_cursor now c) known stack met (to.down -ℤ c.down) along ∙ (λ i. Some (reader (record now { h = c.right; v = v_is i }) known stack met))
 
   approached-reads : (direction : Direction) (c to : Cursor) → IsReader c → IsReader to → IsReader (approached direction c to)
   approached-reads Horizontal c to reads aims = reads
   approached-reads Vertical c to reads aims = record { right = reads.right; down = aims.down }
 
 -- push, the commands of a box and pop; both are dropped where there are none
-framed-takes : (n m : Registers) (stack : List Registers) (met new : List Placed) (bytes : List ℕ)
-    → run (Some (reader n (n ∷ stack) met)) bytes ≡ Some (reader m (n ∷ stack) (met ++ new)) → run (Some (reader n stack met)) (framed bytes) ≡ Some (reader n stack (met ++ new))
-framed-takes n m stack met new [] is = ap (λ o. Some (reader n stack (met_of o))) is
+framed-takes : (widths : Widths) (n m : Registers) (k l : ReaderFonts) (stack : List Registers) (met new : List Placed) (bytes : List ℕ)
+    → run widths (Some (reader n k (n ∷ stack) met)) bytes ≡ Some (reader m l (n ∷ stack) (met ++ new)) → run widths (Some (reader n k stack met)) (framed bytes) ≡ Some (reader n l stack (met ++ new))
+framed-takes widths n m k l stack met new [] is = ap (λ o. Some (reader n (fonts_in o) stack (met_in o))) is
   where
-    met_of : Option Reader → List Placed
-    met_of None = []
-    met_of (Some r) = r.met
-framed-takes n m stack met new (first ∷ others) is =
-    run-push n stack met ((first ∷ others) ++ 142 ∷ [])
-    ∙ run-append (Some (reader n (n ∷ stack) met)) (first ∷ others) (142 ∷ [])
-    ∙ ap (λ o. run o (142 ∷ [])) is ∙ run-pop m stack (met ++ new) n
+    met_in : Option Reader → List Placed
+    met_in None = []
+    met_in (Some r) = r.met
+
+    fonts_in : Option Reader → ReaderFonts
+    fonts_in None = k
+    fonts_in (Some r) = r.fonts
+framed-takes widths n m k l stack met new (first ∷ others) is =
+    run-push widths n k stack met ((first ∷ others) ++ 142 ∷ [])
+    ∙ run-append widths (Some (reader n k (n ∷ stack) met)) (first ∷ others) (142 ∷ [])
+    ∙ ap (λ o. run widths o (142 ∷ [])) is ∙ run-pop widths m l stack (met ++ new) n
 
 -- they are no shorter than the commands of the box
 framed-long : (bytes : List ℕ) → length bytes ≤ length (framed bytes)
@@ -217,67 +213,217 @@ unfolding list_lies
 box-inside frame none edges h = refl
 box-inside frame (more item rest) edges h = (both h).1
 
+-- a character moves the reader by the width that its font gives it
+width-is : (fonts : List FontState) (number code : ℕ) (width : ℤ) (f : NamedFont) → font_at fonts number ≡ Some f → width ≡ character_width fonts number code → widths_of fonts (dvi_number number) code ≡ width
+width-is fonts zero code width f at is = absurd (cc)
+width-is fonts (suc n) code width f at is = sym is
+
+-- what a DVI file can hold of a font
+definable : (fonts : List FontState) → AreFonts fonts → (number : ℕ) (f : NamedFont) → font_at fonts number ≡ Some f → IsDefinable (definition_for number f)
+definable fonts are zero f at = absurd (cc)
+definable fonts are (suc n) f at =
+    let told = tellable_at fonts are (suc n) f at in
+    record { number = omega (arith, told.0); checksum = told.1.checksum; size = told.1.size; design_size = told.1.design_size; name = told.1.name }
+
+-- a font that was defined just now is known
+known-now : (number : ℕ) (known : List ℕ) → is_known number (known ++ number ∷ []) ≡ true
+known-now number known =
+    list_any-append (λ n. n == number) known (number ∷ []) ∙ ap (λ b. list_any (λ n. n == number) known || (b || false)) (eq-eqb number number refl) ∙ or-true (list_any (λ n. n == number) known)
+  where
+    or-true : (b : Bool) → (b || true) ≡ true
+    or-true true = refl
+    or-true false = refl
+
+module _ (widths : Widths) (now : Registers) (stack : List Registers) (met : List Placed) (c : Cursor) where
+  -- a font that is known is chosen
+  choice-takes : (number : ℕ) (known : ReaderFonts) → is_known number known.known ≡ true → run widths (here now c known stack met) (choice number) ≡ here now c (choosing number known) stack met
+  unfolding choice
+  choice-takes number known is = by (nat_lt number 64) refl
+    where
+      by : (b : Bool) → nat_lt number 64 ≡ b → run widths (here now c known stack met) (cond {A = List ℕ} b ((171 + number) ∷ []) (235 ∷ number ∷ [])) ≡ here now c (choosing number known) stack met
+      by true e = run-fnt_num widths (at_cursor now c) known stack met number (ltb-true _ _ e) is
+      by false e = run-fnt1 widths (at_cursor now c) known stack met number is
+
+  -- a font is defined, if it isn't yet
+  definition-takes : (font : FontDefinition) (known : ReaderFonts) → IsDefinable font → run widths (here now c known stack met) (definition_commands font known).0 ≡ here now c (definition_commands font known).1 stack met
+  unfolding definition_commands
+  definition-takes font known fits = by (is_known font.number known.known) refl
+    where
+      by : (b : Bool) → is_known font.number known.known ≡ b
+          → run widths (here now c known stack met) (cond {A = List ℕ × ReaderFonts} b ([], known) (definition_bytes font, defining font known)).0
+          ≡ here now c (cond {A = List ℕ × ReaderFonts} b ([], known) (definition_bytes font, defining font known)).1 stack met
+      by true e = refl
+      by false e = run-fnt_def1 widths (at_cursor now c) known stack met font fits e
+
+  definition-known : (font : FontDefinition) (known : ReaderFonts) → is_known font.number (definition_commands font known).1.known ≡ true
+  unfolding definition_commands
+  definition-known font known = by (is_known font.number known.known) refl
+    where
+      by : (b : Bool) → is_known font.number known.known ≡ b → is_known font.number (cond {A = List ℕ × ReaderFonts} b ([], known) (definition_bytes font, defining font known)).1.known ≡ true
+      by true e = e
+      by false e = known-now font.number known.known
+
+  -- the font of a character is chosen at last
+  font-takes : (font : FontDefinition) (known : ReaderFonts) → IsDefinable font → run widths (here now c known stack met) (font_commands font known).0 ≡ here now c (font_commands font known).1 stack met
+  unfolding font_commands
+  font-takes font known fits = by (is_chosen font.number known.chosen)
+    where
+      by : (b : Bool)
+          → run widths (here now c known stack met) (cond {A = List ℕ × ReaderFonts} b ([], known) ((definition_commands font known).0 ++ choice font.number, choosing font.number (definition_commands font known).1)).0
+          ≡ here now c (cond {A = List ℕ × ReaderFonts} b ([], known) ((definition_commands font known).0 ++ choice font.number, choosing font.number (definition_commands font known).1)).1 stack met
+      by true = refl
+      by false =
+          run-append widths (here now c known stack met) (definition_commands font known).0 (choice font.number)
+          ∙ ap (λ o. run widths o (choice font.number)) (definition-takes font known fits)
+          ∙ choice-takes font.number (definition_commands font known).1 (definition-known font known)
+
+  font-chosen : (font : FontDefinition) (known : ReaderFonts) → (font_commands font known).1.chosen ≡ Some font.number
+  unfolding font_commands
+  font-chosen font known = by known.chosen refl (is_chosen font.number known.chosen) refl
+    where
+      by : (chosen : Option ℕ) → known.chosen ≡ chosen → (b : Bool) → is_chosen font.number chosen ≡ b
+          → (cond {A = List ℕ × ReaderFonts} b ([], known) ((definition_commands font known).0 ++ choice font.number, choosing font.number (definition_commands font known).1)).1.chosen ≡ Some font.number
+      by None is true e = absurd (cc)
+      by (Some x) is true e = is ∙ ap Some (eqb-true _ _ e)
+      by chosen is false e = refl
+
+  -- a character is set in the font that is chosen
+  code-takes : (number code : ℕ) (known : ReaderFonts) → known.chosen ≡ Some number
+      → run widths (here now c known stack met) (set_code code) ≡ here now (record c { right = c.right +ℤ widths number code }) known stack (met ++ character_met number code c.right c.down)
+  unfolding set_code
+  code-takes number code known is = by (nat_lt code 128) refl
+    where
+      by : (b : Bool) → nat_lt code 128 ≡ b
+          → run widths (here now c known stack met) (cond {A = List ℕ} b (code ∷ []) (128 ∷ code ∷ []))
+          ≡ here now (record c { right = c.right +ℤ widths number code }) known stack (met ++ character_met number code c.right c.down)
+      by true e = run-set_char widths (at_cursor now c) known stack met code number (ltb-true _ _ e) is
+      by false e = run-set1 widths (at_cursor now c) known stack met code number is
+
 -- one after the other
-joined : (now : Registers) (stack : List Registers) (met : List Placed) (c middle : Cursor) (bytes others : List ℕ) (new more_new : List Placed)
-    → Takes now stack met c middle bytes new → Means now stack (met ++ new) middle others more_new → Means now stack met c (bytes ++ others) (new ++ more_new)
-joined now stack met c middle bytes others new more_new first rest = record {
-  end = rest.end;
-  takes = run-append (here now c stack met) bytes others ∙ ap (λ o. run o others) first ∙ rest.takes ∙ ap (λ ms. here now rest.end stack ms) (append_assoc met new more_new);
-}
+joined : (widths : Widths) (now : Registers) (stack : List Registers) (met : List Placed) (pen middle end : Pen) (bytes others : List ℕ) (new more_new : List Placed)
+    → Takes widths now stack met pen middle bytes new → Takes widths now stack (met ++ new) middle end others more_new → Takes widths now stack met pen end (bytes ++ others) (new ++ more_new)
+joined widths now stack met pen middle end bytes others new more_new first rest =
+    run-append widths (here now pen.at pen.fonts stack met) bytes others ∙ ap (λ o. run widths o others) first ∙ rest
+    ∙ ap (λ ms. here now end.at end.fonts stack ms) (append_assoc met new more_new)
 
 -- a box that is entered, by the commands of its list
-box-means : (now : Registers) (stack : List Registers) (met : List Placed) (direction : Direction) (c to : Cursor) (bytes : List ℕ) (new : List Placed) → IsReader c → IsReader to
-    → Means (at_cursor now (approached direction c to)) (at_cursor now (approached direction c to) ∷ stack) met (approached direction c to) bytes new
-    → ItemMeans now stack met c (approached direction c to) (approach direction c to ++ framed bytes) new
-box-means now stack met direction c to bytes new reads aims inside =
-    let middle : Cursor = approached direction c to in
+box-means : (widths : Widths) (now : Registers) (stack : List Registers) (met : List Placed) (direction : Direction) (pen : Pen) (to : Cursor) (inside : List ℕ × Pen) (new : List Placed) → IsReader pen.at → IsReader to
+    → Takes widths (at_cursor now (approached direction pen.at to)) (at_cursor now (approached direction pen.at to) ∷ stack) met (entering direction pen to) inside.1 inside.0 new
+    → ItemMeans widths now stack met pen (approach direction pen.at to ++ framed inside.0, record { at = approached direction pen.at to; fonts = inside.1.fonts }) new
+box-means widths now stack met direction pen to inside new reads aims takes =
+    let middle : Cursor = approached direction pen.at to in
     record {
-      takes = run-append (here now c stack met) (approach direction c to) (framed bytes)
-          ∙ ap (λ o. run o (framed bytes)) (approach-takes now stack met direction c to reads aims)
-          ∙ framed-takes (at_cursor now middle) (at_cursor now inside.end) stack met new bytes inside.takes;
-      reads = approached-reads now stack met direction c to reads aims;
+      takes = run-append widths (here now pen.at pen.fonts stack met) (approach direction pen.at to) (framed inside.0)
+          ∙ ap (λ o. run widths o (framed inside.0)) (approach-takes widths now pen.fonts stack met direction pen.at to reads aims)
+          ∙ framed-takes widths (at_cursor now middle) (at_cursor now inside.1.at) pen.fonts inside.1.fonts stack met new inside.0 takes;
+      reads = approached-reads widths now pen.fonts stack met direction pen.at to reads aims;
     }
 
-mutual
-  unfolding list_commands list_lies placed_list
+-- what the fonts of a run give the characters of lists
+module _ (fonts : List FontState) (are : AreFonts fonts) where
+  abbrev wide : Widths
+  wide = widths_of fonts
 
-  pub list-means : (frame : Frame) (reach : Reach) (c : Cursor) (items : Items) (now : Registers) (stack : List Registers) (met : List Placed)
-      → list_lies frame reach items ≡ true → IsReader c → IsShort (list_commands frame reach c items)
-      → Means now stack met c (list_commands frame reach c items) (placed_list frame reach items)
-  list-means frame reach c none now stack met lies reads short = record { end = c; takes = still now stack met c }
-  list-means frame reach c (more item rest) now stack met lies reads short =
-      let span : Span = span_of frame reach item in
-      let parts = short-parts (item_commands frame span c item).0 (list_commands frame (next frame reach item) (item_commands frame span c item).1 rest) short in
-      let first : ItemMeans now stack met c (item_commands frame span c item).1 (item_commands frame span c item).0 (placed_item frame span item)
-      = item-means frame span c item now stack met (both lies).0 reads parts.0 in
-      joined now stack met c (item_commands frame span c item).1 (item_commands frame span c item).0 (list_commands frame (next frame reach item) (item_commands frame span c item).1 rest)
-      (placed_item frame span item) (placed_list frame (next frame reach item) rest) first.takes
-      (list-means frame (next frame reach item) (item_commands frame span c item).1 rest now stack (met ++ placed_item frame span item) (both lies).1 first.reads parts.1)
+  character-means : (now : Registers) (stack : List Registers) (met : List Placed) (pen : Pen) (at : Cursor) (c : CharacterItem) (f : NamedFont) → font_at fonts c.font ≡ Some f → IsOfFont fonts c
+      → IsReader pen.at → IsReader at → IsReader (behind_character at c)
+      → ItemMeans wide now stack met pen (character_item (Some f) pen at c) (character_met (dvi_number c.font) c.code at.right at.down)
+  unfolding character_item
+  character-means now stack met pen at c f found of_font reads aims behind =
+      let font : FontDefinition = definition_for c.font f in
+      let wide_is : wide (dvi_number c.font) c.code ≡ c.width = width-is fonts c.font c.code c.width f found of_font.width_is in
+      record {
+        takes = run-append wide (here now pen.at pen.fonts stack met) (way pen.at at ++ (font_commands font pen.fonts).0) (set_code c.code)
+            ∙ ap (λ o. run wide o (set_code c.code))
+            (run-append wide (here now pen.at pen.fonts stack met) (way pen.at at) (font_commands font pen.fonts).0
+            ∙ ap (λ o. run wide o (font_commands font pen.fonts).0) (way-takes wide now pen.fonts stack met pen.at at reads aims)
+            ∙ font-takes wide now stack met at font pen.fonts (definable fonts are c.font f found))
+            ∙ code-takes wide now stack met at (dvi_number c.font) c.code (font_commands font pen.fonts).1 (font-chosen wide now stack met at font pen.fonts)
+            ∙ ap (λ width. here now (record at { right = at.right +ℤ width }) (font_commands font pen.fonts).1 stack (met ++ character_met (dvi_number c.font) c.code at.right at.down)) wide_is;
+        reads = behind;
+      }
 
-  pub item-means : (frame : Frame) (span : Span) (c : Cursor) (item : Item) (now : Registers) (stack : List Registers) (met : List Placed)
-      → item_lies frame span item ≡ true → IsReader c → IsShort (item_commands frame span c item).0
-      → ItemMeans now stack met c (item_commands frame span c item).1 (item_commands frame span c item).0 (placed_item frame span item)
-  item-means frame span c (plain p) now stack met lies reads short = record { takes = still now stack met c; reads = reads }
-  item-means frame span c (shared s) now stack met lies reads short = shared-means now stack met frame span c s lies reads short
-  item-means frame span c (boxed shift head none) now stack met lies reads short = record { takes = still now stack met c; reads = reads }
-  item-means frame span c (boxed shift head (more item rest)) now stack met lies reads short =
-      let direction : Direction = frame.head.direction in
-      let at : Point = reference direction frame (shifted span.from shift head) in
-      let middle : Cursor = approached direction c (cursor_at at) in
-      let bytes : List ℕ = list_commands (frame_at head at) begun middle (more item rest) in
-      let aims : IsReader (cursor_at at) = point-is (both (both lies).0).1 in
-      let short_inside : IsShort bytes = inside-short (approach direction c (cursor_at at)) bytes short in
-      box-means now stack met direction c (cursor_at at) bytes (placed_list (frame_at head at) begun (more item rest)) reads aims
-      (list-means (frame_at head at) begun middle (more item rest) (at_cursor now middle) (at_cursor now middle ∷ stack) met (both lies).1
-      (approached-reads now stack met direction c (cursor_at at) reads aims) short_inside)
+  -- a character of a list
+  character-in-means : (frame : Frame) (span : Span) (pen : Pen) (c : CharacterItem) (now : Registers) (stack : List Registers) (met : List Placed) → IsOfFont fonts c → character_lies frame span c ≡ true → IsReader pen.at
+      → ItemMeans wide now stack met pen (character_commands fonts frame span pen c) (placed_character frame span c)
+  character-in-means frame span pen c now stack met of_font lies reads = by (font_at fonts c.font) refl
+    where
+      at : Point
+      at = reference frame.head.direction frame (upright span.from c.height)
 
--- the commands of a page mean the rules and specials of its box, at their places
-pub page-means : (b : PackedBox) (hoffset voffset : ℤ) → page_lies b hoffset voffset ≡ true → length (body_of b hoffset voffset) ≤ 200000
-    → meaning (body_of b hoffset voffset) ≡ Some (placed b hoffset voffset)
-unfolding meaning
-page-means b hoffset voffset lies short =
-    let frame : Frame = page_frame b hoffset voffset in
-    let all : Means page_start.now [] [] page_cursor (body_of b hoffset voffset) (placed b hoffset voffset)
-    = list-means frame begun page_cursor (items_of b.list) page_start.now [] [] (box-inside frame (items_of b.list) (head_lies frame.at b.head) lies)
-    (record { right = omega arith; down = omega arith }) short in
-    ap all_met all.takes
+      by : (o : Option NamedFont) → font_at fonts c.font ≡ o
+          → ItemMeans wide now stack met pen (character_item o pen (cursor_at (reference frame.head.direction frame (upright span.from c.height))) c) (placed_character frame span c)
+      by None e = absurd (let no : false ≡ true = sym (ap (λ o. has_by o) e) ∙ of_font.there in cc)
+        where
+          has_by : Option NamedFont → Bool
+          has_by o = option_map_or (λ (f : NamedFont). is_there f.font.file c.code) o false
+      by (Some f) e =
+          let point : IsReader (cursor_at at) = point-is (both lies).1 in
+          let edges = lies-is (both lies).0 in
+          character-means now stack met pen (cursor_at at) c f e of_font reads point (record { right = edges.right; down = point.down })
+
+  shared-means : (frame : Frame) (span : Span) (pen : Pen) (s : Shared) (now : Registers) (stack : List Registers) (met : List Placed) → IsSharedOfFonts fonts s → shared_lies frame span s ≡ true → IsReader pen.at
+      → IsShort (shared_commands fonts frame span pen s).0 → ItemMeans wide now stack met pen (shared_commands fonts frame span pen s) (placed_shared frame span s)
+  shared-means frame span pen (Rule r) now stack met of_fonts lies reads short = in-means wide now pen.fonts stack met frame span pen.at (rule_sides frame.head.direction frame.head r) lies reads
+  shared-means frame span pen (Leaders l) now stack met of_fonts lies reads short = by (is_positive (size_of span)) lies
+    where
+      sides : Sides
+      sides = leaders_sides frame.head.direction frame.head l.rule (size_of span)
+
+      by : (b : Bool) → cond b (rule_lies frame span sides) true ≡ true
+          → ItemMeans wide now stack met pen (cond {A = List ℕ × Pen} b (keeping_fonts pen.fonts (rule_commands frame span pen.at sides)) ([], pen)) (cond {A = List Placed} b (placed_in frame span sides) [])
+      by true e = in-means wide now pen.fonts stack met frame span pen.at sides e reads
+      by false e = record { takes = still wide now pen.fonts stack met pen.at; reads = reads }
+  shared-means frame span pen (Special text) now stack met of_fonts lies reads short =
+      special-means wide now pen.fonts stack met pen.at (cursor_at (reference frame.head.direction frame (upright span.from (pos 0)))) text reads (point-is lies) short
+  shared-means frame span pen (Ligature l) now stack met of_fonts lies reads short = character-in-means frame span pen l.character now stack met of_fonts lies reads
+
+  plain-means : (frame : Frame) (span : Span) (pen : Pen) (p : Plain) (now : Registers) (stack : List Registers) (met : List Placed) → IsPlainOfFonts fonts p → plain_lies frame span p ≡ true → IsReader pen.at
+      → ItemMeans wide now stack met pen (plain_commands fonts frame span pen p) (placed_plain frame span p)
+  plain-means frame span pen (Kern kind size) now stack met of_fonts lies reads = record { takes = still wide now pen.fonts stack met pen.at; reads = reads }
+  plain-means frame span pen (Glue g) now stack met of_fonts lies reads = record { takes = still wide now pen.fonts stack met pen.at; reads = reads }
+  plain-means frame span pen (Penalty n) now stack met of_fonts lies reads = record { takes = still wide now pen.fonts stack met pen.at; reads = reads }
+  plain-means frame span pen (Character c) now stack met of_fonts lies reads = character-in-means frame span pen c now stack met of_fonts lies reads
+
+  mutual
+    unfolding list_commands list_lies placed_list
+
+    pub list-means : (frame : Frame) (reach : Reach) (pen : Pen) (items : Items) (now : Registers) (stack : List Registers) (met : List Placed)
+        → AreOfFonts fonts items → list_lies frame reach items ≡ true → IsReader pen.at → IsShort (list_commands fonts frame reach pen items).0
+        → Takes wide now stack met pen (list_commands fonts frame reach pen items).1 (list_commands fonts frame reach pen items).0 (placed_list frame reach items)
+    list-means frame reach pen none now stack met of_fonts lies reads short = still wide now pen.fonts stack met pen.at
+    list-means frame reach pen (more item rest) now stack met of_fonts lies reads short =
+        let span : Span = span_of frame reach item in
+        let parts = short-parts (item_commands fonts frame span pen item).0 (list_commands fonts frame (next frame reach item) (item_commands fonts frame span pen item).1 rest).0 short in
+        let first : ItemMeans wide now stack met pen (item_commands fonts frame span pen item) (placed_item frame span item)
+        = item-means frame span pen item now stack met of_fonts.0 (both lies).0 reads parts.0 in
+        joined wide now stack met pen (item_commands fonts frame span pen item).1 (list_commands fonts frame (next frame reach item) (item_commands fonts frame span pen item).1 rest).1
+        (item_commands fonts frame span pen item).0 (list_commands fonts frame (next frame reach item) (item_commands fonts frame span pen item).1 rest).0
+        (placed_item frame span item) (placed_list frame (next frame reach item) rest) first.takes
+        (list-means frame (next frame reach item) (item_commands fonts frame span pen item).1 rest now stack (met ++ placed_item frame span item) of_fonts.1 (both lies).1 first.reads parts.1)
+
+    pub item-means : (frame : Frame) (span : Span) (pen : Pen) (item : Item) (now : Registers) (stack : List Registers) (met : List Placed)
+        → IsItemOfFonts fonts item → item_lies frame span item ≡ true → IsReader pen.at → IsShort (item_commands fonts frame span pen item).0
+        → ItemMeans wide now stack met pen (item_commands fonts frame span pen item) (placed_item frame span item)
+    item-means frame span pen (plain p) now stack met of_fonts lies reads short = plain-means frame span pen p now stack met of_fonts lies reads
+    item-means frame span pen (shared s) now stack met of_fonts lies reads short = shared-means frame span pen s now stack met of_fonts lies reads short
+    item-means frame span pen (boxed shift head none) now stack met of_fonts lies reads short = record { takes = still wide now pen.fonts stack met pen.at; reads = reads }
+    item-means frame span pen (boxed shift head (more item rest)) now stack met of_fonts lies reads short =
+        let direction : Direction = frame.head.direction in
+        let at : Point = reference direction frame (shifted span.from shift head) in
+        let middle : Cursor = approached direction pen.at (cursor_at at) in
+        let entered : Pen = entering direction pen (cursor_at at) in
+        let aims : IsReader (cursor_at at) = point-is (both (both lies).0).1 in
+        let short_inside = inside-short (approach direction pen.at (cursor_at at)) (list_commands fonts (frame_at head at) begun entered (more item rest)).0 short in
+        box-means wide now stack met direction pen (cursor_at at) (list_commands fonts (frame_at head at) begun entered (more item rest)) (placed_list (frame_at head at) begun (more item rest)) reads aims
+        (list-means (frame_at head at) begun entered (more item rest) (at_cursor now middle) (at_cursor now middle ∷ stack) met of_fonts (both lies).1
+        (approached-reads wide now pen.fonts stack met direction pen.at (cursor_at at) reads aims) short_inside)
+
+  -- the commands of a page mean the characters, rules and specials of its box, at their places, and define its fonts
+  pub page-means : (known : List ℕ) (b : PackedBox) (hoffset voffset : ℤ) → AreOfFonts fonts (items_of b.list) → page_lies b hoffset voffset ≡ true → length (written_of fonts known b hoffset voffset).0 ≤ 200000
+      → meaning wide known (written_of fonts known b hoffset voffset).0 ≡ Some (record { placed = placed b hoffset voffset; fonts = (written_of fonts known b hoffset voffset).1.fonts.defined })
+  unfolding meaning
+  page-means known b hoffset voffset of_fonts lies short =
+      let frame : Frame = page_frame b hoffset voffset in
+      ap all_met
+      (list-means frame begun (page_pen known) (items_of b.list) (page_start known).now [] [] of_fonts (box-inside frame (items_of b.list) (head_lies frame.at b.head) lies)
+      (record { right = omega arith; down = omega arith }) short)

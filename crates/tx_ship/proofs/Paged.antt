@@ -7,31 +7,43 @@ use Rattle.tx_node.specs.Items.{PackedBox}
 use Rattle.tx_ship.specs.declared.params.ShipParams.{ShipParams}
 use Rattle.tx_ship.specs.declared.error.ShipError.{ShipError}
 use Rattle.tx_ship.specs.declared.error.ShipError.TheVariants.{SizeTooLarge, OutsidePage, BodyTooLong}
-use Rattle.tx_ship.specs.Commands.{body_of}
+use Rattle.tx_dvi.specs.Meaning.{ReaderFonts}
+use Rattle.tx_tfm.specs.declared.state.FontState.{FontState}
+use Rattle.tx_ship.specs.Commands.{Pen, written_of}
 use Rattle.tx_ship.specs.Within.{page_lies}
-use Rattle.tx_ship.specs.Pages.{sizes_fit, page_of, page_of_body, page_with}
+use Rattle.tx_ship.specs.Pages.{sizes_fit, page_of, page_of_body, page_made, page_with}
 
-module _ (b : PackedBox) (params : ShipParams) where
-  abbrev tested : Bool → Bool → List ℕ → Result Page ShipError
-  tested fit lie body = cond fit (cond lie (page_of_body b params body) (Err OutsidePage)) (Err SizeTooLarge)
+module _ (fonts : List FontState) (b : PackedBox) (params : ShipParams) where
+  -- what is written of the page
+  abbrev all_written : List ℕ × Pen
+  all_written = written_of fonts params.defined b params.hoffset params.voffset
 
-  page-of : (fit lie : Bool) → sizes_fit b params ≡ fit → page_lies b params.hoffset params.voffset ≡ lie → page_of b params ≡ tested fit lie (body_of b params.hoffset params.voffset)
+  abbrev tested : Bool → Bool → List ℕ × Pen → Result Page ShipError
+  tested fit lie written = cond fit (cond lie (page_of_body b params written) (Err OutsidePage)) (Err SizeTooLarge)
+
+  page-of : (fit lie : Bool) → sizes_fit b params ≡ fit → page_lies b params.hoffset params.voffset ≡ lie → page_of fonts b params ≡ tested fit lie all_written
   unfolding page_of
-  page-of fit lie e f = λ i. tested (e i) (f i) (body_of b params.hoffset params.voffset)
+  page-of fit lie e f = λ i. tested (e i) (f i) all_written
 
-  pub too-large : sizes_fit b params ≡ false → page_of b params ≡ Err SizeTooLarge
+  pub too-large : sizes_fit b params ≡ false → page_of fonts b params ≡ Err SizeTooLarge
   too-large e = page-of false (page_lies b params.hoffset params.voffset) e refl
 
-  pub outside : sizes_fit b params ≡ true → page_lies b params.hoffset params.voffset ≡ false → page_of b params ≡ Err OutsidePage
+  pub outside : sizes_fit b params ≡ true → page_lies b params.hoffset params.voffset ≡ false → page_of fonts b params ≡ Err OutsidePage
   outside e f = page-of true false e f
 
-  pub too-long : (body : List ℕ) → sizes_fit b params ≡ true → page_lies b params.hoffset params.voffset ≡ true → body ≡ body_of b params.hoffset params.voffset → 200000 < length body
-      → page_of b params ≡ Err BodyTooLong
-  too-long body e f is long = page-of true true e f ∙ ap (page_of_body b params) (sym is) ∙ ap (λ short. cond short (Ok (page_with b params body)) (Err BodyTooLong)) (gt-leb long)
+  pub too-long : (body : List ℕ) → sizes_fit b params ≡ true → page_lies b params.hoffset params.voffset ≡ true → body ≡ all_written.0 → 200000 < length body
+      → page_of fonts b params ≡ Err BodyTooLong
+  too-long body e f is long =
+      page-of true true e f ∙ ap (λ bytes. cond (nat_le (length bytes) 200000) (Ok (page_with b params all_written)) (Err BodyTooLong)) (sym is)
+      ∙ ap (λ short. cond short (Ok (page_with b params all_written)) (Err BodyTooLong)) (gt-leb long)
     where
       gt-leb : 200000 < length body → nat_le (length body) 200000 ≡ false
       gt-leb h = grind (arith, leb_tells)
 
-  pub page-is : (body : List ℕ) → sizes_fit b params ≡ true → page_lies b params.hoffset params.voffset ≡ true → body ≡ body_of b params.hoffset params.voffset → length body ≤ 200000
-      → page_of b params ≡ Ok (page_with b params body)
-  page-is body e f is short = page-of true true e f ∙ ap (page_of_body b params) (sym is) ∙ ap (λ short. cond short (Ok (page_with b params body)) (Err BodyTooLong)) (le-leb _ _ short)
+  -- the page, by the bytes and the definitions that were written
+  pub page-is : (body : List ℕ) (known : ReaderFonts) → sizes_fit b params ≡ true → page_lies b params.hoffset params.voffset ≡ true → body ≡ all_written.0 → known ≡ all_written.1.fonts → length body ≤ 200000
+      → page_of fonts b params ≡ Ok (page_made b params body known.defined)
+  page-is body known e f is known_is short =
+      page-of true true e f ∙ ap (λ bytes. cond (nat_le (length bytes) 200000) (Ok (page_with b params all_written)) (Err BodyTooLong)) (sym is)
+      ∙ ap (λ short. cond short (Ok (page_with b params all_written)) (Err BodyTooLong)) (le-leb _ _ short)
+      ∙ (λ i. Ok (page_made b params (sym is i) (sym known_is i).defined))

@@ -1,10 +1,11 @@
 -- Steps of the walk over a list, and what a test of places tells.
-use Rattle.std.proofs.Common.{◌≡◌, ◌==◌, ℕ, ◌+◌, ◌-◌, ◌<◌, ◌≤◌, ◌^◌, ℤ, unsigned_abs, ◌+ℤ◌, ◌-ℤ◌, Bool, true, false, cond, not, ◌&&◌, List, [], ◌∷◌, ◌++◌, length, take, drop, get_or, refl, sym, ap, ◌∙◌, subst, arith, add-one, append_assoc, Result, Ok, Err}
+use Rattle.std.proofs.Common.{◌≡◌, ◌==◌, ℕ, ◌+◌, ◌-◌, ◌<◌, ◌≤◌, ◌^◌, ℤ, pos, unsigned_abs, ◌+ℤ◌, ◌-ℤ◌, Bool, true, false, cond, not, ◌&&◌, List, [], ◌∷◌, ◌++◌, length, take, drop, get_or, refl, sym, ap, ◌∙◌, subst, arith, add-one, append_assoc, Option, None, Result, Ok, Err}
 use Rattle.std.specs.Prelude.{IsErrAnd}
 use Rattle.std.proofs.lemmas.Bool.{leb-true, ltb-true, eqb-true, eqb-false}
 use Rattle.std.proofs.lemmas.List.{append-nil, length-append, drop_all}
 use Rattle.std.proofs.Math.Seq.{drop-cons, take-append_seam}
 use Rattle.std.proofs.Math.Dec.{eqb-suc-zero}
+use Rattle.tx_node.specs.declared.character.Character.{Character as CharacterItem}
 use Rattle.tx_node.specs.declared.node.Node.{Node}
 use Rattle.tx_node.specs.declared.head.BoxHead.{BoxHead}
 use Rattle.tx_node.specs.declared.head.Direction.{Direction}
@@ -21,8 +22,13 @@ use Rattle.tx_ship.specs.declared.places.Sides.{Sides}
 use Rattle.tx_ship.specs.declared.places.Span.{Span}
 use Rattle.tx_ship.specs.declared.places.Stand.{Stand}
 use Rattle.tx_ship.specs.declared.places.CornerRule.{CornerRule}
-use Rattle.tx_ship.specs.Standing.{next, place, span_of, reference, shifted, frame_at}
-use Rattle.tx_ship.specs.Commands.{is_entered, cornered, cursor_at, right, down, way, framed, list_commands, item_commands}
+use Rattle.tx_tfm.specs.declared.named.NamedFont.{NamedFont}
+use Rattle.tx_tfm.specs.declared.state.FontState.{FontState}
+use Rattle.tx_tfm.specs.Fonts.{font_at}
+use Rattle.tx_ship.specs.declared.output.Output.{Output}
+use Rattle.tx_ship.specs.Written.{IsWritten}
+use Rattle.tx_ship.specs.Standing.{next, place, span_of, reference, upright, shifted, frame_at}
+use Rattle.tx_ship.specs.Commands.{Pen, pen_at, character_item, is_entered, cornered, cursor_at, right, down, way, framed, list_commands, item_commands}
 use Rattle.tx_ship.specs.Within.{Lies, IsReader, IsNearBox, IsOutside, on_page, point_lies, along_lies, edges_lie, box_lies, inside_lies, list_lies, item_lies}
 
 -- both of two tests
@@ -82,6 +88,9 @@ pub shifted-is : (from shift : ℤ) (head : BoxHead) {f s h : ℤ} → f ≡ fro
     → ◌≡◌ {A = Stand} (record { from = f; shift = s; height = h }) (shifted from shift head)
 shifted-is from shift head f_is s_is h_is = λ i. record { from = f_is i; shift = s_is i; height = h_is i }
 
+pub upright-is : (from height : ℤ) {f h : ℤ} → f ≡ from → h ≡ height → ◌≡◌ {A = Stand} (record { from = f; shift = pos 0; height = h }) (upright from height)
+upright-is from height f_is h_is = λ i. record { from = f_is i; shift = pos 0; height = h_is i }
+
 pub cornered-is : (at : Point) (sides : Sides) {across downward height width : ℤ} → across ≡ at.h → downward ≡ at.v +ℤ sides.depth → height ≡ sides.height +ℤ sides.depth → width ≡ sides.width
     → ◌≡◌ {A = CornerRule} (record { corner = record { right = across; down = downward }; height = height; width = width }) (cornered at sides)
 cornered-is at sides across_is downward_is height_is width_is = λ i. record { corner = record { right = across_is i; down = downward_is i }; height = height_is i; width = width_is i }
@@ -121,6 +130,15 @@ framed-close before inner {pushed} {put} {new} {start} pushed_is start_is put_is
     by (x ∷ xs) is false e n =
         n ∙ (λ i. (is ∙ (λ j. pushed_is j ++ (x ∷ xs))) i ++ 142 ∷ []) ∙ append_assoc (before ++ 141 ∷ []) (x ∷ xs) (142 ∷ []) ∙ append_assoc before (141 ∷ []) ((x ∷ xs) ++ 142 ∷ [])
 
+-- commands behind those that are there
+abbrev pub all_of : Output → List ℕ × Pen → List ℕ × Pen
+all_of before made = (before.body.items ++ made.0, made.1)
+
+-- what is there of all, and what is still to come
+pub record Joins (here : Output) (all rest : List ℕ × Pen) : Type 0 where
+  pub bytes : all.0 ≡ here.body.items ++ rest.0
+  pub fonts : all.1.fonts ≡ rest.1.fonts
+
 -- The walk at one item of a list, the commands of which are put from it on.
 module _ (xs : List Node) (i : ℕ) {x : Node} (frame : Frame) (reach : Reach) (here : i < length xs) (is : x ≡ get_or xs i x) where
   abbrev rest : Items
@@ -145,23 +163,41 @@ module _ (xs : List Node) (i : ℕ) {x : Node} (frame : Frame) (reach : Reach) (
       (subst (λ z. unsigned_abs z < 2 ^ 30) (sym sum_is) (ltb-true _ _ parts.0), ap (λ z. sums_fit frame.head.setting z rest) sum_is ∙ parts.1)
 
   -- the commands of the item, and those behind it
-  pub put-on : (cursor next_cursor : Cursor) (body : List ℕ) {all after : List ℕ}
-      → all ≡ body ++ list_commands frame reach cursor (items_of (list_of (drop i xs)))
-      → after ≡ body ++ (item_commands frame (span_of frame reach (item_of x)) cursor (item_of x)).0
-      → next_cursor ≡ (item_commands frame (span_of frame reach (item_of x)) cursor (item_of x)).1
-      → all ≡ after ++ list_commands frame (next frame reach (item_of x)) next_cursor rest
+  pub put-on : (fonts : List FontState) (cursor next_cursor : Cursor) (before after : Output) {all : List ℕ × Pen}
+      → Joins before all (list_commands fonts frame reach (pen_at before.fonts cursor) (items_of (list_of (drop i xs))))
+      → IsWritten before after (item_commands fonts frame (span_of frame reach (item_of x)) (pen_at before.fonts cursor) (item_of x))
+      → next_cursor ≡ (item_commands fonts frame (span_of frame reach (item_of x)) (pen_at before.fonts cursor) (item_of x)).1.at
+      → Joins after all (list_commands fonts frame (next frame reach (item_of x)) (pen_at after.fonts next_cursor) rest)
   unfolding list_commands
-  put-on cursor next_cursor body so_far put moved =
-      let span : Span = span_of frame reach (item_of x) in
-      so_far ∙ ap (λ items. body ++ list_commands frame reach cursor items) (items-on xs i x here is)
-      ∙ sym (append_assoc body (item_commands frame span cursor (item_of x)).0 (list_commands frame (next frame reach (item_of x)) (item_commands frame span cursor (item_of x)).1 rest))
-      ∙ (λ j. sym put j ++ list_commands frame (next frame reach (item_of x)) (sym moved j) rest)
+  put-on fonts cursor next_cursor before after {all} so_far put moved =
+      let made : List ℕ × Pen = item_commands fonts frame (span_of frame reach (item_of x)) (pen_at before.fonts cursor) (item_of x) in
+      let pen_is : pen_at after.fonts next_cursor ≡ made.1 = λ j. pen_at (put.fonts j) (moved j) in
+      let others : Pen → List ℕ × Pen = λ (pen : Pen). list_commands fonts frame (next frame reach (item_of x)) pen rest in
+      let here_is : list_commands fonts frame reach (pen_at before.fonts cursor) (items_of (list_of (drop i xs))) ≡ (made.0 ++ (others made.1).0, (others made.1).1)
+      = ap (list_commands fonts frame reach (pen_at before.fonts cursor)) (items-on xs i x here is) in
+      record {
+        bytes = so_far.bytes ∙ ap (λ (w : List ℕ × Pen). before.body.items ++ w.0) here_is
+            ∙ sym (append_assoc before.body.items made.0 (others made.1).0)
+            ∙ (λ j. sym put.bytes j ++ (others (sym pen_is j)).0);
+        fonts = so_far.fonts ∙ ap (λ (w : List ℕ × Pen). w.1.fonts) here_is ∙ ap (λ pen. (others pen).1.fonts) (sym pen_is);
+      }
+
+-- what has no commands writes nothing
+pub none-written : (fonts : List FontState) (number : ℕ) (c : CharacterItem) (output : Output) (cursor at : Cursor) → font_at fonts number ≡ None
+    → IsWritten output output (character_item (font_at fonts number) (pen_at output.fonts cursor) at c)
+unfolding character_item
+none-written fonts number c output cursor at absent =
+    subst (λ (o : Option NamedFont). IsWritten output output (character_item o (pen_at output.fonts cursor) at c)) (sym absent) (record { bytes = sym (append-nil output.body.items); fonts = refl })
+
+pub none-moved : (fonts : List FontState) (number : ℕ) (c : CharacterItem) (pen : Pen) (at : Cursor) → font_at fonts number ≡ None → pen.at ≡ (character_item (font_at fonts number) pen at c).1.at
+unfolding character_item
+none-moved fonts number c pen at absent = ap (λ (o : Option NamedFont). (character_item o pen at c).1.at) (sym absent)
 
 -- a box that isn't entered has no commands
-pub not-entered : (frame : Frame) (reach : Reach) (cursor : Cursor) (items : Items) → false ≡ is_entered items → list_commands frame reach cursor items ≡ []
+pub not-entered : (fonts : List FontState) (frame : Frame) (reach : Reach) (pen : Pen) (items : Items) → false ≡ is_entered items → list_commands fonts frame reach pen items ≡ ([], pen)
 unfolding list_commands
-not-entered frame reach cursor none e = refl
-not-entered frame reach cursor (more item rest) e = absurd (cc)
+not-entered fonts frame reach pen none e = refl
+not-entered fonts frame reach pen (more item rest) e = absurd (cc)
 
 -- where a part lies outside, the whole does
 pub outside-on : {e : ShipError} {part whole : Bool} → (part ≡ false → whole ≡ false) → IsOutside e part → IsOutside e whole
@@ -173,11 +209,17 @@ on-err (Ok value) e IsSo same so = absurd same
 on-err (Err x) e IsSo same so = subst (λ y. IsSo (Err y)) (sym same) so
 
 -- where no item is left, all is put, and lies on the page
-pub put-end : (xs : List Node) (i : ℕ) (frame : Frame) (reach : Reach) (cursor : Cursor) (body : List ℕ) {all : List ℕ} → length xs ≤ i
-    → all ≡ body ++ list_commands frame reach cursor (items_of (list_of (drop i xs))) → body ≡ all
+pub put-end : (fonts : List FontState) (xs : List Node) (i : ℕ) (frame : Frame) (reach : Reach) (cursor : Cursor) (start here : Output) {all : List ℕ × Pen} → length xs ≤ i
+    → Joins here (all_of start all) (list_commands fonts frame reach (pen_at here.fonts cursor) (items_of (list_of (drop i xs))))
+    → IsWritten start here all
 unfolding list_commands
-put-end xs i frame reach cursor body h all_is =
-    sym (all_is ∙ ap (λ ys. body ++ list_commands frame reach cursor (items_of (list_of ys))) (drop_all i xs h) ∙ append-nil body)
+put-end fonts xs i frame reach cursor start here {all} h so_far =
+    let none_is : list_commands fonts frame reach (pen_at here.fonts cursor) (items_of (list_of (drop i xs))) ≡ ([], pen_at here.fonts cursor)
+    = ap (λ ys. list_commands fonts frame reach (pen_at here.fonts cursor) (items_of (list_of ys))) (drop_all i xs h) in
+    record {
+      bytes = sym (so_far.bytes ∙ ap (λ (w : List ℕ × Pen). here.body.items ++ w.0) none_is ∙ append-nil here.body.items);
+      fonts = sym (so_far.fonts ∙ ap (λ (w : List ℕ × Pen). w.1.fonts) none_is);
+    }
 
 pub lies-end : (xs : List Node) (i : ℕ) (frame : Frame) (reach : Reach) {all : Bool} → length xs ≤ i → list_lies frame reach (items_of (list_of (drop i xs))) ≡ all → all ≡ true
 unfolding list_lies

@@ -6,15 +6,20 @@ use Rattle.tx_node.specs.declared.head.Direction.{Direction}
 use Rattle.tx_node.specs.declared.head.Direction.TheVariants.{Horizontal, Vertical}
 use Rattle.tx_node.specs.declared.head.Setting.{Setting}
 use Rattle.tx_node.specs.declared.head.Setting.TheVariants.{Natural, Set}
-use Rattle.tx_node.specs.declared.plain.KernKind.TheVariants.{Explicit}
+use Rattle.tx_node.specs.declared.plain.KernKind.TheVariants.{Implicit, Explicit}
 use Rattle.tx_node.specs.declared.plain.LeadersKind.TheVariants.{Aligned}
-use Rattle.tx_node.specs.declared.plain.Plain.TheVariants.{Kern, Glue, Penalty}
+use Rattle.tx_node.specs.declared.plain.Plain.TheVariants.{Kern, Glue, Penalty, Character}
 use Rattle.tx_node.specs.declared.plain.Shared.TheVariants.{Rule, Leaders, Special}
 use Rattle.tx_node.specs.declared.rule.Rule.{Rule as RuleSides}
 use Rattle.tx_node.specs.Items.{Item, plain, shared, boxed, items_of}
-use Rattle.tx_dvi.specs.Dvi.{four_bytes}
-use Rattle.tx_dvi.specs.Meaning.{Placed, ruled, noted}
-use Rattle.tx_ship.specs.Commands.{body_of, list_commands, rule_item, rule_bytes, way, movement, special}
+use Rattle.tx_dvi.specs.Dvi.{four_bytes, unsigned_bytes, definition_bytes}
+use Rattle.tx_tfm.specs.declared.named.NamedFont.{NamedFont}
+use Rattle.tx_tfm.specs.declared.state.FontState.{FontState}
+use Rattle.tx_tfm.specs.Fonts.{loaded_state, null_state}
+use Rattle.tx_tfm.specs.Format.{tfm_of, word_at, design_size_of}
+use Rattle.tx_ship.specs.Characters.{font_commands, definition_commands, choice, set_code}
+use Rattle.tx_dvi.specs.Meaning.{Placed, lettered, ruled, noted}
+use Rattle.tx_ship.specs.Commands.{written_of, list_commands, character_item, rule_item, rule_bytes, way, movement, special}
 use Rattle.tx_ship.specs.Placing.{placed, placed_list}
 
 -- sizes and items
@@ -39,7 +44,7 @@ abbrev box : ℤ → BoxHead → List Item → Item
 box shift h list = boxed shift h (items_of list)
 
 abbrev page : BoxHead → List Item → List ℕ
-page h list = body_of (record { head = h; list = list }) (pos 0) (pos 0)
+page h list = (written_of [] [] (record { head = h; list = list }) (pos 0) (pos 0)).0
 
 -- \vbox{\hrule width 3pt height 1pt depth 0pt}
 rule-page : page (head Vertical 196608 65536 0 Natural) (rule_of 196608 65536 0 ∷ []) ≡ 159 ∷ 1 ∷ 0 ∷ 0 ∷ 137 ∷ 0 ∷ 1 ∷ 0 ∷ 0 ∷ 0 ∷ 3 ∷ 0 ∷ 0 ∷ []
@@ -101,10 +106,53 @@ down-page : page (head Vertical 6 100 0 (Set (record { change = Stretch; order =
 unfolding list_commands rule_item rule_bytes way movement four_bytes special
 down-page = refl
 
+-- a metric file whose characters a and b are 5pt wide and 2.5pt high at 10pt
+abbrev metric_file : List ℕ
+metric_file =
+    0 ∷ 40 ∷ 0 ∷ 2 ∷ 0 ∷ 97 ∷ 0 ∷ 98 ∷ 0 ∷ 2 ∷ 0 ∷ 2 ∷ 0 ∷ 1 ∷ 0 ∷ 1 ∷ 0 ∷ 1 ∷ 0 ∷ 1 ∷ 0 ∷ 0 ∷ 0 ∷ 22 ∷ 0 ∷ 0 ∷ 0 ∷ 0 ∷ 0 ∷ 160 ∷ 0 ∷ 0 ∷
+    1 ∷ 16 ∷ 1 ∷ 0 ∷ 1 ∷ 16 ∷ 0 ∷ 0 ∷ 0 ∷ 0 ∷ 0 ∷ 0 ∷ 0 ∷ 8 ∷ 0 ∷ 0 ∷ 0 ∷ 0 ∷ 0 ∷ 0 ∷ 0 ∷ 4 ∷ 0 ∷ 0 ∷ 0 ∷ 0 ∷ 0 ∷ 0 ∷ 0 ∷ 0 ∷ 0 ∷ 0 ∷
+    128 ∷ 97 ∷ 128 ∷ 0 ∷ 0 ∷ 1 ∷ 0 ∷ 0 ∷ 0 ∷ 0 ∷ 0 ∷ 0 ∷ 0 ∷ 4 ∷ 0 ∷ 0 ∷ 0 ∷ 2 ∷ 0 ∷ 0 ∷ 0 ∷ 1 ∷ 0 ∷ 0 ∷ 0 ∷ 8 ∷ 0 ∷ 0 ∷ 0 ∷ 16 ∷ 0 ∷ 0 ∷
+    0 ∷ 0 ∷ 0 ∷ 0 ∷ 0 ∷ 0 ∷ 0 ∷ 0 ∷ 0 ∷ 0 ∷ 0 ∷ 0 ∷ 0 ∷ 0 ∷ 0 ∷ 0 ∷ 0 ∷ 0 ∷ 0 ∷ 0 ∷ 0 ∷ 0 ∷ 0 ∷ 0 ∷ 0 ∷ 0 ∷ 0 ∷ 0 ∷ 0 ∷ 0 ∷ 0 ∷ 0 ∷
+    0 ∷ 0 ∷ 0 ∷ 0 ∷ 0 ∷ 0 ∷ 0 ∷ 0 ∷ 0 ∷ 0 ∷ 0 ∷ 0 ∷ 0 ∷ 0 ∷ 0 ∷ 0 ∷ 0 ∷ 0 ∷ 0 ∷ 0 ∷ 0 ∷ 0 ∷ 0 ∷ 0 ∷ 0 ∷ 0 ∷ 0 ∷ 0 ∷ 0 ∷ 4 ∷ 0 ∷ 0 ∷ []
+
+-- the font t at 10pt, which is the first one, and at 5pt, the second
+abbrev font_t : NamedFont
+font_t = record { name = 116 ∷ []; font = record { file = tfm_of metric_file; size = 655360 } }
+
+abbrev small_t : NamedFont
+small_t = record { name = 116 ∷ []; font = record { file = tfm_of metric_file; size = 327680 } }
+
+abbrev fonts : List FontState
+fonts = null_state ∷ loaded_state font_t (pos 45) (negsuc 0) ∷ loaded_state small_t (pos 45) (negsuc 0) ∷ []
+
+abbrev letter : ℕ → Item
+letter code = plain (Character (record { font = 1; code = code; width = pos 327680; height = pos 163840; depth = pos 0 }))
+
+abbrev small_letter : ℕ → Item
+small_letter code = plain (Character (record { font = 2; code = code; width = pos 163840; height = pos 81920; depth = pos 0 }))
+
+abbrev page_in : List ℕ → BoxHead → List Item → List ℕ
+page_in known h list = (written_of fonts known (record { head = h; list = list }) (pos 0) (pos 0)).0
+
+-- \hbox{\f aab\g a}, where the page before has defined the second font; Knuth's TeX ships it with the same bytes
+font-page : page_in (1 ∷ []) (head Horizontal 1187840 163840 0 Natural) (letter 97 ∷ plain (Kern Implicit (pos 40960)) ∷ letter 97 ∷ letter 98 ∷ small_letter 97 ∷ [])
+    ≡ 159 ∷ 2 ∷ 128 ∷ 0 ∷ 243 ∷ 0 ∷ 0 ∷ 0 ∷ 0 ∷ 0 ∷ 0 ∷ 10 ∷ 0 ∷ 0 ∷ 0 ∷ 10 ∷ 0 ∷ 0 ∷ 0 ∷ 1 ∷ 116 ∷ 171 ∷ 97 ∷ 145 ∷ 0 ∷ 160 ∷ 0 ∷ 97 ∷ 98 ∷ 172 ∷ 97 ∷ []
+unfolding list_commands character_item font_commands definition_commands choice set_code definition_bytes unsigned_bytes word_at design_size_of way movement four_bytes
+font-page = refl
+
+-- \vbox{\hbox{\f a}\hbox{\f b\hbox{\g a}\f b}} behind it: a pop brings no font back
+fonts-page : page_in (1 ∷ 0 ∷ []) (head Vertical 819200 327680 0 Natural)
+    (box (pos 0) (head Horizontal 327680 163840 0 Natural) (letter 97 ∷ [])
+    ∷ box (pos 0) (head Horizontal 819200 163840 0 Natural) (letter 98 ∷ box (pos 0) (head Horizontal 163840 81920 0 Natural) (small_letter 97 ∷ []) ∷ letter 98 ∷ []) ∷ [])
+    ≡ 159 ∷ 2 ∷ 128 ∷ 0 ∷ 141 ∷ 171 ∷ 97 ∷ 142 ∷ 159 ∷ 2 ∷ 128 ∷ 0 ∷ 141 ∷ 98 ∷ 141 ∷ 172 ∷ 97 ∷ 142 ∷ 145 ∷ 2 ∷ 128 ∷ 0 ∷ 171 ∷ 98 ∷ 142 ∷ []
+unfolding list_commands character_item font_commands definition_commands choice set_code way movement four_bytes
+fonts-page = refl
+
 -- Five lines of the same three rules, each behind glue: the places of the rules, where the glue has to grow by so much in all.
 -- Glue that was rounded by itself would leave the last rule of each line off.
 abbrev rights : List Placed → List ℤ
 rights [] = []
+rights (lettered c ∷ rest) = c.h ∷ rights rest
 rights (ruled r ∷ rest) = r.h ∷ rights rest
 rights (noted s ∷ rest) = s.h ∷ rights rest
 

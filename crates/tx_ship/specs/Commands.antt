@@ -1,19 +1,27 @@
 -- The commands of a page (TeX: The Program, sections 607, 615 to 640 and 1368; the DVI standard).
-use Rattle.std.specs.Prelude.{ℕ, Bool, true, false, suc, ◌+◌, ◌-◌, ◌^◌, ◌==◌, ◌&&◌, nat_lt, min, max, ℤ, pos, ◌+ℤ◌, ◌-ℤ◌, unsigned_abs, List, [], ◌∷◌, ◌++◌, length, drop, if◌then◌else◌}
+use Rattle.std.specs.Prelude.{ℕ, Bool, true, false, suc, ◌+◌, ◌-◌, ◌^◌, ◌==◌, ◌&&◌, nat_lt, min, max, ℤ, pos, ◌+ℤ◌, ◌-ℤ◌, unsigned_abs, List, [], ◌∷◌, ◌++◌, length, drop, Option, Some, None, if◌then◌else◌}
 use Rattle.std.specs.Int.{is_positive}
 use Rattle.tx_dvi.specs.Dvi.{four_bytes}
+use Rattle.tx_dvi.specs.Meaning.{ReaderFonts, page_start}
+use Rattle.tx_node.specs.declared.character.Character.{Character as CharacterItem}
 use Rattle.tx_node.specs.declared.head.Direction.{Direction}
 use Rattle.tx_node.specs.declared.head.Direction.TheVariants.{Horizontal, Vertical}
+use Rattle.tx_node.specs.declared.plain.Plain.{Plain}
+use Rattle.tx_node.specs.declared.plain.Plain.TheVariants.{Kern, Glue, Penalty, Character}
 use Rattle.tx_node.specs.declared.plain.Shared.{Shared}
-use Rattle.tx_node.specs.declared.plain.Shared.TheVariants.{Rule, Leaders, Special}
+use Rattle.tx_node.specs.declared.plain.Shared.TheVariants.{Rule, Leaders, Special, Ligature}
 use Rattle.tx_node.specs.Items.{Item, plain, shared, boxed, Items, none, more, PackedBox, items_of}
 use Rattle.tx_node.specs.Setting.{Reach, begun}
+use Rattle.tx_tfm.specs.declared.named.NamedFont.{NamedFont}
+use Rattle.tx_tfm.specs.declared.state.FontState.{FontState}
+use Rattle.tx_tfm.specs.Fonts.{font_at}
 use Rattle.tx_ship.specs.declared.places.Point.{Point}
 use Rattle.tx_ship.specs.declared.places.Frame.{Frame}
 use Rattle.tx_ship.specs.declared.places.Span.{Span}
 use Rattle.tx_ship.specs.declared.places.Sides.{Sides}
 use Rattle.tx_ship.specs.declared.places.Cursor.{Cursor}
 use Rattle.tx_ship.specs.declared.places.CornerRule.{CornerRule}
+use Rattle.tx_ship.specs.Characters.{definition_for, font_commands, set_code}
 use Rattle.tx_ship.specs.Standing.{next, span_of, size_of, reference, upright, shifted, rule_sides, leaders_sides, frame_at, page_frame}
 
 -- the fewest bytes that hold a movement with its sign
@@ -105,10 +113,17 @@ abbrev pub is_entered : Items → Bool
 is_entered none = false
 is_entered (more item rest) = true
 
--- a box with its reference point there, where `inside` are the commands of its list, and the cursor behind it
-abbrev pub box_item : Direction → Cursor → Cursor → Bool → List ℕ → List ℕ × Cursor
-box_item direction cursor at entered inside =
-    if entered then (approach direction cursor at ++ framed inside, approached direction cursor at) else ([], cursor)
+-- what is written of a page is read with a cursor and the fonts that the reader knows
+pub record Pen : Type 0 where
+  pub at : Cursor
+  pub fonts : ReaderFonts
+
+abbrev pub pen_at : ReaderFonts → Cursor → Pen
+pen_at fonts at = record { at = at; fonts = fonts }
+
+-- commands that leave the fonts alone
+abbrev pub keeping_fonts : ReaderFonts → List ℕ × Cursor → List ℕ × Pen
+keeping_fonts fonts made = (made.0, pen_at fonts made.1)
 
 -- a rule of a list
 abbrev pub rule_commands : Frame → Span → Cursor → Sides → List ℕ × Cursor
@@ -119,38 +134,83 @@ rule_commands frame span cursor sides =
 abbrev pub special_commands : Frame → Span → Cursor → List ℕ → List ℕ × Cursor
 special_commands frame span cursor text = special_item cursor (cursor_at (reference frame.head.direction frame (upright span.from (pos 0)))) text
 
--- an item without a list of its own; leaders are a rule where their glue is longer than nothing
-abbrev pub shared_commands : Frame → Span → Cursor → Shared → List ℕ × Cursor
-shared_commands frame span cursor (Rule r) = rule_commands frame span cursor (rule_sides frame.head.direction frame.head r)
-shared_commands frame span cursor (Leaders l) =
+-- A character at a point: the way there, its font where another one is chosen, and its code; the reader moves on by its width. A
+-- character without a font, of which there is none in a box that may be shipped, has no commands.
+abbrev pub behind_character : Cursor → CharacterItem → Cursor
+behind_character at c = record at { right = at.right +ℤ c.width }
+
+unfoldable pub character_item : Option NamedFont → Pen → Cursor → CharacterItem → List ℕ × Pen
+character_item None pen at c = ([], pen)
+character_item (Some f) pen at c = (
+  way pen.at at ++ (font_commands (definition_for c.font f) pen.fonts).0 ++ set_code c.code,
+  record { at = behind_character at c; fonts = (font_commands (definition_for c.font f) pen.fonts).1 },
+)
+
+-- a character of a list
+abbrev pub character_commands : List FontState → Frame → Span → Pen → CharacterItem → List ℕ × Pen
+character_commands fonts frame span pen c =
+    character_item (font_at fonts c.font) pen (cursor_at (reference frame.head.direction frame (upright span.from c.height))) c
+
+-- a small item
+abbrev pub plain_commands : List FontState → Frame → Span → Pen → Plain → List ℕ × Pen
+plain_commands fonts frame span pen (Kern kind size) = ([], pen)
+plain_commands fonts frame span pen (Glue g) = ([], pen)
+plain_commands fonts frame span pen (Penalty n) = ([], pen)
+plain_commands fonts frame span pen (Character c) = character_commands fonts frame span pen c
+
+-- a larger one without a list of its own; leaders are a rule where their glue is longer than nothing
+abbrev pub shared_commands : List FontState → Frame → Span → Pen → Shared → List ℕ × Pen
+shared_commands fonts frame span pen (Rule r) = keeping_fonts pen.fonts (rule_commands frame span pen.at (rule_sides frame.head.direction frame.head r))
+shared_commands fonts frame span pen (Leaders l) =
     if is_positive (size_of span)
-    then rule_commands frame span cursor (leaders_sides frame.head.direction frame.head l.rule (size_of span))
-    else ([], cursor)
-shared_commands frame span cursor (Special text) = special_commands frame span cursor text
+    then keeping_fonts pen.fonts (rule_commands frame span pen.at (leaders_sides frame.head.direction frame.head l.rule (size_of span)))
+    else ([], pen)
+shared_commands fonts frame span pen (Special text) = keeping_fonts pen.fonts (special_commands frame span pen.at text)
+shared_commands fonts frame span pen (Ligature l) = character_commands fonts frame span pen l.character
 
--- the commands of a list from a cursor on, and those of an item with the cursor behind it
+-- push and pop round the commands of a list
+abbrev pub framed_all : List ℕ × Pen → List ℕ × Pen
+framed_all made = (framed made.0, made.1)
+
+-- where the commands of the list of a box begin, which has its reference point there
+abbrev pub entering : Direction → Pen → Cursor → Pen
+entering direction pen at = record pen { at = approached direction pen.at at }
+
+-- a box with its reference point there, where `inside` are the commands of its list and the pen behind them; behind the pop the
+-- reader is where it was before the push, but knows the fonts
+abbrev pub box_item : Direction → Pen → Cursor → Bool → List ℕ × Pen → List ℕ × Pen
+box_item direction pen at entered inside =
+    if entered
+    then (approach direction pen.at at ++ framed inside.0, record { at = approached direction pen.at at; fonts = inside.1.fonts })
+    else ([], pen)
+
+-- one thing after the other
+abbrev pub followed_by : List ℕ → List ℕ × Pen → List ℕ × Pen
+followed_by bytes others = (bytes ++ others.0, others.1)
+
+-- the commands of a list and of an item, each with the pen behind them
 unfoldable mutual
-  pub list_commands : Frame → Reach → Cursor → Items → List ℕ
-  list_commands frame reach cursor none = []
-  list_commands frame reach cursor (more item rest) =
-      (item_commands frame (span_of frame reach item) cursor item).0
-      ++ list_commands frame (next frame reach item) (item_commands frame (span_of frame reach item) cursor item).1 rest
+  pub list_commands : List FontState → Frame → Reach → Pen → Items → List ℕ × Pen
+  list_commands fonts frame reach pen none = ([], pen)
+  list_commands fonts frame reach pen (more item rest) =
+      followed_by (item_commands fonts frame (span_of frame reach item) pen item).0
+      (list_commands fonts frame (next frame reach item) (item_commands fonts frame (span_of frame reach item) pen item).1 rest)
 
-  pub item_commands : Frame → Span → Cursor → Item → List ℕ × Cursor
-  item_commands frame span cursor (plain p) = ([], cursor)
-  item_commands frame span cursor (shared s) = shared_commands frame span cursor s
-  item_commands frame span cursor (boxed shift head inner) =
+  pub item_commands : List FontState → Frame → Span → Pen → Item → List ℕ × Pen
+  item_commands fonts frame span pen (plain p) = plain_commands fonts frame span pen p
+  item_commands fonts frame span pen (shared s) = shared_commands fonts frame span pen s
+  item_commands fonts frame span pen (boxed shift head inner) =
       let at : Point = reference frame.head.direction frame (shifted span.from shift head) in
-      box_item frame.head.direction cursor (cursor_at at) (is_entered inner)
-      (list_commands (frame_at head at) begun (approached frame.head.direction cursor (cursor_at at)) inner)
+      box_item frame.head.direction pen (cursor_at at) (is_entered inner)
+      (list_commands fonts (frame_at head at) begun (entering frame.head.direction pen (cursor_at at)) inner)
 
 -- those of the list of a box with its reference point there, and of the box in a list of this direction
-abbrev pub inside : PackedBox → Point → Cursor → List ℕ
-inside b at cursor = list_commands (frame_at b.head at) begun cursor (items_of b.list)
+abbrev pub inside : List FontState → PackedBox → Point → Pen → List ℕ × Pen
+inside fonts b at pen = list_commands fonts (frame_at b.head at) begun pen (items_of b.list)
 
-abbrev pub box_commands : Direction → Cursor → Point → PackedBox → List ℕ × Cursor
-box_commands direction cursor at b =
-    box_item direction cursor (cursor_at at) (is_entered (items_of b.list)) (inside b at (approached direction cursor (cursor_at at)))
+abbrev pub box_commands : List FontState → Direction → Pen → Point → PackedBox → List ℕ × Pen
+box_commands fonts direction pen at b =
+    box_item direction pen (cursor_at at) (is_entered (items_of b.list)) (inside fonts b at (entering direction pen (cursor_at at)))
 
 -- how deep the boxes nest that TeX enters
 unfoldable mutual
@@ -163,10 +223,13 @@ unfoldable mutual
   item_level (shared s) = 0
   item_level (boxed shift head inner) = if is_entered inner then suc (level_of inner) else 0
 
--- the reader of a page begins at the left upper corner
+-- the reader of a page begins at the left upper corner, and knows the fonts of earlier pages
 abbrev pub page_cursor : Cursor
 page_cursor = record { right = pos 0; down = pos 0 }
 
--- the commands of a page
-abbrev pub body_of : PackedBox → ℤ → ℤ → List ℕ
-body_of b hoffset voffset = list_commands (page_frame b hoffset voffset) begun page_cursor (items_of b.list)
+abbrev pub page_pen : List ℕ → Pen
+page_pen known = record { at = page_cursor; fonts = (page_start known).fonts }
+
+-- the commands of a page, and the pen behind them
+abbrev pub written_of : List FontState → List ℕ → PackedBox → ℤ → ℤ → List ℕ × Pen
+written_of fonts known b hoffset voffset = list_commands fonts (page_frame b hoffset voffset) begun (page_pen known) (items_of b.list)

@@ -1,6 +1,7 @@
 -- Where the items of a box stand on a page (TeX: The Program, sections 619 to 637).
 use Rattle.std.specs.Prelude.{ℤ, pos, ◌+ℤ◌, ◌-ℤ◌}
 use Rattle.std.specs.Option.{unwrap_or}
+use Rattle.tx_node.specs.declared.character.Character.{Character as CharacterItem}
 use Rattle.tx_node.specs.declared.head.BoxHead.{BoxHead}
 use Rattle.tx_node.specs.declared.head.Direction.{Direction}
 use Rattle.tx_node.specs.declared.head.Direction.TheVariants.{Horizontal, Vertical}
@@ -63,6 +64,10 @@ rule_sides Vertical head r = record { width = unwrap_or r.width head.width; heig
 abbrev pub leaders_sides : Direction → BoxHead → RuleSides → ℤ → Sides
 leaders_sides Horizontal head r size = record { width = size; height = unwrap_or r.height head.height; depth = unwrap_or r.depth head.depth }
 leaders_sides Vertical head r size = record { width = unwrap_or r.width head.width; height = size; depth = pos 0 }
+
+-- those of a character
+abbrev pub character_sides : CharacterItem → Sides
+character_sides c = record { width = c.width; height = c.height; depth = c.depth }
 
 -- those of a box
 abbrev pub box_sides : BoxHead → Sides

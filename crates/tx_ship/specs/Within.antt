@@ -1,9 +1,12 @@
 -- What lies on a page: nothing does past 2^30-1 sp.
 use Rattle.std.specs.Prelude.{◌≡◌, ◌≢◌, Bool, true, false, not, ◌&&◌, ◌||◌, nat_le, ◌^◌, ℤ, pos, ◌+ℤ◌, ◌-ℤ◌, unsigned_abs, ◌≤◌, if◌then◌else◌}
 use Rattle.std.specs.Int.{is_positive}
+use Rattle.tx_node.specs.declared.character.Character.{Character as CharacterItem}
 use Rattle.tx_node.specs.declared.head.BoxHead.{BoxHead}
+use Rattle.tx_node.specs.declared.plain.Plain.{Plain}
+use Rattle.tx_node.specs.declared.plain.Plain.TheVariants.{Kern, Glue, Penalty, Character}
 use Rattle.tx_node.specs.declared.plain.Shared.{Shared}
-use Rattle.tx_node.specs.declared.plain.Shared.TheVariants.{Rule, Leaders, Special}
+use Rattle.tx_node.specs.declared.plain.Shared.TheVariants.{Rule, Leaders, Special, Ligature}
 use Rattle.tx_node.specs.Items.{Item, plain, shared, boxed, Items, none, more, PackedBox, items_of}
 use Rattle.tx_node.specs.Setting.{Reach, begun}
 use Rattle.tx_ship.specs.declared.error.ShipError.{ShipError}
@@ -15,7 +18,7 @@ use Rattle.tx_ship.specs.declared.places.Sides.{Sides}
 use Rattle.tx_ship.specs.declared.places.Cursor.{Cursor}
 use Rattle.tx_ship.specs.declared.places.CornerRule.{CornerRule}
 use Rattle.tx_ship.specs.Commands.{is_entered}
-use Rattle.tx_ship.specs.Standing.{next, span_of, size_of, reference, upright, shifted, rule_sides, leaders_sides, box_sides, frame_at, page_frame}
+use Rattle.tx_ship.specs.Standing.{next, span_of, size_of, reference, upright, shifted, rule_sides, leaders_sides, character_sides, box_sides, frame_at, page_frame}
 
 -- a place of a page
 abbrev pub IsOnPage : ℤ → Type 0
@@ -56,7 +59,19 @@ rule_lies frame span sides = edges_lie (reference frame.head.direction frame (up
 abbrev pub special_lies : Frame → Span → Bool
 special_lies frame span = point_lies (reference frame.head.direction frame (upright span.from (pos 0)))
 
--- an item without a list of its own; leaders are a rule where their glue is longer than nothing
+-- a character of a list does with its four edges and its reference point
+abbrev pub character_lies : Frame → Span → CharacterItem → Bool
+character_lies frame span c =
+    let at : Point = reference frame.head.direction frame (upright span.from c.height) in edges_lie at (character_sides c) && point_lies at
+
+-- a small item
+abbrev pub plain_lies : Frame → Span → Plain → Bool
+plain_lies frame span (Kern kind size) = true
+plain_lies frame span (Glue g) = true
+plain_lies frame span (Penalty n) = true
+plain_lies frame span (Character c) = character_lies frame span c
+
+-- a larger one without a list of its own; leaders are a rule where their glue is longer than nothing
 abbrev pub shared_lies : Frame → Span → Shared → Bool
 shared_lies frame span (Rule r) = rule_lies frame span (rule_sides frame.head.direction frame.head r)
 shared_lies frame span (Leaders l) =
@@ -64,15 +79,16 @@ shared_lies frame span (Leaders l) =
     then rule_lies frame span (leaders_sides frame.head.direction frame.head l.rule (size_of span))
     else true
 shared_lies frame span (Special text) = special_lies frame span
+shared_lies frame span (Ligature l) = character_lies frame span l.character
 
--- every rule and special of a list, every box in it that isn't empty, and what these hold
+-- every character, rule and special of a list, every box in it that isn't empty, and what these hold
 unfoldable mutual
   pub list_lies : Frame → Reach → Items → Bool
   list_lies frame reach none = true
   list_lies frame reach (more item rest) = item_lies frame (span_of frame reach item) item && list_lies frame (next frame reach item) rest
 
   pub item_lies : Frame → Span → Item → Bool
-  item_lies frame span (plain p) = true
+  item_lies frame span (plain p) = plain_lies frame span p
   item_lies frame span (shared s) = shared_lies frame span s
   item_lies frame span (boxed shift head inner) =
       let at : Point = reference frame.head.direction frame (shifted span.from shift head) in

@@ -78,7 +78,7 @@ pub fn move_down(body: &mut Vec<u8>, from: Cursor, to: Cursor) -> Result<(), All
 
 /// Appends the movements from one point of a page to another.
 #[tactic(auto, unfolding(crate::specs::Commands::way))]
-fn move_to(body: &mut Vec<u8>, from: Cursor, to: Cursor) -> Result<(), AllocError>
+pub fn move_to(body: &mut Vec<u8>, from: Cursor, to: Cursor) -> Result<(), AllocError>
     requires from { IsReader from }
     requires to { IsReader to }
     ensures { OnOk result (body.new.items ≡ body.old.items ++ spec.way from to) }

@@ -10,7 +10,7 @@ use thiserror::Error;
 pub enum ShipError {
     #[error("the page is too high, too deep or too wide")]
     SizeTooLarge,
-    #[error("a rule, a special or a box lies outside of the page")]
+    #[error("a character, a rule, a special or a box lies outside of the page")]
     OutsidePage,
     #[error("the body of the page has more than 200,000 bytes")]
     BodyTooLong,

@@ -6,15 +6,19 @@ ghost use Rattle.tx_node.specs.Setting.{IsSet, sums_fit, begun};
 ghost use Rattle.tx_ship.specs.Commands as spec;
 ghost use Rattle.tx_ship.specs.Standing.{frame_at as framed_at};
 ghost use Rattle.tx_ship.specs.Within as within;
+ghost use Rattle.tx_ship.specs.Written.{IsWritten};
 
 use crate::commands::{close, move_down, open};
 use crate::error::ShipError;
 use crate::frames::{behind, box_sides, frame_at, is_entered, place, reference};
+use crate::output::Output;
 use crate::places::{Cursor, Frame, Point, Reached, Span, Stand};
+use crate::plain::put_plain;
 use crate::shared::put_shared;
 use crate::within::{cursor_at, edges_lie, point_lies};
 use std::alloc::AllocError;
 use tx_node::{BoxNode, Direction, Node};
+use tx_tfm::Fonts;
 
 /// Goes to the baseline of a box in a list of this direction, and answers the cursor there.
 fn approach(
@@ -44,7 +48,8 @@ fn approach(
 /// Appends the commands of a list, from a cursor on. `OutsidePage` comes exactly where something of it lies outside.
 #[cycle(put)]
 pub fn put_list(
-    body: &mut Vec<u8>,
+    output: &mut Output,
+    fonts: &Fonts,
     list: &[Node],
     frame: Frame,
     start: Cursor,
@@ -55,7 +60,7 @@ pub fn put_list(
     requires on_page { within.IsReader start }
     ensures lies { OnOk result (within.list_lies frame begun (items_of (list_of list.now)) ≡ true) }
     ensures outside { IfErr result (λ e. within.IsOutside e (within.list_lies frame begun (items_of (list_of list.now)))) }
-    ensures commands { OnOk result (body.new.items ≡ body.old.items ++ spec.list_commands frame begun start (items_of (list_of list.now))) }
+    ensures written { OnOk result (IsWritten output.old output.new (spec.list_commands fonts.now frame begun (spec.pen_at output.old.fonts start) (items_of (list_of list.now)))) }
 {
     let mut cursor = start;
     let mut reached = Reached { natural: 0, sum: 0 };
@@ -63,7 +68,7 @@ pub fn put_list(
     for node in list {
         reached = behind(frame, reached, node);
         let to = place(frame, reached);
-        cursor = put_node(body, node, frame, Span { from, to }, cursor)?;
+        cursor = put_node(output, fonts, node, frame, Span { from, to }, cursor)?;
         from = to;
     }
     Ok(())
@@ -73,7 +78,8 @@ pub fn put_list(
 #[cycle(put)]
 #[tactic(auto, unfolding(crate::specs::Commands::list_commands, crate::specs::Within::list_lies))]
 fn put_node(
-    body: &mut Vec<u8>,
+    output: &mut Output,
+    fonts: &Fonts,
     node: &Node,
     frame: Frame,
     span: Span,
@@ -84,13 +90,13 @@ fn put_node(
     requires on_page { within.IsReader cursor }
     ensures lies { OnOk result (within.item_lies frame span (item_of node.now) ≡ true) }
     ensures outside { IfErr result (λ e. within.IsOutside e (within.item_lies frame span (item_of node.now))) }
-    ensures commands { OnOk result (body.new.items ≡ body.old.items ++ (spec.item_commands frame span cursor (item_of node.now)).0) }
-    ensures next { IfOk result (λ next. next ≡ (spec.item_commands frame span cursor (item_of node.now)).1) }
+    ensures written { OnOk result (IsWritten output.old output.new (spec.item_commands fonts.now frame span (spec.pen_at output.old.fonts cursor) (item_of node.now))) }
+    ensures next { IfOk result (λ next. next ≡ (spec.item_commands fonts.now frame span (spec.pen_at output.old.fonts cursor) (item_of node.now)).1.at) }
     ensures still { IfOk result within.IsReader }
 {
     match node {
-        Node::Plain(_) => Ok(cursor),
-        Node::Shared(item) => put_shared(body, item, frame, span, cursor),
+        Node::Plain(item) => put_plain(output, fonts, *item, frame, span, cursor),
+        Node::Shared(item) => put_shared(output, fonts, item, frame, span, cursor),
         Node::Box(shift, inner) => {
             let stand = Stand {
                 from: span.from,
@@ -98,7 +104,8 @@ fn put_node(
                 height: i128::from(inner.height()),
             };
             put_box(
-                body,
+                output,
+                fonts,
                 inner,
                 frame.head.direction,
                 reference(frame, stand),
@@ -111,7 +118,8 @@ fn put_node(
 /// Appends the commands of a box in a list of this direction, with a push and a pop round those of its list.
 #[cycle(put)]
 fn put_box(
-    body: &mut Vec<u8>,
+    output: &mut Output,
+    fonts: &Fonts,
     inner: &BoxNode,
     direction: Direction,
     at: Point,
@@ -121,8 +129,8 @@ fn put_box(
     requires on_page { within.IsReader cursor }
     ensures lies { OnOk result (within.box_lies at inner.now.head (items_of inner.now.list) (within.inside_lies inner.now at) ≡ true) }
     ensures outside { IfErr result (λ e. within.IsOutside e (within.box_lies at inner.now.head (items_of inner.now.list) (within.inside_lies inner.now at))) }
-    ensures commands { OnOk result (body.new.items ≡ body.old.items ++ (spec.box_commands direction cursor at inner.now).0) }
-    ensures next { IfOk result (λ next. next ≡ (spec.box_commands direction cursor at inner.now).1) }
+    ensures written { OnOk result (IsWritten output.old output.new (spec.box_commands fonts.now direction (spec.pen_at output.old.fonts cursor) at inner.now)) }
+    ensures next { IfOk result (λ next. next ≡ (spec.box_commands fonts.now direction (spec.pen_at output.old.fonts cursor) at inner.now).1.at) }
     ensures still { IfOk result within.IsReader }
 {
     if !is_entered(inner) {
@@ -131,15 +139,16 @@ fn put_box(
     if !box_lies(inner, at) {
         return Err(ShipError::OutsidePage);
     }
-    let reader = approach(body, direction, cursor, cursor_at(at))?;
-    put_framed(body, inner, at, reader)?;
+    let reader = approach(&mut output.body, direction, cursor, cursor_at(at))?;
+    put_framed(output, fonts, inner, at, reader)?;
     Ok(reader)
 }
 
 /// Appends the commands of the list of a box, and a push and a pop round them.
 #[cycle(put)]
 fn put_framed(
-    body: &mut Vec<u8>,
+    output: &mut Output,
+    fonts: &Fonts,
     inner: &BoxNode,
     at: Point,
     cursor: Cursor,
@@ -148,18 +157,19 @@ fn put_framed(
     requires on_page { within.IsReader cursor }
     ensures lies { OnOk result (within.inside_lies inner.now at ≡ true) }
     ensures outside { IfErr result (λ e. within.IsOutside e (within.inside_lies inner.now at)) }
-    ensures commands { OnOk result (body.new.items ≡ body.old.items ++ spec.framed (spec.inside inner.now at cursor)) }
+    ensures written { OnOk result (IsWritten output.old output.new (spec.framed_all (spec.inside fonts.now inner.now at (spec.pen_at output.old.fonts cursor)))) }
 {
-    let start = open(body)?;
-    put_inside(body, inner, at, cursor)?;
-    close(body, start)?;
+    let start = open(&mut output.body)?;
+    put_inside(output, fonts, inner, at, cursor)?;
+    close(&mut output.body, start)?;
     Ok(())
 }
 
 /// Appends the commands of the list of a box.
 #[cycle(put)]
 pub fn put_inside(
-    body: &mut Vec<u8>,
+    output: &mut Output,
+    fonts: &Fonts,
     inner: &BoxNode,
     at: Point,
     cursor: Cursor,
@@ -168,9 +178,9 @@ pub fn put_inside(
     requires on_page { within.IsReader cursor }
     ensures lies { OnOk result (within.inside_lies inner.now at ≡ true) }
     ensures outside { IfErr result (λ e. within.IsOutside e (within.inside_lies inner.now at)) }
-    ensures commands { OnOk result (body.new.items ≡ body.old.items ++ spec.inside inner.now at cursor) }
+    ensures written { OnOk result (IsWritten output.old output.new (spec.inside fonts.now inner.now at (spec.pen_at output.old.fonts cursor))) }
 {
-    put_list(body, inner.list(), frame_at(inner, at), cursor)
+    put_list(output, fonts, inner.list(), frame_at(inner, at), cursor)
 }
 
 /// Whether the edges of a box and its reference point, which is there, lie on the page.

@@ -1,8 +1,11 @@
 //! What shipping takes from TeX's parameters and registers.
+use tx_bytes::Bytes;
 
 /// The parameters of a \shipout.
-#[derive(Clone, Copy)]
+#[derive(Drop)]
 pub struct ShipParams {
+    /// The numbers of the fonts that earlier pages define, as the DVI file has them: 0 is that of the font loaded first.
+    pub defined: Bytes,
     /// \count0 to \count9.
     pub counts: [i32; 10],
     /// \hoffset and \voffset, in sp.

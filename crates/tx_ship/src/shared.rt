@@ -3,14 +3,18 @@ ghost use Rattle.std.specs.Prelude.{◌≡◌, ◌++◌, true, IfOk, IfErr, OnOk
 ghost use Rattle.tx_ship.specs.Commands as spec;
 ghost use Rattle.tx_ship.specs.Standing.{reference as reference_of, upright, rule_sides as sides_of_rule};
 ghost use Rattle.tx_ship.specs.Within as within;
+ghost use Rattle.tx_ship.specs.Written.{IsWritten};
 
+use crate::characters::put_character;
 use crate::commands::{put_rule, put_special};
 use crate::error::ShipError;
 use crate::frames::{leaders_sides, reference, rule_sides, size_of};
+use crate::output::Output;
 use crate::places::{CornerRule, Cursor, Frame, Point, Sides, Span, Stand};
 use crate::within::{cursor_at, edges_lie, point_lies};
 use tx_bytes::Bytes;
 use tx_node::Shared;
+use tx_tfm::Fonts;
 
 /// A rule by its lower left corner, which lies on the page with all its edges.
 fn cornered(at: Point, sides: Sides) -> CornerRule
@@ -89,10 +93,11 @@ fn put_special_in(
     Ok(to)
 }
 
-/// Appends the commands of an item without a list of its own, and answers the cursor behind it. Leaders are a rule where
+/// Appends the commands of a larger item without a list of its own, and answers the cursor behind it. Leaders are a rule where
 /// their glue is longer than nothing.
 pub fn put_shared(
-    body: &mut Vec<u8>,
+    output: &mut Output,
+    fonts: &Fonts,
     item: &Shared,
     frame: Frame,
     span: Span,
@@ -103,22 +108,26 @@ pub fn put_shared(
     requires on_page { within.IsReader cursor }
     ensures lies { OnOk result (within.shared_lies frame span item.now ≡ true) }
     ensures outside { IfErr result (λ e. within.IsOutside e (within.shared_lies frame span item.now)) }
-    ensures commands { OnOk result (body.new.items ≡ body.old.items ++ (spec.shared_commands frame span cursor item.now).0) }
-    ensures next { IfOk result (λ next. next ≡ (spec.shared_commands frame span cursor item.now).1) }
+    ensures written { OnOk result (IsWritten output.old output.new (spec.shared_commands fonts.now frame span (spec.pen_at output.old.fonts cursor) item.now)) }
+    ensures next { IfOk result (λ next. next ≡ (spec.shared_commands fonts.now frame span (spec.pen_at output.old.fonts cursor) item.now).1.at) }
     ensures still { IfOk result within.IsReader }
 {
     match item {
         Shared::Rule(rule) => {
-            put_rule_in(body, frame, span, cursor, rule_sides(frame.head, *rule))
+            let sides = rule_sides(frame.head, *rule);
+            put_rule_in(&mut output.body, frame, span, cursor, sides)
         }
         Shared::Leaders(leaders) => {
             if 0 < size_of(span) {
                 let sides = leaders_sides(frame.head, leaders.rule, span);
-                put_rule_in(body, frame, span, cursor, sides)
+                put_rule_in(&mut output.body, frame, span, cursor, sides)
             } else {
                 Ok(cursor)
             }
         }
-        Shared::Special(text) => put_special_in(body, frame, span, cursor, text),
+        Shared::Special(text) => put_special_in(&mut output.body, frame, span, cursor, text),
+        Shared::Ligature(ligature) => {
+            put_character(output, fonts, ligature.character, frame, span, cursor)
+        }
     }
 }

@@ -1,9 +1,13 @@
 //! A box as a page.
-ghost use Rattle.std.specs.Prelude.{◌≡◌, ◌≢◌, ◌≤◌, ◌^◌, ◌+ℤ◌, pos, true, unsigned_abs, length, is_some, IfSome, IfOk, IfErr, OnOk, Ok, Err, Some};
+ghost use Rattle.std.specs.Prelude.{◌≡◌, ◌≢◌, ◌≤◌, ◌^◌, ◌+ℤ◌, pos, true, unsigned_abs, [], length, is_some, IfSome, IfOk, IfErr, OnOk, Ok, Err, Some};
 ghost use Rattle.std.specs.Int.{int_max};
+ghost use Rattle.std.specs.List.{All};
 ghost use Rattle.tx_dvi.specs.Meaning.{meaning};
 ghost use Rattle.tx_ship.specs.declared.error.ShipError.TheVariants.{OutOfMemory};
-ghost use Rattle.tx_ship.specs.Commands.{body_of};
+ghost use Rattle.tx_dvi.specs.Page.{IsNamed};
+ghost use Rattle.tx_node.specs.Items.{items_of};
+ghost use Rattle.tx_ship.specs.Characters.{AreOfFonts, widths_of};
+ghost use Rattle.tx_ship.specs.Commands.{page_pen, written_of};
 ghost use Rattle.tx_ship.specs.Standing.{page_frame};
 ghost use Rattle.tx_ship.specs.Within.{page_lies, IsNear, IsOutside};
 ghost use Rattle.tx_ship.specs.Placing.{placed};
@@ -13,12 +17,15 @@ use crate::error::ShipError;
 use crate::frames::is_entered;
 use crate::level::list_level;
 use crate::list::{box_lies, put_inside};
+use crate::output::{Output, PageFonts};
 use crate::params::ShipParams;
 use crate::places::{Cursor, Point};
 use std::alloc::{AllocError, Global};
 use tx_bytes::Bytes;
-use tx_dvi::{DateParameters, PageBody, PageParts};
+use tx_dvi::{DateParameters, FontDefinition, PageBody, PageParts};
+use tx_list::Items;
 use tx_node::BoxNode;
+use tx_tfm::Fonts;
 
 /// The greatest size of a page, in sp.
 const GREATEST: i128 = 1073741823;
@@ -92,22 +99,41 @@ fn page_point(node: &BoxNode, params: &ShipParams) -> Point
     }
 }
 
-/// The commands of a page. `OutsidePage` comes exactly where something that the box holds lies outside, or the box itself.
-fn page_commands(alloc: Global, node: &BoxNode, params: &ShipParams) -> Result<Vec<u8>, ShipError>
+/// What a page begins with. Its only error is want of memory.
+fn page_output(alloc: Global, params: &ShipParams) -> Result<Output, AllocError>
+    ensures body { IfOk result (λ output. output.body.items ≡ []) }
+    ensures fonts { IfOk result (λ output. output.fonts ≡ (page_pen params.now.defined).fonts) }
+{
+    Ok(Output {
+        body: Vec::new(alloc),
+        fonts: PageFonts::new(alloc, &params.defined)?,
+    })
+}
+
+/// The commands of a page, and the fonts behind them. `OutsidePage` comes exactly where something that the box holds lies
+/// outside, or the box itself.
+fn page_commands(
+    alloc: Global,
+    node: &BoxNode,
+    fonts: &Fonts,
+    params: &ShipParams,
+) -> Result<Output, ShipError>
     ensures lies { OnOk result (page_lies node.now params.now.hoffset params.now.voffset ≡ true) }
     ensures outside { IfErr result (λ e. IsOutside e (page_lies node.now params.now.hoffset params.now.voffset)) }
-    ensures commands { IfOk result (λ body. body.items ≡ body_of node.now params.now.hoffset params.now.voffset) }
+    ensures commands { IfOk result (λ output. output.body.items ≡ (written_of fonts.now params.now.defined node.now params.now.hoffset params.now.voffset).0) }
+    ensures fonts { IfOk result (λ output. output.fonts ≡ (written_of fonts.now params.now.defined node.now params.now.hoffset params.now.voffset).1.fonts) }
 {
-    let mut body = Vec::new(alloc);
+    let mut output = page_output(alloc, params)?;
     if !is_entered(node) {
-        return Ok(body);
+        return Ok(output);
     }
     let at = page_point(node, params);
     if !box_lies(node, at) {
         return Err(ShipError::OutsidePage);
     }
-    put_inside(&mut body, node, at, Cursor { right: 0, down: 0 })?;
-    Ok(body)
+    let start = Cursor { right: 0, down: 0 };
+    put_inside(&mut output, fonts, node, at, start)?;
+    Ok(output)
 }
 
 /// The parameters of TeX that are a date.
@@ -133,13 +159,20 @@ fn mag_of(params: &ShipParams) -> u16
     mag as u16
 }
 
-/// The page with these sizes and commands.
-fn page_with(node: &BoxNode, params: &ShipParams, sizes: PageSizes, commands: Bytes) -> PageParts
+/// The page with these sizes, commands and fonts.
+fn page_with(
+    node: &BoxNode,
+    params: &ShipParams,
+    sizes: PageSizes,
+    commands: Bytes,
+    fonts: Items<FontDefinition>,
+) -> PageParts
     requires mag { spec.IsMag params.now.mag }
     requires height { sizes.height ≡ int_max (pos 0) (spec.page_height node.now params.now) }
     requires width { sizes.width ≡ int_max (pos 0) (spec.page_width node.now params.now) }
     requires short { length commands ≤ 200000 }
-    ensures { result ≡ spec.page_with node.now params.now commands }
+    requires named { All IsNamed fonts }
+    ensures { result ≡ spec.page_made node.now params.now commands fonts }
 {
     let most = node.nesting();
     let nesting = list_level(node.list());
@@ -147,6 +180,7 @@ fn page_with(node: &BoxNode, params: &ShipParams, sizes: PageSizes, commands: By
     prove!(within);
     PageParts {
         body: commands,
+        fonts,
         counts: params.counts,
         height: sizes.height,
         width: sizes.width,
@@ -157,22 +191,31 @@ fn page_with(node: &BoxNode, params: &ShipParams, sizes: PageSizes, commands: By
 }
 
 /// The body of the page on which a box is shipped. `SizeTooLarge` comes exactly where its height or depth, its height plus
-/// its depth plus \voffset or its width plus \hoffset is past 2^30-1; else `OutsidePage` exactly where a rule, a special or a
-/// box with a list lies, in whole or part, past 2^30-1 to a side; else `BodyTooLong` exactly where the body has more than
-/// 200,000 bytes. The body's commands mean the rules and specials of the box, at their places.
-pub fn body(alloc: Global, node: &BoxNode, params: &ShipParams) -> Result<PageBody, ShipError>
+/// its depth plus \voffset or its width plus \hoffset is past 2^30-1; else `OutsidePage` exactly where a character, a rule, a
+/// special or a box with a list lies, in whole or part, past 2^30-1 to a side; else `BodyTooLong` exactly where the body has
+/// more than 200,000 bytes. Where each character is in its font, which gives it its sizes, the body's commands mean the
+/// characters, rules and specials of the box, at their places, and the definitions of its fonts that no earlier page has.
+pub fn body(
+    alloc: Global,
+    node: &BoxNode,
+    fonts: &Fonts,
+    params: &ShipParams,
+) -> Result<PageBody, ShipError>
     requires { spec.IsMag params.now.mag }
-    ensures page { IfOk result (λ page. spec.page_of node.now params.now ≡ Ok page) }
-    ensures error { IfErr result (λ e. e ≢ OutOfMemory → spec.page_of node.now params.now ≡ Err e) }
-    ensures meaning { IfOk result (λ page. meaning page.body ≡ Some (placed node.now params.now.hoffset params.now.voffset)) }
+    ensures page { IfOk result (λ page. spec.page_of fonts.now node.now params.now ≡ Ok page) }
+    ensures error { IfErr result (λ e. e ≢ OutOfMemory → spec.page_of fonts.now node.now params.now ≡ Err e) }
+    ensures meaning { AreOfFonts fonts.now (items_of node.now.list) → IfOk result (λ page. meaning (widths_of fonts.now) params.now.defined page.body
+        ≡ Some (record { placed = placed node.now params.now.hoffset params.now.voffset; fonts = page.fonts })) }
 {
     let Some(sizes) = page_sizes(node, params) else {
         return Err(ShipError::SizeTooLarge);
     };
-    let commands = Bytes::from_vec(page_commands(alloc, node, params)?);
+    fonts.are_fonts();
+    let Output { body, fonts: known } = page_commands(alloc, node, fonts, params)?;
+    let commands = Bytes::from_vec(body);
     if commands.len() > MAX_BODY {
         return Err(ShipError::BodyTooLong);
     }
-    let parts = page_with(node, params, sizes, commands);
+    let parts = page_with(node, params, sizes, commands, known.into_defined());
     Ok(PageBody::new(alloc, parts)?)
 }

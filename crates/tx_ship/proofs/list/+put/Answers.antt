@@ -1,15 +1,16 @@
-use Rattle.std.proofs.Common.{◌≡◌, ℕ, ◌<◌, ◌++◌, pos, ◌∙◌, sym, ap, arith, subst, IfErr, to_z, of_z}
+use Rattle.std.proofs.Common.{◌≡◌, ℕ, ◌<◌, pos, ◌∙◌, sym, ap, arith, subst, IfErr, to_z, of_z}
 use Rattle.std.specs.Int.{w128}
 use Rattle.std.proofs.lemmas.Int.{ints}
 use Rattle.tx_node.specs.Items.{PackedBox, items_of}
 use Rattle.tx_node.specs.Nodes.{item_of, list_of}
 use Rattle.tx_node.specs.Setting.{begun, sums_fit}
 use Rattle.std.proofs.Common.{drop, ◌+◌}
-use Rattle.tx_ship.specs.Commands.{list_commands, item_commands}
+use Rattle.tx_ship.specs.Written.{IsWritten}
+use Rattle.tx_ship.specs.Commands.{pen_at, list_commands, item_commands}
 use Rattle.tx_ship.specs.Standing.{reach_of, place, next, reference}
 use Rattle.tx_ship.specs.Within.{IsOutside, box_lies, inside_lies, list_lies, item_lies}
 use Rattle.tx_node.proofs.Measures.{node_measure, list_measure, to-item, to-list}
-use Rattle.tx_ship.proofs.Steps.{near-box, shifted-is, span-is, box-item-lies, lies-on, lies-not, lies-end, sums-on, put-on, put-end, outside-on, on-err}
+use Rattle.tx_ship.proofs.Steps.{near-box, shifted-is, span-is, box-item-lies, lies-on, lies-not, lies-end, sums-on, Joins, all_of, put-on, put-end, outside-on, on-err}
 use Rattle.tx_ship.proofs.list.+put.Goals as goal
 
 pub put_inside-put_list-requires : goal.put_inside-put_list-requires
@@ -71,16 +72,18 @@ put_list-loop-node-preserved t c =
       lies = ap (λ r. list_lies c.args.frame r rest) next_is
           ∙ lies-on c.args.list.now c.loop-node.node-index c.args.frame reach c.loop-node-test.true c.node-item.is c.loop-node.invariant.lies
           (ap (λ s. item_lies c.args.frame s item) (sym span) ∙ c.in_ok-cursor.ensures.lies);
-      commands = put-on c.args.list.now c.loop-node.node-index c.args.frame reach c.loop-node-test.true c.node-item.is c.loop-node.cursor c.in_ok-cursor.cursor c.loop-node.body.items
-          c.loop-node.invariant.commands (c.in_ok-cursor.ensures.commands ∙ (λ i. c.loop-node.body.items ++ (item_commands c.args.frame (span i) c.loop-node.cursor item).0))
-          (c.in_ok-cursor.ensures.next ∙ (λ i. (item_commands c.args.frame (span i) c.loop-node.cursor item).1))
-          ∙ ap (λ r. c.put_node.new.body.items ++ list_commands c.args.frame r c.in_ok-cursor.cursor rest) (sym next_is);
+      commands = subst (λ r. Joins c.put_node.new.output (all_of c.args.output.now (list_commands c.args.fonts.now c.args.frame begun (pen_at c.args.output.now.fonts c.args.start) (items_of (list_of c.args.list.now))))
+          (list_commands c.args.fonts.now c.args.frame r (pen_at c.put_node.new.output.fonts c.in_ok-cursor.cursor) rest)) (sym next_is)
+          (put-on c.args.list.now c.loop-node.node-index c.args.frame reach c.loop-node-test.true c.node-item.is c.args.fonts.now c.loop-node.cursor c.in_ok-cursor.cursor c.loop-node.output c.put_node.new.output
+          c.loop-node.invariant.commands
+          (subst (λ s. IsWritten c.loop-node.output c.put_node.new.output (item_commands c.args.fonts.now c.args.frame s (pen_at c.loop-node.output.fonts c.loop-node.cursor) item)) span c.in_ok-cursor.ensures.written)
+          (c.in_ok-cursor.ensures.next ∙ (λ i. (item_commands c.args.fonts.now c.args.frame (span i) (pen_at c.loop-node.output.fonts c.loop-node.cursor) item).1.at)));
     }
 
 pub put_list-returns-clause-lies : goal.put_list-returns-clause-lies
 put_list-returns-clause-lies t c =
     lies-end c.args.list.now c.loop-node.node-index c.args.frame (reach_of c.loop-node.reached) (omega (arith, c.loop-node-test.false)) c.loop-node.invariant.lies
 
-pub put_list-returns-clause-commands : goal.put_list-returns-clause-commands
-put_list-returns-clause-commands t c =
-    put-end c.args.list.now c.loop-node.node-index c.args.frame (reach_of c.loop-node.reached) c.loop-node.cursor c.loop-node.body.items (omega (arith, c.loop-node-test.false)) c.loop-node.invariant.commands
+pub put_list-returns-clause-written : goal.put_list-returns-clause-written
+put_list-returns-clause-written t c =
+    put-end c.args.fonts.now c.args.list.now c.loop-node.node-index c.args.frame (reach_of c.loop-node.reached) c.loop-node.cursor c.args.output.now c.loop-node.output (omega (arith, c.loop-node-test.false)) c.loop-node.invariant.commands

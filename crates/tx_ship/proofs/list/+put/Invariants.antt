@@ -1,11 +1,12 @@
-use Rattle.std.proofs.Common.{◌≡◌, ◌≤◌, ◌<◌, ◌*◌, ◌^◌, ◌++◌, true, drop, unsigned_abs}
+use Rattle.std.proofs.Common.{◌≡◌, ◌≤◌, ◌<◌, ◌*◌, ◌^◌, true, drop, unsigned_abs}
 use Rattle.tx_node.specs.Items.{items_of}
 use Rattle.tx_node.specs.Nodes.{list_of}
 use Rattle.tx_node.specs.Setting.{begun, sums_fit}
-use Rattle.tx_ship.specs.Commands.{list_commands}
+use Rattle.tx_ship.specs.Commands.{pen_at, list_commands}
 use Rattle.tx_ship.specs.Standing.{reach_of, place}
 use Rattle.tx_ship.specs.Within.{list_lies, IsReader}
 use Rattle.tx_node.proofs.Measures.{list_measure, node_measure, box_measure, framed_measure, inside_measure}
+use Rattle.tx_ship.proofs.Steps.{Joins, all_of}
 use Rattle.tx_ship.proofs.list.+put.Given as goal
 
 abbrev pub decreases-put_list : goal.decreases-put_list
@@ -32,6 +33,6 @@ invariant-put_list-loop-node l = record {
   near : unsigned_abs l.from ≤ 2 ^ 99;
   on_page : IsReader l.cursor;
   lies : list_lies l.frame (reach_of l.reached) (items_of (list_of (drop l.node-index l.list))) ≡ list_lies l.frame begun (items_of (list_of l.list));
-  commands : l.initial.body.items ++ list_commands l.frame begun l.fn.start (items_of (list_of l.list))
-      ≡ l.body.items ++ list_commands l.frame (reach_of l.reached) l.cursor (items_of (list_of (drop l.node-index l.list)));
+  commands : Joins l.output (all_of l.initial.output (list_commands l.fonts l.frame begun (pen_at l.initial.output.fonts l.fn.start) (items_of (list_of l.list))))
+      (list_commands l.fonts l.frame (reach_of l.reached) (pen_at l.output.fonts l.cursor) (items_of (list_of (drop l.node-index l.list))));
 }
