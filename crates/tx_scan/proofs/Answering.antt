@@ -160,6 +160,13 @@ passed-answer rest held most reading t count new (fed.Need kind) h never k = (k.
 passed-answer rest held most reading t count new (fed.Done value back) h never k = (rw k.0 h, rw k.0 k.1)
 passed-answer rest held most reading t count new (fed.Wrong error) h never k = k
 
+-- an answer where no token is held or given back
+pub passed-none : {S A : Type 0} (rest : S → List Item → Item → List Item → Reading A) (held : S → ℕ) (most : ℕ) (reading : List Item → Reading A) (t : Seen) (new : S) (answer : Fed A) → IsPassed rest held reading [] 0 new answer → IsAnswer rest held most reading t new answer
+passed-none rest held most reading t new (fed.More want) k = k
+passed-none rest held most reading t new (fed.Need kind) k = (k.0, rw k.1 (omega arith), rw k.1 k.2)
+passed-none rest held most reading t new (fed.Done value back) k = (rw k.0 (omega arith), rw k.0 k.1)
+passed-none rest held most reading t new (fed.Wrong error) k = k
+
 -- the answer to a token by what reads on alike
 pub same-answer : {S A : Type 0} (rest : S → List Item → Item → List Item → Reading A) (held : S → ℕ) (most : ℕ) (reading other : List Item → Reading A) (t : Seen) (new : S) (answer : Fed A) → ((more : List Item) → reading more ≡ other more) → IsAnswer rest held most other t new answer → IsAnswer rest held most reading t new answer
 same-answer rest held most reading other t new (fed.More want) same k = (same [] ∙ k.0, k.1, λ item more. same (item ∷ more) ∙ k.2 item more)

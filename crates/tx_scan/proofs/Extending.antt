@@ -7,22 +7,29 @@ use Rattle.tx_seen.specs.declared.seen.Seen.{Seen}
 use Rattle.tx_seen.specs.declared.meaning.Meaning.TheVariants as meaning
 use Rattle.tx_seen.specs.declared.place.Place.{Place}
 use Rattle.tx_seen.specs.declared.fed.Want.{Want}
-use Rattle.tx_seen.specs.declared.fed.Value.TheVariants.{Int, Dimen, Glue, Muglue, Magnification, Flag, Absent}
-use Rattle.tx_seen.specs.Seen.{is_undefined}
+use Rattle.tx_seen.specs.declared.place.FontName.{FontName}
+use Rattle.tx_seen.specs.declared.place.FontName.TheVariants.{Number}
+use Rattle.tx_seen.specs.declared.fed.Value.TheVariants.{Int, Dimen, Glue, Muglue, Magnification, Flag, Absent, OutOfRange}
+use Rattle.tx_seen.specs.Seen.{font_name, is_space, is_undefined}
 use Rattle.tx_seen.specs.declared.item.Item.{Item}
 use Rattle.tx_seen.specs.declared.item.Item.TheVariants.{Took, Gave}
 use Rattle.tx_seen.specs.Readings.{Reading, More, Need, Done, Wrong, next, ReadsOn}
 use Rattle.tx_scan.specs.declared.scans.Radix.{Radix}
 use Rattle.tx_scan.specs.declared.scans.Radix.TheVariants.{Octal, Decimal, Hexadecimal}
 use Rattle.tx_prim.specs.declared.family.Numbered.{Numbered}
+use Rattle.tx_scan.specs.declared.scans.Counted.{Counted}
+use Rattle.tx_scan.specs.declared.scans.Counted.TheVariants as counts
+use Rattle.tx_scan.specs.declared.scans.FontSought.{FontSought}
+use Rattle.tx_scan.specs.declared.scans.FontSought.TheVariants as sought
 use Rattle.tx_scan.specs.declared.scans.Outer.{Outer}
 use Rattle.tx_scan.specs.declared.scans.Beginning.{Beginning}
 use Rattle.tx_scan.specs.declared.scans.Beginning.TheVariants as begin
 use Rattle.tx_seen.specs.Places.{place_of}
 use Rattle.tx_scan.specs.Beginnings.{base, digit, beginning}
-use Rattle.tx_scan.specs.Integers.{Ended, ended_by, space_after, code_named, character_code, digits, first_digit, in_range, is_in_range, given, quantity, byte_of, numbered, with_sign, whole, signed_constant, begun, signs, integer}
+use Rattle.tx_scan.specs.FontNames.{font, font_behind, parameter_number, place_of_font, stand_in, told}
+use Rattle.tx_scan.specs.Integers.{Ended, counted, of_font, whole_by, ended_by, space_after, code_named, character_code, digits, first_digit, in_range, is_in_range, quantity, byte_of, numbered, with_sign, whole, signed_constant, begun, signs, integer}
 use Rattle.tx_scan.specs.Laws.{HasEnded}
-use Rattle.tx_scan.proofs.ReadingOn.{on-code, on-digits, on-first}
+use Rattle.tx_scan.proofs.ReadingOn.{on-code, on-digits, on-first, on-font-integer, on-numbered, on-parameter, on-quantity}
 
 -- a character with its category
 abbrev seen_character : ℕ → Item
@@ -98,16 +105,26 @@ closes-first radix [] want h = closes-first-nil radix
 closes-first radix (Gave v ∷ rest) want h = absurd (cc)
 closes-first radix (Took t ∷ rest) want h = closes-first-by (digit radix t) radix t rest want refl h
 
--- values make a whole number an integer
-ends-byte : (outer : Outer) (outers : List Outer) (n : ℤ) (o : Option ℕ) → byte_of n ≡ o → ((m : ℤ) → (more : List Item) × HasEnded (whole outers m [] more)) → (more : List Item) × HasEnded (whole (outer ∷ outers) n [] more)
-ends-byte outer outers n None e later = ([], inr (rw e refl))
-ends-byte outer outers n (Some code) e later =
-    let found = later (with_sign outer.negative (pos 0)) in
+-- values and fonts make a whole number an integer
+abbrev null_font : Item
+null_font = Took (stand_in (Some (Number 0)))
+
+ends-byte : (kind : Numbered) (n : ℤ) (on : ℤ → List Item → List Item → Reading ℤ) (o : Option ℕ) → byte_of n ≡ o → ((m : ℤ) → (more : List Item) × HasEnded (on m [] more)) → (more : List Item) × HasEnded (counted font_behind (counts.Numbered kind) n [] more on)
+ends-byte kind n on None e later = ([], inr (rw e refl))
+ends-byte kind n on (Some code) e later =
+    let found = later (pos 0) in
     (Gave (Int (pos 0)) ∷ found.0, rw e found.1)
+
+ends-counted : (kind : Counted) (n : ℤ) (on : ℤ → List Item → List Item → Reading ℤ) → ((m : ℤ) → (more : List Item) × HasEnded (on m [] more)) → (more : List Item) × HasEnded (counted font_behind kind n [] more on)
+ends-counted (counts.Numbered kind) n on later = ends-byte kind n on (byte_of n) refl later
+ends-counted counts.FontDimen n on later =
+    let found = later (pos 0) in
+    (null_font ∷ Gave (Int (pos 0)) ∷ found.0, found.1)
 
 ends-whole : (outers : List Outer) (n : ℤ) → (more : List Item) × HasEnded (whole outers n [] more)
 ends-whole [] n = ([], inl (n, refl))
-ends-whole (outer ∷ outers) n = ends-byte outer outers n (byte_of n) refl (ends-whole outers)
+ends-whole (outer ∷ outers) n =
+    ends-counted outer.kind n (λ value behind rest. whole_by font_behind outers (with_sign outer.negative value) behind rest) (λ m. ends-whole outers (with_sign outer.negative m))
 
 whole-constant : (reading : List Item → Reading Ended) (outers : List Outer) (negative : Bool) (items : List Item) → ((more items : List Item) → ReadsOn more (reading items) (reading (items ++ more))) → Closes reading items → (more : List Item) × HasEnded (next (reading (items ++ more)) (signed_constant outers negative))
 whole-constant reading outers negative items on closed =
@@ -115,57 +132,114 @@ whole-constant reading outers negative items on closed =
     let stands : reading ((items ++ closed.0) ++ found.0) ≡ Done (record { number = closed.1; behind = [] }) found.0 = rw closed.2 at (on found.0 (items ++ closed.0)) in
     (closed.0 ++ found.0, rw (sym (append_assoc items closed.0 found.0), stands) found.1)
 
-in-range-more : (n : ℤ) (rest : List Item) (want : Want) (b : Bool) (k : ℤ → List Item → Reading ℤ) → is_in_range n ≡ b → (k n rest ≡ More want → ⊥) → next (in_range n rest) k ≡ More want → ⊥
-in-range-more n rest want true k e never h = never (rw e at h)
-in-range-more n rest want false k e never h = let wrong = rw e at h in cc
+-- a part that ends makes the whole end, if what follows does
+ends-next : {A : Type 0} (r : Reading A) (longer : List Item → Reading A) (k : A → List Item → Reading ℤ) (want : Want) → ((more : List Item) → ReadsOn more r (longer more)) → (r ≡ More want → (more : List Item) × HasEnded (next (longer more) k)) → ((a : A) (rest : List Item) → k a rest ≡ More want → (more : List Item) × HasEnded (k a (rest ++ more))) → next r k ≡ More want → (more : List Item) × HasEnded (next (longer more) k)
+ends-next (More other) longer k want on first later h = first (cc)
+ends-next (Need kind) longer k want on first later h = absurd (cc)
+ends-next (Done a rest) longer k want on first later h =
+    let found = later a rest h in
+    (found.0, rw (on found.0) found.1)
+ends-next (Wrong e) longer k want on first later h = absurd (cc)
 
-given-more : (item : Item) (rest : List Item) (want : Want) (k : ℤ → List Item → Reading ℤ) → ((n : ℤ) (rest : List Item) → k n rest ≡ More want → ⊥) → next (given item rest) k ≡ More want → ⊥
-given-more (Gave (Int n)) rest want k never h = in-range-more n rest want (is_in_range n) k refl (never n rest) h
-given-more (Gave (Dimen n)) rest want k never h = in-range-more n rest want (is_in_range n) k refl (never n rest) h
-given-more (Gave (Glue g)) rest want k never h = in-range-more g.width rest want (is_in_range g.width) k refl (never g.width rest) h
-given-more (Gave (Muglue g)) rest want k never h = cc
-given-more (Gave (Magnification n)) rest want k never h = cc
-given-more (Gave (Flag b)) rest want k never h = cc
-given-more (Gave Absent) rest want k never h = cc
-given-more (Took t) rest want k never h = cc
+in-range-never : (n : ℤ) (rest : List Item) (want : Want) (b : Bool) → is_in_range n ≡ b → in_range n rest ≡ More want → ⊥
+in-range-never n rest want true e h = let wrong = rw e at h in cc
+in-range-never n rest want false e h = let wrong = rw e at h in cc
 
-quantity-more : (place : Place) (items : List Item) (want : Want) (k : ℤ → List Item → Reading ℤ) → ((n : ℤ) (rest : List Item) → k n rest ≡ More want → ⊥) → next (quantity place items) k ≡ More want → ⊥
-quantity-more place [] want k never h = cc
-quantity-more place (item ∷ rest) want k never h = given-more item rest want k never h
+quantity-never : (place : Place) (items : List Item) (want : Want) → quantity place items ≡ More want → ⊥
+quantity-never place [] want h = cc
+quantity-never place (Gave (Int n) ∷ rest) want h = in-range-never n rest want (is_in_range n) refl h
+quantity-never place (Gave (Dimen n) ∷ rest) want h = in-range-never n rest want (is_in_range n) refl h
+quantity-never place (Gave (Glue g) ∷ rest) want h = in-range-never g.width rest want (is_in_range g.width) refl h
+quantity-never place (Gave (Muglue g) ∷ rest) want h = cc
+quantity-never place (Gave (Magnification n) ∷ rest) want h = cc
+quantity-never place (Gave (Flag b) ∷ rest) want h = cc
+quantity-never place (Gave Absent ∷ rest) want h = cc
+quantity-never place (Gave OutOfRange ∷ rest) want h = cc
+quantity-never place (Took t ∷ rest) want h = cc
 
-numbered-more : (kind : Numbered) (o : Option ℕ) (items : List Item) (want : Want) (k : ℤ → List Item → Reading ℤ) → ((n : ℤ) (rest : List Item) → k n rest ≡ More want → ⊥) → next (numbered kind o items) k ≡ More want → ⊥
-numbered-more kind None items want k never h = cc
-numbered-more kind (Some n) items want k never h = quantity-more (place_of kind n) items want k never h
+numbered-never : (kind : Numbered) (o : Option ℕ) (items : List Item) (want : Want) → numbered kind o items ≡ More want → ⊥
+numbered-never kind None items want h = cc
+numbered-never kind (Some n) items want h = quantity-never (place_of kind n) items want h
 
-pub whole-more : (outers : List Outer) (n : ℤ) (behind items : List Item) (want : Want) → whole outers n behind items ≡ More want → ⊥
-whole-more [] n behind items want h = cc
-whole-more (outer ∷ outers) n behind items want h =
-    numbered-more outer.kind (byte_of n) items want (λ value rest. whole outers (with_sign outer.negative value) behind rest)
-    (λ value rest. whole-more outers (with_sign outer.negative value) behind rest want) h
+-- where a font is needed, \nullfont is one
+told-never : (tells : Option FontName) (rest : List Item) (want : Want) → told tells rest ≡ More want → ⊥
+told-never None rest want h = cc
+told-never (Some f) rest want h = cc
 
-constant-more : (outers : List Outer) (negative : Bool) (r : Reading Ended) (want : Want) → next r (signed_constant outers negative) ≡ More want → r ≡ More want
-constant-more outers negative (More other) want h = cc
-constant-more outers negative (Need kind) want h = absurd (cc)
-constant-more outers negative (Done c rest) want h = absurd (whole-more outers (with_sign negative (pos c.number)) c.behind rest want h)
-constant-more outers negative (Wrong e) want h = absurd (cc)
+font-ends-by : (u s : Bool) (t : Seen) (rest : List Item) (want : Want) (more : List Item) → is_undefined t ≡ u → is_space t ≡ s → font (Took t ∷ rest) ≡ More want → (font rest ≡ More want → font (rest ++ null_font ∷ more) ≡ Done (Number 0) more) → font (Took t ∷ rest ++ null_font ∷ more) ≡ Done (Number 0) more
+font-ends-by true s t rest want more e f h later = let wrong = rw e at h in absurd (cc)
+font-ends-by false true t rest want more e f h later = rw (e, f) (later (rw (e, f) at h))
+font-ends-by false false t rest want more e f h later = absurd (told-never (font_name t) rest want (rw (e, f) at h))
+
+font-ends : (items : List Item) (want : Want) (more : List Item) → font items ≡ More want → font (items ++ null_font ∷ more) ≡ Done (Number 0) more
+font-ends [] want more h = refl
+font-ends (Gave v ∷ rest) want more h = absurd (cc)
+font-ends (Took t ∷ rest) want more h = font-ends-by (is_undefined t) (is_space t) t rest want more refl refl h (font-ends rest want more)
+
+of-font-more : (what : FontSought) (r : Reading FontName) (want : Want) → of_font what r ≡ More want → r ≡ More want
+of-font-more what (More other) want h = cc
+of-font-more what (Need kind) want h = absurd (cc)
+of-font-more what (Done f rest) want h = absurd (quantity-never (place_of_font what f) rest want h)
+of-font-more what (Wrong e) want h = absurd (cc)
+
+-- what is needed of a font ends
+ends-font : (what : FontSought) (k : ℤ → List Item → Reading ℤ) (items : List Item) (want : Want) → ((m : ℤ) → (more : List Item) × HasEnded (k m more)) → of_font what (font items) ≡ More want → (more : List Item) × HasEnded (next (of_font what (font (items ++ more))) k)
+ends-font what k items want later h =
+    let found = later (pos 0) in
+    let stands : font (items ++ null_font ∷ Gave (Int (pos 0)) ∷ found.0) ≡ Done (Number 0) (Gave (Int (pos 0)) ∷ found.0) = font-ends items want (Gave (Int (pos 0)) ∷ found.0) (of-font-more what (font items) want h) in
+    (null_font ∷ Gave (Int (pos 0)) ∷ found.0, rw stands found.1)
+
+more-counted : (kind : Counted) (n : ℤ) (behind items : List Item) (want : Want) (on : ℤ → List Item → List Item → Reading ℤ) → ((m : ℤ) → (more : List Item) × HasEnded (on m [] more)) → ((m : ℤ) (behind rest : List Item) → on m behind rest ≡ More want → (more : List Item) × HasEnded (on m behind (rest ++ more))) → counted font_behind kind n behind items on ≡ More want → (more : List Item) × HasEnded (counted font_behind kind n behind (items ++ more) on)
+more-counted (counts.Numbered kind) n behind items want on ends later h =
+    ends-next (numbered kind (byte_of n) items) (λ more. numbered kind (byte_of n) (items ++ more)) (λ value rest. on value behind rest) want
+    (λ more. on-numbered more kind (byte_of n) items)
+    (λ none. absurd (numbered-never kind (byte_of n) items want none))
+    (λ value rest. later value behind rest) h
+more-counted counts.FontDimen n behind items want on ends later h =
+    ends-next (of_font (sought.Dimen (parameter_number n)) (font_behind behind items)) (λ more. of_font (sought.Dimen (parameter_number n)) (font_behind behind (items ++ more))) (λ value rest. on value [] rest) want
+    (λ more. on-parameter more n behind items)
+    (λ none.
+    let found = ends-font (sought.Dimen (parameter_number n)) (λ value rest. on value [] rest) (behind ++ items) want ends none in
+    (found.0, rw (append_assoc behind items found.0) at found.1))
+    (λ value rest. later value [] rest) h
+
+more-whole : (outers : List Outer) (n : ℤ) (behind items : List Item) (want : Want) → whole outers n behind items ≡ More want → (more : List Item) × HasEnded (whole outers n behind (items ++ more))
+more-whole [] n behind items want h = absurd (cc)
+more-whole (outer ∷ outers) n behind items want h =
+    more-counted outer.kind n behind items want (λ value behind rest. whole_by font_behind outers (with_sign outer.negative value) behind rest)
+    (λ m. ends-whole outers (with_sign outer.negative m))
+    (λ m behind rest. more-whole outers (with_sign outer.negative m) behind rest want) h
+
+ends-constant : (reading : List Item → Reading Ended) (outers : List Outer) (negative : Bool) (items : List Item) (want : Want) → ((more items : List Item) → ReadsOn more (reading items) (reading (items ++ more))) → (reading items ≡ More want → Closes reading items) → next (reading items) (signed_constant outers negative) ≡ More want → (more : List Item) × HasEnded (next (reading (items ++ more)) (signed_constant outers negative))
+ends-constant reading outers negative items want on closes h =
+    ends-next (reading items) (λ more. reading (items ++ more)) (signed_constant outers negative) want
+    (λ more. on more items)
+    (λ more. whole-constant reading outers negative items on (closes more))
+    (λ c rest. more-whole outers (with_sign negative (pos c.number)) c.behind rest want) h
 
 ends-begun : (outers : List Outer) (negative : Bool) (rest : List Item) (want : Want) (b : Beginning) → begun outers negative (λ outers negative. signs outers negative rest) rest b ≡ More want → ((outers : List Outer) (negative : Bool) → signs outers negative rest ≡ More want → (more : List Item) × HasEnded (signs outers negative (rest ++ more))) → (more : List Item) × HasEnded (begun outers negative (λ outers negative. signs outers negative (rest ++ more)) (rest ++ more) b)
 ends-begun outers negative rest want begin.Plus h later = later outers negative h
 ends-begun outers negative rest want begin.Minus h later = later outers (not negative) h
 ends-begun outers negative rest want (begin.Digit d) h later =
-    whole-constant (digits Decimal d) outers negative rest (λ more items. on-digits more Decimal d items)
-    (closes-digits Decimal d rest want (constant-more outers negative (digits Decimal d rest) want h))
+    ends-constant (digits Decimal d) outers negative rest want (λ more items. on-digits more Decimal d items) (closes-digits Decimal d rest want) h
 ends-begun outers negative rest want (begin.Digits radix) h later =
-    whole-constant (first_digit radix) outers negative rest (λ more items. on-first more radix items)
-    (closes-first radix rest want (constant-more outers negative (first_digit radix rest) want h))
+    ends-constant (first_digit radix) outers negative rest want (λ more items. on-first more radix items) (closes-first radix rest want) h
 ends-begun outers negative rest want begin.Character h later =
-    whole-constant character_code outers negative rest (λ more items. on-code more items)
-    (closes-code rest want (constant-more outers negative (character_code rest) want h))
+    ends-constant character_code outers negative rest want (λ more items. on-code more items) (closes-code rest want) h
 ends-begun outers negative rest want begin.Point h later = absurd (cc)
-ends-begun outers negative rest want (begin.Number n) h later = absurd (whole-more outers (with_sign negative (pos n)) [] rest want h)
+ends-begun outers negative rest want (begin.Number n) h later = more-whole outers (with_sign negative (pos n)) [] rest want h
 ends-begun outers negative rest want (begin.At place) h later =
-    absurd (quantity-more place rest want (λ n rest. whole outers (with_sign negative n) [] rest) (λ n rest. whole-more outers (with_sign negative n) [] rest want) h)
-ends-begun outers negative rest want (begin.Numbered kind) h later = later (record { negative = negative; kind = kind } ∷ outers) false h
+    ends-next (quantity place rest) (λ more. quantity place (rest ++ more)) (λ n rest. whole outers (with_sign negative n) [] rest) want
+    (λ more. on-quantity more place rest)
+    (λ none. absurd (quantity-never place rest want none))
+    (λ n rest. more-whole outers (with_sign negative n) [] rest want) h
+ends-begun outers negative rest want (begin.Numbered kind) h later = later (record { negative = negative; kind = counts.Numbered kind } ∷ outers) false h
+ends-begun outers negative rest want begin.FontDimen h later = later (record { negative = negative; kind = counts.FontDimen } ∷ outers) false h
+ends-begun outers negative rest want (begin.FontInteger kind) h later =
+    ends-next (of_font (sought.Integer kind) (font rest)) (λ more. of_font (sought.Integer kind) (font (rest ++ more))) (λ n rest. whole outers (with_sign negative n) [] rest) want
+    (λ more. on-font-integer more (sought.Integer kind) rest)
+    (ends-font (sought.Integer kind) (λ n rest. whole outers (with_sign negative n) [] rest) rest want (λ m. ends-whole outers (with_sign negative m)))
+    (λ n rest. more-whole outers (with_sign negative n) [] rest want) h
 ends-begun outers negative rest want (begin.Nothing error) h later = absurd (cc)
 
 ends-signs : (outers : List Outer) (negative : Bool) (items : List Item) (want : Want) → signs outers negative items ≡ More want → (more : List Item) × HasEnded (signs outers negative (items ++ more))

@@ -1,5 +1,5 @@
 -- What begins glue: its signs, internal glue, or the width.
-use Rattle.std.proofs.Common.{◌≡◌, ◌≤◌, ◌+◌, ℕ, Bool, true, false, List, [], ◌∷◌, ◌++◌, Result, Ok, Err, IfOk, refl, ap, arith}
+use Rattle.std.proofs.Common.{◌≡◌, ◌≤◌, ℕ, Bool, true, false, List, [], ◌∷◌, Result, Ok, Err, IfOk, refl, ap, arith}
 use Rattle.tx_num.specs.Glue.{GlueSpec}
 use Rattle.tx_prim.specs.declared.family.Numbered.{Numbered}
 use Rattle.tx_seen.specs.declared.error.TexError.{TexError}
@@ -10,14 +10,13 @@ use Rattle.tx_seen.specs.declared.fed.Kind.TheVariants.{Quantity}
 use Rattle.tx_seen.specs.declared.fed.Value.{Value}
 use Rattle.tx_seen.specs.declared.fed.Want.TheVariants.{Expanded}
 use Rattle.tx_seen.specs.declared.item.Item.{Item}
-use Rattle.tx_seen.specs.declared.item.Item.TheVariants.{Took, Gave}
+use Rattle.tx_seen.specs.declared.item.Item.TheVariants.{Took}
 use Rattle.tx_seen.specs.declared.place.Place.{Place}
 use Rattle.tx_seen.specs.declared.seen.Seen.{Seen}
 use Rattle.tx_seen.specs.Places.{place_of}
-use Rattle.tx_seen.specs.Readings.{Reading, Done}
+use Rattle.tx_seen.specs.Readings.{Reading}
 use Rattle.tx_scan.specs.declared.scans.Beginning.{Beginning}
 use Rattle.tx_scan.specs.declared.scans.Beginning.TheVariants as begin
-use Rattle.tx_scan.specs.declared.scans.DimenScan.{DimenScan}
 use Rattle.tx_scan.specs.declared.scans.GluePart.TheVariants as part
 use Rattle.tx_scan.specs.declared.scans.GlueScan.{GlueScan}
 use Rattle.tx_scan.specs.declared.scans.GlueStage.TheVariants as stage
@@ -31,7 +30,6 @@ use Rattle.tx_scan.specs.Mapped.{fed_if, settled}
 use Rattle.tx_scan.specs.QuantityRests as quantities
 use Rattle.tx_scan.specs.Rests.{IsRead, IsFedBy, IsGivenBehind, IsGivenBy}
 use Rattle.tx_scan.specs.Supplied.{NeedsFewer, NeedsNoMore}
-use Rattle.tx_scan.proofs.Answering.{ending-none}
 use Rattle.tx_scan.proofs.Behind.{given-behind}
 use Rattle.tx_scan.proofs.Mappings.{fed-first, same-read, settled-fed, settled-given, needs-settled, fewer-settled}
 

@@ -20,3 +20,6 @@ pub mod Keys
 pub mod GlueSteps
 pub mod GlueBegins
 pub mod LastTaken
+pub mod FontSteps
+pub mod ParameterSteps
+pub mod FontUnits

@@ -8,7 +8,7 @@ use Rattle.tx_seen.specs.declared.item.Item.{Item}
 use Rattle.tx_seen.specs.declared.item.Item.TheVariants.{Took, Gave}
 use Rattle.tx_seen.specs.declared.seen.Seen.{Seen}
 use Rattle.tx_seen.specs.Readings.{Reading, Done, next, ending}
-use Rattle.tx_scan.specs.Rests.{IsRead, IsFedBy, IsAnswer, IsPassed, IsGivenBehind, IsGivenBy, kept}
+use Rattle.tx_scan.specs.Rests.{IsRead, IsFedBy, IsAnswer, IsPassed, IsGivenBy, kept}
 use Rattle.tx_scan.specs.Supplied.{NeedsFewer, NeedsNoMore}
 use Rattle.tx_scan.proofs.Answering.{ending-none, same-passed}
 use Rattle.tx_scan.specs.Mapped.{done_if, fed_if, mapped, settled}

@@ -1,5 +1,5 @@
 -- Internal quantities in mu, and units behind `true`, as parts of a dimension.
-use Rattle.std.proofs.Common.{◌≡◌, ◌≤◌, ◌<◌, ◌*◌, ◌+◌, ℕ, zero, suc, Bool, true, false, cond, not, List, [], ◌∷◌, ◌++◌, Option, None, Some, refl, ap, sym, ◌∙◌, leb-true, leb-false, arith}
+use Rattle.std.proofs.Common.{◌≡◌, ◌≤◌, ◌<◌, ℕ, zero, suc, Bool, true, false, cond, List, [], ◌∷◌, ◌++◌, Option, None, Some, refl, ap, sym, ◌∙◌, leb-true, leb-false, arith}
 use Rattle.std.proofs.lemmas.Bool.{lt-leb}
 use Rattle.std.specs.Prelude.{ℤ, is_some, nat_le, unsigned_abs}
 use Rattle.tx_num.specs.Glue.{GlueSpec}
@@ -8,6 +8,7 @@ use Rattle.tx_num.specs.Units.{size_of}
 use Rattle.tx_num.specs.declared.units.PhysicalUnit.{PhysicalUnit}
 use Rattle.tx_num.specs.declared.units.PhysicalUnit.TheVariants.{Point, Pica, Inch, BigPoint, Centimetre, Millimetre, DidotPoint, Cicero, ScaledPoint}
 use Rattle.tx_char.specs.Character.{character}
+use Rattle.tx_prim.specs.declared.family.FontNumber.{FontNumber}
 use Rattle.tx_prim.specs.declared.family.Numbered.{Numbered}
 use Rattle.tx_seen.specs.declared.error.TexError.TheVariants.{MissingUnit}
 use Rattle.tx_seen.specs.declared.fed.Fed.{Fed}
@@ -24,6 +25,7 @@ use Rattle.tx_seen.specs.declared.seen.Seen.{Seen}
 use Rattle.tx_seen.specs.Readings.{Reading, Wrong, next}
 use Rattle.tx_seen.specs.Seen.{is_undefined, is_space, is_key}
 use Rattle.tx_scan.specs.declared.scans.Amount.{Amount}
+use Rattle.tx_scan.specs.declared.scans.Amount.TheVariants.{Times}
 use Rattle.tx_scan.specs.declared.scans.Beginning.TheVariants as begin
 use Rattle.tx_scan.specs.declared.scans.DimenScan.{DimenScan}
 use Rattle.tx_scan.specs.declared.scans.DimenStage.TheVariants as stage
@@ -34,11 +36,11 @@ use Rattle.tx_scan.specs.declared.scans.Portion.{Portion}
 use Rattle.tx_scan.specs.declared.scans.QuantityScan.{QuantityScan}
 use Rattle.tx_scan.specs.declared.scans.Sought.TheVariants as sought
 use Rattle.tx_scan.specs.declared.scans.UnitName.{UnitName}
-use Rattle.tx_scan.specs.declared.scans.UnitName.TheVariants.{Physical, Mathematical, Quad, XHeight}
+use Rattle.tx_scan.specs.declared.scans.UnitName.TheVariants.{Physical, Mathematical, Font}
 use Rattle.tx_scan.specs.declared.scans.Units.{Units}
-use Rattle.tx_scan.specs.Dimensions.{Named, amount, ended_with, measured_by, turned, A_unit, Fil_unit, True_unit, first_letter_behind_true, fil_rest, in_mu, magnified, mathematical, more_infinite, raised, size_in, sized, spelled, true_ended, true_unit, unit_name, unit_rest}
+use Rattle.tx_scan.specs.Dimensions.{Named, amount, ended_with, measured_by, turned, A_unit, Fil_unit, True_unit, first_letter_behind_true, fil_rest, in_mu, in_unit, magnified, mathematical, more_infinite, raised, sized, spelled, true_ended, true_unit, unit_name, unit_rest}
 use Rattle.tx_scan.specs.DimensionRests.{rest, held, more_needed, most, name_ended, part_of, IsFed, IsMeasuring}
-use Rattle.tx_scan.specs.Integers.{expanded, unless_space}
+use Rattle.tx_scan.specs.Integers.{expanded, given, unless_space}
 use Rattle.tx_scan.specs.Mapped.{done_if, fed_if, settled}
 use Rattle.tx_scan.specs.QuantityRests as quantities
 use Rattle.tx_scan.specs.Rests.{IsEnd, IsGivenBy}
@@ -54,6 +56,12 @@ mu-at old new a place t answer n e = rw (n, e) (refl, omega arith, λ item more.
 
 pub mu-behind : (old new : DimenScan) (a : Amount) (kind : Numbered) (t : Seen) (answer : Fed Measure) → new ≡ record old { stage = stage.Mathematical a; quantity = quantities.begun_at_number (sought.Numbered kind) } → answer ≡ fed.More Expanded → IsMeasuring 0 (λ more. in_mu old.negative (fraction_of old.digits) a (begin.Numbered kind) more) t new answer
 mu-behind old new a kind t answer n e = rw (n, e) (refl, refl, λ item more. refl)
+
+pub mu-parameter : (old new : DimenScan) (a : Amount) (t : Seen) (answer : Fed Measure) → new ≡ record old { stage = stage.Mathematical a; quantity = quantities.begun_at_parameter } → answer ≡ fed.More Expanded → IsMeasuring 0 (λ more. in_mu old.negative (fraction_of old.digits) a begin.FontDimen more) t new answer
+mu-parameter old new a t answer n e = rw (n, e) (refl, refl, λ item more. refl)
+
+pub mu-font : (old new : DimenScan) (a : Amount) (kind : FontNumber) (t : Seen) (answer : Fed Measure) → new ≡ record old { stage = stage.Mathematical a; quantity = quantities.begun_at_font kind } → answer ≡ fed.More Expanded → IsMeasuring 0 (λ more. in_mu old.negative (fraction_of old.digits) a (begin.FontInteger kind) more) t new answer
+mu-font old new a kind t answer n e = rw (n, e) (refl, refl, λ item more. refl)
 
 -- it ends the dimension
 end-made : (negative : Bool) (size back : ℕ) (answer : Fed Measure) (b : Bool) → nat_le size 1073741823 ≡ b → IsEnd (λ more. sized negative size Normal more) back answer → answer ≡ fed_if (measured_by negative size Normal) back
@@ -155,16 +163,27 @@ sized-large negative a b order behind h k =
     let second : nat_le b 1073741823 ≡ false = lt-leb b 1073741823 k in
     rw (first, second) refl
 
-sized-alike : (negative : Bool) (unit : UnitName) (a b : ℕ × ℕ) (behind : List Item) → 2147483647 ≤ a.0 → 2147483647 ≤ b.0 → sized negative (size_in unit a.0 a.1) Normal behind ≡ sized negative (size_in unit b.0 b.1) Normal behind
-sized-alike negative (Physical unit) a b behind h k = sized-large negative (size_of unit a.0 a.1) (size_of unit b.0 b.1) Normal behind (size-large unit a.0 a.1 h) (size-large unit b.0 b.1 k)
-sized-alike negative Mathematical a b behind h k = sized-large negative (size_of Point a.0 a.1) (size_of Point b.0 b.1) Normal behind (size-large Point a.0 a.1 h) (size-large Point b.0 b.1 k)
-sized-alike negative Quad a b behind h k = refl
-sized-alike negative XHeight a b behind h k = refl
+-- so many of a size are too many, or none
+amount-alike : (negative : Bool) (size : ℕ) (a b : ℕ × ℕ) (behind : List Item) → 2147483647 ≤ a.0 → 2147483647 ≤ b.0 → sized negative (amount a.1 (Times a.0) size) Normal behind ≡ sized negative (amount b.1 (Times b.0) size) Normal behind
+amount-alike negative zero a b behind h k =
+    let first : amount a.1 (Times a.0) 0 ≡ 0 = omega arith in
+    let second : amount b.1 (Times b.0) 0 ≡ 0 = omega arith in
+    ap (λ n. sized negative n Normal behind) (first ∙ sym second)
+amount-alike negative (suc n) a b behind h k =
+    sized-large negative (amount a.1 (Times a.0) (suc n)) (amount b.1 (Times b.0) (suc n)) Normal behind (omega arith) (omega arith)
+
+sized-alike : (negative : Bool) (unit : UnitName) (a b : ℕ × ℕ) (behind rest : List Item) → 2147483647 ≤ a.0 → 2147483647 ≤ b.0 → in_unit negative a.0 a.1 unit behind rest ≡ in_unit negative b.0 b.1 unit behind rest
+sized-alike negative (Physical unit) a b behind rest h k = sized-large negative (size_of unit a.0 a.1) (size_of unit b.0 b.1) Normal (behind ++ rest) (size-large unit a.0 a.1 h) (size-large unit b.0 b.1 k)
+sized-alike negative Mathematical a b behind rest h k = sized-large negative (size_of Point a.0 a.1) (size_of Point b.0 b.1) Normal (behind ++ rest) (size-large Point a.0 a.1 h) (size-large Point b.0 b.1 k)
+sized-alike negative (Font size) a b behind [] h k = refl
+sized-alike negative (Font size) a b behind (item ∷ rest) h k =
+    next-alike (given item rest) (λ n rest. ended_with negative a.1 (Times a.0) n (behind ++ rest)) (λ n rest. ended_with negative b.1 (Times b.0) n (behind ++ rest))
+    (λ n rest. amount-alike (turned negative n) (unsigned_abs n) a b (behind ++ rest) h k)
 
 unit-alike : (negative : Bool) (unit : UnitName) (a b : ℕ × ℕ) (items : List Item) → 2147483647 ≤ a.0 → 2147483647 ≤ b.0 → unit_rest negative a.0 a.1 unit items ≡ unit_rest negative b.0 b.1 unit items
 unit-alike negative unit a b [] h k = refl
 unit-alike negative unit a b (Gave v ∷ rest) h k = refl
-unit-alike negative unit a b (Took t ∷ rest) h k = ap (λ r. expanded t r) (sized-alike negative unit a b (unless_space t ++ rest) h k)
+unit-alike negative unit a b (Took t ∷ rest) h k = ap (λ r. expanded t r) (sized-alike negative unit a b (unless_space t) rest h k)
 
 infinite-alike : (o : Option Order) (f g : Order → Reading Measure) → ((order : Order) → f order ≡ g order) → more_infinite o f ≡ more_infinite o g
 infinite-alike None f g same = refl

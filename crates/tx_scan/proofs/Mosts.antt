@@ -15,6 +15,7 @@ integer-stage (int.FirstDigit radix) = lit≤ tt
 integer-stage (int.Digits constant) = lit≤ tt
 integer-stage int.Character = lit≤ tt
 integer-stage (int.AfterCharacter code) = lit≤ tt
+integer-stage (int.Font sought) = lit≤ tt
 integer-stage (int.Given held) = lit≤ tt
 
 pub most-integer : (scan : IntScan) → integers.most scan ≤ 1
@@ -36,6 +37,7 @@ size-stage (dimen.Magnification whole) = lit≤ tt
 size-stage (dimen.TrueUnit whole portion) = lit≤ tt
 size-stage (dimen.AfterUnit whole unit) = lit≤ tt
 size-stage (dimen.AfterFil whole order) = lit≤ tt
+size-stage (dimen.FontUnit whole size held) = lit≤ tt
 
 pub most-size : (scan : DimenScan) → sizes.most scan ≤ 1
 most-size scan = size-stage scan.stage

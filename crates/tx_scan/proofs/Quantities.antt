@@ -10,7 +10,7 @@ use Rattle.tx_seen.specs.declared.item.Item.{Item}
 use Rattle.tx_seen.specs.declared.item.Item.TheVariants.{Took, Gave}
 use Rattle.tx_seen.specs.declared.fed.Kind.{Kind}
 use Rattle.tx_seen.specs.declared.fed.Value.{Value}
-use Rattle.tx_seen.specs.declared.fed.Value.TheVariants.{Int, Dimen, Glue, Muglue, Magnification, Flag, Absent}
+use Rattle.tx_seen.specs.declared.fed.Value.TheVariants.{Int, Dimen, Glue, Muglue, Magnification, Flag, Absent, OutOfRange}
 use Rattle.tx_seen.specs.declared.fed.Want.{Want}
 use Rattle.tx_seen.specs.declared.fed.Fed.{Fed}
 use Rattle.tx_seen.specs.declared.fed.Fed.TheVariants as fed
@@ -31,8 +31,8 @@ use Rattle.tx_scan.specs.declared.scans.Amount.TheVariants as amount
 use Rattle.tx_seen.specs.Seen.{is_undefined, is_space}
 use Rattle.tx_scan.specs.Beginnings.{beginning}
 use Rattle.tx_scan.specs.Integers.{integer}
-use Rattle.tx_scan.specs.Dimensions.{Named, numbered_unit, quantified, in_mu, is_internal, mathematical, measured, ended_with, spelled, unit_name, first_letter, letter_on, unit_ended, size_begun, size_signs, turned}
-use Rattle.tx_scan.specs.Mapped.{done_if, settled}
+use Rattle.tx_scan.specs.Dimensions.{numbered_unit, quantified, in_mu, is_internal, mathematical, measured, ended_with, spelled, unit_name, first_letter, letter_on, size_begun, size_signs, turned}
+use Rattle.tx_scan.specs.Mapped.{done_if}
 use Rattle.tx_scan.specs.Quantities.{quantity_begun}
 use Rattle.tx_scan.specs.DimensionRests.{rest, held, held_items, more_needed, most, name_ended, IsMeasuring, IsFed, IsUnit}
 use Rattle.tx_scan.proofs.Answering.{same-answer, same-passed}
@@ -64,6 +64,7 @@ mathematical-whole negative part (Muglue g) = refl
 mathematical-whole negative part (Magnification n) = refl
 mathematical-whole negative part (Flag b) = refl
 mathematical-whole negative part Absent = refl
+mathematical-whole negative part OutOfRange = refl
 
 -- a quantity in mu that is the dimension has no part
 whole-in-mu : (negative : Bool) (part : ℕ) (begun : Beginning) (rest : List Item) → in_mu negative part amount.Whole begun rest ≡ in_mu negative 0 amount.Whole begun rest
@@ -76,6 +77,8 @@ whole-in-mu negative part begin.Point rest = refl
 whole-in-mu negative part (begin.Number n) rest = refl
 whole-in-mu negative part (begin.At place) rest = next-alike (quantity_begun (begin.At place) rest) (λ value rest. done_if (mathematical negative part amount.Whole value) rest) (λ value rest. done_if (mathematical negative 0 amount.Whole value) rest) (λ value rest. ap (λ made. done_if made rest) (mathematical-whole negative part value))
 whole-in-mu negative part (begin.Numbered kind) rest = next-alike (quantity_begun (begin.Numbered kind) rest) (λ value rest. done_if (mathematical negative part amount.Whole value) rest) (λ value rest. done_if (mathematical negative 0 amount.Whole value) rest) (λ value rest. ap (λ made. done_if made rest) (mathematical-whole negative part value))
+whole-in-mu negative part begin.FontDimen rest = next-alike (quantity_begun begin.FontDimen rest) (λ value rest. done_if (mathematical negative part amount.Whole value) rest) (λ value rest. done_if (mathematical negative 0 amount.Whole value) rest) (λ value rest. ap (λ made. done_if made rest) (mathematical-whole negative part value))
+whole-in-mu negative part (begin.FontInteger which) rest = next-alike (quantity_begun (begin.FontInteger which) rest) (λ value rest. done_if (mathematical negative part amount.Whole value) rest) (λ value rest. done_if (mathematical negative 0 amount.Whole value) rest) (λ value rest. ap (λ made. done_if made rest) (mathematical-whole negative part value))
 whole-in-mu negative part (begin.Nothing error) rest = refl
 
 -- the first token of a quantity
@@ -203,24 +206,32 @@ answer-passed reading t new (fed.Done value back) k =
     (none, rw none at k.1)
 answer-passed reading t new (fed.Wrong error) k = k
 
+short-held : (n : ℕ) (behind : Option Seen) → length (held_items n behind) ≤ n
+short-held zero behind = omega arith
+short-held (suc n) None = omega arith
+short-held (suc n) (Some t) = omega arith
+
+short-items : (old : DimenScan) → length (behind_it old) ≤ integers.held old.number
+short-items old = short-held (integers.held old.number) old.behind
+
 -- the value that a factor waits for
 pub given-factor-more : (old : DimenScan) (scan : IntScan) (v : Value) (want : Want) → old.stage ≡ stage.Coefficient → integers.IsGiven old.number v scan (fed.More want) → IsGivenBy rest held old v (record old { number = scan }) (fed.More want)
 given-factor-more old scan v want s k = λ behind short. rw s (
-  ap (λ r. next r (on_factor old)) (k (behind_it old)).0,
+  ap (λ r. next r (on_factor old)) (k (behind_it old) (short-items old)).0,
   refl,
-  λ item more. ap (λ r. next r (on_factor old)) ((k (behind_it old)).2 item more ∙ ap (λ (n : ℕ). integers.rest scan (held_items n old.behind) item more) (sym (k (behind_it old)).1)),
+  λ item more. ap (λ r. next r (on_factor old)) ((k (behind_it old) (short-items old)).2 item more ∙ ap (λ (n : ℕ). integers.rest scan (held_items n old.behind) item more) (sym (k (behind_it old) (short-items old)).1)),
 )
 
 pub given-factor-need : (old : DimenScan) (scan : IntScan) (v : Value) (kind : Kind) → old.stage ≡ stage.Coefficient → integers.IsGiven old.number v scan (fed.Need kind) → IsGivenBy rest held old v (record old { number = scan }) (fed.Need kind)
 given-factor-need old scan v kind s k = λ behind short. rw s (
-  ap (λ r. next r (on_factor old)) (k (behind_it old)).0,
+  ap (λ r. next r (on_factor old)) (k (behind_it old) (short-items old)).0,
   refl,
-  λ item more. ap (λ r. next r (on_factor old)) ((k (behind_it old)).2 item more ∙ ap (λ (n : ℕ). integers.rest scan (held_items n old.behind) item more) (sym (k (behind_it old)).1)),
+  λ item more. ap (λ r. next r (on_factor old)) ((k (behind_it old) (short-items old)).2 item more ∙ ap (λ (n : ℕ). integers.rest scan (held_items n old.behind) item more) (sym (k (behind_it old) (short-items old)).1)),
 )
 
 pub given-factor-wrong : (old new : DimenScan) (scan : IntScan) (v : Value) (error : TexError) → old.stage ≡ stage.Coefficient → integers.IsGiven old.number v scan (fed.Wrong error) → IsGivenBy rest held old v new (fed.Wrong error)
 given-factor-wrong old new scan v error s k = λ behind short more.
-    rw s (ap (λ r. next r (on_factor old)) (k (behind_it old) more))
+    rw s (ap (λ r. next r (on_factor old)) (k (behind_it old) (short-items old) more))
 
 none-passed : (reading : List Item → Reading Measure) (behind : List Item) (n : ℕ) (new : DimenScan) (answer : Fed Measure) → n ≡ 0 → length behind ≤ n → IsPassed rest held reading [] 0 new answer → IsPassed rest held reading behind n new answer
 none-passed reading [] n new answer e short k = rw e k
@@ -230,7 +241,7 @@ given-factor-done : (old new : DimenScan) (scan : IntScan) (v : Value) (n : ℤ)
 given-factor-done old new scan v n back t answer s k later = λ behind short.
     none-passed (λ more. rest old behind (Gave v) more) behind (held old) new answer (rw s refl) short
     (same-passed rest held (λ more. rest old behind (Gave v) more) (λ more. on_factor old n (behind_it old ++ more)) [] 0 0 new answer
-    (λ more. rw s (ap (λ r. next r (on_factor old)) ((k (behind_it old)).1 more))) refl
+    (λ more. rw s (ap (λ r. next r (on_factor old)) ((k (behind_it old) (short-items old)).1 more))) refl
     (answer-passed (λ more. on_factor old n (behind_it old ++ more)) t new answer later))
 
 -- some token, where none is asked
@@ -252,7 +263,7 @@ none-held : (n : ℕ) (behind : Option Seen) → n ≡ 0 → held_items n behind
 none-held n behind e = rw e refl
 
 pub ends-alone : (old : DimenScan) (scan : IntScan) (v : Value) (n : ℤ) (back : ℕ) → integers.IsGiven old.number v scan (fed.Done n back) → back ≡ 0 → behind_it old ≡ []
-ends-alone old scan v n back k e = none-held (integers.held old.number) old.behind (sym (k []).0 ∙ e)
+ends-alone old scan v n back k e = none-held (integers.held old.number) old.behind (sym (k [] (omega arith)).0 ∙ e)
 
 none-behind : (n : ℕ) → held_items n None ≡ []
 none-behind zero = refl
@@ -266,34 +277,34 @@ one-behind zero t e = absurd (e refl)
 one-behind (suc n) t e = refl
 
 pub ends-seen : (old : DimenScan) (scan : IntScan) (v : Value) (n : ℤ) (back : ℕ) (t : Seen) → integers.IsGiven old.number v scan (fed.Done n back) → (back ≡ 0 → ⊥) → old.behind ≡ Some t → behind_it old ≡ Took t ∷ []
-ends-seen old scan v n back t k e b = rw b (one-behind (integers.held old.number) t (λ none. e ((k []).0 ∙ none)))
+ends-seen old scan v n back t k e b = rw b (one-behind (integers.held old.number) t (λ none. e ((k [] (omega arith)).0 ∙ none)))
 
 -- where a token was held, one value more may be needed
 pub held-needs : (old : DimenScan) (scan : IntScan) (v : Value) (n : ℤ) (back : ℕ) → old.stage ≡ stage.Coefficient → integers.IsGiven old.number v scan (fed.Done n back) → (back ≡ 0 → ⊥) → 1 ≤ more_needed old
 held-needs old scan v n back s k e =
-    let same : back ≡ integers.held old.number = (k []).0 in
+    let same : back ≡ integers.held old.number = (k [] (omega arith)).0 in
     rw s (omega (arith, same, e))
 
 -- the value that a quantity waits for
 pub given-amount-more : (old : DimenScan) (scan : IntScan) (amount : Amount) (v : Value) (want : Want) → old.stage ≡ stage.Quantity amount → integers.IsGiven old.number v scan (fed.More want) → IsGivenBy rest held old v (record old { number = scan }) (fed.More want)
 given-amount-more old scan amount v want s k = λ behind short. rw s (
-  ap (λ r. next r (on_amount old amount)) (k behind).0,
-  (k behind).1,
-  λ item more. ap (λ r. next r (on_amount old amount)) ((k behind).2 item more),
+  ap (λ r. next r (on_amount old amount)) (k behind (rw s at short)).0,
+  (k behind (rw s at short)).1,
+  λ item more. ap (λ r. next r (on_amount old amount)) ((k behind (rw s at short)).2 item more),
 )
 
 pub given-amount-need : (old : DimenScan) (scan : IntScan) (amount : Amount) (v : Value) (kind : Kind) → old.stage ≡ stage.Quantity amount → integers.IsGiven old.number v scan (fed.Need kind) → IsGivenBy rest held old v (record old { number = scan }) (fed.Need kind)
 given-amount-need old scan amount v kind s k = λ behind short. rw s (
-  ap (λ r. next r (on_amount old amount)) (k behind).0,
-  (k behind).1,
-  λ item more. ap (λ r. next r (on_amount old amount)) ((k behind).2 item more),
+  ap (λ r. next r (on_amount old amount)) (k behind (rw s at short)).0,
+  (k behind (rw s at short)).1,
+  λ item more. ap (λ r. next r (on_amount old amount)) ((k behind (rw s at short)).2 item more),
 )
 
 pub given-amount-wrong : (old new : DimenScan) (scan : IntScan) (amount : Amount) (v : Value) (error : TexError) → old.stage ≡ stage.Quantity amount → integers.IsGiven old.number v scan (fed.Wrong error) → IsGivenBy rest held old v new (fed.Wrong error)
-given-amount-wrong old new scan amount v error s k = λ behind short more. rw s (ap (λ r. next r (on_amount old amount)) (k behind more))
+given-amount-wrong old new scan amount v error s k = λ behind short more. rw s (ap (λ r. next r (on_amount old amount)) (k behind (rw s at short) more))
 
 -- an answer that ends a thing, with the tokens behind it
-end-passed : (reading : List Item → Reading Measure) (behind : List Item) (back : ℕ) (new : DimenScan) (answer : Fed Measure) → IsEnd reading back answer → IsPassed rest held (λ more. reading (behind ++ more)) behind back new answer
+pub end-passed : (reading : List Item → Reading Measure) (behind : List Item) (back : ℕ) (new : DimenScan) (answer : Fed Measure) → IsEnd reading back answer → IsPassed rest held (λ more. reading (behind ++ more)) behind back new answer
 end-passed reading behind back new (fed.More want) k = absurd k
 end-passed reading behind back new (fed.Need kind) k = absurd k
 end-passed reading behind back new (fed.Done value count) k = (k.0, λ more. k.1 (behind ++ more))
@@ -302,7 +313,7 @@ end-passed reading behind back new (fed.Wrong error) k = λ more. k (behind ++ m
 pub given-amount-done : (old new : DimenScan) (scan : IntScan) (amount : Amount) (v : Value) (n m : ℤ) (back : ℕ) (answer : Fed Measure) → old.stage ≡ stage.Quantity amount → integers.IsGiven old.number v scan (fed.Done n back) → m ≡ n → IsEnd (λ more. on_amount old amount m more) back answer → IsGivenBy rest held old v new answer
 given-amount-done old new scan amount v n m back answer s k f e = λ behind short.
     same-passed rest held (λ more. rest old behind (Gave v) more) (λ more. on_amount old amount n (behind ++ more)) behind (held old) back new answer
-    (λ more. rw s (ap (λ r. next r (on_amount old amount)) ((k behind).1 more))) (rw s (sym (k behind).0))
+    (λ more. rw s (ap (λ r. next r (on_amount old amount)) ((k behind (rw s at short)).1 more))) (rw s (sym (k behind (rw s at short)).0))
     (end-passed (on_amount old amount n) behind back new answer (rw f at e))
 
 -- more values than are needed

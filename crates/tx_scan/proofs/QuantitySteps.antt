@@ -1,5 +1,5 @@
 -- An internal quantity, token by token.
-use Rattle.std.proofs.Common.{◌≡◌, ◌≤◌, ◌+◌, ℕ, zero, suc, ℤ, List, [], ◌∷◌, ◌++◌, Option, Some, None, Result, Ok, Err, IfOk, refl, ap, sym, subst, ◌∙◌, append-nil, arith}
+use Rattle.std.proofs.Common.{◌≡◌, ◌≤◌, ◌+◌, ℕ, ℤ, List, [], ◌∷◌, ◌++◌, Option, Some, None, refl, ap, sym, ◌∙◌, append-nil, arith}
 use Rattle.tx_seen.specs.declared.error.TexError.{TexError}
 use Rattle.tx_seen.specs.declared.fed.Fed.{Fed}
 use Rattle.tx_seen.specs.declared.fed.Fed.TheVariants as fed
@@ -8,7 +8,6 @@ use Rattle.tx_seen.specs.declared.item.Item.{Item}
 use Rattle.tx_seen.specs.declared.item.Item.TheVariants.{Took, Gave}
 use Rattle.tx_seen.specs.declared.seen.Seen.{Seen}
 use Rattle.tx_seen.specs.Readings.{Reading, Done, Wrong, next}
-use Rattle.tx_scan.specs.declared.scans.IntScan.{IntScan}
 use Rattle.tx_scan.specs.declared.scans.QuantityScan.{QuantityScan}
 use Rattle.tx_scan.specs.declared.scans.QuantityStage.TheVariants as stage
 use Rattle.tx_scan.specs.declared.scans.Sought.{Sought}
@@ -119,7 +118,7 @@ pub number-given : (old now new : QuantityScan) (sought : Sought) (v : Value) (t
 number-given old now new sought v told answer was s k is = λ behind short.
     same-passed rest held (λ more. rest old behind (Gave v) more) (λ more. value_behind sought (λ later. integers.rest old.number behind (Gave v) later) more) behind (held old) (integers.held old.number) new answer
     (λ more. rest-numbered old sought behind (Gave v) more was) (held-numbered old sought was)
-    (number-passed sought (λ later. integers.rest old.number behind (Gave v) later) behind (integers.held old.number) now new told answer s (k behind) is)
+    (number-passed sought (λ later. integers.rest old.number behind (Gave v) later) behind (integers.held old.number) now new told answer s (k behind (rw (sym (held-numbered old sought was)) short)) is)
 
 -- how many values it needs
 needed-numbered : (scan : QuantityScan) (sought : Sought) → scan.stage ≡ stage.Number sought → more_needed scan ≡ integers.waiting scan.number + 1

@@ -3,8 +3,9 @@ use Rattle.std.proofs.Common.{◌≡◌, ℕ, ◌+◌, ◌*◌, Bool, true, fals
 use Rattle.std.specs.Prelude.{nat_le}
 use Rattle.tx_seen.specs.declared.seen.Seen.{Seen}
 use Rattle.tx_seen.specs.declared.place.Place.{Place}
-use Rattle.tx_seen.specs.declared.fed.Value.TheVariants.{Int, Dimen, Glue, Muglue, Magnification, Flag, Absent}
-use Rattle.tx_seen.specs.Seen.{is_undefined}
+use Rattle.tx_seen.specs.declared.place.FontName.{FontName}
+use Rattle.tx_seen.specs.declared.fed.Value.TheVariants.{Int, Dimen, Glue, Muglue, Magnification, Flag, Absent, OutOfRange}
+use Rattle.tx_seen.specs.Seen.{font_name, is_space, is_undefined}
 use Rattle.tx_seen.specs.declared.error.TexError.TheVariants.{Undefined, MissingNumber, IntegerTooLarge}
 use Rattle.tx_seen.specs.declared.item.Item.{Item}
 use Rattle.tx_seen.specs.declared.item.Item.TheVariants.{Took, Gave}
@@ -12,12 +13,17 @@ use Rattle.tx_seen.specs.Readings.{Reading, More, Need, Done, Wrong, next, Reads
 use Rattle.tx_scan.specs.declared.scans.Radix.{Radix}
 use Rattle.tx_scan.specs.declared.scans.Radix.TheVariants.{Decimal}
 use Rattle.tx_prim.specs.declared.family.Numbered.{Numbered}
+use Rattle.tx_scan.specs.declared.scans.Counted.{Counted}
+use Rattle.tx_scan.specs.declared.scans.Counted.TheVariants as counts
+use Rattle.tx_scan.specs.declared.scans.FontSought.{FontSought}
+use Rattle.tx_scan.specs.declared.scans.FontSought.TheVariants as sought
 use Rattle.tx_scan.specs.declared.scans.Outer.{Outer}
 use Rattle.tx_scan.specs.declared.scans.Beginning.{Beginning}
 use Rattle.tx_scan.specs.declared.scans.Beginning.TheVariants as begin
 use Rattle.tx_seen.specs.Places.{place_of}
 use Rattle.tx_scan.specs.Beginnings.{base, digit, beginning}
-use Rattle.tx_scan.specs.Integers.{Ended, ended_by, space_after, code_named, coded, character_code, digits, first_digit, in_range, is_in_range, quantity, byte_of, numbered, with_sign, whole, signed_constant, begun, signs, integer}
+use Rattle.tx_scan.specs.FontNames.{font, font_behind, parameter_number, place_of_font, told}
+use Rattle.tx_scan.specs.Integers.{Ended, counted, of_font, whole_by, ended_by, space_after, code_named, coded, character_code, digits, first_digit, in_range, is_in_range, quantity, byte_of, numbered, with_sign, whole, signed_constant, begun, signs, integer}
 
 pub on-if : {A : Type 0} (more : List Item) (b : Bool) (x y u v : Reading A) → ReadsOn more x u → ReadsOn more y v → ReadsOn more (cond b x y) (cond b u v)
 on-if more true x y u v p q = p
@@ -68,7 +74,7 @@ on-first more radix (Took t ∷ rest) = on-first-by more (digit radix t) radix t
 on-range : (more : List Item) (n : ℤ) (rest : List Item) → ReadsOn more (in_range n rest) (in_range n (rest ++ more))
 on-range more n rest = on-if {A = ℤ} more (is_in_range n) (Done n rest) (Wrong IntegerTooLarge) (Done n (rest ++ more)) (Wrong IntegerTooLarge) refl refl
 
-on-quantity : (more : List Item) (place : Place) (items : List Item) → ReadsOn more (quantity place items) (quantity place (items ++ more))
+pub on-quantity : (more : List Item) (place : Place) (items : List Item) → ReadsOn more (quantity place items) (quantity place (items ++ more))
 on-quantity more place [] = tt
 on-quantity more place (Gave (Int n) ∷ rest) = on-range more n rest
 on-quantity more place (Gave (Dimen n) ∷ rest) = on-range more n rest
@@ -77,18 +83,49 @@ on-quantity more place (Gave (Muglue g) ∷ rest) = refl
 on-quantity more place (Gave (Magnification n) ∷ rest) = refl
 on-quantity more place (Gave (Flag b) ∷ rest) = refl
 on-quantity more place (Gave Absent ∷ rest) = refl
+on-quantity more place (Gave OutOfRange ∷ rest) = refl
 on-quantity more place (Took t ∷ rest) = refl
 
-on-numbered : (more : List Item) (kind : Numbered) (o : Option ℕ) (items : List Item) → ReadsOn more (numbered kind o items) (numbered kind o (items ++ more))
+pub on-numbered : (more : List Item) (kind : Numbered) (o : Option ℕ) (items : List Item) → ReadsOn more (numbered kind o items) (numbered kind o (items ++ more))
 on-numbered more kind None items = refl
 on-numbered more kind (Some n) items = on-quantity more (place_of kind n) items
+
+on-told : (more : List Item) (tells : Option FontName) (rest : List Item) → ReadsOn more (told tells rest) (told tells (rest ++ more))
+on-told more None rest = refl
+on-told more (Some f) rest = refl
+
+on-font : (more : List Item) (items : List Item) → ReadsOn more (font items) (font (items ++ more))
+on-font more [] = tt
+on-font more (Gave v ∷ rest) = refl
+on-font more (Took t ∷ rest) = on-if more (is_undefined t) _ _ _ _ refl (on-if more (is_space t) _ _ _ _ (on-font more rest) (on-told more (font_name t) rest))
+
+on-behind : (more : List Item) (behind items : List Item) → ReadsOn more (font_behind behind items) (font_behind behind (items ++ more))
+on-behind more behind items = rw (append_assoc behind items more) at (on-font more (behind ++ items))
+
+on-of-font : (more : List Item) (sought : FontSought) (r s : Reading FontName) → ReadsOn more r s → ReadsOn more (of_font sought r) (of_font sought s)
+on-of-font more sought r s h = on-next more r s (λ f rest. quantity (place_of_font sought f) rest) h (λ f rest. on-quantity more (place_of_font sought f) rest)
+
+pub on-parameter : (more : List Item) (n : ℤ) (behind items : List Item) → ReadsOn more (of_font (sought.Dimen (parameter_number n)) (font_behind behind items)) (of_font (sought.Dimen (parameter_number n)) (font_behind behind (items ++ more)))
+on-parameter more n behind items = on-of-font more (sought.Dimen (parameter_number n)) (font_behind behind items) (font_behind behind (items ++ more)) (on-behind more behind items)
+
+pub on-font-integer : (more : List Item) (sought : FontSought) (items : List Item) → ReadsOn more (of_font sought (font items)) (of_font sought (font (items ++ more)))
+on-font-integer more sought items = on-of-font more sought (font items) (font (items ++ more)) (on-font more items)
+
+on-counted : (more : List Item) (kind : Counted) (n : ℤ) (behind items : List Item) (on : ℤ → List Item → List Item → Reading ℤ) → ((value : ℤ) (behind rest : List Item) → ReadsOn more (on value behind rest) (on value behind (rest ++ more))) → ReadsOn more (counted font_behind kind n behind items on) (counted font_behind kind n behind (items ++ more) on)
+on-counted more (counts.Numbered kind) n behind items on later =
+    on-next more (numbered kind (byte_of n) items) (numbered kind (byte_of n) (items ++ more)) (λ value rest. on value behind rest)
+    (on-numbered more kind (byte_of n) items)
+    (λ value rest. later value behind rest)
+on-counted more counts.FontDimen n behind items on later =
+    on-next more (of_font (sought.Dimen (parameter_number n)) (font_behind behind items)) (of_font (sought.Dimen (parameter_number n)) (font_behind behind (items ++ more))) (λ value rest. on value [] rest)
+    (on-parameter more n behind items)
+    (λ value rest. later value [] rest)
 
 on-whole : (more : List Item) (outers : List Outer) (n : ℤ) (behind items : List Item) → ReadsOn more (whole outers n behind items) (whole outers n behind (items ++ more))
 on-whole more [] n behind items = ap (λ (rest : List Item). Done n rest) (sym (append_assoc behind items more))
 on-whole more (outer ∷ outers) n behind items =
-    on-next more (numbered outer.kind (byte_of n) items) (numbered outer.kind (byte_of n) (items ++ more)) (λ value rest. whole outers (with_sign outer.negative value) behind rest)
-    (on-numbered more outer.kind (byte_of n) items)
-    (λ value rest. on-whole more outers (with_sign outer.negative value) behind rest)
+    on-counted more outer.kind n behind items (λ value behind rest. whole_by font_behind outers (with_sign outer.negative value) behind rest)
+    (λ value behind rest. on-whole more outers (with_sign outer.negative value) behind rest)
 
 on-begun : (more : List Item) (outers : List Outer) (negative : Bool) (here there : List Outer → Bool → Reading ℤ) (rest : List Item) (b : Beginning) → ((outers : List Outer) (negative : Bool) → ReadsOn more (here outers negative) (there outers negative)) → ReadsOn more (begun outers negative here rest b) (begun outers negative there (rest ++ more) b)
 on-begun more outers negative here there rest begin.Plus later = later outers negative
@@ -103,7 +140,11 @@ on-begun more outers negative here there rest begin.Point later = refl
 on-begun more outers negative here there rest (begin.Number n) later = on-whole more outers (with_sign negative (pos n)) [] rest
 on-begun more outers negative here there rest (begin.At place) later =
     on-next more (quantity place rest) (quantity place (rest ++ more)) (λ n rest. whole outers (with_sign negative n) [] rest) (on-quantity more place rest) (λ n rest. on-whole more outers (with_sign negative n) [] rest)
-on-begun more outers negative here there rest (begin.Numbered kind) later = later (record { negative = negative; kind = kind } ∷ outers) false
+on-begun more outers negative here there rest (begin.Numbered kind) later = later (record { negative = negative; kind = counts.Numbered kind } ∷ outers) false
+on-begun more outers negative here there rest begin.FontDimen later = later (record { negative = negative; kind = counts.FontDimen } ∷ outers) false
+on-begun more outers negative here there rest (begin.FontInteger kind) later =
+    on-next more (of_font (sought.Integer kind) (font rest)) (of_font (sought.Integer kind) (font (rest ++ more))) (λ n rest. whole outers (with_sign negative n) [] rest)
+    (on-font-integer more (sought.Integer kind) rest) (λ n rest. on-whole more outers (with_sign negative n) [] rest)
 on-begun more outers negative here there rest (begin.Nothing error) later = refl
 
 on-signs : (more : List Item) (outers : List Outer) (negative : Bool) (items : List Item) → ReadsOn more (signs outers negative items) (signs outers negative (items ++ more))

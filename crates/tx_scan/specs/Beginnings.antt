@@ -92,6 +92,14 @@ begun_by_command (primitive.VerticalGlue form) = no_number
 begun_by_command primitive.Penalty = no_number
 begun_by_command (primitive.Remove kind) = no_number
 begun_by_command (primitive.Leaders kind) = no_number
+begun_by_command primitive.SpaceFactor = begin.At place.SpaceFactor
+begun_by_command primitive.FontDimen = begin.FontDimen
+begun_by_command (primitive.FontInteger kind) = begin.FontInteger kind
+begun_by_command primitive.NullFont = no_number
+begun_by_command primitive.LoadFont = no_number
+begun_by_command primitive.Char = no_number
+begun_by_command primitive.ItalicCorrection = no_number
+begun_by_command primitive.ControlSpace = no_number
 
 -- a name that \chardef or \mathchardef defined is its number, and that of a register stands for its value; what means a
 -- space is one
@@ -107,6 +115,7 @@ begun_by_meaning (meaning.DimenRegister n) = begin.At (place.Dimen n)
 begun_by_meaning (meaning.SkipRegister n) = begin.At (place.Skip n)
 begun_by_meaning (meaning.MuskipRegister n) = begin.At (place.Muskip n)
 begun_by_meaning (meaning.ToksRegister n) = no_number
+begun_by_meaning (meaning.Font n) = no_number
 begun_by_meaning (meaning.Expandable e) = no_number
 begun_by_meaning (meaning.Macro m) = no_number
 begun_by_meaning meaning.Held = no_number

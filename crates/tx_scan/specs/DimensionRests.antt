@@ -1,5 +1,5 @@
 -- The scan of a dimension means the rest of the dimension.
-use Rattle.std.specs.Prelude.{ℕ, zero, suc, ◌+◌, ◌∷◌, [], Bool, false, Option, None, Some, pos, neg_ℤ, ◌≤ℤ◌, List}
+use Rattle.std.specs.Prelude.{ℕ, zero, suc, ◌+◌, ◌∷◌, [], Bool, false, if◌then◌else◌, Option, None, Some, pos, neg_ℤ, ◌≤ℤ◌, List}
 use Rattle.tx_num.specs.Decimals.{fraction_of}
 use Rattle.tx_seen.specs.declared.fed.Fed.{Fed}
 use Rattle.tx_seen.specs.declared.fed.Fed.TheVariants as fed
@@ -15,7 +15,7 @@ use Rattle.tx_scan.specs.declared.scans.DimenScan.{DimenScan}
 use Rattle.tx_scan.specs.declared.scans.DimenStage.{DimenStage}
 use Rattle.tx_scan.specs.declared.scans.DimenStage.TheVariants as stage
 use Rattle.tx_scan.specs.Integers.{character_code, space_after}
-use Rattle.tx_scan.specs.Dimensions.{Named, behind_true, fraction, whole_units, first_unit, ended_with, mathematical, measured, numbered_unit, true_ended, true_unit, unit_name, unit_ended, unit_rest, fil_rest, factored, counted, size_signs, dimension}
+use Rattle.tx_scan.specs.Dimensions.{Named, behind_true, fraction, whole_units, first_unit, ended_with, font_unit, mathematical, measured, numbered_unit, true_ended, true_unit, unit_name, unit_ended, unit_rest, fil_rest, factored, counted, size_signs, dimension}
 use Rattle.tx_scan.specs.Mapped.{done_if}
 use Rattle.tx_scan.specs.QuantityRests as quantities
 use Rattle.tx_scan.specs.IntegerRests as integers
@@ -53,15 +53,21 @@ stage_rest (stage.Name whole letters) scan behind item more = next (unit_name sc
 stage_rest (stage.Magnification whole) scan behind item more = behind_true scan.units scan.negative whole (fraction_of scan.digits) (item ∷ more)
 stage_rest (stage.TrueUnit whole portion) scan behind item more = true_unit scan.units scan.negative (whole, portion.part) (item ∷ more)
 stage_rest (stage.AfterUnit whole unit) scan behind item more = unit_rest scan.negative whole (part_of scan.magnified scan.digits) unit (item ∷ more)
+stage_rest (stage.FontUnit whole size held) scan behind item more = font_unit scan.negative whole (part_of scan.magnified scan.digits) item behind more
 stage_rest (stage.AfterFil whole order) scan behind item more = fil_rest scan.negative whole (part_of scan.magnified scan.digits) order (item ∷ more)
 
 abbrev pub rest : DimenScan → List Item → Item → List Item → Reading Measure
 rest scan behind item more = stage_rest scan.stage scan behind item more
 
+-- one token or none
+abbrev pub count_held : Bool → ℕ
+count_held held = if held then 1 else 0
+
 -- how many tokens are held behind the dimension
 abbrev pub stage_held : DimenStage → DimenScan → ℕ
 stage_held (stage.Quantity amount) scan = integers.held scan.number
 stage_held (stage.Mathematical amount) scan = quantities.held scan.quantity
+stage_held (stage.FontUnit whole size held) scan = count_held held
 stage_held _ scan = 0
 
 abbrev pub held : DimenScan → ℕ

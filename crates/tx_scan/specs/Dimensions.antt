@@ -11,7 +11,8 @@ use Rattle.tx_seen.specs.declared.error.TexError.{TexError}
 use Rattle.tx_seen.specs.declared.fed.Kind.TheVariants.{Quantity}
 use Rattle.tx_seen.specs.declared.fed.Value.{Value}
 use Rattle.tx_seen.specs.declared.fed.Value.TheVariants.{Muglue, Magnification, Absent}
-use Rattle.tx_seen.specs.declared.place.Place.TheVariants.{Magnification as Magnifying}
+use Rattle.tx_seen.specs.declared.place.FontSize.TheVariants.{Quad, XHeight}
+use Rattle.tx_seen.specs.declared.place.Place.TheVariants.{Magnification as Magnifying, FontSize as Font_size}
 use Rattle.tx_seen.specs.declared.error.TexError.TheVariants.{BadMagnification, MissingNumber, MissingUnit, DimensionTooLarge}
 use Rattle.tx_seen.specs.declared.fed.Want.TheVariants.{Expanded}
 use Rattle.tx_seen.specs.declared.seen.Seen.{Seen}
@@ -26,7 +27,7 @@ use Rattle.tx_scan.specs.declared.scans.Order.{Order}
 use Rattle.tx_scan.specs.declared.scans.Order.TheVariants.{Normal, Fil, Fill, Filll}
 use Rattle.tx_scan.specs.declared.scans.Measure.{Measure}
 use Rattle.tx_scan.specs.declared.scans.UnitName.{UnitName}
-use Rattle.tx_scan.specs.declared.scans.UnitName.TheVariants.{Physical, Mathematical, Quad, XHeight}
+use Rattle.tx_scan.specs.declared.scans.UnitName.TheVariants.{Physical, Mathematical, Font}
 use Rattle.tx_scan.specs.declared.scans.Amount.{Amount}
 use Rattle.tx_scan.specs.declared.scans.Amount.TheVariants.{Whole as The_size, Times}
 use Rattle.tx_scan.specs.declared.scans.Letters.{Letters}
@@ -38,7 +39,7 @@ use Rattle.tx_scan.specs.declared.scans.Beginning.TheVariants as begin
 use Rattle.tx_scan.specs.Beginnings.{base, digit, beginning}
 use Rattle.tx_scan.specs.Mapped.{done_if}
 use Rattle.tx_scan.specs.Quantities.{quantity_begun}
-use Rattle.tx_scan.specs.Integers.{Ended, expanded, unless_space, with_digit, character_code, integer}
+use Rattle.tx_scan.specs.Integers.{Ended, expanded, given, unless_space, with_digit, character_code, integer}
 
 -- what stands before a unit: whole units, the digits (as text) behind the point, and the token behind them that is read
 -- and isn't part of them, if there is one
@@ -136,8 +137,8 @@ letter_on units M t =
 letter_on units D t = if is_key (character "d") t then Whole (Physical DidotPoint) else No
 letter_on units S t = if is_key (character "p") t then Whole (Physical ScaledPoint) else No
 letter_on units E t =
-    if is_key (character "m") t then Whole Quad
-    else if is_key (character "x") t then Whole XHeight
+    if is_key (character "m") t then Whole (Font Quad)
+    else if is_key (character "x") t then Whole (Font XHeight)
     else No
 letter_on units F t = if is_key (character "i") t then On Fi else No
 letter_on units Fi t = if is_key (character "l") t then Infinite else No
@@ -164,23 +165,42 @@ unit_name units letters [] = More Expanded
 unit_name units letters (Gave v ∷ rest) = Wrong MissingNumber
 unit_name units letters (Took t ∷ rest) = expanded t (spelled (λ more. unit_name units more rest) (letter_on units letters t) rest)
 
--- so many whole units and 65536ths of one; em and ex are those of \nullfont, which has none
-abbrev pub size_in : UnitName → ℕ → ℕ → ℕ
-size_in (Physical unit) whole part = size_of unit whole part
-size_in Mathematical whole part = size_of Point whole part
-size_in Quad whole part = 0
-size_in XHeight whole part = 0
-
 -- a size in sp, if it isn't too large
 abbrev pub sized : Bool → ℕ → Order → List Item → Reading Measure
 sized negative size order behind =
     if nat_le size 1073741823 then Done (record { size = signed negative size; order = order }) behind else Wrong DimensionTooLarge
 
+-- whether the signs and a number make it negative
+abbrev pub turned : Bool → ℤ → Bool
+turned negative (pos n) = negative
+turned negative (negsuc n) = not negative
+
+-- so much of an internal quantity: itself, or so many and so many 65536ths of it, rounded down
+abbrev pub amount : ℕ → Amount → ℕ → ℕ
+amount part The_size size = size
+amount part (Times whole) size = size * whole + size * part / 65536
+
+-- an internal quantity that ends the dimension, in sp
+abbrev pub ended_with : Bool → ℕ → Amount → ℤ → List Item → Reading Measure
+ended_with negative part a n rest = sized (turned negative n) (amount part a (unsigned_abs n)) Normal rest
+
+-- so many of a size that the current font has
+abbrev pub font_unit : Bool → ℕ → ℕ → Item → List Item → List Item → Reading Measure
+font_unit negative whole part item behind rest = next (given item rest) (λ n rest. ended_with negative part (Times whole) n (behind ++ rest))
+
+-- so many whole units and 65536ths of one, behind whose name this stands; `em` and `ex` are the current font's, and the value is
+-- asked for behind that
+abbrev pub in_unit : Bool → ℕ → ℕ → UnitName → List Item → List Item → Reading Measure
+in_unit negative whole part (Physical unit) behind rest = sized negative (size_of unit whole part) Normal (behind ++ rest)
+in_unit negative whole part Mathematical behind rest = sized negative (size_of Point whole part) Normal (behind ++ rest)
+in_unit negative whole part (Font size) behind [] = Need (Quantity (Font_size size))
+in_unit negative whole part (Font size) behind (item ∷ rest) = font_unit negative whole part item behind rest
+
 -- an optional space behind the unit ends the dimension of so many whole units and 65536ths of one
 abbrev pub unit_rest : Bool → ℕ → ℕ → UnitName → List Item → Reading Measure
 unit_rest negative whole part unit [] = More Expanded
 unit_rest negative whole part unit (Gave v ∷ rest) = Wrong MissingNumber
-unit_rest negative whole part unit (Took t ∷ rest) = expanded t (sized negative (size_in unit whole part) Normal (unless_space t ++ rest))
+unit_rest negative whole part unit (Took t ∷ rest) = expanded t (in_unit negative whole part unit (unless_space t) rest)
 
 -- one more l makes a size more infinite; there is nothing behind filll
 abbrev pub raised : Order → Option Order
@@ -254,21 +274,9 @@ is_internal begin.Point = false
 is_internal (begin.Number n) = true
 is_internal (begin.At place) = true
 is_internal (begin.Numbered kind) = true
+is_internal begin.FontDimen = true
+is_internal (begin.FontInteger kind) = true
 is_internal (begin.Nothing error) = false
-
--- whether the signs and a number make it negative
-abbrev pub turned : Bool → ℤ → Bool
-turned negative (pos n) = negative
-turned negative (negsuc n) = not negative
-
--- so much of an internal quantity: itself, or so many and so many 65536ths of it, rounded down
-abbrev pub amount : ℕ → Amount → ℕ → ℕ
-amount part The_size size = size
-amount part (Times whole) size = size * whole + size * part / 65536
-
--- an internal quantity that ends the dimension, in sp
-abbrev pub ended_with : Bool → ℕ → Amount → ℤ → List Item → Reading Measure
-ended_with negative part a n rest = sized (turned negative n) (amount part a (unsigned_abs n)) Normal rest
 
 -- one that has to be told in mu (sections 449, 451 and 455)
 abbrev pub measured_by : Bool → ℕ → Order → Result Measure TexError
@@ -323,6 +331,8 @@ size_begun units negative on number rest begin.Character = next (character_code 
 size_begun units negative on number rest (begin.Number n) = quantified units negative false number (begin.Number n) rest
 size_begun units negative on number rest (begin.At place) = quantified units negative (has_size place) number (begin.At place) rest
 size_begun units negative on number rest (begin.Numbered kind) = quantified units negative (is_size_kind kind) number (begin.Numbered kind) rest
+size_begun units negative on number rest begin.FontDimen = quantified units negative true number begin.FontDimen rest
+size_begun units negative on number rest (begin.FontInteger kind) = quantified units negative false number (begin.FontInteger kind) rest
 size_begun units negative on number rest (begin.Nothing error) = Wrong error
 
 -- a dimension with its signs, whose sign so far is this

@@ -9,6 +9,9 @@ use Rattle.tx_seen.specs.Readings.{Reading}
 use Rattle.tx_scan.specs.declared.scans.EqualsScan.{EqualsScan}
 use Rattle.tx_scan.specs.declared.scans.BraceScan.{BraceScan}
 use Rattle.tx_scan.specs.declared.scans.NameScan.{NameScan}
+use Rattle.tx_scan.specs.declared.scans.FontScan.{FontScan}
+use Rattle.tx_seen.specs.declared.place.FontName.{FontName}
+use Rattle.tx_scan.specs.FontNames.{font}
 use Rattle.tx_scan.specs.Grammars.{equals, left_brace, name}
 use Rattle.tx_scan.specs.Rests.{HasTakenBy, IsAnswer}
 
@@ -42,3 +45,12 @@ HasTakenName scan taken = HasTakenBy name_rest held_none name scan taken
 
 abbrev pub IsNameFed : NameScan → Seen → Fed Place → Type 0
 IsNameFed scan t answer = (behind : List Item) → IsAnswer name_rest held_none 0 (λ more. name_rest scan behind (Took t) more) t scan answer
+
+abbrev pub font_rest : FontScan → List Item → Item → List Item → Reading FontName
+font_rest scan behind item more = font (item ∷ more)
+
+abbrev pub HasTakenFont : FontScan → List Item → Type 0
+HasTakenFont scan taken = HasTakenBy font_rest held_none font scan taken
+
+abbrev pub IsFontFed : FontScan → Seen → Fed FontName → Type 0
+IsFontFed scan t answer = (behind : List Item) → IsAnswer font_rest held_none 0 (λ more. font_rest scan behind (Took t) more) t scan answer

@@ -5,7 +5,8 @@ use Rattle.tx_char.specs.declared.tokens.Token.TheVariants as token
 use Rattle.tx_seen.specs.declared.error.TexError.TheVariants.{Undefined, MissingNumber, MissingUnit, NotAllowed, NumberOutOfRange, IntegerTooLarge}
 use Rattle.tx_seen.specs.declared.fed.Want.TheVariants.{Raw, Expanded}
 use Rattle.tx_seen.specs.declared.fed.Kind.TheVariants.{Quantity}
-use Rattle.tx_seen.specs.declared.fed.Value.TheVariants.{Int, Dimen, Glue, Muglue, Magnification, Flag, Absent}
+use Rattle.tx_seen.specs.declared.fed.Value.TheVariants.{Int, Dimen, Glue, Muglue, Magnification, Flag, Absent, OutOfRange}
+use Rattle.tx_seen.specs.declared.place.FontName.{FontName}
 use Rattle.tx_seen.specs.declared.place.Place.{Place}
 use Rattle.tx_seen.specs.declared.seen.Seen.{Seen}
 use Rattle.tx_seen.specs.Seen.{is_space, is_undefined}
@@ -15,11 +16,16 @@ use Rattle.tx_seen.specs.Readings.{Reading, More, Need, Done, Wrong, next}
 use Rattle.tx_scan.specs.declared.scans.Radix.{Radix}
 use Rattle.tx_scan.specs.declared.scans.Radix.TheVariants.{Decimal}
 use Rattle.tx_prim.specs.declared.family.Numbered.{Numbered}
+use Rattle.tx_scan.specs.declared.scans.Counted.{Counted}
+use Rattle.tx_scan.specs.declared.scans.Counted.TheVariants as counts
+use Rattle.tx_scan.specs.declared.scans.FontSought.{FontSought}
+use Rattle.tx_scan.specs.declared.scans.FontSought.TheVariants as sought
 use Rattle.tx_scan.specs.declared.scans.Outer.{Outer}
 use Rattle.tx_scan.specs.declared.scans.Beginning.{Beginning}
 use Rattle.tx_scan.specs.declared.scans.Beginning.TheVariants as begin
 use Rattle.tx_seen.specs.Places.{place_of}
 use Rattle.tx_scan.specs.Beginnings.{base, digit, beginning}
+use Rattle.tx_scan.specs.FontNames.{font_behind, font_held, parameter_number, place_of_font}
 
 -- a constant, and the token behind it that is read and isn't part of it, if there is one
 pub record Ended : Type 0 where
@@ -108,6 +114,7 @@ given (Gave (Muglue g)) rest = Wrong MissingUnit
 given (Gave (Magnification n)) rest = Wrong MissingNumber
 given (Gave (Flag _)) rest = Wrong MissingNumber
 given (Gave Absent) rest = Wrong NotAllowed
+given (Gave OutOfRange) rest = Wrong NumberOutOfRange
 given (Took t) rest = Wrong MissingNumber
 
 -- the number that stands at a place
@@ -128,11 +135,27 @@ numbered kind (Some n) rest = quantity (place_of kind n) rest
 abbrev pub with_sign : Bool → ℤ → ℤ
 with_sign negative n = if negative then neg_ℤ n else n
 
+-- what is needed of a font that follows
+abbrev pub of_font : FontSought → Reading FontName → Reading ℤ
+of_font sought font = next font (λ f rest. quantity (place_of_font sought f) rest)
+
+-- what stands at a number that waits for its number, behind which this is: a font is read from there, and all else stays behind
+abbrev pub counted : (List Item → List Item → Reading FontName) → Counted → ℤ → List Item → List Item → (ℤ → List Item → List Item → Reading ℤ) → Reading ℤ
+counted font (counts.Numbered kind) n behind rest on = next (numbered kind (byte_of n) rest) (λ value rest. on value behind rest)
+counted font counts.FontDimen n behind rest on = next (of_font (sought.Dimen (parameter_number n)) (font behind rest)) (λ value rest. on value [] rest)
+
 -- a number is whole, and so is the integer unless another number waits for this one, which is then what stands there; the
 -- token behind it stays behind
+abbrev pub whole_by : (List Item → List Item → Reading FontName) → List Outer → ℤ → List Item → List Item → Reading ℤ
+whole_by font [] n behind rest = Done n (behind ++ rest)
+whole_by font (outer ∷ outers) n behind rest = counted font outer.kind n behind rest (λ value behind rest. whole_by font outers (with_sign outer.negative value) behind rest)
+
 abbrev pub whole : List Outer → ℤ → List Item → List Item → Reading ℤ
-whole [] n behind rest = Done n (behind ++ rest)
-whole (outer ∷ outers) n behind rest = next (numbered outer.kind (byte_of n) rest) (λ value rest. whole outers (with_sign outer.negative value) behind rest)
+whole outers n behind rest = whole_by font_behind outers n behind rest
+
+-- what is needed of a font is a whole number, with this sign; the font stands behind a number, or by itself
+abbrev pub font_number : List Outer → Bool → FontSought → Option FontName → List Item → List Item → Reading ℤ
+font_number outers negative sought tells behind rest = next (of_font sought (font_held tells behind rest)) (λ n rest. whole outers (with_sign negative n) [] rest)
 
 -- a constant with its sign is a whole number
 abbrev pub signed_constant : List Outer → Bool → Ended → List Item → Reading ℤ
@@ -148,7 +171,9 @@ begun outers negative on rest begin.Character = next (character_code rest) (sign
 begun outers negative on rest begin.Point = Wrong MissingNumber
 begun outers negative on rest (begin.Number n) = whole outers (with_sign negative (pos n)) [] rest
 begun outers negative on rest (begin.At place) = next (quantity place rest) (λ n rest. whole outers (with_sign negative n) [] rest)
-begun outers negative on rest (begin.Numbered kind) = on (record { negative = negative; kind = kind } ∷ outers) false
+begun outers negative on rest (begin.Numbered kind) = on (record { negative = negative; kind = counts.Numbered kind } ∷ outers) false
+begun outers negative on rest begin.FontDimen = on (record { negative = negative; kind = counts.FontDimen } ∷ outers) false
+begun outers negative on rest (begin.FontInteger kind) = font_number outers negative (sought.Integer kind) None [] rest
 begun outers negative on rest (begin.Nothing error) = Wrong error
 
 -- a number with its signs, whose sign so far is this, where these numbers wait for it, the innermost first

@@ -1,4 +1,5 @@
 pub mod Beginnings
+pub mod FontNames
 pub mod Lists
 pub mod Integers
 pub mod Rests

@@ -87,6 +87,11 @@ fn begun_by_command(command: Primitive) -> Beginning
         Primitive::Last(kind) => Beginning::At(Place::Last(kind)),
         Primitive::Badness => Beginning::At(Place::Badness),
         Primitive::PrevDepth => Beginning::At(Place::PrevDepth),
+        Primitive::SpaceFactor => Beginning::At(Place::SpaceFactor),
+        Primitive::FontDimen => Beginning::FontDimen,
+        Primitive::FontInteger(kind) => Beginning::FontInteger(kind),
+        Primitive::NullFont | Primitive::LoadFont | Primitive::Char => nothing(),
+        Primitive::ItalicCorrection | Primitive::ControlSpace => nothing(),
         Primitive::Tokens(_) => nothing(),
         Primitive::Relax | Primitive::Par | Primitive::End => nothing(),
         Primitive::IgnoreSpaces | Primitive::Interaction(_) => nothing(),
@@ -119,7 +124,7 @@ fn begun_by_meaning(meaning: &Meaning) -> Beginning
         Meaning::DimenRegister(number) => Beginning::At(Place::Dimen(*number)),
         Meaning::SkipRegister(number) => Beginning::At(Place::Skip(*number)),
         Meaning::MuskipRegister(number) => Beginning::At(Place::Muskip(*number)),
-        Meaning::ToksRegister(_) => nothing(),
+        Meaning::ToksRegister(_) | Meaning::Font(_) => nothing(),
         Meaning::Expandable(_) | Meaning::Macro(_) | Meaning::Held => nothing(),
     }
 }

@@ -12,6 +12,7 @@ impl Clone for IntScan {
             outers: self.outers.clone()?,
             negative: self.negative,
             stage: self.stage,
+            behind: self.behind,
         })
     }
 }

@@ -2,36 +2,37 @@
 ghost use Rattle.std.specs.Prelude.{◌≡◌, ◌≤◌, ◌≤ℤ◌, ◌∷◌, ◌++◌, ◌&&◌, [], ℕ, pos, neg_ℤ, unsigned_abs, List, IfOk};
 ghost use Rattle.tx_num.specs.Decimals.{fraction_of};
 ghost use Rattle.tx_num.specs.Fractions.{signed};
+ghost use Rattle.tx_num.specs.Units.{size_of};
 ghost use Rattle.tx_seen.specs.Seen.{is_point};
 ghost use Rattle.tx_seen.specs.declared.item.Item.{Item};
 ghost use Rattle.tx_seen.specs.declared.item.Item.TheVariants.{Took, Gave};
 ghost use Rattle.tx_seen.specs.declared.seen.Seen.{Seen};
 ghost use Rattle.tx_seen.specs.Readings.{Answers, next};
-ghost use Rattle.tx_scan.specs.Dimensions.{dimension, ended_with, in_mu, is_decimal, numbered_unit, quantified, spelled, unit_ended, unit_name};
+ghost use Rattle.tx_scan.specs.Dimensions.{dimension, ended_with, sized, in_mu, is_decimal, numbered_unit, quantified, spelled, unit_ended, unit_name};
 ghost use Rattle.tx_scan.specs.Dimensions as spec;
 ghost use Rattle.tx_scan.specs.Dimensions.{True_unit};
-ghost use Rattle.tx_scan.specs.Integers.{integer, IsInRange};
+ghost use Rattle.tx_scan.specs.Integers.{given, integer, IsInRange};
 ghost use Rattle.tx_scan.specs.IntegerRests as integers;
 ghost use Rattle.tx_scan.specs.declared.scans.Units.{Units as Units_of_size};
 ghost use Rattle.tx_scan.specs.Rests.{IsFedBy, IsGivenBy, IsEnd};
 ghost use Rattle.tx_scan.specs.Supplied.{NeedsFewer, NeedsNoMore};
-ghost use Rattle.tx_scan.specs.DimensionRests.{HasTaken, IsFed, IsMeasuring, IsSize, IsUnit, begun_size, begun_size_behind, held, held_items, more_needed, name_ended, part_of, rest};
+ghost use Rattle.tx_scan.specs.DimensionRests.{count_held, HasTaken, IsFed, IsMeasuring, IsSize, IsUnit, begun_size, begun_size_behind, held, held_items, more_needed, name_ended, part_of, rest};
 ghost use Rattle.tx_scan.specs.Beginnings as beginnings;
 ghost use Rattle.tx_scan.specs.Mapped.{fed_if, settled};
 
 use crate::beginnings::{beginning, digit};
 use crate::fraction::Digits;
-use crate::integer::{character_named, first, longer};
+use crate::integer::{character_named, first, longer, number_given};
 use crate::scans::{
     Amount, Beginning, Constant, DimenScan, DimenStage, IntScan, Letters, Measure, Order, Portion,
     QuantityScan, Radix, Sought, Spelled, UnitName, Units,
 };
 use crate::units::{
-    first_letter, first_letter_behind_true, is_internal, letter_on, magnified, raised, size_in,
+    first_letter, first_letter_behind_true, is_internal, letter_on, magnified, raised,
 };
 use std::alloc::{AllocError, Global};
 use tx_num::PhysicalUnit;
-use tx_seen::{Fed, Kind, Place, Seen, TexError, Value, Want};
+use tx_seen::{Fed, FontSize, Kind, Place, Seen, TexError, Value, Want};
 
 impl DimenScan {
     /// The scan of a dimension of which nothing is read: in mu alone or in all other units, with the infinite ones or without.
@@ -117,7 +118,9 @@ impl DimenScan {
                 let fed = self.quantity.feed(token)?;
                 Ok(self.mathematical(amount, fed))
             }
-            DimenStage::Magnification(_) => Ok(Fed::Wrong(TexError::MissingNumber)),
+            DimenStage::Magnification(_) | DimenStage::FontUnit(_, _, _) => {
+                Ok(Fed::Wrong(TexError::MissingNumber))
+            }
             DimenStage::TrueUnit(whole, portion) => {
                 Ok(self.feed_true_unit(whole, portion, token))
             }
@@ -153,6 +156,7 @@ impl DimenScan {
                 Ok(self.mathematical(amount, fed))
             }
             DimenStage::Magnification(whole) => Ok(self.give_magnification(whole, value)),
+            DimenStage::FontUnit(whole, _, held) => Ok(self.give_font_unit(whole, value, held)),
             DimenStage::Signs | DimenStage::FirstDigit(_) | DimenStage::Digits(_) => {
                 Ok(Fed::Wrong(TexError::MissingNumber))
             }
@@ -208,6 +212,8 @@ impl DimenScan {
             Beginning::Numbered(kind) => {
                 self.begin_quantity(Place::numbered(kind, 0).has_size(), token)
             }
+            Beginning::FontDimen => self.begin_quantity(true, token),
+            Beginning::FontInteger(_) => self.begin_quantity(false, token),
             Beginning::Nothing(error) => Ok(Fed::Wrong(error)),
         }
     }
@@ -314,6 +320,14 @@ impl DimenScan {
                 let fed = self.quantity.begin_behind(Sought::Numbered(kind));
                 self.mathematical(amount, fed)
             }
+            Beginning::FontDimen => {
+                let fed = self.quantity.begin_parameter();
+                self.mathematical(amount, fed)
+            }
+            Beginning::FontInteger(kind) => {
+                let fed = self.quantity.begin_font(kind);
+                self.mathematical(amount, fed)
+            }
             Beginning::Number(_) => Fed::Wrong(TexError::MissingUnit),
             Beginning::Plus | Beginning::Minus | Beginning::Digit(_) | Beginning::Digits(_) => {
                 Fed::Wrong(TexError::MissingNumber)
@@ -347,7 +361,9 @@ impl DimenScan {
             Value::Int(_) | Value::Dimen(_) | Value::Glue(_) | Value::Magnification(_) => {
                 Fed::Wrong(TexError::MissingUnit)
             }
-            Value::Flag(_) | Value::Absent => Fed::Wrong(TexError::MissingUnit),
+            Value::Flag(_) | Value::Absent | Value::OutOfRange => {
+                Fed::Wrong(TexError::MissingUnit)
+            }
         }
     }
 
@@ -367,7 +383,19 @@ impl DimenScan {
             Value::Int(_) | Value::Dimen(_) | Value::Glue(_) | Value::Muglue(_) => {
                 Fed::Wrong(TexError::MissingNumber)
             }
-            Value::Flag(_) => Fed::Wrong(TexError::MissingNumber),
+            Value::Flag(_) | Value::OutOfRange => Fed::Wrong(TexError::MissingNumber),
+        }
+    }
+
+    /// The size of the current font that is the unit, behind which a token is held or none.
+    fn give_font_unit(&self, whole: u32, value: &Value, held: bool) -> Fed<Measure>
+        ensures end { IsEnd (λ more. next (given (Gave value.now) more) (λ size more. ended_with self.now.negative (part_of self.now.magnified self.now.digits) (Amount.Times whole) size more)) (count_held held) result }
+        ensures size { IsSize result }
+        ensures needed { (old new : ℕ) → NeedsFewer old new result }
+    {
+        match number_given(value) {
+            Ok(size) => self.measured(self.part(), Amount::Times(whole), size, usize::from(held)),
+            Err(error) => Fed::Wrong(error),
         }
     }
 
@@ -425,7 +453,18 @@ impl DimenScan {
         ensures size { IsSize result }
         ensures needed { (old new : ℕ) → NeedsFewer old new result }
     {
-        let size = amount_of(self.digits.value(), amount, magnitude(number));
+        self.measured(self.digits.value(), amount, number, back)
+    }
+
+    /// So much of a size is the dimension, with such a part; so many tokens behind it are given back.
+    fn measured(&self, part: u32, amount: Amount, number: i64, back: usize) -> Fed<Measure>
+        requires range { IsInRange number }
+        requires part { part ≤ 65536 }
+        ensures end { IsEnd (λ more. ended_with self.now.negative part amount number more) back result }
+        ensures size { IsSize result }
+        ensures needed { (old new : ℕ) → NeedsFewer old new result }
+    {
+        let size = amount_of(part, amount, magnitude(number));
         if size > MAX_DIMENSION {
             return Fed::Wrong(TexError::DimensionTooLarge);
         }
@@ -590,21 +629,40 @@ impl DimenScan {
         if token.is_undefined() {
             return Fed::Wrong(TexError::Undefined);
         }
-        match size_in(unit, whole, self.part()) {
+        let held = !token.is_space();
+        match unit {
+            UnitName::Physical(unit) => self.told(unit, whole, usize::from(held)),
+            UnitName::Mathematical => self.told(PhysicalUnit::Point, whole, usize::from(held)),
+            UnitName::Font(size) => self.to_font_unit(whole, size, held),
+        }
+    }
+
+    /// So many of such units are the dimension, behind which so many tokens are given back.
+    fn told(&self, unit: PhysicalUnit, whole: u32, back: usize) -> Fed<Measure>
+        ensures end { IsEnd (λ more. sized self.now.negative (size_of unit whole (part_of self.now.magnified self.now.digits)) Order.Normal more) back result }
+        ensures size { IsSize result }
+        ensures needed { (old new : ℕ) → NeedsNoMore old new result }
+    {
+        match unit.to_scaled(whole, self.part()) {
             Ok(size) => {
                 let size = signed_size(self.negative, size);
                 let measure = Measure {
                     size,
                     order: Order::Normal,
                 };
-                if token.is_space() {
-                    Fed::Done(measure, 0)
-                } else {
-                    Fed::Done(measure, 1)
-                }
+                Fed::Done(measure, back)
             }
             Err(_) => Fed::Wrong(TexError::DimensionTooLarge),
         }
+    }
+
+    /// A size of the current font is needed as the unit, where a token is held or none.
+    fn to_font_unit(&mut self, whole: u32, size: FontSize, held: bool) -> Fed<Measure>
+        ensures scan { self.new ≡ record self.old { stage = DimenStage.FontUnit whole size held } }
+        ensures answer { result ≡ Fed.Need (Kind.Quantity (Place.FontSize size)) }
+    {
+        self.stage = DimenStage::FontUnit(whole, size, held);
+        Fed::Need(Kind::Quantity(Place::FontSize(size)))
     }
 
     /// A space behind `fil`, or an l of it, or what is behind it all.

@@ -12,6 +12,7 @@ ghost use Rattle.tx_scan.specs.Supplied.{NeedsNothing};
 use crate::spellings::FileNameScan;
 use std::alloc::{AllocError, Global};
 use tx_bytes::Bytes;
+use tx_list::Items;
 use tx_seen::{Fed, Meaning, Seen, TexError, Want};
 
 /// The character that a token means.
@@ -31,8 +32,24 @@ impl FileNameScan {
         ensures taken { HasTaken result [] }
     {
         FileNameScan {
-            letters: Bytes::new(alloc),
+            letters: Items::new(alloc),
         }
+    }
+
+    /// Forgets what was read, in the memory that it has.
+    pub fn restart(&mut self)
+        ensures scan { self.new ≡ begun_file }
+        ensures taken { HasTaken self.new [] }
+    {
+        self.letters.clear();
+    }
+
+    /// The name as far as it is read. Its only error is want of memory.
+    fn name(&self) -> Result<Bytes, AllocError>
+        ensures { IfOk result (λ name. name ≡ self.now.letters) }
+    {
+        let letters = self.letters.share()?;
+        Ok(Bytes::from_vec(letters.into_vec()))
     }
 
     /// Takes one token, at first and after More; it needs no value. The answer is what reading gives of all that was taken:
@@ -59,15 +76,15 @@ impl FileNameScan {
             if self.letters.is_empty() {
                 return Ok(Fed::More(Want::Expanded));
             }
-            return Ok(Fed::Done(self.letters.clone()?, 0));
+            return Ok(Fed::Done(self.name()?, 0));
         }
         match code_of(&token.meaning) {
-            Some(b' ') => Ok(Fed::Done(self.letters.clone()?, 0)),
+            Some(b' ') => Ok(Fed::Done(self.name()?, 0)),
             Some(code) => {
                 self.letters.push(code)?;
                 Ok(Fed::More(Want::Expanded))
             }
-            None => Ok(Fed::Done(self.letters.clone()?, 1)),
+            None => Ok(Fed::Done(self.name()?, 1)),
         }
     }
 }
@@ -100,7 +117,7 @@ impl Clone for FileNameScan {
 
     fn clone(&self) -> Result<Self, AllocError> {
         Ok(FileNameScan {
-            letters: self.letters.clone()?,
+            letters: self.letters.share()?,
         })
     }
 }

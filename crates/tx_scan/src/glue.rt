@@ -123,6 +123,8 @@ impl GlueScan {
             Beginning::Character => self.begin_width(negative, token),
             Beginning::Point => self.begin_width(negative, token),
             Beginning::Number(_) => self.begin_width(negative, token),
+            Beginning::FontDimen => self.begin_width(negative, token),
+            Beginning::FontInteger(_) => self.begin_width(negative, token),
             Beginning::Nothing(_) => self.begin_width(negative, token),
         }
     }
@@ -206,7 +208,9 @@ impl GlueScan {
                 Fed::Wrong(TexError::MissingUnit)
             }
             Value::Int(_) | Value::Dimen(_) | Value::Flag(_) => Fed::Wrong(TexError::MissingNumber),
-            Value::Magnification(_) | Value::Absent => Fed::Wrong(TexError::MissingNumber),
+            Value::Magnification(_) | Value::Absent | Value::OutOfRange => {
+                Fed::Wrong(TexError::MissingNumber)
+            }
         }
     }
 

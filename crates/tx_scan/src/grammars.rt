@@ -1,17 +1,19 @@
-//! An optional equals sign, a begin-group token and a name, token by token (TeX: The Program, sections 403 to 405 and 1215).
+//! An optional equals sign, a begin-group token, a name and a font, token by token (TeX: The Program, sections 403 to 405, 577 and
+//! 1215).
 ghost use Rattle.std.specs.Prelude.{◌≡◌, ◌∷◌, ◌++◌, [], List, IfOk};
 ghost use Rattle.tx_seen.specs.declared.item.Item.{Item};
 ghost use Rattle.tx_seen.specs.declared.item.Item.TheVariants.{Took};
 ghost use Rattle.tx_seen.specs.Readings.{Answers};
 ghost use Rattle.tx_scan.specs.Grammars.{equals, left_brace, name};
 ghost use Rattle.tx_scan.specs.Rests.{IsFedBy};
-ghost use Rattle.tx_scan.specs.GrammarRests.{HasTakenEquals, HasTakenBrace, HasTakenName, IsEqualsFed, IsBraceFed, IsNameFed, equals_rest, brace_rest, name_rest, held_none};
+ghost use Rattle.tx_scan.specs.GrammarRests.{HasTakenEquals, HasTakenBrace, HasTakenFont, HasTakenName, IsEqualsFed, IsBraceFed, IsFontFed, IsNameFed, equals_rest, brace_rest, font_rest, name_rest, held_none};
+ghost use Rattle.tx_scan.specs.FontNames.{font, place_of_font};
 ghost use Rattle.tx_scan.specs.Supplied.{NeedsNothing};
 
-use crate::scans::{BraceScan, EqualsScan, NameScan};
+use crate::scans::{BraceScan, EqualsScan, FontScan, FontSought, NameScan};
 use std::alloc::AllocError;
 use tx_char::{Cat, Token};
-use tx_seen::{Fed, Place, Seen, TexError, Want};
+use tx_seen::{Fed, FontName, Place, Seen, TexError, Want};
 
 impl EqualsScan {
     /// The scan of an optional `=` of which nothing is read.
@@ -116,6 +118,54 @@ impl NameScan {
             Token::Character(_, Cat::Space) => Ok(Fed::More(Want::Raw)),
             Token::Character(code, Cat::Active) => Ok(Fed::Done(Place::Active(*code), 0)),
             Token::Character(_, _) | Token::FrozenRelax => Ok(Fed::Wrong(TexError::MissingName)),
+        }
+    }
+}
+
+impl FontScan {
+    /// The scan of a font of which nothing is read.
+    pub fn new() -> FontScan
+        ensures { HasTakenFont result [] }
+    {
+        FontScan {}
+    }
+
+    /// Takes one token, at first and after More; it needs no value. The answer is what reading gives of all that was taken.
+    pub fn feed(&mut self, token: &Seen) -> Fed<FontName>
+        ensures answer { (taken : List Item) → HasTakenFont self.old taken → Answers font HasTakenFont (taken ++ Took token.now ∷ []) self.new result }
+        ensures part { IsFedBy font_rest held_none self.old token.now self.new result }
+        ensures fed { IsFontFed self.new token.now result }
+        ensures nothing { NeedsNothing result }
+    {
+        self.behind(token)
+    }
+
+    /// What it is behind one more token.
+    fn behind(&self, token: &Seen) -> Fed<FontName>
+        ensures fed { IsFontFed self.now token.now result }
+        ensures nothing { NeedsNothing result }
+    {
+        if token.is_undefined() {
+            return Fed::Wrong(TexError::Undefined);
+        }
+        if token.is_space() {
+            return Fed::More(Want::Expanded);
+        }
+        match token.font_name() {
+            Some(font) => Fed::Done(font, 0),
+            None => Fed::Wrong(TexError::MissingName),
+        }
+    }
+}
+
+impl FontSought {
+    /// Where that stands which is needed of a font.
+    pub fn place(self, font: FontName) -> Place
+        ensures { result ≡ place_of_font self font }
+    {
+        match self {
+            FontSought::Dimen(number) => Place::FontDimen(font, number),
+            FontSought::Integer(kind) => Place::FontInteger(kind, font),
         }
     }
 }

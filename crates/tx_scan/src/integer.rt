@@ -4,20 +4,22 @@ ghost use Rattle.tx_seen.specs.declared.item.Item.{Item};
 ghost use Rattle.tx_seen.specs.declared.item.Item.TheVariants.{Took, Gave};
 ghost use Rattle.tx_seen.specs.Readings.{Answers};
 ghost use Rattle.tx_scan.specs.Beginnings.{base};
-ghost use Rattle.tx_scan.specs.Integers.{integer, with_sign, byte_of, code_named, is_in_range, IsInRange};
+ghost use Rattle.tx_scan.specs.Integers.{integer, given, in_range, with_sign, byte_of, code_named, is_in_range, IsInRange};
+ghost use Rattle.tx_scan.specs.FontNames.{parameter_number, place_of_font};
 ghost use Rattle.tx_scan.specs.Rests.{IsFedBy, IsGivenBy};
-ghost use Rattle.tx_scan.specs.IntegerRests.{HasTaken, IsFed, IsGiven, IsWhole, IsEnded, IsWaiting, IsInteger, IsNumberGiven, begun_integer, waiting};
+ghost use Rattle.tx_scan.specs.IntegerRests.{HasTaken, IsFed, IsGiven, IsWhole, IsEnded, IsFontNeeded, IsWaiting, IsInteger, IsNumberRead, IsTold, EndedBy, begun_integer, waiting};
 ghost use Rattle.tx_scan.specs.IntegerRests as rests;
 ghost use Rattle.tx_scan.specs.Supplied.{NeedsFewer, NeedsNoMore};
 
 use crate::beginnings::{beginning, digit};
 use crate::outers::forget;
-use crate::scans::{Beginning, Constant, IntScan, IntStage, Outer, Radix};
+use crate::scans::{
+    Beginning, Constant, Counted, FontScan, FontSought, IntScan, IntStage, Outer, Radix,
+};
 use std::alloc::{AllocError, Global};
 use tx_char::Token;
 use tx_list::Stack;
-use tx_prim::Numbered;
-use tx_seen::{Fed, Kind, Place, Seen, TexError, Value, Want};
+use tx_seen::{Fed, FontName, Kind, Place, Seen, TexError, Value, Want};
 
 /// The greatest integer.
 const GREATEST: u64 = 2_147_483_647;
@@ -58,6 +60,32 @@ fn is_integer(number: i64) -> bool
     -(GREATEST as i64) <= number && number <= GREATEST as i64
 }
 
+/// A number, if it isn't too large.
+fn in_range(number: i64) -> Result<i64, TexError>
+    ensures { IsNumberRead (λ rest. in_range number rest) result }
+{
+    if is_integer(number) {
+        Ok(number)
+    } else {
+        Err(TexError::IntegerTooLarge)
+    }
+}
+
+/// The number that a value is where one is needed: a size counts in sp, and of glue the width.
+pub(crate) fn number_given(value: &Value) -> Result<i64, TexError>
+    ensures { IsNumberRead (λ rest. given (Gave value.now) rest) result }
+{
+    match value {
+        Value::Int(number) => in_range(*number),
+        Value::Dimen(size) => in_range(*size),
+        Value::Glue(glue) => in_range(glue.width()),
+        Value::Muglue(_) => Err(TexError::MissingUnit),
+        Value::Flag(_) | Value::Magnification(_) => Err(TexError::MissingNumber),
+        Value::Absent => Err(TexError::NotAllowed),
+        Value::OutOfRange => Err(TexError::NumberOutOfRange),
+    }
+}
+
 /// The number with its sign.
 fn signed(negative: bool, number: i64) -> i64
     requires { IsInRange number }
@@ -75,6 +103,17 @@ pub fn byte(number: i64) -> Option<u8>
         Some(number as u8)
     } else {
         None
+    }
+}
+
+/// The number as that of a parameter of a font; 0 where none can have it.
+pub fn parameter(number: i64) -> u16
+    ensures { result ≡ parameter_number number }
+{
+    if 0 <= number && number <= 65535 {
+        number as u16
+    } else {
+        0
     }
 }
 
@@ -102,6 +141,7 @@ impl IntScan {
             outers: Stack::new(alloc),
             negative: false,
             stage: IntStage::Signs,
+            behind: None,
         }
     }
 
@@ -113,6 +153,7 @@ impl IntScan {
         forget(&mut self.outers);
         self.negative = false;
         self.stage = IntStage::Signs;
+        self.behind = None;
     }
 
     /// Takes one token, at first and after More. The answer is what reading gives of all that was taken. Its only error
@@ -124,6 +165,7 @@ impl IntScan {
         ensures within { IfOk result IsInteger }
         ensures waits { IfOk result (NeedsNoMore (waiting self.old) (waiting self.new)) }
         ensures holds { IfOk result (NeedsNoMore (waiting self.old) (waiting self.new + rests.held self.new)) }
+        ensures told { IfOk result (IsTold token.now self.new) }
     {
         self.behind(token)
     }
@@ -135,6 +177,7 @@ impl IntScan {
         ensures given { IsGiven self.old value.now self.new result }
         ensures within { IsInteger result }
         ensures fewer { NeedsFewer (waiting self.old) (waiting self.new) result }
+        ensures behind { self.new.behind ≡ self.old.behind }
     {
         self.answered(value)
     }
@@ -144,30 +187,21 @@ impl IntScan {
         ensures given { IsGiven self.old value.now self.new result }
         ensures within { IsInteger result }
         ensures fewer { NeedsFewer (waiting self.old) (waiting self.new) result }
+        ensures behind { self.new.behind ≡ self.old.behind }
     {
-        let IntStage::Given(held) = self.stage else {
-            return Fed::Wrong(TexError::MissingNumber);
-        };
-        match value {
-            Value::Int(number) => self.given(*number, held),
-            Value::Dimen(size) => self.given(*size, held),
-            Value::Glue(glue) => self.given(glue.width(), held),
-            Value::Muglue(_) => Fed::Wrong(TexError::MissingUnit),
-            Value::Flag(_) | Value::Magnification(_) => Fed::Wrong(TexError::MissingNumber),
-            Value::Absent => Fed::Wrong(TexError::NotAllowed),
+        match self.stage {
+            IntStage::Given(held) => match number_given(value) {
+                Ok(number) => self.whole(signed(self.negative, number), held),
+                Err(error) => Fed::Wrong(error),
+            },
+            IntStage::Font(_) => Fed::Wrong(TexError::MissingName),
+            IntStage::Signs | IntStage::FirstDigit(_) | IntStage::Digits(_) => {
+                Fed::Wrong(TexError::MissingNumber)
+            }
+            IntStage::Character | IntStage::AfterCharacter(_) => {
+                Fed::Wrong(TexError::MissingNumber)
+            }
         }
-    }
-
-    /// What it is behind a number that was needed, behind which so many tokens are held.
-    fn given(&mut self, number: i64, held: usize) -> Fed<i64>
-        ensures given { IsNumberGiven self.old number held self.new result }
-        ensures within { IsInteger result }
-        ensures fewer { NeedsFewer (waiting self.old) (waiting self.new) result }
-    {
-        if !is_integer(number) {
-            return Fed::Wrong(TexError::IntegerTooLarge);
-        }
-        self.whole(signed(self.negative, number), held)
     }
 
     /// What it is behind one more token. Its only error is want of memory.
@@ -176,6 +210,7 @@ impl IntScan {
         ensures within { IfOk result IsInteger }
         ensures waits { IfOk result (NeedsNoMore (waiting self.old) (waiting self.new)) }
         ensures holds { IfOk result (NeedsNoMore (waiting self.old) (waiting self.new + rests.held self.new)) }
+        ensures told { IfOk result (IsTold token.now self.new) }
     {
         match self.stage {
             IntStage::Signs => self.feed_sign(token),
@@ -183,28 +218,79 @@ impl IntScan {
             IntStage::Digits(constant) => Ok(self.feed_digit(constant, token)),
             IntStage::Character => Ok(self.feed_character(token)),
             IntStage::AfterCharacter(code) => Ok(self.end(u32::from(code), token)),
+            IntStage::Font(sought) => Ok(self.feed_font(sought, token)),
             IntStage::Given(_) => Ok(Fed::Wrong(TexError::MissingNumber)),
         }
     }
 
-    /// A number is whole, behind which so many tokens are held: it is the integer, or the number of what waits for it.
+    /// A number is whole, which so many tokens ended: it is the integer, or the number of what waits for it.
     fn whole(&mut self, number: i64, held: usize) -> Fed<i64>
         requires { IsInRange number }
-        ensures whole { IsWhole self.old.outers number held self.new result }
+        ensures whole { IsWhole self.old.outers self.old.behind number held self.new result }
         ensures within { IsInteger result }
         ensures fewer { NeedsFewer (waiting self.old) (waiting self.new) result }
         ensures waits { NeedsNoMore (waiting self.old) (waiting self.new) result }
         ensures holds { held ≤ 1 → NeedsNoMore (waiting self.old) (waiting self.new + rests.held self.new) result }
+        ensures few { EndedBy held self.new result }
+        ensures behind { self.new.behind ≡ self.old.behind }
     {
         let Some(outer) = self.outers.pop() else {
             return Fed::Done(number, held);
         };
-        let Some(byte) = byte(number) else {
-            return Fed::Wrong(TexError::NumberOutOfRange);
-        };
         self.negative = outer.negative;
-        self.stage = IntStage::Given(held);
-        Fed::Need(Kind::Quantity(Place::numbered(outer.kind, byte)))
+        match outer.kind {
+            Counted::Numbered(kind) => {
+                let Some(byte) = byte(number) else {
+                    return Fed::Wrong(TexError::NumberOutOfRange);
+                };
+                self.stage = IntStage::Given(held);
+                Fed::Need(Kind::Quantity(Place::numbered(kind, byte)))
+            }
+            Counted::FontDimen => self.to_font(FontSought::Dimen(parameter(number)), held),
+        }
+    }
+
+    /// A font is needed, behind a number behind which so many tokens are held.
+    fn to_font(&mut self, sought: FontSought, held: usize) -> Fed<i64>
+        ensures font { IsFontNeeded self.old.outers self.old.negative sought self.old.behind held self.new result }
+        ensures within { IsInteger result }
+        ensures few { EndedBy 0 self.new result }
+        ensures outers { self.new.outers ≡ self.old.outers }
+        ensures behind { self.new.behind ≡ self.old.behind }
+    {
+        if held == 0 {
+            return self.on(IntStage::Font(sought));
+        }
+        match self.behind {
+            Some(font) => self.to_font_value(sought, font),
+            None => Fed::Wrong(TexError::MissingName),
+        }
+    }
+
+    /// What is needed of a font.
+    fn to_font_value(&mut self, sought: FontSought, font: FontName) -> Fed<i64>
+        ensures scan { self.new ≡ record self.old { stage = IntStage.Given 0 } }
+        ensures answer { result ≡ Fed.Need (Kind.Quantity (place_of_font sought font)) }
+    {
+        self.stage = IntStage::Given(0);
+        Fed::Need(Kind::Quantity(sought.place(font)))
+    }
+
+    /// A space before the font that is needed, or the font.
+    fn feed_font(&mut self, sought: FontSought, token: &Seen) -> Fed<i64>
+        requires { self.old.stage ≡ IntStage.Font sought }
+        ensures fed { IsFed self.old token.now self.new result }
+        ensures within { IsInteger result }
+        ensures waits { NeedsNoMore (waiting self.old) (waiting self.new) result }
+        ensures holds { NeedsNoMore (waiting self.old) (waiting self.new + rests.held self.new) result }
+        ensures told { IsTold token.now self.new result }
+    {
+        match FontScan::new().feed(token) {
+            Fed::More(want) => Fed::More(want),
+            Fed::Need(kind) => Fed::Need(kind),
+            Fed::Done(font, _) => self.to_font_value(sought, font),
+            Fed::Wrong(error) => Fed::Wrong(error),
+        }
     }
 
     /// The number that ends at this token.
@@ -214,6 +300,7 @@ impl IntScan {
         ensures within { IsInteger result }
         ensures waits { NeedsNoMore (waiting self.old) (waiting self.new) result }
         ensures holds { NeedsNoMore (waiting self.old) (waiting self.new + rests.held self.new) result }
+        ensures told { IsTold token.now self.new result }
     {
         if token.is_undefined() {
             return Fed::Wrong(TexError::Undefined);
@@ -222,12 +309,13 @@ impl IntScan {
         if token.is_space() {
             self.whole(number, 0)
         } else {
+            self.behind = token.font_name();
             self.whole(number, 1)
         }
     }
 
     /// The number that tells which of this kind comes next, and this one waits. Its only error is want of memory.
-    fn wait(&mut self, kind: Numbered) -> Result<Fed<i64>, AllocError>
+    fn wait(&mut self, kind: Counted) -> Result<Fed<i64>, AllocError>
         requires { self.old.stage ≡ IntStage.Signs }
         ensures { IfOk result (IsWaiting self.old kind self.new) }
     {
@@ -253,6 +341,7 @@ impl IntScan {
         ensures within { IfOk result IsInteger }
         ensures waits { IfOk result (NeedsNoMore (waiting self.old) (waiting self.new)) }
         ensures holds { IfOk result (NeedsNoMore (waiting self.old) (waiting self.new + rests.held self.new)) }
+        ensures told { IfOk result (IsTold token.now self.new) }
     {
         match beginning(token) {
             Beginning::Plus => Ok(Fed::More(Want::Expanded)),
@@ -274,7 +363,9 @@ impl IntScan {
                 self.stage = IntStage::Given(0);
                 Ok(Fed::Need(Kind::Quantity(place)))
             }
-            Beginning::Numbered(kind) => self.wait(kind),
+            Beginning::Numbered(kind) => self.wait(Counted::Numbered(kind)),
+            Beginning::FontDimen => self.wait(Counted::FontDimen),
+            Beginning::FontInteger(kind) => Ok(self.on(IntStage::Font(FontSought::Integer(kind)))),
             Beginning::Point => Ok(Fed::Wrong(TexError::MissingNumber)),
             Beginning::Nothing(error) => Ok(Fed::Wrong(error)),
         }
@@ -287,6 +378,7 @@ impl IntScan {
         ensures within { IsInteger result }
         ensures waits { NeedsNoMore (waiting self.old) (waiting self.new) result }
         ensures holds { NeedsNoMore (waiting self.old) (waiting self.new + rests.held self.new) result }
+        ensures told { IsTold token.now self.new result }
     {
         match digit(radix, token) {
             Some(digit) => self.on(IntStage::Digits(first(radix, digit))),
@@ -305,6 +397,7 @@ impl IntScan {
         ensures within { IsInteger result }
         ensures waits { NeedsNoMore (waiting self.old) (waiting self.new) result }
         ensures holds { NeedsNoMore (waiting self.old) (waiting self.new + rests.held self.new) result }
+        ensures told { IsTold token.now self.new result }
     {
         let Some(digit) = digit(constant.radix, token) else {
             return self.end(constant.number, token);
@@ -322,6 +415,7 @@ impl IntScan {
         ensures within { IsInteger result }
         ensures waits { NeedsNoMore (waiting self.old) (waiting self.new) result }
         ensures holds { NeedsNoMore (waiting self.old) (waiting self.new + rests.held self.new) result }
+        ensures told { IsTold token.now self.new result }
     {
         match character_named(&token.token) {
             Some(code) => self.on(IntStage::AfterCharacter(code)),

@@ -1,5 +1,5 @@
 //! Keywords, token by token (TeX: The Program, section 407).
-ghost use Rattle.std.specs.Prelude.{◌≡◌, ◌<◌, ◌≤◌, ◌+◌, length, ◌^◌, ◌∷◌, ◌++◌, [], ℕ, List, drop, IfSome, MatchOption};
+ghost use Rattle.std.specs.Prelude.{◌≡◌, ◌↔◌, ◌<◌, ◌≤◌, ◌+◌, length, ◌^◌, ◌∷◌, ◌++◌, [], ℕ, List, drop, IfSome, IsTrue, MatchOption};
 ghost use Rattle.tx_seen.specs.declared.item.Item.{Item};
 ghost use Rattle.tx_seen.specs.declared.item.Item.TheVariants.{Took};
 ghost use Rattle.tx_seen.specs.Readings.{Answers};
@@ -18,6 +18,13 @@ impl KeyScan {
         ensures taken { (word : List ℕ) → HasTaken word result [] }
     {
         KeyScan { read: 0 }
+    }
+
+    /// Whether a letter of the word is read.
+    pub fn is_begun(&self) -> bool
+        ensures { IsTrue result ↔ (0 < self.now.read) }
+    {
+        self.read > 0
     }
 
     /// Takes one token of this word of small letters, the same each time, at first and after More; a word needs no value. The

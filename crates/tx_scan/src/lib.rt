@@ -1,5 +1,5 @@
 //! Scans: what is read off tokens as TeX expands them: integers, dimensions, glue, keywords, an optional `=`, a begin-group token,
-//! names, names that are spelled out, and names of files. A scan is fed token by token, asks for the values that only its
+//! names, fonts, names that are spelled out, and names of files. A scan is fed token by token, asks for the values that only its
 //! caller knows, and gives back the tokens that aren't part of what it reads. A scan can be a part of a longer one: its
 //! answers say what reading on from it gives.
 //!
@@ -33,12 +33,12 @@ mod units;
 pub use beginnings::beginning;
 pub use file_name::input_name;
 pub use giving_back::{give_back, token_of};
-pub use integer::byte;
+pub use integer::{byte, parameter};
 pub use laws::integers_are_read_from_the_left;
 pub use lists::list_begun;
 pub use scans::{
-    Beginning, BraceScan, DimenScan, EqualsScan, GlueScan, IntScan, KeyScan, ListBegun, Measure,
-    NameScan, Order, QuantityScan, Sought, Units,
+    Beginning, BraceScan, DimenScan, EqualsScan, FontScan, FontSought, GlueScan, IntScan, KeyScan,
+    ListBegun, Measure, NameScan, Order, QuantityScan, Sought, Units,
 };
 pub use spellings::{ControlNameScan, FileNameScan};
 pub use supplying::{Needs, supply};

@@ -1,14 +1,16 @@
 //! Internal quantities: what stands at a place, or at a number of a kind (TeX: The Program, section 413).
 ghost use Rattle.std.specs.Prelude.{◌≡◌, IfOk};
 ghost use Rattle.tx_scan.specs.Quantities as spec;
-ghost use Rattle.tx_scan.specs.QuantityRests.{IsFed, IsNumbered, begun_quantity, begun_at_number, held, more_needed, rest};
+ghost use Rattle.tx_scan.specs.FontNames.{place_of_font};
+ghost use Rattle.tx_scan.specs.QuantityRests.{IsFed, IsFontSought, IsNumbered, IsParameter, begun_quantity, begun_at_font, begun_at_number, begun_at_parameter, held, more_needed, rest};
 ghost use Rattle.tx_scan.specs.Rests.{IsFedBy, IsGivenBy};
 ghost use Rattle.tx_scan.specs.Supplied.{NeedsFewer, NeedsNoMore};
 
-use crate::integer::byte;
-use crate::scans::{IntScan, QuantityScan, QuantityStage, Sought};
+use crate::integer::{byte, parameter};
+use crate::scans::{FontScan, FontSought, IntScan, QuantityScan, QuantityStage, Sought};
 use std::alloc::{AllocError, Global};
-use tx_seen::{Fed, Kind, Place, Seen, TexError, Value, Want};
+use tx_prim::FontNumber;
+use tx_seen::{Fed, FontName, Kind, Place, Seen, TexError, Value, Want};
 
 impl Sought {
     /// The place of this number.
@@ -29,6 +31,7 @@ fn found(value: &Value, held: usize) -> Fed<Value>
 {
     match value {
         Value::Absent => Fed::Wrong(TexError::NotAllowed),
+        Value::OutOfRange => Fed::Wrong(TexError::NumberOutOfRange),
         Value::Int(_) | Value::Dimen(_) | Value::Glue(_) | Value::Muglue(_) => {
             Fed::Done(*value, held)
         }
@@ -74,6 +77,26 @@ impl QuantityScan {
         Fed::More(Want::Expanded)
     }
 
+    /// Begins a parameter of a font, whose number follows. The answer is what reading gives of nothing.
+    pub fn begin_parameter(&mut self) -> Fed<Value>
+        ensures scan { self.new ≡ begun_at_parameter }
+        ensures answer { result ≡ Fed.More Want.Expanded }
+    {
+        self.stage = QuantityStage::Parameter;
+        self.number.restart();
+        Fed::More(Want::Expanded)
+    }
+
+    /// Begins an integer of a font, which follows. The answer is what reading gives of nothing.
+    pub fn begin_font(&mut self, kind: FontNumber) -> Fed<Value>
+        ensures scan { self.new ≡ begun_at_font kind }
+        ensures answer { result ≡ Fed.More Want.Expanded }
+    {
+        self.stage = QuantityStage::Font(FontSought::Integer(kind));
+        self.number.restart();
+        Fed::More(Want::Expanded)
+    }
+
     /// Takes one token, after More. The answer is what reading gives of all that was taken. Its only error is want of memory.
     pub fn feed(&mut self, token: &Seen) -> Result<Fed<Value>, AllocError>
         ensures part { IfOk result (IsFedBy rest held self.old token.now self.new) }
@@ -93,6 +116,11 @@ impl QuantityScan {
                 let fed = self.number.feed(token)?;
                 Ok(self.numbered(sought, fed))
             }
+            QuantityStage::Parameter => {
+                let fed = self.number.feed(token)?;
+                Ok(self.parameter(fed))
+            }
+            QuantityStage::Font(sought) => Ok(self.feed_font(sought, token)),
             QuantityStage::Given(_) => Ok(Fed::Wrong(TexError::MissingNumber)),
         }
     }
@@ -107,6 +135,11 @@ impl QuantityScan {
                 let fed = self.number.give(value);
                 self.numbered(sought, fed)
             }
+            QuantityStage::Parameter => {
+                let fed = self.number.give(value);
+                self.parameter(fed)
+            }
+            QuantityStage::Font(_) => Fed::Wrong(TexError::MissingName),
             QuantityStage::Given(held) => found(value, held),
         }
     }
@@ -125,6 +158,56 @@ impl QuantityScan {
                 self.stage = QuantityStage::Given(held);
                 Fed::Need(Kind::Quantity(sought.place(number)))
             }
+            Fed::Wrong(error) => Fed::Wrong(error),
+        }
+    }
+
+    /// What becomes of it by what the scan of the number of a parameter answers.
+    fn parameter(&mut self, fed: Fed<i64>) -> Fed<Value>
+        ensures { IsParameter fed self.old self.new result }
+    {
+        match fed {
+            Fed::More(want) => Fed::More(want),
+            Fed::Need(kind) => Fed::Need(kind),
+            Fed::Done(number, held) => self.to_font(parameter(number), held),
+            Fed::Wrong(error) => Fed::Wrong(error),
+        }
+    }
+
+    /// The font is needed of which this parameter is meant, behind whose number so many tokens are held.
+    fn to_font(&mut self, number: u16, held: usize) -> Fed<Value>
+        ensures { IsFontSought number held self.old self.new result }
+    {
+        let sought = FontSought::Dimen(number);
+        if held == 0 {
+            self.stage = QuantityStage::Font(sought);
+            return Fed::More(Want::Expanded);
+        }
+        match self.number.behind {
+            Some(font) => self.to_value(sought, font),
+            None => Fed::Wrong(TexError::MissingName),
+        }
+    }
+
+    /// What is needed of a font.
+    fn to_value(&mut self, sought: FontSought, font: FontName) -> Fed<Value>
+        ensures scan { self.new ≡ record self.old { stage = QuantityStage.Given 0 } }
+        ensures answer { result ≡ Fed.Need (Kind.Quantity (place_of_font sought font)) }
+    {
+        self.stage = QuantityStage::Given(0);
+        Fed::Need(Kind::Quantity(sought.place(font)))
+    }
+
+    /// A space before the font that is needed, or the font.
+    fn feed_font(&mut self, sought: FontSought, token: &Seen) -> Fed<Value>
+        requires { self.old.stage ≡ QuantityStage.Font sought }
+        ensures fed { IsFed self.old token.now self.new result }
+        ensures needed { NeedsNoMore (more_needed self.old) (more_needed self.new) result }
+    {
+        match FontScan::new().feed(token) {
+            Fed::More(want) => Fed::More(want),
+            Fed::Need(kind) => Fed::Need(kind),
+            Fed::Done(font, _) => self.to_value(sought, font),
             Fed::Wrong(error) => Fed::Wrong(error),
         }
     }

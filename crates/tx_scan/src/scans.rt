@@ -4,8 +4,8 @@ ghost use Rattle.std.specs.Prelude.{◌≤◌, ◌<◌};
 use crate::fraction::Digits;
 use tx_list::Stack;
 use tx_num::{Glue, PhysicalUnit};
-use tx_prim::{BoxTest, Numbered};
-use tx_seen::{Place, Seen, TexError};
+use tx_prim::{BoxTest, FontNumber, Numbered};
+use tx_seen::{FontName, FontSize, Place, Seen, TexError};
 
 /// What the digits of a constant count in.
 #[derive(Clone, Copy, PartialEq, Eq)]
@@ -15,12 +15,30 @@ pub enum Radix {
     Hexadecimal,
 }
 
+/// What the number behind a token tells that stands for another number.
+#[derive(Clone, Copy, PartialEq, Eq)]
+pub enum Counted {
+    /// A register, a code or a size of a box.
+    Numbered(Numbered),
+    /// \fontdimen: a parameter of the font behind the number.
+    FontDimen,
+}
+
+/// What is needed of the font behind a token.
+#[derive(Clone, Copy, PartialEq, Eq)]
+pub enum FontSought {
+    /// Its parameter of this number; 0 stands for all numbers that no parameter can have.
+    Dimen(u16),
+    /// \hyphenchar or \skewchar.
+    Integer(FontNumber),
+}
+
 /// A number that waits for the number of what it stands for, as in `-\count` behind which this number comes.
 #[derive(Clone, Copy)]
 pub struct Outer {
     /// Whether its signs make it negative.
     pub negative: bool,
-    pub kind: Numbered,
+    pub kind: Counted,
 }
 
 /// What a token begins where a number is needed.
@@ -44,6 +62,10 @@ pub enum Beginning {
     At(Place),
     /// What stands at a number of this kind, which follows.
     Numbered(Numbered),
+    /// The parameter of a font: its number follows, and then the font.
+    FontDimen,
+    /// An integer of a font, which follows.
+    FontInteger(FontNumber),
     /// No number.
     Nothing(TexError),
 }
@@ -80,6 +102,8 @@ pub enum IntStage {
     Character,
     /// An optional space behind a character with this code.
     AfterCharacter(u8),
+    /// A font of which this is needed, with spaces before it.
+    Font(FontSought),
     /// The value that is needed. So many tokens, at most one, were taken behind the number, and aren't part of it.
     Given(usize),
 }
@@ -92,6 +116,8 @@ pub struct IntScan {
     /// Whether the signs of this number so far make it negative.
     pub(crate) negative: bool,
     pub(crate) stage: IntStage,
+    /// The font that the token tells which is held behind a number, where it tells one.
+    pub(crate) behind: Option<FontName>,
 }
 
 /// What the number behind a token tells apart.
@@ -108,6 +134,10 @@ pub enum Sought {
 pub enum QuantityStage {
     /// The number of one of these.
     Number(Sought),
+    /// The number of a parameter, behind which its font stands.
+    Parameter,
+    /// A font of which this is needed, with spaces before it.
+    Font(FontSought),
     /// The value that is needed. So many tokens, at most one, were taken behind the number, and aren't part of it.
     Given(usize),
 }
@@ -137,6 +167,10 @@ pub struct BraceScan {}
 /// A name that is being looked for.
 #[derive(Clone, Copy)]
 pub struct NameScan {}
+
+/// A font that is being looked for.
+#[derive(Clone, Copy)]
+pub struct FontScan {}
 
 /// In which units a dimension is told.
 #[derive(Clone, Copy, PartialEq, Eq)]
@@ -170,9 +204,8 @@ pub enum UnitName {
     Physical(PhysicalUnit),
     /// `mu`, in which only glue and kerns of mathematics are told.
     Mathematical,
-    /// `em` and `ex`, which a font has.
-    Quad,
-    XHeight,
+    /// `em` and `ex`, which the current font has.
+    Font(FontSize),
 }
 
 /// What is read of a unit's name.
@@ -255,6 +288,9 @@ pub enum DimenStage {
     TrueUnit(u32, Portion),
     /// An optional space behind the unit.
     AfterUnit(u32, UnitName),
+    /// This size of the current font, which is needed as the unit; whether a token was taken behind the unit's name that isn't part of
+    /// it.
+    FontUnit(u32, FontSize, bool),
     /// Spaces behind `fil`, and letters that make it more infinite.
     AfterFil(u32, Order),
 }

@@ -1,6 +1,5 @@
 //! Scans that keep the characters of a name.
 
-use tx_bytes::Bytes;
 use tx_list::Items;
 
 /// The name of a control sequence that is being spelled out, behind \csname.
@@ -14,5 +13,5 @@ pub struct ControlNameScan {
 #[derive(Drop)]
 pub struct FileNameScan {
     /// The characters that are read.
-    pub(crate) letters: Bytes,
+    pub(crate) letters: Items<u8>,
 }

@@ -1,11 +1,11 @@
 //! The names of units, letter by letter (TeX: The Program, sections 453 to 458).
-ghost use Rattle.std.specs.Prelude.{◌≡◌, ◌≤◌, ◌<◌, pos, if◌then◌else◌, IfOk, MatchResult};
+ghost use Rattle.std.specs.Prelude.{◌≡◌, ◌≤◌, ◌<◌, if◌then◌else◌};
 ghost use Rattle.tx_seen.specs.Seen.{is_key};
 ghost use Rattle.tx_scan.specs.Dimensions as spec;
 
 use crate::scans::{Beginning, Letters, Order, Spelled, UnitName, Units};
-use tx_num::{Overflow, PhysicalUnit};
-use tx_seen::Seen;
+use tx_num::PhysicalUnit;
+use tx_seen::{FontSize, Seen};
 
 /// Whether a token begins an internal quantity.
 pub(crate) fn is_internal(beginning: &Beginning) -> bool
@@ -13,6 +13,7 @@ pub(crate) fn is_internal(beginning: &Beginning) -> bool
 {
     match beginning {
         Beginning::Number(_) | Beginning::At(_) | Beginning::Numbered(_) => true,
+        Beginning::FontDimen | Beginning::FontInteger(_) => true,
         Beginning::Plus | Beginning::Minus | Beginning::Digit(_) | Beginning::Digits(_) => false,
         Beginning::Character | Beginning::Point | Beginning::Nothing(_) => false,
     }
@@ -158,7 +159,13 @@ pub(crate) fn letter_on(units: Units, letters: Letters, token: &Seen) -> Spelled
             token.is_key(b'p'),
             UnitName::Physical(PhysicalUnit::ScaledPoint),
         ),
-        Letters::E => either(token, b'm', UnitName::Quad, b'x', UnitName::XHeight),
+        Letters::E => either(
+            token,
+            b'm',
+            UnitName::Font(FontSize::Quad),
+            b'x',
+            UnitName::Font(FontSize::XHeight),
+        ),
         Letters::F => on_if(token.is_key(b'i'), Letters::Fi),
         Letters::Fi => {
             if token.is_key(b'l') {
@@ -214,21 +221,5 @@ pub(crate) fn raised(order: Order) -> Option<Order>
         Order::Fil => Some(Order::Fill),
         Order::Fill => Some(Order::Filll),
         Order::Filll => None,
-    }
-}
-
-/// So many whole units and 65536ths of one, in sp or in 65536ths of a unit that isn't physical. `Overflow` exactly where the
-/// size is past the limit of a dimension.
-pub(crate) fn size_in(unit: UnitName, whole: u32, part: u32) -> Result<i64, Overflow>
-    requires { part ≤ 65536 }
-    ensures value { IfOk result (λ size. size ≡ pos (spec.size_in unit whole part)) }
-    ensures overflow { MatchResult result
-        (λ _. spec.size_in unit whole part ≤ 1073741823)
-        (λ _. 1073741823 < spec.size_in unit whole part) }
-{
-    match unit {
-        UnitName::Physical(unit) => unit.to_scaled(whole, part),
-        UnitName::Mathematical => PhysicalUnit::Point.to_scaled(whole, part),
-        UnitName::Quad | UnitName::XHeight => Ok(0),
     }
 }

@@ -1,6 +1,4 @@
-use Rattle.std.proofs.Common.{rules, refl, ◌<◌, ◌≤◌, ◌≡◌}
-use Rattle.tx_num.specs.Decimals.{fraction_of}
-use Rattle.tx_scan.specs.Dimensions.{magnified}
+use Rattle.std.proofs.Common.{rules, refl}
 use Rattle.tx_scan.proofs.Mathematical.{true-given}
 use Rattle.tx_scan.proofs.scans.DimenScan.give_magnification.Goals as goal
 

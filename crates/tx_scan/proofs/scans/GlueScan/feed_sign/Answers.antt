@@ -37,3 +37,11 @@ returns-in-Number-clause-part c =
 pub returns-in-Nothing-clause-part : goal.returns-in-Nothing-clause-part
 returns-in-Nothing-clause-part c =
     sign-begins c.args.self.now c.begin_width-in-Nothing.new.self c.args.negative c.args.token.now (begin.Nothing c.in-Nothing.field-0) c.begin_width-in-Nothing.result c.requires (search rules) c.begin_width-in-Nothing.ensures.fed
+
+pub returns-in-FontDimen-clause-part : goal.returns-in-FontDimen-clause-part
+returns-in-FontDimen-clause-part c =
+    sign-begins c.args.self.now c.begin_width-in-FontDimen.new.self c.args.negative c.args.token.now begin.FontDimen c.begin_width-in-FontDimen.result c.requires (search rules) c.begin_width-in-FontDimen.ensures.fed
+
+pub returns-in-FontInteger-clause-part : goal.returns-in-FontInteger-clause-part
+returns-in-FontInteger-clause-part c =
+    sign-begins c.args.self.now c.begin_width-in-FontInteger.new.self c.args.negative c.args.token.now (begin.FontInteger c.in-FontInteger.field-0) c.begin_width-in-FontInteger.result c.requires (search rules) c.begin_width-in-FontInteger.ensures.fed

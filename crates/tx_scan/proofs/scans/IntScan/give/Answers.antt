@@ -4,7 +4,7 @@ use Rattle.tx_scan.proofs.Answering.{given-answers}
 use Rattle.tx_scan.proofs.scans.IntScan.give.Goals as goal
 
 pub returns-clause-part : goal.returns-clause-part
-returns-clause-part c = λ behind short. c.answered.ensures.given behind
+returns-clause-part c = c.answered.ensures.given
 
 pub returns-clause-answer : goal.returns-clause-answer
 returns-clause-answer c = λ taken h.
