@@ -2,4 +2,5 @@ pub mod Texts
 pub mod Numerals
 pub mod Glues
 pub mod Jobs
+pub mod Fonts
 pub mod Meanings

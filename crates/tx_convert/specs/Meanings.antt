@@ -13,6 +13,9 @@ use Rattle.tx_toklist.specs.Macros.{Definition}
 use Rattle.tx_toklist.specs.declared.body.Slot.{Slot}
 use Rattle.tx_seen.specs.declared.meaning.Meaning.{Meaning}
 use Rattle.tx_seen.specs.declared.meaning.Meaning.TheVariants as meaning
+use Rattle.tx_prim.specs.declared.primitive.Primitive.TheVariants.{NullFont}
+use Rattle.tx_tfm.specs.declared.state.FontState.{FontState}
+use Rattle.tx_convert.specs.Fonts.{font_text}
 use Rattle.tx_convert.specs.Texts.{escaped, name_text}
 
 -- whether a blank stands behind a name in the text of a macro: there is none behind one character that isn't a letter at this
@@ -102,18 +105,24 @@ register n = decimal n
 abbrev pub character_text : ℕ → Cat → List ℕ
 character_text code category = kind_text category ++ code ∷ []
 
+-- a name of a font, by its number
+abbrev pub selection : List FontState → ℕ → List ℕ
+selection fonts n = codes "select font " ++ font_text fonts n
+
 -- what \meaning prints
-abbrev pub meaning_text : Option ℕ → List Cat → Meaning → List ℕ
-meaning_text escape categories meaning.Undefined = codes "undefined"
-meaning_text escape categories (meaning.Command p) = escaped escape (primitive.name_of p)
-meaning_text escape categories (meaning.Character code category) = character_text code category
-meaning_text escape categories (meaning.CharacterNumber n) = escaped escape (codes "char") ++ hexadecimal n
-meaning_text escape categories (meaning.MathNumber n) = escaped escape (codes "mathchar") ++ hexadecimal n
-meaning_text escape categories (meaning.CountRegister n) = escaped escape (codes "count") ++ register n
-meaning_text escape categories (meaning.DimenRegister n) = escaped escape (codes "dimen") ++ register n
-meaning_text escape categories (meaning.SkipRegister n) = escaped escape (codes "skip") ++ register n
-meaning_text escape categories (meaning.MuskipRegister n) = escaped escape (codes "muskip") ++ register n
-meaning_text escape categories (meaning.ToksRegister n) = escaped escape (codes "toks") ++ register n
-meaning_text escape categories (meaning.Expandable e) = escaped escape (expandable.name_of e)
-meaning_text escape categories (meaning.Macro m) = macro_text escape categories m
-meaning_text escape categories meaning.Held = escaped escape (codes "relax")
+abbrev pub meaning_text : Option ℕ → List Cat → List FontState → Meaning → List ℕ
+meaning_text escape categories fonts meaning.Undefined = codes "undefined"
+meaning_text escape categories fonts (meaning.Command NullFont) = selection fonts 0
+meaning_text escape categories fonts (meaning.Command p) = escaped escape (primitive.name_of p)
+meaning_text escape categories fonts (meaning.Character code category) = character_text code category
+meaning_text escape categories fonts (meaning.CharacterNumber n) = escaped escape (codes "char") ++ hexadecimal n
+meaning_text escape categories fonts (meaning.MathNumber n) = escaped escape (codes "mathchar") ++ hexadecimal n
+meaning_text escape categories fonts (meaning.CountRegister n) = escaped escape (codes "count") ++ register n
+meaning_text escape categories fonts (meaning.DimenRegister n) = escaped escape (codes "dimen") ++ register n
+meaning_text escape categories fonts (meaning.SkipRegister n) = escaped escape (codes "skip") ++ register n
+meaning_text escape categories fonts (meaning.MuskipRegister n) = escaped escape (codes "muskip") ++ register n
+meaning_text escape categories fonts (meaning.ToksRegister n) = escaped escape (codes "toks") ++ register n
+meaning_text escape categories fonts (meaning.Font n) = selection fonts n
+meaning_text escape categories fonts (meaning.Expandable e) = escaped escape (expandable.name_of e)
+meaning_text escape categories fonts (meaning.Macro m) = macro_text escape categories m
+meaning_text escape categories fonts meaning.Held = escaped escape (codes "relax")

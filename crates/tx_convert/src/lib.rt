@@ -1,18 +1,20 @@
-//! What TeX prints as tokens: the texts of \string, \meaning, \number, \romannumeral, \jobname and \the, each a list of
+//! What TeX prints as tokens: the texts of \string, \meaning, \number, \romannumeral, \jobname, \fontname and \the, each a list of
 //! characters of category 12, and of category 10 where one is a blank (The TeXbook, chapter 20; TeX: The Program, part 27).
 //!
 //! Proved: each call puts exactly the tokens of its text behind those that are there. Only tested: that the texts are Knuth's,
 //! on tokens that his program prints alike.
 //!
-//! Read `texts`, then `numerals`, `jobs`, `shown` and `meanings`.
+//! Read `texts`, then `numerals`, `jobs`, `fonts`, `shown` and `meanings`.
 #![tactic(auto)]
 
+mod fonts;
 mod jobs;
 mod meanings;
 mod numerals;
 mod shown;
 mod texts;
 
+pub use fonts::push_font_name;
 pub use jobs::push_job_name;
 pub use meanings::push_meaning;
 pub use numerals::{push_glue, push_number, push_roman, push_size};

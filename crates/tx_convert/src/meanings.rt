@@ -4,13 +4,16 @@ ghost use Rattle.std.specs.Fmt.{digits};
 ghost use Rattle.tx_convert.specs.Meanings as spec;
 ghost use Rattle.tx_convert.specs.Texts.{as_tokens, escaped};
 
+use crate::fonts::put_font;
 use crate::shown::{last_sign, put_all, put_body, put_escaped, put_parameters};
 use crate::texts::push_text;
 use itoa::Buffer;
 use std::alloc::{AllocError, Global};
 use tx_bytes::Bytes;
 use tx_char::{Cat, Codes};
+use tx_prim::Primitive;
 use tx_seen::Meaning;
+use tx_tfm::Fonts;
 use tx_toklist::{Macro, Toks};
 
 /// What a character is for TeX, by its category.
@@ -118,18 +121,33 @@ fn put_character(text: &mut Bytes, code: u8, category: Cat) -> Result<(), AllocE
     text.push(code)
 }
 
+/// Puts a name of a font at the end.
+fn put_selection(
+    alloc: Global,
+    text: &mut Bytes,
+    fonts: &Fonts,
+    number: u8,
+) -> Result<(), AllocError>
+    ensures { OnOk result (text.new ≡ text.old ++ spec.selection fonts.now number) }
+{
+    text.append(b"select font ")?;
+    put_font(alloc, text, fonts, number)
+}
+
 /// Puts the text of a meaning at the end.
 fn put_meaning(
     alloc: Global,
     text: &mut Bytes,
     escape: Option<u8>,
     codes: &Codes,
+    fonts: &Fonts,
     meaning: &Meaning,
 ) -> Result<(), AllocError>
-    ensures { OnOk result (text.new ≡ text.old ++ spec.meaning_text escape codes.now meaning.now) }
+    ensures { OnOk result (text.new ≡ text.old ++ spec.meaning_text escape codes.now fonts.now meaning.now) }
 {
     match meaning {
         Meaning::Undefined => text.append(b"undefined"),
+        Meaning::Command(Primitive::NullFont) => put_selection(alloc, text, fonts, 0),
         Meaning::Command(primitive) => put_escaped(text, escape, primitive.name()),
         Meaning::Character(code, category) => put_character(text, *code, *category),
         Meaning::CharacterNumber(number) => {
@@ -141,6 +159,7 @@ fn put_meaning(
         Meaning::SkipRegister(number) => put_register(text, escape, b"skip", *number),
         Meaning::MuskipRegister(number) => put_register(text, escape, b"muskip", *number),
         Meaning::ToksRegister(number) => put_register(text, escape, b"toks", *number),
+        Meaning::Font(number) => put_selection(alloc, text, fonts, *number),
         Meaning::Expandable(expandable) => put_escaped(text, escape, expandable.name()),
         Meaning::Macro(shown) => put_macro(text, escape, codes, shown),
         Meaning::Held => put_escaped(text, escape, b"relax"),
@@ -148,7 +167,7 @@ fn put_meaning(
 }
 
 /// Puts what \meaning prints behind the tokens: `undefined`, a primitive's name, what a character is, a register or a number of
-/// \chardef as the command that it stands for, or `macro:` and a macro's texts, whose names have a blank behind them unless they
+/// \chardef as the command that it stands for, `select font` and a font, or `macro:` and a macro's texts, whose names have a blank behind them unless they
 /// are one character that isn't a letter at this moment (TeX: The Program, sections 292 to 298). Its only error is want of
 /// memory.
 pub fn push_meaning(
@@ -156,11 +175,12 @@ pub fn push_meaning(
     tokens: &mut Toks,
     escape: Option<u8>,
     codes: &Codes,
+    fonts: &Fonts,
     meaning: &Meaning,
 ) -> Result<(), AllocError>
-    ensures { OnOk result (tokens.new ≡ tokens.old ++ as_tokens (spec.meaning_text escape codes.now meaning.now)) }
+    ensures { OnOk result (tokens.new ≡ tokens.old ++ as_tokens (spec.meaning_text escape codes.now fonts.now meaning.now)) }
 {
     let mut text = Bytes::new(alloc);
-    put_meaning(alloc, &mut text, escape, codes, meaning)?;
+    put_meaning(alloc, &mut text, escape, codes, fonts, meaning)?;
     push_text(tokens, text.as_slice())
 }

@@ -12,7 +12,7 @@ use Rattle.tx_prim.specs.declared.glue.GlueParameter.{GlueParameter}
 use Rattle.tx_seen.specs.declared.fed.Value.{Value}
 use Rattle.tx_seen.specs.declared.fed.Value.TheVariants.{Int, Dimen as Size, Glue as Elastic, Muglue, Flag, Absent}
 use Rattle.tx_seen.specs.declared.place.Place.{Place}
-use Rattle.tx_seen.specs.declared.place.Place.TheVariants.{Name, Active, Count, Dimen, Skip, Muskip, Toks, Category, Code, Integer, Dimension, Glue, Tokens, Box, BoxSize, BoxTest as Tested, Last, Badness, PrevDepth, Magnification}
+use Rattle.tx_seen.specs.declared.place.Place.TheVariants.{Name, Active, Count, Dimen, Skip, Muskip, Toks, Category, Code, Integer, Dimension, Glue, Tokens, Box, BoxSize, BoxTest as Tested, Last, Badness, PrevDepth, Magnification, Font, FontSize, FontDimen, FontInteger, SpaceFactor}
 use Rattle.tx_eqtb.specs.declared.eqtb.Eqtb.{Eqtb}
 use Rattle.tx_eqtb.specs.Table.{box_at, glue_at, number_at}
 
@@ -61,3 +61,8 @@ value_in e (Last kind) = Int (pos 0)
 value_in e Badness = Int (pos 0)
 value_in e PrevDepth = Int (pos 0)
 value_in e Magnification = Absent
+value_in e Font = Int (number_at e.table Font)
+value_in e (FontSize size) = Int (pos 0)
+value_in e (FontDimen font number) = Int (pos 0)
+value_in e (FontInteger kind font) = Int (pos 0)
+value_in e SpaceFactor = Int (pos 0)

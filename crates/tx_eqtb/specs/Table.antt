@@ -1,5 +1,5 @@
 -- What stands at the places of a table, and how that changes.
-use Rattle.std.specs.Prelude.{◌≡◌, ℕ, ℤ, pos, List, [], Option, None, unwrap_or, slice_get, slice_set}
+use Rattle.std.specs.Prelude.{◌≡◌, ◌&&◌, ℕ, ℤ, pos, int_le, unsigned_abs, if◌then◌else◌, List, [], Option, None, unwrap_or, slice_get, slice_set}
 use Rattle.std.specs.FinMap.{get, insert, remove}
 use Rattle.tx_num.specs.Glue.{GlueSpec, zero_glue}
 use Rattle.tx_char.specs.declared.category.Cat.{Cat}
@@ -14,7 +14,7 @@ use Rattle.tx_prim.specs.Glues.{glue_number}
 use Rattle.tx_prim.specs.Tokens.{token_number}
 use Rattle.tx_prim.specs.declared.family.CharacterCode.TheVariants.{LowerCase, UpperCase, SpaceFactor, Math, Delimiter}
 use Rattle.tx_seen.specs.declared.place.Place.{Place}
-use Rattle.tx_seen.specs.declared.place.Place.TheVariants.{Name, Active, Count, Dimen, Skip, Muskip, Toks, Category, Code, Integer, Dimension, Glue, Tokens, Box, BoxSize}
+use Rattle.tx_seen.specs.declared.place.Place.TheVariants.{Name, Active, Count, Dimen, Skip, Muskip, Toks, Category, Code, Integer, Dimension, Glue, Tokens, Box, BoxSize, Font}
 use Rattle.tx_seen.specs.declared.meaning.Meaning.{Meaning}
 use Rattle.tx_seen.specs.declared.meaning.Meaning.TheVariants.{Undefined, Command, Character}
 use Rattle.tx_eqtb.specs.declared.entry.Entry.{Entry}
@@ -53,6 +53,7 @@ number_at table (Code Delimiter code) = number_of table.delimiters code
 number_at table (Integer parameter) = number_of table.integers (integer_number parameter)
 number_at table (Dimension parameter) = number_of table.dimensions (dimension_number parameter)
 number_at table (BoxSize side number) = size_of side (box_of table.boxes number)
+number_at table Font = pos table.font
 number_at table other = pos 0
 
 -- the glue of a list of registers or parameters, and what stands at a place; zero glue where none stands
@@ -82,6 +83,10 @@ token_meaning table (token.Character code category.Active) = active_meaning tabl
 token_meaning table (token.Character code other) = Character code other
 token_meaning table token.FrozenRelax = Command Relax
 
+-- a number as that of a font; one that none can have is that of \nullfont
+abbrev pub font_number : ℤ → ℕ
+font_number n = if int_le (pos 0) n && int_le n (pos 255) then unsigned_abs n else 0
+
 -- the table with a meaning, a category, a number, glue or a list of tokens at a place, all else as it was
 abbrev pub with_meaning_at : Table → Place → Meaning → Table
 with_meaning_at table (Name name) meaning = record table { names = with_meaning table.names name meaning }
@@ -99,6 +104,7 @@ with_number_at table (Code Delimiter code) value = record table { delimiters = s
 with_number_at table (Integer parameter) value = record table { integers = slice_set table.integers (integer_number parameter) value }
 with_number_at table (Dimension parameter) value = record table { dimensions = slice_set table.dimensions (dimension_number parameter) value }
 with_number_at table (BoxSize side number) value = record table { boxes = with_size table.boxes side number value }
+with_number_at table Font value = record table { font = font_number value }
 with_number_at table other value = table
 
 abbrev pub with_category_at : Table → Place → Cat → Table

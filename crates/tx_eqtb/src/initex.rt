@@ -164,5 +164,6 @@ pub fn initial_table(alloc: Global, begun: &Moment) -> Result<Table, AllocError>
         token_registers: empty_lists(alloc, ALL)?,
         token_parameters: empty_lists(alloc, TokenParameter::COUNT)?,
         boxes: void_boxes(alloc, ALL)?,
+        font: 0,
     })
 }

@@ -82,7 +82,10 @@ impl Table {
             Place::Name(_) | Place::Active(_) | Place::Category(_) => 0,
             Place::Toks(_) | Place::Tokens(_) | Place::Box(_) | Place::BoxTest(_, _) => 0,
             Place::Skip(_) | Place::Muskip(_) | Place::Glue(_) => 0,
+            Place::Font => i32::from(self.font),
             Place::Last(_) | Place::Badness | Place::PrevDepth | Place::Magnification => 0,
+            Place::FontSize(_) | Place::FontDimen(_, _) => 0,
+            Place::FontInteger(_, _) | Place::SpaceFactor => 0,
         }
     }
 
@@ -100,6 +103,8 @@ impl Table {
             Place::Toks(_) | Place::Tokens(_) | Place::Box(_) => Glue::zero(),
             Place::BoxTest(_, _) | Place::Magnification => Glue::zero(),
             Place::Last(_) | Place::Badness | Place::PrevDepth => Glue::zero(),
+            Place::Font | Place::FontSize(_) | Place::FontDimen(_, _) => Glue::zero(),
+            Place::FontInteger(_, _) | Place::SpaceFactor => Glue::zero(),
         }
     }
 
@@ -126,6 +131,8 @@ impl Table {
             Place::Skip(_) | Place::Muskip(_) | Place::Glue(_) | Place::BoxTest(_, _) => None,
             Place::Integer(_) | Place::Dimension(_) | Place::Tokens(_) => None,
             Place::Last(_) | Place::Badness | Place::PrevDepth | Place::Magnification => None,
+            Place::Font | Place::FontSize(_) | Place::FontDimen(_, _) => None,
+            Place::FontInteger(_, _) | Place::SpaceFactor => None,
         }
     }
 
@@ -142,6 +149,8 @@ impl Table {
             Place::Skip(_) | Place::Muskip(_) | Place::Glue(_) => 0,
             Place::Integer(_) | Place::Dimension(_) | Place::Tokens(_) => 0,
             Place::Last(_) | Place::Badness | Place::PrevDepth | Place::Magnification => 0,
+            Place::Font | Place::FontSize(_) | Place::FontDimen(_, _) => 0,
+            Place::FontInteger(_, _) | Place::SpaceFactor => 0,
         }
     }
 
@@ -186,6 +195,7 @@ impl Table {
             && self.dimens.same(&other.dimens)
             && self.integers.same(&other.integers)
             && self.dimensions.same(&other.dimensions)
+            && self.font == other.font
             && self.same_glue(other)
             && self.token_registers.same(&other.token_registers)
             && self.token_parameters.same(&other.token_parameters)
@@ -239,6 +249,7 @@ impl Table {
             token_registers: self.token_registers.share()?,
             token_parameters: self.token_parameters.share()?,
             boxes: self.boxes.share()?,
+            font: self.font,
         })
     }
 }

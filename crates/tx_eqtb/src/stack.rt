@@ -42,6 +42,13 @@ impl Eqtb {
         self.table.number(place)
     }
 
+    /// The number of the current font.
+    pub fn font(&self) -> u8
+        ensures { result ≡ self.now.table.font }
+    {
+        self.table.font
+    }
+
     /// The glue that stands at a place, a register or a parameter; zero glue where none stands.
     pub fn glue(&self, place: &Place) -> Glue
         ensures { result ≡ glue_at self.now.table place.now }

@@ -29,4 +29,6 @@ pub struct Table {
     pub(crate) token_registers: Cells<TokList>,
     pub(crate) token_parameters: Cells<TokList>,
     pub(crate) boxes: Cells<BoxRegister>,
+    /// The number of the current font.
+    pub(crate) font: u8,
 }

@@ -57,6 +57,9 @@ impl Quantities for Eqtb {
             Place::Name(_) | Place::Active(_) => Value::Int(i64::from(self.number(place))),
             Place::Last(_) | Place::Badness | Place::PrevDepth => Value::Int(0),
             Place::Magnification => Value::Absent,
+            Place::Font => Value::Int(i64::from(self.number(place))),
+            Place::FontSize(_) | Place::FontDimen(_, _) => Value::Int(0),
+            Place::FontInteger(_, _) | Place::SpaceFactor => Value::Int(0),
             Place::Toks(_) | Place::Tokens(_) | Place::Box(_) => {
                 Value::Int(i64::from(self.number(place)))
             }

@@ -1,6 +1,6 @@
 //! Writing into the table.
 ghost use Rattle.std.specs.Prelude.{◌≡◌, OnOk};
-ghost use Rattle.tx_eqtb.specs.Table.{with_box_at, with_category_at, with_entry, with_glue_at, with_meaning, with_meaning_at, with_number_at, with_tokens_at};
+ghost use Rattle.tx_eqtb.specs.Table.{font_number, with_box_at, with_category_at, with_entry, with_glue_at, with_meaning, with_meaning_at, with_number_at, with_tokens_at};
 
 use crate::boxes::{BoxRegister, set_size};
 use crate::entry::Entry;
@@ -24,6 +24,17 @@ fn set_name(
     match meaning {
         Meaning::Undefined => names.remove(name),
         meaning => names.insert(name.clone()?, meaning),
+    }
+}
+
+/// A number as that of a font; one that none can have is that of \nullfont.
+fn font_number(number: i32) -> u8
+    ensures { result ≡ font_number number }
+{
+    if 0 <= number && number <= 255 {
+        number as u8
+    } else {
+        0
     }
 }
 
@@ -57,7 +68,13 @@ impl Table {
             Place::Name(_) | Place::Active(_) | Place::Category(_) => Ok(()),
             Place::Toks(_) | Place::Tokens(_) | Place::Box(_) | Place::BoxTest(_, _) => Ok(()),
             Place::Skip(_) | Place::Muskip(_) | Place::Glue(_) => Ok(()),
+            Place::Font => {
+                self.font = font_number(value);
+                Ok(())
+            }
             Place::Last(_) | Place::Badness | Place::PrevDepth | Place::Magnification => Ok(()),
+            Place::FontSize(_) | Place::FontDimen(_, _) => Ok(()),
+            Place::FontInteger(_, _) | Place::SpaceFactor => Ok(()),
         }
     }
 
@@ -74,6 +91,8 @@ impl Table {
             Place::Integer(_) | Place::Dimension(_) | Place::BoxSize(_, _) => Ok(()),
             Place::Toks(_) | Place::Tokens(_) | Place::Box(_) | Place::BoxTest(_, _) => Ok(()),
             Place::Last(_) | Place::Badness | Place::PrevDepth | Place::Magnification => Ok(()),
+            Place::Font | Place::FontSize(_) | Place::FontDimen(_, _) => Ok(()),
+            Place::FontInteger(_, _) | Place::SpaceFactor => Ok(()),
         }
     }
 
@@ -120,6 +139,8 @@ impl Table {
             Place::Skip(_) | Place::Muskip(_) | Place::Glue(_) | Place::BoxTest(_, _) => Ok(()),
             Place::Integer(_) | Place::Dimension(_) | Place::Tokens(_) => Ok(()),
             Place::Last(_) | Place::Badness | Place::PrevDepth | Place::Magnification => Ok(()),
+            Place::Font | Place::FontSize(_) | Place::FontDimen(_, _) => Ok(()),
+            Place::FontInteger(_, _) | Place::SpaceFactor => Ok(()),
         }
     }
 

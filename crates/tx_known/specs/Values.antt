@@ -1,20 +1,28 @@
 -- The quantities that scans ask for: those of the list that is being built, and else those of the table (TeX: The Program, sections
 -- 413 to 424).
-use Rattle.std.specs.Prelude.{ℤ, pos, int_le, unsigned_abs, ◌&&◌, Bool, true, List, Option, Some, None, if◌then◌else◌}
+use Rattle.std.specs.Prelude.{ℕ, ℤ, pos, int_le, unsigned_abs, ◌&&◌, Bool, true, false, List, Option, Some, None, if◌then◌else◌}
 use Rattle.tx_eqtb.specs.declared.eqtb.Eqtb.{Eqtb}
 use Rattle.tx_eqtb.specs.Quantities.{value_in}
 use Rattle.tx_eqtb.specs.Table.{number_at}
 use Rattle.tx_nest.specs.declared.nest.Nest.{Nest}
 use Rattle.tx_nest.specs.Lasts.{last_kern, last_penalty, last_skip}
-use Rattle.tx_nest.specs.States.{prev_depth}
+use Rattle.tx_nest.specs.States.{prev_depth, space_factor}
 use Rattle.tx_node.specs.Items.{Item}
 use Rattle.tx_prim.specs.declared.integer.IntegerParameter.TheVariants.{Mag}
+use Rattle.tx_num.specs.Glue.{zero_glue}
+use Rattle.tx_prim.specs.declared.family.FontNumber.{FontNumber}
 use Rattle.tx_prim.specs.declared.family.ItemKind.{ItemKind}
 use Rattle.tx_prim.specs.declared.family.ItemKind.TheVariants as item
 use Rattle.tx_seen.specs.declared.fed.Value.{Value}
-use Rattle.tx_seen.specs.declared.fed.Value.TheVariants.{Absent, Dimen, Glue, Int, Magnification}
+use Rattle.tx_seen.specs.declared.fed.Value.TheVariants.{Absent, Dimen, Glue, Int, Magnification, OutOfRange}
+use Rattle.tx_seen.specs.declared.place.FontName.{FontName}
+use Rattle.tx_seen.specs.declared.place.FontName.TheVariants.{Current, Number}
+use Rattle.tx_seen.specs.declared.place.FontSize.{FontSize}
+use Rattle.tx_seen.specs.declared.place.FontSize.TheVariants.{Quad, XHeight}
 use Rattle.tx_seen.specs.declared.place.Place.{Place}
 use Rattle.tx_seen.specs.declared.place.Place.TheVariants as place
+use Rattle.tx_tfm.specs.declared.state.FontState.{FontState}
+use Rattle.tx_tfm.specs.Fonts.{font_integer, font_parameter, has_parameter}
 use Rattle.tx_known.specs.declared.known.Known.{Known}
 
 -- \lastpenalty, \lastkern and \lastskip
@@ -22,6 +30,34 @@ abbrev pub last_value : ItemKind → List Item → Value
 last_value item.Penalty nodes = Int (last_penalty nodes)
 last_value item.Kern nodes = Dimen (last_kern nodes)
 last_value item.Skip nodes = Glue (last_skip nodes)
+
+-- the same while a word is open: the last item is a character, or a ligature or a kern of its font that isn't told (section 424)
+abbrev pub no_last : ItemKind → Value
+no_last item.Penalty = Int (pos 0)
+no_last item.Kern = Dimen (pos 0)
+no_last item.Skip = Glue zero_glue
+
+abbrev pub last_or_none : Bool → ItemKind → List Item → Value
+last_or_none true kind nodes = no_last kind
+last_or_none false kind nodes = last_value kind nodes
+
+-- \spacefactor, which horizontal modes have
+abbrev pub factor_value : Option ℕ → Value
+factor_value None = Absent
+factor_value (Some factor) = Int (pos factor)
+
+-- the parameters of a font in which dimensions are told (section 455)
+abbrev pub parameter_of : FontSize → ℕ
+parameter_of Quad = 6
+parameter_of XHeight = 5
+
+-- \fontdimen of a number, which the font has or can get (section 578)
+abbrev pub dimen_value : List FontState → ℕ → ℕ → Value
+dimen_value fonts font n = if has_parameter fonts font n then Dimen (font_parameter fonts font n) else OutOfRange
+
+-- \hyphenchar and \skewchar
+abbrev pub integer_value : List FontState → FontNumber → ℕ → Value
+integer_value fonts kind font = Int (font_integer kind fonts font)
 
 -- \prevdepth, which vertical modes have
 abbrev pub depth_value : Option ℤ → Value
@@ -40,20 +76,32 @@ may_be first mag = (int_le (pos 1) mag && int_le mag (pos 32768)) && is_that fir
 abbrev pub magnification_value : Option ℤ → ℤ → Value
 magnification_value first mag = if may_be first mag then Magnification (unsigned_abs mag) else Absent
 
--- the table, the lists, \badness and the magnification if it is used, without the loans
+-- the table, the lists, \badness, the magnification if it is used, the fonts, and whether a word is open, without the loans
 pub record Lent : Type 0 where
   pub table : Eqtb
   pub nest : Nest
   pub badness : ℤ
   pub magnification : Option ℤ
+  pub fonts : List FontState
+  pub has_word : Bool
 
 abbrev pub lent : Known → Lent
-lent known = record { table = known.table.now; nest = known.nest.now; badness = known.badness; magnification = known.magnification }
+lent known = record { table = known.table.now; nest = known.nest.now; badness = known.badness; magnification = known.magnification; fonts = known.fonts.now; has_word = known.has_word }
+
+-- the number of a font, as a document tells it
+abbrev pub font_number : Lent → FontName → ℕ
+font_number known Current = known.table.table.font
+font_number known (Number n) = n
 
 abbrev pub value_now : Lent → Place → Value
-value_now known (place.Last kind) = last_value kind known.nest.innermost.nodes
+value_now known (place.Last kind) = last_or_none known.has_word kind known.nest.innermost.nodes
 value_now known place.Badness = Int known.badness
 value_now known place.PrevDepth = depth_value (prev_depth known.nest.innermost.state)
+value_now known place.SpaceFactor = factor_value (space_factor known.nest.innermost.state)
+value_now known (place.FontSize size) = Dimen (font_parameter known.fonts known.table.table.font (parameter_of size))
+value_now known (place.FontDimen font n) = dimen_value known.fonts (font_number known font) n
+value_now known (place.FontInteger kind font) = integer_value known.fonts kind (font_number known font)
+value_now known place.Font = value_in known.table place.Font
 value_now known (place.Name name) = value_in known.table (place.Name name)
 value_now known (place.Active code) = value_in known.table (place.Active code)
 value_now known (place.Category code) = value_in known.table (place.Category code)

@@ -1,29 +1,56 @@
 //! The quantities of the table and the lists, lent together.
-ghost use Rattle.std.specs.Prelude.{◌≡◌, ◌≤ℤ◌, pos, IsTrue};
+ghost use Rattle.std.specs.Prelude.{◌≡◌, ◌≤◌, ◌≤ℤ◌, pos, IsTrue};
 ghost use Rattle.tx_known.specs.Values as spec;
 
 use crate::known::Known;
 use tx_eqtb::Eqtb;
-use tx_nest::{Nest, last_kern, last_penalty, last_skip};
+use tx_nest::{Nest, SpaceFactor, last_kern, last_penalty, last_skip};
 use tx_node::Nodes;
-use tx_prim::{IntegerParameter, ItemKind};
-use tx_seen::{Place, Quantities, Value};
+use tx_num::Glue;
+use tx_prim::{FontNumber, IntegerParameter, ItemKind};
+use tx_seen::{FontName, FontSize, Place, Quantities, Value};
+use tx_tfm::Fonts;
 
 impl<'a> Known<'a> {
-    /// This table, these lists, \badness, and the magnification if it is used.
+    /// This table, these lists, \badness, the magnification if it is used, these fonts, and whether a word is open.
     pub fn new(
         table: &'a Eqtb,
         nest: &'a Nest,
         badness: i64,
         magnification: Option<i32>,
+        fonts: &'a Fonts,
+        has_word: bool,
     ) -> Known<'a>
-        ensures { spec.lent result ≡ record { table = table.now; nest = nest.now; badness = badness; magnification = magnification } }
+        ensures { spec.lent result ≡ record { table = table.now; nest = nest.now; badness = badness; magnification = magnification; fonts = fonts.now; has_word = has_word } }
     {
         Known {
             table,
             nest,
             badness,
             magnification,
+            fonts,
+            has_word,
+        }
+    }
+
+    /// \lastpenalty, \lastkern or \lastskip, also where a word is open.
+    fn last(&self, kind: ItemKind) -> Value
+        ensures { result ≡ spec.last_or_none self.now.has_word kind self.now.nest.now.innermost.nodes }
+    {
+        if self.has_word {
+            no_last(kind)
+        } else {
+            last_value(kind, &self.nest.innermost().nodes)
+        }
+    }
+
+    /// The number of a font, as a document tells it.
+    pub fn font_number(&self, font: FontName) -> u8
+        ensures { result ≡ spec.font_number (spec.lent self.now) font }
+    {
+        match font {
+            FontName::Current => self.table.font(),
+            FontName::Number(number) => number,
         }
     }
 }
@@ -37,6 +64,46 @@ fn last_value(kind: ItemKind, nodes: &Nodes) -> Value
         ItemKind::Kern => Value::Dimen(i64::from(last_kern(nodes))),
         ItemKind::Skip => Value::Glue(last_skip(nodes)),
     }
+}
+
+/// The same where the last item is a character, or may be a ligature or a kern that a word ends with.
+fn no_last(kind: ItemKind) -> Value
+    ensures { result ≡ spec.no_last kind }
+{
+    match kind {
+        ItemKind::Penalty => Value::Int(0),
+        ItemKind::Kern => Value::Dimen(0),
+        ItemKind::Skip => Value::Glue(Glue::zero()),
+    }
+}
+
+/// The number of the parameter of a font in which a dimension is told.
+fn parameter_of(size: FontSize) -> u16
+    ensures value { result ≡ spec.parameter_of size }
+    ensures some { 1 ≤ result }
+{
+    match size {
+        FontSize::Quad => 6,
+        FontSize::XHeight => 5,
+    }
+}
+
+/// \fontdimen of this number of a font.
+fn dimen_value(fonts: &Fonts, font: u8, number: u16) -> Value
+    ensures { result ≡ spec.dimen_value fonts.now font number }
+{
+    if fonts.has_parameter(font, number) {
+        Value::Dimen(fonts.parameter(font, number))
+    } else {
+        Value::OutOfRange
+    }
+}
+
+/// \hyphenchar or \skewchar of a font.
+fn integer_value(fonts: &Fonts, kind: FontNumber, font: u8) -> Value
+    ensures { result ≡ spec.integer_value fonts.now kind font }
+{
+    Value::Int(i64::from(fonts.integer(kind, font)))
 }
 
 /// Whether this magnification may be used: 1 to 32768, and the one that was used first (TeX: The Program, section 288).
@@ -69,6 +136,16 @@ fn depth_value(depth: Option<i32>) -> Value
     }
 }
 
+/// \spacefactor, which lists that aren't horizontal don't have.
+fn factor_value(factor: Option<SpaceFactor>) -> Value
+    ensures { result ≡ spec.factor_value factor }
+{
+    let Some(factor) = factor else {
+        return Value::Absent;
+    };
+    Value::Int(i64::from(factor.get()))
+}
+
 impl<'a> Quantities for Known<'a> {
     ghost use Rattle.tx_known.specs.Values.{lent, value_now};
 
@@ -76,9 +153,19 @@ impl<'a> Quantities for Known<'a> {
 
     fn quantity(&self, place: &Place) -> Value {
         match place {
-            Place::Last(kind) => last_value(*kind, &self.nest.innermost().nodes),
+            Place::Last(kind) => self.last(*kind),
             Place::Badness => Value::Int(self.badness),
             Place::PrevDepth => depth_value(self.nest.innermost().state.prev_depth()),
+            Place::SpaceFactor => factor_value(self.nest.innermost().state.space_factor()),
+            Place::FontSize(size) => Value::Dimen(
+                self.fonts.parameter(self.table.font(), parameter_of(*size)),
+            ),
+            Place::FontDimen(font, number) => {
+                dimen_value(self.fonts, self.font_number(*font), *number)
+            }
+            Place::FontInteger(kind, font) => {
+                integer_value(self.fonts, *kind, self.font_number(*font))
+            }
             Place::Magnification => magnification_value(
                 self.magnification,
                 self.table.number(&Place::Integer(IntegerParameter::Mag)),
@@ -87,7 +174,7 @@ impl<'a> Quantities for Known<'a> {
                 self.table.quantity(place)
             }
             Place::Count(_) | Place::Dimen(_) | Place::Toks(_) => self.table.quantity(place),
-            Place::Integer(_) | Place::Dimension(_) | Place::Tokens(_) => {
+            Place::Integer(_) | Place::Dimension(_) | Place::Tokens(_) | Place::Font => {
                 self.table.quantity(place)
             }
             Place::Skip(_) | Place::Muskip(_) | Place::Glue(_) => self.table.quantity(place),

@@ -23,4 +23,5 @@ returns c i = record {
   token_registers = c.in_ok-empty_lists.ensures i;
   token_parameters = c.in_ok-empty_lists-2.ensures i;
   boxes = c.in_ok-void_boxes.ensures i;
+  font = 0;
 }
