@@ -20,6 +20,7 @@ use Rattle.tx_scan.specs.IntegerRests as integers
 use Rattle.tx_scan.specs.declared.scans.GlueScan.{GlueScan}
 use Rattle.tx_scan.specs.GlueRests as glues
 use Rattle.tx_scan.proofs.Answering.{same-passed}
+use Rattle.tx_scan.proofs.Behind.{length-kept}
 use Rattle.tx_scan.proofs.Mappings.{mapped-read, read-none, same-read}
 use Rattle.tx_assign.specs.declared.scan.AssignScan.{AssignScan}
 use Rattle.tx_assign.specs.declared.scan.AssignStage.TheVariants as stage
@@ -44,39 +45,39 @@ one-held (suc back) held some same few = omega (arith, same, few)
 -- the value that the number of a register waits for
 pub number-more : (old : AssignScan) (scan : IntScan) (kind : Numbered) (operation : Option Operation) (v : Value) (want : Want) → old.stage ≡ stage.Number kind operation → integers.IsGiven old.integer v scan (fed.More want) → IsGivenBy rest held old v (record old { integer = scan }) (fed.More want)
 number-more old scan kind operation v want s k = λ behind short. rw s (
-  ap (λ r. next r (behind_number operation kind)) (k behind).0,
-  (k behind).1,
-  λ item more. ap (λ r. next r (behind_number operation kind)) ((k behind).2 item more),
+  ap (λ r. next r (behind_number operation kind)) (k behind (rw s at short)).0,
+  (k behind (rw s at short)).1,
+  λ item more. ap (λ r. next r (behind_number operation kind)) ((k behind (rw s at short)).2 item more),
 )
 
 pub number-need : (old : AssignScan) (scan : IntScan) (kind : Numbered) (operation : Option Operation) (v : Value) (wanted : Kind) → old.stage ≡ stage.Number kind operation → integers.IsGiven old.integer v scan (fed.Need wanted) → IsGivenBy rest held old v (record old { integer = scan }) (fed.Need wanted)
 number-need old scan kind operation v wanted s k = λ behind short. rw s (
-  ap (λ r. next r (behind_number operation kind)) (k behind).0,
-  (k behind).1,
-  λ item more. ap (λ r. next r (behind_number operation kind)) ((k behind).2 item more),
+  ap (λ r. next r (behind_number operation kind)) (k behind (rw s at short)).0,
+  (k behind (rw s at short)).1,
+  λ item more. ap (λ r. next r (behind_number operation kind)) ((k behind (rw s at short)).2 item more),
 )
 
 pub number-wrong : (old new : AssignScan) (scan : IntScan) (kind : Numbered) (operation : Option Operation) (v : Value) (error : TexError) → old.stage ≡ stage.Number kind operation → integers.IsGiven old.integer v scan (fed.Wrong error) → IsGivenBy rest held old v new (fed.Wrong error)
-number-wrong old new scan kind operation v error s k = λ behind short more. rw s (ap (λ r. next r (behind_number operation kind)) (k behind more))
+number-wrong old new scan kind operation v error s k = λ behind short more. rw s (ap (λ r. next r (behind_number operation kind)) (k behind (rw s at short) more))
 
 pub number-ends : (old new : AssignScan) (scan : IntScan) (kind : Numbered) (operation : Option Operation) (v : Value) (t : Seen) (n m : ℤ) (back : ℕ) (answer : Fed Assignment) → old.stage ≡ stage.Number kind operation → integers.IsGiven old.integer v scan (fed.Done n back) → back ≡ 0 → m ≡ n → ((t : Seen) → IsAssigning 0 (λ more. behind_number operation kind m more) t new answer) → IsGivenBehind rest held old v t new answer
 number-ends old new scan kind operation v t n m back answer s k none f later =
-    let same : back ≡ integers.held old.integer = (k []).0 in
+    let same : back ≡ integers.held old.integer = (k [] (omega arith)).0 in
     let zero_held : integers.held old.integer ≡ 0 = sym same ∙ none in
     rw s
     (same-read rest held (integers.held old.integer) (λ more. next (integers.rest old.integer (kept (integers.held old.integer) t) (Gave v) more) (behind_number operation kind)) (λ more. behind_number operation kind n more) (kept (integers.held old.integer) t) new answer
-    (λ more. ap (λ r. next r (behind_number operation kind)) ((k (kept (integers.held old.integer) t)).1 more) ∙ ap (λ (i : ℕ). behind_number operation kind n (kept i t ++ more)) zero_held)
+    (λ more. ap (λ r. next r (behind_number operation kind)) ((k (kept (integers.held old.integer) t) (length-kept (integers.held old.integer) t)).1 more) ∙ ap (λ (i : ℕ). behind_number operation kind n (kept i t ++ more)) zero_held)
     (read-none rest held (integers.held old.integer) (λ more. behind_number operation kind n more) (kept (integers.held old.integer) t) new answer
     (to-none (λ more. behind_number operation kind n more) t new answer (rw f at (later t)))))
 
 pub number-ends-before : {E : Type 0} (old new : AssignScan) (scan : IntScan) (kind : Numbered) (operation : Option Operation) (v : Value) (t : Seen) (n m : ℤ) (back : ℕ) (answer : Result (Fed Assignment) E) → old.stage ≡ stage.Number kind operation → integers.IsGiven old.integer v scan (fed.Done n back) → (back ≡ 0 → ⊥) → m ≡ n → held old ≤ 1 → IfOk answer (IsBehind (λ more. behind_number operation kind m (Took t ∷ more)) t new) → IfOk answer (IsGivenBehind rest held old v t new)
 number-ends-before old new scan kind operation v t n m back (Ok answer) s k some f few later =
     let short : integers.held old.integer ≤ 1 = rw s at few in
-    let same : back ≡ integers.held old.integer = (k []).0 in
+    let same : back ≡ integers.held old.integer = (k [] (omega arith)).0 in
     let one : integers.held old.integer ≡ 1 = one-held back (integers.held old.integer) some same short in
     rw (s, one)
     (same-read rest held 1 (λ more. next (integers.rest old.integer (Took t ∷ []) (Gave v) more) (behind_number operation kind)) (λ more. behind_number operation kind n (Took t ∷ more)) (Took t ∷ []) new answer
-    (λ more. ap (λ r. next r (behind_number operation kind)) ((k (Took t ∷ [])).1 more))
+    (λ more. ap (λ r. next r (behind_number operation kind)) ((k (Took t ∷ []) (rw one (omega arith))).1 more))
     (rw f at later))
 number-ends-before old new scan kind operation v t n m back (Err error) s k some f few later = tt
 

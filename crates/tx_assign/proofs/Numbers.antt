@@ -41,7 +41,7 @@ pub few-held-size : (old scan : DimenScan) (t : Seen) (wanted : Kind) → sizes.
 few-held-size old scan t wanted k = omega (arith, (k []).1, most-size old)
 
 pub few-given : (old scan : IntScan) (v : Value) (wanted : Kind) → integers.held old ≤ 1 → integers.IsGiven old v scan (fed.Need wanted) → integers.held scan ≤ 1
-few-given old scan v wanted h k = omega (arith, h, (k []).1)
+few-given old scan v wanted h k = omega (arith, h, (k [] (omega arith)).1)
 
 -- what ends an assignment waits for no value
 pub end-waits : {E : Type 0} (reading : List Item → Reading Assignment) (back : ℕ) (new : AssignScan) (answer : Result (Fed Assignment) E) → IfOk answer (IsEnd reading back) → IfOk answer (WaitsIfNeeded new)

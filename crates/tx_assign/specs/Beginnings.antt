@@ -5,7 +5,7 @@ use Rattle.tx_prim.specs.declared.primitive.Primitive.TheVariants as primitive
 use Rattle.tx_prim.specs.declared.family.Numbered.TheVariants as number
 use Rattle.tx_seen.specs.declared.place.Place.TheVariants as place
 use Rattle.tx_seen.specs.declared.meaning.Meaning.{Meaning}
-use Rattle.tx_seen.specs.declared.meaning.Meaning.TheVariants.{Undefined, Command, Character, CharacterNumber, MathNumber, CountRegister, DimenRegister, SkipRegister, MuskipRegister, ToksRegister, Expandable, Macro, Held}
+use Rattle.tx_seen.specs.declared.meaning.Meaning.TheVariants.{Undefined, Command, Character, CharacterNumber, MathNumber, CountRegister, DimenRegister, SkipRegister, MuskipRegister, ToksRegister, Expandable, Macro, Held, Font}
 use Rattle.tx_seen.specs.Places.{is_list}
 use Rattle.tx_assign.specs.declared.types.Variable.{Variable}
 use Rattle.tx_assign.specs.declared.types.Variable.TheVariants.{Numbered, Standing}
@@ -49,6 +49,14 @@ primitive_variable (primitive.Last kind) = None
 primitive_variable primitive.Badness = None
 primitive_variable primitive.PrevDepth = None
 primitive_variable (primitive.Leaders kind) = None
+primitive_variable primitive.NullFont = None
+primitive_variable primitive.LoadFont = None
+primitive_variable primitive.FontDimen = None
+primitive_variable (primitive.FontInteger kind) = None
+primitive_variable primitive.Char = None
+primitive_variable primitive.SpaceFactor = None
+primitive_variable primitive.ItalicCorrection = None
+primitive_variable primitive.ControlSpace = None
 
 -- a register's name of its own is a left side too
 abbrev pub variable_of : Meaning → Option Variable
@@ -62,6 +70,7 @@ variable_of Undefined = None
 variable_of (Character code category) = None
 variable_of (CharacterNumber number) = None
 variable_of (MathNumber number) = None
+variable_of (Font number) = None
 variable_of (Expandable e) = None
 variable_of (Macro m) = None
 variable_of Held = None

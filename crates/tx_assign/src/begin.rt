@@ -30,6 +30,10 @@ fn of_primitive(primitive: Primitive) -> Option<Variable>
         Primitive::HorizontalGlue(_) | Primitive::VerticalGlue(_) => None,
         Primitive::Last(_) | Primitive::Badness | Primitive::PrevDepth => None,
         Primitive::Leaders(_) => None,
+        Primitive::NullFont | Primitive::LoadFont => None,
+        Primitive::FontDimen | Primitive::FontInteger(_) => None,
+        Primitive::Char | Primitive::SpaceFactor => None,
+        Primitive::ItalicCorrection | Primitive::ControlSpace => None,
     }
 }
 
@@ -46,7 +50,7 @@ impl Variable {
             Meaning::MuskipRegister(number) => Some(Variable::Standing(Place::Muskip(*number))),
             Meaning::ToksRegister(number) => Some(Variable::Standing(Place::Toks(*number))),
             Meaning::Undefined | Meaning::Character(_, _) => None,
-            Meaning::CharacterNumber(_) | Meaning::MathNumber(_) => None,
+            Meaning::CharacterNumber(_) | Meaning::MathNumber(_) | Meaning::Font(_) => None,
             Meaning::Expandable(_) | Meaning::Macro(_) | Meaning::Held => None,
         }
     }

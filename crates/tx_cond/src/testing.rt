@@ -34,7 +34,7 @@ fn answered(fed: Fed<Value>) -> Fed<i64>
         Fed::Done(Value::Int(_) | Value::Dimen(_) | Value::Glue(_) | Value::Muglue(_), _) => {
             Fed::Wrong(TexError::MissingNumber)
         }
-        Fed::Done(Value::Magnification(_) | Value::Absent, _) => {
+        Fed::Done(Value::Magnification(_) | Value::Absent | Value::OutOfRange, _) => {
             Fed::Wrong(TexError::MissingNumber)
         }
         Fed::Wrong(error) => Fed::Wrong(error),

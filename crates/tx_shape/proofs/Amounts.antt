@@ -1,5 +1,5 @@
 -- A number or a size, as a part of a command's rest.
-use Rattle.std.proofs.Common.{◌≡◌, ◌≤◌, ◌+◌, ℕ, ℤ, zero, suc, List, [], ◌∷◌, ◌++◌, refl, ap, sym, ◌∙◌, arith}
+use Rattle.std.proofs.Common.{◌≡◌, ◌≤◌, ◌+◌, ℕ, ℤ, zero, suc, Option, Some, None, List, [], ◌∷◌, ◌++◌, refl, ap, sym, ◌∙◌, arith}
 use Rattle.tx_seen.specs.declared.fed.Fed.{Fed}
 use Rattle.tx_seen.specs.declared.fed.Fed.TheVariants as fed
 use Rattle.tx_seen.specs.declared.fed.Kind.{Kind}
@@ -14,23 +14,28 @@ use Rattle.tx_scan.specs.declared.scans.IntScan.{IntScan}
 use Rattle.tx_scan.specs.declared.scans.Measure.{Measure}
 use Rattle.tx_scan.specs.IntegerRests as integers
 use Rattle.tx_scan.specs.DimensionRests as sizes
+use Rattle.tx_scan.specs.Integers.{byte_of}
 use Rattle.tx_scan.specs.Mapped.{mapped}
 use Rattle.tx_scan.specs.Rests.{HoldsOne, IsAnswer, IsFedBy, IsGivenBehind, IsGivenBy, IsRead, kept}
 use Rattle.tx_scan.specs.Supplied.{NeedsFewer, NeedsNoMore}
 use Rattle.tx_scan.proofs.Answering.{ending-kept, ending-none}
 use Rattle.tx_scan.proofs.Behind.{given-behind, read-one}
-use Rattle.tx_scan.proofs.Mappings.{Rest, fewer-mapped, mapped-given, needs-mapped, read-none, same-read}
+use Rattle.tx_scan.proofs.Mappings.{Rest, mapped-given, needs-mapped, read-none, same-read}
 use Rattle.tx_scan.proofs.Mosts.{most-integer, most-size}
 use Rattle.tx_shape.specs.declared.scans.Amount.TheVariants as amount
 use Rattle.tx_shape.specs.declared.scans.AmountScan.{AmountScan}
 use Rattle.tx_shape.specs.declared.scans.Next.{Next}
+use Rattle.tx_shape.specs.declared.scans.Next.TheVariants.{Part, Font, Whole, Wrong}
+use Rattle.tx_shape.specs.declared.scans.NumberSetting.{NumberSetting}
 use Rattle.tx_shape.specs.declared.scans.Registering.{Registering}
+use Rattle.tx_shape.specs.declared.scans.Registering.TheVariants as registering
 use Rattle.tx_shape.specs.declared.scans.ShapeScan.{ShapeScan}
 use Rattle.tx_shape.specs.declared.scans.Sizing.{Sizing}
+use Rattle.tx_shape.specs.declared.scans.Sizing.TheVariants as sizing
 use Rattle.tx_shape.specs.declared.scans.Stage.TheVariants as stage
 use Rattle.tx_shape.specs.declared.types.Shaped.{Shaped}
-use Rattle.tx_shape.specs.AmountRests.{IsAmountFed, amount_held, amount_needed, amount_rest}
-use Rattle.tx_shape.specs.Nexts.{behind_measure, behind_number, behind_penalty, next_rest}
+use Rattle.tx_shape.specs.AmountRests.{IsAmountFed, LeavesFewer, amount_held, amount_needed, amount_rest, needed_behind}
+use Rattle.tx_shape.specs.Nexts.{behind_byte, behind_measure, behind_number, behind_parameter, behind_penalty, behind_register, behind_set, behind_size, next_rest}
 use Rattle.tx_shape.specs.Rests.{Begins, WaitsIfNeeded, held, needed, rest, stage_held, stage_rest}
 
 -- one thing is made of another
@@ -72,6 +77,28 @@ register-given what old scan v answer was k = rw was
     (mapped-given integers.rest integers.held amount_rest amount_held (behind_number what) old.integer scan (record old { amount = amount.Register what }) (record old { integer = scan; amount = amount.Register what }) v answer
     (λ behind item more. refl) refl (λ behind item more. refl) refl k)
 
+-- a number that is set
+pub number-fed : (what : NumberSetting) (old : AmountScan) (scan : IntScan) (t : Seen) (answer : Fed ℤ) → old.amount ≡ amount.Number what → integers.IsFed old.integer t scan answer → IsAmountFed old t (record old { integer = scan }) (mapped (behind_set what) answer)
+number-fed what old scan t answer was k = λ behind. rw was
+    (mapped-answer integers.rest integers.held amount_rest amount_held (behind_set what) (integers.most old.integer) 1 (λ more. integers.rest old.integer behind (Took t) more) t scan (record old { integer = scan; amount = amount.Number what }) answer
+    (most-integer old.integer) (λ behind item more. refl) refl (k behind))
+
+pub number-given : (what : NumberSetting) (old : AmountScan) (scan : IntScan) (v : Value) (answer : Fed ℤ) → old.amount ≡ amount.Number what → IsGivenBy integers.rest integers.held old.integer v scan answer → IsGivenBy amount_rest amount_held old v (record old { integer = scan }) (mapped (behind_set what) answer)
+number-given what old scan v answer was k = rw was
+    (mapped-given integers.rest integers.held amount_rest amount_held (behind_set what) old.integer scan (record old { amount = amount.Number what }) (record old { integer = scan; amount = amount.Number what }) v answer
+    (λ behind item more. refl) refl (λ behind item more. refl) refl k)
+
+-- the number of a parameter
+pub parameter-fed : (old : AmountScan) (scan : IntScan) (t : Seen) (answer : Fed ℤ) → old.amount ≡ amount.FontDimen → integers.IsFed old.integer t scan answer → IsAmountFed old t (record old { integer = scan }) (mapped behind_parameter answer)
+parameter-fed old scan t answer was k = λ behind. rw was
+    (mapped-answer integers.rest integers.held amount_rest amount_held behind_parameter (integers.most old.integer) 1 (λ more. integers.rest old.integer behind (Took t) more) t scan (record old { integer = scan; amount = amount.FontDimen }) answer
+    (most-integer old.integer) (λ behind item more. refl) refl (k behind))
+
+pub parameter-given : (old : AmountScan) (scan : IntScan) (v : Value) (answer : Fed ℤ) → old.amount ≡ amount.FontDimen → IsGivenBy integers.rest integers.held old.integer v scan answer → IsGivenBy amount_rest amount_held old v (record old { integer = scan }) (mapped behind_parameter answer)
+parameter-given old scan v answer was k = rw was
+    (mapped-given integers.rest integers.held amount_rest amount_held behind_parameter old.integer scan (record old { amount = amount.FontDimen }) (record old { integer = scan; amount = amount.FontDimen }) v answer
+    (λ behind item more. refl) refl (λ behind item more. refl) refl k)
+
 -- a size
 pub size-fed : (what : Sizing) (old : AmountScan) (scan : DimenScan) (t : Seen) (answer : Fed Measure) → old.amount ≡ amount.Size what → sizes.IsFed old.size t scan answer → IsAmountFed old t (record old { size = scan }) (mapped (behind_measure what) answer)
 size-fed what old scan t answer was k = λ behind. rw was
@@ -87,20 +114,71 @@ size-given what old scan v answer was k = rw was
 pub penalty-needs : (old : AmountScan) (scan : IntScan) (answer : Fed ℤ) → old.amount ≡ amount.Penalty → NeedsNoMore (integers.waiting old.integer) (integers.waiting scan) answer → NeedsNoMore (amount_needed old) (amount_needed (record old { integer = scan })) (mapped behind_penalty answer)
 penalty-needs old scan answer was k = rw was (needs-mapped behind_penalty (integers.waiting old.integer) (integers.waiting scan) answer k)
 
-pub penalty-fewer : (old : AmountScan) (scan : IntScan) (answer : Fed ℤ) → old.amount ≡ amount.Penalty → NeedsFewer (integers.waiting old.integer) (integers.waiting scan) answer → NeedsFewer (amount_needed old) (amount_needed (record old { integer = scan })) (mapped behind_penalty answer)
-penalty-fewer old scan answer was k = rw was (fewer-mapped behind_penalty (integers.waiting old.integer) (integers.waiting scan) answer k)
-
 pub register-needs : (what : Registering) (old : AmountScan) (scan : IntScan) (answer : Fed ℤ) → old.amount ≡ amount.Register what → NeedsNoMore (integers.waiting old.integer) (integers.waiting scan) answer → NeedsNoMore (amount_needed old) (amount_needed (record old { integer = scan })) (mapped (behind_number what) answer)
 register-needs what old scan answer was k = rw was (needs-mapped (behind_number what) (integers.waiting old.integer) (integers.waiting scan) answer k)
 
-pub register-fewer : (what : Registering) (old : AmountScan) (scan : IntScan) (answer : Fed ℤ) → old.amount ≡ amount.Register what → NeedsFewer (integers.waiting old.integer) (integers.waiting scan) answer → NeedsFewer (amount_needed old) (amount_needed (record old { integer = scan })) (mapped (behind_number what) answer)
-register-fewer what old scan answer was k = rw was (fewer-mapped (behind_number what) (integers.waiting old.integer) (integers.waiting scan) answer k)
+pub number-needs : (what : NumberSetting) (old : AmountScan) (scan : IntScan) (answer : Fed ℤ) → old.amount ≡ amount.Number what → NeedsNoMore (integers.waiting old.integer) (integers.waiting scan) answer → NeedsNoMore (amount_needed old) (amount_needed (record old { integer = scan })) (mapped (behind_set what) answer)
+number-needs what old scan answer was k = rw was (needs-mapped (behind_set what) (integers.waiting old.integer) (integers.waiting scan) answer k)
 
 pub size-needs : (what : Sizing) (old : AmountScan) (scan : DimenScan) (answer : Fed Measure) → old.amount ≡ amount.Size what → NeedsNoMore (sizes.more_needed old.size) (sizes.more_needed scan) answer → NeedsNoMore (amount_needed old) (amount_needed (record old { size = scan })) (mapped (behind_measure what) answer)
 size-needs what old scan answer was k = rw was (needs-mapped (behind_measure what) (sizes.more_needed old.size) (sizes.more_needed scan) answer k)
 
-pub size-fewer : (what : Sizing) (old : AmountScan) (scan : DimenScan) (answer : Fed Measure) → old.amount ≡ amount.Size what → NeedsFewer (sizes.more_needed old.size) (sizes.more_needed scan) answer → NeedsFewer (amount_needed old) (amount_needed (record old { size = scan })) (mapped (behind_measure what) answer)
-size-fewer what old scan answer was k = rw was (fewer-mapped (behind_measure what) (sizes.more_needed old.size) (sizes.more_needed scan) answer k)
+more-needed : (old most new : ℕ) (answer : Fed ℤ) → old ≤ most → NeedsNoMore old new answer → NeedsNoMore most new answer
+more-needed old most new (fed.More want) h k = omega (arith, h, k)
+more-needed old most new (fed.Need kind) h k = omega (arith, h, k)
+more-needed old most new (fed.Done n back) h k = tt
+more-needed old most new (fed.Wrong error) h k = tt
+
+pub parameter-needs : (old : AmountScan) (scan : IntScan) (answer : Fed ℤ) → old.amount ≡ amount.FontDimen → NeedsNoMore (integers.waiting old.integer) (integers.waiting scan + integers.held scan) answer → NeedsNoMore (amount_needed old) (amount_needed (record old { integer = scan })) (mapped behind_parameter answer)
+parameter-needs old scan answer was k = rw was
+    (needs-mapped behind_parameter (integers.waiting old.integer + integers.held old.integer) (integers.waiting scan + integers.held scan) answer
+    (more-needed (integers.waiting old.integer) (integers.waiting old.integer + integers.held old.integer) (integers.waiting scan + integers.held scan) answer (omega arith) k))
+
+-- and behind a value: what follows needs none, but for the font of a parameter
+leaves-mapped : {A : Type 0} (f : A → Next) (old new : ℕ) (answer : Fed A) → ((a : A) (back : ℕ) → needed_behind (f a) back ≡ 0) → NeedsFewer old new answer → LeavesFewer old new (mapped f answer)
+leaves-mapped f old new (fed.More want) none k = k
+leaves-mapped f old new (fed.Need kind) none k = k
+leaves-mapped f old new (fed.Done a back) none k = rw (none a back) (omega arith)
+leaves-mapped f old new (fed.Wrong error) none k = tt
+
+register-alone : (what : Registering) (n back : ℕ) → needed_behind (behind_register what n) back ≡ 0
+register-alone (registering.Use context) n back = refl
+register-alone (registering.Copy context) n back = refl
+register-alone (registering.Unbox kind) n back = refl
+register-alone registering.Set n back = refl
+register-alone registering.Character n back = refl
+
+byte-alone : (what : Registering) (byte : Option ℕ) (back : ℕ) → needed_behind (behind_byte what byte) back ≡ 0
+byte-alone what None back = refl
+byte-alone what (Some n) back = register-alone what n back
+
+size-alone : (what : Sizing) (size : ℤ) (back : ℕ) → needed_behind (behind_size what size) back ≡ 0
+size-alone (sizing.To opening) size back = refl
+size-alone (sizing.Spread opening) size back = refl
+size-alone (sizing.Shift kind) size back = refl
+size-alone (sizing.Set what) size back = refl
+
+pub penalty-fewer : (old : AmountScan) (scan : IntScan) (answer : Fed ℤ) → old.amount ≡ amount.Penalty → NeedsFewer (integers.waiting old.integer) (integers.waiting scan) answer → LeavesFewer (amount_needed old) (amount_needed (record old { integer = scan })) (mapped behind_penalty answer)
+penalty-fewer old scan answer was k = rw was (leaves-mapped behind_penalty (integers.waiting old.integer) (integers.waiting scan) answer (λ n back. refl) k)
+
+pub register-fewer : (what : Registering) (old : AmountScan) (scan : IntScan) (answer : Fed ℤ) → old.amount ≡ amount.Register what → NeedsFewer (integers.waiting old.integer) (integers.waiting scan) answer → LeavesFewer (amount_needed old) (amount_needed (record old { integer = scan })) (mapped (behind_number what) answer)
+register-fewer what old scan answer was k = rw was (leaves-mapped (behind_number what) (integers.waiting old.integer) (integers.waiting scan) answer (λ n back. byte-alone what (byte_of n) back) k)
+
+pub number-fewer : (what : NumberSetting) (old : AmountScan) (scan : IntScan) (answer : Fed ℤ) → old.amount ≡ amount.Number what → NeedsFewer (integers.waiting old.integer) (integers.waiting scan) answer → LeavesFewer (amount_needed old) (amount_needed (record old { integer = scan })) (mapped (behind_set what) answer)
+number-fewer what old scan answer was k = rw was (leaves-mapped (behind_set what) (integers.waiting old.integer) (integers.waiting scan) answer (λ n back. refl) k)
+
+pub size-fewer : (what : Sizing) (old : AmountScan) (scan : DimenScan) (answer : Fed Measure) → old.amount ≡ amount.Size what → NeedsFewer (sizes.more_needed old.size) (sizes.more_needed scan) answer → LeavesFewer (amount_needed old) (amount_needed (record old { size = scan })) (mapped (behind_measure what) answer)
+size-fewer what old scan answer was k = rw was (leaves-mapped (behind_measure what) (sizes.more_needed old.size) (sizes.more_needed scan) answer (λ measure back. size-alone what measure.size back) k)
+
+-- the token behind the number of a parameter is held as long as that waits for a value
+parameter-leaves : (old scan : IntScan) (v : Value) (answer : Fed ℤ) → IsGivenBy integers.rest integers.held old v scan answer → NeedsFewer (integers.waiting old) (integers.waiting scan) answer → LeavesFewer (integers.waiting old + integers.held old) (integers.waiting scan + integers.held scan) (mapped behind_parameter answer)
+parameter-leaves old scan v (fed.More want) given k = let same : integers.held scan ≡ integers.held old = (given [] (omega arith)).1 in omega (arith, same, k)
+parameter-leaves old scan v (fed.Need kind) given k = let same : integers.held scan ≡ integers.held old = (given [] (omega arith)).1 in omega (arith, same, k)
+parameter-leaves old scan v (fed.Done n back) given k = let same : back ≡ integers.held old = (given [] (omega arith)).0 in omega (arith, same)
+parameter-leaves old scan v (fed.Wrong error) given k = tt
+
+pub parameter-fewer : (old : AmountScan) (scan : IntScan) (v : Value) (answer : Fed ℤ) → old.amount ≡ amount.FontDimen → IsGivenBy integers.rest integers.held old.integer v scan answer → NeedsFewer (integers.waiting old.integer) (integers.waiting scan) answer → LeavesFewer (amount_needed old) (amount_needed (record old { integer = scan })) (mapped behind_parameter answer)
+parameter-fewer old scan v answer was given k = rw was (parameter-leaves old.integer scan v answer given k)
 
 -- what follows: the number or the size goes on
 abbrev on_with : (List Item → Reading Next) → List Item → Reading Shaped
@@ -184,11 +262,34 @@ needs-more scan old want was k = rw was k
 pub needs-need : (scan : ShapeScan) (old : ℕ) (kind : Kind) → scan.stage ≡ stage.Amount → NeedsNoMore {A = Next} old (amount_needed scan.amount) (fed.Need kind) → NeedsNoMore {A = Shaped} old (needed scan) (fed.Need kind)
 needs-need scan old kind was k = rw was k
 
-pub fewer-more : (scan : ShapeScan) (old : ℕ) (want : Want) → scan.stage ≡ stage.Amount → NeedsFewer {A = Next} old (amount_needed scan.amount) (fed.More want) → NeedsFewer {A = Shaped} old (needed scan) (fed.More want)
+pub fewer-more : (scan : ShapeScan) (old : ℕ) (want : Want) → scan.stage ≡ stage.Amount → LeavesFewer old (amount_needed scan.amount) (fed.More want) → NeedsFewer {A = Shaped} old (needed scan) (fed.More want)
 fewer-more scan old want was k = rw was k
 
-pub fewer-need : (scan : ShapeScan) (old : ℕ) (kind : Kind) → scan.stage ≡ stage.Amount → NeedsFewer {A = Next} old (amount_needed scan.amount) (fed.Need kind) → NeedsFewer {A = Shaped} old (needed scan) (fed.Need kind)
+pub fewer-need : (scan : ShapeScan) (old : ℕ) (kind : Kind) → scan.stage ≡ stage.Amount → LeavesFewer old (amount_needed scan.amount) (fed.Need kind) → NeedsFewer {A = Shaped} old (needed scan) (fed.Need kind)
 fewer-need scan old kind was k = rw was k
+
+-- behind a token that is read again
+some-behind : (follows : Next) (back old : ℕ) → (back ≡ 0 → ⊥) → needed_behind follows back ≤ old → needed_behind follows 1 ≤ old
+some-behind (Part part) back old some k = omega arith
+some-behind (Font what) zero old some k = absurd (some refl)
+some-behind (Font what) (suc back) old some k = omega (arith, k)
+some-behind (Whole shaped) back old some k = omega arith
+some-behind (Wrong error) back old some k = omega arith
+
+pub fewer-before : (new : ShapeScan) (follows : Next) (back old : ℕ) (answer : Fed Shaped) → (back ≡ 0 → ⊥) → needed_behind follows back ≤ old → ((old : ℕ) → needed_behind follows 1 ≤ old → NeedsFewer old (needed new) answer) → NeedsFewer old (needed new) answer
+fewer-before new follows back old answer some k later = later old (some-behind follows back old some k)
+
+pub set-needs : (n old : ℕ) (answer : Fed Shaped) → NeedsNoMore 0 n answer → NeedsNoMore old n answer
+set-needs n old (fed.More want) k = omega (arith, k)
+set-needs n old (fed.Need kind) k = omega (arith, k)
+set-needs n old (fed.Done shaped back) k = tt
+set-needs n old (fed.Wrong error) k = tt
+
+pub set-fewer : (n old : ℕ) (answer : Fed Shaped) → 1 ≤ old → NeedsNoMore 0 n answer → NeedsFewer old n answer
+set-fewer n old (fed.More want) h k = omega (arith, h, k)
+set-fewer n old (fed.Need kind) h k = omega (arith, h, k)
+set-fewer n old (fed.Done shaped back) h k = tt
+set-fewer n old (fed.Wrong error) h k = tt
 
 -- where a value is needed
 pub waits-need : (scan : ShapeScan) (kind : Kind) → scan.stage ≡ stage.Amount → HoldsOne {A = Next} (amount_held scan.amount) (fed.Need kind) → WaitsIfNeeded scan (fed.Need kind)

@@ -3,3 +3,4 @@ pub mod Wording
 pub mod Amounts
 pub mod Steps
 mod Worked
+pub mod LoadSteps

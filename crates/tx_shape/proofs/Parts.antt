@@ -20,7 +20,7 @@ use Rattle.tx_shape.specs.declared.scans.Stage.TheVariants as stage
 use Rattle.tx_shape.specs.declared.types.Shaped.{Shaped}
 use Rattle.tx_shape.specs.AmountRests.{begun_amount, kind_rest}
 use Rattle.tx_shape.specs.Boxes.{by_byte, by_register, penalizing}
-use Rattle.tx_shape.specs.Nexts.{behind_byte, behind_number, behind_register, next_rest, plain_rest}
+use Rattle.tx_shape.specs.Nexts.{behind_byte, behind_number, behind_parameter, behind_register, behind_set, next_rest, plain_rest}
 use Rattle.tx_shape.specs.Rests.{Begins, begun_at, held, rest, size_rest, stage_held, stage_needed, stage_rest}
 
 -- what is made of a thing, and then read on
@@ -72,26 +72,36 @@ abbrev pub amount_reading : Amount → List Item → Reading Shaped
 amount_reading amount.Penalty items = penalizing items
 amount_reading (amount.Register what) items = next (integer items) (λ n rest. next_rest (behind_number what n) rest)
 amount_reading (amount.Size what) items = size_rest what items
+amount_reading (amount.Number what) items = next (integer items) (λ n rest. next_rest (behind_set what n) rest)
+amount_reading amount.FontDimen items = next (integer items) (λ n rest. next_rest (behind_parameter n) rest)
 
 amount-unread : (what : Amount) → amount_reading what [] ≡ More Expanded
 amount-unread amount.Penalty = refl
 amount-unread (amount.Register what) = refl
 amount-unread (amount.Size what) = refl
+amount-unread (amount.Number what) = refl
+amount-unread amount.FontDimen = refl
 
 pub amount-begun : (what : Amount) (item : Item) (more : List Item) → amount_reading what (item ∷ more) ≡ next (kind_rest what (begun_amount what) [] item more) next_rest
 amount-begun amount.Penalty item more = sym (next-made (integer (item ∷ more)) _ next_rest)
 amount-begun (amount.Register what) item more = sym (next-made (integer (item ∷ more)) (behind_number what) next_rest)
 amount-begun (amount.Size what) item more = sym (next-made (dimension lengths (item ∷ more)) _ next_rest)
+amount-begun (amount.Number what) item more = sym (next-made (integer (item ∷ more)) (behind_set what) next_rest)
+amount-begun amount.FontDimen item more = sym (next-made (integer (item ∷ more)) behind_parameter next_rest)
 
 none-held : (what : Amount) (glue : GlueScan) → held (begun_at what glue) ≡ 0
 none-held amount.Penalty glue = refl
 none-held (amount.Register what) glue = refl
 none-held (amount.Size what) glue = refl
+none-held (amount.Number what) glue = refl
+none-held amount.FontDimen glue = refl
 
 none-needed : (what : Amount) (glue : GlueScan) → stage_needed stage.Amount (begun_at what glue) ≤ 0
 none-needed amount.Penalty glue = omega arith
 none-needed (amount.Register what) glue = omega arith
 none-needed (amount.Size what) glue = omega arith
+none-needed (amount.Number what) glue = omega arith
+none-needed amount.FontDimen glue = omega arith
 
 pub amount-on : (reading : List Item → Reading Shaped) (what : Amount) (glue : GlueScan) (new : ShapeScan) → new ≡ begun_at what glue → ((more : List Item) → reading more ≡ amount_reading what more) → Begins reading new (fed.More Expanded)
 amount-on reading what glue new was same = record {

@@ -1,5 +1,5 @@
 -- One token, by the part that it comes to.
-use Rattle.std.proofs.Common.{◌≡◌, ◌≤◌, ◌+◌, ℕ, zero, suc, Bool, true, false, ◌||◌, List, [], ◌∷◌, ◌++◌, cond, Option, Some, Result, Ok, Err, IfOk, length, length-append, refl, ap, sym, ◌∙◌, arith}
+use Rattle.std.proofs.Common.{◌≡◌, ◌≤◌, ◌+◌, ℕ, zero, suc, Bool, true, false, ◌||◌, List, [], ◌∷◌, ◌++◌, cond, Option, Some, Result, Ok, Err, IfOk, length, length-append, refl, ap, sym, ◌∙◌, subst, arith}
 use Rattle.tx_char.specs.Character.{character}
 use Rattle.tx_seen.specs.declared.error.TexError.{TexError}
 use Rattle.tx_seen.specs.declared.error.TexError.TheVariants.{Undefined}
@@ -15,8 +15,11 @@ use Rattle.tx_seen.specs.Readings.{Reading, More, Done, Wrong, next, ending}
 use Rattle.tx_scan.specs.Integers.{expanded}
 use Rattle.tx_scan.specs.declared.scans.BraceScan.{BraceScan}
 use Rattle.tx_scan.specs.declared.scans.EqualsScan.{EqualsScan}
+use Rattle.tx_scan.specs.declared.scans.FontScan.{FontScan}
+use Rattle.tx_scan.specs.declared.scans.FontSought.{FontSought}
 use Rattle.tx_scan.specs.declared.scans.GlueScan.{GlueScan}
-use Rattle.tx_scan.specs.GrammarRests.{IsBraceFed, IsEqualsFed}
+use Rattle.tx_seen.specs.declared.place.FontName.{FontName}
+use Rattle.tx_scan.specs.GrammarRests.{IsBraceFed, IsEqualsFed, IsFontFed}
 use Rattle.tx_scan.specs.Rests.{IsFedBy, IsRead, kept}
 use Rattle.tx_scan.specs.Supplied.{NeedsNoMore}
 use Rattle.tx_scan.proofs.Answering.{ending-all, ending-none}
@@ -28,7 +31,11 @@ use Rattle.tx_shape.specs.declared.scans.Plain.TheVariants as plain
 use Rattle.tx_shape.specs.declared.scans.ShapeScan.{ShapeScan}
 use Rattle.tx_shape.specs.declared.types.Shaped.{Shaped}
 use Rattle.tx_shape.specs.declared.scans.Stage.TheVariants as stage
+use Rattle.tx_shape.specs.declared.scans.Amount.{Amount}
 use Rattle.tx_shape.specs.declared.scans.Amount.TheVariants as amount
+use Rattle.tx_shape.specs.declared.scans.Setting.{Setting}
+use Rattle.tx_shape.specs.declared.scans.Setting.TheVariants.{Size, Number}
+use Rattle.tx_shape.specs.Settings.{amount_of, font_setting, set, set_of_font, setting}
 use Rattle.tx_shape.specs.declared.scans.Sizing.TheVariants as sizing
 use Rattle.tx_shape.specs.declared.types.BoxContext.TheVariants.{Register}
 use Rattle.tx_shape.specs.declared.types.BoxGoal.{BoxGoal}
@@ -37,11 +44,11 @@ use Rattle.tx_shape.specs.declared.words.Lost.{Lost}
 use Rattle.tx_shape.specs.declared.words.Lost.TheVariants as lost
 use Rattle.tx_shape.specs.declared.words.Word.{Word}
 use Rattle.tx_shape.specs.declared.words.Word.TheVariants as word
-use Rattle.tx_shape.specs.Boxes.{begun, box_begin, depth, depth_setting, needed_box, opened, register_setting, spread_goal}
-use Rattle.tx_shape.specs.Rests.{Begins, BeginsDepth, WaitsIfNeeded, behind_with, begun_at, held, left_of, letters_rest, lost_rest, needed, rest, size_rest, sizing_behind, stage_held, stage_rest, word_rest}
+use Rattle.tx_shape.specs.Boxes.{begun, box_begin, needed_box, opened, register_setting, spread_goal}
+use Rattle.tx_shape.specs.Rests.{Begins, BeginsSetting, WaitsIfNeeded, behind_with, begun_at, held, left_of, letters_rest, lost_rest, needed, rest, size_rest, sizing_behind, stage_held, stage_rest, word_rest}
 use Rattle.tx_shape.specs.Words.{behind_group, expected as letter, longer, lost_behind, lost_by, lost_to}
 use Rattle.tx_shape.proofs.Amounts.{none-waits, one-kept}
-use Rattle.tx_shape.proofs.Parts.{amount-begun, amount-on, begins-alike, begins-wrong, plain-on}
+use Rattle.tx_shape.proofs.Parts.{amount-begun, amount-on, amount_reading, begins-alike, begins-wrong, plain-on}
 use Rattle.tx_shape.proofs.Wording.{spread-begun, spread-none, spread-space, to-begun, to-none, to-space}
 
 -- where `to` may come
@@ -186,69 +193,127 @@ equals-before n scan t new there back answer k some later =
 pub equals-wrong : (n : ℕ) (scan : EqualsScan) (t : Seen) (new : ShapeScan) (error : TexError) → IsEqualsFed scan t (fed.Wrong error) → Begins (λ more. register_setting n (Took t ∷ more)) new (fed.Wrong error)
 equals-wrong n scan t new error k = begins-wrong _ new error (λ more. ap (λ r. next r (to_box n)) (k [] more))
 
--- the same before a size
-abbrev to_depth : Bool → List Item → Reading Shaped
-to_depth there rest = depth rest
+-- the same before what is set
+abbrev to_set : Setting → Bool → List Item → Reading Shaped
+to_set what there rest = set what rest
 
-depth-alike : (reading other : List Item → Reading Shaped) (t : Seen) (new : ShapeScan) (answer : Fed Shaped) → ((more : List Item) → reading more ≡ other more) → BeginsDepth other t new answer → BeginsDepth reading t new answer
-depth-alike reading other t new answer same k = record {
+setting-alike : (reading other : List Item → Reading Shaped) (t : Seen) (new : ShapeScan) (answer : Fed Shaped) → ((more : List Item) → reading more ≡ other more) → BeginsSetting other t new answer → BeginsSetting reading t new answer
+setting-alike reading other t new answer same k = record {
   reads = same-read rest held 1 reading other (Took t ∷ []) new answer same k.reads;
   needs = k.needs;
   waits = k.waits;
 }
 
-depth-of : (reading : List Item → Reading Shaped) (t : Seen) (new : ShapeScan) (answer : Fed Shaped) → Begins reading new answer → BeginsDepth reading t new answer
-depth-of reading t new answer k = record {
+setting-of : (reading : List Item → Reading Shaped) (t : Seen) (new : ShapeScan) (answer : Fed Shaped) → Begins reading new answer → BeginsSetting reading t new answer
+setting-of reading t new answer k = record {
   reads = read-none rest held 1 reading (Took t ∷ []) new answer k.reads;
   needs = none-needs 0 (needed new) answer k.fewer;
   waits = none-waits new (needed new) answer k.fewer;
 }
 
-pub depth-on : (scan : EqualsScan) (t : Seen) (new : ShapeScan) (want : Want) → IsEqualsFed scan t (fed.More want) → new.stage ≡ stage.Depth → BeginsDepth (λ more. depth_setting (Took t ∷ more)) t new (fed.More want)
-depth-on scan t new want k was = record {
+pub setting-on : (what : Setting) (scan : EqualsScan) (t : Seen) (new : ShapeScan) (want : Want) → IsEqualsFed scan t (fed.More want) → new.stage ≡ stage.Setting what → BeginsSetting (λ more. setting what (Took t ∷ more)) t new (fed.More want)
+setting-on what scan t new want k was = record {
   reads = (
-    ap (λ r. next r to_depth) (k []).0,
+    ap (λ r. next r (to_set what)) (k []).0,
     rw was (omega arith),
-    λ item more. ap (λ r. next r to_depth) ((k []).2 item more) ∙ ap (λ s. stage_rest s new (ending (stage_held s new) (Took t ∷ [])) item more) (sym was),
+    λ item more. ap (λ r. next r (to_set what)) ((k []).2 item more) ∙ ap (λ s. stage_rest s new (ending (stage_held s new) (Took t ∷ [])) item more) (sym was),
   );
   needs = rw was (omega arith);
   waits = tt;
 }
 
-pub depth-there : (scan : EqualsScan) (t : Seen) (new : ShapeScan) (there : Bool) (back : ℕ) (glue : GlueScan) → IsEqualsFed scan t (fed.Done there back) → back ≡ 0 → new ≡ begun_at (amount.Size sizing.Depth) glue → BeginsDepth (λ more. depth_setting (Took t ∷ more)) t new (fed.More Expanded)
-depth-there scan t new there back glue k none was =
-    depth-of _ t new (fed.More Expanded)
-    (amount-on _ (amount.Size sizing.Depth) glue new was (λ more. ap (λ r. next r to_depth) ((k []).1 more) ∙ ap (λ (m : ℕ). depth (kept m t ++ more)) none))
+set-amount : (what : Setting) (items : List Item) → set what items ≡ amount_reading (amount_of what) items
+set-amount (Size size) items = refl
+set-amount (Number number) items = refl
 
-depth-before : (scan : EqualsScan) (t : Seen) (new : ShapeScan) (there : Bool) (back : ℕ) (answer : Fed Shaped) → IsEqualsFed scan t (fed.Done there back) → (back ≡ 0 → ⊥) → BeginsDepth (λ more. depth (Took t ∷ more)) t new answer → BeginsDepth (λ more. depth_setting (Took t ∷ more)) t new answer
-depth-before scan t new there back answer k some later =
-    depth-alike _ _ t new answer (λ more. ap (λ r. next r to_depth) ((k []).1 more) ∙ ap (λ (items : List Item). depth (items ++ more)) (one-kept back t some)) later
+pub setting-there : (what : Setting) (scan : EqualsScan) (t : Seen) (new : ShapeScan) (there : Bool) (back : ℕ) (glue : GlueScan) → IsEqualsFed scan t (fed.Done there back) → back ≡ 0 → new ≡ begun_at (amount_of what) glue → BeginsSetting (λ more. setting what (Took t ∷ more)) t new (fed.More Expanded)
+setting-there what scan t new there back glue k none was =
+    setting-of _ t new (fed.More Expanded)
+    (amount-on _ (amount_of what) glue new was
+    (λ more. ap (λ r. next r (to_set what)) ((k []).1 more) ∙ (ap (λ (m : ℕ). set what (kept m t ++ more)) none ∙ set-amount what more)))
 
-pub depth-wrong : (scan : EqualsScan) (t : Seen) (new : ShapeScan) (error : TexError) → IsEqualsFed scan t (fed.Wrong error) → BeginsDepth (λ more. depth_setting (Took t ∷ more)) t new (fed.Wrong error)
-depth-wrong scan t new error k = depth-of _ t new (fed.Wrong error) (begins-wrong _ new error (λ more. ap (λ r. next r to_depth) (k [] more)))
+setting-before : (what : Setting) (scan : EqualsScan) (t : Seen) (new : ShapeScan) (there : Bool) (back : ℕ) (answer : Fed Shaped) → IsEqualsFed scan t (fed.Done there back) → (back ≡ 0 → ⊥) → BeginsSetting (λ more. set what (Took t ∷ more)) t new answer → BeginsSetting (λ more. setting what (Took t ∷ more)) t new answer
+setting-before what scan t new there back answer k some later =
+    setting-alike _ _ t new answer (λ more. ap (λ r. next r (to_set what)) ((k []).1 more) ∙ ap (λ (items : List Item). set what (items ++ more)) (one-kept back t some)) later
 
-depth-begun : (old new : ShapeScan) (glue : GlueScan) (t : Seen) (answer : Fed Shaped) → old ≡ begun_at (amount.Size sizing.Depth) glue → IsFedBy rest held old t new answer → NeedsNoMore (needed old) (needed new) answer → WaitsIfNeeded new answer → BeginsDepth (λ more. depth (Took t ∷ more)) t new answer
-depth-begun old new glue t answer was k needs waits =
-    let first : IsFedBy rest held (begun_at (amount.Size sizing.Depth) glue) t new answer = rw was at k in
-    let h : length {A = Item} [] ≤ 0 = omega arith in
+pub setting-wrong : (what : Setting) (scan : EqualsScan) (t : Seen) (new : ShapeScan) (error : TexError) → IsEqualsFed scan t (fed.Wrong error) → BeginsSetting (λ more. setting what (Took t ∷ more)) t new (fed.Wrong error)
+setting-wrong what scan t new error k =
+    setting-of _ t new (fed.Wrong error) (begins-wrong _ new error (λ more. ap (λ r. next r (to_set what)) (k [] more)))
+
+-- the first token of a number or a size
+amount-first : (what : Amount) (old new : ShapeScan) (glue : GlueScan) (t : Seen) (answer : Fed Shaped) → held (begun_at what glue) ≡ 0 → needed (begun_at what glue) ≡ 0 → old ≡ begun_at what glue → IsFedBy rest held old t new answer → NeedsNoMore (needed old) (needed new) answer → WaitsIfNeeded new answer → BeginsSetting (λ more. amount_reading what (Took t ∷ more)) t new answer
+amount-first what old new glue t answer none few was k needs waits =
+    let first : IsFedBy rest held (begun_at what glue) t new answer = rw was at k in
+    let same : needed old ≡ 0 = ap (λ (scan : ShapeScan). needed scan) was ∙ few in
+    let count : held (begun_at what glue) + 1 ≡ 1 = ap (λ (n : ℕ). n + 1) none in
+    let h : length {A = Item} [] ≤ held (begun_at what glue) = omega arith in
     record {
-      reads = same-read rest held 1 _ (λ more. rest (begun_at (amount.Size sizing.Depth) glue) [] (Took t) more) (Took t ∷ []) new answer (λ more. amount-begun (amount.Size sizing.Depth) (Took t) more) (first [] h);
-      needs = rw was at needs;
+      reads = same-read rest held 1 _ (λ more. rest (begun_at what glue) [] (Took t) more) (Took t ∷ []) new answer (λ more. amount-begun what (Took t) more) (subst (λ (n : ℕ). IsRead rest held n (λ more. rest (begun_at what glue) [] (Took t) more) (Took t ∷ []) new answer) count (first [] h));
+      needs = subst (λ (n : ℕ). NeedsNoMore n (needed new) answer) same needs;
       waits = waits;
     }
 
+pub setting-begun : (what : Setting) (old new : ShapeScan) (glue : GlueScan) (t : Seen) (answer : Fed Shaped) → old ≡ begun_at (amount_of what) glue → IsFedBy rest held old t new answer → NeedsNoMore (needed old) (needed new) answer → WaitsIfNeeded new answer → BeginsSetting (λ more. set what (Took t ∷ more)) t new answer
+setting-begun (Size size) old new glue t answer was k needs waits =
+    amount-first (amount.Size (sizing.Set size)) old new glue t answer refl refl was k needs waits
+setting-begun (Number number) old new glue t answer was k needs waits =
+    amount-first (amount.Number number) old new glue t answer refl refl was k needs waits
+
 -- the same of results that aren't want of memory
-pub depth-begun-ok : {E : Type 0} (old new : ShapeScan) (glue : GlueScan) (t : Seen) (answer : Result (Fed Shaped) E) → old ≡ begun_at (amount.Size sizing.Depth) glue → IfOk answer (IsFedBy rest held old t new) → IfOk answer (NeedsNoMore (needed old) (needed new)) → IfOk answer (WaitsIfNeeded new) → IfOk answer (BeginsDepth (λ more. depth (Took t ∷ more)) t new)
-depth-begun-ok old new glue t (Ok answer) was k needs waits = depth-begun old new glue t answer was k needs waits
-depth-begun-ok old new glue t (Err error) was k needs waits = tt
+pub setting-begun-ok : {E : Type 0} (what : Setting) (old new : ShapeScan) (glue : GlueScan) (t : Seen) (answer : Result (Fed Shaped) E) → old ≡ begun_at (amount_of what) glue → IfOk answer (IsFedBy rest held old t new) → IfOk answer (NeedsNoMore (needed old) (needed new)) → IfOk answer (WaitsIfNeeded new) → IfOk answer (BeginsSetting (λ more. set what (Took t ∷ more)) t new)
+setting-begun-ok what old new glue t (Ok answer) was k needs waits = setting-begun what old new glue t answer was k needs waits
+setting-begun-ok what old new glue t (Err error) was k needs waits = tt
 
-pub depth-before-ok : {E : Type 0} (scan : EqualsScan) (t : Seen) (new : ShapeScan) (there : Bool) (back : ℕ) (answer : Result (Fed Shaped) E) → IsEqualsFed scan t (fed.Done there back) → (back ≡ 0 → ⊥) → IfOk answer (BeginsDepth (λ more. depth (Took t ∷ more)) t new) → IfOk answer (BeginsDepth (λ more. depth_setting (Took t ∷ more)) t new)
-depth-before-ok scan t new there back (Ok answer) k some later = depth-before scan t new there back answer k some later
-depth-before-ok scan t new there back (Err error) k some later = tt
+pub setting-before-ok : {E : Type 0} (what : Setting) (scan : EqualsScan) (t : Seen) (new : ShapeScan) (there : Bool) (back : ℕ) (answer : Result (Fed Shaped) E) → IsEqualsFed scan t (fed.Done there back) → (back ≡ 0 → ⊥) → IfOk answer (BeginsSetting (λ more. set what (Took t ∷ more)) t new) → IfOk answer (BeginsSetting (λ more. setting what (Took t ∷ more)) t new)
+setting-before-ok what scan t new there back (Ok answer) k some later = setting-before what scan t new there back answer k some later
+setting-before-ok what scan t new there back (Err error) k some later = tt
 
-pub depth-fed : {E : Type 0} (old new : ShapeScan) (t : Seen) (answer : Result (Fed Shaped) E) → old.stage ≡ stage.Depth → IfOk answer (BeginsDepth (λ more. depth_setting (Took t ∷ more)) t new) → IfOk answer (IsFedBy rest held old t new)
-depth-fed old new t (Ok answer) was k = fed-first rest held old t new answer (rw was refl) (rw was k.reads)
-depth-fed old new t (Err error) was k = tt
+pub setting-fed : {E : Type 0} (what : Setting) (old new : ShapeScan) (t : Seen) (answer : Result (Fed Shaped) E) → old.stage ≡ stage.Setting what → IfOk answer (BeginsSetting (λ more. setting what (Took t ∷ more)) t new) → IfOk answer (IsFedBy rest held old t new)
+setting-fed what old new t (Ok answer) was k = fed-first rest held old t new answer (rw was refl) (rw was k.reads)
+setting-fed what old new t (Err error) was k = tt
+
+pub setting-needs : {E : Type 0} (what : Setting) (old new : ShapeScan) (t : Seen) (answer : Result (Fed Shaped) E) → old.stage ≡ stage.Setting what → IfOk answer (BeginsSetting (λ more. setting what (Took t ∷ more)) t new) → IfOk answer (NeedsNoMore (needed old) (needed new))
+setting-needs what old new t (Ok answer) was k = rw was k.needs
+setting-needs what old new t (Err error) was k = tt
+
+pub setting-waits : {E : Type 0} (what : Setting) (new : ShapeScan) (t : Seen) (answer : Result (Fed Shaped) E) → IfOk answer (BeginsSetting (λ more. setting what (Took t ∷ more)) t new) → IfOk answer (WaitsIfNeeded new)
+setting-waits what new t (Ok answer) k = k.waits
+setting-waits what new t (Err error) k = tt
+
+-- the font of which something is set
+abbrev to_font : FontSought → FontName → List Item → Reading Shaped
+to_font what f rest = set_of_font what f rest
+
+pub font-on : (what : FontSought) (scan : FontScan) (t : Seen) (new : ShapeScan) (want : Want) → IsFontFed scan t (fed.More want) → new.stage ≡ stage.Font what → BeginsSetting (λ more. font_setting what (Took t ∷ more)) t new (fed.More want)
+font-on what scan t new want k was = record {
+  reads = (
+    ap (λ r. next r (to_font what)) (k []).0,
+    rw was (omega arith),
+    λ item more. ap (λ r. next r (to_font what)) ((k []).2 item more) ∙ ap (λ s. stage_rest s new (ending (stage_held s new) (Took t ∷ [])) item more) (sym was),
+  );
+  needs = rw was (omega arith);
+  waits = tt;
+}
+
+none-kept : (back : ℕ) (t : Seen) → back ≤ 0 → kept back t ≡ []
+none-kept zero t h = refl
+none-kept (suc n) t h = absurd (omega (arith, h))
+
+pub font-done : (what : FontSought) (scan : FontScan) (t : Seen) (new : ShapeScan) (f : FontName) (back : ℕ) (answer : Fed Shaped) → IsFontFed scan t (fed.Done f back) → IsRead rest held 0 (set_of_font what f) [] new answer → NeedsNoMore 0 (needed new) answer → WaitsIfNeeded new answer → BeginsSetting (λ more. font_setting what (Took t ∷ more)) t new answer
+font-done what scan t new f back answer k reads needs waits = record {
+  reads = same-read rest held 1 _ (set_of_font what f) (Took t ∷ []) new answer
+      (λ more. ap (λ r. next r (to_font what)) ((k []).1 more) ∙ ap (λ (items : List Item). set_of_font what f (items ++ more)) (none-kept back t (k []).0))
+      (read-none rest held 1 (set_of_font what f) (Took t ∷ []) new answer reads);
+  needs = needs;
+  waits = waits;
+}
+
+pub font-wrong : (what : FontSought) (scan : FontScan) (t : Seen) (new : ShapeScan) (error : TexError) → IsFontFed scan t (fed.Wrong error) → BeginsSetting (λ more. font_setting what (Took t ∷ more)) t new (fed.Wrong error)
+font-wrong what scan t new error k =
+    setting-of _ t new (fed.Wrong error) (begins-wrong _ new error (λ more. ap (λ r. next r (to_font what)) (k [] more)))
+
+pub font-fed : (what : FontSought) (old new : ShapeScan) (t : Seen) (answer : Fed Shaped) → old.stage ≡ stage.Font what → BeginsSetting (λ more. font_setting what (Took t ∷ more)) t new answer → IsFedBy rest held old t new answer
+font-fed what old new t answer was k = fed-first rest held old t new answer (rw was refl) (rw was k.reads)
 
 -- the begin-group token
 brace-back : (back : ℕ) (t : Seen) → back ≤ 0 → kept back t ≡ ending back []

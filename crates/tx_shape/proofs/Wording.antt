@@ -49,7 +49,7 @@ expanded-by : {A B : Type 0} (f : Reading A → Reading B) → f (Wrong Undefine
 expanded-by f wrong true x y same = wrong
 expanded-by f wrong false x y same = same refl
 
-letter-by : {A B : Type 0} (f : Reading A → Reading B) → f (Wrong Undefined) ≡ Wrong Undefined → (u k : Bool) (x y : Reading A) (v w : Reading B) → (u ≡ false → f x ≡ v) → f y ≡ w → f (if u then Wrong Undefined else if k then x else y) ≡ (if u then Wrong Undefined else if k then v else w)
+pub letter-by : {A B : Type 0} (f : Reading A → Reading B) → f (Wrong Undefined) ≡ Wrong Undefined → (u k : Bool) (x y : Reading A) (v w : Reading B) → (u ≡ false → f x ≡ v) → f y ≡ w → f (if u then Wrong Undefined else if k then x else y) ≡ (if u then Wrong Undefined else if k then v else w)
 letter-by f wrong true k x y v w is other = wrong
 letter-by f wrong false true x y v w is other = is refl
 letter-by f wrong false false x y v w is other = other
@@ -172,7 +172,7 @@ pub to-space : (opening : Opening) (t : Seen) (more : List Item) → is_key (cha
 to-space opening t more k s = ap (to_on opening) (keyword-space (character "t") (codes "o") t more s k)
 
 -- no `to`
-letters-undefined : (s k u : Bool) (x y z : Reading Bool) → s ≡ false → u ≡ true → (if s && not k then x else if u then Wrong Undefined else if k then y else z) ≡ Wrong Undefined
+pub letters-undefined : (s k u : Bool) (x y z : Reading Bool) → s ≡ false → u ≡ true → (if s && not k then x else if u then Wrong Undefined else if k then y else z) ≡ Wrong Undefined
 letters-undefined false k true x y z e f = refl
 letters-undefined false k false x y z e f = cc
 letters-undefined true k u x y z e f = cc

@@ -22,7 +22,7 @@ use Rattle.tx_shape.specs.declared.types.BoxGoal.TheVariants.{Natural, To, Sprea
 use Rattle.tx_shape.specs.declared.types.BoxRead.TheVariants.{Begin, Copy, Last}
 use Rattle.tx_shape.specs.declared.types.Shaped.TheVariants as shaped
 use Rattle.tx_shape.specs.declared.types.Shaping.TheVariants as shaping
-use Rattle.tx_shape.specs.Boxes.{shape}
+use Rattle.tx_shape.specs.Shapes.{shape}
 
 -- characters as INITEX reads them
 abbrev plain : List ℕ → List Item

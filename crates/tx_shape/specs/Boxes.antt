@@ -24,14 +24,12 @@ use Rattle.tx_scan.specs.Grammars.{equals, left_brace}
 use Rattle.tx_scan.specs.Integers.{integer, byte_of, expanded}
 use Rattle.tx_scan.specs.Keywords.{keyword}
 use Rattle.tx_shape.specs.declared.types.BoxContext.{BoxContext}
-use Rattle.tx_shape.specs.declared.types.BoxContext.TheVariants.{Append, Register, Ship}
+use Rattle.tx_shape.specs.declared.types.BoxContext.TheVariants.{Append, Register}
 use Rattle.tx_shape.specs.declared.types.BoxGoal.{BoxGoal}
 use Rattle.tx_shape.specs.declared.types.BoxGoal.TheVariants.{Natural, To, Spread}
 use Rattle.tx_shape.specs.declared.types.BoxRead.TheVariants.{Begin, Use, Copy, Last}
-use Rattle.tx_shape.specs.declared.types.Shaping.{Shaping}
-use Rattle.tx_shape.specs.declared.types.Shaping.TheVariants as shaping
 use Rattle.tx_shape.specs.declared.types.Shaped.{Shaped}
-use Rattle.tx_shape.specs.declared.types.Shaped.TheVariants.{Box, Unbox, Penalize, SetDepth, Skip}
+use Rattle.tx_shape.specs.declared.types.Shaped.TheVariants.{Box, Unbox, Penalize, Skip}
 use Rattle.tx_shape.specs.declared.scans.Opening.{Opening}
 
 -- what the list of a box is packed to: `to` or `spread` and a size, or nothing (section 645)
@@ -98,13 +96,6 @@ register_setting n items = next (equals items) (λ _ rest. needed_box (Register 
 abbrev pub setting : List Item → Reading Shaped
 setting items = by_register register_setting items
 
--- \prevdepth: an optional `=` and a size (section 1243)
-abbrev pub depth : List Item → Reading Shaped
-depth items = next (dimension lengths items) (λ measure rest. Done (SetDepth measure.size) rest)
-
-abbrev pub depth_setting : List Item → Reading Shaped
-depth_setting items = next (equals items) (λ _ rest. depth rest)
-
 -- how far a box is shifted: down in a horizontal list, to the right in a vertical one (section 1073)
 abbrev pub shift_by : ShiftKind → ℤ → ℤ
 shift_by shift.Raise size = neg_ℤ size
@@ -144,15 +135,3 @@ skipping_by None items = next (glue false items) skipped
 
 abbrev pub skipping : GlueForm → List Item → Reading Shaped
 skipping form items = skipping_by (standing_glue form) items
-
--- what a command takes behind its first token; a box that stands alone is appended as it is
-abbrev pub shape : Shaping → List Item → Reading Shaped
-shape (shaping.Box kind) items = box_begin (record { kind = kind; context = Append (pos 0) }) items
-shape (shaping.From source) items = box_from source (Append (pos 0)) items
-shape shaping.Shipout items = needed_box Ship items
-shape shaping.SetBox items = setting items
-shape (shaping.Shift kind) items = shifting kind items
-shape (shaping.Unbox kind) items = unboxing kind items
-shape shaping.Penalty items = penalizing items
-shape shaping.PrevDepth items = depth_setting items
-shape (shaping.Glue form) items = skipping form items

@@ -1,5 +1,9 @@
 pub mod Words
 pub mod Boxes
+pub mod Settings
+pub mod Shapes
+pub mod Loading
 pub mod Nexts
 pub mod AmountRests
 pub mod Rests
+pub mod LoadRests

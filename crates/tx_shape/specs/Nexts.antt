@@ -9,15 +9,19 @@ use Rattle.tx_shape.specs.declared.types.BoxContext.TheVariants.{Append}
 use Rattle.tx_shape.specs.declared.types.BoxGoal.TheVariants.{To, Spread}
 use Rattle.tx_shape.specs.declared.types.BoxRead.TheVariants as box
 use Rattle.tx_shape.specs.declared.types.Shaped.{Shaped}
-use Rattle.tx_shape.specs.declared.types.Shaped.TheVariants.{Box, Unbox, Penalize, SetDepth}
+use Rattle.tx_shape.specs.declared.types.Shaped.TheVariants.{Box, Unbox, Penalize, Character}
 use Rattle.tx_shape.specs.declared.scans.Next.{Next}
-use Rattle.tx_shape.specs.declared.scans.Next.TheVariants.{Part, Whole, Wrong}
+use Rattle.tx_shape.specs.declared.scans.Next.TheVariants.{Part, Font, Whole, Wrong}
 use Rattle.tx_shape.specs.declared.scans.Plain.{Plain}
 use Rattle.tx_shape.specs.declared.scans.Plain.TheVariants as plain
 use Rattle.tx_shape.specs.declared.scans.Registering.{Registering}
 use Rattle.tx_shape.specs.declared.scans.Registering.TheVariants as registering
 use Rattle.tx_shape.specs.declared.scans.Sizing.{Sizing}
 use Rattle.tx_shape.specs.declared.scans.Sizing.TheVariants as sizing
+use Rattle.tx_scan.specs.declared.scans.FontSought.TheVariants as sought
+use Rattle.tx_scan.specs.FontNames.{parameter_number}
+use Rattle.tx_shape.specs.declared.scans.NumberSetting.{NumberSetting}
+use Rattle.tx_shape.specs.Settings.{font_setting, set_number, set_size}
 use Rattle.tx_shape.specs.Boxes.{box_begin, needed_box, opened, register_setting, shift_by, spread_goal}
 
 -- the part, of these items
@@ -31,6 +35,7 @@ plain_rest (plain.Brace opening goal) items = opened opening goal items
 -- what follows, of these items
 abbrev pub next_rest : Next → List Item → Reading Shaped
 next_rest (Part part) items = plain_rest part items
+next_rest (Font what) items = font_setting what items
 next_rest (Whole shaped) items = Done shaped items
 next_rest (Wrong error) items = Wrong_reading error
 
@@ -40,6 +45,7 @@ behind_register (registering.Use context) n = Whole (Box (box.Use n) context)
 behind_register (registering.Copy context) n = Whole (Box (box.Copy n) context)
 behind_register (registering.Unbox kind) n = Whole (Unbox kind n)
 behind_register registering.Set n = Part (plain.Equals n)
+behind_register registering.Character n = Whole (Character n)
 
 abbrev pub behind_byte : Registering → Option ℕ → Next
 behind_byte what None = Wrong NumberOutOfRange
@@ -52,12 +58,19 @@ behind_number what n = behind_byte what (byte_of n)
 abbrev pub behind_penalty : ℤ → Next
 behind_penalty n = Whole (Penalize n)
 
+-- what follows a number that is set, and the number of a parameter
+abbrev pub behind_set : NumberSetting → ℤ → Next
+behind_set what n = Whole (set_number what n)
+
+abbrev pub behind_parameter : ℤ → Next
+behind_parameter n = Font (sought.Dimen (parameter_number n))
+
 -- what follows a size in sp
 abbrev pub behind_size : Sizing → ℤ → Next
 behind_size (sizing.To opening) size = Part (plain.Brace opening (To size))
 behind_size (sizing.Spread opening) size = Part (plain.Brace opening (Spread size))
 behind_size (sizing.Shift kind) size = Part (plain.Needed (Append (shift_by kind size)))
-behind_size sizing.Depth size = Whole (SetDepth size)
+behind_size (sizing.Set what) size = Whole (set_size what size)
 
 abbrev pub behind_measure : Sizing → Measure → Next
 behind_measure what measure = behind_size what measure.size

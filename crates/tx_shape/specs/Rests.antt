@@ -29,7 +29,8 @@ use Rattle.tx_shape.specs.declared.words.Lost.TheVariants as lost
 use Rattle.tx_shape.specs.declared.words.Word.{Word}
 use Rattle.tx_shape.specs.declared.words.Word.TheVariants as word
 use Rattle.tx_shape.specs.AmountRests.{amount_held, amount_needed, amount_rest, begun_amount}
-use Rattle.tx_shape.specs.Boxes.{begun, depth_setting, opened, skipped, spread_goal}
+use Rattle.tx_shape.specs.Boxes.{begun, opened, skipped, spread_goal}
+use Rattle.tx_shape.specs.Settings.{font_setting, in_room, setting}
 use Rattle.tx_shape.specs.Nexts.{behind_measure, next_rest, plain_rest}
 use Rattle.tx_shape.specs.Words.{behind_group, lost_behind}
 
@@ -86,7 +87,9 @@ word_rest opening word lost behind items = letters_rest opening (left_of word) (
 abbrev pub stage_rest : Stage → ShapeScan → List Item → Item → List Item → Reading Shaped
 stage_rest stage.Amount scan behind item more = next (amount_rest scan.amount behind item more) next_rest
 stage_rest (stage.Plain part) scan behind item more = plain_rest part (item ∷ more)
-stage_rest stage.Depth scan behind item more = depth_setting (item ∷ more)
+stage_rest (stage.Setting what) scan behind item more = setting what (item ∷ more)
+stage_rest (stage.Font what) scan behind item more = font_setting what (item ∷ more)
+stage_rest (stage.FontRoom font n) scan behind item more = in_room font n item more
 stage_rest stage.Glue scan behind item more = next (glues.rest scan.glue behind item more) skipped
 stage_rest (stage.Word opening letters) scan behind item more = word_rest opening letters.word letters.lost behind (item ∷ more)
 
@@ -97,7 +100,9 @@ rest scan behind item more = stage_rest scan.stage scan behind item more
 abbrev pub stage_held : Stage → ShapeScan → ℕ
 stage_held stage.Amount scan = amount_held scan.amount
 stage_held (stage.Plain part) scan = 0
-stage_held stage.Depth scan = 0
+stage_held (stage.Setting what) scan = 0
+stage_held (stage.Font what) scan = 0
+stage_held (stage.FontRoom font n) scan = 0
 stage_held stage.Glue scan = glues.held scan.glue
 stage_held (stage.Word opening letters) scan = behind_group letters.lost
 
@@ -108,7 +113,9 @@ held scan = stage_held scan.stage scan
 abbrev pub stage_needed : Stage → ShapeScan → ℕ
 stage_needed stage.Amount scan = amount_needed scan.amount
 stage_needed (stage.Plain part) scan = 0
-stage_needed stage.Depth scan = 0
+stage_needed (stage.Setting what) scan = 0
+stage_needed (stage.Font what) scan = 0
+stage_needed (stage.FontRoom font n) scan = 0
 stage_needed stage.Glue scan = glues.more_needed scan.glue
 stage_needed (stage.Word opening letters) scan = 0
 
@@ -119,12 +126,14 @@ needed scan = stage_needed scan.stage scan
 abbrev pub begun_at : Amount → GlueScan → ShapeScan
 begun_at what glue = record { stage = stage.Amount; amount = begun_amount what; glue = glue }
 
--- only a number, a size or glue needs values, and then one token at most is held
+-- only a number, a size, glue and a parameter of a font need values, and then one token at most is held
 abbrev pub IsValued : Stage → ShapeScan → Type 0
 IsValued stage.Amount scan = Unit {0}
 IsValued (stage.Plain part) scan = ⊥
-IsValued stage.Depth scan = ⊥
+IsValued (stage.Setting what) scan = ⊥
 IsValued stage.Glue scan = glues.IsSizing scan.glue.stage
+IsValued (stage.Font what) scan = ⊥
+IsValued (stage.FontRoom font n) scan = Unit {0}
 IsValued (stage.Word opening letters) scan = ⊥
 
 abbrev pub IsWaiting : ShapeScan → Type 0
@@ -141,8 +150,8 @@ pub record Begins (reading : List Item → Reading Shaped) (new : ShapeScan) (an
   pub reads : IsRead rest held 0 reading [] new answer
   pub fewer : NeedsFewer 0 (needed new) answer
 
--- the same of a size that begins with this token: it may need a value, and may hold the token or give it back
-pub record BeginsDepth (reading : List Item → Reading Shaped) (t : Seen) (new : ShapeScan) (answer : Fed Shaped) : Type 0 where
+-- the same of what is set and begins with this token: it may need a value, and may hold the token or give it back
+pub record BeginsSetting (reading : List Item → Reading Shaped) (t : Seen) (new : ShapeScan) (answer : Fed Shaped) : Type 0 where
   pub reads : IsRead rest held 1 reading (Took t ∷ []) new answer
   pub needs : NeedsNoMore 0 (needed new) answer
   pub waits : WaitsIfNeeded new answer

@@ -1,12 +1,11 @@
-//! The box that is needed, and what stands before it (TeX: The Program, sections 1079, 1084, 1241 and 1243).
-ghost use Rattle.std.specs.Prelude.{◌≡◌, ◌∷◌, IfOk};
+//! The box that is needed, and what stands before it (TeX: The Program, sections 1079, 1084 and 1241).
+ghost use Rattle.std.specs.Prelude.{◌≡◌, ◌∷◌};
 ghost use Rattle.tx_seen.specs.declared.item.Item.TheVariants.{Took};
 ghost use Rattle.tx_shape.specs.Boxes as boxes;
-ghost use Rattle.tx_shape.specs.Rests.{Begins, BeginsDepth};
+ghost use Rattle.tx_shape.specs.Rests.{Begins};
 
-use crate::scans::{Amount, Opening, Plain, Registering, ShapeScan, Sizing, Stage};
+use crate::scans::{Amount, Opening, Plain, Registering, ShapeScan, Stage};
 use crate::types::{BoxContext, BoxRead, Shaped};
-use std::alloc::AllocError;
 use tx_prim::{BoxSource, Primitive};
 use tx_scan::EqualsScan;
 use tx_seen::{Fed, Meaning, Seen, TexError};
@@ -58,30 +57,5 @@ impl ShapeScan {
             Fed::Done(_, _) => self.feed_needed(BoxContext::Register(register), token),
             Fed::Wrong(error) => Fed::Wrong(error),
         }
-    }
-
-    /// An optional `=` before the size for \prevdepth, or the first token behind it. Its only error is want of memory.
-    pub(crate) fn feed_depth(&mut self, token: &Seen) -> Result<Fed<Shaped>, AllocError>
-        ensures { IfOk result (BeginsDepth (λ more. boxes.depth_setting (Took token.now ∷ more)) token.now self.new) }
-    {
-        match EqualsScan::new().feed(token) {
-            Fed::More(want) => {
-                self.stage = Stage::Depth;
-                Ok(Fed::More(want))
-            }
-            Fed::Need(kind) => Ok(Fed::Need(kind)),
-            Fed::Done(_, 0) => Ok(self.to_amount(Amount::Size(Sizing::Depth))),
-            Fed::Done(_, _) => self.begin_depth(token),
-            Fed::Wrong(error) => Ok(Fed::Wrong(error)),
-        }
-    }
-
-    /// The first token of that size. Its only error is want of memory.
-    fn begin_depth(&mut self, token: &Seen) -> Result<Fed<Shaped>, AllocError>
-        ensures { IfOk result (BeginsDepth (λ more. boxes.depth (Took token.now ∷ more)) token.now self.new) }
-    {
-        self.stage = Stage::Amount;
-        self.amount.begin(Amount::Size(Sizing::Depth));
-        self.feed_amount(token)
     }
 }

@@ -1,11 +1,11 @@
 //! What families of commands take behind their first token (The TeXbook, chapter 24; TeX: The Program, parts 46 to 49): boxes, what
-//! is done with them, penalties and \prevdepth. It is scanned token by token, with the values that it needs.
+//! is done with them, penalties, \prevdepth, and fonts. It is scanned token by token, with the values that it needs.
 //!
 //! Proved: the rest of a command is read exactly as the grammar of tokens and values says, and what stands behind it is given back.
 //! Only tested: that the grammars are TeX's, on documents that Knuth's TeX reads alike.
 //!
 //! Read `types`; `scans`, `words` and `letters`, how far a scan is; `next` and `amount`, numbers and sizes with what follows
-//! them; `goal` and `boxes`, the parts of a box; last `stage`, whole rests, and `clones`. Scans of numbers are tx_scan's.
+//! them; `goal` and `boxes`, the parts of a box; `settings`, what is set; `loading`, what \font takes; last `stage`, whole rests, and `clones`. Scans of numbers are tx_scan's.
 #![tactic(auto)]
 
 mod amount;
@@ -14,11 +14,14 @@ mod clones;
 mod elastic;
 mod goal;
 mod letters;
+mod loading;
 mod next;
 mod scans;
+mod settings;
 mod stage;
 mod types;
 mod words;
 
+pub use loading::LoadScan;
 pub use scans::ShapeScan;
-pub use types::{BoxContext, BoxGoal, BoxRead, Shaped, Shaping};
+pub use types::{AskedSize, BoxContext, BoxGoal, BoxRead, FontAsked, Shaped, Shaping};

@@ -7,10 +7,10 @@ ghost use Rattle.tx_scan.specs.Mapped.{mapped};
 ghost use Rattle.tx_shape.specs.Boxes.{shift_by};
 ghost use Rattle.tx_shape.specs.Nexts as spec;
 
-use crate::scans::{Next, Plain, Registering, Sizing};
+use crate::scans::{Next, NumberSetting, Plain, Registering, SizeSetting, Sizing};
 use crate::types::{BoxContext, BoxGoal, BoxRead, Shaped};
 use tx_prim::ShiftKind;
-use tx_scan::{Measure, byte};
+use tx_scan::{FontSought, Measure, byte, parameter};
 use tx_seen::{Fed, TexError};
 
 /// What follows the number of a register.
@@ -22,6 +22,7 @@ fn behind_register(registering: Registering, register: u8) -> Next
         Registering::Copy(context) => Next::Whole(Shaped::Box(BoxRead::Copy(register), context)),
         Registering::Unbox(kind) => Next::Whole(Shaped::Unbox(kind, register)),
         Registering::Set => Next::Part(Plain::Equals(register)),
+        Registering::Character => Next::Whole(Shaped::Character(register)),
     }
 }
 
@@ -59,7 +60,10 @@ fn behind_size(sizing: Sizing, size: i32) -> Next
         Sizing::Shift(kind) => {
             Next::Part(Plain::Needed(BoxContext::Append(shift_by(kind, size))))
         }
-        Sizing::Depth => Next::Whole(Shaped::SetDepth(size)),
+        Sizing::Set(SizeSetting::Depth) => Next::Whole(Shaped::SetDepth(size)),
+        Sizing::Set(SizeSetting::FontDimen(font, number)) => {
+            Next::Whole(Shaped::SetFontDimen(font, number, size))
+        }
     }
 }
 
@@ -72,6 +76,45 @@ pub(crate) fn penalized(fed: Fed<i64>) -> Fed<Next>
         Fed::More(want) => Fed::More(want),
         Fed::Need(kind) => Fed::Need(kind),
         Fed::Done(number, back) => { Fed::Done(Next::Whole(Shaped::Penalize(number as i32)), back) }
+        Fed::Wrong(error) => Fed::Wrong(error),
+    }
+}
+
+/// What follows a number that is set.
+fn behind_set(setting: NumberSetting, number: i32) -> Next
+    ensures { result ≡ spec.behind_set setting number }
+{
+    match setting {
+        NumberSetting::Factor => Next::Whole(Shaped::SetFactor(number)),
+        NumberSetting::FontInteger(kind, font) => {
+            Next::Whole(Shaped::SetFontInteger(kind, font, number))
+        }
+    }
+}
+
+/// The same.
+pub(crate) fn set(setting: NumberSetting, fed: Fed<i64>) -> Fed<Next>
+    requires { IsInteger fed }
+    ensures { result ≡ mapped (spec.behind_set setting) fed }
+{
+    match fed {
+        Fed::More(want) => Fed::More(want),
+        Fed::Need(kind) => Fed::Need(kind),
+        Fed::Done(number, back) => Fed::Done(behind_set(setting, number as i32), back),
+        Fed::Wrong(error) => Fed::Wrong(error),
+    }
+}
+
+/// What follows the number of a parameter: its font.
+pub(crate) fn parametered(fed: Fed<i64>) -> Fed<Next>
+    ensures { result ≡ mapped spec.behind_parameter fed }
+{
+    match fed {
+        Fed::More(want) => Fed::More(want),
+        Fed::Need(kind) => Fed::Need(kind),
+        Fed::Done(number, back) => {
+            Fed::Done(Next::Font(FontSought::Dimen(parameter(number))), back)
+        }
         Fed::Wrong(error) => Fed::Wrong(error),
     }
 }

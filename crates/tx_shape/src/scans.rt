@@ -2,9 +2,9 @@
 
 use crate::letters::Letters;
 use crate::types::{BoxContext, BoxGoal, Shaped};
-use tx_prim::{BoxKind, ShiftKind, UnboxKind};
-use tx_scan::{DimenScan, GlueScan, IntScan};
-use tx_seen::TexError;
+use tx_prim::{BoxKind, FontNumber, ShiftKind, UnboxKind};
+use tx_scan::{DimenScan, FontSought, GlueScan, IntScan};
+use tx_seen::{FontName, TexError};
 
 /// A box that is to be begun: which list makes it, and what becomes of it.
 #[derive(Clone, Copy)]
@@ -23,6 +23,33 @@ pub enum Registering {
     Unbox(UnboxKind),
     /// \setbox.
     Set,
+    /// \char: the code of a character, and no register.
+    Character,
+}
+
+/// A size that is set behind an optional `=`.
+#[derive(Clone, Copy)]
+pub enum SizeSetting {
+    /// \prevdepth.
+    Depth,
+    /// The \fontdimen of this number of a font.
+    FontDimen(FontName, u16),
+}
+
+/// A number that is set behind an optional `=`.
+#[derive(Clone, Copy)]
+pub enum NumberSetting {
+    /// \spacefactor.
+    Factor,
+    /// \hyphenchar or \skewchar of a font.
+    FontInteger(FontNumber, FontName),
+}
+
+/// What is set behind an optional `=`.
+#[derive(Clone, Copy)]
+pub enum Setting {
+    Size(SizeSetting),
+    Number(NumberSetting),
 }
 
 /// What a size is for.
@@ -33,8 +60,8 @@ pub enum Sizing {
     Spread(Opening),
     /// \raise and its kin.
     Shift(ShiftKind),
-    /// \prevdepth.
-    Depth,
+    /// \prevdepth and its kin.
+    Set(SizeSetting),
 }
 
 /// A number or a size, by what it is for.
@@ -44,6 +71,10 @@ pub enum Amount {
     Penalty,
     Register(Registering),
     Size(Sizing),
+    /// \spacefactor and its kin.
+    Number(NumberSetting),
+    /// The number of a parameter, behind \fontdimen.
+    FontDimen,
 }
 
 /// A part that needs no value.
@@ -66,6 +97,8 @@ pub enum Plain {
 pub enum Next {
     /// This part.
     Part(Plain),
+    /// A font of which this is needed, with spaces before it.
+    Font(FontSought),
     /// Nothing.
     Whole(Shaped),
     /// It is wrong.
@@ -78,8 +111,12 @@ pub enum Stage {
     /// A number or a size.
     Amount,
     Plain(Plain),
-    /// An optional `=`, with spaces before it, and the size for \prevdepth.
-    Depth,
+    /// An optional `=`, with spaces before it, and the size or the number that is set.
+    Setting(Setting),
+    /// A font of which this is needed, with spaces before it.
+    Font(FontSought),
+    /// What a font has for its parameter of this number, which shows whether it has one.
+    FontRoom(FontName, u16),
     /// Glue.
     Glue,
     /// The letters of `to` or `spread` behind these.

@@ -7,19 +7,20 @@ ghost use Rattle.tx_scan.specs.GlueRests.{begun_glue};
 ghost use Rattle.tx_scan.specs.Rests.{HoldsOne, IsAnswer, IsFedBy, IsGivenBehind, IsRead, kept};
 ghost use Rattle.tx_scan.specs.Supplied.{NeedsFewer, NeedsNoMore};
 ghost use Rattle.tx_shape.specs.declared.scans.Next.{Next as Next_what};
-ghost use Rattle.tx_shape.specs.AmountRests.{amount_held, amount_needed, amount_rest};
-ghost use Rattle.tx_shape.specs.Boxes.{shape};
+ghost use Rattle.tx_shape.specs.AmountRests.{LeavesFewer, amount_held, amount_needed, amount_rest, needed_behind};
+ghost use Rattle.tx_shape.specs.Shapes.{shape};
 ghost use Rattle.tx_shape.specs.Nexts.{next_rest, plain_rest};
 ghost use Rattle.tx_shape.specs.Rests.{Begins, IsWaiting, WaitsIfNeeded, begun_at, held, needed, rest};
 
 use crate::elastic::skipped;
 use crate::scans::{
-    Amount, AmountScan, Next, Opening, Plain, Registering, ShapeScan, Sizing, Stage,
+    Amount, AmountScan, Next, NumberSetting, Opening, Plain, Registering, Setting, ShapeScan,
+    SizeSetting, Sizing, Stage,
 };
 use crate::types::{BoxContext, Shaped, Shaping};
 use std::alloc::{AllocError, Global};
-use tx_scan::GlueScan;
-use tx_seen::{Fed, Seen, Value};
+use tx_scan::{FontSought, GlueScan};
+use tx_seen::{Fed, Seen, TexError, Value};
 
 impl ShapeScan {
     /// The scan of no command's rest yet. It takes no memory.
@@ -49,8 +50,12 @@ impl ShapeScan {
             Shaping::Shift(kind) => self.to_amount(Amount::Size(Sizing::Shift(kind))),
             Shaping::Unbox(kind) => self.to_amount(Amount::Register(Registering::Unbox(kind))),
             Shaping::Penalty => self.to_amount(Amount::Penalty),
-            Shaping::PrevDepth => self.on(Stage::Depth),
+            Shaping::PrevDepth => self.on(Stage::Setting(Setting::Size(SizeSetting::Depth))),
             Shaping::Glue(form) => self.begin_glue(form),
+            Shaping::Character => self.to_amount(Amount::Register(Registering::Character)),
+            Shaping::Factor => self.on(Stage::Setting(Setting::Number(NumberSetting::Factor))),
+            Shaping::FontDimen => self.to_amount(Amount::FontDimen),
+            Shaping::FontInteger(kind) => self.on(Stage::Font(FontSought::Integer(kind))),
         }
     }
 
@@ -63,7 +68,9 @@ impl ShapeScan {
         match self.stage {
             Stage::Amount => self.feed_amount(token),
             Stage::Plain(plain) => Ok(self.feed_plain(plain, token)),
-            Stage::Depth => self.feed_depth(token),
+            Stage::Setting(setting) => self.feed_setting(setting, token),
+            Stage::Font(sought) => Ok(self.feed_font(sought, token)),
+            Stage::FontRoom(_, _) => Ok(Fed::Wrong(TexError::MissingNumber)),
             Stage::Glue => Ok(skipped(self.glue.feed(token)?)),
             Stage::Word(opening, letters) => Ok(self.feed_word(opening, letters, token)),
         }
@@ -77,12 +84,14 @@ impl ShapeScan {
         ensures waits { IfOk result (WaitsIfNeeded self.new) }
     {
         match self.stage {
+            Stage::FontRoom(font, number) => Ok(self.give_room(font, number, value)),
             Stage::Amount => {
                 let fed = self.amount.give(value)?;
                 Ok(self.go_on(fed, behind))
             }
             Stage::Glue => Ok(skipped(self.glue.give(value, behind)?)),
-            Stage::Plain(_) | Stage::Depth | Stage::Word(_, _) => unreachable!(),
+            Stage::Plain(_) | Stage::Setting(_) | Stage::Font(_) => unreachable!(),
+            Stage::Word(_, _) => unreachable!(),
         }
     }
 
@@ -103,7 +112,7 @@ impl ShapeScan {
         ensures fed { (reading : List Item → Reading Next_what) (behind : List Item) (count : ℕ) → IsAnswer amount_rest amount_held 1 reading token.now self.old.amount fed → IsRead rest held (count + 1) (λ more. next (reading more) next_rest) (behind ++ Took token.now ∷ []) self.new result }
         ensures given { (reading : List Item → Reading Next_what) (count : ℕ) → count ≤ 1 → IsRead amount_rest amount_held count reading (kept count token.now) self.old.amount fed → IsRead rest held count (λ more. next (reading more) next_rest) (kept count token.now) self.new result }
         ensures needs { (old : ℕ) → NeedsNoMore old (amount_needed self.old.amount) fed → NeedsNoMore old (needed self.new) result }
-        ensures fewer { (old : ℕ) → NeedsFewer old (amount_needed self.old.amount) fed → NeedsFewer old (needed self.new) result }
+        ensures fewer { (old : ℕ) → LeavesFewer old (amount_needed self.old.amount) fed → NeedsFewer old (needed self.new) result }
         ensures waits { HoldsOne (amount_held self.old.amount) fed → WaitsIfNeeded self.new result }
     {
         match fed {
@@ -121,6 +130,7 @@ impl ShapeScan {
     {
         match next {
             Next::Part(plain) => self.on(Stage::Plain(plain)),
+            Next::Font(sought) => self.on(Stage::Font(sought)),
             Next::Whole(shaped) => Fed::Done(shaped, 0),
             Next::Wrong(error) => Fed::Wrong(error),
         }
@@ -129,10 +139,13 @@ impl ShapeScan {
     /// A number or a size is whole, and this follows, with this token.
     fn end_before(&mut self, next: Next, token: &Seen) -> Fed<Shaped>
         ensures reads { IsRead rest held 1 (λ more. next_rest next (Took token.now ∷ more)) (Took token.now ∷ []) self.new result }
-        ensures fewer { NeedsFewer 0 (needed self.new) result }
+        ensures needs { (old : ℕ) → NeedsNoMore old (needed self.new) result }
+        ensures fewer { (old : ℕ) → needed_behind next 1 ≤ old → NeedsFewer old (needed self.new) result }
+        ensures waits { WaitsIfNeeded self.new result }
     {
         match next {
             Next::Part(plain) => self.feed_plain(plain, token),
+            Next::Font(sought) => self.feed_font(sought, token),
             Next::Whole(shaped) => Fed::Done(shaped, 1),
             Next::Wrong(error) => Fed::Wrong(error),
         }

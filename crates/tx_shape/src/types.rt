@@ -1,6 +1,8 @@
 //! What families of commands are, and what they come to once they are read whole.
+use tx_bytes::Bytes;
 use tx_num::Glue;
-use tx_prim::{BoxKind, BoxSource, GlueForm, ShiftKind, UnboxKind};
+use tx_prim::{BoxKind, BoxSource, FontNumber, GlueForm, ShiftKind, UnboxKind};
+use tx_seen::{FontName, Place};
 
 /// What becomes of a box (TeX: The Program, section 1071).
 #[derive(Clone, Copy, PartialEq, Eq)]
@@ -55,6 +57,14 @@ pub enum Shaping {
     PrevDepth,
     /// \hskip, \vskip and their kin.
     Glue(GlueForm),
+    /// \char.
+    Character,
+    /// \spacefactor.
+    Factor,
+    /// \fontdimen.
+    FontDimen,
+    /// \hyphenchar and \skewchar.
+    FontInteger(FontNumber),
 }
 
 /// What such a command is once it is whole.
@@ -70,4 +80,33 @@ pub enum Shaped {
     SetDepth(i32),
     /// Glue.
     Skip(Glue),
+    /// A character to be set.
+    Character(u8),
+    /// \spacefactor is to be this number.
+    SetFactor(i32),
+    /// The \fontdimen of this number of a font is to be so many sp.
+    SetFontDimen(FontName, u16, i32),
+    /// \hyphenchar or \skewchar of a font is to be this number.
+    SetFontInteger(FontNumber, FontName, i32),
+}
+
+/// The size at which \font asks for a font, in little room: commands are moved with each token.
+#[derive(Clone, Copy, PartialEq, Eq)]
+pub enum AskedSize {
+    /// Its design size.
+    Design,
+    /// So many sp.
+    At(i32),
+    /// So many thousandths of its design size.
+    Scaled(u16),
+}
+
+/// A font for which \font asks.
+#[derive(Drop)]
+pub struct FontAsked {
+    /// Where the name stands that is to mean it.
+    pub place: Place,
+    /// The name of its file as it is written.
+    pub name: Bytes,
+    pub size: AskedSize,
 }

@@ -1,4 +1,4 @@
-use Rattle.tx_shape.proofs.Amounts.{penalty-fed, register-fed, size-fed}
+use Rattle.tx_shape.proofs.Amounts.{number-fed, parameter-fed, parameter-needs, penalty-fed, register-fed, size-fed}
 use Rattle.tx_shape.proofs.scans.AmountScan.feed.Goals as goal
 
 pub returns-in_ok-feed-in-Penalty-clause-fed : goal.returns-in_ok-feed-in-Penalty-clause-fed
@@ -12,3 +12,15 @@ returns-in_ok-feed-in-Register-clause-fed c =
 pub returns-in_ok-feed-in-Size-clause-fed : goal.returns-in_ok-feed-in-Size-clause-fed
 returns-in_ok-feed-in-Size-clause-fed c =
     rw c.sized.ensures (size-fed c.in-Size.sizing c.args.self.now c.feed-in-Size.new.self c.args.token.now c.in_ok-feed-in-Size.field-0 c.in-Size.is c.in_ok-feed-in-Size.ensures.fed)
+
+pub returns-in_ok-feed-in-Number-clause-fed : goal.returns-in_ok-feed-in-Number-clause-fed
+returns-in_ok-feed-in-Number-clause-fed c =
+    rw c.set.ensures (number-fed c.in-Number.setting c.args.self.now c.feed-in-Number.new.self c.args.token.now c.in_ok-feed-in-Number.field-0 c.in-Number.is c.in_ok-feed-in-Number.ensures.fed)
+
+pub returns-in_ok-feed-in-FontDimen-clause-fed : goal.returns-in_ok-feed-in-FontDimen-clause-fed
+returns-in_ok-feed-in-FontDimen-clause-fed c =
+    rw c.parametered.ensures (parameter-fed c.args.self.now c.feed-in-FontDimen.new.self c.args.token.now c.in_ok-feed-in-FontDimen.field-0 c.in-FontDimen.is c.in_ok-feed-in-FontDimen.ensures.fed)
+
+pub returns-in_ok-feed-in-FontDimen-clause-needs : goal.returns-in_ok-feed-in-FontDimen-clause-needs
+returns-in_ok-feed-in-FontDimen-clause-needs c =
+    rw c.parametered.ensures (parameter-needs c.args.self.now c.feed-in-FontDimen.new.self c.in_ok-feed-in-FontDimen.field-0 c.in-FontDimen.is c.in_ok-feed-in-FontDimen.ensures.holds)

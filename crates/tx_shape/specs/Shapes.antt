@@ -1,0 +1,35 @@
+-- What families of commands take behind their first token.
+use Rattle.std.specs.Prelude.{pos, List}
+use Rattle.tx_seen.specs.declared.item.Item.{Item}
+use Rattle.tx_seen.specs.Readings.{Reading, Done}
+use Rattle.tx_scan.specs.declared.scans.FontSought.TheVariants as sought
+use Rattle.tx_shape.specs.declared.scans.NumberSetting.TheVariants as number
+use Rattle.tx_shape.specs.declared.scans.Setting.TheVariants.{Size, Number}
+use Rattle.tx_shape.specs.declared.scans.SizeSetting.TheVariants as size
+use Rattle.tx_shape.specs.declared.types.BoxContext.TheVariants.{Append, Ship}
+use Rattle.tx_shape.specs.declared.types.Shaped.{Shaped}
+use Rattle.tx_shape.specs.declared.types.Shaped.TheVariants.{Character}
+use Rattle.tx_shape.specs.declared.types.Shaping.{Shaping}
+use Rattle.tx_shape.specs.declared.types.Shaping.TheVariants as shaping
+use Rattle.tx_shape.specs.Boxes.{box_begin, box_from, by_register, needed_box, penalizing, setting as box_setting, shifting, skipping, unboxing}
+use Rattle.tx_shape.specs.Settings.{dimen_setting, font_setting, setting}
+
+-- \char: the code of a character (section 1124)
+abbrev pub character : List Item → Reading Shaped
+character items = by_register (λ n rest. Done (Character n) rest) items
+
+-- what a command takes behind its first token; a box that stands alone is appended as it is
+abbrev pub shape : Shaping → List Item → Reading Shaped
+shape (shaping.Box kind) items = box_begin (record { kind = kind; context = Append (pos 0) }) items
+shape (shaping.From source) items = box_from source (Append (pos 0)) items
+shape shaping.Shipout items = needed_box Ship items
+shape shaping.SetBox items = box_setting items
+shape (shaping.Shift kind) items = shifting kind items
+shape (shaping.Unbox kind) items = unboxing kind items
+shape shaping.Penalty items = penalizing items
+shape shaping.PrevDepth items = setting (Size size.Depth) items
+shape (shaping.Glue form) items = skipping form items
+shape shaping.Character items = character items
+shape shaping.Factor items = setting (Number number.Factor) items
+shape shaping.FontDimen items = dimen_setting items
+shape (shaping.FontInteger kind) items = font_setting (sought.Integer kind) items
