@@ -131,20 +131,21 @@ pub finding-here : (xs : List Begun) (place : ℕ) (b : Begun) (all : Bool) → 
 finding-here xs place b all i at e h = rw e at (rw (drop-cons xs place b, ← at) at h)
 
 -- what isn't expanded is taken
-pub taken-otherwise : (w : World) (text : Bool) (t : Seen) (r : Reader) (m : Meaning) → (m ≡ meaning.Undefined → ⊥) → ((e : Expandable) → m ≡ meaning.Expandable e → ⊥) → ((d : Definition) → m ≡ meaning.Macro d → ⊥) → expanded w text t r m ≡ given_to w t r r.begun
-taken-otherwise w text t r meaning.Undefined undefined expandable made = absurd (undefined refl)
-taken-otherwise w text t r (meaning.Command primitive) undefined expandable made = refl
-taken-otherwise w text t r (meaning.Character code category) undefined expandable made = refl
-taken-otherwise w text t r (meaning.CharacterNumber code) undefined expandable made = refl
-taken-otherwise w text t r (meaning.MathNumber number) undefined expandable made = refl
-taken-otherwise w text t r (meaning.CountRegister number) undefined expandable made = refl
-taken-otherwise w text t r (meaning.DimenRegister number) undefined expandable made = refl
-taken-otherwise w text t r (meaning.SkipRegister number) undefined expandable made = refl
-taken-otherwise w text t r (meaning.MuskipRegister number) undefined expandable made = refl
-taken-otherwise w text t r (meaning.ToksRegister number) undefined expandable made = refl
-taken-otherwise w text t r (meaning.Expandable e) undefined expandable made = absurd (expandable e refl)
-taken-otherwise w text t r (meaning.Macro d) undefined expandable made = absurd (made d refl)
-taken-otherwise w text t r meaning.Held undefined expandable made = refl
+pub taken-otherwise : (w : World) (wanted : Wanted) (t : Seen) (r : Reader) (m : Meaning) → (m ≡ meaning.Undefined → ⊥) → ((e : Expandable) → m ≡ meaning.Expandable e → ⊥) → ((d : Definition) → m ≡ meaning.Macro d → ⊥) → expanded w wanted t r m ≡ given_to w t r r.begun
+taken-otherwise w wanted t r meaning.Undefined undefined expandable made = absurd (undefined refl)
+taken-otherwise w wanted t r (meaning.Command primitive) undefined expandable made = refl
+taken-otherwise w wanted t r (meaning.Character code category) undefined expandable made = refl
+taken-otherwise w wanted t r (meaning.CharacterNumber code) undefined expandable made = refl
+taken-otherwise w wanted t r (meaning.MathNumber number) undefined expandable made = refl
+taken-otherwise w wanted t r (meaning.CountRegister number) undefined expandable made = refl
+taken-otherwise w wanted t r (meaning.DimenRegister number) undefined expandable made = refl
+taken-otherwise w wanted t r (meaning.SkipRegister number) undefined expandable made = refl
+taken-otherwise w wanted t r (meaning.MuskipRegister number) undefined expandable made = refl
+taken-otherwise w wanted t r (meaning.ToksRegister number) undefined expandable made = refl
+taken-otherwise w wanted t r (meaning.Font number) undefined expandable made = refl
+taken-otherwise w wanted t r (meaning.Expandable e) undefined expandable made = absurd (expandable e refl)
+taken-otherwise w wanted t r (meaning.Macro d) undefined expandable made = absurd (made d refl)
+taken-otherwise w wanted t r meaning.Held undefined expandable made = refl
 
 -- so is what is wanted as it stands
 pub taken-raw : (w : World) (wanted : Wanted) (t : Seen) (r : Reader) → refused wanted.text t.meaning r.begun ≡ None → wanted_by wanted r.begun ≡ Raw → token_read w wanted t r ≡ given_to w t r r.begun

@@ -91,17 +91,17 @@ means (token.Character c category) = meaning.Character c category
 means token.FrozenRelax = meaning.Command Relax
 
 abbrev around : World
-around = record { meaning = means; value = λ p. Int (pos 7); tokens = λ p. token.Name (codes "a") ∷ []; codes = []; escape = Some 92; mode = Vertical }
+around = record { meaning = means; value = λ p. Int (pos 7); tokens = λ p. token.Name (codes "a") ∷ []; codes = []; escape = Some 92; fonts = []; font = λ f. 0; mode = Vertical }
 
 abbrev reads : List Token → Reader
 reads tokens = record { input = record { elements = map Given tokens; closing = false }; begun = []; conditionals = []; job = codes "texput.tex" }
 
 abbrev wants : Wanted
-wants = record { want = Expanded; text = false; takes_the = false }
+wants = record { want = Expanded; text = false; takes_the = false; names = false }
 
 -- the caller takes a text
 abbrev wants_text : Wanted
-wants_text = record { want = Expanded; text = true; takes_the = true }
+wants_text = record { want = Expanded; text = true; takes_the = true; names = false }
 
 -- what the caller gets in so many turns, up to the end of the input, a file that is asked for, or an error
 data Output : Type 0 where

@@ -7,7 +7,7 @@ use Rattle.tx_seen.specs.declared.place.Place.TheVariants.{Integer}
 use Rattle.tx_scan.specs.Integers.{byte_of}
 use Rattle.tx_eqtb.specs.declared.eqtb.Eqtb.{Eqtb}
 use Rattle.tx_eqtb.specs.Table.{number_at, token_meaning, tokens_at}
-use Rattle.tx_known.specs.Values.{Lent, value_now}
+use Rattle.tx_known.specs.Values.{Lent, font_number, value_now}
 use Rattle.tx_cond.specs.declared.types.Conditional.{Conditional}
 use Rattle.tx_expand.specs.declared.begun.Begun.{Begun}
 use Rattle.tx_expand.specs.declared.state.Open.{Open}
@@ -31,5 +31,7 @@ world_of known mode = record {
   tokens = tokens_at known.table.table;
   codes = known.table.table.categories;
   escape = escape_of known.table;
+  fonts = known.fonts;
+  font = font_number known;
   mode = mode;
 }

@@ -9,6 +9,7 @@ use Rattle.tx_scan.specs.IntegerRests as integers
 use Rattle.tx_scan.specs.QuantityRests as quantities
 use Rattle.tx_scan.specs.ControlNames as names
 use Rattle.tx_scan.specs.FileNames as files
+use Rattle.tx_scan.specs.GrammarRests as fonts
 use Rattle.tx_cond.specs.TestRests as tests
 use Rattle.tx_convert.specs.Numerals.{number_text, roman_text}
 use Rattle.tx_convert.specs.Texts.{as_tokens}
@@ -35,6 +36,7 @@ rest (part.Shown scan text) behind item more = next (quantities.rest scan behind
 rest (part.Integer scan figures) behind item more = next (integers.rest scan behind item more) (λ n rest. Done (printed figures n) rest)
 rest (part.Test scan) behind item more = next (tests.rest scan behind item more) (λ value rest. Done (made.Decides value) rest)
 rest (part.File scan) behind item more = next (files.rest scan behind item more) (λ name rest. Done (made.Opens (files.input_name name)) rest)
+rest (part.Font scan) behind item more = next (fonts.font_rest scan behind item more) (λ f rest. Done (made.Font f) rest)
 
 -- how many of its tokens it holds
 abbrev pub held : Part → ℕ

@@ -8,18 +8,22 @@ use Rattle.tx_prim.specs.declared.modes.Mode.{Mode}
 use Rattle.tx_seen.specs.declared.error.TexError.{TexError}
 use Rattle.tx_seen.specs.declared.fed.Value.{Value}
 use Rattle.tx_seen.specs.declared.meaning.Meaning.{Meaning}
+use Rattle.tx_seen.specs.declared.place.FontName.{FontName}
 use Rattle.tx_seen.specs.declared.place.Place.{Place}
+use Rattle.tx_tfm.specs.declared.state.FontState.{FontState}
 use Rattle.tx_cond.specs.declared.types.Conditional.{Conditional}
 use Rattle.tx_expand.specs.declared.begun.Begun.{Begun}
 use Rattle.tx_expand.specs.declared.types.Expanded.{Expanded}
 
--- what is around: what tokens mean, what values and which lists of tokens stand at places, the categories, the escape character if there is one, the mode
+-- what is around: what tokens mean, what values and which lists of tokens stand at places, the categories, the escape character if there is one, the fonts and how they are told, the mode
 pub record World : Type 0 where
   pub meaning : Token → Meaning
   pub value : Place → Value
   pub tokens : Place → List Token
   pub codes : List Cat
   pub escape : Option ℕ
+  pub fonts : List FontState
+  pub font : FontName → ℕ
   pub mode : Mode
 
 -- the expansions and the conditionals, the innermost first each, and the main file's name

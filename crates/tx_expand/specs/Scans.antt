@@ -21,6 +21,7 @@ use Rattle.tx_scan.specs.Integers.{integer}
 use Rattle.tx_scan.specs.Mapped.{done_if}
 use Rattle.tx_scan.specs.Quantities.{quantity_begun}
 use Rattle.tx_scan.specs.ControlNames.{control_name}
+use Rattle.tx_scan.specs.FontNames.{font}
 use Rattle.tx_scan.specs.FileNames.{file_name, input_name}
 use Rattle.tx_cond.specs.Tests.{test}
 use Rattle.tx_convert.specs.Numerals.{number_text, roman_text, size_text}
@@ -65,6 +66,8 @@ abbrev pub quantity : Bool → Beginning → List Item → Reading Made
 quantity text (begin.Number n) rest = printed_value text (Int (pos n)) rest
 quantity text (begin.At place) rest = next (quantity_begun (begin.At place) rest) (printed_value text)
 quantity text (begin.Numbered kind) rest = next (quantity_begun (begin.Numbered kind) rest) (printed_value text)
+quantity text begin.FontDimen rest = next (quantity_begun begin.FontDimen rest) (printed_value text)
+quantity text (begin.FontInteger kind) rest = next (quantity_begun (begin.FontInteger kind) rest) (printed_value text)
 quantity text other rest = Wrong NoAssignment
 
 -- the list of tokens that a token stands for, or a quantity (section 465)
@@ -86,4 +89,5 @@ reading scanned.Number items = next (integer items) (λ n rest. Done (made.Puts 
 reading scanned.Roman items = next (integer items) (λ n rest. Done (made.Puts (as_tokens (roman_text n))) rest)
 reading (scanned.Quantity text) items = the text items
 reading (scanned.Test kind mode) items = next (test kind mode items) (λ value rest. Done (made.Decides value) rest)
+reading scanned.Font items = next (font items) (λ f rest. Done (made.Font f) rest)
 reading scanned.File items = next (file_name items) (λ name rest. Done (made.Opens (input_name name)) rest)

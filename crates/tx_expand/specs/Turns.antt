@@ -37,6 +37,7 @@ use Rattle.tx_cond.specs.declared.types.Meet.TheVariants as meet
 use Rattle.tx_cond.specs.Skipping.{Passing, Inside, Ended, Refused, item_of, passing}
 use Rattle.tx_cond.specs.Conditionals.{Met, decide, is_skipped, meeting}
 use Rattle.tx_macro.specs.Matching as macro
+use Rattle.tx_convert.specs.Fonts.{font_text}
 use Rattle.tx_convert.specs.Jobs.{job_name}
 use Rattle.tx_convert.specs.Meanings.{meaning_text}
 use Rattle.tx_convert.specs.Texts.{as_tokens, string_text}
@@ -138,6 +139,7 @@ come w (made.List text place) r = listed text (w.tokens place) r
 come w (made.Register text n) r = register_listed w text (byte_of n) r
 come w (made.Names name) r = named name (w.meaning (token.Name name)) (released (put (token.Name name ∷ []) r))
 come w (made.Decides value) r = decided value r
+come w (made.Font font) r = replaced (as_tokens (font_text w.fonts (w.font font))) r
 come w (made.Opens name) r = Goes (answer.Asks name) (with_begun (begun.Opening ∷ r.begun) r)
 
 -- these items come to that; what wasn't needed of them is read again
@@ -170,7 +172,7 @@ skips_on t r (Refused error) = Fails error
 -- what is printed of a token (section 472)
 abbrev pub text_of : World → Printed → Seen → List ℕ
 text_of w printed.Token t = string_text w.escape t.token
-text_of w printed.Meaning t = meaning_text w.escape w.codes t.meaning
+text_of w printed.Meaning t = meaning_text w.escape w.codes w.fonts t.meaning
 
 -- an expansion takes a token within those around it
 abbrev pub given_by : World → Seen → Reader → Begun → Turn
@@ -230,7 +232,7 @@ abbrev pub for_text : Bool → List Begun → Bool
 for_text text [] = text
 for_text text (b ∷ outer) = false
 
--- whether a file's name is being read: an \input there ends it (section 378)
+-- whether an expansion reads a file's name: an \input there ends it, as it does where the caller takes one (section 378)
 abbrev pub reads_file : Scanned → Bool
 reads_file scanned.File = true
 reads_file other = false
@@ -248,20 +250,21 @@ is_case tests.Case = true
 is_case other = false
 
 -- the expansion of a primitive, whose token is this (section 367)
-abbrev pub expands : World → Bool → Token → Reader → Expandable → Turn
-expands w text t r expandable.ExpandAfter = begins begun.After r
-expands w text t r expandable.NoExpand = begins begun.Hold r
-expands w text t r expandable.CsName = reads w scanned.Name [] r
-expands w text t r (expandable.Convert conversion.Number) = reads w scanned.Number [] r
-expands w text t r (expandable.Convert conversion.RomanNumeral) = reads w scanned.Roman [] r
-expands w text t r (expandable.Convert conversion.Token) = begins (begun.Print printed.Token) r
-expands w text t r (expandable.Convert conversion.Meaning) = begins (begun.Print printed.Meaning) r
-expands w text t r (expandable.Convert conversion.JobName) = replaced (as_tokens (job_name r.job)) r
-expands w text t r expandable.The = reads w (scanned.Quantity (for_text text r.begun)) [] r
-expands w text t r expandable.Input = if is_finding r.begun then replaced (token.FrozenRelax ∷ t ∷ []) r else reads w scanned.File [] r
-expands w text t r expandable.EndInput = ended (put_close r)
-expands w text t r (expandable.Test test) = reads w (scanned.Test test w.mode) [] (with_conditionals (Testing (is_case test) ∷ r.conditionals) r)
-expands w text t r (expandable.Word word) = met_word t r (meeting r.conditionals word)
+abbrev pub expands : World → Wanted → Token → Reader → Expandable → Turn
+expands w wanted t r expandable.ExpandAfter = begins begun.After r
+expands w wanted t r expandable.NoExpand = begins begun.Hold r
+expands w wanted t r expandable.CsName = reads w scanned.Name [] r
+expands w wanted t r (expandable.Convert conversion.Number) = reads w scanned.Number [] r
+expands w wanted t r (expandable.Convert conversion.RomanNumeral) = reads w scanned.Roman [] r
+expands w wanted t r (expandable.Convert conversion.Token) = begins (begun.Print printed.Token) r
+expands w wanted t r (expandable.Convert conversion.Meaning) = begins (begun.Print printed.Meaning) r
+expands w wanted t r (expandable.Convert conversion.JobName) = replaced (as_tokens (job_name r.job)) r
+expands w wanted t r (expandable.Convert conversion.FontName) = reads w scanned.Font [] r
+expands w wanted t r expandable.The = reads w (scanned.Quantity (for_text wanted.takes_the r.begun)) [] r
+expands w wanted t r expandable.Input = if wanted.names || is_finding r.begun then replaced (token.FrozenRelax ∷ t ∷ []) r else reads w scanned.File [] r
+expands w wanted t r expandable.EndInput = ended (put_close r)
+expands w wanted t r (expandable.Test test) = reads w (scanned.Test test w.mode) [] (with_conditionals (Testing (is_case test) ∷ r.conditionals) r)
+expands w wanted t r (expandable.Word word) = met_word t r (meeting r.conditionals word)
 
 -- whether a parameter text is empty
 abbrev pub is_bare : Parameters → Bool
@@ -276,11 +279,11 @@ abbrev pub uses : Definition → Reader → Turn
 uses m r = if is_bare m.parameters then replaced (filled m.body []) r else begins (begun.Use (record { definition = m; taken = [] })) r
 
 -- the expansion of a token that means this; what isn't expanded is taken
-abbrev pub expanded : World → Bool → Seen → Reader → Meaning → Turn
-expanded w text t r meaning.Undefined = Fails Undefined
-expanded w text t r (meaning.Expandable e) = expands w text t.token r e
-expanded w text t r (meaning.Macro m) = uses m r
-expanded w text t r other = given_to w t r r.begun
+abbrev pub expanded : World → Wanted → Seen → Reader → Meaning → Turn
+expanded w wanted t r meaning.Undefined = Fails Undefined
+expanded w wanted t r (meaning.Expandable e) = expands w wanted t.token r e
+expanded w wanted t r (meaning.Macro m) = uses m r
+expanded w wanted t r other = given_to w t r r.begun
 
 -- whether a token that means this is never expanded
 abbrev pub is_plain : Meaning → Bool
@@ -349,7 +352,7 @@ token_read w wanted t r = by (refused wanted.text t.meaning r.begun)
   where
     by : Option TexError → Turn
     by (Some error) = Fails error
-    by None = if is_expanding (wanted_by wanted r.begun) then expanded w wanted.takes_the t r t.meaning else given_to w t r r.begun
+    by None = if is_expanding (wanted_by wanted r.begun) then expanded w wanted t r t.meaning else given_to w t r r.begun
 
 abbrev pub front_read : World → Wanted → Reader → Next → Turn
 front_read w wanted r (front.Token t) = token_read w wanted (record { token = t; meaning = w.meaning t }) r

@@ -1,5 +1,5 @@
 //! What a token makes of what is open.
-ghost use Rattle.std.specs.Prelude.{◌≡◌, ◌∷◌, [], Bool, true, false, List, ℕ, IfOk, OnOk};
+ghost use Rattle.std.specs.Prelude.{◌≡◌, ◌||◌, ◌∷◌, [], true, false, List, ℕ, IfOk, OnOk};
 ghost use Rattle.tx_char.specs.declared.tokens.Token.{Token as Any_token};
 ghost use Rattle.tx_cond.specs.Conditionals.{meeting};
 ghost use Rattle.tx_cond.specs.declared.types.Conditional.{Conditional};
@@ -8,6 +8,7 @@ ghost use Rattle.tx_known.specs.Values.{lent, value_now};
 ghost use Rattle.tx_eqtb.specs.Table.{tokens_at};
 ghost use Rattle.tx_pending.specs.Elements.{Input};
 ghost use Rattle.tx_prim.specs.declared.modes.Mode.{Mode as Any_mode};
+ghost use Rattle.tx_expand.specs.declared.types.Wanted.{Wanted as Any_wanted};
 ghost use Rattle.tx_expand.specs.Expanding.{escape_of, reader, reader_of, world_of};
 ghost use Rattle.tx_expand.specs.Reader.{World};
 ghost use Rattle.tx_expand.specs.Taken.{IsPassedBegun, IsPassedFirst, IsReadBegun, IsReadFirst};
@@ -26,13 +27,13 @@ use std::alloc::{AllocError, Global};
 use std::collections::VecDeque;
 use tx_char::{ControlName, Token};
 use tx_cond::{Meet, SkipItem, Skipper};
-use tx_convert::{push_job_name, push_meaning, push_string};
+use tx_convert::{push_font_name, push_job_name, push_meaning, push_string};
 use tx_eqtb::Eqtb;
 use tx_known::Known;
 use tx_pending::Pending;
 use tx_prim::{CondWord, Conversion, Expandable, IntegerParameter, Mode, Test};
 use tx_scan::{byte, token_of};
-use tx_seen::{Fed, Meaning, Place, Seen, TexError, Want};
+use tx_seen::{Fed, FontName, Meaning, Place, Seen, TexError, Want};
 use tx_toklist::{Macro, TokList, Toks};
 
 /// The token that the innermost expansion holds back, if it does. Its only error is that no more owners can be counted.
@@ -271,6 +272,21 @@ impl Open {
         }
     }
 
+    /// The name of a font stands in the place of an expansion that has ended. Its only error is want of memory.
+    fn name_font(
+        &mut self,
+        alloc: Global,
+        input: &mut Pending,
+        known: &Known,
+        font: FontName,
+    ) -> Result<Expanded, AllocError>
+        ensures { (any : Any_mode) → IfOk result (IsTurned (come (world_of (lent known.now) any) (Made.Font font) (reader_of self.old input.old)) (reader_of self.new input.new)) }
+    {
+        let mut tokens = Toks::new(alloc);
+        push_font_name(alloc, &mut tokens, known.fonts, known.font_number(font))?;
+        self.replace(alloc, input, tokens)
+    }
+
     /// What comes of what was read. Its only error is want of memory.
     fn come(
         &mut self,
@@ -298,6 +314,7 @@ impl Open {
                 self.begun.push_front(Begun::Opening)?;
                 Ok(Expanded::Asks(name))
             }
+            Made::Font(font) => self.name_font(alloc, input, known, font),
         }
     }
 
@@ -399,6 +416,7 @@ impl Open {
                 &mut tokens,
                 escape,
                 known.table.categories(),
+                known.fonts,
                 &token.meaning,
             )?,
         }
@@ -481,7 +499,7 @@ impl Open {
         }
     }
 
-    /// Whether a file's name is being read.
+    /// Whether an expansion reads a file's name.
     fn is_finding(&self) -> bool
         ensures { result ≡ turns.is_finding self.now.begun.items }
     {
@@ -493,6 +511,14 @@ impl Open {
         false
     }
 
+    /// Whether a file's name is being read, by the caller or by an expansion: an \input there ends it (TeX: The Program, section
+    /// 378).
+    fn is_naming(&self, wanted: Wanted) -> bool
+        ensures { result ≡ (wanted.names || turns.is_finding self.now.begun.items) }
+    {
+        wanted.names || self.is_finding()
+    }
+
     /// The expansion of a primitive, whose token is this. Its only error is want of memory.
     #[inline(never)]
     fn expand_primitive(
@@ -501,11 +527,11 @@ impl Open {
         input: &mut Pending,
         known: &Known,
         mode: Mode,
-        text: bool,
+        wanted: Wanted,
         token: Token,
         primitive: Expandable,
     ) -> Result<Expanded, AllocError>
-        ensures { IfOk result (IsTurned (expands (world_of (lent known.now) mode) text token (reader_of self.old input.old) primitive) (reader_of self.new input.new)) }
+        ensures { IfOk result (IsTurned (expands (world_of (lent known.now) mode) wanted token (reader_of self.old input.old) primitive) (reader_of self.new input.new)) }
     {
         match primitive {
             Expandable::ExpandAfter => self.begin(Begun::After),
@@ -514,12 +540,12 @@ impl Open {
             Expandable::Convert(kind) => self.convert(alloc, input, known, kind),
             Expandable::The => {
                 let what = Scanned::Quantity {
-                    text: for_text(text, &self.begun),
+                    text: for_text(wanted.takes_the, &self.begun),
                 };
                 self.scan(alloc, input, known, what)
             }
             Expandable::Input => {
-                if self.is_finding() {
+                if self.is_naming(wanted) {
                     self.relax_before(input, token)
                 } else {
                     self.scan(alloc, input, known, Scanned::File)
@@ -545,7 +571,7 @@ impl Open {
         known: &Known,
         kind: Conversion,
     ) -> Result<Expanded, AllocError>
-        ensures { (mode : Any_mode) (text : Bool) (token : Any_token) → IfOk result (IsTurned (expands (world_of (lent known.now) mode) text token (reader_of self.old input.old) (Expandable.Convert kind)) (reader_of self.new input.new)) }
+        ensures { (mode : Any_mode) (wanted : Any_wanted) (token : Any_token) → IfOk result (IsTurned (expands (world_of (lent known.now) mode) wanted token (reader_of self.old input.old) (Expandable.Convert kind)) (reader_of self.new input.new)) }
     {
         match kind {
             Conversion::Number => self.scan(alloc, input, known, Scanned::Number),
@@ -557,6 +583,7 @@ impl Open {
                 push_job_name(&mut tokens, self.job.as_slice())?;
                 self.replace(alloc, input, tokens)
             }
+            Conversion::FontName => self.scan(alloc, input, known, Scanned::Font),
         }
     }
 
@@ -585,16 +612,24 @@ impl Open {
         input: &mut Pending,
         known: &Known,
         mode: Mode,
-        text: bool,
+        wanted: Wanted,
         token: Seen,
     ) -> Result<Expanded, AllocError>
-        ensures { IfOk result (IsTurned (expanded (world_of (lent known.now) mode) text token (reader_of self.old input.old) token.meaning) (reader_of self.new input.new)) }
+        ensures { IfOk result (IsTurned (expanded (world_of (lent known.now) mode) wanted token (reader_of self.old input.old) token.meaning) (reader_of self.new input.new)) }
     {
         match &token.meaning {
             Meaning::Undefined => Ok(Expanded::Wrong(TexError::Undefined)),
             Meaning::Expandable(primitive) => {
                 let primitive = *primitive;
-                self.expand_primitive(alloc, input, known, mode, text, token_of(token), primitive)
+                self.expand_primitive(
+                    alloc,
+                    input,
+                    known,
+                    mode,
+                    wanted,
+                    token_of(token),
+                    primitive,
+                )
             }
             Meaning::Macro(made) => self.use_macro(alloc, input, made),
             _ => self.take(alloc, input, known, token),
@@ -684,7 +719,7 @@ impl Open {
             return Ok(Expanded::Wrong(error));
         }
         match self.want(wanted) {
-            Want::Expanded => self.expand(alloc, input, known, mode, wanted.takes_the, token),
+            Want::Expanded => self.expand(alloc, input, known, mode, wanted, token),
             Want::Raw => self.take(alloc, input, known, token),
         }
     }

@@ -8,14 +8,14 @@ ghost use Rattle.tx_expand.specs.Parts.{held, more_needed, rest};
 ghost use Rattle.tx_expand.specs.Scans.{quantity, reading, the};
 ghost use Rattle.tx_scan.specs.Beginnings as beginnings;
 
-use crate::mapping::{decided, named, number_shown, opened, printed, quantity_shown};
+use crate::mapping::{decided, font_named, named, number_shown, opened, printed, quantity_shown};
 use crate::part::{Figures, Part};
 use crate::types::{Made, Scanned};
 use std::alloc::{AllocError, Global};
 use tx_cond::TestScan;
 use tx_scan::{
-    Beginning, ControlNameScan, FileNameScan, IntScan, ListBegun, QuantityScan, Sought, beginning,
-    list_begun,
+    Beginning, ControlNameScan, FileNameScan, FontScan, IntScan, ListBegun, QuantityScan, Sought,
+    beginning, list_begun,
 };
 use tx_seen::{Fed, Seen, TexError, Value, Want};
 
@@ -48,6 +48,7 @@ impl Part {
                 Part::File(FileNameScan::new(alloc)),
                 Fed::More(Want::Expanded),
             ),
+            Scanned::Font => (Part::Font(FontScan::new()), Fed::More(Want::Expanded)),
         }
     }
 
@@ -66,6 +67,7 @@ impl Part {
             Part::Integer(scan, figures) => printed(alloc, *figures, scan.feed(token)?),
             Part::Test(scan) => Ok(decided(scan.feed(token)?)),
             Part::File(scan) => opened(scan.feed(token)?),
+            Part::Font(scan) => Ok(font_named(scan.feed(token))),
         }
     }
 
@@ -104,6 +106,8 @@ impl Part {
             Beginning::Number(number) => return number_shown(alloc, text, number),
             Beginning::At(place) => scan.begin_at(place),
             Beginning::Numbered(kind) => scan.begin_behind(Sought::Numbered(kind)),
+            Beginning::FontDimen => scan.begin_parameter(),
+            Beginning::FontInteger(kind) => scan.begin_font(kind),
             Beginning::Plus | Beginning::Minus | Beginning::Digit(_) | Beginning::Digits(_) => {
                 return Ok(Fed::Wrong(TexError::NoAssignment));
             }
@@ -126,7 +130,7 @@ impl Part {
             Part::Shown(scan, text) => quantity_shown(alloc, *text, scan.give(value)),
             Part::Integer(scan, figures) => printed(alloc, *figures, scan.give(value)),
             Part::Test(scan) => Ok(decided(scan.give(value)?)),
-            Part::File(_) => Ok(Fed::Wrong(TexError::MissingName)),
+            Part::File(_) | Part::Font(_) => Ok(Fed::Wrong(TexError::MissingName)),
         }
     }
 }

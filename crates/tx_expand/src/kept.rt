@@ -19,6 +19,7 @@ impl Clone for Part {
             Part::Integer(scan, figures) => Ok(Part::Integer(scan.clone()?, *figures)),
             Part::Test(scan) => Ok(Part::Test(scan.clone()?)),
             Part::File(scan) => Ok(Part::File(scan.clone()?)),
+            Part::Font(scan) => Ok(Part::Font(*scan)),
         }
     }
 }

@@ -15,7 +15,7 @@ use tx_bytes::Bytes;
 use tx_char::ControlName;
 use tx_convert::{push_glue, push_number, push_roman, push_size};
 use tx_scan::input_name;
-use tx_seen::{Fed, TexError, Value};
+use tx_seen::{Fed, FontName, TexError, Value};
 use tx_toklist::Toks;
 
 /// A name behind \csname.
@@ -55,6 +55,18 @@ pub(crate) fn opened(fed: Fed<Bytes>) -> Result<Fed<Made>, AllocError>
             Ok(Fed::Done(Made::Opens(name), back))
         }
         Fed::Wrong(error) => Ok(Fed::Wrong(error)),
+    }
+}
+
+/// A font behind \fontname.
+pub(crate) fn font_named(fed: Fed<FontName>) -> Fed<Made>
+    ensures { result ≡ mapped (λ font. made.Font font) fed }
+{
+    match fed {
+        Fed::More(want) => Fed::More(want),
+        Fed::Need(kind) => Fed::Need(kind),
+        Fed::Done(font, back) => Fed::Done(Made::Font(font), back),
+        Fed::Wrong(error) => Fed::Wrong(error),
     }
 }
 
@@ -131,7 +143,7 @@ fn value_shown(
         Value::Dimen(size) => push_size(alloc, &mut tokens, *size)?,
         Value::Glue(glue) => push_glue(alloc, &mut tokens, glue, false)?,
         Value::Muglue(glue) => push_glue(alloc, &mut tokens, glue, true)?,
-        Value::Flag(_) | Value::Magnification(_) | Value::Absent => {
+        Value::Flag(_) | Value::Magnification(_) | Value::Absent | Value::OutOfRange => {
             return Ok(Fed::Wrong(TexError::NoAssignment));
         }
     }

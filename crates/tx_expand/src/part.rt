@@ -1,6 +1,6 @@
 //! How far the reading of an expansion is.
 use tx_cond::TestScan;
-use tx_scan::{ControlNameScan, FileNameScan, IntScan, QuantityScan};
+use tx_scan::{ControlNameScan, FileNameScan, FontScan, IntScan, QuantityScan};
 
 /// How an integer is printed, or what it tells.
 #[derive(Clone, Copy, PartialEq, Eq)]
@@ -28,4 +28,6 @@ pub enum Part {
     Test(TestScan),
     /// The name behind \input.
     File(FileNameScan),
+    /// The font behind \fontname.
+    Font(FontScan),
 }

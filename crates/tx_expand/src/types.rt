@@ -2,7 +2,7 @@
 use tx_bytes::Bytes;
 use tx_char::ControlName;
 use tx_prim::{Mode, Test};
-use tx_seen::{Place, Seen, TexError, Want};
+use tx_seen::{FontName, Place, Seen, TexError, Want};
 use tx_toklist::Toks;
 
 /// What the caller takes.
@@ -14,6 +14,8 @@ pub struct Wanted {
     pub text: bool,
     /// Whether what \the gives is put into that text as it stands (TeX: The Program, section 478).
     pub takes_the: bool,
+    /// Whether it takes a file's name: an \input there ends it (TeX: The Program, section 378).
+    pub names: bool,
 }
 
 /// What is printed of one token.
@@ -40,6 +42,8 @@ pub enum Scanned {
     Test(Test, Mode),
     /// \input: a file's name.
     File,
+    /// \fontname: a font.
+    Font,
 }
 
 /// What comes of what an expansion has read.
@@ -59,6 +63,8 @@ pub enum Made {
     Decides(i64),
     /// The file of this name is opened.
     Opens(Bytes),
+    /// The name of this font stands in its place.
+    Font(FontName),
 }
 
 /// What a token makes of what an expansion reads.
