@@ -8,7 +8,7 @@ use Rattle.tx_char.specs.Character.{character}
 use Rattle.tx_seen.specs.declared.item.Item.{Item}
 use Rattle.tx_seen.specs.declared.item.Item.TheVariants.{Took, Gave}
 use Rattle.tx_seen.specs.declared.seen.Seen.{Seen}
-use Rattle.tx_seen.specs.Seen.{is_undefined, is_space, is_point, is_key}
+use Rattle.tx_seen.specs.Seen.{font_name, is_undefined, is_space, is_point, is_key}
 use Rattle.tx_seen.specs.declared.error.TexError.{TexError}
 use Rattle.tx_seen.specs.Readings.{Reading, More, Need, Done, Wrong, next}
 use Rattle.tx_scan.specs.declared.scans.Radix.{Radix}
@@ -16,28 +16,35 @@ use Rattle.tx_scan.specs.declared.scans.Radix.TheVariants.{Decimal}
 use Rattle.tx_scan.specs.declared.scans.Beginning.{Beginning}
 use Rattle.tx_scan.specs.declared.scans.Beginning.TheVariants as begin
 use Rattle.tx_scan.specs.Beginnings.{base, digit, beginning}
-use Rattle.tx_scan.specs.Integers.{Ended, unless_space, space_after, code_named, coded, character_code, digits, first_digit, in_range, is_in_range, given, quantity, numbered, whole, with_sign, byte_of, signed_constant, begun, signs, integer}
+use Rattle.tx_scan.specs.Integers.{Ended, unless_space, space_after, code_named, coded, character_code, digits, first_digit, in_range, is_in_range, given, quantity, counted as counted_number, numbered, of_font, whole, with_sign, byte_of, signed_constant, begun, signs, integer}
 use Rattle.tx_scan.specs.declared.scans.Units.{Units}
 use Rattle.tx_scan.specs.declared.scans.Order.{Order}
 use Rattle.tx_scan.specs.declared.scans.Order.TheVariants.{Normal, Fil}
 use Rattle.tx_scan.specs.declared.scans.Measure.{Measure}
 use Rattle.tx_scan.specs.declared.scans.UnitName.{UnitName}
 use Rattle.tx_scan.specs.declared.scans.Letters.{Letters}
+use Rattle.tx_scan.specs.declared.scans.Counted.{Counted}
+use Rattle.tx_scan.specs.declared.scans.Counted.TheVariants as counts
+use Rattle.tx_scan.specs.declared.scans.FontSought.{FontSought}
+use Rattle.tx_scan.specs.declared.scans.FontSought.TheVariants as needs
 use Rattle.tx_scan.specs.declared.scans.Outer.{Outer}
+use Rattle.tx_scan.specs.declared.scans.UnitName.TheVariants.{Physical, Mathematical, Font}
+use Rattle.tx_scan.specs.FontNames.{font, font_behind, parameter_number, place_of_font, told as told_by}
+use Rattle.tx_seen.specs.declared.place.FontName.{FontName}
 use Rattle.tx_scan.specs.declared.scans.Amount.{Amount}
 use Rattle.tx_scan.specs.declared.scans.Amount.TheVariants.{Whole as All, Times}
 use Rattle.tx_prim.specs.declared.family.Numbered.{Numbered}
 use Rattle.tx_seen.specs.declared.place.Place.{Place}
 use Rattle.tx_seen.specs.Places.{has_size, place_of}
 use Rattle.tx_seen.specs.declared.fed.Value.{Value}
-use Rattle.tx_seen.specs.declared.fed.Value.TheVariants.{Int, Dimen, Glue, Muglue, Magnification, Flag, Absent}
+use Rattle.tx_seen.specs.declared.fed.Value.TheVariants.{Int, Dimen, Glue, Muglue, Magnification, Flag, Absent, OutOfRange}
 use Rattle.tx_scan.specs.declared.scans.Spelled.{Spelled}
 use Rattle.tx_scan.specs.declared.scans.Spelled.TheVariants.{On, Whole, Infinite, True, No}
 use Rattle.tx_scan.specs.declared.scans.Sought.{Sought}
 use Rattle.tx_scan.specs.declared.scans.Sought.TheVariants as sought
 use Rattle.tx_scan.specs.Mapped.{done_if}
-use Rattle.tx_scan.specs.Quantities.{found, numbered_value, quantity_begun, unless_whole, value_at, value_behind, value_counted}
-use Rattle.tx_scan.specs.Dimensions.{Factor, Named, A_unit, Fil_unit, True_unit, factor_ended, fraction, is_decimal, whole_units, first_unit, is_internal, is_size_kind, turned, amount, behind_true, ended_with, in_mu, magnified, mathematical, quantified, numbered_unit, measured, first_letter, first_letter_behind_true, letter_on, spelled, true_ended, true_unit, unit_name, size_in, sized, unit_rest, raised, more_infinite, fil_rest, unit_ended, factored, counted, size_begun, size_signs, dimension}
+use Rattle.tx_scan.specs.Quantities.{found, numbered_parameter, numbered_value, parameter_value, quantity_begun, unless_whole, value_at, value_behind, value_counted, value_of_font}
+use Rattle.tx_scan.specs.Dimensions.{Factor, Named, A_unit, Fil_unit, True_unit, factor_ended, fraction, is_decimal, whole_units, first_unit, is_internal, is_size_kind, turned, amount, behind_true, ended_with, in_mu, in_unit, magnified, mathematical, quantified, numbered_unit, measured, first_letter, first_letter_behind_true, letter_on, spelled, true_ended, true_unit, unit_name, sized, unit_rest, raised, more_infinite, fil_rest, unit_ended, factored, counted, size_begun, size_signs, dimension}
 
 -- at most so many items are behind what is read, with those that it keeps itself
 abbrev pub LeavesBy : {A : Type 0} → (A → List Item) → ℕ → Reading A → Type 0
@@ -167,6 +174,7 @@ leaves-given (Gave (Muglue g)) rest = tt
 leaves-given (Gave (Magnification n)) rest = tt
 leaves-given (Gave (Flag b)) rest = tt
 leaves-given (Gave Absent) rest = tt
+leaves-given (Gave OutOfRange) rest = tt
 leaves-given (Took t) rest = tt
 
 leaves-quantity : (place : Place) (items : List Item) → Leaves (length items) (quantity place items)
@@ -177,13 +185,44 @@ leaves-numbered : (kind : Numbered) (n : Option ℕ) (items : List Item) → Lea
 leaves-numbered kind None items = tt
 leaves-numbered kind (Some n) items = leaves-quantity (place_of kind n) items
 
+leaves-told : (told_font : Option FontName) (rest : List Item) (n : ℕ) → length rest ≤ n → Leaves n (told_by told_font rest)
+leaves-told None rest n h = tt
+leaves-told (Some f) rest n h = h
+
+leaves-font : (items : List Item) → Leaves (length items) (font items)
+leaves-font [] = tt
+leaves-font (Gave v ∷ rest) = tt
+leaves-font (Took t ∷ rest) =
+    leaves-if none_kept _ (is_undefined t) _ _ tt
+    (leaves-if none_kept _ (is_space t) (font rest) (told_by (font_name t) rest) (leaves-more none_kept (length rest) (length (Took t ∷ rest)) (font rest) (omega arith) (leaves-font rest))
+    (leaves-told (font_name t) rest (length (Took t ∷ rest)) (omega arith)))
+
+leaves-font-behind : (behind rest : List Item) → Leaves (length behind + length rest) (font_behind behind rest)
+leaves-font-behind behind rest =
+    let all : length (behind ++ rest) ≡ length behind + length rest = length-append behind rest in
+    leaves-more none_kept (length (behind ++ rest)) (length behind + length rest) (font (behind ++ rest)) (omega (arith, all)) (leaves-font (behind ++ rest))
+
+leaves-of-font : (what : FontSought) (reading : Reading FontName) (n : ℕ) → Leaves n reading → Leaves n (of_font what reading)
+leaves-of-font what reading n l =
+    leaves-next none_kept none_kept n n reading (λ f rest. quantity (place_of_font what f) rest) l
+    (λ f rest h. leaves-more none_kept (length rest) n (quantity (place_of_font what f) rest) h (leaves-quantity (place_of_font what f) rest))
+
+leaves-at-number : (kind : Counted) (n : ℤ) (behind rest : List Item) (on : ℤ → List Item → List Item → Reading ℤ) (m : ℕ) → length behind + length rest ≤ m → ((value : ℤ) (behind rest : List Item) → length behind + length rest ≤ m → Leaves m (on value behind rest)) → Leaves m (counted_number font_behind kind n behind rest on)
+leaves-at-number (counts.Numbered kind) n behind rest on m h k =
+    leaves-next none_kept none_kept (length rest) m (numbered kind (byte_of n) rest) (λ value rest. on value behind rest) (leaves-numbered kind (byte_of n) rest)
+    (λ value after l. k value behind after (omega (arith, h, l)))
+leaves-at-number counts.FontDimen n behind rest on m h k =
+    leaves-next none_kept none_kept (length behind + length rest) m (of_font (needs.Dimen (parameter_number n)) (font_behind behind rest)) (λ value rest. on value [] rest)
+    (leaves-of-font (needs.Dimen (parameter_number n)) (font_behind behind rest) (length behind + length rest) (leaves-font-behind behind rest))
+    (λ value after l. k value [] after (omega (arith, h, l)))
+
 leaves-whole-number : (outers : List Outer) (n : ℤ) (behind rest : List Item) (m : ℕ) → length behind + length rest ≤ m → Leaves m (whole outers n behind rest)
 leaves-whole-number [] n behind rest m h =
     let all : length (behind ++ rest) ≡ length behind + length rest = length-append behind rest in
     omega (arith, all, h)
 leaves-whole-number (outer ∷ outers) n behind rest m h =
-    leaves-next none_kept none_kept (length rest) m (numbered outer.kind (byte_of n) rest) (λ value rest. whole outers (with_sign outer.negative value) behind rest) (leaves-numbered outer.kind (byte_of n) rest)
-    (λ value after l. leaves-whole-number outers (with_sign outer.negative value) behind after m (omega (arith, h, l)))
+    leaves-at-number outer.kind n behind rest (λ value behind rest. whole outers (with_sign outer.negative value) behind rest) m h
+    (λ value behind after l. leaves-whole-number outers (with_sign outer.negative value) behind after m l)
 
 leaves-constant : (outers : List Outer) (negative : Bool) (n : ℕ) (reading : Reading Ended) → LeavesBy behind_number n reading → Leaves n (next reading (signed_constant outers negative))
 leaves-constant outers negative n reading l =
@@ -204,7 +243,11 @@ leaves-number-begun outers negative on rest (begin.Number m) n h k = leaves-whol
 leaves-number-begun outers negative on rest (begin.At place) n h k =
     leaves-next none_kept none_kept (length rest) n (quantity place rest) (λ n rest. whole outers (with_sign negative n) [] rest) (leaves-quantity place rest)
     (λ value after l. leaves-whole-number outers (with_sign negative value) [] after n (omega (arith, h, l)))
-leaves-number-begun outers negative on rest (begin.Numbered kind) n h k = k (record { negative = negative; kind = kind } ∷ outers) false
+leaves-number-begun outers negative on rest (begin.Numbered kind) n h k = k (record { negative = negative; kind = counts.Numbered kind } ∷ outers) false
+leaves-number-begun outers negative on rest begin.FontDimen n h k = k (record { negative = negative; kind = counts.FontDimen } ∷ outers) false
+leaves-number-begun outers negative on rest (begin.FontInteger kind) n h k =
+    leaves-next none_kept none_kept (length rest) n (of_font (needs.Integer kind) (font rest)) (λ n rest. whole outers (with_sign negative n) [] rest) (leaves-of-font (needs.Integer kind) (font rest) (length rest) (leaves-font rest))
+    (λ value after l. leaves-whole-number outers (with_sign negative value) [] after n (omega (arith, h, l)))
 leaves-number-begun outers negative on rest (begin.Nothing error) n h k = tt
 
 leaves-number : (items : List Item) (outers : List Outer) (negative : Bool) → Leaves (length items) (signs outers negative items)
@@ -232,11 +275,23 @@ leaves-name units (Took t ∷ rest) letters =
 leaves-sized : (negative : Bool) (size : ℕ) (order : Order) (behind : List Item) (n : ℕ) → length behind ≤ n → Leaves n (sized negative size order behind)
 leaves-sized negative size order behind n h = leaves-if none_kept n (nat_le size 1073741823) _ _ h tt
 
+leaves-internal : (negative : Bool) (part : ℕ) (a : Amount) (n : ℤ) (rest : List Item) (m : ℕ) → length rest ≤ m → Leaves m (ended_with negative part a n rest)
+leaves-internal negative part a n rest m h = leaves-sized (turned negative n) (amount part a (unsigned_abs n)) Normal rest m h
+
+leaves-in-unit : (negative : Bool) (whole part : ℕ) (unit : UnitName) (behind rest : List Item) (m : ℕ) → length (behind ++ rest) ≤ m → Leaves m (in_unit negative whole part unit behind rest)
+leaves-in-unit negative whole part (Physical unit) behind rest m h = leaves-sized negative (size_of unit whole part) Normal (behind ++ rest) m h
+leaves-in-unit negative whole part Mathematical behind rest m h = leaves-sized negative (size_of Point whole part) Normal (behind ++ rest) m h
+leaves-in-unit negative whole part (Font size) behind [] m h = tt
+leaves-in-unit negative whole part (Font size) behind (item ∷ rest) m h =
+    let all : length (behind ++ item ∷ rest) ≡ length behind + length (item ∷ rest) = length-append behind (item ∷ rest) in
+    leaves-next none_kept none_kept (length rest) m (given item rest) (λ n rest. ended_with negative part (Times whole) n (behind ++ rest)) (leaves-given item rest)
+    (λ n after l. let these : length (behind ++ after) ≡ length behind + length after = length-append behind after in leaves-internal negative part (Times whole) n (behind ++ after) m (omega (arith, all, these, h, l)))
+
 leaves-unit-rest : (negative : Bool) (whole part : ℕ) (unit : UnitName) (items : List Item) → Leaves (length items) (unit_rest negative whole part unit items)
 leaves-unit-rest negative whole part unit [] = tt
 leaves-unit-rest negative whole part unit (Gave v ∷ rest) = tt
 leaves-unit-rest negative whole part unit (Took t ∷ rest) =
-    leaves-if none_kept _ (is_undefined t) _ _ tt (leaves-sized negative (size_in unit whole part) Normal (unless_space t ++ rest) _ (length-unless t rest))
+    leaves-if none_kept _ (is_undefined t) _ _ tt (leaves-in-unit negative whole part unit (unless_space t) rest _ (length-unless t rest))
 
 leaves-raised : (n : ℕ) (o : Option Order) (on : Order → Reading Measure) → ((order : Order) → Leaves n (on order)) → Leaves n (more_infinite o on)
 leaves-raised n None on k = tt
@@ -284,14 +339,12 @@ leaves-behind-true units negative whole part (Gave (Magnification (suc mag)) ∷
     leaves-more none_kept (length rest) (suc (length rest)) (true_unit units negative (magnified whole part (suc mag)) rest) (omega arith) (leaves-true-unit units negative (magnified whole part (suc mag)) rest)
 leaves-behind-true units negative whole part (Gave (Flag b) ∷ rest) = tt
 leaves-behind-true units negative whole part (Gave Absent ∷ rest) = tt
+leaves-behind-true units negative whole part (Gave OutOfRange ∷ rest) = tt
 
 leaves-unit-ended : (units : Units) (negative : Bool) (whole part : ℕ) (named : Named) (items : List Item) → Leaves (length items) (unit_ended units negative whole part named items)
 leaves-unit-ended units negative whole part Fil_unit items = leaves-fil negative whole part items Fil
 leaves-unit-ended units negative whole part True_unit items = leaves-behind-true units negative whole part items
 leaves-unit-ended units negative whole part (A_unit unit) items = leaves-unit-rest negative whole part unit items
-
-leaves-internal : (negative : Bool) (part : ℕ) (a : Amount) (n : ℤ) (rest : List Item) (m : ℕ) → length rest ≤ m → Leaves m (ended_with negative part a n rest)
-leaves-internal negative part a n rest m h = leaves-sized (turned negative n) (amount part a (unsigned_abs n)) Normal rest m h
 
 -- internal quantities
 leaves-found : (item : Item) (rest : List Item) (n : ℕ) → length rest ≤ n → Leaves n (found item rest)
@@ -302,6 +355,7 @@ leaves-found (Gave (Muglue g)) rest n h = h
 leaves-found (Gave (Magnification m)) rest n h = h
 leaves-found (Gave (Flag b)) rest n h = h
 leaves-found (Gave Absent) rest n h = tt
+leaves-found (Gave OutOfRange) rest n h = tt
 leaves-found (Took t) rest n h = tt
 
 leaves-value-at : (place : Place) (items : List Item) (n : ℕ) → length items ≤ n → Leaves n (value_at place items)
@@ -334,6 +388,15 @@ leaves-numbered-value what items n h =
     leaves-more none_kept (0 + length items) n (numbered_value what items) (omega (arith, h))
     (leaves-value-behind what items integer 0 (λ more. leaves-more none_kept (length more) (0 + length more) (integer more) (omega arith) (leaves-number more [] false)))
 
+leaves-value-font : (what : FontSought) (items : List Item) (n : ℕ) → length items ≤ n → Leaves n (value_of_font what items)
+leaves-value-font what items n h =
+    leaves-next none_kept none_kept (length items) n (font items) (λ f rest. value_at (place_of_font what f) rest) (leaves-font items) (λ f rest l. leaves-value-at (place_of_font what f) rest n (omega (arith, h, l)))
+
+leaves-parameter : (items : List Item) (n : ℕ) → length items ≤ n → Leaves n (numbered_parameter items)
+leaves-parameter items n h =
+    leaves-next none_kept none_kept (length items) n (integer items) parameter_value (leaves-number items [] false)
+    (λ m after l. leaves-value-font (needs.Dimen (parameter_number m)) after n (omega (arith, h, l)))
+
 leaves-quantity-begun : (b : Beginning) (rest : List Item) (n : ℕ) → length rest ≤ n → Leaves n (quantity_begun b rest)
 leaves-quantity-begun begin.Plus rest n h = tt
 leaves-quantity-begun begin.Minus rest n h = tt
@@ -344,6 +407,8 @@ leaves-quantity-begun begin.Point rest n h = tt
 leaves-quantity-begun (begin.Number m) rest n h = tt
 leaves-quantity-begun (begin.At place) rest n h = leaves-value-at place rest n h
 leaves-quantity-begun (begin.Numbered kind) rest n h = leaves-numbered-value (sought.Numbered kind) rest n h
+leaves-quantity-begun begin.FontDimen rest n h = leaves-parameter rest n h
+leaves-quantity-begun (begin.FontInteger kind) rest n h = leaves-value-font (needs.Integer kind) rest n h
 leaves-quantity-begun (begin.Nothing error) rest n h = tt
 
 leaves-done-if : {A : Type 0} (result : Result A TexError) (rest : List Item) (n : ℕ) → length rest ≤ n → Leaves n (done_if result rest)
@@ -365,6 +430,8 @@ leaves-in-mu negative part a begin.Point rest n h = tt
 leaves-in-mu negative part a (begin.Number m) rest n h = tt
 leaves-in-mu negative part a (begin.At place) rest n h = leaves-mathematical negative part a (begin.At place) rest n h
 leaves-in-mu negative part a (begin.Numbered kind) rest n h = leaves-mathematical negative part a (begin.Numbered kind) rest n h
+leaves-in-mu negative part a begin.FontDimen rest n h = leaves-mathematical negative part a begin.FontDimen rest n h
+leaves-in-mu negative part a (begin.FontInteger kind) rest n h = leaves-mathematical negative part a (begin.FontInteger kind) rest n h
 leaves-in-mu negative part a (begin.Nothing error) rest n h = tt
 
 leaves-measured : (units : Units) (negative : Bool) (whole part : ℕ) (items : List Item) → Leaves (length items) (measured units negative whole part items)
@@ -408,6 +475,8 @@ leaves-begun units negative on number rest begin.Character n h l k =
 leaves-begun units negative on number rest (begin.Number m) n h l k = leaves-quantified units negative false number (begin.Number m) rest n h l
 leaves-begun units negative on number rest (begin.At place) n h l k = leaves-quantified units negative (has_size place) number (begin.At place) rest n h l
 leaves-begun units negative on number rest (begin.Numbered kind) n h l k = leaves-quantified units negative (is_size_kind kind) number (begin.Numbered kind) rest n h l
+leaves-begun units negative on number rest begin.FontDimen n h l k = leaves-quantified units negative true number begin.FontDimen rest n h l
+leaves-begun units negative on number rest (begin.FontInteger kind) n h l k = leaves-quantified units negative false number (begin.FontInteger kind) rest n h l
 leaves-begun units negative on number rest (begin.Nothing error) n h l k = tt
 
 leaves-signs : (units : Units) (items : List Item) (negative : Bool) → Leaves (length items) (size_signs units negative items)

@@ -3,4 +3,6 @@ pub mod Sides
 pub mod Settling
 pub mod Stages
 pub mod RuleSteps
+pub mod NameParts
 mod Worked
+pub mod Alone

@@ -37,7 +37,10 @@ use Rattle.tx_assign.specs.Rests.{rest as assign_rest, held as assign_held, more
 use Rattle.tx_shape.specs.declared.types.Shaped.{Shaped}
 use Rattle.tx_shape.specs.declared.types.Shaping.{Shaping}
 use Rattle.tx_shape.specs.declared.types.Shaping.TheVariants as shape_glue
-use Rattle.tx_shape.specs.Boxes.{shape}
+use Rattle.tx_shape.specs.Shapes.{shape}
+use Rattle.tx_shape.specs.declared.types.FontAsked.{FontAsked}
+use Rattle.tx_shape.specs.Loading.{loading as load}
+use Rattle.tx_shape.specs.LoadRests.{rest as load_rest, held as load_held, needed as load_needed, BeginsLoad, WaitsIfNeeded as WaitsIfLoading}
 use Rattle.tx_shape.specs.Rests.{rest as shape_rest, held as shape_held, needed as shape_needed, Begins as BeginsShape, WaitsIfNeeded}
 use Rattle.tx_shape.proofs.Amounts.{none-waits}
 use Rattle.tx_command.specs.declared.scans.RulePart.TheVariants as rule
@@ -47,9 +50,9 @@ use Rattle.tx_command.specs.declared.scans.Stage.TheVariants as stage
 use Rattle.tx_command.specs.declared.types.Command.{Command}
 use Rattle.tx_command.specs.declared.types.Command.TheVariants.{Nothing, Assign, Keep}
 use Rattle.tx_command.specs.declared.types.Head.{Head}
-use Rattle.tx_command.specs.declared.types.Head.TheVariants.{Fresh, Prefixed, Defining, Future, Leading}
+use Rattle.tx_command.specs.declared.types.Head.TheVariants.{Fresh, Prefixed, Defining, Future, Leading, Loading}
 use Rattle.tx_command.specs.declared.types.Prefixes.{Prefixes}
-use Rattle.tx_command.specs.Commands.{command, command_meant, future_defining, future_of, future_second, keeping, macro_defining, fresh_command, may_be_prefixed, prefixed_command, assigning, defining, leaders_of, leaders_rule, leading_command, leading_glue, led_by, repeated, ruling, sizing, skipping, command_of, shaping}
+use Rattle.tx_command.specs.Commands.{command, command_meant, font_defining, future_defining, load_of, loading, future_of, future_second, keeping, macro_defining, fresh_command, may_be_prefixed, prefixed_command, assigning, defining, leaders_of, leaders_rule, leading_command, leading_glue, led_by, repeated, ruling, sizing, skipping, command_of, shaping}
 use Rattle.tx_command.specs.Standing.{may_stand}
 use Rattle.tx_scan.proofs.Answering.{ending-none}
 use Rattle.tx_scan.specs.Mapped.{mapped}
@@ -164,6 +167,27 @@ shape-begun what new answer is k = λ mode head. record {
   goes_on = shape-goes new answer is (none-waits new.shape (shape_needed new.shape) answer k.fewer);
 }
 
+-- what \font takes
+pub load-needs : (old new : Scans) (answer : Fed FontAsked) → old.stage ≡ stage.Loading → new.stage ≡ stage.Loading → NeedsNoMore (load_needed old.loading) (load_needed new.loading) answer → NeedsNoMore (more_needed old) (more_needed new) (mapped load_of answer)
+load-needs old new answer was is k = rw (was, is) (needs-mapped load_of (load_needed old.loading) (load_needed new.loading) answer k)
+
+pub load-fewer : (old new : Scans) (answer : Fed FontAsked) → old.stage ≡ stage.Loading → new.stage ≡ stage.Loading → NeedsFewer (load_needed old.loading) (load_needed new.loading) answer → NeedsFewer (more_needed old) (more_needed new) (mapped load_of answer)
+load-fewer old new answer was is k = rw (was, is) (fewer-mapped load_of (load_needed old.loading) (load_needed new.loading) answer k)
+
+pub load-goes : (new : Scans) (answer : Fed FontAsked) → new.stage ≡ stage.Loading → WaitsIfLoading new.loading answer → GoesOn new (mapped load_of answer)
+load-goes new (fed.More want) is k = rw is tt
+load-goes new (fed.Need kind) is k = rw is (k, k.1)
+load-goes new (fed.Done asked back) is k = tt
+load-goes new (fed.Wrong error) is k = tt
+
+pub load-begun : (mode : Mode) (head : Head) (name same : Place) (t : Seen) (new : Scans) (answer : Fed FontAsked) → name ≡ same → new.stage ≡ stage.Loading → BeginsLoad (λ more. load name (Took t ∷ more)) t new.loading answer → IsBegunBy mode head 1 (λ more. loading same (Took t ∷ more)) (Took t ∷ []) new (mapped load_of answer)
+load-begun mode head name same t new answer e is k = rw (← e) (record {
+  reads = mapped-read load_rest load_held (command_rest mode head) held load_of 1 (λ more. load name (Took t ∷ more)) (Took t ∷ []) new.loading new answer
+      (λ behind item more. ap (λ s. stage_rest mode head s new behind item more) is) (ap (λ s. stage_held s new) is) k.reads;
+  needs = rw is (needs-mapped load_of 1 (load_needed new.loading) answer (needs-least 0 1 (load_needed new.loading) answer (omega arith) k.needs));
+  goes_on = load-goes new answer is k.waits;
+})
+
 -- parts that held nothing
 pub start-fed : {E : Type 0} (mode : Mode) (head : Head) (t : Seen) (old new : Scans) (answer : Result (Fed Command) E) → old.stage ≡ stage.Start → IfOk answer (IsBegunBy mode head 1 (λ more. command mode head (Took t ∷ more)) (Took t ∷ []) new) → IfOk answer (IsFedBy (command_rest mode head) held old t new)
 start-fed mode head t old new (Ok answer) was k = fed-first (command_rest mode head) held old t new answer (rw was refl) (rw was k.reads)
@@ -209,6 +233,9 @@ macro-begun kind new is = λ mode head. record { reads = (refl, rw is (omega ari
 
 pub future-begun : (new : Scans) → new.stage ≡ stage.FutureName → Begins future_defining new (fed.More Raw)
 future-begun new is = λ mode head. record { reads = (refl, rw is (omega arith), λ item more. rw is refl); needs = rw is (omega arith); goes_on = rw is tt }
+
+pub font-begun : (new : Scans) → new.stage ≡ stage.FontName → Begins font_defining new (fed.More Raw)
+font-begun new is = λ mode head. record { reads = (refl, rw is (omega arith), λ item more. rw is refl); needs = rw is (omega arith); goes_on = rw is tt }
 
 pub kept-begun : (kind : AfterKind) (new : Scans) → new.stage ≡ stage.KeptToken kind → Begins (keeping kind) new (fed.More Raw)
 kept-begun kind new is = λ mode head. record { reads = (refl, rw is (omega arith), λ item more. rw is refl); needs = rw is (omega arith); goes_on = rw is tt }
@@ -295,6 +322,10 @@ first-leading mode head kind sides t new answer e k = rw e (one-token mode (Lead
 pub first-defining : {E : Type 0} (mode : Mode) (head : Head) (prefixes : Prefixes) (name : Place) (kind : Shorthand) (t : Seen) (new : Scans) (answer : Result (Fed Command) E) → head ≡ Defining prefixes name kind → ((m : Mode) (h : Head) → IfOk answer (IsBegunBy m h 1 (λ more. assigning (Named name kind) (Took t ∷ more)) (Took t ∷ []) new)) → IfOk answer (IsBegunBy mode head 1 (λ more. command mode head (Took t ∷ more)) (Took t ∷ []) new)
 first-defining mode head prefixes name kind t new (Ok answer) e k = rw e (k mode (Defining prefixes name kind))
 first-defining mode head prefixes name kind t new (Err error) e k = tt
+
+pub first-loading : {E : Type 0} (mode : Mode) (head : Head) (prefixes : Prefixes) (name : Place) (t : Seen) (new : Scans) (answer : Result (Fed Command) E) → head ≡ Loading prefixes name → ((m : Mode) (h : Head) → IfOk answer (IsBegunBy m h 1 (λ more. loading name (Took t ∷ more)) (Took t ∷ []) new)) → IfOk answer (IsBegunBy mode head 1 (λ more. command mode head (Took t ∷ more)) (Took t ∷ []) new)
+first-loading mode head prefixes name t new (Ok answer) e k = rw e (k mode (Loading prefixes name))
+first-loading mode head prefixes name t new (Err error) e k = tt
 
 -- the first of the two tokens behind \futurelet and its name
 second-reads : (mode : Mode) (head : Head) (first : Seen) (new : Scans) (item : Item) (more : List Item) → new.stage ≡ stage.SecondToken → future_second head first (item ∷ more) ≡ command_rest mode head new (ending (held new) (Took first ∷ [])) item more

@@ -1,6 +1,6 @@
 -- The commands, as items at the front of a list (TeX: The Program, part 46 on; The TeXbook, chapters 24 to 26): first the mode, then
 -- what the command takes, by its family.
-use Rattle.std.specs.Prelude.{ℕ, ◌∷◌, [], ◌||◌, Bool, true, false, not, List, Option, Some, None, if◌then◌else◌}
+use Rattle.std.specs.Prelude.{ℕ, pos, ◌∷◌, [], ◌||◌, Bool, true, false, not, List, Option, Some, None, if◌then◌else◌}
 use Rattle.tx_char.specs.declared.category.Cat.{Cat}
 use Rattle.tx_char.specs.declared.category.Cat.TheVariants as category
 use Rattle.tx_prim.specs.declared.family.AfterKind.{AfterKind}
@@ -21,12 +21,16 @@ use Rattle.tx_seen.specs.declared.item.Item.{Item}
 use Rattle.tx_seen.specs.declared.item.Item.TheVariants.{Took, Gave}
 use Rattle.tx_seen.specs.declared.meaning.Meaning.{Meaning}
 use Rattle.tx_seen.specs.declared.meaning.Meaning.TheVariants as meaning
+use Rattle.tx_assign.specs.declared.types.Change.TheVariants as change
+use Rattle.tx_eqtb.specs.declared.entry.Entry.TheVariants as entry
+use Rattle.tx_seen.specs.declared.place.Place.{Place}
 use Rattle.tx_seen.specs.declared.place.Place.TheVariants as place
 use Rattle.tx_seen.specs.declared.seen.Seen.{Seen}
 use Rattle.tx_seen.specs.Seen.{is_space, is_relax}
 use Rattle.tx_seen.specs.Readings.{Reading, More, Done, Wrong, next}
 use Rattle.tx_scan.specs.Dimensions.{dimension, lengths}
-use Rattle.tx_scan.specs.Grammars.{name}
+use Rattle.tx_scan.specs.FileNames.{file_name}
+use Rattle.tx_scan.specs.Grammars.{equals, name}
 use Rattle.tx_scan.specs.Integers.{expanded}
 use Rattle.tx_assign.specs.declared.types.Assigning.{Assigning}
 use Rattle.tx_assign.specs.declared.types.Assigning.TheVariants as assign
@@ -37,11 +41,13 @@ use Rattle.tx_shape.specs.declared.types.Shaping.{Shaping}
 use Rattle.tx_shape.specs.declared.types.Shaping.TheVariants as shape
 use Rattle.tx_shape.specs.declared.types.Shaped.{Shaped}
 use Rattle.tx_shape.specs.declared.types.Shaped.TheVariants as shaped
-use Rattle.tx_shape.specs.Boxes.{shape as shape_of}
+use Rattle.tx_shape.specs.declared.types.FontAsked.{FontAsked}
+use Rattle.tx_shape.specs.Loading.{loading as load}
+use Rattle.tx_shape.specs.Shapes.{shape as shape_of}
 use Rattle.tx_command.specs.declared.types.Command.{Command}
-use Rattle.tx_command.specs.declared.types.Command.TheVariants.{Nothing, Space, Character, BeginGroup, EndGroup, BeginSemiSimple, EndSemiSimple, Prefix, Define, Assign, Sized, Rule, BeginBox, UseBox, CopyBox, LastBox, Unbox, Penalize, Skip, BeginLeaders, SetDepth, End, Interact, DefineMacro, BeginText, DefineFuture, Keep, Remove}
+use Rattle.tx_command.specs.declared.types.Command.TheVariants.{Nothing, Space, Character, BeginGroup, EndGroup, BeginSemiSimple, EndSemiSimple, Prefix, Define, Assign, Sized, Rule, BeginBox, UseBox, CopyBox, LastBox, Unbox, Penalize, Skip, BeginLeaders, SetDepth, End, Interact, DefineMacro, BeginText, DefineFuture, Keep, Remove, ControlSpace, ItalicCorrection, SetFactor, DefineFont, LoadFont, SetFontDimen, SetFontInteger}
 use Rattle.tx_command.specs.declared.types.Head.{Head}
-use Rattle.tx_command.specs.declared.types.Head.TheVariants.{Fresh, Prefixed, Defining, Future, Leading}
+use Rattle.tx_command.specs.declared.types.Head.TheVariants.{Fresh, Prefixed, Defining, Future, Leading, Loading}
 use Rattle.tx_command.specs.declared.types.Prefixes.{Prefixes}
 use Rattle.tx_command.specs.Rules.{plain_rule, rule_sides}
 use Rattle.tx_command.specs.Standing.{may_stand}
@@ -78,6 +84,20 @@ macro_defining kind items = next (name items) (λ defined behind. Done (DefineMa
 abbrev pub future_defining : List Item → Reading Command
 future_defining items = next (name items) (λ defined behind. Done (DefineFuture defined) behind)
 
+-- the name that \font defines; and what stands behind it
+abbrev pub font_defining : List Item → Reading Command
+font_defining items = next (name items) (λ defined behind. Done (DefineFont defined) behind)
+
+abbrev pub load_of : FontAsked → Command
+load_of asked = LoadFont asked.place asked.name asked.size
+
+abbrev pub loading : Place → List Item → Reading Command
+loading defined items = next (load defined items) (λ asked behind. Done (load_of asked) behind)
+
+-- the selection of a font by its number
+abbrev pub selection : ℕ → Command
+selection n = Assign (record { place = place.Font; change = change.Set (entry.Number (pos n)) })
+
 -- the token that is kept for later
 abbrev pub keeping : AfterKind → List Item → Reading Command
 keeping kind [] = More Raw
@@ -102,6 +122,10 @@ command_of (shaped.Unbox kind n) = Unbox kind n
 command_of (shaped.Penalize n) = Penalize n
 command_of (shaped.SetDepth size) = SetDepth size
 command_of (shaped.Skip g) = Skip g
+command_of (shaped.Character code) = Character code
+command_of (shaped.SetFactor n) = SetFactor n
+command_of (shaped.SetFontDimen font n size) = SetFontDimen font n size
+command_of (shaped.SetFontInteger kind font n) = SetFontInteger kind font n
 
 abbrev pub shaping : Shaping → List Item → Reading Command
 shaping what items = next (shape_of what items) (λ s behind. Done (command_of s) behind)
@@ -179,6 +203,14 @@ family_command (primitive.Definition kind) rest = macro_defining kind rest
 family_command (primitive.Text purpose) rest = Done (BeginText purpose) rest
 family_command (primitive.After kind) rest = keeping kind rest
 family_command primitive.FutureLet rest = future_defining rest
+family_command primitive.NullFont rest = Done (selection 0) rest
+family_command primitive.LoadFont rest = font_defining rest
+family_command primitive.FontDimen rest = shaping shape.FontDimen rest
+family_command (primitive.FontInteger kind) rest = shaping (shape.FontInteger kind) rest
+family_command primitive.Char rest = shaping shape.Character rest
+family_command primitive.SpaceFactor rest = shaping shape.Factor rest
+family_command primitive.ItalicCorrection rest = Done ItalicCorrection rest
+family_command primitive.ControlSpace rest = Done ControlSpace rest
 
 -- the command whose first token means this; what is expanded is none, and comes expanded, and what \noexpand held does nothing
 abbrev pub command_meant : Meaning → List Item → Reading Command
@@ -195,6 +227,7 @@ command_meant (meaning.DimenRegister number) rest = assigning (assign.Variable (
 command_meant (meaning.SkipRegister number) rest = assigning (assign.Variable (Standing (place.Skip number))) rest
 command_meant (meaning.MuskipRegister number) rest = assigning (assign.Variable (Standing (place.Muskip number))) rest
 command_meant (meaning.ToksRegister number) rest = assigning (assign.Variable (Standing (place.Toks number))) rest
+command_meant (meaning.Font number) rest = Done (selection number) rest
 
 -- a command that nothing stands before
 abbrev pub fresh_command : Mode → List Item → Reading Command
@@ -209,6 +242,7 @@ prefixes_of (Prefixed prefixes) = prefixes
 prefixes_of (Defining prefixes defined kind) = prefixes
 prefixes_of (Future prefixes defined) = prefixes
 prefixes_of (Leading kind rule) = record { global = false; long = false; outer = false }
+prefixes_of (Loading prefixes defined) = prefixes
 
 -- the leaders that stand before it, with the rule that they repeat
 abbrev pub leaders_before : Head → Option (LeadersKind × Rule_sides)
@@ -258,6 +292,14 @@ is_prefixable prefixes (primitive.Last kind) = false
 is_prefixable prefixes primitive.Badness = false
 is_prefixable prefixes primitive.PrevDepth = not (want_definition prefixes)
 is_prefixable prefixes (primitive.Leaders kind) = false
+is_prefixable prefixes primitive.NullFont = not (want_definition prefixes)
+is_prefixable prefixes primitive.LoadFont = not (want_definition prefixes)
+is_prefixable prefixes primitive.FontDimen = not (want_definition prefixes)
+is_prefixable prefixes (primitive.FontInteger kind) = not (want_definition prefixes)
+is_prefixable prefixes primitive.SpaceFactor = not (want_definition prefixes)
+is_prefixable prefixes primitive.Char = false
+is_prefixable prefixes primitive.ItalicCorrection = false
+is_prefixable prefixes primitive.ControlSpace = false
 
 -- what has no meaning, or is expanded, is let through, since carrying it out is an error of its own
 abbrev pub may_be_prefixed : Prefixes → Meaning → Bool
@@ -271,6 +313,7 @@ may_be_prefixed prefixes (meaning.DimenRegister number) = not (want_definition p
 may_be_prefixed prefixes (meaning.SkipRegister number) = not (want_definition prefixes)
 may_be_prefixed prefixes (meaning.MuskipRegister number) = not (want_definition prefixes)
 may_be_prefixed prefixes (meaning.ToksRegister number) = not (want_definition prefixes)
+may_be_prefixed prefixes (meaning.Font number) = not (want_definition prefixes)
 may_be_prefixed prefixes (meaning.Expandable e) = true
 may_be_prefixed prefixes (meaning.Macro m) = true
 may_be_prefixed prefixes meaning.Held = false
@@ -329,3 +372,22 @@ command mode (Prefixed prefixes) items = prefixed_command prefixes items
 command mode (Defining prefixes defined kind) items = assigning (assign.Named defined kind) items
 command mode (Future prefixes defined) items = future (Future prefixes defined) items
 command mode (Leading kind rule) items = leading_command mode items
+command mode (Loading prefixes defined) items = loading defined items
+
+-- whether a token of a command is taken
+abbrev pub is_begun : List Item → Bool
+is_begun [] = false
+is_begun (item ∷ items) = true
+
+-- whether the name of a file is being read: behind \font, and behind the `=` if there is one (section 1257)
+abbrev pub is_unnamed : {A : Type 0} → Reading A → Bool
+is_unnamed (More want) = true
+is_unnamed other = false
+
+abbrev pub is_named_next : Reading Bool → Bool
+is_named_next (Done found rest) = is_unnamed (file_name rest)
+is_named_next other = false
+
+abbrev pub is_naming : Head → List Item → Bool
+is_naming (Loading prefixes defined) taken = is_named_next (equals taken)
+is_naming other taken = false

@@ -4,3 +4,5 @@ pub mod Commands
 pub mod Rests
 pub mod Begun
 pub mod Taken
+pub mod Naming
+pub mod AtOnce

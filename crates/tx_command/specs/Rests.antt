@@ -17,6 +17,7 @@ use Rattle.tx_scan.specs.declared.scans.KeyScan.{KeyScan}
 use Rattle.tx_scan.specs.Keywords.{rest as key_rest, held as key_held}
 use Rattle.tx_scan.specs.DimensionRests.{rest as dimen_rest, held as dimen_held, more_needed as dimen_needed}
 use Rattle.tx_shape.specs.Rests.{rest as shape_rest, held as shape_held, needed as shape_needed, IsWaiting as IsWaiting_shape}
+use Rattle.tx_shape.specs.LoadRests.{rest as load_rest, held as load_held, needed as load_needed, IsWaiting as IsWaiting_load}
 use Rattle.tx_assign.specs.Rests.{rest as assign_rest, held as assign_held, more_needed as assign_needed, IsWaiting as IsWaiting_assign}
 use Rattle.tx_command.specs.declared.types.Command.{Command}
 use Rattle.tx_command.specs.declared.types.Command.TheVariants.{Assign, Sized, Rule as Rule_command, BeginLeaders}
@@ -29,7 +30,7 @@ use Rattle.tx_command.specs.declared.scans.Scans.{Scans}
 use Rattle.tx_command.specs.declared.scans.Stage.{Stage}
 use Rattle.tx_command.specs.declared.scans.Stage.TheVariants as stage
 use Rattle.tx_command.specs.Rules.{letters_of, side_if, side_or_end, with_side, rule_sides}
-use Rattle.tx_command.specs.Commands.{command, defining, macro_defining, future_defining, future_of, keeping, command_of, leaders_of, skipping}
+use Rattle.tx_command.specs.Commands.{command, defining, macro_defining, font_defining, future_defining, future_of, keeping, command_of, leaders_of, load_of, skipping}
 
 -- the rest of a rule by the part that comes next
 abbrev pub rule_part_rest : RulePart → RuleScan → List Item → Item → List Item → Reading Rule
@@ -94,6 +95,8 @@ stage_rest mode head stage.Assign scans behind item more = next (assign_rest sca
 stage_rest mode head (stage.Name kind) scans behind item more = defining kind (item ∷ more)
 stage_rest mode head (stage.MacroName kind) scans behind item more = macro_defining kind (item ∷ more)
 stage_rest mode head stage.FutureName scans behind item more = future_defining (item ∷ more)
+stage_rest mode head stage.FontName scans behind item more = font_defining (item ∷ more)
+stage_rest mode head stage.Loading scans behind item more = next (load_rest scans.loading behind item more) (λ asked behind. Done (load_of asked) behind)
 stage_rest mode head stage.SecondToken scans behind item more = second_rest head behind item more
 stage_rest mode head (stage.KeptToken kind) scans behind item more = keeping kind (item ∷ more)
 stage_rest mode head (stage.Sized kind) scans behind item more = next (dimen_rest scans.size behind item more) (λ measure behind. Done (Sized kind measure.size) behind)
@@ -113,6 +116,7 @@ stage_held (stage.Sized kind) scans = dimen_held scans.size
 stage_held (stage.Rule kind) scans = rule_held scans.rule
 stage_held (stage.LeadersRule kind) scans = rule_held scans.rule
 stage_held stage.Shape scans = shape_held scans.shape
+stage_held stage.Loading scans = load_held scans.loading
 stage_held stage.SecondToken scans = 1
 stage_held _ scans = 0
 
@@ -127,6 +131,7 @@ stage_needs (stage.Sized kind) scans = dimen_needed scans.size
 stage_needs (stage.Rule kind) scans = rule_needed scans.rule
 stage_needs (stage.LeadersRule kind) scans = rule_needed scans.rule
 stage_needs stage.Shape scans = shape_needed scans.shape
+stage_needs stage.Loading scans = load_needed scans.loading
 stage_needs _ scans = 0
 
 abbrev pub more_needed : Scans → ℕ
@@ -139,6 +144,8 @@ NeedsValues stage.Assign scans = IsWaiting_assign scans.assignment
 NeedsValues (stage.Name kind) scans = ⊥
 NeedsValues (stage.MacroName kind) scans = ⊥
 NeedsValues stage.FutureName scans = ⊥
+NeedsValues stage.FontName scans = ⊥
+NeedsValues stage.Loading scans = IsWaiting_load scans.loading
 NeedsValues stage.SecondToken scans = ⊥
 NeedsValues (stage.KeptToken kind) scans = ⊥
 NeedsValues (stage.Sized kind) scans = Unit {0}

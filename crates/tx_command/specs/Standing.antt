@@ -50,6 +50,7 @@ modes_of_meaning (meaning.DimenRegister number) = All
 modes_of_meaning (meaning.SkipRegister number) = All
 modes_of_meaning (meaning.MuskipRegister number) = All
 modes_of_meaning (meaning.ToksRegister number) = All
+modes_of_meaning (meaning.Font number) = All
 modes_of_meaning (meaning.Expandable e) = All
 modes_of_meaning (meaning.Macro m) = All
 modes_of_meaning meaning.Held = All
@@ -108,6 +109,14 @@ adds_to_list (primitive.Last kind) = false
 adds_to_list primitive.Badness = false
 adds_to_list primitive.PrevDepth = false
 adds_to_list (primitive.Leaders kind) = true
+adds_to_list primitive.NullFont = false
+adds_to_list primitive.LoadFont = false
+adds_to_list primitive.FontDimen = false
+adds_to_list (primitive.FontInteger kind) = false
+adds_to_list primitive.Char = true
+adds_to_list primitive.SpaceFactor = false
+adds_to_list primitive.ItalicCorrection = true
+adds_to_list primitive.ControlSpace = true
 
 -- nothing can be added to the pages' list yet
 abbrev pub is_there : Mode → Meaning → Bool

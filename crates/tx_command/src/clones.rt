@@ -26,6 +26,7 @@ impl Clone for Scans {
             size: self.size.clone()?,
             rule: self.rule.clone()?,
             shape: self.shape.clone()?,
+            loading: self.loading.clone()?,
         })
     }
 }

@@ -38,6 +38,7 @@ impl Kept for Head {
             )),
             Head::Future(prefixes, defined) => Ok(Head::Future(*prefixes, defined.clone()?)),
             Head::Leading(kind, rule) => Ok(Head::Leading(*kind, *rule)),
+            Head::Loading(prefixes, defined) => Ok(Head::Loading(*prefixes, defined.clone()?)),
         }
     }
 
@@ -53,6 +54,9 @@ impl Kept for Head {
             }
             (Head::Leading(one, rule), Head::Leading(other, also)) => {
                 one == other && same_rule(*rule, *also)
+            }
+            (Head::Loading(one, defined), Head::Loading(other, also)) => {
+                one == other && defined.same(also)
             }
             _ => false,
         }

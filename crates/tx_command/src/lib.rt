@@ -6,12 +6,14 @@
 //! worked out by hand and on documents that Knuth's TeX reads alike.
 //!
 //! Read `types`; `standing`, what may stand where; `scans` and `rule`, what is being read; `mapping` and `stage`, what one
-//! token makes of it; `taking`, whole commands; last `clones` and `kept`.
+//! token makes of it; `naming`, whether a file's name is being read; `taking`, whole commands; `at_once`, those that are one token; last `clones` and `kept`.
 #![tactic(auto)]
 
+mod at_once;
 mod clones;
 mod kept;
 mod mapping;
+mod naming;
 mod rule;
 mod scans;
 mod stage;
@@ -19,7 +21,8 @@ mod standing;
 mod taking;
 mod types;
 
+pub use at_once::AtOnce;
 pub use scans::Taken;
 pub use taking::CommandScan;
-pub use tx_shape::{BoxContext, BoxGoal};
+pub use tx_shape::{AskedSize, BoxContext, BoxGoal};
 pub use types::{Command, Head, Prefixes};

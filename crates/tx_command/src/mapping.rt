@@ -10,7 +10,7 @@ use tx_node::Rule;
 use tx_prim::{DefinitionKind, LeadersKind, RuleKind, Shorthand, SizeKind};
 use tx_scan::Measure;
 use tx_seen::{Fed, Place};
-use tx_shape::{BoxContext, BoxRead, Shaped};
+use tx_shape::{BoxContext, BoxRead, FontAsked, Shaped};
 
 /// An assignment.
 pub fn assigned(fed: Fed<Assignment>) -> Fed<Command>
@@ -56,6 +56,33 @@ pub fn future_defined(fed: Fed<Place>) -> Fed<Command>
         Fed::More(want) => Fed::More(want),
         Fed::Need(kind) => Fed::Need(kind),
         Fed::Done(name, back) => Fed::Done(Command::DefineFuture(name), back),
+        Fed::Wrong(error) => Fed::Wrong(error),
+    }
+}
+
+/// The name that \font defines.
+pub fn font_defined(fed: Fed<Place>) -> Fed<Command>
+    ensures { result ≡ mapped Command.DefineFont fed }
+{
+    match fed {
+        Fed::More(want) => Fed::More(want),
+        Fed::Need(kind) => Fed::Need(kind),
+        Fed::Done(name, back) => Fed::Done(Command::DefineFont(name), back),
+        Fed::Wrong(error) => Fed::Wrong(error),
+    }
+}
+
+/// What stands behind that name.
+pub fn loaded(fed: Fed<FontAsked>) -> Fed<Command>
+    ensures { result ≡ mapped commands.load_of fed }
+{
+    match fed {
+        Fed::More(want) => Fed::More(want),
+        Fed::Need(kind) => Fed::Need(kind),
+        Fed::Done(asked, back) => {
+            let FontAsked { place, name, size } = asked;
+            Fed::Done(Command::LoadFont(place, name, size), back)
+        }
         Fed::Wrong(error) => Fed::Wrong(error),
     }
 }
@@ -119,6 +146,12 @@ fn command_of(shaped: Shaped) -> Command
         Shaped::Penalize(penalty) => Command::Penalize(penalty),
         Shaped::SetDepth(depth) => Command::SetDepth(depth),
         Shaped::Skip(glue) => Command::Skip(glue),
+        Shaped::Character(code) => Command::Character(code),
+        Shaped::SetFactor(number) => Command::SetFactor(number),
+        Shaped::SetFontDimen(font, number, size) => Command::SetFontDimen(font, number, size),
+        Shaped::SetFontInteger(kind, font, number) => {
+            Command::SetFontInteger(kind, font, number)
+        }
     }
 }
 

@@ -5,7 +5,7 @@ use tx_node::Rule;
 use tx_prim::{AfterKind, DefinitionKind, LeadersKind, RuleKind, Shorthand, SizeKind};
 use tx_scan::{DimenScan, KeyScan};
 use tx_seen::TexError;
-use tx_shape::ShapeScan;
+use tx_shape::{LoadScan, ShapeScan};
 
 /// The part of a rule that comes next.
 #[derive(Clone, Copy)]
@@ -41,6 +41,10 @@ pub enum Stage {
     MacroName(DefinitionKind),
     /// The name that \futurelet defines.
     FutureName,
+    /// The name that \font defines.
+    FontName,
+    /// What stands behind that name.
+    Loading,
     /// The second of the two tokens behind that.
     SecondToken,
     /// The token that is kept for this.
@@ -67,6 +71,7 @@ pub struct Scans {
     pub size: DimenScan,
     pub rule: RuleScan,
     pub shape: ShapeScan,
+    pub loading: LoadScan,
 }
 
 /// What taking a token to a command gives.

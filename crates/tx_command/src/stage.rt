@@ -8,7 +8,10 @@ ghost use Rattle.tx_assign.specs.Assignments.{assignment};
 ghost use Rattle.tx_command.specs.Commands as commands;
 ghost use Rattle.tx_command.specs.Rests.{command_rest, held, more_needed, Begins, GoesOn, IsBegunBy, IsOn, IsWaiting};
 
-use crate::mapping::{assigned, defined, future_defined, led, macro_defined, ruled, shaped, sized};
+use crate::mapping::{
+    assigned, defined, font_defined, future_defined, led, loaded, macro_defined, ruled, shaped,
+    sized,
+};
 use crate::scans::{RuleScan, Scans, Stage};
 use crate::standing::{may_be_prefixed, may_stand};
 use crate::types::{Command, Head, Prefixes};
@@ -19,7 +22,7 @@ use tx_eqtb::Entry;
 use tx_prim::{AfterKind, GlueForm, LeadersKind, Mode, Primitive, RuleKind, Shorthand, SizeKind};
 use tx_scan::{DimenScan, NameScan};
 use tx_seen::{Fed, Meaning, Place, Seen, TexError, Value, Want};
-use tx_shape::{ShapeScan, Shaping};
+use tx_shape::{LoadScan, ShapeScan, Shaping};
 
 /// Whether a token that means this is one that \noexpand holds.
 fn is_held(meaning: &Meaning) -> bool
@@ -64,9 +67,10 @@ fn feed_second(head: &Head, token: &Seen) -> Result<Fed<Command>, AllocError>
             }),
             2,
         )),
-        Head::Fresh | Head::Prefixed(_) | Head::Defining(_, _, _) | Head::Leading(_, _) => {
+        Head::Fresh | Head::Prefixed(_) | Head::Defining(_, _, _) => {
             Ok(Fed::Done(Command::Nothing, 2))
         }
+        Head::Leading(_, _) | Head::Loading(_, _) => Ok(Fed::Done(Command::Nothing, 2)),
     }
 }
 
@@ -94,6 +98,16 @@ fn leading_glue(mode: Mode, meaning: &Meaning) -> Option<GlueForm>
     }
 }
 
+/// The selection of the font of this number.
+fn selection(number: u8) -> Command
+    ensures { result ≡ commands.selection number }
+{
+    Command::Assign(Assignment {
+        place: Place::Font,
+        change: Change::Set(Entry::Number(i32::from(number))),
+    })
+}
+
 impl Scans {
     /// The scans of a command of which nothing is read. They take no memory.
     pub(crate) fn new(alloc: Global) -> Scans
@@ -105,6 +119,7 @@ impl Scans {
             size: DimenScan::new(alloc, false, false),
             rule: RuleScan::new(alloc),
             shape: ShapeScan::new(alloc),
+            loading: LoadScan::new(alloc),
         }
     }
 
@@ -126,6 +141,8 @@ impl Scans {
             Stage::Name(kind) => Ok(defined(kind, NameScan::new().feed(token)?)),
             Stage::MacroName(kind) => Ok(macro_defined(kind, NameScan::new().feed(token)?)),
             Stage::FutureName => Ok(future_defined(NameScan::new().feed(token)?)),
+            Stage::FontName => Ok(font_defined(NameScan::new().feed(token)?)),
+            Stage::Loading => Ok(loaded(self.loading.feed(token)?)),
             Stage::SecondToken => feed_second(head, token),
             Stage::KeptToken(kind) => feed_kept(kind, token),
             Stage::Sized(kind) => Ok(sized(kind, self.size.feed(token)?)),
@@ -150,6 +167,8 @@ impl Scans {
             Stage::Rule(kind) => Ok(ruled(kind, self.rule.give(value, behind)?)),
             Stage::LeadersRule(kind) => Ok(led(kind, self.rule.give(value, behind)?)),
             Stage::Shape => Ok(shaped(self.shape.give(value, behind)?)),
+            Stage::Loading => Ok(loaded(self.loading.give(value)?)),
+            Stage::FontName => unreachable!(),
             Stage::Start | Stage::Name(_) | Stage::MacroName(_) => unreachable!(),
             Stage::FutureName | Stage::SecondToken | Stage::KeptToken(_) => unreachable!(),
             Stage::Spaces | Stage::Leaders(_) => unreachable!(),
@@ -171,6 +190,7 @@ impl Scans {
             Head::Defining(_, name, kind) => self.feed_defining(name, *kind, token),
             Head::Future(_, _) => Ok(self.on(Stage::SecondToken, Want::Raw)),
             Head::Leading(_, _) => Ok(self.feed_leading(mode, token)),
+            Head::Loading(_, name) => self.feed_loading(name, token),
         }
     }
 
@@ -249,6 +269,14 @@ impl Scans {
         Ok(assigned(self.assignment.feed(token)?))
     }
 
+    /// The first token behind a name that \font defines. Its only error is want of memory.
+    fn feed_loading(&mut self, name: &Place, token: &Seen) -> Result<Fed<Command>, AllocError>
+        ensures { (mode : Mode) (head : Head) → IfOk result (IsBegunBy mode head 1 (λ more. commands.loading name.now (Took token.now ∷ more)) (Took token.now ∷ []) self.new) }
+    {
+        self.stage = Stage::Loading;
+        Ok(loaded(self.loading.begin(name.clone()?, token)?))
+    }
+
     /// The command whose first token means this.
     fn begin(&mut self, meaning: &Meaning) -> Fed<Command>
         ensures { Begins (commands.command_meant meaning.now) self.new result }
@@ -267,6 +295,7 @@ impl Scans {
             Meaning::SkipRegister(number) => self.begin_place(Place::Skip(*number)),
             Meaning::MuskipRegister(number) => self.begin_place(Place::Muskip(*number)),
             Meaning::ToksRegister(number) => self.begin_place(Place::Toks(*number)),
+            Meaning::Font(number) => Fed::Done(selection(*number), 0),
         }
     }
 
@@ -318,6 +347,14 @@ impl Scans {
             Primitive::Text(purpose) => Fed::Done(Command::BeginText(purpose), 0),
             Primitive::After(kind) => self.on(Stage::KeptToken(kind), Want::Raw),
             Primitive::FutureLet => self.on(Stage::FutureName, Want::Raw),
+            Primitive::NullFont => Fed::Done(selection(0), 0),
+            Primitive::LoadFont => self.on(Stage::FontName, Want::Raw),
+            Primitive::FontDimen => self.begin_shape(Shaping::FontDimen),
+            Primitive::FontInteger(kind) => self.begin_shape(Shaping::FontInteger(kind)),
+            Primitive::Char => self.begin_shape(Shaping::Character),
+            Primitive::SpaceFactor => self.begin_shape(Shaping::Factor),
+            Primitive::ItalicCorrection => Fed::Done(Command::ItalicCorrection, 0),
+            Primitive::ControlSpace => Fed::Done(Command::ControlSpace, 0),
         }
     }
 

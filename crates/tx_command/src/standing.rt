@@ -34,7 +34,7 @@ fn modes_of_meaning(meaning: &Meaning) -> Modes
     match meaning {
         Meaning::Undefined | Meaning::CountRegister(_) | Meaning::DimenRegister(_) => Modes::All,
         Meaning::SkipRegister(_) | Meaning::MuskipRegister(_) => Modes::All,
-        Meaning::ToksRegister(_) => Modes::All,
+        Meaning::ToksRegister(_) | Meaning::Font(_) => Modes::All,
         Meaning::Command(primitive) => primitive.modes(),
         Meaning::Character(_, category) => modes_of_category(*category),
         Meaning::CharacterNumber(_) => Modes::NotVertical,
@@ -74,6 +74,7 @@ fn adds_to_list(primitive: Primitive) -> bool
         Primitive::Shift(_) | Primitive::Unbox(_) => true,
         Primitive::HorizontalGlue(_) | Primitive::VerticalGlue(_) | Primitive::Leaders(_) => true,
         Primitive::Penalty => true,
+        Primitive::Char | Primitive::ItalicCorrection | Primitive::ControlSpace => true,
         Primitive::Text(purpose) => adds_text(purpose),
         Primitive::Relax
         | Primitive::EndCsName
@@ -100,7 +101,12 @@ fn adds_to_list(primitive: Primitive) -> bool
         | Primitive::Remove(_)
         | Primitive::Last(_)
         | Primitive::Badness
-        | Primitive::PrevDepth => false,
+        | Primitive::PrevDepth
+        | Primitive::NullFont
+        | Primitive::LoadFont
+        | Primitive::FontDimen
+        | Primitive::FontInteger(_)
+        | Primitive::SpaceFactor => false,
     }
 }
 
@@ -155,7 +161,12 @@ fn is_prefixable(prefixes: Prefixes, primitive: Primitive) -> bool
         | Primitive::Tokens(_)
         | Primitive::Interaction(_)
         | Primitive::SetBox
-        | Primitive::PrevDepth => !want_definition(prefixes),
+        | Primitive::PrevDepth
+        | Primitive::NullFont
+        | Primitive::LoadFont
+        | Primitive::FontDimen
+        | Primitive::FontInteger(_)
+        | Primitive::SpaceFactor => !want_definition(prefixes),
         Primitive::Relax
         | Primitive::EndCsName
         | Primitive::Par
@@ -178,7 +189,10 @@ fn is_prefixable(prefixes: Prefixes, primitive: Primitive) -> bool
         | Primitive::Remove(_)
         | Primitive::Last(_)
         | Primitive::Badness
-        | Primitive::Leaders(_) => false,
+        | Primitive::Leaders(_)
+        | Primitive::Char
+        | Primitive::ItalicCorrection
+        | Primitive::ControlSpace => false,
     }
 }
 
@@ -191,7 +205,7 @@ pub fn may_be_prefixed(prefixes: Prefixes, meaning: &Meaning) -> bool
         Meaning::Undefined => true,
         Meaning::CountRegister(_) | Meaning::DimenRegister(_) => !want_definition(prefixes),
         Meaning::SkipRegister(_) | Meaning::MuskipRegister(_) => !want_definition(prefixes),
-        Meaning::ToksRegister(_) => !want_definition(prefixes),
+        Meaning::ToksRegister(_) | Meaning::Font(_) => !want_definition(prefixes),
         Meaning::Command(primitive) => is_prefixable(prefixes, *primitive),
         Meaning::Character(_, _) | Meaning::CharacterNumber(_) | Meaning::MathNumber(_) => false,
         Meaning::Expandable(_) | Meaning::Macro(_) => true,

@@ -13,6 +13,7 @@ ghost use Rattle.tx_seen.specs.Magnified.{magnification_in};
 ghost use Rattle.tx_command.specs.Rests.{command_rest, held, more_needed, GoesOn, IsOn, IsWaiting};
 ghost use Rattle.tx_command.specs.Taken.{joined, IsEnd, IsPending, IsSettled, IsTaken};
 
+use crate::naming::is_naming;
 use crate::scans::{Scans, Stage, Taken};
 use crate::types::{Command, Head, Prefixes};
 use std::alloc::{AllocError, Global};
@@ -89,6 +90,7 @@ impl CommandScan {
             },
             Head::Prefixed(prefixes) | Head::Defining(prefixes, _, _) | Head::Future(prefixes, _) =>
                 *prefixes,
+            Head::Loading(prefixes, _) => *prefixes,
         }
     }
 
@@ -99,6 +101,25 @@ impl CommandScan {
         match &self.head {
             Head::Leading(kind, rule) => Some((*kind, *rule)),
             Head::Fresh | Head::Prefixed(_) | Head::Defining(_, _, _) | Head::Future(_, _) => None,
+            Head::Loading(_, _) => None,
+        }
+    }
+
+    /// Whether a token of the command is taken.
+    pub fn is_begun(&self) -> bool
+        ensures { result ≡ commands.is_begun self.now.taken }
+    {
+        !self.taken.is_empty()
+    }
+
+    /// Whether the name of a file is being read, which an \input ends.
+    pub fn is_naming(&self) -> bool
+        ensures { result ≡ commands.is_naming self.now.head self.now.taken }
+    {
+        match &self.head {
+            Head::Loading(_, _) => is_naming(self.taken.as_slice()),
+            Head::Fresh | Head::Prefixed(_) | Head::Defining(_, _, _) => false,
+            Head::Future(_, _) | Head::Leading(_, _) => false,
         }
     }
 
@@ -143,7 +164,7 @@ impl CommandScan {
     }
 
     /// Whether nothing stands before the command.
-    fn is_fresh(&self) -> bool
+    pub fn is_fresh(&self) -> bool
         ensures { IsTrue result ↔ (self.now.head ≡ Head.Fresh) }
     {
         matches!(self.head, Head::Fresh)
@@ -208,7 +229,7 @@ fn begun_want(head: &Head) -> Want
 {
     match head {
         Head::Fresh | Head::Prefixed(_) | Head::Defining(_, _, _) => Want::Expanded,
-        Head::Leading(_, _) => Want::Expanded,
+        Head::Leading(_, _) | Head::Loading(_, _) => Want::Expanded,
         Head::Future(_, _) => Want::Raw,
     }
 }

@@ -1,14 +1,15 @@
 //! What commands are, once they are read whole, and what may stand before them.
 use tx_assign::Assignment;
+use tx_bytes::Bytes;
 use tx_char::Token;
 use tx_node::Rule;
 use tx_num::Glue;
 use tx_prim::{
-    AfterKind, BoxKind, DefinitionKind, Interaction, ItemKind, LeadersKind, Prefix, RuleKind,
-    Shorthand, SizeKind, TextUse, UnboxKind,
+    AfterKind, BoxKind, DefinitionKind, FontNumber, Interaction, ItemKind, LeadersKind, Prefix,
+    RuleKind, Shorthand, SizeKind, TextUse, UnboxKind,
 };
-use tx_seen::Place;
-use tx_shape::{BoxContext, BoxGoal};
+use tx_seen::{FontName, Place};
+use tx_shape::{AskedSize, BoxContext, BoxGoal};
 
 /// A side of a rule.
 #[derive(Clone, Copy, PartialEq, Eq)]
@@ -39,6 +40,8 @@ pub enum Head {
     Future(Prefixes, Place),
     /// \leaders or its kin and the rule that they repeat: glue is to follow.
     Leading(LeadersKind, Rule),
+    /// \font, with its prefixes and the name that it defines: which font that is to mean is to follow.
+    Loading(Prefixes, Place),
 }
 
 /// A command with all that belongs to it.
@@ -85,6 +88,21 @@ pub enum Command {
     BeginLeaders(LeadersKind, Rule),
     /// An assignment to `\prevdepth`, in sp.
     SetDepth(i32),
+    /// `\ `.
+    ControlSpace,
+    /// `\/`.
+    ItalicCorrection,
+    /// An assignment to `\spacefactor`.
+    SetFactor(i32),
+    /// `\font` and the name that it defines.
+    DefineFont(Place),
+    /// What stands behind that name: the name of the file, as it is written, of the font that the name at this place is to mean, and
+    /// the size at which that is used.
+    LoadFont(Place, Bytes, AskedSize),
+    /// An assignment to the `\fontdimen` of this number of a font, in sp.
+    SetFontDimen(FontName, u16, i32),
+    /// An assignment to `\hyphenchar` or `\skewchar` of a font.
+    SetFontInteger(FontNumber, FontName, i32),
     /// `\end`.
     End,
     /// `\batchmode` and its kin, assignments that nothing comes of.

@@ -1,6 +1,6 @@
 use Rattle.std.proofs.Common.{refl, ap, ◌∙◌}
 use Rattle.tx_seen.specs.declared.fed.Want.TheVariants.{Raw}
-use Rattle.tx_command.proofs.Stages.{future-begun, kept-begun, leaders-begun, macro-begun, name-begun, size-begun, rule-begun, spaces-begun}
+use Rattle.tx_command.proofs.Stages.{font-begun, future-begun, kept-begun, leaders-begun, macro-begun, name-begun, size-begun, rule-begun, spaces-begun}
 use Rattle.tx_command.proofs.scans.Scans.begin_primitive.Goals as goal
 
 pub returns-in-Let : goal.returns-in-Let
@@ -82,3 +82,18 @@ returns-in-Penalty c = rw c.in-Penalty.is c.begin_shape-in-Penalty.ensures
 
 pub returns-in-PrevDepth : goal.returns-in-PrevDepth
 returns-in-PrevDepth c = rw c.in-PrevDepth.is c.begin_shape-in-PrevDepth.ensures
+
+pub returns-in-FontDimen : goal.returns-in-FontDimen
+returns-in-FontDimen c = rw c.in-FontDimen.is c.begin_shape-in-FontDimen.ensures
+
+pub returns-in-FontInteger : goal.returns-in-FontInteger
+returns-in-FontInteger c = rw c.in-FontInteger.is c.begin_shape-in-FontInteger.ensures
+
+pub returns-in-Char : goal.returns-in-Char
+returns-in-Char c = rw c.in-Char.is c.begin_shape-in-Char.ensures
+
+pub returns-in-SpaceFactor : goal.returns-in-SpaceFactor
+returns-in-SpaceFactor c = rw c.in-SpaceFactor.is c.begin_shape-in-SpaceFactor.ensures
+
+pub returns-in-LoadFont : goal.returns-in-LoadFont
+returns-in-LoadFont c = rw (c.in-LoadFont.is, c.on-in-LoadFont.ensures.answer) (font-begun c.on-in-LoadFont.new.self (ap (λ scans. scans.stage) c.on-in-LoadFont.ensures.scans))

@@ -4,11 +4,12 @@ use Rattle.tx_scan.specs.DimensionRests.{rest as dimen_rest, held as dimen_held,
 use Rattle.tx_scan.specs.GrammarRests.{held_none, name_rest}
 use Rattle.tx_assign.specs.Rests.{rest as assign_rest, held as assign_held}
 use Rattle.tx_command.specs.declared.scans.Stage.TheVariants as stage
-use Rattle.tx_command.specs.declared.types.Command.TheVariants.{Assign, BeginLeaders, Define, DefineFuture, DefineMacro, Sized, Rule}
+use Rattle.tx_command.specs.declared.types.Command.TheVariants.{Assign, BeginLeaders, Define, DefineFont, DefineFuture, DefineMacro, Sized, Rule}
 use Rattle.tx_shape.specs.Rests.{rest as shape_rest, held as shape_held}
-use Rattle.tx_command.specs.Commands.{command_of}
+use Rattle.tx_shape.specs.LoadRests.{rest as load_rest, held as load_held}
+use Rattle.tx_command.specs.Commands.{command_of, load_of}
 use Rattle.tx_command.specs.Rests.{rule_rest, rule_held}
-use Rattle.tx_command.proofs.Stages.{part-fed, part-needs, part-goes, size-needs, size-goes, rule-needs, rule-goes, led-needs, led-goes, leaders-fed, leaders-needs, assign-needs, assign-goes, start-fed, start-needs, start-goes, shape-needs, shape-goes, space-fed, end-goes, end-needs, kept-fed, second-fed}
+use Rattle.tx_command.proofs.Stages.{part-fed, part-needs, part-goes, size-needs, size-goes, rule-needs, rule-goes, led-needs, led-goes, leaders-fed, leaders-needs, assign-needs, assign-goes, start-fed, start-needs, start-goes, shape-needs, shape-goes, load-needs, load-goes, space-fed, end-goes, end-needs, kept-fed, second-fed}
 use Rattle.tx_scan.proofs.Mosts.{most-size}
 use Rattle.tx_scan.proofs.Behind.{fed-one}
 use Rattle.tx_command.proofs.scans.Scans.feed.Goals as goal
@@ -161,3 +162,27 @@ returns-in_ok-feed-in-Shape-clause-needs c = rw c.shaped.ensures (shape-needs c.
 
 pub returns-in_ok-feed-in-Shape-clause-on : goal.returns-in_ok-feed-in-Shape-clause-on
 returns-in_ok-feed-in-Shape-clause-on c = rw c.shaped.ensures (shape-goes _ c.in_ok-feed-in-Shape.field-0 c.in-Shape.is c.in_ok-feed-in-Shape.ensures.waits)
+
+pub returns-in_ok-feed-in-FontName-clause-fed : goal.returns-in_ok-feed-in-FontName-clause-fed
+returns-in_ok-feed-in-FontName-clause-fed c =
+    rw c.font_defined.ensures
+    (part-fed name_rest held_none DefineFont stage.FontName c.args.mode c.args.head.now c.new-in-FontName.result c.feed-in-FontName.new.self c.args.self.now _ c.args.token.now c.in_ok-feed-in-FontName.field-0 c.in-FontName.is c.in-FontName.is
+    (λ behind item more. refl) refl (λ behind item more. refl) refl c.in_ok-feed-in-FontName.ensures.part)
+
+pub returns-in_ok-feed-in-FontName-clause-needs : goal.returns-in_ok-feed-in-FontName-clause-needs
+returns-in_ok-feed-in-FontName-clause-needs c = part-needs c.args.self.now c.args.self.now c.font_defined.result (rw c.in-FontName.is refl)
+
+pub returns-in_ok-feed-in-FontName-clause-on : goal.returns-in_ok-feed-in-FontName-clause-on
+returns-in_ok-feed-in-FontName-clause-on c = rw c.font_defined.ensures (part-goes DefineFont stage.FontName c.args.self.now c.in_ok-feed-in-FontName.field-0 c.in-FontName.is tt c.in_ok-feed-in-FontName.ensures.nothing)
+
+pub returns-in_ok-feed-in-Loading-clause-fed : goal.returns-in_ok-feed-in-Loading-clause-fed
+returns-in_ok-feed-in-Loading-clause-fed c =
+    rw c.loaded.ensures
+    (part-fed load_rest load_held load_of stage.Loading c.args.mode c.args.head.now c.args.self.now.loading c.feed-in-Loading.new.self c.args.self.now _ c.args.token.now c.in_ok-feed-in-Loading.field-0 c.in-Loading.is c.in-Loading.is
+    (λ behind item more. refl) refl (λ behind item more. refl) refl c.in_ok-feed-in-Loading.ensures.fed)
+
+pub returns-in_ok-feed-in-Loading-clause-needs : goal.returns-in_ok-feed-in-Loading-clause-needs
+returns-in_ok-feed-in-Loading-clause-needs c = rw c.loaded.ensures (load-needs c.args.self.now _ c.in_ok-feed-in-Loading.field-0 c.in-Loading.is c.in-Loading.is c.in_ok-feed-in-Loading.ensures.needs)
+
+pub returns-in_ok-feed-in-Loading-clause-on : goal.returns-in_ok-feed-in-Loading-clause-on
+returns-in_ok-feed-in-Loading-clause-on c = rw c.loaded.ensures (load-goes _ c.in_ok-feed-in-Loading.field-0 c.in-Loading.is c.in_ok-feed-in-Loading.ensures.waits)

@@ -1,5 +1,5 @@
 use Rattle.std.proofs.Common.{ap}
-use Rattle.tx_command.proofs.Stages.{first-fresh, first-prefixed, first-defining, first-future, first-leading}
+use Rattle.tx_command.proofs.Stages.{first-fresh, first-prefixed, first-defining, first-future, first-leading, first-loading}
 use Rattle.tx_command.proofs.scans.Scans.feed_first.Goals as goal
 
 pub returns-in-Fresh : goal.returns-in-Fresh
@@ -16,3 +16,6 @@ returns-in-Leading c = first-leading c.args.mode c.args.head.now _ _ c.args.toke
 
 pub returns-in-Future : goal.returns-in-Future
 returns-in-Future c = rw c.on.ensures.answer (first-future c.args.mode c.args.head.now _ _ c.args.token.now c.on.new.self c.in-Future.is (ap (λ scans. scans.stage) c.on.ensures.scans))
+
+pub returns-in-Loading : goal.returns-in-Loading
+returns-in-Loading c = first-loading c.args.mode c.args.head.now _ c.in-Loading.name c.args.token.now c.feed_loading.new.self c.feed_loading.result c.in-Loading.is c.feed_loading.ensures

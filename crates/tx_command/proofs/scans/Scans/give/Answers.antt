@@ -4,10 +4,11 @@ use Rattle.tx_assign.specs.Rests.{rest as assign_rest, held as assign_held}
 use Rattle.tx_command.specs.declared.scans.Stage.TheVariants as stage
 use Rattle.tx_command.specs.declared.types.Command.TheVariants.{Assign, BeginLeaders, Sized, Rule}
 use Rattle.tx_shape.specs.Rests.{rest as shape_rest, held as shape_held}
-use Rattle.tx_command.specs.Commands.{command_of}
+use Rattle.tx_shape.specs.LoadRests.{rest as load_rest, held as load_held}
+use Rattle.tx_command.specs.Commands.{command_of, load_of}
 use Rattle.tx_command.specs.Rests.{rule_rest, rule_held}
 use Rattle.tx_scan.proofs.Behind.{given-behind, given-one}
-use Rattle.tx_command.proofs.Stages.{part-behind, assign-fewer, assign-goes, size-fewer, size-goes, rule-fewer, rule-goes, led-fewer, led-goes, shape-fewer, shape-goes}
+use Rattle.tx_command.proofs.Stages.{part-behind, assign-fewer, assign-goes, size-fewer, size-goes, rule-fewer, rule-goes, led-fewer, led-goes, shape-fewer, shape-goes, load-fewer, load-goes}
 use Rattle.tx_command.proofs.scans.Scans.give.Goals as goal
 
 pub returns-in_ok-give-in-Assign-clause-given : goal.returns-in_ok-give-in-Assign-clause-given
@@ -75,3 +76,15 @@ returns-in_ok-give-in-Shape-clause-needs c = rw c.shaped.ensures (shape-fewer c.
 
 pub returns-in_ok-give-in-Shape-clause-on : goal.returns-in_ok-give-in-Shape-clause-on
 returns-in_ok-give-in-Shape-clause-on c = rw c.shaped.ensures (shape-goes _ c.in_ok-give-in-Shape.field-0 c.in-Shape.is c.in_ok-give-in-Shape.ensures.waits)
+
+pub returns-in_ok-give-in-Loading-clause-given : goal.returns-in_ok-give-in-Loading-clause-given
+returns-in_ok-give-in-Loading-clause-given c = λ mode head.
+    rw c.loaded.ensures
+    (part-behind load_rest load_held load_of stage.Loading mode head c.args.self.now.loading c.give-in-Loading.new.self c.args.self.now _ c.args.value.now c.args.behind.now c.in_ok-give-in-Loading.field-0 c.in-Loading.is c.in-Loading.is
+    (λ behind item more. refl) refl (λ behind item more. refl) refl (c.in_ok-give-in-Loading.ensures.given c.args.behind.now))
+
+pub returns-in_ok-give-in-Loading-clause-needs : goal.returns-in_ok-give-in-Loading-clause-needs
+returns-in_ok-give-in-Loading-clause-needs c = rw c.loaded.ensures (load-fewer c.args.self.now _ c.in_ok-give-in-Loading.field-0 c.in-Loading.is c.in-Loading.is c.in_ok-give-in-Loading.ensures.needs)
+
+pub returns-in_ok-give-in-Loading-clause-on : goal.returns-in_ok-give-in-Loading-clause-on
+returns-in_ok-give-in-Loading-clause-on c = rw c.loaded.ensures (load-goes _ c.in_ok-give-in-Loading.field-0 c.in-Loading.is c.in_ok-give-in-Loading.ensures.waits)
