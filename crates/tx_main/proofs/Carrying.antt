@@ -37,7 +37,7 @@ boxed-forgets s lists table (Ok ended) = refl
 boxed-forgets s lists table (Err error) = refl
 
 -- the same outcome after a state that has said the same
-outcome-by : {E : Type 0} (one other : Outcome) (before between new : State) (answer : Result Event E) → one ≡ other → between.said ≡ before.said → IfOk answer (λ event. IsStepped one between event new) → IfOk answer (λ event. IsStepped other before event new)
+pub outcome-by : {E : Type 0} (one other : Outcome) (before between new : State) (answer : Result Event E) → one ≡ other → between.said ≡ before.said → IfOk answer (λ event. IsStepped one between event new) → IfOk answer (λ event. IsStepped other before event new)
 outcome-by one other before between new (Ok event) same said did =
     record { event_is = rw (sym same) did.event_is; state_is = rw (sym same) did.state_is; said_is = rw (sym same, sym said) did.said_is }
 outcome-by one other before between new (Err e) same said did = tt

@@ -6,3 +6,7 @@ pub mod Closing
 pub mod Turning
 pub mod Carrying
 pub mod Defining
+pub mod AtOnce
+pub mod Loads
+pub mod Collects
+pub mod Assigns

@@ -9,6 +9,7 @@ use Rattle.tx_pending.specs.Elements.{no_input}
 use Rattle.tx_prim.specs.declared.modes.Mode.TheVariants.{Vertical}
 use Rattle.tx_state.specs.declared.parts.Due.TheVariants.{OpenMain}
 use Rattle.tx_state.specs.State.{TexState}
+use Rattle.tx_tfm.specs.Fonts.{no_fonts}
 use Rattle.tx_main.specs.Pages.{moment_of}
 
 -- the first state of a run: the main file is to be asked for, and nothing is to be read yet
@@ -22,8 +23,10 @@ first_state date main = record {
   head = Fresh;
   taken = [];
   lists = first_lists;
+  words = record { fonts = no_fonts; word = None };
   table = record { table = initial_table (moment_of date); groups = [] };
   after_groups = [];
   after_assignment = None;
   magnification = None;
+  defined = [];
 }

@@ -1,5 +1,5 @@
 -- What each command does, once it is whole (TeX: The Program, parts 45 to 49): a line for each family.
-use Rattle.std.specs.Prelude.{ℕ, ℤ, Bool, true, false, ◌||◌, ◌==◌, nat_lt, List, [], ◌∷◌, ◌++◌, length, map, Option, Some, None, Result, Ok, Err, codes, decimal, if◌then◌else◌}
+use Rattle.std.specs.Prelude.{ℕ, ℤ, Bool, true, false, ◌||◌, ◌&&◌, ◌==◌, nat_lt, nat_le, List, [], ◌∷◌, ◌++◌, length, map, Option, Some, None, Result, Ok, Err, codes, if◌then◌else◌}
 use Rattle.tx_char.specs.declared.tokens.Token.{Token}
 use Rattle.tx_node.specs.declared.plain.KernKind.TheVariants.{Explicit}
 use Rattle.tx_node.specs.declared.plain.Plain.TheVariants as small
@@ -12,7 +12,7 @@ use Rattle.tx_node.specs.Items.{Item, plain, shared}
 use Rattle.tx_nest.specs.declared.list.ModeList.{ModeList}
 use Rattle.tx_nest.specs.Appended.{rule_appended}
 use Rattle.tx_nest.specs.Changed as list
-use Rattle.tx_nest.specs.Lasts.{no_glue}
+use Rattle.tx_nest.specs.Factors.{factor_of}
 use Rattle.tx_nest.specs.States.{mode_of}
 use Rattle.tx_eqtb.specs.declared.eqtb.Eqtb.{Eqtb}
 use Rattle.tx_eqtb.specs.declared.groups.GroupKind.{GroupKind}
@@ -29,33 +29,41 @@ use Rattle.tx_prim.specs.declared.family.DefinitionKind.{DefinitionKind}
 use Rattle.tx_prim.specs.declared.family.ItemKind.{ItemKind}
 use Rattle.tx_prim.specs.declared.family.LeadersKind.{LeadersKind}
 use Rattle.tx_prim.specs.declared.family.LeadersKind.TheVariants as leaders
-use Rattle.tx_prim.specs.declared.integer.IntegerParameter.TheVariants.{Globaldefs}
+use Rattle.tx_prim.specs.declared.integer.IntegerParameter.TheVariants.{Defaulthyphenchar, Defaultskewchar, Globaldefs}
 use Rattle.tx_prim.specs.declared.family.TextUse.{TextUse}
 use Rattle.tx_prim.specs.declared.family.TextUse.TheVariants as purposes
-use Rattle.tx_prim.specs.declared.primitive.Primitive.TheVariants.{Relax}
+use Rattle.tx_prim.specs.declared.primitive.Primitive.TheVariants.{NullFont, Relax}
 use Rattle.tx_prim.specs.declared.family.Prefix.{Prefix as APrefix}
 use Rattle.tx_prim.specs.declared.family.Prefix.TheVariants.{Global, Long, Outer}
 use Rattle.tx_prim.specs.declared.family.SizeKind.TheVariants.{Kern}
-use Rattle.tx_prim.specs.declared.modes.Mode.{Mode}
-use Rattle.tx_prim.specs.declared.modes.Mode.TheVariants as mode
 use Rattle.tx_seen.specs.declared.error.TexError.{TexError}
-use Rattle.tx_seen.specs.declared.error.TexError.TheVariants.{MissingBox, ExtraGroupEnd, TooManyGroups, ErrorMessage}
-use Rattle.tx_seen.specs.declared.meaning.Meaning.TheVariants.{Macro, Command as Command_meaning}
+use Rattle.tx_seen.specs.declared.error.TexError.TheVariants.{BadFont, MissingBox, ExtraGroupEnd, TooManyGroups, ErrorMessage, NotAllowed, NumberOutOfRange}
+use Rattle.tx_seen.specs.declared.place.FontName.{FontName}
+use Rattle.tx_seen.specs.declared.place.FontName.TheVariants.{Current, Number}
+use Rattle.tx_seen.specs.declared.meaning.Meaning.{Meaning}
+use Rattle.tx_seen.specs.declared.meaning.Meaning.TheVariants.{Font, Macro, Command as Command_meaning}
 use Rattle.tx_seen.specs.declared.place.Place.{Place}
 use Rattle.tx_seen.specs.declared.place.Place.TheVariants.{Name, Tokens}
 use Rattle.tx_assign.specs.declared.types.Assignment.{Assignment}
 use Rattle.tx_assign.specs.declared.types.Change.{Change}
 use Rattle.tx_assign.specs.declared.types.Change.TheVariants.{Set, Compute, Add, Copy, Text}
 use Rattle.tx_assign.specs.Changes.{carried_out, is_global as globally, relaxed, with_text}
+use Rattle.tx_tfm.specs.declared.named.NamedFont.{NamedFont}
+use Rattle.tx_tfm.specs.declared.state.FontState.{FontState}
+use Rattle.tx_tfm.specs.Fonts.{found, loaded_state, with_font_integer, with_font_parameter}
+use Rattle.tx_tfm.specs.Metrics.{metrics_of}
+use Rattle.tx_tfm.specs.Rules.{first_broken}
+use Rattle.tx_machine.specs.declared.types.Ask.TheVariants.{Whole}
 use Rattle.tx_text.specs.Definitions.{Defining as Defined_text}
 use Rattle.tx_toklist.specs.Macros.{Definition}
 use Rattle.tx_toklist.specs.Text.{printed}
 use Rattle.tx_command.specs.declared.types.Command.{Command}
-use Rattle.tx_command.specs.declared.types.Command.TheVariants.{Nothing, Space, Character, BeginGroup, EndGroup, BeginSemiSimple, EndSemiSimple, Prefix, Define, Assign, Sized, Rule, BeginBox, UseBox, CopyBox, LastBox, Unbox, Penalize, Remove, Skip, BeginLeaders, SetDepth, End, Interact, DefineMacro, BeginText, DefineFuture, Keep}
+use Rattle.tx_shape.specs.Loading.{size_asked}
+use Rattle.tx_command.specs.declared.types.Command.TheVariants.{Nothing, Space, ControlSpace, Character, ItalicCorrection, SetFactor, DefineFont, LoadFont, SetFontDimen, SetFontInteger, BeginGroup, EndGroup, BeginSemiSimple, EndSemiSimple, Prefix, Define, Assign, Sized, Rule, BeginBox, UseBox, CopyBox, LastBox, Unbox, Penalize, Remove, Skip, BeginLeaders, SetDepth, End, Interact, DefineMacro, BeginText, DefineFuture, Keep}
 use Rattle.tx_shape.specs.declared.types.BoxContext.{BoxContext}
 use Rattle.tx_shape.specs.declared.types.BoxContext.TheVariants.{Append, Register, Ship}
 use Rattle.tx_command.specs.declared.types.Head.{Head}
-use Rattle.tx_command.specs.declared.types.Head.TheVariants.{Fresh, Prefixed, Defining, Future, Leading}
+use Rattle.tx_command.specs.declared.types.Head.TheVariants.{Fresh, Prefixed, Defining, Future, Leading, Loading}
 use Rattle.tx_command.specs.declared.types.Prefixes.{Prefixes}
 use Rattle.tx_command.specs.Commands.{leaders_before, prefixes_of}
 use Rattle.tx_state.specs.declared.parts.KeptToken.{KeptToken}
@@ -68,12 +76,14 @@ use Rattle.tx_box.specs.Effects.{Effect, Left}
 use Rattle.tx_box.specs.Placing.{with_list}
 use Rattle.tx_box.specs.Sources.{appended, copying, taking_last, unboxing, using}
 use Rattle.tx_state.specs.declared.parts.Due.{Due}
-use Rattle.tx_state.specs.declared.parts.Due.TheVariants.{Boxes}
+use Rattle.tx_state.specs.declared.parts.Due.TheVariants.{Boxes, LoadFont as LoadFont_due}
+use Rattle.tx_state.specs.declared.parts.FontRequest.{FontRequest}
 use Rattle.tx_main.specs.Pages.{integer}
 use Rattle.tx_state.specs.State.{TexState}
 use Rattle.tx_main.specs.Letters.{code_for, token_for}
 use Rattle.tx_state.specs.Texts.{absorbed_text, definition_text, is_global, list_text}
-use Rattle.tx_state.specs.Outcomes.{Outcome, Leaves, Fails, Ends, leaves}
+use Rattle.tx_state.specs.Outcomes.{Outcome, Asks, Leaves, Fails, Ends, leaves}
+use Rattle.tx_main.specs.Words.{collecting, control_spacing, correcting, current_font, factor_now, spacing, with_list_factor}
 
 -- one more prefix
 abbrev pub with_prefix : Prefixes → APrefix → Prefixes
@@ -140,23 +150,6 @@ removing s kind = removed s (list.removing kind s.lists.nest.innermost)
 -- \prevdepth, which may stand in vertical modes alone (section 1243)
 abbrev pub setting_depth : TexState → ℤ → Outcome
 setting_depth s depth = leaves (assigned (with_top_list s (list.with_depth s.lists.nest.innermost depth)))
-
--- the glue that a space gives in \nullfont, which has none
-abbrev pub space : Item
-space = plain (small.Glue no_glue)
-
--- a space is nothing in a vertical list
-abbrev pub spacing : Mode → TexState → Outcome
-spacing mode.Vertical s = leaves s
-spacing mode.InternalVertical s = leaves s
-spacing mode.Horizontal s = adding s space
-spacing mode.RestrictedHorizontal s = adding s space
-spacing mode.Math s = leaves s
-spacing mode.DisplayMath s = leaves s
-
--- \nullfont, the only font, has no characters, so each one is reported
-unfoldable pub missing : ℕ → List ℕ
-missing code = codes "missing character " ++ (decimal code ++ (codes " in nullfont" ++ 10 ∷ []))
 
 -- a group, if fewer than 255 are open
 abbrev pub opening : TexState → GroupKind → TexState → Outcome
@@ -310,11 +303,74 @@ abbrev pub skipping : TexState → GlueSpec → Option (LeadersKind × ARule) �
 skipping s g None = adding s (plain (small.Glue g))
 skipping s g (Some (kind, rule)) = adding (record s { head = Fresh }) (shared (large.Leaders (record { kind = spread kind; glue = g; rule = rule })))
 
+-- \spacefactor, which may stand in horizontal modes alone (section 1243)
+abbrev pub setting_factor : TexState → Option ℕ → Outcome
+setting_factor s None = Fails NumberOutOfRange
+setting_factor s (Some factor) = leaves (assigned (with_list_factor s factor))
+
+-- behind a prefix it may stand in another mode only to be refused
+abbrev pub setting_factor_of : TexState → ℤ → Option ℕ → Outcome
+setting_factor_of s number None = Fails NotAllowed
+setting_factor_of s number (Some old) = setting_factor s (factor_of number)
+
+-- \fontdimen, \hyphenchar and \skewchar change the fonts, in all groups (section 1253)
+abbrev pub setting_fonts : TexState → List FontState → Outcome
+setting_fonts s fonts = leaves (assigned (record s { words = record s.words { fonts = fonts } }))
+
+abbrev pub number_of : TexState → FontName → ℕ
+number_of s Current = current_font s.table.table
+number_of s (Number n) = n
+
+-- a name has a meaning from now on
+abbrev pub meant : Meaning → Place → Assignment
+meant meaning place = record { place = place; change = Set (Means meaning) }
+
+-- the name of \font means the font of a number (section 1257)
+abbrev pub naming_font : TexState → Place → Bool → ℕ → Outcome
+naming_font s defined global n = assigning s (carried_out s.table (meant (Font n) defined) global)
+
+-- the file of a font
+abbrev pub font_file : List ℕ → List ℕ
+font_file name = name ++ codes ".tfm"
+
+-- \font gives the font that has the name and the size, or else asks for its file (sections 1257 to 1260)
+abbrev pub finding : TexState → FontRequest → Option ℕ → Outcome
+finding s request (Some n) = naming_font s request.defined request.global n
+finding s request None = Asks (Whole (font_file request.name)) (record s { due = LoadFont_due request ∷ s.due })
+
+-- a font more, with the hyphen and the skew character of the table (section 576)
+abbrev pub font_of_file : FontRequest → List ℕ → NamedFont
+font_of_file request bytes = record { name = request.name; font = metrics_of bytes request.size }
+
+abbrev pub with_font : TexState → NamedFont → TexState
+with_font s f = record s {
+  words = record s.words { fonts = s.words.fonts ++ loaded_state f (integer s.table.table Defaulthyphenchar) (integer s.table.table Defaultskewchar) ∷ [] };
+}
+
+-- whether one more can be loaded: 255 at most, and a name has 255 bytes at most
+abbrev pub can_load : TexState → List ℕ → Bool
+can_load s name = nat_lt (length s.words.fonts) 256 && nat_le (length name) 255
+
+-- the font of a file, if its bytes are those of one (section 560)
+abbrev pub loading_as : TexState → FontRequest → List ℕ → Option ℕ → Outcome
+loading_as s request bytes (Some rule) = Fails BadFont
+loading_as s request bytes None = naming_font (with_font s (font_of_file request bytes)) request.defined request.global (length s.words.fonts)
+
+abbrev pub loading_from : TexState → FontRequest → List ℕ → Outcome
+loading_from s request bytes = if can_load s request.name then loading_as s request bytes (first_broken bytes request.size) else Fails BadFont
+
+-- what comes of the reply, which may be that there is no such file
+abbrev pub loading : TexState → FontRequest → Option (List ℕ) → Outcome
+loading s request None = Fails BadFont
+loading s request (Some bytes) = loading_from s request bytes
+
 -- the effect of each command
 abbrev pub effect : TexState → Command → Outcome
 effect s Nothing = leaves s
-effect s Space = spacing s.mode s
-effect s (Character code) = Leaves s (missing code)
+effect s Space = spacing s (factor_now s)
+effect s ControlSpace = control_spacing s (factor_now s)
+effect s (Character code) = collecting s code (factor_now s)
+effect s ItalicCorrection = correcting s (factor_now s)
 effect s BeginGroup = opening s kind.Simple s
 effect s EndGroup = ending s (kind_of s.table)
 effect s BeginSemiSimple = opening s kind.SemiSimple s
@@ -335,6 +391,11 @@ effect s (Remove kind) = removing s kind
 effect s (Skip g) = skipping s g (leaders_before s.head)
 effect s (BeginLeaders kind rule) = leaves (record s { head = Leading kind rule })
 effect s (SetDepth depth) = setting_depth s depth
+effect s (SetFactor number) = setting_factor_of s number (factor_now s)
+effect s (DefineFont defined) = naming s (Loading (prefixes_of s.head) defined) (carried_out s.table (meant (Command_meaning NullFont) defined) (prefixes_of s.head).global)
+effect s (LoadFont defined name asked) = finding s (record { defined = defined; global = (prefixes_of s.head).global; name = name; size = size_asked asked; file = None }) (found s.words.fonts name (size_asked asked))
+effect s (SetFontDimen font n size) = setting_fonts s (with_font_parameter s.words.fonts (number_of s font) n size)
+effect s (SetFontInteger kind font n) = setting_fonts s (with_font_integer kind s.words.fonts (number_of s font) n)
 effect s End = Ends
 effect s (Interact kind) = leaves (assigned s)
 effect s (DefineMacro defined kind) = leaves (record s { text = Some (definition_text defined kind) })

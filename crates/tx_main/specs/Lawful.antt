@@ -5,7 +5,7 @@ use Rattle.tx_machine.specs.declared.types.AskKind.{AskKind}
 use Rattle.tx_machine.specs.declared.types.Reply.{Reply}
 use Rattle.tx_machine.specs.Machine.{Stepped, IsLawful, Ready, Awaits, mode_after}
 use Rattle.tx_state.specs.declared.parts.Due.{Due}
-use Rattle.tx_state.specs.declared.parts.Due.TheVariants.{OpenMain, FileAbsent, FileEnded, MainClosed, Boxes}
+use Rattle.tx_state.specs.declared.parts.Due.TheVariants.{OpenMain, FileAbsent, FileEnded, MainClosed, LoadFont, Boxes}
 use Rattle.tx_box.specs.declared.parts.Work.TheVariants.{Copy, CopyList, Ship}
 use Rattle.tx_state.specs.Outcomes.{Outcome, Leaves, Asks, Ships, Fails, Ends, stepped}
 use Rattle.tx_machine.specs.Same.{same-tells}
@@ -30,6 +30,7 @@ due-costs (OpenMain name ∷ due) = omega arith
 due-costs (FileAbsent ∷ due) = omega arith
 due-costs (FileEnded ∷ due) = omega arith
 due-costs (MainClosed ∷ due) = omega arith
+due-costs (LoadFont request ∷ due) = omega arith
 due-costs (Boxes (Copy box target) ∷ due) = omega arith
 due-costs (Boxes (CopyList list) ∷ due) = omega arith
 due-costs (Boxes (Ship box) ∷ due) = omega arith

@@ -1,5 +1,6 @@
 -- What shipping and reading take from the table (TeX: The Program, sections 638 to 644 and 362).
-use Rattle.std.specs.Prelude.{ℕ, ℤ, pos, negsuc, nat_lt, List, [], ◌∷◌, Option, Some, None, Result, if◌then◌else◌}
+use Rattle.std.specs.Prelude.{ℕ, ℤ, pos, negsuc, nat_lt, List, [], ◌∷◌, ◌++◌, map, Option, Some, None, Result, if◌then◌else◌}
+use Rattle.tx_dvi.specs.declared.font.FontDefinition.{FontDefinition}
 use Rattle.tx_dvi.specs.Page.{Page}
 use Rattle.tx_machine.specs.declared.types.Date.{Date}
 use Rattle.tx_node.specs.Items.{PackedBox}
@@ -14,6 +15,7 @@ use Rattle.tx_eqtb.specs.Table.{number_at}
 use Rattle.tx_ship.specs.declared.error.ShipError.{ShipError}
 use Rattle.tx_ship.specs.declared.params.ShipParams.{ShipParams}
 use Rattle.tx_ship.specs.Pages as ship
+use Rattle.tx_tfm.specs.declared.state.FontState.{FontState}
 
 -- when a run began, as the date parameters say it
 abbrev pub moment_of : Date → Moment
@@ -33,9 +35,10 @@ counts table =
     count table 0 ∷ count table 1 ∷ count table 2 ∷ count table 3 ∷ count table 4 ∷ count table 5 ∷ count table 6 ∷ count table 7
     ∷ count table 8 ∷ count table 9 ∷ []
 
--- what the page takes from the table: \count0 to \count9, the offsets, the magnification, the date
-abbrev pub ship_params : Table → ShipParams
-ship_params table = record {
+-- what the page takes: the fonts that earlier pages define, and from the table \count0 to \count9, the offsets, the magnification, the date
+abbrev pub ship_params : Table → List ℕ → ShipParams
+ship_params table defined = record {
+  defined = defined;
   counts = counts table;
   hoffset = dimension table Hoffset;
   voffset = dimension table Voffset;
@@ -46,9 +49,13 @@ ship_params table = record {
   time = integer table Time;
 }
 
--- the page of a box
-abbrev pub page_of : Table → PackedBox → Result Page ShipError
-page_of table box = ship.page_of box (ship_params table)
+-- the page of a box, with these fonts, of which earlier pages define those of these numbers
+abbrev pub page_of : List FontState → List ℕ → Table → PackedBox → Result Page ShipError
+page_of fonts defined table box = ship.page_of fonts box (ship_params table defined)
+
+-- the fonts that the pages up to this one define
+abbrev pub defined_by : List ℕ → Page → List ℕ
+defined_by defined page = defined ++ map (λ (f : FontDefinition). f.number) page.fonts
 
 -- the character at the end of each line that is read, if there is one (TeX: The Program, section 362)
 abbrev pub line_end : Table → Option ℕ

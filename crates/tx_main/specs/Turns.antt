@@ -9,15 +9,15 @@ use Rattle.tx_seen.specs.declared.fed.Want.TheVariants.{Expanded}
 use Rattle.tx_dvi.specs.Page.{Page}
 use Rattle.tx_lex.specs.Line.{seen_line}
 use Rattle.tx_machine.specs.declared.types.AskKind.{AskKind}
-use Rattle.tx_machine.specs.declared.types.AskKind.TheVariants.{Open as Opening, Line as ReadingOn, Close as Closing}
+use Rattle.tx_machine.specs.declared.types.AskKind.TheVariants.{Open as Opening, Line as ReadingOn, Close as Closing, Whole as Taking_whole}
 use Rattle.tx_machine.specs.declared.types.Ask.TheVariants.{Open, Line, Close}
 use Rattle.tx_machine.specs.declared.types.Reply.{Reply}
-use Rattle.tx_machine.specs.declared.types.Reply.TheVariants.{Found, Absent, Line as ReplyLine, Ended, Closed}
+use Rattle.tx_machine.specs.declared.types.Reply.TheVariants.{Found, Absent, Line as ReplyLine, Ended, Whole as ReplyWhole, Closed}
 use Rattle.tx_machine.specs.Machine.{Formatter, Stepped}
 use Rattle.tx_seen.specs.declared.error.TexError.{TexError}
 use Rattle.tx_seen.specs.declared.error.TexError.TheVariants.{SizeOutOfRange, FileAbsent, BadMagnification, NoEnd}
 use Rattle.tx_state.specs.declared.parts.Due.{Due}
-use Rattle.tx_state.specs.declared.parts.Due.TheVariants.{OpenMain, FileAbsent as Due_file_absent, FileEnded, MainClosed, Boxes}
+use Rattle.tx_state.specs.declared.parts.Due.TheVariants.{OpenMain, FileAbsent as Due_file_absent, FileEnded, MainClosed, LoadFont, Boxes}
 use Rattle.tx_state.specs.declared.parts.OpenText.{OpenText}
 use Rattle.tx_command.specs.declared.types.Command.{Command}
 use Rattle.tx_box.specs.declared.parts.Work.{Work}
@@ -36,11 +36,12 @@ use Rattle.tx_pending.specs.Elements.{with_line}
 use Rattle.tx_prim.specs.declared.integer.IntegerParameter.TheVariants.{Mag}
 use Rattle.tx_scan.specs.Settled.{tokens_of}
 use Rattle.tx_scan.specs.Supplied.{with_values}
-use Rattle.tx_main.specs.Pages.{integer, line_end, page_of}
+use Rattle.tx_main.specs.Pages.{defined_by, integer, line_end, page_of}
+use Rattle.tx_main.specs.Words.{before_token}
 use Rattle.tx_known.specs.Values.{may_be}
 use Rattle.tx_seen.specs.Magnified.{magnification_in, noted}
-use Rattle.tx_command.specs.Commands.{command}
-use Rattle.tx_main.specs.Effects.{carried, effect, ending_text, relaxing, with_items}
+use Rattle.tx_command.specs.Commands.{command, is_naming}
+use Rattle.tx_main.specs.Effects.{carried, effect, ending_text, loading, relaxing, with_items}
 use Rattle.tx_seen.specs.Readings.{Reading, More, Need, Done, Wrong}
 use Rattle.tx_state.specs.Outcomes.{Outcome, Asks, Ships, Fails, Ends, leaves, stepped}
 use Rattle.tx_machine.specs.Same.{same_by}
@@ -51,7 +52,7 @@ use Rattle.tx_main.specs.Beginning.{first_state}
 
 -- what scans, expansions and tests may ask for
 abbrev pub known_of : TexState → Lent
-known_of s = record { table = s.table; nest = s.lists.nest; badness = s.lists.badness; magnification = s.magnification }
+known_of s = record { table = s.table; nest = s.lists.nest; badness = s.lists.badness; magnification = s.magnification; fonts = s.words.fonts; has_word = is_some s.words.word }
 
 -- what comes of these items: the command goes on, or is wrong, or takes effect, and what it didn't need is read again
 abbrev pub scanned : TexState → List Item → Reading Command → Outcome
@@ -75,9 +76,9 @@ abbrev pub texting : TexState → Result OpenText TexError → Outcome
 texting s (Err error) = Fails error
 texting s (Ok text) = if is_whole text then ending_text s (Some text) else leaves (record s { text = Some text })
 
--- a token joins the open text, or else the open command
+-- a token joins the open text, or else the open command, where a word may end before it
 abbrev pub taken_by : TexState → Seen → Option OpenText → Outcome
-taken_by s t None = taking s t
+taken_by s t None = taking (before_token s t) t
 taken_by s t (Some text) = texting s (with_token text t)
 
 -- tokens that \the gives belong to the open text
@@ -91,7 +92,7 @@ want_of (More want) = want
 want_of other = Expanded
 
 abbrev pub wanted_by : TexState → Option OpenText → Wanted
-wanted_by s None = record { want = want_of (command s.mode s.head s.taken); text = false; takes_the = false }
+wanted_by s None = record { want = want_of (command s.mode s.head s.taken); text = false; takes_the = false; names = is_naming s.head s.taken }
 wanted_by s (Some text) = text_wanted text
 
 -- the innermost file has ended: it is closed, unless something is open within which no file may end (section 336)
@@ -126,7 +127,7 @@ reads s = turned s (turn (world_of (known_of s) s.mode) (wanted_by s s.text) s.r
 -- a page of a box, with the magnification
 abbrev pub ships_with : TexState → ℤ → Result Page ShipError → Outcome
 ships_with s mag (Err e) = Fails SizeOutOfRange
-ships_with s mag (Ok page) = Ships page (record s { magnification = Some mag })
+ships_with s mag (Ok page) = Ships page (record s { magnification = Some mag; defined = defined_by s.defined page })
 
 -- shipping a box: the magnification has to be one, and that of the first page
 abbrev pub ships : TexState → ℤ → Result Page ShipError → Outcome
@@ -136,7 +137,7 @@ ships s mag page = if may_be s.magnification mag then ships_with s mag page else
 abbrev pub works_boxes : TexState → Work → Outcome
 works_boxes s (Copy box target) = carried s (placed target s.lists s.table (Some box))
 works_boxes s (CopyList list) = leaves (with_items s list)
-works_boxes s (Ship box) = ships s (integer s.table.table Mag) (page_of s.table.table box)
+works_boxes s (Ship box) = ships s (integer s.table.table Mag) (page_of s.words.fonts s.defined s.table.table box)
 
 -- the next piece of due work
 abbrev pub works : TexState → Due → Outcome
@@ -144,6 +145,7 @@ works s (OpenMain name) = Asks (Open name) s
 works s Due_file_absent = Fails FileAbsent
 works s FileEnded = closes s
 works s MainClosed = Fails NoEnd
+works s (LoadFont request) = loading s request request.file
 works s (Boxes work) = works_boxes s work
 
 -- due work comes first
@@ -167,6 +169,7 @@ piece_cost (OpenMain name) = 1
 piece_cost Due_file_absent = 1
 piece_cost FileEnded = 1
 piece_cost MainClosed = 1
+piece_cost (LoadFont request) = 1
 piece_cost (Boxes work) = work_cost work
 
 abbrev pub due_cost : List Due → ℕ
@@ -194,13 +197,27 @@ abbrev pub file_closed : TexState → ℕ → TexState
 file_closed s (suc (suc files)) = record s { files = suc files }
 file_closed s files = record s { files = 0; due = MainClosed ∷ s.due }
 
--- what a reply brings: a line, a file more or less, or due work
+-- the bytes of the file that the font which is due asked for
+abbrev pub piece_with_file : List ℕ → Due → Due
+piece_with_file bytes (LoadFont request) = LoadFont (record request { file = Some bytes })
+piece_with_file bytes (OpenMain name) = OpenMain name
+piece_with_file bytes Due_file_absent = Due_file_absent
+piece_with_file bytes FileEnded = FileEnded
+piece_with_file bytes MainClosed = MainClosed
+piece_with_file bytes (Boxes work) = Boxes work
+
+abbrev pub with_file : List ℕ → List Due → List Due
+with_file bytes [] = []
+with_file bytes (piece ∷ due) = piece_with_file bytes piece ∷ due
+
+-- what a reply brings: a line, a file more or less, due work, or a font's file
 abbrev pub replied : TexState → AskKind → Reply → TexState
 replied s Opening Found = file_opened s
 replied s Opening Absent = record s { due = Due_file_absent ∷ s.due }
 replied s ReadingOn (ReplyLine bytes) = lined s bytes
 replied s ReadingOn Ended = lines_ended s
 replied s Closing Closed = file_closed s s.files
+replied s Taking_whole (ReplyWhole bytes) = record s { due = with_file bytes s.due }
 replied s kind reply = s
 
 abbrev pub takes : Meaning → Reply → Meaning

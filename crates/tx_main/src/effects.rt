@@ -3,16 +3,18 @@ ghost use Rattle.std.specs.Prelude.{◌≡◌, ◌≢◌, ◌++◌, ◌||◌, []
 ghost use Rattle.tx_node.specs.Nodes.{item_of};
 ghost use Rattle.tx_assign.specs.Changes.{carried_out};
 ghost use Rattle.tx_main.specs.Effects as effects;
-ghost use Rattle.tx_state.specs.Outcomes.{Fails, Ends, leaves};
+ghost use Rattle.tx_machine.specs.Machine.{kind_of};
+ghost use Rattle.tx_state.specs.Outcomes.{Asks, Fails, Ends, leaves};
 ghost use Rattle.tx_state.specs.Meanings.{IsStepped, meaning_of, state_of};
 ghost use Rattle.tx_state.specs.Texts.{is_global as global_kind};
 
 use crate::boxes::{
     add, add_rule, copy_box, open_box, remove, set_depth, take_box, unbox, use_box,
 };
+use crate::fonts::{define_font, find_font, set_dimension, set_integer};
 use crate::groups::{end_group, end_semi_simple, open};
 use crate::letters::{code_for, with_letters};
-use itoa::Buffer;
+use crate::words::{control_space, correct_italic, set_character, set_factor, space};
 use std::alloc::{AllocError, Global};
 use std::mem;
 use tx_assign::{Assignment, Carried, Change, relaxed, with_text};
@@ -21,12 +23,12 @@ use tx_char::{ControlName, Token};
 use tx_command::{Command, Head, Prefixes};
 use tx_eqtb::{Entry, GroupKind};
 use tx_expand::escape_of;
-use tx_machine::{Event, Stop};
+use tx_machine::{Ask, AskKind, Event, Stop};
 use tx_node::{KernKind, Leaders, Node, Plain, Rule, Shared};
 use tx_num::Glue;
 use tx_prim::{
-    AfterKind, DefinitionKind, Interaction, LeadersKind, Mode, Prefix, Primitive, Shorthand,
-    SizeKind, TextUse,
+    AfterKind, DefinitionKind, Interaction, LeadersKind, Prefix, Primitive, Shorthand, SizeKind,
+    TextUse,
 };
 use tx_seen::{Meaning, Place, TexError};
 use tx_state::{KeptToken, OpenText, Phase, State, is_global};
@@ -41,16 +43,13 @@ pub fn fail(s: &mut State, error: TexError) -> Event
     Event::Stopped(Stop::Error(error.number()))
 }
 
-/// Reports a character that \nullfont lacks.
-#[tactic(auto, unfolding(crate::specs::Effects::missing))]
-fn report_missing(said: &mut Bytes, code: u8) -> Result<(), AllocError>
-    ensures { OnOk result (said.new ≡ said.old ++ effects.missing code) }
+/// The turn ends with an ask.
+pub fn ask(s: &mut State, kind: AskKind, ask: Ask) -> Event
+    requires { kind ≡ kind_of ask }
+    ensures { IsStepped (Asks ask (state_of s.old)) s.old result s.new }
 {
-    let mut digits = Buffer::new();
-    said.append(b"missing character ")?;
-    said.append(digits.format(code).as_bytes())?;
-    said.append(b" in nullfont\n")?;
-    Ok(())
+    s.phase = Phase::Waiting(kind);
+    Event::Asks(ask)
 }
 
 /// The prefixes with one more.
@@ -123,7 +122,7 @@ pub fn end_assignment(s: &mut State) -> Result<Event, AllocError>
 }
 
 /// An assignment, global by its prefixes or not. Its only further error is want of memory.
-fn assign_so(s: &mut State, assignment: Assignment, global: bool) -> Result<Event, AllocError>
+pub fn assign_so(s: &mut State, assignment: Assignment, global: bool) -> Result<Event, AllocError>
     requires { s.old.phase ≡ Phase.Running }
     ensures { IfOk result (λ event. IsStepped (effects.assigning (state_of s.old) (carried_out s.old.table assignment global)) s.old event s.new) }
 {
@@ -343,20 +342,6 @@ pub fn relax_name(s: &mut State, name: ControlName) -> Result<Event, AllocError>
     Ok(Event::Went)
 }
 
-/// A space token.
-fn space(s: &mut State) -> Result<Event, AllocError>
-    requires { s.old.phase ≡ Phase.Running }
-    ensures { IfOk result (λ event. IsStepped (effects.effect (state_of s.old) Command.Space) s.old event s.new) }
-{
-    match s.scan.mode() {
-        Mode::Horizontal | Mode::RestrictedHorizontal => add(
-            s,
-            Node::Plain(Plain::Glue(Glue::zero())),
-        ),
-        Mode::Vertical | Mode::InternalVertical | Mode::Math | Mode::DisplayMath => Ok(Event::Went),
-    }
-}
-
 /// What is made of a size.
 fn use_size(s: &mut State, kind: SizeKind, size: i32) -> Result<Event, AllocError>
     requires { s.old.phase ≡ Phase.Running }
@@ -423,15 +408,6 @@ fn finish(s: &mut State) -> Event
     Event::Stopped(Stop::End)
 }
 
-/// A character, which \nullfont lacks.
-fn report(s: &mut State, code: u8) -> Result<Event, AllocError>
-    requires { s.old.phase ≡ Phase.Running }
-    ensures { IfOk result (λ event. IsStepped (effects.effect (state_of s.old) (Command.Character code)) s.old event s.new) }
-{
-    report_missing(&mut s.said, code)?;
-    Ok(Event::Went)
-}
-
 /// Carries out a command. Its only error is want of memory.
 pub fn carry_out(alloc: Global, s: &mut State, command: Command) -> Result<Event, AllocError>
     requires running { s.old.phase ≡ Phase.Running }
@@ -441,7 +417,9 @@ pub fn carry_out(alloc: Global, s: &mut State, command: Command) -> Result<Event
     match command {
         Command::Nothing => Ok(Event::Went),
         Command::Space => space(s),
-        Command::Character(code) => report(s, code),
+        Command::ControlSpace => control_space(s),
+        Command::Character(code) => set_character(alloc, s, code),
+        Command::ItalicCorrection => correct_italic(s),
         Command::BeginGroup => open(s, GroupKind::Simple),
         Command::EndGroup => end_group(alloc, s),
         Command::BeginSemiSimple => open(s, GroupKind::SemiSimple),
@@ -460,6 +438,11 @@ pub fn carry_out(alloc: Global, s: &mut State, command: Command) -> Result<Event
         Command::Skip(glue) => skip(alloc, s, glue),
         Command::BeginLeaders(kind, rule) => Ok(begin_leaders(s, kind, rule)),
         Command::SetDepth(depth) => set_depth(s, depth),
+        Command::SetFactor(number) => set_factor(s, number),
+        Command::DefineFont(defined) => define_font(s, defined),
+        Command::LoadFont(defined, name, size) => find_font(s, defined, name, size),
+        Command::SetFontDimen(font, number, size) => set_dimension(s, font, number, size),
+        Command::SetFontInteger(kind, font, value) => set_integer(s, kind, font, value),
         Command::Remove(kind) => Ok(remove(s, kind)),
         Command::End => Ok(finish(s)),
         Command::Interact(kind) => interact(s, kind),

@@ -3,16 +3,18 @@
 //! Proved: each turn is the defined step. Only tested: that the effects and the reading are TeX's, on documents that Knuth's TeX
 //! reads alike. The state is tx_state's, and how commands are taken off tokens tx_command's.
 //!
-//! Read `letters`, `groups`, `boxes`, `effects`, `page`, `turn` and `machine`.
+//! Read `letters`, `groups`, `boxes`, `words`, `fonts`, `effects`, `page`, `turn` and `machine`.
 #![tactic(auto)]
 
 mod boxes;
 mod effects;
+mod fonts;
 mod groups;
 mod letters;
 mod machine;
 mod page;
 mod turn;
+mod words;
 
 pub use machine::Tex;
 pub use tx_seen::TexError;

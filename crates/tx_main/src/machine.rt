@@ -15,6 +15,8 @@ use tx_expand::Expander;
 use tx_files::Name;
 use tx_machine::{Date, Event, Machine, Reply, Steps};
 use tx_state::{Due, State, same_state, share_state};
+use tx_tfm::Fonts;
+use tx_word::Words;
 
 /// TeX, begun as INITEX.
 #[derive(Clone, Copy)]
@@ -38,7 +40,8 @@ impl Machine for Tex {
         let job = main.clone()?.into_bytes();
         let name = main.clone()?;
         let table = Eqtb::new(alloc, &moment_of(date))?;
-        let begun = State::new(alloc, Expander::new(alloc, job), table)?;
+        let words = Words::new(alloc, Fonts::new(alloc))?;
+        let begun = State::new(alloc, Expander::new(alloc, job), words, table)?;
         // behind a pointer, where the state is dropped by a call
         let mut s = Box::new(alloc, begun)?;
         s.due.push(Due::OpenMain(name))?;

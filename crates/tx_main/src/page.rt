@@ -1,9 +1,13 @@
 //! What shipping and reading take from the table (TeX: The Program, sections 638 to 644 and 362).
-ghost use Rattle.std.specs.Prelude.{◌≡◌, IsTrue};
+ghost use Rattle.std.specs.Prelude.{◌≡◌, ◌++◌, map, IsTrue, IfOk, OnOk};
+ghost use Rattle.tx_dvi.specs.declared.font.FontDefinition.{FontDefinition};
 ghost use Rattle.tx_ship.specs.Pages.{IsMag};
 ghost use Rattle.tx_machine.specs.Ranges.{IsDate};
 ghost use Rattle.tx_main.specs.Pages as spec;
 
+use std::alloc::AllocError;
+use tx_bytes::Bytes;
+use tx_dvi::FontDefinition;
 use tx_eqtb::Eqtb;
 use tx_machine::Date;
 use tx_prim::{DimensionParameter, IntegerParameter, Moment};
@@ -62,11 +66,13 @@ fn counts(table: &Eqtb) -> [i32; 10]
     ]
 }
 
-/// What a page takes from the table.
-pub fn ship_params(table: &Eqtb) -> ShipParams
-    ensures { result ≡ spec.ship_params table.now.table }
+/// What a page takes from the table, and the numbers of the fonts that earlier pages define. Its only error is want of memory.
+pub fn ship_params(table: &Eqtb, defined: &Bytes) -> Result<ShipParams, AllocError>
+    ensures { IfOk result (λ params. params ≡ spec.ship_params table.now.table defined.now) }
 {
-    ShipParams {
+    let defined = defined.clone()?;
+    Ok(ShipParams {
+        defined,
         counts: counts(table),
         hoffset: dimension(table, DimensionParameter::Hoffset),
         voffset: dimension(table, DimensionParameter::Voffset),
@@ -75,7 +81,17 @@ pub fn ship_params(table: &Eqtb) -> ShipParams
         month: integer(table, IntegerParameter::Month),
         day: integer(table, IntegerParameter::Day),
         time: integer(table, IntegerParameter::Time),
+    })
+}
+
+/// The fonts that a page defines join those that earlier pages define. Its only error is want of memory.
+pub fn join_defined(defined: &mut Bytes, fonts: &[FontDefinition]) -> Result<(), AllocError>
+    ensures { OnOk result (defined.new ≡ defined.old ++ map (λ (f : FontDefinition). f.number) fonts.now) }
+{
+    for font in fonts {
+        defined.push(font.number)?;
     }
+    Ok(())
 }
 
 /// The character at the end of each line that is read: \endlinechar, if it is a character's code.

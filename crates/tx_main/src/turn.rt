@@ -1,22 +1,29 @@
 //! One turn: due work, the ask for a line, or one token and its expansion (TeX: The Program, sections 1030, 343, 360 and 366).
 ghost use Rattle.tx_seen.specs.Magnified.{noted};
-ghost use Rattle.std.specs.Prelude.{◌≡◌, true, is_some, IfOk, OnOk};
-ghost use Rattle.tx_machine.specs.Machine.{kind_of, Ready};
+ghost use Rattle.std.specs.Prelude.{◌≡◌, true, is_some, Ok, IfOk, OnOk};
+ghost use Rattle.tx_machine.specs.Machine.{Ready};
 ghost use Rattle.tx_prim.specs.declared.integer.IntegerParameter.TheVariants.{Mag};
 ghost use Rattle.tx_ship.specs.Pages.{IsMag};
 ghost use Rattle.tx_main.specs.Pages.{integer as magnification_in, page_of};
 ghost use Rattle.tx_state.specs.State.{Runs, mode_of};
 ghost use Rattle.tx_state.specs.Outcomes.{Asks};
 ghost use Rattle.tx_state.specs.Texts.{IsTextAnswered};
+ghost use Rattle.tx_command.specs.AtOnce.{whole};
+ghost use Rattle.tx_main.specs.Effects.{effect};
 ghost use Rattle.tx_main.specs.Turns as turns;
+ghost use Rattle.tx_main.specs.Words.{before_token};
 ghost use Rattle.tx_state.specs.Meanings.{IsStepped, meaning_of, state_of};
 
 use crate::boxes::{add_copy, add_list};
-use crate::effects::{carry_out, end_text, fail, relax_name};
-use crate::page::{integer, line_end, ship_params};
+use crate::effects::{ask, carry_out, end_text, fail, relax_name};
+use crate::fonts::{load_font, with_file};
+use crate::page::{integer, join_defined, line_end, ship_params};
+use crate::words::{set_character, settle_word, space};
 use std::alloc::{AllocError, Global};
 use tx_box::Work;
-use tx_command::Taken;
+use tx_bytes::Bytes;
+use tx_command::{AtOnce, Taken};
+use tx_dvi::PageBody;
 use tx_expand::{Expanded, Wanted};
 use tx_known::{Known, may_be};
 use tx_lex::line_text;
@@ -29,15 +36,6 @@ use tx_ship::{ShipError, body};
 use tx_state::{Due, OpenText, Phase, State};
 use tx_toklist::Toks;
 
-/// The turn ends with an ask.
-fn ask(s: &mut State, kind: AskKind, ask: Ask) -> Event
-    requires { kind ≡ kind_of ask }
-    ensures { IsStepped (Asks ask (state_of s.old)) s.old result s.new }
-{
-    s.phase = Phase::Waiting(kind);
-    Event::Asks(ask)
-}
-
 /// The magnification is used from now on, where it was taken.
 fn note(used: &mut Option<i32>, taken: Option<u16>)
     ensures { used.new ≡ noted used.old taken }
@@ -47,12 +45,19 @@ fn note(used: &mut Option<i32>, taken: Option<u16>)
     }
 }
 
-/// A token joins the open command.
-fn take_command(alloc: Global, s: &mut State, seen: Seen) -> Result<Event, AllocError>
+/// A token joins the open command, which is read by its grammar.
+fn feed_command(alloc: Global, s: &mut State, seen: Seen) -> Result<Event, AllocError>
     requires { s.old.phase ≡ Phase.Running }
     ensures { IfOk result (λ event. IsStepped (turns.taking (state_of s.old) seen) s.old event s.new) }
 {
-    let known = Known::new(&s.table, &s.lists.nest, s.lists.badness, s.magnification);
+    let known = Known::new(
+        &s.table,
+        &s.lists.nest,
+        s.lists.badness,
+        s.magnification,
+        s.words.fonts(),
+        s.words.is_open(),
+    );
     match s.scan.feed(&known, &mut s.input, seen)? {
         Taken::More => {
             note(&mut s.magnification, s.scan.magnification());
@@ -61,6 +66,37 @@ fn take_command(alloc: Global, s: &mut State, seen: Seen) -> Result<Event, Alloc
         Taken::Wrong(error) => Ok(fail(s, error)),
         Taken::Whole(command) => carry_out(alloc, s, command),
     }
+}
+
+/// A character or a space takes effect.
+fn take_at_once(alloc: Global, s: &mut State, found: AtOnce) -> Result<Event, AllocError>
+    requires { s.old.phase ≡ Phase.Running }
+    ensures { IfOk result (λ event. IsStepped (effect (state_of s.old) (whole found)) s.old event s.new) }
+{
+    match found {
+        AtOnce::Character(code) => set_character(alloc, s, code),
+        AtOnce::Space => space(s),
+    }
+}
+
+/// A token joins the open command, or is one by itself, behind the word that it may have ended.
+fn take_settled(alloc: Global, s: &mut State, seen: Seen) -> Result<Event, AllocError>
+    requires { s.old.phase ≡ Phase.Running }
+    ensures { IfOk result (λ event. IsStepped (turns.taking (state_of s.old) seen) s.old event s.new) }
+{
+    match s.scan.at_once(&seen) {
+        Some(found) => take_at_once(alloc, s, found),
+        None => feed_command(alloc, s, seen),
+    }
+}
+
+/// A token joins the open command, and a word may end before it.
+fn take_command(alloc: Global, s: &mut State, seen: Seen) -> Result<Event, AllocError>
+    requires { s.old.phase ≡ Phase.Running }
+    ensures { IfOk result (λ event. IsStepped (turns.taking (before_token (state_of s.old) seen) seen) s.old event s.new) }
+{
+    settle_word(alloc, s, &seen)?;
+    take_settled(alloc, s, seen)
 }
 
 /// What a text answers to a token that joins it, if one is open. Its only error is want of memory.
@@ -87,7 +123,7 @@ fn take_text(alloc: Global, s: &mut State, seen: Seen) -> Result<Event, AllocErr
     }
 }
 
-/// A token joins the open text, or else the open command.
+/// A token joins the open text, or else the open command, where a word may end before it.
 fn take(alloc: Global, s: &mut State, seen: Seen) -> Result<Event, AllocError>
     requires { s.old.phase ≡ Phase.Running }
     ensures { IfOk result (λ event. IsStepped (turns.taken_by (state_of s.old) seen s.old.text) s.old event s.new) }
@@ -121,6 +157,7 @@ fn wanted(s: &State) -> Wanted
             want: s.scan.want(),
             text: false,
             takes_the: false,
+            names: s.scan.is_naming(),
         },
     }
 }
@@ -160,10 +197,27 @@ fn read(alloc: Global, s: &mut State) -> Result<Event, AllocError>
 {
     let wanted = wanted(s);
     let mode = s.scan.mode();
-    let known = Known::new(&s.table, &s.lists.nest, s.lists.badness, s.magnification);
+    let known = Known::new(
+        &s.table,
+        &s.lists.nest,
+        s.lists.badness,
+        s.magnification,
+        s.words.fonts(),
+        s.words.is_open(),
+    );
     let answer = s.expander.turn(alloc, &mut s.input, &known, mode, wanted)?;
     note(&mut s.magnification, s.expander.magnification());
     heed(alloc, s, answer)
+}
+
+/// A page goes out, with the magnification. Its only error is want of memory.
+fn send(s: &mut State, magnification: i32, page: PageBody) -> Result<Event, AllocError>
+    requires { s.old.phase ≡ Phase.Running }
+    ensures { IfOk result (λ event. IsStepped (turns.ships_with (state_of s.old) magnification (Ok page)) s.old event s.new) }
+{
+    join_defined(&mut s.defined, page.fonts())?;
+    s.magnification = Some(magnification);
+    Ok(Event::Shipped(page))
 }
 
 /// Ships a box with the magnification.
@@ -176,13 +230,11 @@ fn ship_with(
     requires running { s.old.phase ≡ Phase.Running }
     requires fits { IsMag magnification }
     requires own { magnification ≡ magnification_in s.old.table.table Mag }
-    ensures { IfOk result (λ event. IsStepped (turns.ships_with (state_of s.old) magnification (page_of s.old.table.table shipped.now)) s.old event s.new) }
+    ensures { IfOk result (λ event. IsStepped (turns.ships_with (state_of s.old) magnification (page_of s.old.words.fonts s.old.defined s.old.table.table shipped.now)) s.old event s.new) }
 {
-    match body(alloc, shipped, &ship_params(&s.table)) {
-        Ok(page) => {
-            s.magnification = Some(magnification);
-            Ok(Event::Shipped(page))
-        }
+    let params = ship_params(&s.table, &s.defined)?;
+    match body(alloc, shipped, s.words.fonts(), &params) {
+        Ok(page) => send(s, magnification, page),
         Err(ShipError::OutOfMemory) => Err(AllocError),
         Err(_) => Ok(fail(s, TexError::SizeOutOfRange)),
     }
@@ -191,7 +243,7 @@ fn ship_with(
 /// Ships a box: the magnification has to be one, and that of the first page.
 fn ship_box(alloc: Global, s: &mut State, shipped: &BoxNode) -> Result<Event, AllocError>
     requires { s.old.phase ≡ Phase.Running }
-    ensures { IfOk result (λ event. IsStepped (turns.ships (state_of s.old) (magnification_in s.old.table.table Mag) (page_of s.old.table.table shipped.now)) s.old event s.new) }
+    ensures { IfOk result (λ event. IsStepped (turns.ships (state_of s.old) (magnification_in s.old.table.table Mag) (page_of s.old.words.fonts s.old.defined s.old.table.table shipped.now)) s.old event s.new) }
 {
     let magnification = integer(&s.table, IntegerParameter::Mag);
     if !may_be(s.magnification, magnification) {
@@ -206,6 +258,7 @@ fn piece_cost(piece: &Due) -> u64
 {
     match piece {
         Due::OpenMain(_) | Due::FileAbsent | Due::FileEnded | Due::MainClosed => 1,
+        Due::LoadFont(_) => 1,
         Due::Boxes(work) => work.cost(),
     }
 }
@@ -252,6 +305,7 @@ fn work(alloc: Global, s: &mut State, due: Due) -> Result<Event, AllocError>
         Due::FileAbsent => Ok(fail(s, TexError::FileAbsent)),
         Due::FileEnded => Ok(close(s)),
         Due::MainClosed => Ok(fail(s, TexError::NoEnd)),
+        Due::LoadFont(request) => load_font(alloc, s, request),
         Due::Boxes(work) => work_boxes(alloc, s, work),
     }
 }
@@ -334,6 +388,30 @@ fn close_file(s: &mut State) -> Result<(), AllocError>
     Ok(())
 }
 
+/// A piece of work with the bytes of the file that it asked for. Its only error is want of memory.
+fn with_bytes(piece: Due, bytes: &Bytes) -> Result<Due, AllocError>
+    ensures { IfOk result (λ read. read ≡ turns.piece_with_file bytes.now piece) }
+{
+    match piece {
+        Due::LoadFont(request) => Ok(Due::LoadFont(with_file(request, bytes.clone()?))),
+        Due::OpenMain(name) => Ok(Due::OpenMain(name)),
+        Due::FileAbsent => Ok(Due::FileAbsent),
+        Due::FileEnded => Ok(Due::FileEnded),
+        Due::MainClosed => Ok(Due::MainClosed),
+        Due::Boxes(work) => Ok(Due::Boxes(work)),
+    }
+}
+
+/// The bytes of the file that the font which is due asked for. Its only error is want of memory.
+fn take_file(due: &mut Stack<Due>, bytes: &Bytes) -> Result<(), AllocError>
+    ensures { OnOk result (due.new ≡ turns.with_file bytes.now due.old) }
+{
+    match due.pop() {
+        Some(piece) => due.push(with_bytes(piece, bytes)?),
+        None => Ok(()),
+    }
+}
+
 /// What a reply brings, to a state that waits for one of this kind. Its only error is want of memory.
 fn hear(alloc: Global, s: &mut State, kind: AskKind, reply: &Reply) -> Result<(), AllocError>
     requires { s.old.phase ≡ Phase.Running }
@@ -346,6 +424,7 @@ fn hear(alloc: Global, s: &mut State, kind: AskKind, reply: &Reply) -> Result<()
         (AskKind::Line, Reply::Line(bytes)) => put_line(alloc, s, bytes.as_slice()),
         (AskKind::Line, Reply::Ended) => end_lines(alloc, s),
         (AskKind::Close, Reply::Closed) => close_file(s),
+        (AskKind::Whole, Reply::Whole(bytes)) => take_file(&mut s.due, bytes),
         _ => Ok(()),
     }
 }

@@ -17,10 +17,12 @@ state_of s = record {
   head = s.scan.head;
   taken = s.scan.taken;
   lists = s.lists;
+  words = s.words;
   table = s.table;
   after_groups = s.after_groups;
   after_assignment = s.after_assignment;
   magnification = s.magnification;
+  defined = s.defined;
 }
 
 abbrev pub meaning_of : State → Meaning

@@ -8,6 +8,7 @@ use Rattle.tx_box.specs.declared.parts.Lists.{Lists}
 use Rattle.tx_expand.specs.Reader.{Reader}
 use Rattle.tx_prim.specs.declared.modes.Mode.{Mode}
 use Rattle.tx_seen.specs.declared.item.Item.{Item}
+use Rattle.tx_word.specs.Collecting.{Collecting}
 use Rattle.tx_state.specs.declared.parts.Due.{Due}
 use Rattle.tx_state.specs.declared.parts.KeptToken.{KeptToken}
 use Rattle.tx_state.specs.declared.parts.OpenText.{OpenText}
@@ -33,6 +34,8 @@ pub record TexState : Type 0 where
   pub taken : List Item
   -- the lists that are being built, one in another, and the boxes that they are to become
   pub lists : Lists
+  -- the fonts, and the word that is open at the end of the innermost list
+  pub words : Collecting
   -- meanings, codes, registers and parameters, with the open groups
   pub table : Eqtb
   -- the tokens that \aftergroup keeps, the last first, and the one that \afterassignment keeps
@@ -40,6 +43,8 @@ pub record TexState : Type 0 where
   pub after_assignment : Option Token
   -- the magnification, once a page has it
   pub magnification : Option ℤ
+  -- the numbers of the fonts that the pages define, as the DVI file has them
+  pub defined : List ℕ
 
 -- a state as the outside sees it: ready for a turn, waiting for a reply, or done for; of the last nothing else matters
 pub data Meaning : Type 0 where

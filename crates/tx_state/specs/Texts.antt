@@ -1,5 +1,5 @@
 -- Texts that are being taken, each with what it is for (TeX: The Program, sections 473 to 482).
-use Rattle.std.specs.Prelude.{◌≡◌, ℕ, Bool, true, false, List, Option, None, Some, Result, Ok, Err, if◌then◌else◌}
+use Rattle.std.specs.Prelude.{◌≡◌, Bool, true, false, List, Option, None, Some, Result, Ok, Err, if◌then◌else◌}
 use Rattle.tx_char.specs.declared.tokens.Token.{Token}
 use Rattle.tx_expand.specs.declared.types.Wanted.{Wanted}
 use Rattle.tx_prim.specs.declared.family.DefinitionKind.{DefinitionKind}
@@ -56,9 +56,9 @@ list_text place = texts.List place absorbed.begun_text
 
 -- what is taken next
 abbrev pub text_wanted : OpenText → Wanted
-text_wanted (texts.Definition defined kind d) = record { want = definition.wanted d d.stage; text = true; takes_the = definition.takes_the d d.stage }
-text_wanted (texts.Absorbed purpose a) = record { want = absorbed.text_wanted a a.stage; text = true; takes_the = absorbed.text_takes_the a a.stage }
-text_wanted (texts.List place a) = record { want = absorbed.text_wanted a a.stage; text = true; takes_the = absorbed.text_takes_the a a.stage }
+text_wanted (texts.Definition defined kind d) = record { want = definition.wanted d d.stage; text = true; takes_the = definition.takes_the d d.stage; names = false }
+text_wanted (texts.Absorbed purpose a) = record { want = absorbed.text_wanted a a.stage; text = true; takes_the = absorbed.text_takes_the a a.stage; names = false }
+text_wanted (texts.List place a) = record { want = absorbed.text_wanted a a.stage; text = true; takes_the = absorbed.text_takes_the a a.stage; names = false }
 
 -- with tokens that \the gives
 abbrev pub with_given : OpenText → List Token → OpenText

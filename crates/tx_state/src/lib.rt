@@ -13,7 +13,7 @@ mod share;
 mod state;
 mod text;
 
-pub use parts::{Due, KeptToken, OpenText, Phase};
+pub use parts::{Due, FontRequest, KeptToken, OpenText, Phase};
 pub use same::same_state;
 pub use share::share_state;
 pub use state::State;

@@ -1,11 +1,13 @@
-//! The parts of TeX's state that are plain choices: what is due, which boxes are open, which text is, what the state waits for.
+//! The parts of TeX's state that are plain choices: what is due, which text is open, what the state waits for.
 use tx_box::Work;
+use tx_bytes::Bytes;
 use tx_char::Token;
 use tx_files::Name;
 use tx_machine::AskKind;
 use tx_prim::{DefinitionKind, TextUse};
 use tx_seen::Place;
 use tx_text::{DefinitionScan, TextScan};
+use tx_tfm::Size;
 
 /// A piece of work that comes before reading.
 #[derive(Drop)]
@@ -18,8 +20,23 @@ pub enum Due {
     FileEnded,
     /// The main file is closed, and no \end came.
     MainClosed,
+    /// To load the font of \font, whose file was asked for.
+    LoadFont(FontRequest),
     /// To copy boxes, or to ship one.
     Boxes(Work),
+}
+
+/// The font that a \font wants, which isn't loaded.
+#[derive(Drop)]
+pub struct FontRequest {
+    /// What is to mean the font, and whether in all groups.
+    pub defined: Place,
+    pub global: bool,
+    /// The font's name, as \font was given it.
+    pub name: Bytes,
+    pub size: Size,
+    /// The bytes of its file, once the reply has brought them.
+    pub file: Option<Bytes>,
 }
 
 /// A text that is being taken, and what it is for.

@@ -64,6 +64,20 @@ fn same_lists(one: &State, other: &State) -> bool
         && one.table.same(&other.table)
 }
 
+/// Whether the pages define the same fonts.
+fn same_defined(one: &State, other: &State) -> bool
+    ensures { IsTrue result ↔ (one.now.defined ≡ other.now.defined) }
+{
+    one.defined.same(&other.defined)
+}
+
+/// Whether there are the same fonts, of which the pages define the same, and the same word is open.
+fn same_words(one: &State, other: &State) -> bool
+    ensures { IsTrue result ↔ ((one.now.defined ≡ other.now.defined) × (one.now.words ≡ other.now.words)) }
+{
+    same_defined(one, other) && one.words.same(&other.words)
+}
+
 /// Whether two states mean the same, where both are ready or wait for the same.
 fn same_parts(one: &State, other: &State) -> bool
     ensures { IsTrue result ↔ (state_of one.now ≡ state_of other.now) }
@@ -72,6 +86,7 @@ fn same_parts(one: &State, other: &State) -> bool
         && same_reader(one, other)
         && same_kept(one, other)
         && same_lists(one, other)
+        && same_words(one, other)
 }
 
 /// Whether two states mean the same; of one that is done for nothing else matters.

@@ -84,6 +84,14 @@ fn share_after_assignment(s: &State, twin: &mut State) -> Result<(), AllocError>
     Ok(())
 }
 
+/// It gets a copy of the numbers of the fonts that the pages define.
+fn share_defined(s: &State, twin: &mut State) -> Result<(), AllocError>
+    ensures { OnOk result (twin.new ≡ record twin.old { defined = s.now.defined }) }
+{
+    twin.defined = s.defined.clone()?;
+    Ok(())
+}
+
 /// It gets a copy of the bytes that are still to be taken.
 fn share_said(s: &State, twin: &mut State) -> Result<(), AllocError>
     ensures { OnOk result (twin.new ≡ record twin.old { said = s.now.said }) }
@@ -103,10 +111,11 @@ fn share_begun(alloc: Global, s: &State, twin: &mut State) -> Result<(), AllocEr
     Ok(())
 }
 
-/// It gets copies of what is built and kept, and of the bytes that are still to be taken.
+/// It gets copies of what is built and kept, of what the pages define, and of the bytes that are still to be taken.
 fn share_built(s: &State, twin: &mut State) -> Result<(), AllocError>
-    ensures { OnOk result (twin.new ≡ record twin.old { lists = s.now.lists; after_groups = s.now.after_groups; after_assignment = s.now.after_assignment; said = s.now.said }) }
+    ensures { OnOk result (twin.new ≡ record twin.old { lists = s.now.lists; after_groups = s.now.after_groups; after_assignment = s.now.after_assignment; defined = s.now.defined; said = s.now.said }) }
 {
+    share_defined(s, twin)?;
     share_lists(s, twin)?;
     share_after_groups(s, twin)?;
     share_after_assignment(s, twin)?;
@@ -114,9 +123,9 @@ fn share_built(s: &State, twin: &mut State) -> Result<(), AllocError>
     Ok(())
 }
 
-/// It gets all but the table and what the expander has open.
+/// It gets all but the words, the table and what the expander has open.
 fn share_parts(alloc: Global, s: &State, twin: &mut State) -> Result<(), AllocError>
-    ensures { OnOk result (twin.new ≡ record s.now { expander = twin.old.expander; table = twin.old.table }) }
+    ensures { OnOk result (twin.new ≡ record s.now { expander = twin.old.expander; words = twin.old.words; table = twin.old.table }) }
 {
     share_begun(alloc, s, twin)?;
     share_built(s, twin)?;
@@ -134,7 +143,8 @@ pub fn share_state(alloc: Global, s: &State) -> Result<State, AllocError>
 {
     let expander = s.expander.share(alloc)?;
     let table = s.table.share()?;
-    let twin = State::new(alloc, expander, table)?;
+    let words = s.words.share()?;
+    let twin = State::new(alloc, expander, words, table)?;
     // behind a pointer, where the state is dropped by a call
     let mut twin = Box::new(alloc, twin)?;
     share_parts(alloc, s, &mut twin)?;

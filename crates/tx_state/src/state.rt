@@ -15,6 +15,7 @@ use tx_expand::Expander;
 use tx_list::Stack;
 use tx_pending::Pending;
 use tx_prim::Mode;
+use tx_word::Words;
 
 /// All that the next turns depend on, and the bytes of the transcript that are still to be taken.
 #[derive(Drop)]
@@ -31,20 +32,29 @@ pub struct State {
     pub scan: CommandScan,
     /// The lists that are being built, with their boxes.
     pub lists: Lists,
+    /// The fonts, and the word that is open.
+    pub words: Words,
     pub table: Eqtb,
     /// What \aftergroup keeps, the last first.
     pub after_groups: Stack<KeptToken>,
     /// What \afterassignment keeps.
     pub after_assignment: Option<Token>,
     pub magnification: Option<i32>,
+    /// The numbers of the fonts that the pages define, as the DVI file has them.
+    pub defined: Bytes,
     pub said: Bytes,
 }
 
 impl State {
-    /// A state in which nothing is due or read, and the pages' list is built, with this table. Its only error is
+    /// A state in which nothing is due or read, and the pages' list is built, with these words and this table. Its only error is
     /// want of memory.
-    pub fn new(alloc: Global, expander: Expander, table: Eqtb) -> Result<State, AllocError>
-        ensures { IfOk result (λ s. s ≡ record { phase = Phase.Running; due = []; files = 0; input = no_input; expander = expander; text = None; scan = record { mode = mode.Vertical; head = Head.Fresh; taken = [] }; lists = first_lists; table = table; after_groups = []; after_assignment = None; magnification = None; said = [] }) }
+    pub fn new(
+        alloc: Global,
+        expander: Expander,
+        words: Words,
+        table: Eqtb,
+    ) -> Result<State, AllocError>
+        ensures { IfOk result (λ s. s ≡ record { phase = Phase.Running; due = []; files = 0; input = no_input; expander = expander; text = None; scan = record { mode = mode.Vertical; head = Head.Fresh; taken = [] }; lists = first_lists; words = words; table = table; after_groups = []; after_assignment = None; magnification = None; defined = []; said = [] }) }
     {
         let scan = CommandScan::new(alloc, Mode::Vertical)?;
         Ok(State {
@@ -56,10 +66,12 @@ impl State {
             text: None,
             scan,
             lists: Lists::new(alloc),
+            words,
             table,
             after_groups: Stack::new(alloc),
             after_assignment: None,
             magnification: None,
+            defined: Bytes::new(alloc),
             said: Bytes::new(alloc),
         })
     }

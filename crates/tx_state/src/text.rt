@@ -76,16 +76,19 @@ impl OpenText {
                 want: scan.want(),
                 text: true,
                 takes_the: scan.takes_the(),
+                names: false,
             },
             OpenText::Absorbed(_, scan) => Wanted {
                 want: scan.want(),
                 text: true,
                 takes_the: scan.takes_the(),
+                names: false,
             },
             OpenText::List(_, scan) => Wanted {
                 want: scan.want(),
                 text: true,
                 takes_the: scan.takes_the(),
+                names: false,
             },
         }
     }

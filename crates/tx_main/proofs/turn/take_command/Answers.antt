@@ -1,23 +1,12 @@
-use Rattle.std.proofs.Common.{◌≡◌, rules, to_z, of_z, w64}
-use Rattle.tx_command.specs.declared.scans.Taken.TheVariants as taken
-use Rattle.tx_known.specs.Values.{lent}
-use Rattle.tx_main.proofs.Taking.{taken-by, takes-more, takes-wrong, takes-whole}
+use Rattle.std.proofs.Common.{ap}
+use Rattle.tx_main.specs.Turns.{taking}
+use Rattle.tx_main.specs.Words.{before_token}
+use Rattle.tx_state.specs.Meanings.{state_of}
+use Rattle.tx_state.specs.State.{TexState}
+use Rattle.tx_main.proofs.Carrying.{outcome-by}
 use Rattle.tx_main.proofs.turn.take_command.Goals as goal
 
-pub returns-in-More : goal.returns-in-More
-returns-in-More c =
-    let same : to_z w64 (of_z w64 c.args.s.now.lists.badness) ≡ c.args.s.now.lists.badness = search rules in
-    takes-more c.args.s.now c.feed.new.self c.feed.new.input c.args.seen c.magnification.result c.note.new.used c.requires c.magnification.ensures c.note.ensures
-    (taken-by c.args.s.now (lent c.new-known.result) c.feed.new.self c.feed.new.input c.args.seen taken.More (rw same at c.new-known.ensures) (rw c.in-More.is at c.in_ok-feed.ensures))
-
-pub returns-in-Wrong : goal.returns-in-Wrong
-returns-in-Wrong c =
-    let same : to_z w64 (of_z w64 c.args.s.now.lists.badness) ≡ c.args.s.now.lists.badness = search rules in
-    takes-wrong c.args.s.now c.fail.new.s c.feed.new.self c.feed.new.input c.args.seen c.in-Wrong.error c.fail.result
-    (taken-by c.args.s.now (lent c.new-known.result) c.feed.new.self c.feed.new.input c.args.seen (taken.Wrong c.in-Wrong.error) (rw same at c.new-known.ensures) (rw c.in-Wrong.is at c.in_ok-feed.ensures)) c.fail.ensures
-
-pub returns-in-Whole : goal.returns-in-Whole
-returns-in-Whole c =
-    let same : to_z w64 (of_z w64 c.args.s.now.lists.badness) ≡ c.args.s.now.lists.badness = search rules in
-    takes-whole c.args.s.now c.carry_out.new.s c.feed.new.self c.feed.new.input c.args.seen c.in-Whole.command c.carry_out.result
-    (taken-by c.args.s.now (lent c.new-known.result) c.feed.new.self c.feed.new.input c.args.seen (taken.Whole c.in-Whole.command) (rw same at c.new-known.ensures) (rw c.in-Whole.is at c.in_ok-feed.ensures)) c.carry_out.ensures
+pub returns : goal.returns
+returns c =
+    outcome-by (taking (state_of c.settle_word.new.s) c.args.seen) (taking (before_token (state_of c.args.s.now) c.args.seen) c.args.seen) c.args.s.now c.settle_word.new.s c.take_settled.new.s c.take_settled.result
+    (ap (λ (t : TexState). taking t c.args.seen) c.in_ok-settle_word.ensures.state) c.in_ok-settle_word.ensures.said c.take_settled.ensures
