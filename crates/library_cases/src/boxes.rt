@@ -1,11 +1,13 @@
 //! Cases of tx_node and tx_ship.
 use crate::lists::{Fault, list_of, natural};
 use std::alloc::{AllocError, Global};
+use tx_bytes::Bytes;
 use tx_cases::{first_word, write_hexadecimal};
 use tx_dvi::PageBody;
 use tx_node::{BoxNode, same_box, same_list};
 use tx_pack::PackError;
 use tx_ship::{ShipError, ShipParams, body};
+use tx_tfm::Fonts;
 
 /// - `box LIST`, its width, height and depth, how deep boxes nest, and how many nodes there are;
 /// - `twin LIST`, whether the box and a clone of it are equal, and `alike LIST|LIST`, whether two lists are;
@@ -42,7 +44,7 @@ fn write_page_at(
         text,
         word,
         box_of(alloc, rest),
-        &params(hoffset, voffset),
+        &params(alloc, hoffset, voffset),
     )
 }
 
@@ -89,9 +91,10 @@ fn write_alike(alloc: Global, text: &mut String, rest: &str) -> Result<(), Alloc
     }
 }
 
-/// The parameters of a page, with these offsets.
-fn params(hoffset: i64, voffset: i64) -> ShipParams {
+/// The parameters of a page, with these offsets; no earlier page defines a font.
+fn params(alloc: Global, hoffset: i64, voffset: i64) -> ShipParams {
     ShipParams {
+        defined: Bytes::new(alloc),
         counts: [7, 0, 0, 0, 0, 0, 0, 0, 0, -1],
         hoffset,
         voffset,
@@ -117,7 +120,7 @@ fn write_page(
     if params.mag != 1200 {
         return text.push_str("malformed");
     }
-    match body(alloc, &node, params) {
+    match body(alloc, &node, &Fonts::new(alloc), params) {
         Ok(page) => write_shipped(text, word, &page),
         Err(ShipError::SizeTooLarge) => text.push_str("too large"),
         Err(ShipError::OutsidePage) => text.push_str("outside"),

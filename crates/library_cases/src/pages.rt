@@ -5,6 +5,7 @@ use std::alloc::{AllocError, Global};
 use tx_bytes::Bytes;
 use tx_cases::{integers, write_hexadecimal};
 use tx_dvi::{DateParameters, PageBody, PageParts, assemble};
+use tx_list::Items;
 
 /// A rule of 2pt by 1pt.
 const RULE: [u8; 13] = [0x9f, 2, 0, 0, 0x84, 0, 2, 0, 0, 0, 1, 0, 0];
@@ -92,6 +93,7 @@ fn page(
     body.append(behind)?;
     let parts = PageParts {
         body,
+        fonts: Items::new(alloc),
         counts: [count, 0, 0, 0, 0, 0, 0, 0, 0, 0],
         height,
         width: 0x1_0000,

@@ -9,6 +9,7 @@ use tx_char::{Cat, Codes, ControlName, Token};
 use tx_convert::{push_job_name, push_meaning, push_number, push_roman, push_size, push_string};
 use tx_prim::{Expandable, Primitive};
 use tx_seen::Meaning;
+use tx_tfm::Fonts;
 use tx_toklist::{Body, Macro, ParameterText, Toks};
 
 /// What is put behind no tokens, a blank of category 10 as `_`, and what is none of category 12 as `?`:
@@ -82,7 +83,14 @@ fn meaning(alloc: Global, tokens: &mut Toks, rest: &str) -> Result<(), AllocErro
     let (escape, rest) = first_word(rest);
     let meaning = meaning_of(alloc, rest)?;
     let codes = Codes::initex(alloc)?;
-    push_meaning(alloc, tokens, escape_of(escape), &codes, &meaning)
+    push_meaning(
+        alloc,
+        tokens,
+        escape_of(escape),
+        &codes,
+        &Fonts::new(alloc),
+        &meaning,
+    )
 }
 
 fn meaning_of(alloc: Global, rest: &str) -> Result<Meaning, AllocError> {

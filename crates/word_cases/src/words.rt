@@ -1,0 +1,196 @@
+//! Cases of tx_word.
+use std::alloc::{AllocError, Global};
+use std::mem;
+use tx_bytes::Bytes;
+use tx_cases::{answered, first_word, malformed};
+use tx_node::{Character, Node, Plain, Shared};
+use tx_num::{Glue, Range};
+use tx_tfm::{Font, Fonts, NamedFont};
+use tx_word::{Piece, Places, WordError, WordParams, are_pieces, factor_behind, nodes};
+
+/// `load NAME`: the font that was taken last is the next font of the run. The answer is its number.
+pub fn load(
+    alloc: Global,
+    font: &mut Option<Font>,
+    fonts: &mut Fonts,
+    name: &str,
+) -> Result<String, AllocError> {
+    if fonts.len() == 255 || name.len() > 255 {
+        return answered(alloc, "full");
+    }
+    match mem::replace(font, None) {
+        None => answered(alloc, "missing"),
+        Some(font) => {
+            let name = Bytes::from_slice(alloc, name.as_bytes())?;
+            let number = fonts.push(alloc, NamedFont { name, font }, 45, -1)?;
+            format!(in alloc; "{number}")
+        }
+    }
+}
+
+/// `set SPACESKIP XSPACESKIP PIECE ..`: glue is `W,S,O,T,P`, of width W, which stretches by S of order O and shrinks by T of
+/// order P. A piece is `F/WORD`, a word in font F, where an underscore before or behind it is a boundary that counts, or `F:N`,
+/// a space in font F at the factor N.
+///
+/// The answer is the list: `cF,C,W,H,D` is a character C of font F, W wide, H high and D deep, `lF,C,W,H,D(..)` a ligature with
+/// the characters in whose stead it stands, `kN` a kern, and `gW,S,O,T,P` glue.
+pub fn set(alloc: Global, fonts: &Fonts, rest: &str) -> Result<String, AllocError> {
+    let (spaceskip, rest) = first_word(rest);
+    let (xspaceskip, rest) = first_word(rest);
+    let Some(params) = params_of(spaceskip, xspaceskip) else {
+        return malformed(alloc);
+    };
+    let Some(pieces) = pieces_of(alloc, rest)? else {
+        return malformed(alloc);
+    };
+    if !are_pieces(fonts, pieces.as_slice()) {
+        return answered(alloc, "missing");
+    }
+    match nodes(alloc, pieces.as_slice(), fonts, &params) {
+        Ok(list) => listed(alloc, list.as_slice()),
+        Err(WordError::SizeOutOfRange) => answered(alloc, "out of range"),
+        Err(WordError::OutOfMemory) => Err(AllocError),
+    }
+}
+
+/// `factor F C`: the space factor behind a character of the \sfcode C, where it was F.
+pub fn factor(alloc: Global, rest: &str) -> Result<String, AllocError> {
+    let (factor, code) = first_word(rest);
+    let factor: u16 = factor.parse().unwrap_or(0);
+    let code: u16 = code.parse().unwrap_or(65535);
+    if factor == 0 || factor > 32767 || code > 32767 {
+        return malformed(alloc);
+    }
+    let behind = factor_behind(factor, code);
+    format!(in alloc; "{behind}")
+}
+
+fn params_of(spaceskip: &str, xspaceskip: &str) -> Option<WordParams> {
+    Some(WordParams {
+        spaceskip: glue_of(spaceskip)?,
+        xspaceskip: glue_of(xspaceskip)?,
+    })
+}
+
+fn glue_of(text: &str) -> Option<Glue> {
+    let (width, rest) = text.split_once(',')?;
+    let (stretch, rest) = rest.split_once(',')?;
+    let (stretch_order, rest) = rest.split_once(',')?;
+    let (shrink, shrink_order) = rest.split_once(',')?;
+    let stretch_order: u8 = stretch_order.parse().ok()?;
+    let shrink_order: u8 = shrink_order.parse().ok()?;
+    if stretch_order > 3 || shrink_order > 3 {
+        return None;
+    }
+    let (width, stretch, shrink) = (size_of(width)?, size_of(stretch)?, size_of(shrink)?);
+    Glue::try_new(width, stretch, stretch_order, shrink, shrink_order).ok()
+}
+
+fn size_of(text: &str) -> Option<i64> {
+    let size = text.parse().ok()?;
+    if Range::Dimen.holds(size) {
+        Some(size)
+    } else {
+        None
+    }
+}
+
+/// The pieces of a text, None where it isn't one's.
+fn pieces_of(alloc: Global, text: &str) -> Result<Option<Vec<Piece>>, AllocError> {
+    let mut pieces = Vec::new(alloc);
+    for word in text.split(' ') {
+        match piece_of(alloc, word)? {
+            None => return Ok(None),
+            Some(piece) => pieces.push(piece)?,
+        }
+    }
+    Ok(Some(pieces))
+}
+
+fn piece_of(alloc: Global, text: &str) -> Result<Option<Piece>, AllocError> {
+    if let Some((font, chars)) = text.split_once('/') {
+        return Ok(Some(word_of(alloc, font.parse().unwrap_or(0), chars)?));
+    }
+    Ok(space_of(text))
+}
+
+fn word_of(alloc: Global, font: u8, text: &str) -> Result<Piece, AllocError> {
+    let (left, text) = match text.strip_prefix('_') {
+        Some(rest) => (true, rest),
+        None => (false, text),
+    };
+    let (right, text) = match text.strip_suffix('_') {
+        Some(rest) => (true, rest),
+        None => (false, text),
+    };
+    Ok(Piece::Word {
+        font,
+        chars: Bytes::from_slice(alloc, text.as_bytes())?,
+        left,
+        right,
+        places: Places::new(alloc),
+        hyphen: 45,
+    })
+}
+
+fn space_of(text: &str) -> Option<Piece> {
+    let (font, factor) = text.split_once(':')?;
+    Some(Piece::Space {
+        font: font.parse().ok()?,
+        factor: factor.parse().ok()?,
+    })
+}
+
+fn listed(alloc: Global, list: &[Node]) -> Result<String, AllocError> {
+    let mut text = String::new(alloc);
+    for node in list {
+        write_node(&mut text, node)?;
+    }
+    Ok(text)
+}
+
+/// Writes a node behind those before it.
+fn write_node(text: &mut String, node: &Node) -> Result<(), AllocError> {
+    if !text.is_empty() {
+        text.push(' ')?;
+    }
+    match node {
+        Node::Plain(item) => write_plain(text, *item),
+        Node::Shared(item) => write_shared(text, item),
+        Node::Box(_, _) => text.push_str("box"),
+    }
+}
+
+fn write_plain(text: &mut String, item: Plain) -> Result<(), AllocError> {
+    match item {
+        Plain::Character(character) => write_character(text, 'c', character),
+        Plain::Kern(_, size) => write!(text, "k{size}"),
+        Plain::Penalty(penalty) => write!(text, "p{penalty}"),
+        Plain::Glue(glue) => {
+            let (width, stretch, shrink) = (glue.width(), glue.stretch(), glue.shrink());
+            let (order, shrink_order) = (glue.stretch_order(), glue.shrink_order());
+            write!(text, "g{width},{stretch},{order},{shrink},{shrink_order}")
+        }
+    }
+}
+
+fn write_shared(text: &mut String, item: &Shared) -> Result<(), AllocError> {
+    match item {
+        Shared::Ligature(ligature) => {
+            write_character(text, 'l', ligature.character)?;
+            text.push('(')?;
+            for code in ligature.from.as_slice() {
+                text.push(char::from(*code))?;
+            }
+            text.push(')')
+        }
+        Shared::Rule(_) | Shared::Leaders(_) | Shared::Special(_) => text.push_str("other"),
+    }
+}
+
+/// A character by its kind, its font, its code as it stands, and its sizes.
+fn write_character(text: &mut String, kind: char, character: Character) -> Result<(), AllocError> {
+    let (font, code) = (character.font, char::from(character.code));
+    let (width, height, depth) = (character.width, character.height, character.depth);
+    write!(text, "{kind}{font},{code},{width},{height},{depth}")
+}
