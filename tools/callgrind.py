@@ -21,10 +21,12 @@ def build():
     subprocess.run([os.path.join(TOP, "vortex"), "--version"], capture_output=True)
 
 
-def instructions(command, document, profile=os.devnull):
-    """How many instructions a command takes for a document."""
+def instructions(command, document, profile=os.devnull, beside=()):
+    """How many instructions a command takes for a document, beside which these files lie."""
     valgrind = ["valgrind", "--tool=callgrind", f"--callgrind-out-file={profile}"]
     with tempfile.TemporaryDirectory() as folder:
+        for path in beside:
+            shutil.copy(path, folder)
         with open(os.path.join(folder, "main.tex"), "w") as file:
             file.write(document)
         done = subprocess.run(valgrind + command, cwd=folder, capture_output=True, stdin=subprocess.DEVNULL)

@@ -20,7 +20,7 @@ ERRORS = [
     (2, "Undefined control sequence"),
     (3, "Missing number|Improper alphabetic constant"),
     (4, "Illegal unit of measure|Missing = inserted for |Incompatible glue units"),
-    (5, "Bad (character|register) code|Bad mathchar|Invalid code"),
+    (5, "Bad (character|register) code|Bad mathchar|Invalid code|Bad space factor|Font .* has only"),
     (6, "Dimension too large"),
     (7, "Number too big"),
     (8, "Huge page cannot be shipped out|Arithmetic overflow"),
@@ -34,7 +34,8 @@ ERRORS = [
     (17, "File ended while|Forbidden control sequence"),
     (18, r"Missing \{ inserted"),
     (34, r"You can't use `\S*(lastbox|unkern|unpenalty|unskip)' in vertical|Incompatible list can't be unboxed"),
-    (19, "Missing control sequence inserted"),
+    (19, "Missing control sequence inserted|Missing font identifier"),
+    (21, "Font .* not load|Improper `at' size"),
     (20, "I can't find file"),
     (22, "Parameters must be numbered|You already have nine|Illegal parameter number"),
     (23, r"Missing \S{0,4}endcsname inserted|Extra \S{0,4}endcsname"),
@@ -46,9 +47,9 @@ ERRORS = [
 ]
 
 
-def ours(program, folder, names):
+def ours(program, folder, names, options=()):
     """The line that the program says, and its transcript."""
-    words = [program, "run", "--date", "2024-5-17-570", "--budget", "20000", "--out", "a", *names]
+    words = [program, "run", "--date", "2024-5-17-570", "--budget", "20000", "--out", "a", *options, *names]
     said = subprocess.run(words, cwd=folder, capture_output=True).stdout.decode("latin-1")
     log = b""
     if os.path.exists(os.path.join(folder, "a.log")):
@@ -72,16 +73,17 @@ def as_knuth(log):
             kind, letter, much = (word.decode() for word in report.groups())
             found.append(f"{kind.capitalize()} \\{letter}box ({much} " if kind == "overfull" else f"{kind.capitalize()} \\{letter}box (badness {much})")
         elif line.startswith(b"missing character "):
-            found.append(f"Missing character: There is no {shown_as_knuth(bytes([int(line.split()[2])]))} in font nullfont!")
+            code, name = re.fullmatch(rb"missing character (\d+) in (.*)", line).groups()
+            found.append(f"Missing character: There is no {shown_as_knuth(bytes([int(code)]))} in font {shown_as_knuth(name)}!")
     return "\n".join(found)
 
 
 def events(log):
     """What a log says, in order: texts of messages without what is meant to differ, missing characters, and bad boxes."""
     found = []
-    for text, character, box in re.findall(r"\|\*(.*?)\*\||There is no (\S+| ) in font nullfont!|((?:Over|Under)full \\[hv]box \((?:badness )?\S+|(?:Loose|Tight) \\[hv]box \(badness \d+)", log, re.S):
+    for text, character, font, box in re.findall(r"\|\*(.*?)\*\||There is no (\S+| ) in font (\S+?)!|((?:Over|Under)full \\[hv]box \((?:badness )?\S+|(?:Loose|Tight) \\[hv]box \(badness \d+)", log, re.S):
         if character:
-            found.append("missing " + character)
+            found.append(f"missing {character} in {font}")
         elif box:
             found.append(box.rstrip(")"))
         else:
@@ -206,7 +208,9 @@ def compare(files, said, log, theirs, our_counts, their_counts, whole=False):
         number = int(end[3])
         if number == 36 and error[0] == 36:
             return None
-        if number != error[0]:
+        # A font that is scaled by too much or too little is told of as a magnification is.
+        told_alike = number == 21 and error[0] == 35
+        if number != error[0] and not told_alike:
             return f"{end[0]}, Knuth's TeX {error}"
         if not is_place(files, error, end[4], int(end[5] or 0)):
             return f"{end[0]}, Knuth's TeX {error}"

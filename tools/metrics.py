@@ -77,6 +77,22 @@ class Metrics:
         return met
 
 
+def scaled(size, word):
+    """A fraction of a size in sp (TeX: The Program, sections 571 and 572)."""
+    alpha, z = 16, size
+    while z >= 2**23:
+        z, alpha = z // 2, 2 * alpha
+    a, b, c, d = word
+    part = ((d * z // 256 + c * z) // 256 + b * z) // (256 // alpha)
+    return part - alpha * z if a else part
+
+
+def widths(data, size):
+    """The widths of a font's characters at a size, in sp."""
+    font = Metrics(data)
+    return {code: scaled(size, font.part(3)[font.infos[code][0]]) for code in font.there}
+
+
 def ends(met, boundary, there, left, right):
     """Whether composing two characters ends within a thousand ligature commands; None is a boundary."""
     cursor, rest, done = left, [right], 0
