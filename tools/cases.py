@@ -179,5 +179,5 @@ FOR_NOW = [
     (b'\\vskip 3pt\\end\n', 'run: 0 pages, error 24 at main.tex line 1', b''),
     (b'\\shipout\\hbox{\\leaders\\hbox{}\\hskip 3pt}\\end\n', 'run: 0 pages, error 34 at main.tex line 1', b''),
     (b'\\shipout\\hbox{\\mskip 3mu}\\end\n', 'run: 0 pages, error 2 at main.tex line 1', b''),
-    (b'\\font\\a=cmr10 \\end\n', 'run: 0 pages, error 2 at main.tex line 1', b''),
+    (b'\\textfont0=\\nullfont \\end\n', 'run: 0 pages, error 2 at main.tex line 1', b''),
 ]
