@@ -10,7 +10,7 @@ use Rattle.tx_node.specs.declared.plain.LeadersKind.{LeadersKind}
 use Rattle.tx_node.specs.declared.rule.Rule.{Rule}
 use Rattle.tx_node.specs.declared.plain.Plain.TheVariants.{Penalty}
 use Rattle.tx_node.specs.Nodes.{item_of, list_of}
-use Rattle.tx_node.specs.Items.{Item, plain, shared, boxed, Items, none, more, PackedBox, items_of, box_item}
+use Rattle.tx_node.specs.Items.{Item, plain, shared, boxed, discretionary, adjustment, insertion, Items, none, more, PackedBox, items_of, box_item}
 
 -- the items of a box, as a list
 abbrev pub list_from : Items → List Item
@@ -24,6 +24,9 @@ list-back (item ∷ rest) = ap (λ xs. item ∷ xs) (list-back rest)
 abbrev box_part : PackedBox → Item → PackedBox
 box_part other (plain p) = other
 box_part other (shared s) = other
+box_part other (discretionary head pre post) = other
+box_part other (adjustment inner) = other
+box_part other (insertion head inner) = other
 box_part other (boxed shift head inner) = record { head = head; list = list_from inner }
 
 back : (shift : ℤ) (a : PackedBox) → box_part a (box_item shift a) ≡ a

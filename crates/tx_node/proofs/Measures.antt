@@ -1,8 +1,10 @@
 -- What walks through boxes go down: five times the count of nodes, a list standing above its items, an item above the box that it is,
 -- and this above what is put of it, one part after another.
 use Rattle.std.proofs.Common.{◌≡◌, ℕ, zero, suc, ◌+◌, ◌*◌, ◌<◌, ◌≤◌, List, [], ◌∷◌, length, get_or, arith, subst, sym}
+use Rattle.tx_node.specs.declared.node.Discretionary.{Discretionary}
+use Rattle.tx_node.specs.declared.node.Insertion.{Insertion}
 use Rattle.tx_node.specs.declared.node.Node.{Node}
-use Rattle.tx_node.specs.Items.{PackedBox, items_of}
+use Rattle.tx_node.specs.Items.{Item, PackedBox, items_of}
 use Rattle.tx_node.specs.Nodes.{item_of, list_of}
 use Rattle.tx_node.specs.Counts.{count_of, item_count, box_count}
 
@@ -20,6 +22,16 @@ framed_measure b = 5 * box_count b + 1
 
 abbrev pub inside_measure : PackedBox → ℕ
 inside_measure b = 5 * box_count b
+
+-- a list that is no box's, and what has one or two
+abbrev pub sublist_measure : List Item → ℕ
+sublist_measure list = 5 * count_of (items_of list) + 5
+
+abbrev pub discretionary_measure : Discretionary → ℕ
+discretionary_measure d = 5 * (count_of (items_of d.before) + count_of (items_of d.behind)) + 6
+
+abbrev pub insertion_measure : Insertion → ℕ
+insertion_measure n = 5 * count_of (items_of n.list) + 6
 
 counts : (xs : List Node) (i : ℕ) (d : Node) → i < length xs → item_count (item_of (get_or xs i d)) ≤ count_of (items_of (list_of xs))
 counts [] i d h = absurd (omega arith)

@@ -1,6 +1,6 @@
 -- How deep boxes nest, and how many nodes they hold.
-use Rattle.std.specs.Prelude.{ℕ, suc, ◌+◌, ◌-◌, ◌^◌, min, max}
-use Rattle.tx_node.specs.Items.{Item, Items, none, more, plain, shared, boxed, PackedBox, items_of}
+use Rattle.std.specs.Prelude.{ℕ, suc, ◌+◌, ◌-◌, ◌^◌, min, max, List}
+use Rattle.tx_node.specs.Items.{Item, Items, none, more, plain, shared, boxed, discretionary, adjustment, insertion, PackedBox, items_of}
 
 -- how deep boxes nest in a list: 0 where there is none, 1 where no box has a box in it
 abbrev mutual
@@ -12,8 +12,11 @@ abbrev mutual
   item_nesting (plain p) = 0
   item_nesting (shared s) = 0
   item_nesting (boxed shift head inner) = suc (nesting_of inner)
+  item_nesting (discretionary head before behind) = max (nesting_of before) (nesting_of behind)
+  item_nesting (adjustment inner) = nesting_of inner
+  item_nesting (insertion head inner) = nesting_of inner
 
--- how many nodes a list holds, with all that its boxes hold; a box is a node itself
+-- how many nodes a list holds, with all that their lists hold; what has a list is a node itself
 abbrev mutual
   pub count_of : Items → ℕ
   count_of none = 0
@@ -23,6 +26,9 @@ abbrev mutual
   item_count (plain p) = 1
   item_count (shared s) = 1
   item_count (boxed shift head inner) = suc (count_of inner)
+  item_count (discretionary head before behind) = suc (count_of before + count_of behind)
+  item_count (adjustment inner) = suc (count_of inner)
+  item_count (insertion head inner) = suc (count_of inner)
 
 -- the same of a box, itself counted
 abbrev pub box_nesting : PackedBox → ℕ
@@ -30,6 +36,10 @@ box_nesting b = suc (nesting_of (items_of b.list))
 
 abbrev pub box_count : PackedBox → ℕ
 box_count b = suc (count_of (items_of b.list))
+
+-- more than each list in a list counts
+abbrev pub list_size : List Item → ℕ
+list_size list = suc (count_of (items_of list))
 
 -- where counts end
 abbrev pub ended : ℕ → ℕ

@@ -1,16 +1,23 @@
 -- Lists, boxes in them, and what these are in code (TeX: The Program, part 10).
 use Rattle.std.specs.Prelude.{ℤ, List, [], ◌∷◌}
 use Rattle.tx_node.specs.declared.head.BoxHead.{BoxHead}
+use Rattle.tx_node.specs.declared.head.BreakHead.{BreakHead}
+use Rattle.tx_node.specs.declared.head.InsertHead.{InsertHead}
 use Rattle.tx_node.specs.declared.plain.Plain.{Plain}
 use Rattle.tx_node.specs.declared.plain.Shared.{Shared}
 
--- an item of a list: one without a list of its own, small or large, or a box, which is shifted by so many sp (down in a
--- horizontal list, to the right in a vertical one) and has a head and the list that it was made of
+-- an item of a list: one without a list of its own, small or large; a box, which is shifted by so many sp (down in a
+-- horizontal list, to the right in a vertical one) and has a head and the list that it was made of; a discretionary, with its
+-- texts before and behind a break (section 145); the vertical list of a \vadjust (section 142); or an insertion and its
+-- vertical list (section 140)
 mutual
   pub data Item : Type 0 where
     plain : Plain → Item
     shared : Shared → Item
     boxed : ℤ → BoxHead → Items → Item
+    discretionary : BreakHead → Items → Items → Item
+    adjustment : Items → Item
+    insertion : InsertHead → Items → Item
 
   -- items in their order: none, or one and those behind it
   pub data Items : Type 0 where

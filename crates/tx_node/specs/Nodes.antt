@@ -2,8 +2,8 @@
 use Rattle.std.specs.Prelude.{◌≡◌, ◌≤◌, ℕ, suc, true, pos, List, map}
 use Rattle.tx_node.specs.declared.head.BoxHead.{BoxHead}
 use Rattle.tx_node.specs.declared.node.Node.{Node}
-use Rattle.tx_node.specs.declared.node.Node.TheVariants.{Plain, Shared, Box}
-use Rattle.tx_node.specs.Items.{Item, plain, shared, box_item, items_of}
+use Rattle.tx_node.specs.declared.node.Node.TheVariants.{Plain, Shared, Box, Discretionary, Adjustment, Insertion}
+use Rattle.tx_node.specs.Items.{Item, plain, shared, discretionary, adjustment, insertion, box_item, items_of}
 use Rattle.tx_node.specs.Counts.{nesting_of, count_of, ended}
 use Rattle.tx_node.specs.Setting.{IsSet, sums_fit}
 
@@ -12,6 +12,9 @@ abbrev pub item_of : Node → Item
 item_of (Plain p) = plain p
 item_of (Shared s) = shared s.value
 item_of (Box shift b) = box_item shift b.value
+item_of (Discretionary d) = discretionary d.value.head (items_of d.value.before) (items_of d.value.behind)
+item_of (Adjustment a) = adjustment (items_of a.value)
+item_of (Insertion n) = insertion n.value.head (items_of n.value.list)
 
 -- the list that nodes are
 abbrev pub list_of : List Node → List Item
@@ -28,3 +31,9 @@ pub record IsKept (head : BoxHead) (nesting count : ℕ) (list : List Item) : Ty
   pub nesting_is : nesting ≡ suc (nesting_of (items_of list))
   pub count_is : count ≡ ended (suc (count_of (items_of list)))
   pub is_box : IsBox head list
+
+-- what any other list that a node has keeps beside it
+pub record IsSublist (nesting count : ℕ) (list : List Item) : Type 0 where
+  pub nesting_is : nesting ≡ nesting_of (items_of list)
+  pub count_is : count ≡ ended (count_of (items_of list))
+  pub nesting_in : nesting ≤ 500

@@ -9,9 +9,9 @@ use Rattle.tx_node.specs.declared.head.Direction.TheVariants.{Horizontal, Vertic
 use Rattle.tx_node.specs.declared.plain.Plain.{Plain}
 use Rattle.tx_node.specs.declared.plain.Plain.TheVariants.{Kern, Glue, Penalty, Character}
 use Rattle.tx_node.specs.declared.plain.Shared.{Shared}
-use Rattle.tx_node.specs.declared.plain.Shared.TheVariants.{Rule, Leaders, Special, Ligature}
+use Rattle.tx_node.specs.declared.plain.Shared.TheVariants.{Rule, Leaders, Special, Ligature, Mark}
 use Rattle.tx_node.specs.declared.rule.Rule.{Rule as RuleSides}
-use Rattle.tx_node.specs.Items.{Item, plain, shared, boxed}
+use Rattle.tx_node.specs.Items.{Item, plain, shared, boxed, discretionary, adjustment, insertion}
 
 -- the side of a rule, nothing where it runs
 abbrev pub side : Option ℤ → ℤ
@@ -29,11 +29,15 @@ shared_glue (Rule r) = None
 shared_glue (Leaders l) = Some l.glue
 shared_glue (Special text) = None
 shared_glue (Ligature l) = None
+shared_glue (Mark text) = None
 
 abbrev pub glue_of_item : Item → Option GlueSpec
 glue_of_item (plain p) = plain_glue p
 glue_of_item (shared s) = shared_glue s
 glue_of_item (boxed shift head inner) = None
+glue_of_item (discretionary head before behind) = None
+glue_of_item (adjustment inner) = None
+glue_of_item (insertion head inner) = None
 
 -- how far a character, a rule and a box reach in a list of this direction
 abbrev pub character_advance : Direction → CharacterItem → ℤ
@@ -48,7 +52,8 @@ abbrev pub box_advance : Direction → BoxHead → ℤ
 box_advance Horizontal head = head.width
 box_advance Vertical head = head.height +ℤ head.depth
 
--- how far an item moves the reference point naturally: to the right in a horizontal list, down in a vertical one
+-- how far an item moves the reference point naturally: to the right in a horizontal list, down in a vertical one; the no-break
+-- text of a discretionary stands behind it, as items of the list
 abbrev pub plain_advance : Direction → Plain → ℤ
 plain_advance direction (Kern kind size) = size
 plain_advance direction (Glue g) = g.width
@@ -60,8 +65,12 @@ shared_advance direction (Rule r) = rule_advance direction r
 shared_advance direction (Leaders l) = l.glue.width
 shared_advance direction (Special text) = pos 0
 shared_advance direction (Ligature l) = character_advance direction l.character
+shared_advance direction (Mark text) = pos 0
 
 abbrev pub advance : Direction → Item → ℤ
 advance direction (plain p) = plain_advance direction p
 advance direction (shared s) = shared_advance direction s
 advance direction (boxed shift head inner) = box_advance direction head
+advance direction (discretionary head before behind) = pos 0
+advance direction (adjustment inner) = pos 0
+advance direction (insertion head inner) = pos 0

@@ -1,4 +1,5 @@
-//! What a box is beside its list.
+//! What boxes, discretionaries and insertions are beside their lists.
+use tx_num::Glue;
 
 /// Which way the items of a list follow one another.
 #[derive(Clone, Copy, Debug, PartialEq, Eq)]
@@ -43,4 +44,24 @@ pub struct BoxHead {
     pub height: i32,
     pub depth: i32,
     pub setting: Setting,
+}
+
+/// A discretionary beside its texts (TeX: The Program, section 145): how many of the items that stand behind it in its list are
+/// its no-break text, and whether hyphenation made it.
+#[derive(Clone, Copy, Debug, PartialEq, Eq)]
+pub struct BreakHead {
+    pub replaced: u8,
+    pub hyphenated: bool,
+}
+
+/// An insertion beside its list (TeX: The Program, section 140): its class, the height plus depth of its list, and what splits
+/// it: the glue on top of what is left, the greatest depth of what is split off, and the price of what floats to another page.
+/// In sp.
+#[derive(Clone, Copy)]
+pub struct InsertHead {
+    pub class: u8,
+    pub size: i32,
+    pub split_top_skip: Glue,
+    pub split_max_depth: i32,
+    pub floating_penalty: i32,
 }

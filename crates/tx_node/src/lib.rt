@@ -1,5 +1,6 @@
-//! Lists and the boxes that are packed of them (TeX: The Program, part 10). A box keeps how deep boxes nest in it and how
-//! many nodes it holds; clones of a list share its boxes, and clones of a box its list.
+//! Lists, the boxes that are packed of them, and what else has lists: discretionaries, adjustments and insertions (TeX: The
+//! Program, part 10). Each keeps how deep boxes nest in it and how many nodes it holds; clones of a list share its nodes, and
+//! clones of a box its list.
 //!
 //! Proved: a list is what was put into it, a box keeps its head and its list, and its glue is set by what it has of it.
 //! Where items stand once glue is set is defined here, in specs/, for all who place them. Only tested: nothing.
@@ -19,8 +20,8 @@ mod setting;
 mod sizes;
 
 pub use character::{Character, Ligature};
-pub use head::{BoxHead, Change, Direction, GlueSet, Setting};
-pub use node::{BoxNode, Node};
+pub use head::{BoxHead, BreakHead, Change, Direction, GlueSet, InsertHead, Setting};
+pub use node::{BoxNode, Discretionary, Insertion, Node, Sublist};
 pub use nodes::Nodes;
 pub use plain::{KernKind, Leaders, LeadersKind, Plain, Shared};
 pub use rule::Rule;

@@ -1,7 +1,8 @@
-//! Nodes of lists, and boxes, which nest.
-ghost use Rattle.std.specs.Prelude.{◌≡◌, ◌≤◌, ◌<◌, ◌^◌, pos, true, unsigned_abs, IfOk};
+//! Nodes of lists, and boxes, which nest, and what else has lists.
+ghost use Rattle.std.specs.Prelude.{◌≡◌, ◌≤◌, ◌<◌, ◌+◌, ◌^◌, pos, suc, max, true, unsigned_abs, IfOk};
+ghost use Rattle.tx_node.specs.Counts.{ended as to_the_end};
 
-use crate::head::{BoxHead, Direction, Setting};
+use crate::head::{BoxHead, BreakHead, Direction, InsertHead, Setting};
 use crate::plain::{Plain, Shared};
 use std::alloc::{AllocError, Global};
 use std::marker::Model;
@@ -25,6 +26,33 @@ pub struct Held {
     pub(crate) list: Vec<Node>,
 }
 
+/// A list that a node has that is no box: how deep boxes nest in it, how many nodes it holds, and these. Contracts see the list
+/// of its items.
+#[cycle(node)]
+#[derive(Drop)]
+pub struct Sublist {
+    pub(crate) nesting: u16,
+    pub(crate) count: u64,
+    pub(crate) list: Vec<Node>,
+}
+
+/// A discretionary (TeX: The Program, section 145): the text before a break at it, and that behind one.
+#[cycle(node)]
+#[derive(Drop)]
+pub struct Discretionary {
+    pub head: BreakHead,
+    pub before: Sublist,
+    pub behind: Sublist,
+}
+
+/// An insertion (TeX: The Program, section 140), and its vertical list.
+#[cycle(node)]
+#[derive(Drop)]
+pub struct Insertion {
+    pub head: InsertHead,
+    pub list: Sublist,
+}
+
 /// One item of a list. Contracts see the item that `item_of` gives.
 #[cycle(node)]
 #[derive(Drop)]
@@ -36,6 +64,12 @@ pub enum Node {
     /// A box, which clones of the node share, and by how many sp it is shifted: down in a horizontal list, to the right in a
     /// vertical one.
     Box(i32, Rc<BoxNode>),
+    /// A discretionary, which clones of the node share.
+    Discretionary(Rc<Discretionary>),
+    /// The vertical list of a \vadjust (TeX: The Program, section 142), which clones of the node share.
+    Adjustment(Rc<Sublist>),
+    /// An insertion, which clones of the node share.
+    Insertion(Rc<Insertion>),
 }
 
 impl Model for BoxNode {
@@ -60,6 +94,134 @@ impl Model for BoxNode {
     ghost use Rattle.tx_node.specs.Falls.{falls};
 
     ghost size_decreases = { λ b h. omega (arith, falls b.held.value.list.items) };
+}
+
+impl Model for Sublist {
+    ghost use Rattle.std.specs.Prelude.{List};
+    ghost use Rattle.tx_node.specs.Items.{Item};
+
+    ghost Value = { List Item };
+
+    ghost use Rattle.std.specs.Coded.{coded_list};
+    ghost use Rattle.tx_node.specs.Codes.{item_code};
+
+    ghost coded = { coded_list item_code };
+
+    ghost use Rattle.tx_node.specs.Nodes.{list_of, IsSublist};
+    ghost use Rattle.tx_node.specs.Counts.{list_size};
+
+    ghost view = { λ s. list_of s.list.items };
+
+    ghost invariant = { λ s. IsSublist s.nesting s.count (list_of s.list.items) };
+
+    ghost size = { list_size };
+
+    ghost use Rattle.std.proofs.Common.{arith};
+    ghost use Rattle.tx_node.specs.Falls.{falls};
+
+    ghost size_decreases = { λ s h. omega (arith, falls s.list.items) };
+}
+
+impl Sublist {
+    ghost use Rattle.tx_node.specs.Nodes.{list_of};
+    ghost use Rattle.tx_node.specs.Items.{items_of};
+    ghost use Rattle.tx_node.specs.Counts.{nesting_of, count_of, ended};
+
+    /// How deep the boxes of the list nest: 0 where there is none, at most 500.
+    pub fn nesting(&self) -> u16
+        ensures value { result ≡ nesting_of (items_of self.now) }
+        ensures most { result ≤ 500 }
+    {
+        self.nesting
+    }
+
+    /// How many nodes there are, with all that they hold; counts end at 2^64-1.
+    pub fn count(&self) -> u64
+        ensures { result ≡ ended (count_of (items_of self.now)) }
+    {
+        self.count
+    }
+
+    /// The list, lent.
+    pub fn as_slice(&self) -> &[Node]
+        ensures { list_of result.now ≡ self.now }
+    {
+        self.list.as_slice()
+    }
+}
+
+impl Discretionary {
+    ghost use Rattle.tx_node.specs.Nodes.{list_of};
+    ghost use Rattle.tx_node.specs.Items.{items_of};
+    ghost use Rattle.tx_node.specs.Counts.{nesting_of, count_of, item_count, ended};
+
+    /// How many of the items that stand behind it in its list are its no-break text.
+    pub fn replaced(&self) -> u8
+        ensures { result ≡ self.now.head.replaced }
+    {
+        self.head.replaced
+    }
+
+    /// Whether hyphenation made it.
+    pub fn is_hyphenated(&self) -> bool
+        ensures { result ≡ self.now.head.hyphenated }
+    {
+        self.head.hyphenated
+    }
+
+    /// The text before a break at it, lent.
+    pub fn before(&self) -> &[Node]
+        ensures { list_of result.now ≡ self.now.before }
+    {
+        self.before.as_slice()
+    }
+
+    /// The text behind a break at it, lent.
+    pub fn behind(&self) -> &[Node]
+        ensures { list_of result.now ≡ self.now.behind }
+    {
+        self.behind.as_slice()
+    }
+
+    /// How deep boxes nest in its texts: 0 where there is none, at most 500.
+    pub fn nesting(&self) -> u16
+        ensures value { result ≡ max (nesting_of (items_of self.now.before)) (nesting_of (items_of self.now.behind)) }
+        ensures most { result ≤ 500 }
+    {
+        self.before.nesting().max(self.behind.nesting())
+    }
+
+    /// How many nodes there are, this one and all that its texts hold; counts end at 2^64-1.
+    pub fn count(&self) -> u64
+        ensures { result ≡ ended (suc (count_of (items_of self.now.before) + count_of (items_of self.now.behind))) }
+    {
+        one_more(self.before.count().saturating_add(self.behind.count()))
+    }
+}
+
+impl Insertion {
+    ghost use Rattle.tx_node.specs.Nodes.{list_of};
+
+    /// What it is beside its list.
+    pub fn head(&self) -> InsertHead
+        ensures { result ≡ self.now.head }
+    {
+        self.head
+    }
+
+    /// Its list, lent.
+    pub fn list(&self) -> &[Node]
+        ensures { list_of result.now ≡ self.now.list }
+    {
+        self.list.as_slice()
+    }
+}
+
+/// A count of one node more; counts end at 2^64-1.
+fn one_more(count: u64) -> u64
+    ensures { result ≡ to_the_end (suc count) }
+{
+    count.saturating_add(1)
 }
 
 impl BoxNode {
@@ -196,7 +358,7 @@ impl Node {
         }
     }
 
-    /// How deep boxes nest in the node: 0 where it is no box, at most 500.
+    /// How deep boxes nest in the node: 0 where it has none, at most 500.
     pub fn nesting(&self) -> u16
         ensures value { result ≡ item_nesting (item_of self.now) }
         ensures most { result ≤ 500 }
@@ -204,6 +366,9 @@ impl Node {
         match self {
             Node::Plain(_) | Node::Shared(_) => 0,
             Node::Box(_, inner) => inner.nesting(),
+            Node::Discretionary(inner) => inner.nesting(),
+            Node::Adjustment(inner) => inner.nesting(),
+            Node::Insertion(inner) => inner.list.nesting(),
         }
     }
 
@@ -214,11 +379,14 @@ impl Node {
         match self {
             Node::Plain(_) | Node::Shared(_) => 1,
             Node::Box(_, inner) => inner.count(),
+            Node::Discretionary(inner) => inner.count(),
+            Node::Adjustment(inner) => one_more(inner.count()),
+            Node::Insertion(inner) => one_more(inner.list.count()),
         }
     }
 }
 
-/// A clone is the same item, and shares the box that it is. Its only error is want of memory.
+/// A clone is the same item, and shares what it has. Its only error is want of memory.
 impl Clone for Node {
     ghost use Rattle.tx_node.specs.Nodes.{item_of};
 
@@ -229,6 +397,9 @@ impl Clone for Node {
             Node::Plain(item) => Ok(Node::Plain(*item)),
             Node::Shared(item) => Ok(Node::Shared(item.clone()?)),
             Node::Box(shift, inner) => Ok(Node::Box(*shift, inner.clone()?)),
+            Node::Discretionary(inner) => Ok(Node::Discretionary(inner.clone()?)),
+            Node::Adjustment(inner) => Ok(Node::Adjustment(inner.clone()?)),
+            Node::Insertion(inner) => Ok(Node::Insertion(inner.clone()?)),
         }
     }
 }

@@ -1,12 +1,12 @@
 //! Lists, and boxes made of them.
 ghost use Rattle.std.specs.Prelude.{◌≡◌, ◌↔◌, ◌≤◌, ◌∷◌, ◌++◌, [], suc, length, IsTrue, IfOk, OnOk, OnErr, MatchOption};
 ghost use Rattle.tx_node.specs.Nodes.{item_of, list_of, IsBox};
-ghost use Rattle.tx_node.specs.Items.{items_of};
+ghost use Rattle.tx_node.specs.Items.{items_of, discretionary, adjustment, insertion};
 ghost use Rattle.tx_node.specs.Counts.{nesting_of, count_of, ended};
 
-use crate::head::BoxHead;
+use crate::head::{BoxHead, BreakHead, InsertHead};
 use crate::measure::{counted, deepest};
-use crate::node::{BoxNode, Held, Node};
+use crate::node::{BoxNode, Discretionary, Held, Insertion, Node, Sublist};
 use crate::same::same_list;
 use std::alloc::{AllocError, Global};
 use std::marker::Model;
@@ -42,6 +42,17 @@ impl Nodes {
         Nodes {
             items: Vec::new(alloc),
         }
+    }
+
+    /// The items of a lent list, in a list of their own that shares them. Its only error is want of memory.
+    pub fn share_of(alloc: Global, nodes: &[Node]) -> Result<Nodes, AllocError>
+        ensures { IfOk result (λ made. made ≡ list_of nodes.now) }
+    {
+        let mut copy = Nodes::new(alloc);
+        for node in nodes {
+            copy.push(node.clone()?)?;
+        }
+        Ok(copy)
     }
 
     /// The nodes, lent.
@@ -159,5 +170,64 @@ impl BoxNode {
         Ok(Nodes {
             items: shared(&self.held.list)?,
         })
+    }
+}
+
+/// A list, as one that a node has.
+fn sublist(list: Nodes) -> Sublist
+    ensures { result ≡ list }
+{
+    Sublist {
+        nesting: list.nesting(),
+        count: list.count(),
+        list: list.into_vec(),
+    }
+}
+
+impl Node {
+    /// A discretionary with these texts before and behind a break at it, of so many items that stand behind it as its no-break
+    /// text; `hyphenated` says whether hyphenation made it. Its only error is want of memory.
+    pub fn from_discretionary(
+        alloc: Global,
+        before: Nodes,
+        behind: Nodes,
+        replaced: u8,
+        hyphenated: bool,
+    ) -> Result<Node, AllocError>
+        ensures { IfOk result (λ node. item_of node ≡ discretionary (record { replaced = replaced; hyphenated = hyphenated }) (items_of before) (items_of behind)) }
+    {
+        let made = Discretionary {
+            head: BreakHead {
+                replaced,
+                hyphenated,
+            },
+            before: sublist(before),
+            behind: sublist(behind),
+        };
+        match Rc::new(alloc, made) {
+            Ok(inner) => Ok(Node::Discretionary(inner)),
+            Err(_) => Err(AllocError),
+        }
+    }
+
+    /// What a \vadjust puts into its list: a vertical list. Its only error is want of memory.
+    pub fn from_adjustment(alloc: Global, list: Nodes) -> Result<Node, AllocError>
+        ensures { IfOk result (λ node. item_of node ≡ adjustment (items_of list)) }
+    {
+        match Rc::new(alloc, sublist(list)) {
+            Ok(inner) => Ok(Node::Adjustment(inner)),
+            Err(_) => Err(AllocError),
+        }
+    }
+
+    /// An insertion of a vertical list. Its only error is want of memory.
+    pub fn from_insertion(alloc: Global, head: InsertHead, list: Nodes) -> Result<Node, AllocError>
+        ensures { IfOk result (λ node. item_of node ≡ insertion head (items_of list)) }
+    {
+        let list = sublist(list);
+        match Rc::new(alloc, Insertion { head, list }) {
+            Ok(inner) => Ok(Node::Insertion(inner)),
+            Err(_) => Err(AllocError),
+        }
     }
 }

@@ -3,6 +3,7 @@ use crate::character::{Character, Ligature};
 use crate::rule::Rule;
 use tx_bytes::Bytes;
 use tx_num::Glue;
+use tx_toklist::TokList;
 
 /// Where a kern comes from (TeX: The Program, section 155).
 #[derive(Clone, Copy, Debug, PartialEq, Eq)]
@@ -56,4 +57,6 @@ pub enum Shared {
     Special(Bytes),
     /// A ligature.
     Ligature(Ligature),
+    /// The tokens of a \mark (TeX: The Program, section 141).
+    Mark(TokList),
 }

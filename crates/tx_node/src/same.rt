@@ -3,8 +3,8 @@ ghost use Rattle.std.specs.Prelude.{◌≡◌, ◌↔◌, IsTrue};
 ghost use Rattle.tx_node.specs.Nodes.{item_of, list_of};
 
 use crate::character::{Character, Ligature};
-use crate::head::{BoxHead, Change, Direction, GlueSet, Setting};
-use crate::node::{BoxNode, Node};
+use crate::head::{BoxHead, BreakHead, Change, Direction, GlueSet, InsertHead, Setting};
+use crate::node::{BoxNode, Discretionary, Insertion, Node, Sublist};
 use crate::plain::{KernKind, Leaders, LeadersKind, Plain, Shared};
 use crate::rule::Rule;
 use tx_num::Glue;
@@ -151,11 +151,46 @@ fn same_shared(a: &Shared, b: &Shared) -> bool
         (Shared::Leaders(a), Shared::Leaders(b)) => same_leaders(*a, *b),
         (Shared::Special(a), Shared::Special(b)) => a.same(b),
         (Shared::Ligature(a), Shared::Ligature(b)) => same_ligature(a, b),
-        (Shared::Rule(_), Shared::Leaders(_) | Shared::Special(_) | Shared::Ligature(_))
-        | (Shared::Leaders(_), Shared::Rule(_) | Shared::Special(_) | Shared::Ligature(_))
-        | (Shared::Special(_), Shared::Rule(_) | Shared::Leaders(_) | Shared::Ligature(_))
-        | (Shared::Ligature(_), Shared::Rule(_) | Shared::Leaders(_) | Shared::Special(_)) => false,
+        (Shared::Mark(a), Shared::Mark(b)) => a.same(b),
+        (
+            Shared::Rule(_),
+            Shared::Leaders(_) | Shared::Special(_) | Shared::Ligature(_) | Shared::Mark(_),
+        )
+        | (
+            Shared::Leaders(_),
+            Shared::Rule(_) | Shared::Special(_) | Shared::Ligature(_) | Shared::Mark(_),
+        )
+        | (
+            Shared::Special(_),
+            Shared::Rule(_) | Shared::Leaders(_) | Shared::Ligature(_) | Shared::Mark(_),
+        )
+        | (
+            Shared::Ligature(_),
+            Shared::Rule(_) | Shared::Leaders(_) | Shared::Special(_) | Shared::Mark(_),
+        )
+        | (
+            Shared::Mark(_),
+            Shared::Rule(_) | Shared::Leaders(_) | Shared::Special(_) | Shared::Ligature(_),
+        ) => false,
     }
+}
+
+/// Whether two discretionaries are equal beside their texts.
+fn same_break(a: BreakHead, b: BreakHead) -> bool
+    ensures { IsTrue result ↔ (a ≡ b) }
+{
+    a.replaced == b.replaced && a.hyphenated == b.hyphenated
+}
+
+/// Whether two insertions are equal beside their lists.
+fn same_insert(a: &InsertHead, b: &InsertHead) -> bool
+    ensures { IsTrue result ↔ (a.now ≡ b.now) }
+{
+    a.class == b.class
+        && a.size == b.size
+        && same_glue(a.split_top_skip, b.split_top_skip)
+        && a.split_max_depth == b.split_max_depth
+        && a.floating_penalty == b.floating_penalty
 }
 
 /// Whether two nodes are the same item.
@@ -167,9 +202,57 @@ pub fn same_node(a: &Node, b: &Node) -> bool
         (Node::Plain(a), Node::Plain(b)) => same_plain(a, b),
         (Node::Shared(a), Node::Shared(b)) => same_shared(a, b),
         (Node::Box(s, a), Node::Box(t, b)) => *s == *t && same_box(a, b),
-        (Node::Plain(_), Node::Shared(_) | Node::Box(_, _))
-        | (Node::Shared(_), Node::Plain(_) | Node::Box(_, _))
-        | (Node::Box(_, _), Node::Plain(_) | Node::Shared(_)) => false,
+        (Node::Discretionary(a), Node::Discretionary(b)) => same_discretionary(a, b),
+        (Node::Adjustment(a), Node::Adjustment(b)) => same_sublist(a, b),
+        (Node::Insertion(a), Node::Insertion(b)) => same_insertion(a, b),
+        (
+            Node::Plain(_),
+            Node::Shared(_)
+            | Node::Box(_, _)
+            | Node::Discretionary(_)
+            | Node::Adjustment(_)
+            | Node::Insertion(_),
+        )
+        | (
+            Node::Shared(_),
+            Node::Plain(_)
+            | Node::Box(_, _)
+            | Node::Discretionary(_)
+            | Node::Adjustment(_)
+            | Node::Insertion(_),
+        )
+        | (
+            Node::Box(_, _),
+            Node::Plain(_)
+            | Node::Shared(_)
+            | Node::Discretionary(_)
+            | Node::Adjustment(_)
+            | Node::Insertion(_),
+        )
+        | (
+            Node::Discretionary(_),
+            Node::Plain(_)
+            | Node::Shared(_)
+            | Node::Box(_, _)
+            | Node::Adjustment(_)
+            | Node::Insertion(_),
+        )
+        | (
+            Node::Adjustment(_),
+            Node::Plain(_)
+            | Node::Shared(_)
+            | Node::Box(_, _)
+            | Node::Discretionary(_)
+            | Node::Insertion(_),
+        )
+        | (
+            Node::Insertion(_),
+            Node::Plain(_)
+            | Node::Shared(_)
+            | Node::Box(_, _)
+            | Node::Discretionary(_)
+            | Node::Adjustment(_),
+        ) => false,
     }
 }
 
@@ -185,6 +268,42 @@ pub fn same_box(a: &BoxNode, b: &BoxNode) -> bool
         return false;
     }
     same_list(a.list(), b.list())
+}
+
+/// Whether two discretionaries are equal.
+#[cycle(same)]
+fn same_discretionary(a: &Discretionary, b: &Discretionary) -> bool
+    ensures { IsTrue result ↔ (a.now ≡ b.now) }
+{
+    if !same_break(a.head, b.head) {
+        return false;
+    }
+    if !same_sublist(&a.before, &b.before) {
+        return false;
+    }
+    same_sublist(&a.behind, &b.behind)
+}
+
+/// Whether two insertions are equal.
+#[cycle(same)]
+fn same_insertion(a: &Insertion, b: &Insertion) -> bool
+    ensures { IsTrue result ↔ (a.now ≡ b.now) }
+{
+    if !same_insert(&a.head, &b.head) {
+        return false;
+    }
+    same_sublist(&a.list, &b.list)
+}
+
+/// Whether two lists that nodes have are equal.
+#[cycle(same)]
+fn same_sublist(a: &Sublist, b: &Sublist) -> bool
+    ensures { IsTrue result ↔ (a.now ≡ b.now) }
+{
+    if a.count() != b.count() {
+        return false;
+    }
+    same_list(a.as_slice(), b.as_slice())
 }
 
 /// Whether two lists have the same items.

@@ -75,7 +75,7 @@ fn shared_advance(direction: Direction, item: &Shared) -> i64
     match item {
         Shared::Rule(rule) => rule_advance(direction, *rule),
         Shared::Leaders(leaders) => leaders.glue.width(),
-        Shared::Special(_) => 0,
+        Shared::Special(_) | Shared::Mark(_) => 0,
         Shared::Ligature(ligature) => ligature.character.advance(direction),
     }
 }
@@ -90,6 +90,7 @@ impl Node {
             Node::Plain(item) => plain_advance(direction, *item),
             Node::Shared(item) => shared_advance(direction, item),
             Node::Box(_, inner) => inner.head().advance(direction),
+            Node::Discretionary(_) | Node::Adjustment(_) | Node::Insertion(_) => 0,
         }
     }
 
@@ -100,7 +101,8 @@ impl Node {
         match self {
             Node::Plain(item) => plain_glue(*item),
             Node::Shared(item) => shared_glue(item),
-            Node::Box(_, _) => None,
+            Node::Box(_, _) | Node::Discretionary(_) | Node::Adjustment(_) | Node::Insertion(_) =>
+                None,
         }
     }
 }
@@ -118,7 +120,7 @@ fn shared_glue(item: &Shared) -> Option<Glue>
     ensures { result ≡ spec.shared_glue item.now }
 {
     match item {
-        Shared::Rule(_) | Shared::Special(_) | Shared::Ligature(_) => None,
+        Shared::Rule(_) | Shared::Special(_) | Shared::Ligature(_) | Shared::Mark(_) => None,
         Shared::Leaders(leaders) => Some(leaders.glue),
     }
 }

@@ -1,6 +1,6 @@
 use Rattle.std.proofs.Common.{◌≡◌, length, take}
 use Rattle.tx_node.specs.Nodes.{list_of}
-use Rattle.tx_node.proofs.Measures.{list_measure, node_measure, box_measure}
+use Rattle.tx_node.proofs.Measures.{list_measure, node_measure, box_measure, sublist_measure, discretionary_measure, insertion_measure}
 use Rattle.tx_node.proofs.same.+same.Given as goal
 
 abbrev pub invariant-same_list-loop-i : goal.invariant-same_list-loop-i
@@ -17,3 +17,12 @@ decreases-same_node l = node_measure l.a.now
 
 abbrev pub decreases-same_box : goal.decreases-same_box
 decreases-same_box l = box_measure l.a.now
+
+abbrev pub decreases-same_sublist : goal.decreases-same_sublist
+decreases-same_sublist l = sublist_measure l.a.now
+
+abbrev pub decreases-same_discretionary : goal.decreases-same_discretionary
+decreases-same_discretionary l = discretionary_measure l.a.now
+
+abbrev pub decreases-same_insertion : goal.decreases-same_insertion
+decreases-same_insertion l = insertion_measure l.a.now
