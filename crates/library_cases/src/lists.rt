@@ -1,16 +1,19 @@
 //! Lists of boxes, as they are written in cases: `kN` is a kern, `rW,H,D` a rule, where `-` is a side that isn't given,
 //! `gW,S,O,T,P` glue of width W that stretches by S of order O and shrinks by T of order P, `s` the same of nothing, `pN` a
-//! penalty, `xTEXT` a special, `lRULE/GLUE` leaders, and what stands between `(` and `)N` a box of the natural size, shifted
-//! by N or not at all. `N*` before one of these words stands for so many of it.
+//! penalty, `xTEXT` a special, `lRULE/GLUE` leaders, `m` a mark of no tokens, and what stands between `(` and `)N` a box of the
+//! natural size, shifted by N or not at all. What stands between `(` and `)v` is the list of a \vadjust, before `)iN` that of an
+//! insertion of class N; `( LIST / LIST )dN` is a discretionary whose no-break text are the N items behind it. `N*` before one of
+//! these words stands for so many of it.
 ghost use Rattle.std.specs.Prelude.{IfSome};
 ghost use Rattle.tx_num.specs.Glue.{IsDimension};
 
 use std::alloc::{AllocError, Global};
 use std::mem;
 use tx_bytes::Bytes;
-use tx_node::{KernKind, Leaders, LeadersKind, Node, Nodes, Plain, Rule, Shared};
+use tx_node::{InsertHead, KernKind, Leaders, LeadersKind, Node, Nodes, Plain, Rule, Shared};
 use tx_num::{Glue, Range};
 use tx_pack::{Goal, PackError, PackParams, Packed, hpack};
+use tx_toklist::{TokList, Toks};
 
 /// Why there is no list.
 #[derive(Drop)]
@@ -70,7 +73,7 @@ fn put(alloc: Global, outer: &mut Vec<Nodes>, list: &mut Nodes, word: &str) -> R
     }
     match word {
         "" => Ok(()),
-        "(" => Ok(begin(alloc, outer, list)?),
+        "(" | "/" => Ok(begin(alloc, outer, list)?),
         _ => Ok(list.push(node_of(alloc, word)?)?),
     }
 }
@@ -80,11 +83,41 @@ fn begin(alloc: Global, outer: &mut Vec<Nodes>, list: &mut Nodes) -> Result<(), 
     Ok(())
 }
 
-fn end(alloc: Global, outer: &mut Vec<Nodes>, list: &mut Nodes, shift: &str) -> Result<(), Fault> {
+fn end(alloc: Global, outer: &mut Vec<Nodes>, list: &mut Nodes, sign: &str) -> Result<(), Fault> {
     let around = outer.pop().ok_or(Fault::Malformed)?;
-    let packed = natural(alloc, mem::replace(list, around))?;
-    list.push(Node::from_box(alloc, shift.parse().unwrap_or(0), packed.node)?)?;
+    let inner = mem::replace(list, around);
+    if let Some(replaced) = sign.strip_prefix('d') {
+        let around = outer.pop().ok_or(Fault::Malformed)?;
+        let before = mem::replace(list, around);
+        let replaced = replaced.parse().ok().ok_or(Fault::Malformed)?;
+        list.push(Node::from_discretionary(alloc, before, inner, replaced, false)?)?;
+        return Ok(());
+    }
+    list.push(ended(alloc, inner, sign)?)?;
     Ok(())
+}
+
+/// What a list is whose end has this sign.
+fn ended(alloc: Global, inner: Nodes, sign: &str) -> Result<Node, Fault> {
+    if sign == "v" {
+        return Ok(Node::from_adjustment(alloc, inner)?);
+    }
+    if let Some(class) = sign.strip_prefix('i') {
+        let class = class.parse().ok().ok_or(Fault::Malformed)?;
+        return Ok(Node::from_insertion(alloc, insert_head(class), inner)?);
+    }
+    let packed = natural(alloc, inner)?;
+    Ok(Node::from_box(alloc, sign.parse().unwrap_or(0), packed.node)?)
+}
+
+fn insert_head(class: u8) -> InsertHead {
+    InsertHead {
+        class,
+        size: 0,
+        split_top_skip: Glue::zero(),
+        split_max_depth: 0,
+        floating_penalty: 0,
+    }
 }
 
 /// A list in a box of its natural size.
@@ -125,6 +158,9 @@ fn shared_of(alloc: Global, word: &str) -> Result<Option<Shared>, AllocError> {
     }
     if let Some(sides) = word.strip_prefix('r') {
         return Ok(rule_of(sides).map(Shared::Rule));
+    }
+    if word == "m" {
+        return Ok(Some(Shared::Mark(TokList::from_toks(alloc, Toks::new(alloc))?)));
     }
     Ok(leaders_of(word).map(Shared::Leaders))
 }

@@ -1,11 +1,11 @@
--- What commands read and take away of a list's last item (TeX: The Program, sections 424, 1080 and 1105).
-use Rattle.std.specs.Prelude.{◌-◌, ℤ, pos, Bool, false, is_some, List, [], ◌∷◌, length, take, slice_get, unwrap_or, Option, Some, None, option_and_then, if◌then◌else◌}
+-- What commands read and take away of a list's last item (TeX: The Program, sections 424, 1080, 1081 and 1105).
+use Rattle.std.specs.Prelude.{ℕ, ◌-◌, ℤ, pos, Bool, false, not, ◌&&◌, ◌||◌, nat_lt, nat_le, is_some, List, [], ◌∷◌, length, take, slice_get, unwrap_or, Option, Some, None, option_and_then, if◌then◌else◌}
 use Rattle.tx_num.specs.Glue.{GlueSpec, glue_of}
 use Rattle.tx_prim.specs.declared.family.ItemKind.{ItemKind}
 use Rattle.tx_prim.specs.declared.family.ItemKind.TheVariants as kind
 use Rattle.tx_node.specs.declared.plain.Plain.{Plain}
 use Rattle.tx_node.specs.declared.plain.Plain.TheVariants.{Kern, Glue, Penalty, Character}
-use Rattle.tx_node.specs.Items.{Item, Items, none, more, plain, shared, boxed, PackedBox}
+use Rattle.tx_node.specs.Items.{Item, Items, none, more, plain, shared, boxed, discretionary, adjustment, insertion, PackedBox}
 use Rattle.tx_node.specs.Sizes.{glue_of_item}
 
 -- the last item, None where the list is empty
@@ -23,6 +23,9 @@ abbrev pub penalty_of : Item → Option ℤ
 penalty_of (plain p) = plain_penalty p
 penalty_of (shared s) = None
 penalty_of (boxed shift head inner) = None
+penalty_of (discretionary replaced pre post) = None
+penalty_of (adjustment inner) = None
+penalty_of (insertion inserted inner) = None
 
 abbrev pub plain_kern : Plain → Option ℤ
 plain_kern (Kern kind size) = Some size
@@ -34,6 +37,9 @@ abbrev pub kern_of : Item → Option ℤ
 kern_of (plain p) = plain_kern p
 kern_of (shared s) = None
 kern_of (boxed shift head inner) = None
+kern_of (discretionary replaced pre post) = None
+kern_of (adjustment inner) = None
+kern_of (insertion inserted inner) = None
 
 abbrev pub list_from : Items → List Item
 list_from none = []
@@ -43,6 +49,9 @@ abbrev pub box_of : Item → Option PackedBox
 box_of (plain p) = None
 box_of (shared s) = None
 box_of (boxed shift head inner) = Some (record { head = head; list = list_from inner })
+box_of (discretionary replaced pre post) = None
+box_of (adjustment inner) = None
+box_of (insertion inserted inner) = None
 
 -- \lastpenalty, \lastkern and \lastskip: nothing where the last item is another
 abbrev pub last_penalty : List Item → ℤ
@@ -58,9 +67,23 @@ no_glue = glue_of (pos 0) (pos 0) 0 (pos 0) 0
 abbrev pub last_skip : List Item → GlueSpec
 last_skip list = unwrap_or (option_and_then glue_of_item (last_of list)) no_glue
 
--- the box of \lastbox
+-- whether the last item belongs to a discretionary's no-break text: a discretionary with so many items behind it that all of
+-- them are of this; it has at most 255
+abbrev pub reaches : ℕ → Item → Bool
+reaches distance (plain p) = false
+reaches distance (shared s) = false
+reaches distance (boxed shift head inner) = false
+reaches distance (discretionary head pre post) = nat_lt 0 distance && (nat_lt distance 256 && nat_le distance head.replaced)
+reaches distance (adjustment inner) = false
+reaches distance (insertion head inner) = false
+
+abbrev pub is_replaced : List Item → Bool
+is_replaced [] = false
+is_replaced (item ∷ rest) = reaches (length rest) item || is_replaced rest
+
+-- the box of \lastbox, which takes none from a no-break text
 abbrev pub last_box : List Item → Option PackedBox
-last_box list = option_and_then box_of (last_of list)
+last_box list = if is_replaced list then None else option_and_then box_of (last_of list)
 
 -- the items that \unpenalty, \unkern and \unskip take away
 abbrev pub is_of : ItemKind → Item → Bool
@@ -76,9 +99,9 @@ is_last_of kind (Some item) = is_of kind item
 abbrev pub shortened : List Item → List Item
 shortened list = take (length list - 1) list
 
--- a list without its last item, if that is one of these, or a box
+-- a list without its last item, if that is one of these, or a box, and of no no-break text
 abbrev pub without_last : ItemKind → List Item → List Item
-without_last kind list = if is_last_of kind (last_of list) then shortened list else list
+without_last kind list = if is_last_of kind (last_of list) && not (is_replaced list) then shortened list else list
 
 abbrev pub without_box : List Item → List Item
 without_box list = if is_some (last_box list) then shortened list else list

@@ -1,6 +1,6 @@
 //! What commands read and take away of a list's last item.
 ghost use Rattle.std.specs.Prelude.{◌≡◌, option_copied, option_map, IfOk, OnOk};
-ghost use Rattle.tx_node.specs.Nodes.{item_of};
+ghost use Rattle.tx_node.specs.Nodes.{item_of, list_of};
 ghost use Rattle.tx_nest.specs.Lasts as spec;
 
 use crate::list::ModeList;
@@ -25,6 +25,7 @@ fn penalty_of(node: &Node) -> Option<i32>
         Node::Plain(Plain::Penalty(number)) => Some(*number),
         Node::Plain(Plain::Kern(_, _) | Plain::Glue(_) | Plain::Character(_)) => None,
         Node::Shared(_) | Node::Box(_, _) => None,
+        Node::Discretionary(_) | Node::Adjustment(_) | Node::Insertion(_) => None,
     }
 }
 
@@ -36,6 +37,7 @@ fn kern_of(node: &Node) -> Option<i32>
         Node::Plain(Plain::Kern(_, size)) => Some(*size),
         Node::Plain(Plain::Penalty(_) | Plain::Glue(_) | Plain::Character(_)) => None,
         Node::Shared(_) | Node::Box(_, _) => None,
+        Node::Discretionary(_) | Node::Adjustment(_) | Node::Insertion(_) => None,
     }
 }
 
@@ -47,6 +49,7 @@ fn box_of(node: &Node) -> Result<Option<BoxNode>, AllocError>
     match node {
         Node::Box(_, inner) => Ok(Some(BoxNode::clone(inner)?)),
         Node::Plain(_) | Node::Shared(_) => Ok(None),
+        Node::Discretionary(_) | Node::Adjustment(_) | Node::Insertion(_) => Ok(None),
     }
 }
 
@@ -101,6 +104,43 @@ fn is_last_of(kind: ItemKind, nodes: &Nodes) -> bool
     }
 }
 
+/// Whether an item is a discretionary whose no-break text all of so many items behind it are.
+fn reaches(distance: usize, node: &Node) -> bool
+    ensures { result ≡ spec.reaches distance (item_of node.now) }
+{
+    match node {
+        Node::Discretionary(inner) => {
+            0 < distance && distance < 256 && distance <= usize::from(inner.replaced())
+        }
+        Node::Plain(_) | Node::Shared(_) | Node::Box(_, _) => false,
+        Node::Adjustment(_) | Node::Insertion(_) => false,
+    }
+}
+
+/// Whether the last of these items belongs to the no-break text of a discretionary among them.
+fn is_replaced_in(items: &[Node]) -> bool
+    ensures { result ≡ spec.is_replaced (list_of items.now) }
+{
+    let count = items.len();
+    for i in 0..count {
+        if reaches(count - 1 - i, &items[i]) {
+            return true;
+        }
+    }
+    false
+}
+
+/// Whether the last item belongs to a discretionary's no-break text: this has at most 255 items, so no more of them are looked
+/// at before the last one.
+#[tactic(auto, using(crate::proofs::Replaced::near))]
+fn is_replaced(nodes: &Nodes) -> bool
+    ensures { result ≡ spec.is_replaced nodes.now }
+{
+    let items = nodes.as_slice();
+    let passed = items.len().saturating_sub(256);
+    is_replaced_in(&items[passed..])
+}
+
 /// Takes the last item away, if there is one.
 #[tactic(auto, using(crate::proofs::Lists::shortened_more))]
 fn shorten(nodes: &mut Nodes)
@@ -109,26 +149,30 @@ fn shorten(nodes: &mut Nodes)
     let _ = nodes.pop();
 }
 
-/// \unpenalty, \unkern and \unskip: takes the last item away where it is of this kind.
+/// \unpenalty, \unkern and \unskip: takes the last item away where it is of this kind and belongs to no no-break text.
 pub fn remove_last(nodes: &mut Nodes, kind: ItemKind)
     ensures { nodes.new ≡ spec.without_last kind nodes.old }
 {
-    if is_last_of(kind, nodes) {
+    if is_last_of(kind, nodes) && !is_replaced(nodes) {
         shorten(nodes);
     }
 }
 
-/// The box that stands last, lent list and all. Its only error is that no more owners can be counted.
+/// The box that stands last and belongs to no no-break text, lent list and all. Its only error is that no more owners can be counted.
 fn last_box(nodes: &Nodes) -> Result<Option<BoxNode>, AllocError>
     ensures { IfOk result (λ found. found ≡ spec.last_box nodes.now) }
 {
+    if is_replaced(nodes) {
+        return Ok(None);
+    }
     match last_node(nodes) {
         Some(node) => box_of(node),
         None => Ok(None),
     }
 }
 
-/// \lastbox: takes a box that stands last away and answers it, without its shift; None where no box stands last. After an
+/// \lastbox: takes a box that stands last away and answers it, without its shift; None where no box stands last, or one of a
+/// no-break text. After an
 /// error, that no more owners can be counted, nothing has changed.
 pub fn take_last_box(nodes: &mut Nodes) -> Result<Option<BoxNode>, AllocError>
     ensures found { IfOk result (λ found. found ≡ spec.last_box nodes.old) }

@@ -11,9 +11,9 @@ use Rattle.tx_node.specs.declared.head.Direction.TheVariants.{Horizontal, Vertic
 use Rattle.tx_node.specs.declared.plain.Plain.{Plain}
 use Rattle.tx_node.specs.declared.plain.Plain.TheVariants.{Kern, Glue, Penalty, Character}
 use Rattle.tx_node.specs.declared.plain.Shared.{Shared}
-use Rattle.tx_node.specs.declared.plain.Shared.TheVariants.{Rule, Leaders, Special, Ligature}
+use Rattle.tx_node.specs.declared.plain.Shared.TheVariants.{Rule, Leaders, Special, Ligature, Mark}
 use Rattle.tx_node.specs.declared.rule.Rule.{Rule as RuleSides}
-use Rattle.tx_node.specs.Items.{Item, plain, shared, boxed}
+use Rattle.tx_node.specs.Items.{Item, plain, shared, boxed, discretionary, adjustment, insertion}
 use Rattle.tx_node.specs.Sizes.{side, advance, glue_of_item}
 use Rattle.tx_node.specs.Setting.{glue_part}
 use Rattle.tx_pack.specs.declared.sums.Orders.{Orders}
@@ -38,27 +38,37 @@ shared_sides (Rule r) = r
 shared_sides (Leaders l) = l.rule
 shared_sides (Special text) = no_sides
 shared_sides (Ligature l) = character_sides l.character
+shared_sides (Mark text) = no_sides
 
 -- the height and the depth that an item asks of a horizontal list's box; a box that is shifted down asks for less height and
--- more depth
+-- more depth; what has a list and is no box asks for nothing (section 651: the no-break text of a discretionary stands behind it)
 abbrev pub height_asked : Item → ℤ
 height_asked (plain p) = side (plain_sides p).height
 height_asked (shared s) = side (shared_sides s).height
 height_asked (boxed shift head inner) = head.height -ℤ shift
+height_asked (discretionary replaced pre post) = pos 0
+height_asked (adjustment inner) = pos 0
+height_asked (insertion inserted inner) = pos 0
 
 abbrev pub depth_asked : Item → ℤ
 depth_asked (plain p) = side (plain_sides p).depth
 depth_asked (shared s) = side (shared_sides s).depth
 depth_asked (boxed shift head inner) = head.depth +ℤ shift
+depth_asked (discretionary replaced pre post) = pos 0
+depth_asked (adjustment inner) = pos 0
+depth_asked (insertion inserted inner) = pos 0
 
 -- the width that an item asks of a vertical list's box
 abbrev pub width_asked : Item → ℤ
 width_asked (plain p) = side (plain_sides p).width
 width_asked (shared s) = side (shared_sides s).width
 width_asked (boxed shift head inner) = head.width +ℤ shift
+width_asked (discretionary replaced pre post) = pos 0
+width_asked (adjustment inner) = pos 0
+width_asked (insertion inserted inner) = pos 0
 
 -- the depth of a vertical list whose last item this is, where it was so deep before: that of a box, rule or character; none behind glue
--- and kerns; penalties and specials change nothing
+-- and kerns; penalties, specials, marks, and what has a list and is no box change nothing
 abbrev pub plain_left : ℤ → Plain → ℤ
 plain_left depth (Kern kind size) = pos 0
 plain_left depth (Glue g) = pos 0
@@ -70,11 +80,15 @@ shared_left depth (Rule r) = side r.depth
 shared_left depth (Leaders l) = pos 0
 shared_left depth (Special text) = depth
 shared_left depth (Ligature l) = l.character.depth
+shared_left depth (Mark text) = depth
 
 abbrev pub depth_left : ℤ → Item → ℤ
 depth_left depth (plain p) = plain_left depth p
 depth_left depth (shared s) = shared_left depth s
 depth_left depth (boxed shift head inner) = head.depth
+depth_left depth (discretionary replaced pre post) = depth
+depth_left depth (adjustment inner) = depth
+depth_left depth (insertion inserted inner) = depth
 
 -- stretch or shrink by order, with that of more glue
 abbrev pub with_glue : Change → Option GlueSpec → Orders → Orders

@@ -3,8 +3,8 @@ use Rattle.std.specs.Prelude.{ℤ, pos, ◌+ℤ◌, ◌-ℤ◌, List, [], ◌∷
 use Rattle.tx_node.specs.declared.plain.Plain.{Plain}
 use Rattle.tx_node.specs.declared.plain.Plain.TheVariants.{Kern, Glue, Penalty, Character}
 use Rattle.tx_node.specs.declared.plain.Shared.{Shared}
-use Rattle.tx_node.specs.declared.plain.Shared.TheVariants.{Rule, Leaders, Special, Ligature}
-use Rattle.tx_node.specs.Items.{Item, plain, shared, boxed, PackedBox}
+use Rattle.tx_node.specs.declared.plain.Shared.TheVariants.{Rule, Leaders, Special, Ligature, Mark}
+use Rattle.tx_node.specs.Items.{Item, plain, shared, boxed, discretionary, adjustment, insertion, PackedBox}
 use Rattle.tx_node.specs.Sizes.{side}
 use Rattle.tx_pack.specs.declared.types.Goal.{Goal}
 use Rattle.tx_pack.specs.declared.types.PackParams.{PackParams}
@@ -25,11 +25,15 @@ shared_top (Rule r) = side r.height
 shared_top (Leaders l) = pos 0
 shared_top (Special text) = pos 0
 shared_top (Ligature l) = l.character.height
+shared_top (Mark text) = pos 0
 
 abbrev pub item_top : Item → ℤ
 item_top (plain p) = plain_top p
 item_top (shared s) = shared_top s
 item_top (boxed shift head inner) = head.height
+item_top (discretionary replaced pre post) = pos 0
+item_top (adjustment inner) = pos 0
+item_top (insertion inserted inner) = pos 0
 
 abbrev pub top_of : List Item → ℤ
 top_of [] = pos 0

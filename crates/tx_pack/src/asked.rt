@@ -37,14 +37,14 @@ fn plain_sides(item: Plain) -> Rule
     }
 }
 
-/// The sides that a larger item shows: those of a rule, that of leaders too, and of a ligature; a special has none.
+/// The sides that a larger item shows: those of a rule, that of leaders too, and of a ligature; specials and marks have none.
 fn shared_sides(item: &Shared) -> Rule
     ensures { result ≡ spec.shared_sides item.now }
 {
     match item {
         Shared::Rule(rule) => *rule,
         Shared::Leaders(leaders) => leaders.rule,
-        Shared::Special(_) => no_sides(),
+        Shared::Special(_) | Shared::Mark(_) => no_sides(),
         Shared::Ligature(ligature) => character_sides(ligature.character),
     }
 }
@@ -57,6 +57,7 @@ pub fn height_asked(node: &Node) -> i64
         Node::Plain(item) => i64::from(side(plain_sides(*item).height)),
         Node::Shared(item) => i64::from(side(shared_sides(item).height)),
         Node::Box(shift, inner) => i64::from(inner.height()) - i64::from(*shift),
+        Node::Discretionary(_) | Node::Adjustment(_) | Node::Insertion(_) => 0,
     }
 }
 
@@ -68,6 +69,7 @@ pub fn depth_asked(node: &Node) -> i64
         Node::Plain(item) => i64::from(side(plain_sides(*item).depth)),
         Node::Shared(item) => i64::from(side(shared_sides(item).depth)),
         Node::Box(shift, inner) => i64::from(inner.depth()) + i64::from(*shift),
+        Node::Discretionary(_) | Node::Adjustment(_) | Node::Insertion(_) => 0,
     }
 }
 
@@ -79,6 +81,7 @@ pub fn width_asked(node: &Node) -> i64
         Node::Plain(item) => i64::from(side(plain_sides(*item).width)),
         Node::Shared(item) => i64::from(side(shared_sides(item).width)),
         Node::Box(shift, inner) => i64::from(inner.width()) + i64::from(*shift),
+        Node::Discretionary(_) | Node::Adjustment(_) | Node::Insertion(_) => 0,
     }
 }
 
@@ -102,7 +105,7 @@ fn shared_left(depth: i64, item: &Shared) -> i64
     match item {
         Shared::Rule(rule) => i64::from(side(rule.depth)),
         Shared::Leaders(_) => 0,
-        Shared::Special(_) => depth,
+        Shared::Special(_) | Shared::Mark(_) => depth,
         Shared::Ligature(ligature) => i64::from(ligature.character.depth),
     }
 }
@@ -117,5 +120,6 @@ pub fn depth_left(depth: i64, node: &Node) -> i64
         Node::Plain(item) => plain_left(depth, *item),
         Node::Shared(item) => shared_left(depth, item),
         Node::Box(_, inner) => i64::from(inner.depth()),
+        Node::Discretionary(_) | Node::Adjustment(_) | Node::Insertion(_) => depth,
     }
 }

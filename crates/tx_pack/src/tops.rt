@@ -28,7 +28,7 @@ fn shared_top(item: &Shared) -> i32
 {
     match item {
         Shared::Rule(rule) => side(rule.height),
-        Shared::Leaders(_) | Shared::Special(_) => 0,
+        Shared::Leaders(_) | Shared::Special(_) | Shared::Mark(_) => 0,
         Shared::Ligature(ligature) => ligature.character.height,
     }
 }
@@ -41,6 +41,7 @@ fn item_top(node: &Node) -> i32
         Node::Plain(item) => plain_top(*item),
         Node::Shared(item) => shared_top(item),
         Node::Box(_, inner) => inner.height(),
+        Node::Discretionary(_) | Node::Adjustment(_) | Node::Insertion(_) => 0,
     }
 }
 

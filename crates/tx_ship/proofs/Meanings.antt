@@ -13,8 +13,8 @@ use Rattle.tx_node.specs.declared.character.Character.{Character as CharacterIte
 use Rattle.tx_node.specs.declared.plain.Plain.{Plain}
 use Rattle.tx_node.specs.declared.plain.Plain.TheVariants.{Kern, Glue, Penalty, Character}
 use Rattle.tx_node.specs.declared.plain.Shared.{Shared}
-use Rattle.tx_node.specs.declared.plain.Shared.TheVariants.{Rule, Leaders, Special, Ligature}
-use Rattle.tx_node.specs.Items.{Item, plain, shared, boxed, Items, none, more, PackedBox, items_of}
+use Rattle.tx_node.specs.declared.plain.Shared.TheVariants.{Rule, Leaders, Special, Ligature, Mark}
+use Rattle.tx_node.specs.Items.{Item, plain, shared, boxed, discretionary, adjustment, insertion, Items, none, more, PackedBox, items_of}
 use Rattle.tx_node.specs.Setting.{Reach, begun}
 use Rattle.tx_dvi.specs.declared.font.FontDefinition.{FontDefinition}
 use Rattle.tx_dvi.specs.Dvi.{four_bytes, definition_bytes, IsDefinable}
@@ -376,6 +376,7 @@ module _ (fonts : List FontState) (are : AreFonts fonts) where
   shared-means frame span pen (Special text) now stack met of_fonts lies reads short =
       special-means wide now pen.fonts stack met pen.at (cursor_at (reference frame.head.direction frame (upright span.from (pos 0)))) text reads (point-is lies) short
   shared-means frame span pen (Ligature l) now stack met of_fonts lies reads short = character-in-means frame span pen l.character now stack met of_fonts lies reads
+  shared-means frame span pen (Mark text) now stack met of_fonts lies reads short = record { takes = still wide now pen.fonts stack met pen.at; reads = reads }
 
   plain-means : (frame : Frame) (span : Span) (pen : Pen) (p : Plain) (now : Registers) (stack : List Registers) (met : List Placed) → IsPlainOfFonts fonts p → plain_lies frame span p ≡ true → IsReader pen.at
       → ItemMeans wide now stack met pen (plain_commands fonts frame span pen p) (placed_plain frame span p)
@@ -406,6 +407,9 @@ module _ (fonts : List FontState) (are : AreFonts fonts) where
         → ItemMeans wide now stack met pen (item_commands fonts frame span pen item) (placed_item frame span item)
     item-means frame span pen (plain p) now stack met of_fonts lies reads short = plain-means frame span pen p now stack met of_fonts lies reads
     item-means frame span pen (shared s) now stack met of_fonts lies reads short = shared-means frame span pen s now stack met of_fonts lies reads short
+    item-means frame span pen (discretionary replaced pre post) now stack met of_fonts lies reads short = record { takes = still wide now pen.fonts stack met pen.at; reads = reads }
+    item-means frame span pen (adjustment inner) now stack met of_fonts lies reads short = record { takes = still wide now pen.fonts stack met pen.at; reads = reads }
+    item-means frame span pen (insertion inserted inner) now stack met of_fonts lies reads short = record { takes = still wide now pen.fonts stack met pen.at; reads = reads }
     item-means frame span pen (boxed shift head none) now stack met of_fonts lies reads short = record { takes = still wide now pen.fonts stack met pen.at; reads = reads }
     item-means frame span pen (boxed shift head (more item rest)) now stack met of_fonts lies reads short =
         let direction : Direction = frame.head.direction in

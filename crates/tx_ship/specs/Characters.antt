@@ -7,8 +7,8 @@ use Rattle.tx_node.specs.declared.character.Character.{Character as CharacterIte
 use Rattle.tx_node.specs.declared.plain.Plain.{Plain}
 use Rattle.tx_node.specs.declared.plain.Plain.TheVariants.{Kern, Glue, Penalty, Character}
 use Rattle.tx_node.specs.declared.plain.Shared.{Shared}
-use Rattle.tx_node.specs.declared.plain.Shared.TheVariants.{Rule, Leaders, Special, Ligature}
-use Rattle.tx_node.specs.Items.{Item, plain, shared, boxed, Items, none, more}
+use Rattle.tx_node.specs.declared.plain.Shared.TheVariants.{Rule, Leaders, Special, Ligature, Mark}
+use Rattle.tx_node.specs.Items.{Item, plain, shared, boxed, discretionary, adjustment, insertion, Items, none, more}
 use Rattle.tx_tfm.specs.declared.named.NamedFont.{NamedFont}
 use Rattle.tx_tfm.specs.declared.state.FontState.{FontState}
 use Rattle.tx_tfm.specs.Format.{checksum_of, design_size_of}
@@ -51,8 +51,9 @@ IsSharedOfFonts fonts (Rule r) = Unit {0}
 IsSharedOfFonts fonts (Leaders l) = Unit {0}
 IsSharedOfFonts fonts (Special text) = Unit {0}
 IsSharedOfFonts fonts (Ligature l) = IsOfFont fonts l.character
+IsSharedOfFonts fonts (Mark text) = Unit {0}
 
--- so for all characters of a list, and of the boxes in it
+-- so for all characters of a list, and of the boxes in it; other lists in it are not shipped
 abbrev mutual
   pub AreOfFonts : List FontState → Items → Type 0
   AreOfFonts fonts none = Unit {0}
@@ -62,6 +63,9 @@ abbrev mutual
   IsItemOfFonts fonts (plain p) = IsPlainOfFonts fonts p
   IsItemOfFonts fonts (shared s) = IsSharedOfFonts fonts s
   IsItemOfFonts fonts (boxed shift head inner) = AreOfFonts fonts inner
+  IsItemOfFonts fonts (discretionary replaced pre post) = Unit {0}
+  IsItemOfFonts fonts (adjustment inner) = Unit {0}
+  IsItemOfFonts fonts (insertion inserted inner) = Unit {0}
 
 -- a font is defined at its first use
 unfoldable pub definition_commands : FontDefinition → ReaderFonts → List ℕ × ReaderFonts

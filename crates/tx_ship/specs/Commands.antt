@@ -9,8 +9,8 @@ use Rattle.tx_node.specs.declared.head.Direction.TheVariants.{Horizontal, Vertic
 use Rattle.tx_node.specs.declared.plain.Plain.{Plain}
 use Rattle.tx_node.specs.declared.plain.Plain.TheVariants.{Kern, Glue, Penalty, Character}
 use Rattle.tx_node.specs.declared.plain.Shared.{Shared}
-use Rattle.tx_node.specs.declared.plain.Shared.TheVariants.{Rule, Leaders, Special, Ligature}
-use Rattle.tx_node.specs.Items.{Item, plain, shared, boxed, Items, none, more, PackedBox, items_of}
+use Rattle.tx_node.specs.declared.plain.Shared.TheVariants.{Rule, Leaders, Special, Ligature, Mark}
+use Rattle.tx_node.specs.Items.{Item, plain, shared, boxed, discretionary, adjustment, insertion, Items, none, more, PackedBox, items_of}
 use Rattle.tx_node.specs.Setting.{Reach, begun}
 use Rattle.tx_tfm.specs.declared.named.NamedFont.{NamedFont}
 use Rattle.tx_tfm.specs.declared.state.FontState.{FontState}
@@ -167,6 +167,7 @@ shared_commands fonts frame span pen (Leaders l) =
     else ([], pen)
 shared_commands fonts frame span pen (Special text) = keeping_fonts pen.fonts (special_commands frame span pen.at text)
 shared_commands fonts frame span pen (Ligature l) = character_commands fonts frame span pen l.character
+shared_commands fonts frame span pen (Mark text) = ([], pen)
 
 -- push and pop round the commands of a list
 abbrev pub framed_all : List ℕ × Pen → List ℕ × Pen
@@ -203,6 +204,9 @@ unfoldable mutual
       let at : Point = reference frame.head.direction frame (shifted span.from shift head) in
       box_item frame.head.direction pen (cursor_at at) (is_entered inner)
       (list_commands fonts (frame_at head at) begun (entering frame.head.direction pen (cursor_at at)) inner)
+  item_commands fonts frame span pen (discretionary replaced pre post) = ([], pen)
+  item_commands fonts frame span pen (adjustment inner) = ([], pen)
+  item_commands fonts frame span pen (insertion inserted inner) = ([], pen)
 
 -- those of the list of a box with its reference point there, and of the box in a list of this direction
 abbrev pub inside : List FontState → PackedBox → Point → Pen → List ℕ × Pen
@@ -222,6 +226,9 @@ unfoldable mutual
   item_level (plain p) = 0
   item_level (shared s) = 0
   item_level (boxed shift head inner) = if is_entered inner then suc (level_of inner) else 0
+  item_level (discretionary replaced pre post) = 0
+  item_level (adjustment inner) = 0
+  item_level (insertion inserted inner) = 0
 
 -- the reader of a page begins at the left upper corner, and knows the fonts of earlier pages
 abbrev pub page_cursor : Cursor

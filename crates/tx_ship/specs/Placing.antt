@@ -6,8 +6,8 @@ use Rattle.tx_node.specs.declared.character.Character.{Character as CharacterIte
 use Rattle.tx_node.specs.declared.plain.Plain.{Plain}
 use Rattle.tx_node.specs.declared.plain.Plain.TheVariants.{Kern, Glue, Penalty, Character}
 use Rattle.tx_node.specs.declared.plain.Shared.{Shared}
-use Rattle.tx_node.specs.declared.plain.Shared.TheVariants.{Rule, Leaders, Special, Ligature}
-use Rattle.tx_node.specs.Items.{Item, plain, shared, boxed, Items, none, more, PackedBox, items_of}
+use Rattle.tx_node.specs.declared.plain.Shared.TheVariants.{Rule, Leaders, Special, Ligature, Mark}
+use Rattle.tx_node.specs.Items.{Item, plain, shared, boxed, discretionary, adjustment, insertion, Items, none, more, PackedBox, items_of}
 use Rattle.tx_node.specs.Setting.{Reach, begun}
 use Rattle.tx_ship.specs.declared.places.Point.{Point}
 use Rattle.tx_ship.specs.declared.places.Frame.{Frame}
@@ -49,8 +49,10 @@ placed_shared frame span (Leaders l) =
     else []
 placed_shared frame span (Special text) = placed_special (reference frame.head.direction frame (upright span.from (pos 0))) text
 placed_shared frame span (Ligature l) = placed_character frame span l.character
+placed_shared frame span (Mark text) = []
 
--- what a list holds, in a box on the page: each item stands behind those before it, as the glue of the box is set
+-- what a list holds, in a box on the page: each item stands behind those before it, as the glue of the box is set; of what has a
+-- list and is no box nothing is seen (sections 622 and 631)
 unfoldable mutual
   pub placed_list : Frame → Reach → Items → List Placed
   placed_list frame reach none = []
@@ -61,6 +63,9 @@ unfoldable mutual
   placed_item frame span (shared s) = placed_shared frame span s
   placed_item frame span (boxed shift head inner) =
       placed_list (frame_at head (reference frame.head.direction frame (shifted span.from shift head))) begun inner
+  placed_item frame span (discretionary replaced pre post) = []
+  placed_item frame span (adjustment inner) = []
+  placed_item frame span (insertion inserted inner) = []
 
 -- the characters, rules and specials of a box whose left upper corner stands at the two offsets
 abbrev pub placed : PackedBox → ℤ → ℤ → List Placed

@@ -6,8 +6,8 @@ use Rattle.tx_node.specs.declared.head.BoxHead.{BoxHead}
 use Rattle.tx_node.specs.declared.plain.Plain.{Plain}
 use Rattle.tx_node.specs.declared.plain.Plain.TheVariants.{Kern, Glue, Penalty, Character}
 use Rattle.tx_node.specs.declared.plain.Shared.{Shared}
-use Rattle.tx_node.specs.declared.plain.Shared.TheVariants.{Rule, Leaders, Special, Ligature}
-use Rattle.tx_node.specs.Items.{Item, plain, shared, boxed, Items, none, more, PackedBox, items_of}
+use Rattle.tx_node.specs.declared.plain.Shared.TheVariants.{Rule, Leaders, Special, Ligature, Mark}
+use Rattle.tx_node.specs.Items.{Item, plain, shared, boxed, discretionary, adjustment, insertion, Items, none, more, PackedBox, items_of}
 use Rattle.tx_node.specs.Setting.{Reach, begun}
 use Rattle.tx_ship.specs.declared.error.ShipError.{ShipError}
 use Rattle.tx_ship.specs.declared.error.ShipError.TheVariants.{OutsidePage, OutOfMemory}
@@ -80,6 +80,7 @@ shared_lies frame span (Leaders l) =
     else true
 shared_lies frame span (Special text) = special_lies frame span
 shared_lies frame span (Ligature l) = character_lies frame span l.character
+shared_lies frame span (Mark text) = true
 
 -- every character, rule and special of a list, every box in it that isn't empty, and what these hold
 unfoldable mutual
@@ -93,6 +94,9 @@ unfoldable mutual
   item_lies frame span (boxed shift head inner) =
       let at : Point = reference frame.head.direction frame (shifted span.from shift head) in
       box_lies at head inner (list_lies (frame_at head at) begun inner)
+  item_lies frame span (discretionary replaced pre post) = true
+  item_lies frame span (adjustment inner) = true
+  item_lies frame span (insertion inserted inner) = true
 
 -- what a box with its reference point there holds
 abbrev pub inside_lies : PackedBox → Point → Bool

@@ -31,6 +31,7 @@ fn node_level(node: &Node) -> u16
     match node {
         Node::Plain(_) | Node::Shared(_) => 0,
         Node::Box(_, inner) => box_level(inner),
+        Node::Discretionary(_) | Node::Adjustment(_) | Node::Insertion(_) => 0,
     }
 }
 

@@ -112,6 +112,7 @@ fn put_node(
                 cursor,
             )
         }
+        Node::Discretionary(_) | Node::Adjustment(_) | Node::Insertion(_) => Ok(cursor),
     }
 }
 

@@ -129,5 +129,6 @@ pub fn put_shared(
         Shared::Ligature(ligature) => {
             put_character(output, fonts, ligature.character, frame, span, cursor)
         }
+        Shared::Mark(_) => Ok(cursor),
     }
 }

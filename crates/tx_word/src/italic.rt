@@ -24,7 +24,7 @@ fn shared_italic(fonts: &Fonts, shared: &Shared) -> Option<i32>
             ligature.character.font,
             ligature.character.code,
         )),
-        Shared::Rule(_) | Shared::Leaders(_) | Shared::Special(_) => None,
+        Shared::Rule(_) | Shared::Leaders(_) | Shared::Special(_) | Shared::Mark(_) => None,
     }
 }
 
@@ -38,7 +38,7 @@ fn item_italic(fonts: &Fonts, node: &Node) -> Option<i32>
         }
         Node::Plain(Plain::Kern(_, _) | Plain::Glue(_) | Plain::Penalty(_)) => None,
         Node::Shared(shared) => shared_italic(fonts, shared.as_ref()),
-        Node::Box(_, _) => None,
+        Node::Box(_, _) | Node::Discretionary(_) | Node::Adjustment(_) | Node::Insertion(_) => None,
     }
 }
 

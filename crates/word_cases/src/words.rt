@@ -158,6 +158,7 @@ fn write_node(text: &mut String, node: &Node) -> Result<(), AllocError> {
         Node::Plain(item) => write_plain(text, *item),
         Node::Shared(item) => write_shared(text, item),
         Node::Box(_, _) => text.push_str("box"),
+        Node::Discretionary(_) | Node::Adjustment(_) | Node::Insertion(_) => text.push_str("other"),
     }
 }
 
@@ -184,7 +185,8 @@ fn write_shared(text: &mut String, item: &Shared) -> Result<(), AllocError> {
             }
             text.push(')')
         }
-        Shared::Rule(_) | Shared::Leaders(_) | Shared::Special(_) => text.push_str("other"),
+        Shared::Rule(_) | Shared::Leaders(_) | Shared::Special(_) | Shared::Mark(_) =>
+            text.push_str("other"),
     }
 }
 
