@@ -4,6 +4,8 @@ use Rattle.std.proofs.Common.{Bool, false}
 use Rattle.std.proofs.lemmas.List.{get_or-map}
 use Rattle.tx_num.specs.Glue.{GlueSpec}
 use Rattle.tx_node.specs.declared.head.BoxHead.{BoxHead}
+use Rattle.tx_node.specs.declared.node.Discretionary.{Discretionary}
+use Rattle.tx_node.specs.declared.node.Insertion.{Insertion}
 use Rattle.tx_node.specs.declared.node.Node.{Node}
 use Rattle.tx_node.specs.declared.plain.Leaders.{Leaders}
 use Rattle.tx_node.specs.declared.plain.LeadersKind.{LeadersKind}
@@ -71,4 +73,65 @@ pub same-boxes : {x y : Item} {told : Bool} (s t : ℤ) (a b : PackedBox) → x 
 same-boxes s t a b x_is y_is shifts same = (
   (λ told. x_is ∙ ap (λ shift. box_item shift a) shifts ∙ ap (box_item t) (same.0 told) ∙ sym y_is),
   (λ e. same.1 (same-box s t a b (sym x_is ∙ e ∙ y_is))),
+)
+
+-- the list of an adjustment, the parts of an insertion and of a discretionary, and another's of other items
+abbrev adjustment_part : Item → List Item
+adjustment_part (plain p) = []
+adjustment_part (shared s) = []
+adjustment_part (boxed shift head inner) = []
+adjustment_part (discretionary head pre post) = []
+adjustment_part (adjustment inner) = list_from inner
+adjustment_part (insertion head inner) = []
+
+abbrev insertion_part : Insertion → Item → Insertion
+insertion_part other (plain p) = other
+insertion_part other (shared s) = other
+insertion_part other (boxed shift head inner) = other
+insertion_part other (discretionary head pre post) = other
+insertion_part other (adjustment inner) = other
+insertion_part other (insertion head inner) = record { head = head; list = list_from inner }
+
+abbrev discretionary_part : Discretionary → Item → Discretionary
+discretionary_part other (plain p) = other
+discretionary_part other (shared s) = other
+discretionary_part other (boxed shift head inner) = other
+discretionary_part other (discretionary head pre post) = record { head = head; before = list_from pre; behind = list_from post }
+discretionary_part other (adjustment inner) = other
+discretionary_part other (insertion head inner) = other
+
+abbrev insertion_item : Insertion → Item
+insertion_item n = insertion n.head (items_of n.list)
+
+abbrev discretionary_item : Discretionary → Item
+discretionary_item d = discretionary d.head (items_of d.before) (items_of d.behind)
+
+insertion-back : (other n : Insertion) → insertion_part other (insertion_item n) ≡ n
+insertion-back other n = ap (λ xs. record { head = n.head; list = xs }) (list-back n.list)
+
+discretionary-back : (other d : Discretionary) → discretionary_part other (discretionary_item d) ≡ d
+discretionary-back other d =
+    ap (λ xs. record { head = d.head; before = xs; behind = list_from (items_of d.behind) }) (list-back d.before)
+    ∙ ap (λ xs. record { head = d.head; before = d.before; behind = xs }) (list-back d.behind)
+
+-- they are equal as items where they are equal
+pub same-adjustments : {x y : Item} {told : Bool} (a b : List Item) → x ≡ adjustment (items_of a) → y ≡ adjustment (items_of b)
+    → (IsTrue told ↔ (a ≡ b)) → (IsTrue told ↔ (x ≡ y))
+same-adjustments a b x_is y_is same = (
+  (λ t. x_is ∙ ap (λ list. adjustment (items_of list)) (same.0 t) ∙ sym y_is),
+  (λ e. same.1 (sym (list-back a) ∙ ap adjustment_part (sym x_is ∙ e ∙ y_is) ∙ list-back b)),
+)
+
+pub same-insertions : {x y : Item} {told : Bool} (a b : Insertion) → x ≡ insertion_item a → y ≡ insertion_item b
+    → (IsTrue told ↔ (a ≡ b)) → (IsTrue told ↔ (x ≡ y))
+same-insertions a b x_is y_is same = (
+  (λ t. x_is ∙ ap insertion_item (same.0 t) ∙ sym y_is),
+  (λ e. same.1 (sym (insertion-back a a) ∙ ap (insertion_part a) (sym x_is ∙ e ∙ y_is) ∙ insertion-back a b)),
+)
+
+pub same-discretionaries : {x y : Item} {told : Bool} (a b : Discretionary) → x ≡ discretionary_item a → y ≡ discretionary_item b
+    → (IsTrue told ↔ (a ≡ b)) → (IsTrue told ↔ (x ≡ y))
+same-discretionaries a b x_is y_is same = (
+  (λ t. x_is ∙ ap discretionary_item (same.0 t) ∙ sym y_is),
+  (λ e. same.1 (sym (discretionary-back a a) ∙ ap (discretionary_part a) (sym x_is ∙ e ∙ y_is) ∙ discretionary-back a b)),
 )

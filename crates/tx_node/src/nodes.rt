@@ -48,11 +48,9 @@ impl Nodes {
     pub fn share_of(alloc: Global, nodes: &[Node]) -> Result<Nodes, AllocError>
         ensures { IfOk result (λ made. made ≡ list_of nodes.now) }
     {
-        let mut copy = Nodes::new(alloc);
-        for node in nodes {
-            copy.push(node.clone()?)?;
-        }
-        Ok(copy)
+        Ok(Nodes {
+            items: shared(alloc, nodes)?,
+        })
     }
 
     /// The nodes, lent.
@@ -130,16 +128,16 @@ impl Clone for Nodes {
 
     fn clone(&self) -> Result<Self, AllocError> {
         Ok(Nodes {
-            items: shared(&self.items)?,
+            items: shared(*self.items.allocator(), &self.items)?,
         })
     }
 }
 
 /// The same items, in a list of their own that shares their boxes.
-fn shared(nodes: &Vec<Node>) -> Result<Vec<Node>, AllocError>
-    ensures { IfOk result (λ copy. list_of copy.items ≡ list_of nodes.now.items) }
+fn shared(alloc: Global, nodes: &[Node]) -> Result<Vec<Node>, AllocError>
+    ensures { IfOk result (λ copy. list_of copy.items ≡ list_of nodes.now) }
 {
-    let mut copy = Vec::new(*nodes.allocator());
+    let mut copy = Vec::new(alloc);
     for node in nodes {
         copy.push(node.clone()?)?;
     }
@@ -168,7 +166,7 @@ impl BoxNode {
         ensures { IfOk result (λ list. list ≡ self.list) }
     {
         Ok(Nodes {
-            items: shared(&self.held.list)?,
+            items: shared(*self.held.list.allocator(), &self.held.list)?,
         })
     }
 }

@@ -1,7 +1,7 @@
 use Rattle.std.proofs.Common.{ℕ, ◌<◌, ◌≡◌, subst, sym, ap, ◌∙◌, arith}
 use Rattle.std.proofs.lemmas.Grind.{common_steps}
 use Rattle.tx_node.specs.Nodes.{item_of}
-use Rattle.tx_node.proofs.Equal.{differ, same-boxes, same-lists}
+use Rattle.tx_node.proofs.Equal.{differ, same-adjustments, same-boxes, same-discretionaries, same-insertions, same-lists}
 use Rattle.tx_node.proofs.Measures.{node_measure, to-item}
 use Rattle.tx_node.proofs.same.+same.Goals as goal
 
@@ -25,3 +25,21 @@ same_node-returns-then-s-t t c =
     same-boxes c.in-Box-Box.s c.in-Box-Box.t c.deref-then-s-t.result.now c.deref-then-s-t-2.result.now
     (rw c.deref-then-s-t.ensures (ap item_of c.in-Box-Box.is-0)) (rw c.deref-then-s-t-2.ensures (ap item_of c.in-Box-Box.is-1))
     shifts c.same_box.ensures
+
+pub same_node-returns-in-Discretionary-Discretionary : goal.same_node-returns-in-Discretionary-Discretionary
+same_node-returns-in-Discretionary-Discretionary t c =
+    same-discretionaries c.deref-in-Discretionary-Discretionary.result.now c.deref-in-Discretionary-Discretionary-2.result.now
+    (rw c.deref-in-Discretionary-Discretionary.ensures (ap item_of c.in-Discretionary-Discretionary.is-0)) (rw c.deref-in-Discretionary-Discretionary-2.ensures (ap item_of c.in-Discretionary-Discretionary.is-1))
+    c.same_discretionary.ensures
+
+pub same_node-returns-in-Adjustment-Adjustment : goal.same_node-returns-in-Adjustment-Adjustment
+same_node-returns-in-Adjustment-Adjustment t c =
+    same-adjustments c.deref-in-Adjustment-Adjustment.result.now c.deref-in-Adjustment-Adjustment-2.result.now
+    (rw c.deref-in-Adjustment-Adjustment.ensures (ap item_of c.in-Adjustment-Adjustment.is-0)) (rw c.deref-in-Adjustment-Adjustment-2.ensures (ap item_of c.in-Adjustment-Adjustment.is-1))
+    c.same_sublist.ensures
+
+pub same_node-returns-in-Insertion-Insertion : goal.same_node-returns-in-Insertion-Insertion
+same_node-returns-in-Insertion-Insertion t c =
+    same-insertions c.deref-in-Insertion-Insertion.result.now c.deref-in-Insertion-Insertion-2.result.now
+    (rw c.deref-in-Insertion-Insertion.ensures (ap item_of c.in-Insertion-Insertion.is-0)) (rw c.deref-in-Insertion-Insertion-2.ensures (ap item_of c.in-Insertion-Insertion.is-1))
+    c.same_insertion.ensures
