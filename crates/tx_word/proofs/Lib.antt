@@ -2,3 +2,4 @@ mod Made
 mod Worked
 mod Opened
 mod Spaced
+mod Divided

@@ -1,5 +1,5 @@
 -- What pieces become: one more at the end, and that there is no choice.
-use Rattle.std.proofs.Common.{◌≡◌, ℕ, ◌+◌, ◌<◌, Bool, true, false, IsTrue, Option, Some, None, List, [], ◌∷◌, ◌++◌, length, take, get_or, map, refl, sym, ap, subst, ◌∙◌}
+use Rattle.std.proofs.Common.{◌≡◌, ℕ, ◌+◌, ◌<◌, Bool, true, false, IsTrue, Option, Some, None, List, [], ◌∷◌, ◌++◌, length, take, get_or, refl, sym, ap, subst, ◌∙◌}
 use Rattle.std.specs.List.{All}
 use Rattle.std.specs.Option.{option_map_or}
 use Rattle.std.proofs.lemmas.List.{append-nil, append_assoc, take_more}
@@ -16,7 +16,8 @@ use Rattle.tx_word.specs.declared.piece.Piece.{Piece}
 use Rattle.tx_word.specs.declared.piece.Piece.TheVariants.{Word, Space}
 use Rattle.tx_word.specs.declared.piece.WordParams.{WordParams}
 use Rattle.tx_word.specs.Lists.{Makes, AreMade, Nothing, Behind, HasGlue, WithPiece}
-use Rattle.tx_word.specs.Words.{Composed, word_item}
+use Rattle.tx_word.specs.Divisions.{divided_items}
+use Rattle.tx_word.specs.Words.{Composed}
 
 -- what is in the font of a number is there in its file
 pub there-in : (fonts : List FontState) (font : ℕ) (f : NamedFont) (chars : List ℕ) → font_at fonts font ≡ Some f → All (λ c. has_character fonts font c ≡ true) chars → All (λ c. IsTrue (is_there f.font.file c)) chars
@@ -40,7 +41,7 @@ composed-once (Some f) chars left right items others a b = once f.font (word_of 
 -- so does a piece
 makes-once : (fonts : List FontState) (params : WordParams) (piece : Piece) (some others : List Item) → Makes fonts params piece some → Makes fonts params piece others → some ≡ others
 makes-once fonts params (Word font chars left right places hyphen) some others a b =
-    a.list_is ∙ ap (map (word_item fonts font)) (composed-once (font_at fonts font) chars left right a.items b.items a.composed b.composed) ∙ sym b.list_is
+    a.list_is ∙ ap (divided_items fonts font chars left right places hyphen) (composed-once (font_at fonts font) chars left right a.items b.items a.composed b.composed) ∙ sym b.list_is
 makes-once fonts params (Space font factor) some others a b = a ∙ sym b
 
 -- what pieces become, by the first of them

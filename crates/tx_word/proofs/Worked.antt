@@ -14,7 +14,8 @@ use Rattle.tx_tfm.specs.Scaling.{scaled}
 use Rattle.tx_word.specs.declared.piece.WordParams.{WordParams}
 use Rattle.tx_word.specs.Collecting.{Collecting, collected, ended, without_word}
 use Rattle.tx_word.specs.Composed.{word_list}
-use Rattle.tx_word.specs.Divisions.{Division, Seam, Whole, before_break, divided, hyphen_code}
+use Rattle.tx_word.specs.declared.seam.Seam.{Seam}
+use Rattle.tx_word.specs.Divisions.{Division, Whole, before_break, divided, hyphen_code}
 use Rattle.tx_word.specs.Factors.{factor_behind}
 use Rattle.tx_word.specs.Spaces.{at_factor, interword_glue}
 
@@ -144,12 +145,19 @@ closed = refl
 abbrev seam : Seam
 seam = record { item = 1; replaced = 1 }
 
-divided-aa : divided (before_break metrics_t (hyphen_code (pos 98))) (seam ∷ []) 0 (lig.Char 97 ∷ lig.Kern (pos 40960) ∷ lig.Char 97 ∷ [])
+divided-aa : divided (before_break fonts 1 98) (seam ∷ []) 0 (lig.Char 97 ∷ lig.Kern (pos 40960) ∷ lig.Char 97 ∷ [])
     ≡ Whole (lig.Char 97) ∷ Division (lig.Char 98 ∷ []) 1 ∷ Whole (lig.Kern (pos 40960)) ∷ Whole (lig.Char 97) ∷ []
 unfolding word_at
 divided-aa = refl
 
 -- a hyphen that the font lacks leaves the text before the break empty
-lacking : before_break metrics_t (hyphen_code (pos 45)) ≡ []
+lacking : before_break fonts 1 45 ≡ []
 unfolding word_at
 lacking = refl
+
+-- a hyphen character outside 0 to 255 is none
+below-0 : hyphen_code (negsuc 0) ≡ None
+below-0 = refl
+
+above-255 : hyphen_code (pos 256) ≡ None
+above-255 = refl

@@ -1,31 +1,24 @@
 -- Words and spaces as a list (TeX: The Program, sections 1030 to 1045).
-use Rattle.std.specs.Prelude.{◌≡◌, ℕ, true, List, [], ◌∷◌, ◌++◌}
-use Rattle.std.specs.List.{All}
+use Rattle.std.specs.Prelude.{◌≡◌, List, [], ◌∷◌, ◌++◌}
 use Rattle.tx_node.specs.declared.plain.Plain.TheVariants.{Glue}
 use Rattle.tx_node.specs.Items.{Item, plain}
 use Rattle.tx_num.specs.Glue.{IsGlue}
 use Rattle.tx_tfm.specs.declared.state.FontState.{FontState}
-use Rattle.tx_tfm.specs.Fonts.{has_character}
 use Rattle.tx_word.specs.declared.piece.Piece.{Piece}
 use Rattle.tx_word.specs.declared.piece.Piece.TheVariants.{Word, Space}
 use Rattle.tx_word.specs.declared.piece.WordParams.{WordParams}
+use Rattle.tx_word.specs.Divisions.{IsDivided, IsPlaced}
 use Rattle.tx_word.specs.Factors.{IsFactor}
 use Rattle.tx_word.specs.Spaces.{interword_glue}
-use Rattle.tx_word.specs.Words.{IsWord}
 
--- what a piece has to be: each character of a word is in its font, and a space has a space factor. A word has no place for a
--- hyphen yet, since lists have no discretionaries (Divisions.antt says what these places make)
-pub record IsPlainWord (fonts : List FontState) (font : ℕ) (chars places : List ℕ) : Type 0 where
-  pub there : All (λ c. has_character fonts font c ≡ true) chars
-  pub undivided : places ≡ []
-
+-- what a piece has to be: a word that can have its places, or a space at a space factor
 abbrev pub IsPiece : List FontState → Piece → Type 0
-IsPiece fonts (Word font chars left right places hyphen) = IsPlainWord fonts font chars places
+IsPiece fonts (Word font chars left right places hyphen) = IsPlaced fonts font chars places
 IsPiece fonts (Space font factor) = IsFactor factor
 
 -- a list is what a piece becomes
 abbrev pub Makes : List FontState → WordParams → Piece → List Item → Type 0
-Makes fonts params (Word font chars left right places hyphen) list = IsWord fonts font chars left right list
+Makes fonts params (Word font chars left right places hyphen) list = IsDivided fonts font chars left right places hyphen list
 Makes fonts params (Space font factor) list = list ≡ plain (Glue (interword_glue fonts params font factor)) ∷ []
 
 -- a list is what pieces become, one behind the other

@@ -1,7 +1,8 @@
 //! What is asked of pieces.
-ghost use Rattle.std.specs.Prelude.{◌≡◌, ◌↔◌, true, IsTrue};
+ghost use Rattle.std.specs.Prelude.{◌≡◌, ◌↔◌, ◌<◌, true, IsTrue};
 ghost use Rattle.std.specs.List.{All};
 ghost use Rattle.tx_tfm.specs.Fonts.{has_character};
+ghost use Rattle.tx_word.specs.Divisions.{IsPlaced};
 ghost use Rattle.tx_word.specs.Factors.{IsFactor};
 ghost use Rattle.tx_word.specs.Lists as spec;
 
@@ -22,7 +23,21 @@ fn has_characters(fonts: &Fonts, font: u8, chars: &[u8]) -> bool
     chars.iter().all(|c| fonts.has_character(font, *c))
 }
 
-/// Whether each character of a word is in its font, and a space has a space factor.
+/// Whether each of these places is between two characters of a word of so many.
+fn are_between(length: usize, places: &[usize]) -> bool
+    ensures { IsTrue result ↔ All (λ place. (0 < place) × (place < length)) places.now }
+{
+    places.iter().all(|place| 0 < *place && *place < length)
+}
+
+/// Whether the font has each character of a word, and each place is between two of them.
+fn is_placed(fonts: &Fonts, font: u8, chars: &[u8], places: &[usize]) -> bool
+    ensures { IsTrue result ↔ IsPlaced fonts.now font chars.now places.now }
+{
+    has_characters(fonts, font, chars) && are_between(chars.len(), places)
+}
+
+/// Whether a word can have its places, and a space has a space factor.
 fn is_piece(fonts: &Fonts, piece: &Piece) -> bool
     ensures { IsTrue result ↔ spec.IsPiece fonts.now piece.now }
 {
@@ -32,7 +47,7 @@ fn is_piece(fonts: &Fonts, piece: &Piece) -> bool
             chars,
             places,
             ..
-        } => has_characters(fonts, *font, chars.as_slice()) && places.is_empty(),
+        } => is_placed(fonts, *font, chars.as_slice(), places.as_slice()),
         Piece::Space { factor, .. } => is_factor(*factor),
     }
 }

@@ -9,10 +9,10 @@ ghost use Rattle.tx_word.specs.Factors.{IsFactor};
 ghost use Rattle.tx_word.specs.Lists as spec;
 ghost use Rattle.tx_word.specs.Spaces.{interword_glue as glue_between};
 
+use crate::divide::append_divided;
 use crate::error::WordError;
 use crate::piece::{Piece, WordParams};
 use crate::space::interword_glue;
-use crate::word::append_word;
 use std::alloc::Global;
 use tx_node::{Node, Nodes, Plain};
 use tx_tfm::Fonts;
@@ -57,13 +57,25 @@ fn append_piece(
             chars,
             left,
             right,
-            ..
-        } => Ok(append_word(alloc, list, fonts, *font, chars.as_slice(), *left, *right)?),
+            places,
+            hyphen,
+        } => Ok(append_divided(
+            alloc,
+            list,
+            fonts,
+            *font,
+            chars.as_slice(),
+            *left,
+            *right,
+            places.as_slice(),
+            *hyphen,
+        )?),
         Piece::Space { font, factor } => append_space(list, fonts, params, *font, *factor),
     }
 }
 
-/// Words and spaces as a list: each word as its font composes it, each space as the glue between words at its space factor.
+/// Words and spaces as a list: each word as its font composes it, with a discretionary at each of its places that is a seam, each
+/// space as the glue between words at its space factor.
 /// `SizeOutOfRange` exactly where a size of some space's glue is no dimension.
 pub fn nodes(
     alloc: Global,

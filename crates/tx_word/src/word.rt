@@ -12,7 +12,7 @@ use tx_node::{Character, KernKind, Ligature, Node, Nodes, Plain, Shared};
 use tx_tfm::Fonts;
 
 /// A character of the font of a number, with the sizes that the font gives it.
-fn character(fonts: &Fonts, font: u8, code: u8) -> Character
+pub(crate) fn character(fonts: &Fonts, font: u8, code: u8) -> Character
     ensures { result ≡ spec.character_of fonts.now font code }
 {
     Character {
@@ -25,7 +25,12 @@ fn character(fonts: &Fonts, font: u8, code: u8) -> Character
 }
 
 /// A part of a composed word as a node. Its only error is want of memory.
-fn node_of(alloc: Global, fonts: &Fonts, font: u8, item: LigItem) -> Result<Node, AllocError>
+pub(crate) fn node_of(
+    alloc: Global,
+    fonts: &Fonts,
+    font: u8,
+    item: LigItem,
+) -> Result<Node, AllocError>
     ensures { IfOk result (λ node. item_of node ≡ spec.word_item fonts.now font item) }
 {
     match item {
@@ -42,7 +47,7 @@ fn node_of(alloc: Global, fonts: &Fonts, font: u8, item: LigItem) -> Result<Node
 }
 
 /// Puts the parts of a composed word at the end of a list. Its only error is want of memory.
-fn append_items(
+pub(crate) fn append_items(
     alloc: Global,
     list: &mut Nodes,
     fonts: &Fonts,
@@ -58,7 +63,7 @@ fn append_items(
 }
 
 /// What characters become in the font of a number. Its only error is want of memory.
-fn composed(
+pub(crate) fn composed(
     alloc: Global,
     fonts: &Fonts,
     font: u8,
