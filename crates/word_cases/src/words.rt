@@ -3,7 +3,7 @@ use std::alloc::{AllocError, Global};
 use std::mem;
 use tx_bytes::Bytes;
 use tx_cases::{answered, first_word, malformed};
-use tx_node::{Character, Node, Plain, Shared};
+use tx_node::{Character, Discretionary, Node, Plain, Shared};
 use tx_num::{Glue, Range};
 use tx_tfm::{Font, Fonts, NamedFont};
 use tx_word::{Piece, Places, WordError, WordParams, are_pieces, factor_behind, nodes};
@@ -30,10 +30,11 @@ pub fn load(
 
 /// `set SPACESKIP XSPACESKIP PIECE ..`: glue is `W,S,O,T,P`, of width W, which stretches by S of order O and shrinks by T of
 /// order P. A piece is `F/WORD`, a word in font F, where an underscore before or behind it is a boundary that counts, or `F:N`,
-/// a space in font F at the factor N.
+/// a space in font F at the factor N. `F/H!P,P..!WORD` is a word with the hyphen character H and places for it.
 ///
 /// The answer is the list: `cF,C,W,H,D` is a character C of font F, W wide, H high and D deep, `lF,C,W,H,D(..)` a ligature with
-/// the characters in whose stead it stands, `kN` a kern, and `gW,S,O,T,P` glue.
+/// the characters in whose stead it stands, `kN` a kern, `gW,S,O,T,P` glue, and `dN[..]`, or `eN[..]` where hyphenation made it, a
+/// discretionary that replaces N items, with its texts before and behind a break, a bar between them.
 pub fn set(alloc: Global, fonts: &Fonts, rest: &str) -> Result<String, AllocError> {
     let (spaceskip, rest) = first_word(rest);
     let (xspaceskip, rest) = first_word(rest);
@@ -115,6 +116,7 @@ fn piece_of(alloc: Global, text: &str) -> Result<Option<Piece>, AllocError> {
 }
 
 fn word_of(alloc: Global, font: u8, text: &str) -> Result<Piece, AllocError> {
+    let (hyphen, places, text) = divided(alloc, text)?;
     let (left, text) = match text.strip_prefix('_') {
         Some(rest) => (true, rest),
         None => (false, text),
@@ -128,9 +130,32 @@ fn word_of(alloc: Global, font: u8, text: &str) -> Result<Piece, AllocError> {
         chars: Bytes::from_slice(alloc, text.as_bytes())?,
         left,
         right,
-        places: Places::new(alloc),
-        hyphen: 45,
+        places,
+        hyphen,
     })
+}
+
+/// The hyphen character and the places of a word, and the rest of its text.
+fn divided<'a>(alloc: Global, text: &'a str) -> Result<(i64, Places, &'a str), AllocError> {
+    let Some((hyphen, rest)) = text.split_once('!') else {
+        return Ok((45, Places::new(alloc), text));
+    };
+    let (places, rest) = rest.split_once('!').unwrap_or((rest, ""));
+    Ok((
+        hyphen.parse().unwrap_or(-1),
+        places_of(alloc, places)?,
+        rest,
+    ))
+}
+
+fn places_of(alloc: Global, text: &str) -> Result<Places, AllocError> {
+    let mut places = Places::new(alloc);
+    for word in text.split(',') {
+        if let Ok(place) = word.parse() {
+            places.push(place)?;
+        }
+    }
+    Ok(places)
 }
 
 fn space_of(text: &str) -> Option<Piece> {
@@ -149,6 +174,28 @@ fn listed(alloc: Global, list: &[Node]) -> Result<String, AllocError> {
     Ok(text)
 }
 
+/// Writes a discretionary.
+fn write_discretionary(text: &mut String, item: &Discretionary) -> Result<(), AllocError> {
+    let kind = if item.is_hyphenated() { 'e' } else { 'd' };
+    let replaced = item.replaced();
+    write!(text, "{kind}{replaced}[")?;
+    write_text(text, item.before())?;
+    text.push('|')?;
+    write_text(text, item.behind())?;
+    text.push(']')
+}
+
+/// Writes the characters of a text of a discretionary by their codes.
+fn write_text(text: &mut String, list: &[Node]) -> Result<(), AllocError> {
+    for node in list {
+        match node {
+            Node::Plain(Plain::Character(character)) => text.push(char::from(character.code))?,
+            _ => text.push('?')?,
+        }
+    }
+    Ok(())
+}
+
 /// Writes a node behind those before it.
 fn write_node(text: &mut String, node: &Node) -> Result<(), AllocError> {
     if !text.is_empty() {
@@ -157,8 +204,8 @@ fn write_node(text: &mut String, node: &Node) -> Result<(), AllocError> {
     match node {
         Node::Plain(item) => write_plain(text, *item),
         Node::Shared(item) => write_shared(text, item),
-        Node::Box(_, _) => text.push_str("box"),
-        Node::Discretionary(_) | Node::Adjustment(_) | Node::Insertion(_) => text.push_str("other"),
+        Node::Discretionary(item) => write_discretionary(text, item),
+        Node::Box(_, _) | Node::Adjustment(_) | Node::Insertion(_) => text.push_str("other"),
     }
 }
 
@@ -185,8 +232,9 @@ fn write_shared(text: &mut String, item: &Shared) -> Result<(), AllocError> {
             }
             text.push(')')
         }
-        Shared::Rule(_) | Shared::Leaders(_) | Shared::Special(_) | Shared::Mark(_) =>
-            text.push_str("other"),
+        Shared::Rule(_) | Shared::Leaders(_) | Shared::Special(_) | Shared::Mark(_) => {
+            text.push_str("other")
+        }
     }
 }
 
