@@ -132,7 +132,6 @@ fn is_replaced_in(items: &[Node]) -> bool
 
 /// Whether the last item belongs to a discretionary's no-break text: this has at most 255 items, so no more of them are looked
 /// at before the last one.
-#[tactic(auto, using(crate::proofs::Replaced::near))]
 fn is_replaced(nodes: &Nodes) -> bool
     ensures { result ≡ spec.is_replaced nodes.now }
 {
