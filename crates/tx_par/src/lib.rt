@@ -1,0 +1,29 @@
+//! A paragraph's list set as lines (TeX: The Program, sections 816 and 876 to 890; The TeXbook, chapter 14): how the list ends,
+//! what line breaking sees of its items, what stands in each line from one break to the next, and the lines in a vertical list,
+//! with leading before them and penalties between them.
+//!
+//! Proved: the list is broken as `tx_linebreak` breaks its pieces, the lines are those that the definitions make of these breaks,
+//! and each error comes exactly where they say. Only tested: that the definitions are TeX's.
+//!
+//! Modules in reading order: `params`, `lines`, `error`; `ending`, `pieces`; `task`, `first`, `line_list`, `line`; `penalty`,
+//! `so_far`, `setting`; `set`.
+#![tactic(auto)]
+
+mod ending;
+mod error;
+mod first;
+mod line;
+mod line_list;
+mod lines;
+mod params;
+mod penalty;
+mod pieces;
+mod set;
+mod setting;
+mod so_far;
+mod task;
+
+pub use error::ParError;
+pub use lines::Lines;
+pub use params::ParParams;
+pub use set::paragraph;

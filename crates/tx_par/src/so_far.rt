@@ -1,0 +1,11 @@
+//! What is set so far.
+use tx_bytes::Bytes;
+use tx_nest::ModeList;
+
+/// The lines so far in the vertical list, how bad the last one is, and the transcript's lines of them.
+#[derive(Drop)]
+pub(crate) struct SoFar {
+    pub list: ModeList,
+    pub badness: i64,
+    pub report: Bytes,
+}
