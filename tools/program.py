@@ -1,4 +1,4 @@
-"""The programs word_cases and mouth_cases, for the checks that ask them."""
+"""The program word_cases, for the checks that ask it."""
 import os
 import subprocess
 
