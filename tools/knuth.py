@@ -1,4 +1,4 @@
-"""What the program and Knuth's TeX say of a document, and whether that is the same: for check-macros and check-plain.
+"""What the program and Knuth's TeX say of a document, and whether that is the same: for check-macros, check-plain and check-mouth.
 
 A document's messages stand between `|*` and `*|`, so that they are found in TeX's log. What is meant to differ isn't looked
 at: a message prints a parameter character once, and puts no blank behind a name that is no word. Nor are parentheses, since
