@@ -116,7 +116,7 @@ fn piece_of(alloc: Global, text: &str) -> Result<Option<Piece>, AllocError> {
 }
 
 fn word_of(alloc: Global, font: u8, text: &str) -> Result<Piece, AllocError> {
-    let (hyphen, places, text) = divided(alloc, text)?;
+    let (hyphen, places, text) = divided(text);
     let (left, text) = match text.strip_prefix('_') {
         Some(rest) => (true, rest),
         None => (false, text),
@@ -130,22 +130,18 @@ fn word_of(alloc: Global, font: u8, text: &str) -> Result<Piece, AllocError> {
         chars: Bytes::from_slice(alloc, text.as_bytes())?,
         left,
         right,
-        places,
+        places: places_of(alloc, places)?,
         hyphen,
     })
 }
 
-/// The hyphen character and the places of a word, and the rest of its text.
-fn divided<'a>(alloc: Global, text: &'a str) -> Result<(i64, Places, &'a str), AllocError> {
+/// The hyphen character and the places of a word, as they are written, and the rest of its text.
+fn divided(text: &str) -> (i64, &str, &str) {
     let Some((hyphen, rest)) = text.split_once('!') else {
-        return Ok((45, Places::new(alloc), text));
+        return (45, "", text);
     };
     let (places, rest) = rest.split_once('!').unwrap_or((rest, ""));
-    Ok((
-        hyphen.parse().unwrap_or(-1),
-        places_of(alloc, places)?,
-        rest,
-    ))
+    (hyphen.parse().unwrap_or(-1), places, rest)
 }
 
 fn places_of(alloc: Global, text: &str) -> Result<Places, AllocError> {
