@@ -8,7 +8,7 @@ use Rattle.tx_linebreak.specs.declared.piece.Piece.{Piece}
 use Rattle.tx_linebreak.specs.declared.trial.Trial.{Trial}
 use Rattle.tx_linebreak.specs.Breaks.{behind, context_from, is_forced, penalty_at}
 use Rattle.tx_linebreak.specs.Chains.{Chain, candidate_of, chains_before, dies_at, from_living, is_overfull, lives_at, next_place}
-use Rattle.tx_linebreak.specs.Kept.{all_offered, kept_before, kept_by, last_by, last_chains}
+use Rattle.tx_linebreak.specs.Kept.{all_offered, kept_before, kept_by, last_by, last_chains, last_special}
 use Rattle.tx_linebreak.specs.Lines.{Attempt}
 use Rattle.tx_linebreak.specs.Shared.{chain_at, chain_of}
 use Rattle.tx_linebreak.specs.Trials.{IsActive, IsTrial, chain_tried}
@@ -43,11 +43,11 @@ kept-active a place chains numbers is there = λ k d h. record {
 }
 
 -- the chains that are kept behind a break, of those whose lines are tried
-pub kept-made : (a : Attempt) (place : ℕ) (penalty : ℤ) (chains : List Chain) (active survivors : List ℕ) (trials : List Trial) (links : List Link) → penalty_at a.params a.pass a.pieces place ≡ Some penalty → All (IsTrial a chains place) trials → map (λ t. t.chain) trials ≡ active → survivors ≡ map (λ t. t.chain) (filter (λ t. not (is_forced penalty || is_overfull t.fit)) trials) → map (chain_of chains) links ≡ all_offered [] (from_living a place penalty (map (chain_tried chains) trials)) → map (chain_at chains) survivors ++ map (chain_of chains) links ≡ kept_by a place (Some penalty) (map (chain_at chains) active)
+pub kept-made : (a : Attempt) (place : ℕ) (penalty : ℤ) (chains : List Chain) (active survivors : List ℕ) (trials : List Trial) (links : List Link) → penalty_at a.params a.pass a.pieces place ≡ Some penalty → All (IsTrial a chains place) trials → map (λ t. t.chain) trials ≡ active → survivors ≡ map (λ t. t.chain) (filter (λ t. not (is_forced penalty || is_overfull t.fit)) trials) → map (chain_of chains) links ≡ all_offered (last_special a) [] (from_living a place penalty (map (chain_tried chains) trials)) → map (chain_at chains) survivors ++ map (chain_of chains) links ≡ kept_by a place (Some penalty) (map (chain_at chains) active)
 kept-made a place penalty chains active survivors trials links legal all active_is survivors_are links_are =
     let tried = tried-are chains trials active active_is in
     let old = ap (map (chain_at chains)) survivors_are ∙ survive-by a chains place penalty trials legal all ∙ ap (filter (λ chain. not (dies_at a (candidate_of chain) place))) tried in
-    let new = links_are ∙ ap (λ (l : List Chain). all_offered [] (from_living a place penalty l)) tried in
+    let new = links_are ∙ ap (λ (l : List Chain). all_offered (last_special a) [] (from_living a place penalty l)) tried in
     λ i. old i ++ new i
 
 -- what is kept before the next place

@@ -13,7 +13,7 @@ use Rattle.tx_linebreak.specs.declared.params.Pass.TheVariants.{First, Second, E
 use Rattle.tx_linebreak.specs.declared.piece.Piece.{Piece}
 use Rattle.tx_linebreak.specs.Chains.{Chain, chains_of, is_last_pass}
 use Rattle.tx_linebreak.specs.Chosen.{IsAnswer, IsBest, IsBestAnswer, IsEnded, attempt, beats, first_with_chain, is_empty, passes_of}
-use Rattle.tx_linebreak.specs.Kept.{all_offered, last_chains}
+use Rattle.tx_linebreak.specs.Kept.{all_offered, last_chains, last_special}
 use Rattle.tx_linebreak.specs.Lines.{Attempt}
 use Rattle.tx_linebreak.specs.Shared.{chain_of}
 use Rattle.tx_linebreak.proofs.Ending.{ends-some}
@@ -47,7 +47,7 @@ best-changes chains links at best d below better b =
     }
 
 -- the best of the links of a pass's last chains is the best of all its chains
-pub best-of-all : (a : Attempt) (chains : List Chain) (links : List Link) (best : Link) → map (chain_of chains) links ≡ all_offered [] (last_chains a) → Contains links best → All (λ link. beats (chain_of chains link) (chain_of chains best) ≡ false) links → IsBest a (chain_of chains best)
+pub best-of-all : (a : Attempt) (chains : List Chain) (links : List Link) (best : Link) → map (chain_of chains) links ≡ all_offered (last_special a) [] (last_chains a) → Contains links best → All (λ link. beats (chain_of chains link) (chain_of chains best) ≡ false) links → IsBest a (chain_of chains best)
 best-of-all a chains links best is among unbeaten =
     top-stands a (map (chain_of chains) links) (Some (chain_of chains best))
     (record {
@@ -56,16 +56,16 @@ best-of-all a chains links best is among unbeaten =
           let k = member-of_map (chain_of chains) links x h in
           subst (λ (y : Chain). beats y (chain_of chains best) ≡ false) k.2 (All-contains (λ link. beats (chain_of chains link) (chain_of chains best) ≡ false) links k.0 unbeaten (contains-member links k.0 k.1));
     })
-    (subst (λ (list : List Chain). Stands list (chains_of a)) (sym is) (offered-stands (last_chains a) (chains_of a) (last-stands a)))
+    (subst (λ (list : List Chain). Stands (last_special a) list (chains_of a)) (sym is) (offered-stands (last_special a) (last_chains a) (chains_of a) (last-stands a)))
 
 -- where there is no link, there is no chain
-pub none-of-all : (a : Attempt) (chains : List Chain) (links : List Link) → map (chain_of chains) links ≡ all_offered [] (last_chains a) → links ≡ [] → chains_of a ≡ []
+pub none-of-all : (a : Attempt) (chains : List Chain) (links : List Link) → map (chain_of chains) links ≡ all_offered (last_special a) [] (last_chains a) → links ≡ [] → chains_of a ≡ []
 none-of-all a chains links is none =
     top-stands a [] None refl
-    (subst (λ (list : List Chain). Stands list (chains_of a)) (sym is ∙ ap (map (chain_of chains)) none) (offered-stands (last_chains a) (chains_of a) (last-stands a)))
+    (subst (λ (list : List Chain). Stands (last_special a) list (chains_of a)) (sym is ∙ ap (map (chain_of chains)) none) (offered-stands (last_special a) (last_chains a) (chains_of a) (last-stands a)))
 
 -- in the last pass there is a link
-pub not-none : (a : Attempt) (chains : List Chain) (links : List Link) → IsEnded a.pieces → is_last_pass a.params a.pass ≡ true → map (chain_of chains) links ≡ all_offered [] (last_chains a) → links ≡ [] → ⊥
+pub not-none : (a : Attempt) (chains : List Chain) (links : List Link) → IsEnded a.pieces → is_last_pass a.params a.pass ≡ true → map (chain_of chains) links ≡ all_offered (last_special a) [] (last_chains a) → links ≡ [] → ⊥
 not-none a chains links ended last is none =
     let some = ends-some a ended last in
     subst (λ (list : List Chain). Member list some.0) (sym is ∙ ap (map (chain_of chains)) none) some.1

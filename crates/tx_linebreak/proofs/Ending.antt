@@ -11,7 +11,7 @@ use Rattle.tx_linebreak.specs.declared.piece.Piece.TheVariants.{Penalty}
 use Rattle.tx_linebreak.specs.Breaks.{context_from, is_forced, outset, penalty_at, piece_penalty, unless_forbidden}
 use Rattle.tx_linebreak.specs.Chains.{Chain, candidate_of, dies_at, dies_by, from_living, is_feasible, is_last_pass, is_overfull, is_stuck, with_line, with_line_taken}
 use Rattle.tx_linebreak.specs.Chosen.{IsEnded}
-use Rattle.tx_linebreak.specs.Kept.{all_offered, kept_before, kept_by, last_by, last_chains}
+use Rattle.tx_linebreak.specs.Kept.{all_offered, kept_before, kept_by, last_by, last_chains, last_special}
 use Rattle.tx_linebreak.specs.Lines.{Attempt, line_fit}
 use Rattle.tx_linebreak.proofs.Kept.{all_offered-new}
 use Rattle.tx_linebreak.proofs.Members.{Member, member-filter, member-left, member-map, member-right}
@@ -62,9 +62,9 @@ kept-some a (suc place) last = by (penalty_at a.params a.pass a.pieces place) (k
     by (Some penalty) some =
         let kept = kept_before a place in
         let old = filter (λ chain. not (dies_at a (candidate_of chain) place)) kept in
-        let new = all_offered [] (from_living a place penalty kept) in
+        let new = all_offered (last_special a) [] (from_living a place penalty kept) in
         elim (made-or-lives a place penalty kept last some) [
-          | inl k ↦ let g = all_offered-new [] (from_living a place penalty kept) k.0 k.1 in (g.one, member-right old new g.one g.there)
+          | inl k ↦ let g = all_offered-new (last_special a) [] (from_living a place penalty kept) k.0 k.1 in (g.one, member-right old new g.one g.there)
           | inr k ↦ (k.0, member-left old new k.0 (member-filter (λ chain. not (dies_at a (candidate_of chain) place)) kept k.0 k.1 (ap not k.2)))
         ]
 
@@ -106,8 +106,8 @@ pub ended-some : (pieces : List Piece) → IsEnded pieces → 0 < length pieces
 ended-some [] e = absurd (none-some (Penalty e.penalty) e.last_is)
 ended-some (p ∷ pieces) e = omega arith
 
-pub ends-some : (a : Attempt) → IsEnded a.pieces → is_last_pass a.params a.pass ≡ true → SomeIn (all_offered [] (last_chains a))
+pub ends-some : (a : Attempt) → IsEnded a.pieces → is_last_pass a.params a.pass ≡ true → SomeIn (all_offered (last_special a) [] (last_chains a))
 ends-some a e last =
     let k = last-some a e.penalty last (end-penalty a.params a.pass a.pieces e) e.forces in
-    let g = all_offered-new [] (last_chains a) k.0 k.1 in
+    let g = all_offered-new (last_special a) [] (last_chains a) k.0 k.1 in
     (g.one, g.there)

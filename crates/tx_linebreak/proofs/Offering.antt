@@ -9,37 +9,37 @@ use Rattle.tx_linebreak.specs.Chains.{Chain}
 use Rattle.tx_linebreak.specs.Chosen.{beats}
 use Rattle.tx_linebreak.specs.Kept.{offered}
 use Rattle.tx_linebreak.specs.Shared.{chain_of}
-use Rattle.tx_linebreak.specs.Steps.{line_level}
+use Rattle.tx_linebreak.specs.Steps.{line_alike}
 
--- the first of these links that ends with the candidate of another
-pub record IsFirst (links : List Link) (link : Link) (k : ℕ) (d : Link) : Type 0 where
+-- the first of these links that goes on as another
+pub record IsFirst (special : ℕ) (links : List Link) (link : Link) (k : ℕ) (d : Link) : Type 0 where
   pub within : k < length links
-  pub level : line_level (get_or links k d).line link.line ≡ true
-  pub before : (j : ℕ) → j < k → line_level (get_or links j d).line link.line ≡ false
+  pub alike : line_alike special (get_or links k d).line link.line ≡ true
+  pub before : (j : ℕ) → j < k → line_alike special (get_or links j d).line link.line ≡ false
 
-later : (l : Link) (links : List Link) (link : Link) (k : ℕ) (d : Link) → IsFirst (l ∷ links) link (suc k) d → IsFirst links link k d
-later l links link k d first = record {
+later : (special : ℕ) (l : Link) (links : List Link) (link : Link) (k : ℕ) (d : Link) → IsFirst special (l ∷ links) link (suc k) d → IsFirst special links link k d
+later special l links link k d first = record {
   within = let w = first.within in omega arith;
-  level = first.level;
+  alike = first.alike;
   before = λ j h. first.before (suc j) (omega arith);
 }
 
-pub offered-better : (chains : List Chain) (links : List Link) (link : Link) (k : ℕ) (d : Link) → IsFirst links link k d → beats (chain_of chains link) (chain_of chains (get_or links k d)) ≡ true → map (chain_of chains) (slice_set links k link) ≡ offered (map (chain_of chains) links) (chain_of chains link)
-offered-better chains [] link k d first b = absurd (let w = first.within in omega arith)
-offered-better chains (l ∷ links) link zero d first b = rw (first.level, b) refl
-offered-better chains (l ∷ links) link (suc k) d first b =
-    rw (first.before 0 (omega arith)) (ap (λ (list : List Chain). chain_of chains l ∷ list) (offered-better chains links link k d (later l links link k d first) b))
+pub offered-better : (special : ℕ) (chains : List Chain) (links : List Link) (link : Link) (k : ℕ) (d : Link) → IsFirst special links link k d → beats (chain_of chains link) (chain_of chains (get_or links k d)) ≡ true → map (chain_of chains) (slice_set links k link) ≡ offered special (map (chain_of chains) links) (chain_of chains link)
+offered-better special chains [] link k d first b = absurd (let w = first.within in omega arith)
+offered-better special chains (l ∷ links) link zero d first b = rw (first.alike, b) refl
+offered-better special chains (l ∷ links) link (suc k) d first b =
+    rw (first.before 0 (omega arith)) (ap (λ (list : List Chain). chain_of chains l ∷ list) (offered-better special chains links link k d (later special l links link k d first) b))
 
-pub offered-worse : (chains : List Chain) (links : List Link) (link : Link) (k : ℕ) (d : Link) → IsFirst links link k d → beats (chain_of chains link) (chain_of chains (get_or links k d)) ≡ false → map (chain_of chains) links ≡ offered (map (chain_of chains) links) (chain_of chains link)
-offered-worse chains [] link k d first b = absurd (let w = first.within in omega arith)
-offered-worse chains (l ∷ links) link zero d first b = rw (first.level, b) refl
-offered-worse chains (l ∷ links) link (suc k) d first b =
-    rw (first.before 0 (omega arith)) (ap (λ (list : List Chain). chain_of chains l ∷ list) (offered-worse chains links link k d (later l links link k d first) b))
+pub offered-worse : (special : ℕ) (chains : List Chain) (links : List Link) (link : Link) (k : ℕ) (d : Link) → IsFirst special links link k d → beats (chain_of chains link) (chain_of chains (get_or links k d)) ≡ false → map (chain_of chains) links ≡ offered special (map (chain_of chains) links) (chain_of chains link)
+offered-worse special chains [] link k d first b = absurd (let w = first.within in omega arith)
+offered-worse special chains (l ∷ links) link zero d first b = rw (first.alike, b) refl
+offered-worse special chains (l ∷ links) link (suc k) d first b =
+    rw (first.before 0 (omega arith)) (ap (λ (list : List Chain). chain_of chains l ∷ list) (offered-worse special chains links link k d (later special l links link k d first) b))
 
-pub offered-first : (chains : List Chain) (links : List Link) (link : Link) (d : Link) → ((j : ℕ) → j < length links → line_level (get_or links j d).line link.line ≡ false) → map (chain_of chains) (links ++ link ∷ []) ≡ offered (map (chain_of chains) links) (chain_of chains link)
-offered-first chains [] link d none = refl
-offered-first chains (l ∷ links) link d none =
-    rw (none 0 (omega arith)) (ap (λ (list : List Chain). chain_of chains l ∷ list) (offered-first chains links link d (λ j h. none (suc j) (omega arith))))
+pub offered-first : (special : ℕ) (chains : List Chain) (links : List Link) (link : Link) (d : Link) → ((j : ℕ) → j < length links → line_alike special (get_or links j d).line link.line ≡ false) → map (chain_of chains) (links ++ link ∷ []) ≡ offered special (map (chain_of chains) links) (chain_of chains link)
+offered-first special chains [] link d none = refl
+offered-first special chains (l ∷ links) link d none =
+    rw (none 0 (omega arith)) (ap (λ (list : List Chain). chain_of chains l ∷ list) (offered-first special chains links link d (λ j h. none (suc j) (omega arith))))
 
 -- the first place of a list at which a test passes isn't past a place at which it does
 first_up_to : (p : Link → Bool) (links : List Link) (j : ℕ) (d : Link) → j < length links → p (get_or links j d) ≡ true → position_or_len p links < length links
@@ -51,17 +51,17 @@ first_up_to p (l ∷ links) (suc j) d h e = by (p l) (first_up_to p links j d (o
     by true k = omega arith
     by false k = omega arith
 
--- where none is found, none ends with the candidate
-pub none-level : (links : List Link) (link : Link) (d : Link) → position (λ l. line_level l.line link.line) links ≡ None → (j : ℕ) → j < length links → line_level (get_or links j d).line link.line ≡ false
-none-level links link d none j h = by (line_level (get_or links j d).line link.line) refl
+-- where none is found, none goes on so
+pub none-alike : (special : ℕ) (links : List Link) (link : Link) (d : Link) → position (λ l. line_alike special l.line link.line) links ≡ None → (j : ℕ) → j < length links → line_alike special (get_or links j d).line link.line ≡ false
+none-alike special links link d none j h = by (line_alike special (get_or links j d).line link.line) refl
   where
     found : (b : Bool) (k : ℕ) → cond b (Some k) None ≡ None → b ≡ false
     found true k e = absurd cc
     found false k e = refl
 
-    by : (b : Bool) → line_level (get_or links j d).line link.line ≡ b → b ≡ false
+    by : (b : Bool) → line_alike special (get_or links j d).line link.line ≡ b → b ≡ false
     by false e = refl
     by true e =
-        let under = first_up_to (λ l. line_level l.line link.line) links j d h e in
-        let over = ltb-false (position_or_len (λ l. line_level l.line link.line) links) (length links) (found (ltb (position_or_len (λ l. line_level l.line link.line) links) (length links)) (position_or_len (λ l. line_level l.line link.line) links) none) in
+        let under = first_up_to (λ l. line_alike special l.line link.line) links j d h e in
+        let over = ltb-false (position_or_len (λ l. line_alike special l.line link.line) links) (length links) (found (ltb (position_or_len (λ l. line_alike special l.line link.line) links) (length links)) (position_or_len (λ l. line_alike special l.line link.line) links) none) in
         absurd (omega arith)

@@ -10,7 +10,7 @@ use Rattle.tx_linebreak.specs.declared.line.Line.{Line}
 use Rattle.tx_linebreak.specs.declared.link.Link.{Link}
 use Rattle.tx_linebreak.specs.declared.trial.Trial.{Trial}
 use Rattle.tx_linebreak.specs.Chains.{Chain, candidate_of, from_living, is_feasible, is_stuck, is_tolerable, line_set, tolerance_of, with_line, with_line_taken}
-use Rattle.tx_linebreak.specs.Kept.{all_offered, offered}
+use Rattle.tx_linebreak.specs.Kept.{all_offered, last_special, offered}
 use Rattle.tx_linebreak.specs.Lines.{Attempt}
 use Rattle.tx_linebreak.specs.Shared.{IsMade, chain_of}
 use Rattle.tx_linebreak.specs.Trials.{IsTrial, chain_tried, line_by}
@@ -52,28 +52,28 @@ place-by a c place penalty (Set badness class) = refl
 -- how far chains are made of the lines that are tried
 pub record IsReaching (a : Attempt) (place : ℕ) (penalty : ℤ) (stuck : Bool) (whole chains : List Chain) (links : List Link) (trials : List Trial) (at : ℕ) : Type 0 where
   pub made : All (IsMade chains) links
-  pub whole_is : all_offered (map (chain_of chains) links) (reached a place penalty stuck (map (chain_tried chains) (drop at trials))) ≡ whole
+  pub whole_is : all_offered (last_special a) (map (chain_of chains) links) (reached a place penalty stuck (map (chain_tried chains) (drop at trials))) ≡ whole
 
 -- the front of what is left
-front : (a : Attempt) (place : ℕ) (penalty : ℤ) (stuck taken : Bool) (chains others : List Chain) (trials : List Trial) (at : ℕ) (d : Trial) → at < length trials → (stuck || is_feasible a (candidate_of (chain_tried chains (get_or trials at d))) place) ≡ taken → all_offered others (reached a place penalty stuck (map (chain_tried chains) (drop at trials))) ≡ all_offered others (cond taken (with_line_by a place penalty stuck (chain_tried chains (get_or trials at d)) ∷ reached a place penalty stuck (map (chain_tried chains) (drop (at + 1) trials))) (reached a place penalty stuck (map (chain_tried chains) (drop (at + 1) trials))))
+front : (a : Attempt) (place : ℕ) (penalty : ℤ) (stuck taken : Bool) (chains others : List Chain) (trials : List Trial) (at : ℕ) (d : Trial) → at < length trials → (stuck || is_feasible a (candidate_of (chain_tried chains (get_or trials at d))) place) ≡ taken → all_offered (last_special a) others (reached a place penalty stuck (map (chain_tried chains) (drop at trials))) ≡ all_offered (last_special a) others (cond taken (with_line_by a place penalty stuck (chain_tried chains (get_or trials at d)) ∷ reached a place penalty stuck (map (chain_tried chains) (drop (at + 1) trials))) (reached a place penalty stuck (map (chain_tried chains) (drop (at + 1) trials))))
 front a place penalty stuck taken chains others trials at d below is =
     let rest : List Chain = reached a place penalty stuck (map (chain_tried chains) (drop (at + 1) trials)) in
-    at_drop_more (λ (ts : List Trial). all_offered others (reached a place penalty stuck (map (chain_tried chains) ts))) trials at d below
-    ∙ ap (λ (b : Bool). all_offered others (cond b (with_line_by a place penalty stuck (chain_tried chains (get_or trials at d)) ∷ rest) rest)) is
+    at_drop_more (λ (ts : List Trial). all_offered (last_special a) others (reached a place penalty stuck (map (chain_tried chains) ts))) trials at d below
+    ∙ ap (λ (b : Bool). all_offered (last_special a) others (cond b (with_line_by a place penalty stuck (chain_tried chains (get_or trials at d)) ∷ rest) rest)) is
 
 -- whether a line is taken, by its fit
 taken-by : (a : Attempt) (chains : List Chain) (place : ℕ) (stuck tolerable taken : Bool) (trials : List Trial) (at : ℕ) (d : Trial) → All (IsTrial a chains place) trials → at < length trials → tolerable ≡ is_tolerable (tolerance_of a.params a.pass) (get_or trials at d).fit → (stuck || tolerable) ≡ taken → (stuck || is_feasible a (candidate_of (chain_tried chains (get_or trials at d))) place) ≡ taken
 taken-by a chains place stuck tolerable taken trials at d all below tolerable_is taken_is =
     ap (λ (b : Bool). stuck || b) (sym (tolerable_is ∙ feasible-by a chains place (get_or trials at d) (All-get_or (IsTrial a chains place) trials at d below all))) ∙ taken_is
 
-pub reaching-takes : (a : Attempt) (place : ℕ) (penalty z : ℤ) (stuck tolerable : Bool) (whole chains : List Chain) (links more : List Link) (trials : List Trial) (at : ℕ) (d : Trial) (line : Line) (link : Link) → All (IsTrial a chains place) trials → at < length trials → tolerable ≡ is_tolerable (tolerance_of a.params a.pass) (get_or trials at d).fit → (stuck || tolerable) ≡ true → z ≡ penalty → line ≡ line_by a (get_or trials at d).from place z stuck → chain_of chains link ≡ line ∷ chain_tried chains (get_or trials at d) → map (chain_of chains) more ≡ offered (map (chain_of chains) links) (chain_of chains link) → All (IsMade chains) more → IsReaching a place penalty stuck whole chains links trials at → IsReaching a place penalty stuck whole chains more trials (at + 1)
+pub reaching-takes : (a : Attempt) (place : ℕ) (penalty z : ℤ) (stuck tolerable : Bool) (whole chains : List Chain) (links more : List Link) (trials : List Trial) (at : ℕ) (d : Trial) (line : Line) (link : Link) → All (IsTrial a chains place) trials → at < length trials → tolerable ≡ is_tolerable (tolerance_of a.params a.pass) (get_or trials at d).fit → (stuck || tolerable) ≡ true → z ≡ penalty → line ≡ line_by a (get_or trials at d).from place z stuck → chain_of chains link ≡ line ∷ chain_tried chains (get_or trials at d) → map (chain_of chains) more ≡ offered (last_special a) (map (chain_of chains) links) (chain_of chains link) → All (IsMade chains) more → IsReaching a place penalty stuck whole chains links trials at → IsReaching a place penalty stuck whole chains more trials (at + 1)
 reaching-takes a place penalty z stuck tolerable whole chains links more trials at d line link all below tolerable_is taken penalty_is line_is link_is more_is made r = record {
   made = made;
   whole_is =
-      (λ i. all_offered (more_is i) rest)
-      ∙ (λ i. all_offered (offered (map (chain_of chains) links) (link_is i)) rest)
-      ∙ (λ i. all_offered (offered (map (chain_of chains) links) (line_is i ∷ chain_tried chains trial)) rest)
-      ∙ (λ i. all_offered (offered (map (chain_of chains) links) (line_by a (from_is i) place (penalty_is i) stuck ∷ chain_tried chains trial)) rest)
+      (λ i. all_offered (last_special a) (more_is i) rest)
+      ∙ (λ i. all_offered (last_special a) (offered (last_special a) (map (chain_of chains) links) (link_is i)) rest)
+      ∙ (λ i. all_offered (last_special a) (offered (last_special a) (map (chain_of chains) links) (line_is i ∷ chain_tried chains trial)) rest)
+      ∙ (λ i. all_offered (last_special a) (offered (last_special a) (map (chain_of chains) links) (line_by a (from_is i) place (penalty_is i) stuck ∷ chain_tried chains trial)) rest)
       ∙ sym (front a place penalty stuck true chains (map (chain_of chains) links) trials at d below (taken-by a chains place stuck tolerable true trials at d all below tolerable_is taken))
       ∙ r.whole_is;
 }
@@ -94,14 +94,14 @@ reaching-leaves a place penalty stuck tolerable whole chains links more trials a
 })
 
 -- at the beginning, and at the end
-pub reaching-none : (a : Attempt) (place : ℕ) (penalty : ℤ) (stuck : Bool) (chains : List Chain) (links : List Link) (trials : List Trial) → links ≡ [] → stuck ≡ is_stuck a place (map (chain_tried chains) trials) → IsReaching a place penalty stuck (all_offered [] (from_living a place penalty (map (chain_tried chains) trials))) chains links trials 0
+pub reaching-none : (a : Attempt) (place : ℕ) (penalty : ℤ) (stuck : Bool) (chains : List Chain) (links : List Link) (trials : List Trial) → links ≡ [] → stuck ≡ is_stuck a place (map (chain_tried chains) trials) → IsReaching a place penalty stuck (all_offered (last_special a) [] (from_living a place penalty (map (chain_tried chains) trials))) chains links trials 0
 reaching-none a place penalty stuck chains links trials none is = record {
   made = subst (All (IsMade chains)) (sym none) (λ k d h. absurd (omega arith));
   whole_is =
-      (λ i. all_offered (map (chain_of chains) (none i)) (reached a place penalty (is i) (map (chain_tried chains) trials)))
-      ∙ ap (all_offered []) (reached-living a place penalty (map (chain_tried chains) trials));
+      (λ i. all_offered (last_special a) (map (chain_of chains) (none i)) (reached a place penalty (is i) (map (chain_tried chains) trials)))
+      ∙ ap (all_offered (last_special a) []) (reached-living a place penalty (map (chain_tried chains) trials));
 }
 
 pub reaching-all : (a : Attempt) (place : ℕ) (penalty : ℤ) (stuck : Bool) (whole chains : List Chain) (links : List Link) (trials : List Trial) (at : ℕ) → length trials ≤ at → IsReaching a place penalty stuck whole chains links trials at → map (chain_of chains) links ≡ whole
 reaching-all a place penalty stuck whole chains links trials at over r =
-    sym (at_drop_all (λ (ts : List Trial). all_offered (map (chain_of chains) links) (reached a place penalty stuck (map (chain_tried chains) ts))) trials at over) ∙ r.whole_is
+    sym (at_drop_all (λ (ts : List Trial). all_offered (last_special a) (map (chain_of chains) links) (reached a place penalty stuck (map (chain_tried chains) ts))) trials at over) ∙ r.whole_is

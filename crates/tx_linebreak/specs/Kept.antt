@@ -1,6 +1,6 @@
--- One chain for each candidate: the programme of dynamic steps, by which the best of all chains is found without looking at
--- each. No public clause speaks of it.
-use Rattle.std.specs.Prelude.{◌≡◌, ℕ, zero, suc, ◌-◌, ◌==◌, ℤ, Bool, true, false, not, ◌&&◌, if◌then◌else◌, List, [], ◌∷◌, ◌++◌, filter, length, Option, None, Some}
+-- One chain for each candidate, where those that go on alike are one: the programme of dynamic steps, by which the best of all
+-- chains is found without looking at each. No public clause speaks of it.
+use Rattle.std.specs.Prelude.{◌≡◌, ℕ, zero, suc, ◌-◌, min, ◌==◌, ℤ, Bool, true, false, not, ◌&&◌, if◌then◌else◌, List, [], ◌∷◌, ◌++◌, filter, length, Option, None, Some}
 use Rattle.tx_linebreak.specs.declared.line.Candidate.{Candidate}
 use Rattle.tx_linebreak.specs.Breaks.{penalty_at}
 use Rattle.tx_linebreak.specs.Lines.{Attempt}
@@ -19,30 +19,43 @@ same_place (Some p) (Some q) = p == q
 abbrev pub same_candidate : Candidate → Candidate → Bool
 same_candidate c d = same_place c.place d.place && c.lines == d.lines && class_number c.class == class_number d.class
 
+-- the number of the last line of special shape: all lines behind it have the same one (TeX: The Program, section 847)
+abbrev pub last_special : Attempt → ℕ
+last_special a = length a.shape - 1
+
+-- a candidate, as the lines behind it depend on it: it makes no difference how many lines come before it where there are so
+-- many that all further ones have the same shape (TeX: The Program, section 835: easy_line)
+abbrev pub as_seen : ℕ → Candidate → Candidate
+as_seen special c = record { place = c.place; lines = min c.lines special; class = c.class }
+
+-- what may come behind two candidates is the same
+abbrev pub go_on_alike : ℕ → Candidate → Candidate → Bool
+go_on_alike special c d = same_candidate (as_seen special c) (as_seen special d)
+
 -- the better one of two chains, the second where neither beats the other
 abbrev pub better : Chain → Chain → Chain
 better chain other = if beats chain other then chain else other
 
--- chains, of which no two end with the same candidate, with one more: of its candidate the better one stays
-abbrev pub offered : List Chain → Chain → List Chain
-offered [] chain = chain ∷ []
-offered (other ∷ others) chain =
-    if same_candidate (candidate_of other) (candidate_of chain) then better chain other ∷ others
-    else other ∷ offered others chain
+-- chains, of which no two go on alike, with one more: of those that do the better one stays
+abbrev pub offered : ℕ → List Chain → Chain → List Chain
+offered special [] chain = chain ∷ []
+offered special (other ∷ others) chain =
+    if go_on_alike special (candidate_of other) (candidate_of chain) then better chain other ∷ others
+    else other ∷ offered special others chain
 
 -- with some more
-abbrev pub all_offered : List Chain → List Chain → List Chain
-all_offered others [] = others
-all_offered others (chain ∷ chains) = all_offered (offered others chain) chains
+abbrev pub all_offered : ℕ → List Chain → List Chain → List Chain
+all_offered special others [] = others
+all_offered special others (chain ∷ chains) = all_offered special (offered special others chain) chains
 
--- the chains kept behind a place, of those kept before it: those whose candidates don't die there, and one for each candidate
--- that is made there
+-- the chains kept behind a place, of those kept before it: those whose candidates don't die there, and, of those made there
+-- that go on alike, one each
 abbrev pub kept_by : Attempt → ℕ → Option ℤ → List Chain → List Chain
 kept_by a place None kept = kept
 kept_by a place (Some penalty) kept =
-    filter (λ chain. not (dies_at a (candidate_of chain) place)) kept ++ all_offered [] (from_living a place penalty kept)
+    filter (λ chain. not (dies_at a (candidate_of chain) place)) kept ++ all_offered (last_special a) [] (from_living a place penalty kept)
 
--- the chains kept before a place: one for each candidate that lives there
+-- the chains kept before a place: one for each candidate that lives there, where those that go on alike are one
 abbrev pub kept_before : Attempt → ℕ → List Chain
 kept_before a zero = [] ∷ []
 kept_before a (suc place) = kept_by a place (penalty_at a.params a.pass a.pieces place) (kept_before a place)
@@ -61,6 +74,6 @@ abbrev pub FindsBest : Attempt → Option Chain → Type 0
 FindsBest a None = chains_of a ≡ []
 FindsBest a (Some chain) = IsBest a chain
 
--- it is enough to keep one chain for each candidate
+-- it is enough to keep one chain for each candidate, where those that go on alike are one
 abbrev pub OneIsEnough : Attempt → Type 0
 OneIsEnough a = FindsBest a (best_of (last_chains a))

@@ -1,5 +1,5 @@
 -- Two lines by their places, numbers and classes. No public clause speaks of it.
-use Rattle.std.specs.Prelude.{◌==◌, nat_lt, Bool, ◌&&◌, ◌||◌}
+use Rattle.std.specs.Prelude.{ℕ, ◌==◌, nat_lt, min, Bool, ◌&&◌, ◌||◌}
 use Rattle.tx_linebreak.specs.declared.line.Line.{Line}
 use Rattle.tx_linebreak.specs.Classes.{class_number}
 
@@ -12,3 +12,8 @@ line_below l m =
 -- all three are the same
 abbrev pub line_level : Line → Line → Bool
 line_level l m = l.place == m.place && l.number == m.number && class_number l.class == class_number m.class
+
+-- they are, or the numbers differ where all further lines have the same shape
+abbrev pub line_alike : ℕ → Line → Line → Bool
+line_alike special l m =
+    l.place == m.place && min l.number special == min m.number special && class_number l.class == class_number m.class

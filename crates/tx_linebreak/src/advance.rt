@@ -1,7 +1,7 @@
 //! From break to break.
 ghost use Rattle.std.specs.Prelude.{◌≡◌, ◌<◌, ◌++◌, ◌∷◌, [], length, map, All, IfOk, OnOk, Some};
 ghost use Rattle.tx_linebreak.specs.Breaks.{context_from, outset, penalty_at};
-ghost use Rattle.tx_linebreak.specs.Kept.{all_offered, kept_by, last_chains};
+ghost use Rattle.tx_linebreak.specs.Kept.{all_offered, kept_by, last_chains, last_special};
 ghost use Rattle.tx_linebreak.specs.Shared.{IsMade, chain_at, chain_of};
 ghost use Rattle.tx_linebreak.specs.Tasks.{IsTask, attempt_of};
 ghost use Rattle.tx_linebreak.specs.Trials.{IsActive};
@@ -69,7 +69,7 @@ impl Task<'_> {
         requires some { 0 < length self.now.pieces.now }
         requires start { chains.old ≡ [] ∷ [] }
         ensures made { IfOk result (λ links. All (IsMade chains.new) links.items) }
-        ensures chains { IfOk result (λ links. map (chain_of chains.new) links.items ≡ all_offered [] (last_chains (attempt_of self.now))) }
+        ensures chains { IfOk result (λ links. map (chain_of chains.new) links.items ≡ all_offered (last_special (attempt_of self.now)) [] (last_chains (attempt_of self.now))) }
     {
         let last = self.pieces.len() - 1;
         let mut active = vec![in alloc; 0]?;

@@ -1,6 +1,6 @@
 //! A line, and how it fits.
 ghost use Rattle.std.specs.Prelude.{◌≡◌};
-ghost use Rattle.tx_linebreak.specs.Steps.{line_below, line_level};
+ghost use Rattle.tx_linebreak.specs.Steps.{line_alike, line_below, line_level};
 
 use crate::piece::Class;
 
@@ -45,6 +45,16 @@ impl Line {
             return self.number < other.number;
         }
         self.class.number() < other.class.number()
+    }
+
+    /// Whether what may come behind it is what may come behind another line, where the lines behind one of this number have the
+    /// same shape.
+    pub fn goes_on_as(&self, other: &Line, last_special: usize) -> bool
+        ensures { result ≡ line_alike last_special self.now other.now }
+    {
+        self.place == other.place
+            && self.number.min(last_special) == other.number.min(last_special)
+            && self.class.number() == other.class.number()
     }
 
     /// Whether its place, number and class are those of another line.

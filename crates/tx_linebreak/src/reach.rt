@@ -2,7 +2,7 @@
 ghost use Rattle.std.specs.Prelude.{◌≡◌, ◌∷◌, ◌<◌, ◌≤◌, ◌^◌, suc, [], length, map, unsigned_abs, All, IfOk, Some};
 ghost use Rattle.tx_linebreak.specs.Breaks.{penalty_at};
 ghost use Rattle.tx_linebreak.specs.Chains.{candidate_of};
-ghost use Rattle.tx_linebreak.specs.Kept.{all_offered, last_by};
+ghost use Rattle.tx_linebreak.specs.Kept.{all_offered, last_by, last_special};
 ghost use Rattle.tx_linebreak.specs.Lines.{line_fit};
 ghost use Rattle.tx_linebreak.specs.Shared.{IsMade, chain_of};
 ghost use Rattle.tx_linebreak.specs.Tasks.{IsTask, attempt_of};
@@ -54,8 +54,16 @@ impl Task<'_> {
         line
     }
 
-    /// The chains that are made of those that are tried, with their lines to a break with this penalty: of each candidate the
-    /// best one.
+    /// The number of the last line of special shape.
+    fn last_special(&self) -> usize
+        requires task { IsTask self.now }
+        ensures { result ≡ last_special (attempt_of self.now) }
+    {
+        self.shape.len() - 1
+    }
+
+    /// The chains that are made of those that are tried, with their lines to a break with this penalty: of those that go on
+    /// alike the best one.
     pub(crate) fn reach(
         &self,
         alloc: Global,
@@ -69,7 +77,7 @@ impl Task<'_> {
         requires trials { All (IsTrial (attempt_of self.now) chains.now place) trials.now }
         requires legal { penalty_at self.now.params.now self.now.pass self.now.pieces.now place ≡ Some penalty }
         ensures made { IfOk result (λ links. All (IsMade chains.now) links.items) }
-        ensures chains { IfOk result (λ links. map (chain_of chains.now) links.items ≡ all_offered [] (last_by (attempt_of self.now) place (penalty_at self.now.params.now self.now.pass self.now.pieces.now place) (map (chain_tried chains.now) trials.now))) }
+        ensures chains { IfOk result (λ links. map (chain_of chains.now) links.items ≡ all_offered (last_special (attempt_of self.now)) [] (last_by (attempt_of self.now) place (penalty_at self.now.params.now self.now.pass self.now.pieces.now place) (map (chain_tried chains.now) trials.now))) }
     {
         let stuck = self.is_stuck(trials, penalty);
         let mut links = Vec::new(alloc);
@@ -77,7 +85,12 @@ impl Task<'_> {
             let taken = stuck | self.is_tolerable(trial.fit);
             if taken {
                 let line = self.line(trial, place, penalty, stuck);
-                offer(chains, &mut links, link(chains, trial, line))?;
+                offer(
+                    chains,
+                    &mut links,
+                    link(chains, trial, line),
+                    self.last_special(),
+                )?;
             }
         }
         Ok(links)

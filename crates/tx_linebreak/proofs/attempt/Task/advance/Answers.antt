@@ -3,7 +3,7 @@ use Rattle.std.specs.Prelude.{All, filter, not, ◌||◌}
 use Rattle.std.proofs.lemmas.Int.{to_z-of_z}
 use Rattle.tx_linebreak.specs.Breaks.{is_forced}
 use Rattle.tx_linebreak.specs.Chains.{is_overfull}
-use Rattle.tx_linebreak.specs.Kept.{all_offered, kept_by, last_by}
+use Rattle.tx_linebreak.specs.Kept.{all_offered, kept_by, last_by, last_special}
 use Rattle.tx_linebreak.specs.Shared.{chain_at, chain_of}
 use Rattle.tx_linebreak.specs.Tasks.{attempt_of}
 use Rattle.tx_linebreak.specs.Trials.{IsTrial, chain_tried}
@@ -27,5 +27,5 @@ returns-clause-kept c =
     ∙ kept-made a c.args.place c.args.penalty chains c.args.active.now c.in_ok-kept.kept.items c.in_ok-trials.trials.items c.in_ok-links.links.items c.requires.legal c.in_ok-trials.ensures.trials c.in_ok-trials.ensures.chains
     (c.in_ok-kept.ensures ∙ (λ i. map (λ t. t.chain) (filter (λ t. not (is_forced (back i) || is_overfull t.fit)) (c.as_slice-2.ensures.value i))))
     (c.in_ok-links.ensures.chains
-    ∙ (λ i. all_offered [] (last_by a c.args.place (c.requires.legal i) (map (chain_tried chains) (c.as_slice.ensures.value i)))))
+    ∙ (λ i. all_offered (last_special a) [] (last_by a c.args.place (c.requires.legal i) (map (chain_tried chains) (c.as_slice.ensures.value i)))))
     ∙ sym (ap (λ o. kept_by a c.args.place o (map (chain_at chains) c.args.active.now)) c.requires.legal)

@@ -1,7 +1,7 @@
 use Rattle.std.proofs.Common.{◌≡◌, ◌<◌, ◌∙◌, [], suc, ◌+◌, ◌-◌, length, map, get_or, refl, sym, ap, subst, arith}
 use Rattle.std.specs.Prelude.{All, IfOk}
 use Rattle.tx_linebreak.specs.Breaks.{behind, context_from, outset, penalty_at}
-use Rattle.tx_linebreak.specs.Kept.{all_offered, kept_before, kept_by, last_by}
+use Rattle.tx_linebreak.specs.Kept.{all_offered, kept_before, kept_by, last_by, last_special}
 use Rattle.tx_linebreak.specs.Shared.{chain_at, chain_of}
 use Rattle.tx_linebreak.specs.Tasks.{attempt_of}
 use Rattle.tx_linebreak.specs.Trials.{IsActive, chain_tried}
@@ -54,7 +54,7 @@ returns-in-None-clause-chains c =
     let a = attempt_of c.args.self.now in
     let last = length a.pieces - 1 in
     ap (map (chain_of c.loop-place.chains)) c.new.ensures.items
-    ∙ ap (all_offered []) (ap (λ o. last_by a last o (kept_before a last)) c.in-None.ensures ∙ sym (last-are a))
+    ∙ ap (all_offered (last_special a) []) (ap (λ o. last_by a last o (kept_before a last)) c.in-None.ensures ∙ sym (last-are a))
 
 pub trials-requires-clause-active : goal.trials-requires-clause-active
 trials-requires-clause-active c =
@@ -76,5 +76,5 @@ returns-clause-chains c =
     ∙ c.loop-place.invariant.0
     ∙ ap (kept_before a) at in
     subst (λ whole. IfOk c.reach.result (λ links. map (chain_of chains) links.items ≡ whole))
-    (ap (λ kept. all_offered [] (last_by a last penalty kept)) tried ∙ ap (all_offered []) (sym (last-are a)))
+    (ap (λ kept. all_offered (last_special a) [] (last_by a last penalty kept)) tried ∙ ap (all_offered (last_special a) []) (sym (last-are a)))
     c.reach.ensures.chains
