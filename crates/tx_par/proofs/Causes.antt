@@ -1,5 +1,5 @@
 -- What comes of a paragraph.
-use Rattle.std.proofs.Common.{◌≡◌, ◌≢◌, ◌↔◌, Bool, true, false, List, Result, Ok, Err, IfOk, IfErr, refl, sym, ap, subst, ◌∙◌, true≢false}
+use Rattle.std.proofs.Common.{◌≡◌, ◌≢◌, ◌↔◌, Bool, true, false, cond, List, Result, Ok, Err, IfOk, IfErr, refl, sym, ap, subst, ◌∙◌, true≢false}
 use Rattle.tx_linebreak.specs.declared.answer.Chosen.{Chosen}
 use Rattle.tx_linebreak.specs.declared.error.BreakError.{BreakError}
 use Rattle.tx_linebreak.specs.declared.error.BreakError.TheVariants as breaking
@@ -12,9 +12,10 @@ use Rattle.tx_par.specs.declared.error.ParError.TheVariants.{SizeOutOfRange, Too
 use Rattle.tx_par.specs.declared.lines.Lines.{Lines}
 use Rattle.tx_par.specs.declared.params.ParParams.{ParParams}
 use Rattle.tx_par.specs.Ended.{ended}
-use Rattle.tx_par.specs.Paragraphs.{IsOutcome, lines_of, shrinks_endlessly}
+use Rattle.tx_par.specs.Paragraphs.{IsOutcome, lines_by, lines_by_trial, lines_of, paragraph, shrinks_endlessly}
 use Rattle.tx_par.specs.Pieces.{pieces_of}
 use Rattle.tx_par.specs.Setting.{IsOfLines}
+use Rattle.tx_par.proofs.Unique.{answer-found}
 
 -- where breaks are found, no glue shrinks infinitely
 is_ok_break : Result Chosen BreakError → Bool
@@ -68,3 +69,18 @@ outcome-from list shape params items pieces chosen r items_is pieces_is fin answ
     (subst (λ (its : List Item). IfOk r (λ (lines : Lines). lines_of its shape params chosen ≡ Ok lines)) items_is set)
     (subst (λ (its : List Item). IfErr r (λ (e : ParError). e ≢ OutOfMemory → lines_of its shape params chosen ≡ Err e)) items_is fails)
     cause
+
+-- the lines by the chain that is chosen are those by the chain that is found by looking at every one
+by-chosen : (items : List Item) (shape : List LineShape) (params : ParParams) (chosen : Chosen) → IsAnswer (pieces_of items) shape params.breaking chosen → lines_of items shape params chosen ≡ lines_by_trial items shape params
+unfolding lines_by_trial
+by-chosen items shape params chosen answer = sym (ap (lines_by items shape params) (answer-found (pieces_of items) shape params.breaking chosen answer))
+
+-- and so they are what comes of the list that was ended
+pub paragraph-from : (list : List Item) (shape : List LineShape) (params : ParParams) (items : List Item) (pieces : List Piece) (chosen : Chosen)
+    → items ≡ ended params.par_fill_skip list → pieces ≡ pieces_of items → has_endless_shrink pieces params.breaking ≡ false → IsAnswer pieces shape params.breaking chosen
+    → lines_of items shape params chosen ≡ paragraph list shape params
+paragraph-from list shape params items pieces chosen items_is pieces_is fin answer =
+    let last : List Item = ended params.par_fill_skip list in
+    by-chosen items shape params chosen (subst (λ (ps : List Piece). IsAnswer ps shape params.breaking chosen) pieces_is answer)
+    ∙ ap (λ (its : List Item). lines_by_trial its shape params) items_is
+    ∙ sym (ap (λ (b : Bool). cond b (Err EndlessShrink) (lines_by_trial last shape params)) (subst (λ (ps : List Piece). has_endless_shrink ps params.breaking ≡ false) (pieces_is ∙ ap pieces_of items_is) fin))

@@ -1,12 +1,12 @@
 -- A paragraph's lines (TeX: The Program, sections 876 and 877).
-use Rattle.std.specs.Prelude.{◌≡◌, ℕ, suc, ◌==◌, pos, Bool, true, false, is_some, List, [], ◌∷◌, length, Option, None, Some, unwrap_or, Result, Ok, Err}
+use Rattle.std.specs.Prelude.{◌≡◌, ℕ, suc, ◌==◌, pos, Bool, true, false, is_some, List, [], ◌∷◌, length, Option, None, Some, unwrap_or, Result, Ok, Err, if◌then◌else◌}
 use Rattle.tx_linebreak.specs.declared.answer.Chosen.{Chosen}
 use Rattle.tx_linebreak.specs.declared.error.BreakError.{BreakError}
 use Rattle.tx_linebreak.specs.declared.error.BreakError.TheVariants as breaking
 use Rattle.tx_linebreak.specs.declared.params.LineShape.{LineShape}
 use Rattle.tx_linebreak.specs.declared.piece.Piece.{Piece}
 use Rattle.tx_linebreak.specs.Breaks.{discretionary_at}
-use Rattle.tx_linebreak.specs.Chosen.{IsAnswer, has_endless_shrink}
+use Rattle.tx_linebreak.specs.Chosen.{IsAnswer, answer_by_trial, has_endless_shrink}
 use Rattle.tx_node.specs.Items.{Item}
 use Rattle.tx_nest.specs.declared.state.ModeState.TheVariants.{InternalVertical}
 use Rattle.tx_nest.specs.States.{prev_depth}
@@ -91,6 +91,18 @@ lines_of items shape params chosen =
 -- glue of the list as it is ended, or at the ends of its lines, shrinks infinitely
 abbrev pub shrinks_endlessly : List Item → ParParams → Bool
 shrinks_endlessly list params = has_endless_shrink (pieces_of (ended params.par_fill_skip list)) params.breaking
+
+-- the same as one answer, the chain being found by looking at every one; an ended list has one
+abbrev pub lines_by : List Item → List LineShape → ParParams → Option Chosen → Result Lines ParError
+lines_by items shape params None = Err EndlessShrink
+lines_by items shape params (Some chosen) = lines_of items shape params chosen
+
+unfoldable pub lines_by_trial : List Item → List LineShape → ParParams → Result Lines ParError
+lines_by_trial items shape params = lines_by items shape params (answer_by_trial (pieces_of items) shape params.breaking)
+
+abbrev pub paragraph : List Item → List LineShape → ParParams → Result Lines ParError
+paragraph list shape params =
+    if shrinks_endlessly list params then Err EndlessShrink else lines_by_trial (ended params.par_fill_skip list) shape params
 
 -- no glue does, and a list, ended and broken as line breaking chooses, gives these lines, or this error in one of them
 pub record Gives (list : List Item) (shape : List LineShape) (params : ParParams) (outcome : Result Lines ParError) : Type 0 where

@@ -2,8 +2,9 @@
 //! what line breaking sees of its items, what stands in each line from one break to the next, and the lines in a vertical list,
 //! with leading before them and penalties between them.
 //!
-//! Proved: the list is broken as `tx_linebreak` breaks its pieces, the lines are those that the definitions make of these breaks,
-//! and each error comes exactly where they say. Only tested: that the definitions are TeX's.
+//! Proved: the list is broken as `tx_linebreak` breaks its pieces, of whose chains only one can be chosen; so the lines, and each
+//! error but want of memory, are those of a function of the list, the shape and the parameters, which the definitions compute.
+//! Only tested: that the definitions are TeX's.
 //!
 //! Modules in reading order: `params`, `lines`, `error`; `ending`, `pieces`; `task`, `first`, `line_list`, `line`; `penalty`,
 //! `so_far`, `setting`; `set`.

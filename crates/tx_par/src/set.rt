@@ -190,7 +190,9 @@ pub fn paragraph(
 ) -> Result<Lines, ParError>
     requires shaped { 0 < length shape.now }
     requires rule { IsDimension params.now.packing.overfull_rule }
-    ensures { spec.IsOutcome list shape.now params.now result }
+    ensures outcome { spec.IsOutcome list shape.now params.now result }
+    ensures lines { IfOk result (λ lines. spec.paragraph list shape.now params.now ≡ Ok lines) }
+    ensures error { IfErr result (λ e. e ≢ OutOfMemory → spec.paragraph list shape.now params.now ≡ Err e) }
 {
     let mut items = list;
     end(&mut items, params.par_fill_skip)?;
