@@ -1,6 +1,6 @@
 -- What pieces become: one more at the end, and that there is no choice.
-use Rattle.std.proofs.Common.{◌≡◌, ℕ, ◌+◌, ◌<◌, Bool, true, false, IsTrue, Option, Some, None, List, [], ◌∷◌, ◌++◌, length, take, get_or, refl, sym, ap, subst, ◌∙◌}
-use Rattle.std.specs.List.{All}
+use Rattle.std.proofs.Common.{◌≡◌, ℕ, ◌+◌, ◌<◌, Bool, true, false, IsTrue, Option, Some, None, List, [], ◌∷◌, ◌++◌, length, map, take, get_or, refl, sym, ap, subst, ◌∙◌}
+use Rattle.std.specs.List.{All, flat_map}
 use Rattle.std.specs.Option.{option_map_or}
 use Rattle.std.proofs.lemmas.List.{append-nil, append_assoc, take_more}
 use Rattle.std.proofs.lemmas.List.Elements.{All-more}
@@ -17,7 +17,7 @@ use Rattle.tx_word.specs.declared.piece.Piece.TheVariants.{Word, Space}
 use Rattle.tx_word.specs.declared.piece.WordParams.{WordParams}
 use Rattle.tx_word.specs.Lists.{Makes, AreMade, Nothing, Behind, HasGlue, WithPiece}
 use Rattle.tx_word.specs.Divisions.{divided_items}
-use Rattle.tx_word.specs.Words.{Composed}
+use Rattle.tx_word.specs.Words.{Composed, word_item, word_items}
 
 -- what is in the font of a number is there in its file
 pub there-in : (fonts : List FontState) (font : ℕ) (f : NamedFont) (chars : List ℕ) → font_at fonts font ≡ Some f → All (λ c. has_character fonts font c ≡ true) chars → All (λ c. IsTrue (is_there f.font.file c)) chars
@@ -37,6 +37,11 @@ composed-once : (font : Option NamedFont) (chars : List ℕ) (left right : Bool)
     → Composed font chars left right items → Composed font chars left right others → items ≡ others
 composed-once None chars left right items others a b = a ∙ sym b
 composed-once (Some f) chars left right items others a b = once f.font (word_of chars left right) items a others b
+
+-- where no hyphen character is told, no place for a break is put in
+pub without_breaks : (fonts : List FontState) (font : ℕ) (items : List LigItem) → flat_map (word_items fonts font None) items ≡ map (word_item fonts font) items
+without_breaks fonts font [] = refl
+without_breaks fonts font (item ∷ items) = ap (λ (rest : List Item). word_item fonts font item ∷ rest) (without_breaks fonts font items)
 
 -- so does a piece
 makes-once : (fonts : List FontState) (params : WordParams) (piece : Piece) (some others : List Item) → Makes fonts params piece some → Makes fonts params piece others → some ≡ others

@@ -1,23 +1,28 @@
 -- The definitions at spaces, factors and words that Knuth's TeX sets so, as \showbox shows them, in the font t at its design size
 -- where nothing else is said: a space of 2.5pt plus 1.25pt minus 0.625pt, a kern of 0.625pt between two of its characters a.
-use Rattle.std.proofs.Common.{◌≡◌, ℕ, pos, negsuc, false, true, List, [], ◌∷◌, Some, None, refl, arith}
+use Rattle.std.proofs.Common.{◌≡◌, ℕ, ℤ, pos, negsuc, false, true, List, [], ◌∷◌, Some, None, refl, arith}
+use Rattle.std.specs.List.{flat_map}
 use Rattle.tx_ligkern.specs.declared.item.LigItem.TheVariants as lig
 use Rattle.tx_ligkern.specs.Composing.{Becomes, Last, Apart, Kerned}
 use Rattle.tx_ligkern.specs.Pieces.{word_of}
+use Rattle.tx_node.specs.Items.{discretionary, items_of, none}
 use Rattle.tx_num.specs.Glue.{GlueSpec, glue_of}
+use Rattle.tx_prim.specs.declared.family.FontNumber.TheVariants.{Hyphen}
 use Rattle.tx_tfm.specs.declared.state.FontState.{FontState}
-use Rattle.tx_tfm.specs.Fonts.{loaded_state, null_state}
+use Rattle.tx_tfm.specs.Fonts.{loaded_state, null_state, with_font_integer}
 use Rattle.tx_tfm.specs.declared.metrics.Metrics.{Metrics}
 use Rattle.tx_tfm.specs.Format.{tfm_of, word_at}
 use Rattle.tx_tfm.specs.LigKern.{boundary_code, boundary_start, character_start, command_at, command_of, found}
 use Rattle.tx_tfm.specs.Scaling.{scaled}
 use Rattle.tx_word.specs.declared.piece.WordParams.{WordParams}
-use Rattle.tx_word.specs.Collecting.{Collecting, collected, ended, without_word}
+use Rattle.tx_word.specs.Collecting.{Collecting, breaking, collected, ended, without_word}
 use Rattle.tx_word.specs.Composed.{word_list}
 use Rattle.tx_word.specs.declared.seam.Seam.{Seam}
 use Rattle.tx_word.specs.Divisions.{Division, Whole, before_break, divided, hyphen_code}
 use Rattle.tx_word.specs.Factors.{factor_behind}
+use Rattle.tx_word.specs.Points.{hyphen_item, hyphen_lacking}
 use Rattle.tx_word.specs.Spaces.{at_factor, interword_glue}
+use Rattle.tx_word.specs.Words.{empty_discretionary, word_item, word_items}
 
 -- t.tfm, which has the characters a and b
 abbrev metric_file : List ℕ
@@ -126,20 +131,68 @@ word-ab = Apart _ _ _ (lig.Char 98 ∷ []) refl (Last _)
 abbrev open_aa : Collecting
 open_aa = record { fonts = fonts; word = Some (record { font = 1; chars = 97 ∷ 97 ∷ [] }) }
 
-grows : collected open_aa 0 98 ≡ record { items = []; words = record { fonts = fonts; word = Some (record { font = 1; chars = 97 ∷ 97 ∷ 98 ∷ [] }) }; lacking = None }
+grows : collected open_aa true 0 98 ≡ record { items = []; words = record { fonts = fonts; word = Some (record { font = 1; chars = 97 ∷ 97 ∷ 98 ∷ [] }) }; lacking = None }
 unfolding word_at
 grows = refl
 
-begins : collected (without_word open_aa) 1 97 ≡ record { items = []; words = record { fonts = fonts; word = Some (record { font = 1; chars = 97 ∷ [] }) }; lacking = None }
+begins : collected (without_word open_aa) true 1 97 ≡ record { items = []; words = record { fonts = fonts; word = Some (record { font = 1; chars = 97 ∷ [] }) }; lacking = None }
 unfolding word_at
 begins = refl
 
-broken-off : collected open_aa 1 99 ≡ record { items = word_list fonts 1 (97 ∷ 97 ∷ []) true false; words = without_word open_aa; lacking = Some 1 }
+broken-off : collected open_aa true 1 99 ≡ record { items = word_list fonts 1 (97 ∷ 97 ∷ []) true false (Some 45); words = without_word open_aa; lacking = Some 1 }
 unfolding word_at
 broken-off = refl
 
-closed : ended open_aa true ≡ word_list fonts 1 (97 ∷ 97 ∷ []) true true
+closed : ended open_aa true true ≡ word_list fonts 1 (97 ∷ 97 ∷ []) true true (Some 45)
 closed = refl
+
+-- within a box no hyphen allows a break, nor does a \hyphenchar that is no code
+boxed : ended open_aa false true ≡ word_list fonts 1 (97 ∷ 97 ∷ []) true true None
+boxed = refl
+
+abbrev with_hyphen : ℤ → List FontState
+with_hyphen hyphen = with_font_integer Hyphen fonts 1 hyphen
+
+unbroken : breaking (with_hyphen (negsuc 0)) 1 true ≡ None
+unbroken = refl
+
+-- a break behind each hyphen, before the kern that follows it
+breaks : flat_map (word_items fonts 1 (Some 97)) (lig.Char 97 ∷ lig.Kern (pos 40960) ∷ lig.Char 97 ∷ lig.Char 98 ∷ [])
+    ≡ word_item fonts 1 (lig.Char 97) ∷ empty_discretionary ∷ word_item fonts 1 (lig.Kern (pos 40960)) ∷ word_item fonts 1 (lig.Char 97) ∷ empty_discretionary ∷ word_item fonts 1 (lig.Char 98) ∷ []
+breaks = refl
+
+-- behind a ligature the last of the characters in whose stead it stands counts, not its own code
+hyphens : word_items fonts 1 (Some 45) (lig.Lig 98 (45 ∷ 45 ∷ [])) ≡ word_item fonts 1 (lig.Lig 98 (45 ∷ 45 ∷ [])) ∷ empty_discretionary ∷ []
+hyphens = refl
+
+first-hyphen : word_items fonts 1 (Some 45) (lig.Lig 98 (45 ∷ 97 ∷ [])) ≡ word_item fonts 1 (lig.Lig 98 (45 ∷ 97 ∷ [])) ∷ []
+first-hyphen = refl
+
+of-nothing : word_items fonts 1 (Some 98) (lig.Lig 98 []) ≡ word_item fonts 1 (lig.Lig 98 []) ∷ []
+of-nothing = refl
+
+-- \-: b is the hyphen; the font lacks the hyphen, which is told of; nothing is one
+point-b : hyphen_item (with_hyphen (pos 98)) 1 ≡ discretionary (record { replaced = 0; hyphenated = false }) (items_of (word_item (with_hyphen (pos 98)) 1 (lig.Char 98) ∷ [])) none
+unfolding word_at
+point-b = refl
+
+has-b : hyphen_lacking (with_hyphen (pos 98)) 1 ≡ None
+unfolding word_at
+has-b = refl
+
+point-lacking : hyphen_item fonts 1 ≡ empty_discretionary
+unfolding word_at
+point-lacking = refl
+
+lacks-hyphen : hyphen_lacking fonts 1 ≡ Some 45
+unfolding word_at
+lacks-hyphen = refl
+
+point-none : hyphen_item (with_hyphen (pos 256)) 1 ≡ empty_discretionary
+point-none = refl
+
+lacks-none : hyphen_lacking (with_hyphen (pos 256)) 1 ≡ None
+lacks-none = refl
 
 -- aa with a place between its characters, where b is the hyphen: the kern is the no-break text
 abbrev seam : Seam

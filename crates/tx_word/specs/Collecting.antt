@@ -8,6 +8,7 @@ use Rattle.tx_tfm.specs.declared.state.FontState.{FontState}
 use Rattle.tx_tfm.specs.Fonts.{has_character}
 use Rattle.tx_word.specs.declared.open.OpenWord.{OpenWord}
 use Rattle.tx_word.specs.Composed.{word_list}
+use Rattle.tx_word.specs.Points.{hyphen_of}
 
 -- the fonts of a run, and the word that is open at the end of the list that is being built, if one is
 pub record Collecting : Type 0 where
@@ -31,14 +32,18 @@ abbrev pub joined : Option OpenWord → ℕ → ℕ → OpenWord
 joined None font code = record { font = font; chars = code ∷ [] }
 joined (Some word) font code = record word { chars = word.chars ++ code ∷ [] }
 
+-- a word of a paragraph allows breaks behind the hyphen character of its font, and one within a box nowhere
+abbrev pub breaking : List FontState → ℕ → Bool → Option ℕ
+breaking fonts font in_paragraph = if in_paragraph then hyphen_of fonts font else None
+
 -- what a word puts into the list where it ends. The boundary before it counts. That behind it counts too, but where a character
 -- ends it that the font lacks, since the pair with that character is no pair with the boundary
-abbrev pub ended_of : List FontState → Option OpenWord → Bool → List Item
-ended_of fonts None right = []
-ended_of fonts (Some word) right = word_list fonts word.font word.chars true right
+abbrev pub ended_of : List FontState → Option OpenWord → Bool → Bool → List Item
+ended_of fonts None in_paragraph right = []
+ended_of fonts (Some word) in_paragraph right = word_list fonts word.font word.chars true right (breaking fonts word.font in_paragraph)
 
-abbrev pub ended : Collecting → Bool → List Item
-ended words right = ended_of words.fonts words.word right
+abbrev pub ended : Collecting → Bool → Bool → List Item
+ended words in_paragraph right = ended_of words.fonts words.word in_paragraph right
 
 -- no word is open any more
 abbrev pub without_word : Collecting → Collecting
@@ -51,8 +56,8 @@ pub record Collected : Type 0 where
   pub words : Collecting
   pub lacking : Option ℕ
 
-abbrev pub collected : Collecting → ℕ → ℕ → Collected
-collected words font code =
+abbrev pub collected : Collecting → Bool → ℕ → ℕ → Collected
+collected words in_paragraph font code =
     if has_character words.fonts (font_of words.word font) code
     then record { items = []; words = record words { word = Some (joined words.word font code) }; lacking = None }
-    else record { items = ended words false; words = without_word words; lacking = Some (font_of words.word font) }
+    else record { items = ended words in_paragraph false; words = without_word words; lacking = Some (font_of words.word font) }

@@ -5,5 +5,6 @@ pub mod Words
 pub mod Composed
 pub mod Lists
 pub mod Divisions
+pub mod Points
 pub mod Collecting
 pub mod Italics

@@ -12,7 +12,7 @@ use tx_node::{Node, Nodes, Plain};
 use tx_tfm::Fonts;
 
 /// The hyphen character, None where it isn't in 0 to 255.
-fn hyphen_code(hyphen: i64) -> Option<u8>
+pub(crate) fn hyphen_code(hyphen: i64) -> Option<u8>
     ensures { result ≡ spec.hyphen_code hyphen }
 {
     if 0 <= hyphen && hyphen < 256 {
@@ -23,7 +23,12 @@ fn hyphen_code(hyphen: i64) -> Option<u8>
 }
 
 /// The text before a break: the hyphen character, nothing where the font lacks it. Its only error is want of memory.
-fn text_before(alloc: Global, fonts: &Fonts, font: u8, hyphen: u8) -> Result<Nodes, AllocError>
+pub(crate) fn text_before(
+    alloc: Global,
+    fonts: &Fonts,
+    font: u8,
+    hyphen: u8,
+) -> Result<Nodes, AllocError>
     ensures { IfOk result (λ list. list ≡ map (word_item fonts.now font) (spec.before_break fonts.now font hyphen)) }
 {
     let mut list = Nodes::new(alloc);
@@ -90,6 +95,7 @@ fn append_parts(
 
 /// Puts what a word with places becomes at the end of a list: its items as its font composes them, and a discretionary at each
 /// place that is a seam; none where the hyphen character isn't in 0 to 255. Its only error is want of memory.
+#[tactic(auto, using(crate::proofs::Made::without_breaks))]
 pub fn append_divided(
     alloc: Global,
     list: &mut Nodes,
@@ -107,7 +113,7 @@ pub fn append_divided(
 {
     let items = composed(alloc, fonts, font, chars, left, right)?;
     match hyphen_code(hyphen) {
-        None => append_items(alloc, list, fonts, font, items),
+        None => append_items(alloc, list, fonts, font, None, items),
         Some(hyphen) => {
             let seams = seams_of(
                 alloc,

@@ -1,13 +1,13 @@
 //! Words and the spaces between them as items of a list (TeX: The Program, sections 1029 to 1045; The TeXbook, chapter 12): each
 //! word as the ligatures and kerns of its font compose it, each space as glue at its space factor. `specs/Spaces.antt` says what
 //! glue that is, `specs/Words.antt` what a word becomes, and `specs/Divisions.antt` what places for hyphens make of it;
-//! `specs/Collecting.antt` how a mode collects words.
+//! `specs/Collecting.antt` how a mode collects words, and `specs/Points.antt` what `\-` is.
 //!
 //! Proved: pieces become the list that the rules make of them, which allow no other, and `SizeOutOfRange` comes exactly where a
 //! size of some space's glue is no dimension; a word that is collected grows and ends as its definition says, all its characters
 //! being in its font. Only tested: that the rules are TeX's, on documents that his program sets alike.
 //!
-//! Read `piece`, `error`, `asked`, `factor`, `space`, `word`, `seam`, `divide`, `typeset`, `open`, `italic`.
+//! Read `piece`, `error`, `asked`, `factor`, `space`, `word`, `seam`, `divide`, `typeset`, `point`, `open`, `italic`.
 #![tactic(auto)]
 
 mod asked;
@@ -17,6 +17,7 @@ mod factor;
 mod italic;
 mod open;
 mod piece;
+mod point;
 mod seam;
 mod space;
 mod typeset;
@@ -29,5 +30,6 @@ pub use factor::factor_behind;
 pub use italic::last_italic;
 pub use open::{OpenWord, Words};
 pub use piece::{Piece, Places, WordParams};
+pub use point::{HyphenPoint, discretionary_hyphen};
 pub use space::{interword_glue, space_between};
 pub use typeset::nodes;

@@ -3,6 +3,7 @@ ghost use Rattle.std.specs.Prelude.{◌≡◌, ◌↔◌, ◌<◌, ◌≤◌, �
 ghost use Rattle.tx_tfm.specs.Fonts.{font_at, has_character, loaded_state, with_font_integer, with_font_parameter};
 ghost use Rattle.tx_word.specs.Collecting as spec;
 
+use crate::point::hyphen_of;
 use crate::word::append_word;
 use std::alloc::{AllocError, Global};
 use std::marker::Model;
@@ -120,6 +121,17 @@ fn set_font_integer(
     Ok(())
 }
 
+/// The hyphen character behind which a word allows breaks: that of its font in a paragraph, none within a box.
+fn breaking(fonts: &Fonts, font: u8, in_paragraph: bool) -> Option<u8>
+    ensures { result ≡ spec.breaking fonts.now font in_paragraph }
+{
+    if in_paragraph {
+        hyphen_of(fonts, font)
+    } else {
+        None
+    }
+}
+
 impl Words {
     /// These fonts, and no word. Its only error is want of memory.
     pub fn new(alloc: Global, fonts: Fonts) -> Result<Words, AllocError>
@@ -173,8 +185,14 @@ impl Words {
 
     /// The open word, if there is one, ends: what it becomes stands at the end of the list. `right` tells whether the boundary
     /// behind it counts.
-    fn end_with(&mut self, alloc: Global, list: &mut Nodes, right: bool) -> Result<(), AllocError>
-        ensures list { OnOk result (list.new ≡ list.old ++ spec.ended self.old right) }
+    fn end_with(
+        &mut self,
+        alloc: Global,
+        list: &mut Nodes,
+        in_paragraph: bool,
+        right: bool,
+    ) -> Result<(), AllocError>
+        ensures list { OnOk result (list.new ≡ list.old ++ spec.ended self.old in_paragraph right) }
         ensures words { OnOk result (self.new ≡ spec.without_word self.old) }
     {
         match replace(&mut self.word, None) {
@@ -186,38 +204,45 @@ impl Words {
                 word.chars.as_slice(),
                 true,
                 right,
+                breaking(self.fonts.as_ref(), word.font, in_paragraph),
             ),
             None => Ok(()),
         }
     }
 
-    /// The open word, if there is one, ends, by a command that is no character.
-    pub fn end(&mut self, alloc: Global, list: &mut Nodes) -> Result<(), AllocError>
-        ensures list { OnOk result (list.new ≡ list.old ++ spec.ended self.old true) }
+    /// The open word, if there is one, ends, by a command that is no character. In a paragraph it allows breaks behind hyphens.
+    pub fn end(
+        &mut self,
+        alloc: Global,
+        list: &mut Nodes,
+        in_paragraph: bool,
+    ) -> Result<(), AllocError>
+        ensures list { OnOk result (list.new ≡ list.old ++ spec.ended self.old in_paragraph true) }
         ensures words { OnOk result (self.new ≡ spec.without_word self.old) }
     {
-        self.end_with(alloc, list, true)
+        self.end_with(alloc, list, in_paragraph, true)
     }
 
     /// A character, where the font of this number is current: it joins the open word, or opens one. A font that lacks it is
-    /// answered, by its number, and the word that is open ends.
+    /// answered, by its number, and the word that is open ends; in a paragraph that word allows breaks behind hyphens.
     pub fn collect(
         &mut self,
         alloc: Global,
         list: &mut Nodes,
+        in_paragraph: bool,
         font: u8,
         code: u8,
     ) -> Result<Option<u8>, AllocError>
-        ensures lacking { IfOk result (λ lacking. lacking ≡ (spec.collected self.old font code).lacking) }
-        ensures list { OnOk result (list.new ≡ list.old ++ (spec.collected self.old font code).items) }
-        ensures words { OnOk result (self.new ≡ (spec.collected self.old font code).words) }
+        ensures lacking { IfOk result (λ lacking. lacking ≡ (spec.collected self.old in_paragraph font code).lacking) }
+        ensures list { OnOk result (list.new ≡ list.old ++ (spec.collected self.old in_paragraph font code).items) }
+        ensures words { OnOk result (self.new ≡ (spec.collected self.old in_paragraph font code).words) }
     {
         let own = self.font_of(font);
         if self.fonts().has_character(own, code) {
             self.join(alloc, font, code)?;
             Ok(None)
         } else {
-            self.end_with(alloc, list, false)?;
+            self.end_with(alloc, list, in_paragraph, false)?;
             Ok(Some(own))
         }
     }

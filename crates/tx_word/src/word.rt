@@ -1,6 +1,6 @@
 //! Words in a list.
-ghost use Rattle.std.specs.Prelude.{◌≡◌, ◌++◌, true, map, IfOk, OnOk};
-ghost use Rattle.std.specs.List.{All};
+ghost use Rattle.std.specs.Prelude.{◌≡◌, ◌++◌, true, IfOk, OnOk};
+ghost use Rattle.std.specs.List.{All, flat_map};
 ghost use Rattle.tx_node.specs.Nodes.{item_of};
 ghost use Rattle.tx_tfm.specs.Fonts.{font_at, has_character};
 ghost use Rattle.tx_word.specs.Composed.{composed_in, word_list};
@@ -46,18 +46,71 @@ pub(crate) fn node_of(
     }
 }
 
-/// Puts the parts of a composed word at the end of a list. Its only error is want of memory.
+/// The last of the characters in whose stead a part of a composed word stands.
+fn last_original(item: &LigItem) -> Option<u8>
+    ensures { result ≡ spec.last_original item.now }
+{
+    match item {
+        LigItem::Char(code) => Some(*code),
+        LigItem::Lig { from, .. } => from.as_slice().last().copied(),
+        LigItem::Kern(_) => None,
+    }
+}
+
+/// Whether that is the hyphen character, if there is one.
+fn allows_break(hyphen: Option<u8>, item: &LigItem) -> bool
+    ensures { result ≡ spec.allows_break hyphen item.now }
+{
+    let Some(hyphen) = hyphen else {
+        return false;
+    };
+    match last_original(item) {
+        Some(code) => code == hyphen,
+        None => false,
+    }
+}
+
+/// What `\discretionary{}{}{}` gives. Its only error is want of memory.
+fn empty_discretionary(alloc: Global) -> Result<Node, AllocError>
+    ensures { IfOk result (λ node. item_of node ≡ spec.empty_discretionary) }
+{
+    Node::from_discretionary(alloc, Nodes::new(alloc), Nodes::new(alloc), 0, false)
+}
+
+/// Puts a part of a composed word, and the place for a break behind it if there is one, at the end of a list. Its only error is
+/// want of memory.
+fn append_item(
+    alloc: Global,
+    list: &mut Nodes,
+    fonts: &Fonts,
+    font: u8,
+    hyphen: Option<u8>,
+    item: LigItem,
+) -> Result<(), AllocError>
+    ensures { OnOk result (list.new ≡ list.old ++ spec.word_items fonts.now font hyphen item) }
+{
+    let breaks = allows_break(hyphen, &item);
+    list.push(node_of(alloc, fonts, font, item)?)?;
+    if breaks {
+        list.push(empty_discretionary(alloc)?)?;
+    }
+    Ok(())
+}
+
+/// Puts the parts of a composed word at the end of a list, with places for breaks behind the hyphen character, if there is one.
+/// Its only error is want of memory.
 pub(crate) fn append_items(
     alloc: Global,
     list: &mut Nodes,
     fonts: &Fonts,
     font: u8,
+    hyphen: Option<u8>,
     items: Items,
 ) -> Result<(), AllocError>
-    ensures { OnOk result (list.new ≡ list.old ++ map (spec.word_item fonts.now font) items) }
+    ensures { OnOk result (list.new ≡ list.old ++ flat_map (spec.word_items fonts.now font hyphen) items) }
 {
     for item in items.into_vec() {
-        list.push(node_of(alloc, fonts, font, item)?)?;
+        append_item(alloc, list, fonts, font, hyphen, item)?;
     }
     Ok(())
 }
@@ -81,7 +134,8 @@ pub(crate) fn composed(
     }
 }
 
-/// Puts what a word becomes at the end of a list. Its only error is want of memory.
+/// Puts what a word becomes at the end of a list, with places for breaks behind the hyphen character, if there is one. Its only
+/// error is want of memory.
 pub fn append_word(
     alloc: Global,
     list: &mut Nodes,
@@ -90,11 +144,12 @@ pub fn append_word(
     chars: &[u8],
     left: bool,
     right: bool,
+    hyphen: Option<u8>,
 ) -> Result<(), AllocError>
     requires { All (λ c. has_character fonts.now font c ≡ true) chars.now }
-    ensures made { OnOk result (spec.WithWord fonts.now font chars.now left right list.old list.new) }
-    ensures value { OnOk result (list.new ≡ list.old ++ word_list fonts.now font chars.now left right) }
+    ensures made { OnOk result (spec.WithWord fonts.now font chars.now left right hyphen list.old list.new) }
+    ensures value { OnOk result (list.new ≡ list.old ++ word_list fonts.now font chars.now left right hyphen) }
 {
     let items = composed(alloc, fonts, font, chars, left, right)?;
-    append_items(alloc, list, fonts, font, items)
+    append_items(alloc, list, fonts, font, hyphen, items)
 }
