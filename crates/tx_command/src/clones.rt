@@ -1,8 +1,19 @@
 //! Clones of the parts of a command that is being read. Each is the same as its source; its only error is want of memory.
-ghost use Rattle.std.specs.Prelude.{◌≡◌};
+ghost use Rattle.std.specs.Prelude.{◌≡◌, Ok, IfOk};
 
 use crate::scans::{RuleScan, Scans};
 use std::alloc::AllocError;
+
+/// Both values, or the error of the first that failed. What else was made is dropped here, so that who makes many values has one
+/// way out.
+fn both<A: Drop, B: Drop>(
+    one: Result<A, AllocError>,
+    other: Result<B, AllocError>,
+) -> Result<(A, B), AllocError>
+    ensures { IfOk result (λ pair. (one ≡ Ok pair.0) × (other ≡ Ok pair.1)) }
+{
+    Ok((one?, other?))
+}
 
 impl Clone for RuleScan {
     ghost is_clone = { λ source copy. copy ≡ source };
@@ -20,13 +31,17 @@ impl Clone for Scans {
     ghost is_clone = { λ source copy. copy ≡ source };
 
     fn clone(&self) -> Result<Self, AllocError> {
+        let sizes = both(self.size.clone(), self.rule.clone());
+        let shapes = both(self.shape.clone(), self.loading.clone());
+        let rest = both(sizes, shapes);
+        let (assignment, ((size, rule), (shape, loading))) = both(self.assignment.clone(), rest)?;
         Ok(Scans {
             stage: self.stage,
-            assignment: self.assignment.clone()?,
-            size: self.size.clone()?,
-            rule: self.rule.clone()?,
-            shape: self.shape.clone()?,
-            loading: self.loading.clone()?,
+            assignment,
+            size,
+            rule,
+            shape,
+            loading,
         })
     }
 }

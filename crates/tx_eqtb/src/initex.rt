@@ -7,6 +7,7 @@ ghost use Rattle.tx_eqtb.specs.Boxes.{void};
 ghost use Rattle.tx_eqtb.specs.Initex as spec;
 ghost use Rattle.tx_num.specs.Glue.{zero_glue};
 
+use crate::both::both;
 use crate::boxes::BoxRegister;
 use crate::cells::Cells;
 use crate::reading::no_tokens;
@@ -145,25 +146,60 @@ fn initial_names(alloc: Global) -> Result<NameMap<Meaning>, AllocError>
 pub fn initial_table(alloc: Global, begun: &Moment) -> Result<Table, AllocError>
     ensures { IfOk result (λ table. table ≡ spec.initial_table begun.now) }
 {
+    let of_names = both(initial_names(alloc), undefined(alloc, ALL));
+    let meanings = both(of_names, Codes::initex(alloc));
+    let registers = both(zeros(alloc, ALL), zeros(alloc, ALL));
+    let dimensions = zeros(alloc, DimensionParameter::COUNT);
+    let parameters = both(initial_integers(alloc, begun), dimensions);
+    let numbers = both(registers, parameters);
+    let cases = both(
+        initial_codes(alloc, CharacterCode::LowerCase),
+        initial_codes(alloc, CharacterCode::UpperCase),
+    );
+    let of_math = both(
+        initial_codes(alloc, CharacterCode::Math),
+        initial_codes(alloc, CharacterCode::Delimiter),
+    );
+    let space_factors = initial_codes(alloc, CharacterCode::SpaceFactor);
+    let other_codes = both(space_factors, of_math);
+    let codes = both(cases, other_codes);
+    let of_characters = both(numbers, codes);
+    let skips = both(zero_glues(alloc, ALL), zero_glues(alloc, ALL));
+    let glues = both(skips, zero_glues(alloc, GlueParameter::COUNT));
+    let token_parameters = empty_lists(alloc, TokenParameter::COUNT);
+    let lists = both(empty_lists(alloc, ALL), token_parameters);
+    let boxed = both(lists, void_boxes(alloc, ALL));
+    let registered = both(glues, boxed);
+    let rest = both(of_characters, registered);
+    let (
+        ((names, active), categories),
+        (
+            (
+                ((counts, dimens), (integers, dimensions)),
+                ((lower_case, upper_case), (space_factors, (math, delimiters))),
+            ),
+            (((skips, muskips), glue_parameters), ((token_registers, token_parameters), boxes)),
+        ),
+    ) = both(meanings, rest)?;
     Ok(Table {
-        names: initial_names(alloc)?,
-        active: undefined(alloc, ALL)?,
-        categories: Codes::initex(alloc)?,
-        counts: zeros(alloc, ALL)?,
-        dimens: zeros(alloc, ALL)?,
-        lower_case: initial_codes(alloc, CharacterCode::LowerCase)?,
-        upper_case: initial_codes(alloc, CharacterCode::UpperCase)?,
-        space_factors: initial_codes(alloc, CharacterCode::SpaceFactor)?,
-        math: initial_codes(alloc, CharacterCode::Math)?,
-        delimiters: initial_codes(alloc, CharacterCode::Delimiter)?,
-        integers: initial_integers(alloc, begun)?,
-        dimensions: zeros(alloc, DimensionParameter::COUNT)?,
-        skips: zero_glues(alloc, ALL)?,
-        muskips: zero_glues(alloc, ALL)?,
-        glue_parameters: zero_glues(alloc, GlueParameter::COUNT)?,
-        token_registers: empty_lists(alloc, ALL)?,
-        token_parameters: empty_lists(alloc, TokenParameter::COUNT)?,
-        boxes: void_boxes(alloc, ALL)?,
+        names,
+        active,
+        categories,
+        counts,
+        dimens,
+        lower_case,
+        upper_case,
+        space_factors,
+        math,
+        delimiters,
+        integers,
+        dimensions,
+        skips,
+        muskips,
+        glue_parameters,
+        token_registers,
+        token_parameters,
+        boxes,
         font: 0,
     })
 }

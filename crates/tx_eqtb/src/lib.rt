@@ -11,6 +11,7 @@
 //! `groups` and `nesting`; and then `eqtb` with `stack` and `values`. Places and meanings are tx_seen's.
 #![tactic(auto)]
 
+mod both;
 mod boxes;
 mod cells;
 mod contents;

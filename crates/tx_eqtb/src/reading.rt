@@ -3,6 +3,7 @@ ghost use Rattle.std.specs.Prelude.{◌≡◌, ◌↔◌, [], option_copied, IsT
 ghost use Rattle.tx_eqtb.specs.Table as spec;
 ghost use Rattle.tx_eqtb.specs.Table.{HasSameCodes, HasSameGlue};
 
+use crate::both::both;
 use crate::boxes::{box_of, level_of, size_of};
 use crate::cells::Cells;
 use crate::table::Table;
@@ -230,25 +231,51 @@ impl Table {
     pub fn share(&self) -> Result<Table, AllocError>
         ensures { IfOk result (λ twin. twin ≡ self.now) }
     {
+        let of_names = both(self.names.share(), self.active.share());
+        let meanings = both(of_names, self.categories.clone());
+        let registers = both(self.counts.share(), self.dimens.share());
+        let parameters = both(self.integers.share(), self.dimensions.share());
+        let numbers = both(registers, parameters);
+        let cases = both(self.lower_case.share(), self.upper_case.share());
+        let of_math = both(self.math.share(), self.delimiters.share());
+        let other_codes = both(self.space_factors.share(), of_math);
+        let codes = both(cases, other_codes);
+        let of_characters = both(numbers, codes);
+        let skips = both(self.skips.share(), self.muskips.share());
+        let glues = both(skips, self.glue_parameters.share());
+        let lists = both(self.token_registers.share(), self.token_parameters.share());
+        let boxed = both(lists, self.boxes.share());
+        let registered = both(glues, boxed);
+        let rest = both(of_characters, registered);
+        let (
+            ((names, active), categories),
+            (
+                (
+                    ((counts, dimens), (integers, dimensions)),
+                    ((lower_case, upper_case), (space_factors, (math, delimiters))),
+                ),
+                (((skips, muskips), glue_parameters), ((token_registers, token_parameters), boxes)),
+            ),
+        ) = both(meanings, rest)?;
         Ok(Table {
-            names: self.names.share()?,
-            active: self.active.share()?,
-            categories: self.categories.clone()?,
-            counts: self.counts.share()?,
-            dimens: self.dimens.share()?,
-            lower_case: self.lower_case.share()?,
-            upper_case: self.upper_case.share()?,
-            space_factors: self.space_factors.share()?,
-            math: self.math.share()?,
-            delimiters: self.delimiters.share()?,
-            integers: self.integers.share()?,
-            dimensions: self.dimensions.share()?,
-            skips: self.skips.share()?,
-            muskips: self.muskips.share()?,
-            glue_parameters: self.glue_parameters.share()?,
-            token_registers: self.token_registers.share()?,
-            token_parameters: self.token_parameters.share()?,
-            boxes: self.boxes.share()?,
+            names,
+            active,
+            categories,
+            counts,
+            dimens,
+            lower_case,
+            upper_case,
+            space_factors,
+            math,
+            delimiters,
+            integers,
+            dimensions,
+            skips,
+            muskips,
+            glue_parameters,
+            token_registers,
+            token_parameters,
+            boxes,
             font: self.font,
         })
     }

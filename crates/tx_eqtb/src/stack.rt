@@ -5,6 +5,7 @@ ghost use Rattle.tx_eqtb.specs.Stack.{assigned, assigned_everywhere, closed, kin
 ghost use Rattle.tx_eqtb.specs.Table.{active_meaning, box_at, glue_at, meaning_of, number_at, token_meaning, tokens_at};
 ghost use Rattle.tx_char.specs.Category.{category};
 
+use crate::both::both;
 use crate::entry::Entry;
 use crate::eqtb::Eqtb;
 use crate::error::{CloseError, OpenError};
@@ -12,6 +13,7 @@ use crate::groups::GroupKind;
 use crate::initex;
 use crate::nesting::Nesting;
 use std::alloc::{AllocError, Global};
+use std::mem;
 use tx_char::{Cat, Codes, ControlName, Token};
 use tx_node::BoxNode;
 use tx_num::Glue;
@@ -161,7 +163,7 @@ impl Eqtb {
             return Err(CloseError::NotThatGroup);
         }
         if let Some(outside) = self.groups.close() {
-            self.table = outside;
+            drop(mem::replace(&mut self.table, outside));
         }
         Ok(())
     }
@@ -193,9 +195,7 @@ impl Eqtb {
     pub fn share(&self) -> Result<Eqtb, AllocError>
         ensures { IfOk result (λ twin. twin ≡ self.now) }
     {
-        Ok(Eqtb {
-            table: self.table.share()?,
-            groups: self.groups.share()?,
-        })
+        let (table, groups) = both(self.table.share(), self.groups.share())?;
+        Ok(Eqtb { table, groups })
     }
 }

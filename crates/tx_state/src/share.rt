@@ -2,6 +2,7 @@
 ghost use Rattle.std.specs.Prelude.{◌≡◌, IfOk, OnOk};
 ghost use Rattle.tx_state.specs.Meanings.{meaning_of};
 
+use crate::both::both;
 use crate::parts::OpenText;
 use crate::state::State;
 use std::alloc::{AllocError, Global};
@@ -141,9 +142,8 @@ pub fn share_state(alloc: Global, s: &State) -> Result<State, AllocError>
     ensures meaning { IfOk result (λ t. meaning_of t ≡ meaning_of s.now) }
     ensures said { IfOk result (λ t. t.said ≡ s.now.said) }
 {
-    let expander = s.expander.share(alloc)?;
-    let table = s.table.share()?;
-    let words = s.words.share()?;
+    let of_words = both(s.expander.share(alloc), s.words.share());
+    let ((expander, words), table) = both(of_words, s.table.share())?;
     let twin = State::new(alloc, expander, words, table)?;
     // behind a pointer, where the state is dropped by a call
     let mut twin = Box::new(alloc, twin)?;

@@ -4,6 +4,7 @@ ghost use Rattle.tx_box.specs.Beginnings.{first_lists};
 ghost use Rattle.tx_pending.specs.Elements.{no_input};
 ghost use Rattle.tx_prim.specs.declared.modes.Mode.TheVariants as mode;
 
+use crate::both::both;
 use crate::parts::{Due, KeptToken, OpenText, Phase};
 use std::alloc::{AllocError, Global};
 use tx_box::Lists;
@@ -56,7 +57,12 @@ impl State {
     ) -> Result<State, AllocError>
         ensures { IfOk result (λ s. s ≡ record { phase = Phase.Running; due = []; files = 0; input = no_input; expander = expander; text = None; scan = record { mode = mode.Vertical; head = Head.Fresh; taken = [] }; lists = first_lists; words = words; table = table; after_groups = []; after_assignment = None; magnification = None; defined = []; said = [] }) }
     {
-        let scan = CommandScan::new(alloc, Mode::Vertical)?;
+        // (what was given is dropped with the rest, in one way out)
+        let given = both(Ok((expander, words)), Ok(table));
+        let (((expander, words), table), scan) = both(
+            given,
+            CommandScan::new(alloc, Mode::Vertical),
+        )?;
         Ok(State {
             phase: Phase::Running,
             due: Stack::new(alloc),
