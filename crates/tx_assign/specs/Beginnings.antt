@@ -57,6 +57,8 @@ primitive_variable primitive.Char = None
 primitive_variable primitive.SpaceFactor = None
 primitive_variable primitive.ItalicCorrection = None
 primitive_variable primitive.ControlSpace = None
+primitive_variable (primitive.Indent how) = None
+primitive_variable primitive.DiscretionaryHyphen = None
 
 -- a register's name of its own is a left side too
 abbrev pub variable_of : Meaning → Option Variable

@@ -34,6 +34,7 @@ fn of_primitive(primitive: Primitive) -> Option<Variable>
         Primitive::FontDimen | Primitive::FontInteger(_) => None,
         Primitive::Char | Primitive::SpaceFactor => None,
         Primitive::ItalicCorrection | Primitive::ControlSpace => None,
+        Primitive::Indent(_) | Primitive::DiscretionaryHyphen => None,
     }
 }
 

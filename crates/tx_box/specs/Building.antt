@@ -54,7 +54,7 @@ every_in kind.Horizontal = Everyhbox
 every_in kind.Vertical = Everyvbox
 every_in kind.Top = Everyvbox
 
--- in a vertical box a paragraph has its plain shape, until the box's group ends (section 1070)
+-- a paragraph's plain shape, until the group ends (section 1070)
 abbrev pub plain_shape : Eqtb → Eqtb
 plain_shape table =
     assigned (assigned (assigned table
@@ -62,6 +62,7 @@ plain_shape table =
     (Dimension Hangindent) (Number (pos 0)))
     (Integer Hangafter) (Number (pos 1))
 
+-- in a vertical box a paragraph has it
 abbrev pub shape_in : BoxKind → Eqtb → Eqtb
 shape_in kind.Horizontal table = table
 shape_in kind.Vertical table = plain_shape table

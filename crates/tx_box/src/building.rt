@@ -27,27 +27,32 @@ pub struct Ended {
     pub report: Bytes,
 }
 
-/// In a vertical box a paragraph has its plain shape, until the box's group ends. After want of memory, its only error, the table
-/// may only be dropped.
+/// A paragraph has its plain shape, until the group ends (TeX: The Program, section 1070). After want of memory, its only error, the
+/// table may only be dropped.
+pub fn reset_shape(table: &mut Eqtb) -> Result<(), AllocError>
+    ensures { OnOk result (table.new ≡ spec.plain_shape table.old) }
+{
+    table.assign(
+        Place::Integer(IntegerParameter::Looseness),
+        Entry::Number(0),
+    )?;
+    table.assign(
+        Place::Dimension(DimensionParameter::Hangindent),
+        Entry::Number(0),
+    )?;
+    table.assign(
+        Place::Integer(IntegerParameter::Hangafter),
+        Entry::Number(1),
+    )
+}
+
+/// In a vertical box a paragraph has its plain shape. After want of memory, its only error, the table may only be dropped.
 fn shape(table: &mut Eqtb, kind: BoxKind) -> Result<(), AllocError>
     ensures { OnOk result (table.new ≡ spec.shape_in kind table.old) }
 {
     match kind {
         BoxKind::Horizontal => Ok(()),
-        BoxKind::Vertical | BoxKind::Top => {
-            table.assign(
-                Place::Integer(IntegerParameter::Looseness),
-                Entry::Number(0),
-            )?;
-            table.assign(
-                Place::Dimension(DimensionParameter::Hangindent),
-                Entry::Number(0),
-            )?;
-            table.assign(
-                Place::Integer(IntegerParameter::Hangafter),
-                Entry::Number(1),
-            )
-        }
+        BoxKind::Vertical | BoxKind::Top => reset_shape(table),
     }
 }
 

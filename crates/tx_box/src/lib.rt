@@ -17,8 +17,9 @@ mod parts;
 mod placing;
 mod sources;
 
-pub use building::{Ended, begin_box, end_box, greatest_depth};
+pub use building::{Ended, begin_box, end_box, greatest_depth, reset_shape};
 pub use due_work::{copy_list, place_copy};
 pub use kinds::every_in;
+pub use parameters::{across, dimension, glue, leading_of};
 pub use parts::{Done, Lists, OpenBox, Target, Work};
 pub use sources::{copy_register, take_last, unbox, use_register};

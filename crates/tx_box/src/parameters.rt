@@ -13,14 +13,14 @@ use tx_prim::{DimensionParameter, GlueParameter, IntegerParameter};
 use tx_seen::Place;
 
 /// A dimension parameter, in sp.
-pub(crate) fn dimension(table: &Eqtb, parameter: DimensionParameter) -> i64
+pub fn dimension(table: &Eqtb, parameter: DimensionParameter) -> i64
     ensures { result ≡ number_at table.now.table (place.Dimension parameter) }
 {
     i64::from(table.number(&Place::Dimension(parameter)))
 }
 
 /// A glue parameter.
-fn glue(table: &Eqtb, parameter: GlueParameter) -> Glue
+pub fn glue(table: &Eqtb, parameter: GlueParameter) -> Glue
     ensures { result ≡ glue_at table.now.table (place.Glue parameter) }
 {
     table.glue(&Place::Glue(parameter))
@@ -34,7 +34,7 @@ fn integer(table: &Eqtb, parameter: IntegerParameter) -> i64
 }
 
 /// The parameters of leading.
-pub(crate) fn leading_of(table: &Eqtb) -> LeadingParams
+pub fn leading_of(table: &Eqtb) -> LeadingParams
     ensures { result ≡ placing.leading_of table.now.table }
 {
     LeadingParams {
@@ -45,7 +45,7 @@ pub(crate) fn leading_of(table: &Eqtb) -> LeadingParams
 }
 
 /// How horizontal boxes are packed.
-pub(crate) fn across(table: &Eqtb) -> PackParams
+pub fn across(table: &Eqtb) -> PackParams
     ensures { result ≡ building.across table.now.table }
 {
     PackParams {

@@ -1,25 +1,24 @@
 -- Commands of one token.
-use Rattle.std.proofs.Common.{◌≡◌, Bool, true, false, cond, List, [], ◌∷◌, Option, Some, None, IfSome, refl, ap, ◌∙◌}
+use Rattle.std.proofs.Common.{◌≡◌, true, false, List, [], ◌∷◌, Option, Some, None, IfSome, refl, ap, ◌∙◌}
 use Rattle.tx_prim.specs.declared.modes.Mode.{Mode}
 use Rattle.tx_prim.specs.declared.modes.Mode.TheVariants as mode_of
-use Rattle.tx_seen.specs.declared.error.TexError.TheVariants.{NotAllowed}
+use Rattle.tx_prim.specs.declared.modes.Standing.TheVariants.{Stands}
 use Rattle.tx_seen.specs.declared.item.Item.{Item}
 use Rattle.tx_seen.specs.declared.item.Item.TheVariants.{Took}
 use Rattle.tx_seen.specs.declared.meaning.Meaning.{Meaning}
 use Rattle.tx_seen.specs.declared.seen.Seen.{Seen}
-use Rattle.tx_seen.specs.Readings.{Wrong}
 use Rattle.tx_command.specs.declared.at_once.AtOnce.{AtOnce}
 use Rattle.tx_command.specs.declared.types.Head.TheVariants.{Fresh}
 use Rattle.tx_command.specs.AtOnce.{IsMeant, IsWhole, is_horizontal}
 use Rattle.tx_command.specs.Begun.{Begun}
-use Rattle.tx_command.specs.Commands.{command, command_meant, is_begun}
-use Rattle.tx_command.specs.Standing.{may_stand}
+use Rattle.tx_command.specs.Commands.{command, command_meant, is_begun, standing_command}
+use Rattle.tx_command.specs.Standing.{standing_in}
 
 none-taken : (taken : List Item) → is_begun taken ≡ false → taken ≡ []
 none-taken [] e = refl
 none-taken (item ∷ taken) e = cc
 
-stands-there : (mode : Mode) (meant : Meaning) → is_horizontal mode ≡ true → may_stand mode_of.Horizontal meant ≡ true → may_stand mode_of.RestrictedHorizontal meant ≡ true → may_stand mode meant ≡ true
+stands-there : (mode : Mode) (meant : Meaning) → is_horizontal mode ≡ true → standing_in mode_of.Horizontal meant ≡ Stands → standing_in mode_of.RestrictedHorizontal meant ≡ Stands → standing_in mode meant ≡ Stands
 stands-there mode_of.Horizontal meant e h r = h
 stands-there mode_of.RestrictedHorizontal meant e h r = r
 stands-there mode_of.Vertical meant e h r = cc
@@ -31,7 +30,7 @@ whole-by : (before : Begun) (t : Seen) (found : AtOnce) → is_begun before.take
 whole-by before t found none fresh horizontal meant = record {
   between = none-taken before.taken none;
   is = ap (λ head. command before.mode head (Took t ∷ [])) fresh
-      ∙ (ap (λ (stands : Bool). cond stands (command_meant t.meaning []) (Wrong NotAllowed)) (stands-there before.mode t.meaning horizontal meant.stands meant.restricted)
+      ∙ (ap (λ standing. standing_command standing t []) (stands-there before.mode t.meaning horizontal meant.stands meant.restricted)
       ∙ meant.is);
 }
 

@@ -11,6 +11,7 @@ use Rattle.tx_seen.specs.declared.meaning.Meaning.TheVariants.{Command as Comman
 use Rattle.tx_prim.specs.declared.family.Shorthand.{Shorthand}
 use Rattle.tx_prim.specs.declared.family.SizeKind.{SizeKind}
 use Rattle.tx_prim.specs.declared.modes.Mode.{Mode}
+use Rattle.tx_prim.specs.declared.modes.Standing.TheVariants.{Stands}
 use Rattle.tx_seen.specs.declared.error.TexError.TheVariants.{NotAllowed, NoAssignment}
 use Rattle.tx_seen.specs.Seen.{is_space, is_relax, is_undefined}
 use Rattle.tx_seen.specs.declared.fed.Fed.{Fed}
@@ -52,8 +53,8 @@ use Rattle.tx_command.specs.declared.types.Command.TheVariants.{Nothing, Assign,
 use Rattle.tx_command.specs.declared.types.Head.{Head}
 use Rattle.tx_command.specs.declared.types.Head.TheVariants.{Fresh, Prefixed, Defining, Future, Leading, Loading}
 use Rattle.tx_command.specs.declared.types.Prefixes.{Prefixes}
-use Rattle.tx_command.specs.Commands.{command, command_meant, font_defining, future_defining, load_of, loading, future_of, future_second, keeping, macro_defining, fresh_command, may_be_prefixed, prefixed_command, assigning, defining, leaders_of, leaders_rule, leading_command, leading_glue, led_by, repeated, ruling, sizing, skipping, command_of, shaping}
-use Rattle.tx_command.specs.Standing.{may_stand}
+use Rattle.tx_command.specs.Commands.{command, command_meant, font_defining, future_defining, load_of, loading, future_of, future_second, keeping, macro_defining, fresh_command, standing_command, may_be_prefixed, prefixed_command, assigning, defining, leaders_of, leaders_rule, leading_command, leading_glue, led_by, repeated, ruling, sizing, skipping, command_of, shaping}
+use Rattle.tx_command.specs.Standing.{standing_in}
 use Rattle.tx_scan.proofs.Answering.{ending-none}
 use Rattle.tx_scan.specs.Mapped.{mapped}
 use Rattle.tx_command.specs.Rests.{command_rest, held, more_needed, second_rest, stage_rest, stage_held, rule_needed, Begins, GoesOn, IsBegunBy, IsOn, IsOnAt, IsRuleFed}
@@ -298,10 +299,11 @@ pub named-begun : (name same : Place) (kind : Shorthand) (scan : AssignScan) →
 named-begun name same kind scan e k = subst (λ n. IsBegun (Named n kind) scan) e k
 
 -- the first token of a command
-pub fresh-stands : (mode : Mode) (t : Seen) (new : Scans) (answer : Fed Command) → may_stand mode t.meaning ≡ true → Begins (command_meant t.meaning) new answer → Begins (λ more. fresh_command mode (Took t ∷ more)) new answer
-fresh-stands mode t new answer h k = λ m head.
-    alike m head 0 (λ more. fresh_command mode (Took t ∷ more)) (λ more. command_meant t.meaning more) [] new answer
-    (λ more. ap (λ b. cond b (command_meant t.meaning more) (Wrong NotAllowed)) h) (k m head)
+pub fresh-stands : (mode : Mode) (t : Seen) (new : Scans) (answer : Fed Command) → standing_in mode t.meaning ≡ Stands → Begins (command_meant t.meaning) new answer → (around : Mode) (head : Head) → IsBegunBy around head 1 (λ more. fresh_command mode (Took t ∷ more)) (Took t ∷ []) new answer
+fresh-stands mode t new answer h k = λ around head.
+    one-token around head (λ more. fresh_command mode (Took t ∷ more)) t new answer
+    (alike around head 0 (λ more. fresh_command mode (Took t ∷ more)) (λ more. command_meant t.meaning more) [] new answer
+    (λ more. ap (λ s. standing_command s t more) h) (k around head))
 
 pub prefixed-stands : (prefixes : Prefixes) (t : Seen) (new : Scans) (answer : Fed Command) → (is_space t || is_relax t) ≡ false → may_be_prefixed prefixes t.meaning ≡ true → Begins (command_meant t.meaning) new answer → Begins (λ more. prefixed_command prefixes (Took t ∷ more)) new answer
 prefixed-stands prefixes t new answer s h k = λ mode head.
@@ -310,8 +312,8 @@ prefixed-stands prefixes t new answer s h k = λ mode head.
     ap (λ b. cond b (Done Nothing more) (cond (may_be_prefixed prefixes t.meaning) (command_meant t.meaning more) (Wrong NoAssignment))) s
     ∙ ap (λ b. cond b (command_meant t.meaning more) (Wrong NoAssignment)) h) (k mode head)
 
-pub first-fresh : (mode : Mode) (head : Head) (t : Seen) (new : Scans) (answer : Fed Command) → head ≡ Fresh → Begins (λ more. fresh_command mode (Took t ∷ more)) new answer → IsBegunBy mode head 1 (λ more. command mode head (Took t ∷ more)) (Took t ∷ []) new answer
-first-fresh mode head t new answer e k = rw e (one-token mode Fresh (λ more. fresh_command mode (Took t ∷ more)) t new answer (k mode Fresh))
+pub first-fresh : (mode : Mode) (head : Head) (t : Seen) (new : Scans) (answer : Fed Command) → head ≡ Fresh → ((around : Mode) (before : Head) → IsBegunBy around before 1 (λ more. fresh_command mode (Took t ∷ more)) (Took t ∷ []) new answer) → IsBegunBy mode head 1 (λ more. command mode head (Took t ∷ more)) (Took t ∷ []) new answer
+first-fresh mode head t new answer e k = rw e (k mode Fresh)
 
 pub first-prefixed : (mode : Mode) (head : Head) (prefixes : Prefixes) (t : Seen) (new : Scans) (answer : Fed Command) → head ≡ Prefixed prefixes → Begins (λ more. prefixed_command prefixes (Took t ∷ more)) new answer → IsBegunBy mode head 1 (λ more. command mode head (Took t ∷ more)) (Took t ∷ []) new answer
 first-prefixed mode head prefixes t new answer e k = rw e (one-token mode (Prefixed prefixes) (λ more. prefixed_command prefixes (Took t ∷ more)) t new answer (k mode (Prefixed prefixes)))

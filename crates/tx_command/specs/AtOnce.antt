@@ -3,6 +3,7 @@ use Rattle.std.specs.Prelude.{◌≡◌, ℕ, Bool, true, false, [], ◌∷◌}
 use Rattle.tx_char.specs.declared.category.Cat.{Cat}
 use Rattle.tx_prim.specs.declared.modes.Mode.{Mode}
 use Rattle.tx_prim.specs.declared.modes.Mode.TheVariants.{Horizontal, RestrictedHorizontal}
+use Rattle.tx_prim.specs.declared.modes.Standing.TheVariants.{Stands}
 use Rattle.tx_seen.specs.declared.item.Item.TheVariants.{Took}
 use Rattle.tx_seen.specs.declared.meaning.Meaning.{Meaning}
 use Rattle.tx_seen.specs.declared.meaning.Meaning.TheVariants as meaning
@@ -14,7 +15,7 @@ use Rattle.tx_command.specs.declared.types.Command.{Command}
 use Rattle.tx_command.specs.declared.types.Command.TheVariants as command_of
 use Rattle.tx_command.specs.Begun.{Begun}
 use Rattle.tx_command.specs.Commands.{command, command_meant}
-use Rattle.tx_command.specs.Standing.{may_stand}
+use Rattle.tx_command.specs.Standing.{standing_in}
 
 -- the command that it is
 abbrev pub whole : AtOnce → Command
@@ -28,8 +29,8 @@ character code category = meaning.Character code category
 -- what a token that means this is, behind which nothing is read; it may stand in both horizontal lists
 pub record IsMeant (meant : Meaning) (found : AtOnce) : Type 0 where
   pub is : command_meant meant [] ≡ Done (whole found) []
-  pub stands : may_stand Horizontal meant ≡ true
-  pub restricted : may_stand RestrictedHorizontal meant ≡ true
+  pub stands : standing_in Horizontal meant ≡ Stands
+  pub restricted : standing_in RestrictedHorizontal meant ≡ Stands
 
 -- the modes of horizontal lists
 abbrev pub is_horizontal : Mode → Bool

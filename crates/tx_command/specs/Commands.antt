@@ -7,12 +7,15 @@ use Rattle.tx_prim.specs.declared.family.AfterKind.{AfterKind}
 use Rattle.tx_prim.specs.declared.family.DefinitionKind.{DefinitionKind}
 use Rattle.tx_node.specs.declared.rule.Rule.{Rule as Rule_sides}
 use Rattle.tx_prim.specs.declared.family.GlueForm.{GlueForm}
+use Rattle.tx_prim.specs.declared.family.Indentation.TheVariants.{Indented}
 use Rattle.tx_prim.specs.declared.family.LeadersKind.{LeadersKind}
 use Rattle.tx_prim.specs.declared.family.RuleKind.{RuleKind}
 use Rattle.tx_prim.specs.declared.family.Shorthand.{Shorthand}
 use Rattle.tx_prim.specs.declared.family.SizeKind.{SizeKind}
 use Rattle.tx_prim.specs.declared.modes.Mode.{Mode}
 use Rattle.tx_prim.specs.declared.modes.Mode.TheVariants as mode
+use Rattle.tx_prim.specs.declared.modes.Standing.{Standing as AStanding}
+use Rattle.tx_prim.specs.declared.modes.Standing.TheVariants.{Stands, BeginsParagraph, EndsParagraph, Refused}
 use Rattle.tx_prim.specs.declared.primitive.Primitive.{Primitive}
 use Rattle.tx_prim.specs.declared.primitive.Primitive.TheVariants as primitive
 use Rattle.tx_seen.specs.declared.error.TexError.TheVariants.{Undefined, NoAssignment, NotAllowed, MisplacedAlignment, MissingBox, BadName}
@@ -45,12 +48,12 @@ use Rattle.tx_shape.specs.declared.types.FontAsked.{FontAsked}
 use Rattle.tx_shape.specs.Loading.{loading as load}
 use Rattle.tx_shape.specs.Shapes.{shape as shape_of}
 use Rattle.tx_command.specs.declared.types.Command.{Command}
-use Rattle.tx_command.specs.declared.types.Command.TheVariants.{Nothing, Space, Character, BeginGroup, EndGroup, BeginSemiSimple, EndSemiSimple, Prefix, Define, Assign, Sized, Rule, BeginBox, UseBox, CopyBox, LastBox, Unbox, Penalize, Skip, BeginLeaders, SetDepth, End, Interact, DefineMacro, BeginText, DefineFuture, Keep, Remove, ControlSpace, ItalicCorrection, SetFactor, DefineFont, LoadFont, SetFontDimen, SetFontInteger}
+use Rattle.tx_command.specs.declared.types.Command.TheVariants.{Nothing, Space, Character, BeginGroup, EndGroup, BeginSemiSimple, EndSemiSimple, Prefix, Define, Assign, Sized, Rule, BeginBox, UseBox, CopyBox, LastBox, Unbox, Penalize, Skip, BeginLeaders, SetDepth, End, Interact, DefineMacro, BeginText, DefineFuture, Keep, Remove, ControlSpace, ItalicCorrection, Indent, InsertPar, EndParagraph, DiscretionaryHyphen, SetFactor, DefineFont, LoadFont, SetFontDimen, SetFontInteger}
 use Rattle.tx_command.specs.declared.types.Head.{Head}
 use Rattle.tx_command.specs.declared.types.Head.TheVariants.{Fresh, Prefixed, Defining, Future, Leading, Loading}
 use Rattle.tx_command.specs.declared.types.Prefixes.{Prefixes}
 use Rattle.tx_command.specs.Rules.{plain_rule, rule_sides}
-use Rattle.tx_command.specs.Standing.{may_stand}
+use Rattle.tx_command.specs.Standing.{standing_in}
 
 -- an assignment
 abbrev pub assigning : Assigning → List Item → Reading Command
@@ -168,7 +171,7 @@ leaders_of kind (Took t ∷ rest) = expanded t (if is_space t || is_relax t then
 abbrev pub family_command : Primitive → List Item → Reading Command
 family_command primitive.Relax rest = Done Nothing rest
 family_command primitive.EndCsName rest = Wrong BadName
-family_command primitive.Par rest = Done Nothing rest
+family_command primitive.Par rest = Done EndParagraph rest
 family_command primitive.BeginGroup rest = Done BeginSemiSimple rest
 family_command primitive.EndGroup rest = Done EndSemiSimple rest
 family_command (primitive.Prefix prefix) rest = Done (Prefix prefix) rest
@@ -211,6 +214,8 @@ family_command primitive.Char rest = shaping shape.Character rest
 family_command primitive.SpaceFactor rest = shaping shape.Factor rest
 family_command primitive.ItalicCorrection rest = Done ItalicCorrection rest
 family_command primitive.ControlSpace rest = Done ControlSpace rest
+family_command (primitive.Indent how) rest = Done (Indent how) rest
+family_command primitive.DiscretionaryHyphen rest = Done DiscretionaryHyphen rest
 
 -- the command whose first token means this; what is expanded is none, and comes expanded, and what \noexpand held does nothing
 abbrev pub command_meant : Meaning → List Item → Reading Command
@@ -229,11 +234,19 @@ command_meant (meaning.MuskipRegister number) rest = assigning (assign.Variable 
 command_meant (meaning.ToksRegister number) rest = assigning (assign.Variable (Standing (place.Toks number))) rest
 command_meant (meaning.Font number) rest = Done (selection number) rest
 
+-- by what becomes of it in its mode: a paragraph is begun, as by \indent, or \par is put in, and then its first token is read again
+-- (TeX: The Program, sections 1090 and 1095)
+abbrev pub standing_command : AStanding → Seen → List Item → Reading Command
+standing_command Stands t rest = command_meant t.meaning rest
+standing_command BeginsParagraph t rest = Done (Indent Indented) (Took t ∷ rest)
+standing_command EndsParagraph t rest = Done InsertPar (Took t ∷ rest)
+standing_command Refused t rest = Wrong NotAllowed
+
 -- a command that nothing stands before
 abbrev pub fresh_command : Mode → List Item → Reading Command
 fresh_command mode [] = More Expanded
 fresh_command mode (Gave v ∷ rest) = Wrong NotAllowed
-fresh_command mode (Took t ∷ rest) = if may_stand mode t.meaning then command_meant t.meaning rest else Wrong NotAllowed
+fresh_command mode (Took t ∷ rest) = standing_command (standing_in mode t.meaning) t rest
 
 -- the prefixes that stand before a command
 abbrev pub prefixes_of : Head → Prefixes
@@ -300,6 +313,8 @@ is_prefixable prefixes primitive.SpaceFactor = not (want_definition prefixes)
 is_prefixable prefixes primitive.Char = false
 is_prefixable prefixes primitive.ItalicCorrection = false
 is_prefixable prefixes primitive.ControlSpace = false
+is_prefixable prefixes (primitive.Indent how) = false
+is_prefixable prefixes primitive.DiscretionaryHyphen = false
 
 -- what has no meaning, or is expanded, is let through, since carrying it out is an error of its own
 abbrev pub may_be_prefixed : Prefixes → Meaning → Bool

@@ -1,5 +1,5 @@
 -- Whether a command may stand in a mode, before anything of it is read (TeX: The Program, section 1045).
-use Rattle.std.specs.Prelude.{Bool, true, false, not, ◌&&◌}
+use Rattle.std.specs.Prelude.{Bool, true, false, if◌then◌else◌}
 use Rattle.tx_char.specs.declared.category.Cat.{Cat}
 use Rattle.tx_char.specs.declared.category.Cat.TheVariants as category
 use Rattle.tx_prim.specs.declared.family.BoxSource.{BoxSource}
@@ -117,19 +117,22 @@ adds_to_list primitive.Char = true
 adds_to_list primitive.SpaceFactor = false
 adds_to_list primitive.ItalicCorrection = true
 adds_to_list primitive.ControlSpace = true
+adds_to_list (primitive.Indent how) = true
+adds_to_list primitive.DiscretionaryHyphen = true
 
--- nothing can be added to the pages' list yet
-abbrev pub is_there : Mode → Meaning → Bool
-is_there mode.Vertical (meaning.Command command) = not (adds_to_list command)
-is_there _ _ = true
+-- whether a command whose first token means this adds to the list in which it stands, of those that stand in vertical modes
+abbrev pub adds : Meaning → Bool
+adds (meaning.Command command) = adds_to_list command
+adds _ = false
 
--- no command can begin or end a paragraph yet
-abbrev pub stands : Standing → Bool
-stands Stands = true
-stands BeginsParagraph = false
-stands EndsParagraph = false
-stands Refused = false
+-- nothing can be added to the pages' list yet, nor can a paragraph begin there
+abbrev pub on_pages : Bool → Standing → Standing
+on_pages adds Stands = if adds then Refused else Stands
+on_pages adds BeginsParagraph = Refused
+on_pages adds EndsParagraph = EndsParagraph
+on_pages adds Refused = Refused
 
--- whether a command whose first token means this may stand in the mode
-abbrev pub may_stand : Mode → Meaning → Bool
-may_stand mode meaning = stands (standing (modes_of_meaning meaning) mode) && is_there mode meaning
+-- what becomes in a mode of a command whose first token means this
+abbrev pub standing_in : Mode → Meaning → Standing
+standing_in mode.Vertical meaning = on_pages (adds meaning) (standing (modes_of_meaning meaning) mode.Vertical)
+standing_in mode meaning = standing (modes_of_meaning meaning) mode

@@ -13,13 +13,16 @@ use crate::mapping::{
     sized,
 };
 use crate::scans::{RuleScan, Scans, Stage};
-use crate::standing::{may_be_prefixed, may_stand};
+use crate::standing::{may_be_prefixed, standing_in};
 use crate::types::{Command, Head, Prefixes};
 use std::alloc::{AllocError, Global};
 use tx_assign::{AssignScan, Assigning, Assignment, Change, Variable};
 use tx_char::Cat;
 use tx_eqtb::Entry;
-use tx_prim::{AfterKind, GlueForm, LeadersKind, Mode, Primitive, RuleKind, Shorthand, SizeKind};
+use tx_prim::{
+    AfterKind, GlueForm, Indentation, LeadersKind, Mode, Primitive, RuleKind, Shorthand, SizeKind,
+    Standing,
+};
 use tx_scan::{DimenScan, NameScan};
 use tx_seen::{Fed, Meaning, Place, Seen, TexError, Value, Want};
 use tx_shape::{LoadScan, ShapeScan, Shaping};
@@ -196,12 +199,13 @@ impl Scans {
 
     /// The first token of a command that nothing stands before.
     fn feed_fresh(&mut self, mode: Mode, token: &Seen) -> Fed<Command>
-        ensures { Begins (λ more. commands.fresh_command mode (Took token.now ∷ more)) self.new result }
+        ensures { (around : Mode) (head : Head) → IsBegunBy around head 1 (λ more. commands.fresh_command mode (Took token.now ∷ more)) (Took token.now ∷ []) self.new result }
     {
-        if may_stand(mode, &token.meaning) {
-            self.begin(&token.meaning)
-        } else {
-            Fed::Wrong(TexError::NotAllowed)
+        match standing_in(mode, &token.meaning) {
+            Standing::Stands => self.begin(&token.meaning),
+            Standing::BeginsParagraph => Fed::Done(Command::Indent(Indentation::Indented), 1),
+            Standing::EndsParagraph => Fed::Done(Command::InsertPar, 1),
+            Standing::Refused => Fed::Wrong(TexError::NotAllowed),
         }
     }
 
@@ -304,7 +308,8 @@ impl Scans {
         ensures { Begins (commands.family_command primitive) self.new result }
     {
         match primitive {
-            Primitive::Relax | Primitive::Par => Fed::Done(Command::Nothing, 0),
+            Primitive::Relax => Fed::Done(Command::Nothing, 0),
+            Primitive::Par => Fed::Done(Command::EndParagraph, 0),
             Primitive::EndCsName => Fed::Wrong(TexError::BadName),
             Primitive::BeginGroup => Fed::Done(Command::BeginSemiSimple, 0),
             Primitive::EndGroup => Fed::Done(Command::EndSemiSimple, 0),
@@ -355,6 +360,8 @@ impl Scans {
             Primitive::SpaceFactor => self.begin_shape(Shaping::Factor),
             Primitive::ItalicCorrection => Fed::Done(Command::ItalicCorrection, 0),
             Primitive::ControlSpace => Fed::Done(Command::ControlSpace, 0),
+            Primitive::Indent(how) => Fed::Done(Command::Indent(how), 0),
+            Primitive::DiscretionaryHyphen => Fed::Done(Command::DiscretionaryHyphen, 0),
         }
     }
 

@@ -75,6 +75,7 @@ fn adds_to_list(primitive: Primitive) -> bool
         Primitive::HorizontalGlue(_) | Primitive::VerticalGlue(_) | Primitive::Leaders(_) => true,
         Primitive::Penalty => true,
         Primitive::Char | Primitive::ItalicCorrection | Primitive::ControlSpace => true,
+        Primitive::Indent(_) | Primitive::DiscretionaryHyphen => true,
         Primitive::Text(purpose) => adds_text(purpose),
         Primitive::Relax
         | Primitive::EndCsName
@@ -110,31 +111,38 @@ fn adds_to_list(primitive: Primitive) -> bool
     }
 }
 
-/// Nothing can be added to the pages' list yet.
-fn is_there(mode: Mode, meaning: &Meaning) -> bool
-    ensures { result ≡ spec.is_there mode meaning.now }
+/// Whether a command whose first token means this adds to the list in which it stands.
+fn adds(meaning: &Meaning) -> bool
+    ensures { result ≡ spec.adds meaning.now }
 {
-    match (mode, meaning) {
-        (Mode::Vertical, Meaning::Command(primitive)) => !adds_to_list(*primitive),
-        _ => true,
+    match meaning {
+        Meaning::Command(primitive) => adds_to_list(*primitive),
+        _ => false,
     }
 }
 
-/// No command can begin or end a paragraph yet.
-fn stands(standing: Standing) -> bool
-    ensures { result ≡ spec.stands standing }
+/// Nothing can be added to the pages' list yet, nor can a paragraph begin there.
+fn on_pages(adds: bool, standing: Standing) -> Standing
+    ensures { result ≡ spec.on_pages adds standing }
 {
     match standing {
-        Standing::Stands => true,
-        Standing::BeginsParagraph | Standing::EndsParagraph | Standing::Refused => false,
+        Standing::Stands if adds => Standing::Refused,
+        Standing::Stands => Standing::Stands,
+        Standing::BeginsParagraph | Standing::Refused => Standing::Refused,
+        Standing::EndsParagraph => Standing::EndsParagraph,
     }
 }
 
-/// Whether a command may stand in a mode whose first token means this.
-pub fn may_stand(mode: Mode, meaning: &Meaning) -> bool
-    ensures { result ≡ spec.may_stand mode meaning.now }
+/// What becomes in a mode of a command whose first token means this.
+pub fn standing_in(mode: Mode, meaning: &Meaning) -> Standing
+    ensures { result ≡ spec.standing_in mode meaning.now }
 {
-    stands(modes_of_meaning(meaning).standing(mode)) && is_there(mode, meaning)
+    let standing = modes_of_meaning(meaning).standing(mode);
+    match mode {
+        Mode::Vertical => on_pages(adds(meaning), standing),
+        Mode::InternalVertical | Mode::Horizontal | Mode::RestrictedHorizontal => standing,
+        Mode::Math | Mode::DisplayMath => standing,
+    }
 }
 
 /// Whether prefixes stand before definitions alone.
@@ -192,7 +200,9 @@ fn is_prefixable(prefixes: Prefixes, primitive: Primitive) -> bool
         | Primitive::Leaders(_)
         | Primitive::Char
         | Primitive::ItalicCorrection
-        | Primitive::ControlSpace => false,
+        | Primitive::ControlSpace
+        | Primitive::Indent(_)
+        | Primitive::DiscretionaryHyphen => false,
     }
 }
 

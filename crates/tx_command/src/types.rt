@@ -5,8 +5,8 @@ use tx_char::Token;
 use tx_node::Rule;
 use tx_num::Glue;
 use tx_prim::{
-    AfterKind, BoxKind, DefinitionKind, FontNumber, Interaction, ItemKind, LeadersKind, Prefix,
-    RuleKind, Shorthand, SizeKind, TextUse, UnboxKind,
+    AfterKind, BoxKind, DefinitionKind, FontNumber, Indentation, Interaction, ItemKind,
+    LeadersKind, Prefix, RuleKind, Shorthand, SizeKind, TextUse, UnboxKind,
 };
 use tx_seen::{FontName, Place};
 use tx_shape::{AskedSize, BoxContext, BoxGoal};
@@ -47,7 +47,7 @@ pub enum Head {
 /// A command with all that belongs to it.
 #[derive(Drop)]
 pub enum Command {
-    /// `\relax`, `\par` outside of a paragraph, and what is skipped behind a prefix.
+    /// `\relax`, and what is skipped behind a prefix.
     Nothing,
     /// A space.
     Space,
@@ -90,6 +90,14 @@ pub enum Command {
     SetDepth(i32),
     /// `\ `.
     ControlSpace,
+    /// `\indent` or `\noindent`, or a command that begins a paragraph, whose first token is read again.
+    Indent(Indentation),
+    /// A command that ends a paragraph before it, whose first token is read again behind `\par`.
+    InsertPar,
+    /// `\par`.
+    EndParagraph,
+    /// `\-`.
+    DiscretionaryHyphen,
     /// `\/`.
     ItalicCorrection,
     /// An assignment to `\spacefactor`.

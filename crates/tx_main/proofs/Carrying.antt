@@ -1,5 +1,5 @@
 -- What comes of a command of boxes by what it answers.
-use Rattle.std.proofs.Common.{◌≡◌, ◌++◌, map, append-nil, ℕ, ℤ, false, List, Option, Some, None, Result, Ok, Err, IfOk, refl, ap, sym, ◌∙◌}
+use Rattle.std.proofs.Common.{◌≡◌, ◌++◌, map, append-nil, ℕ, ℤ, false, List, [], Option, Some, None, Result, Ok, Err, IfOk, refl, ap, sym, ◌∙◌}
 use Rattle.tx_char.specs.declared.tokens.Token.{Token}
 use Rattle.tx_box.specs.declared.parts.Done.{Done}
 use Rattle.tx_box.specs.declared.parts.Lists.{Lists}
@@ -18,9 +18,9 @@ use Rattle.tx_seen.specs.declared.place.Place.TheVariants.{Tokens}
 use Rattle.tx_shape.specs.declared.types.BoxContext.{BoxContext}
 use Rattle.tx_shape.specs.declared.types.BoxContext.TheVariants.{Append, Register, Ship}
 use Rattle.tx_state.specs.declared.state.State.{State}
-use Rattle.tx_main.specs.Effects.{boxed, carried, closing, ending_box, settled, target_of, with_after, with_every}
+use Rattle.tx_main.specs.Effects.{boxed, carried, closing, ending_box, settled, target_of, telling, with_after, with_every}
 use Rattle.tx_state.specs.Meanings.{IsStepped, state_of}
-use Rattle.tx_state.specs.Outcomes.{Outcome}
+use Rattle.tx_state.specs.Outcomes.{Outcome, Leaves, Asks, Ships, Fails, Ends}
 use Rattle.tx_state.specs.State.{TexState}
 
 -- other lists and another table in a state
@@ -49,10 +49,11 @@ carries base before between new lists table e done answer same said is did =
     (carried-forgets (state_of between) lists table (told done lists table) ∙ (λ i. carried (same i) (sym is i)))
     said did
 
-pub boxes : {E : Type 0} (base : TexState) (before between new : State) (lists : Lists) (table : Eqtb) (e : Result Ended TexError) (report : List ℕ) (done : Done) (answer : Result Event E) → state_of between ≡ base → between.said ≡ before.said → e ≡ reported report (told done lists table) → IfOk answer (λ event. IsStepped (boxed (state_of (with_parts between lists table)) (reported report (told done lists table))) (with_parts between lists table) event new) → IfOk answer (λ event. IsStepped (boxed base e) before event new)
-boxes base before between new lists table e report done answer same said is did =
-    outcome-by (boxed (state_of (with_parts between lists table)) (reported report (told done lists table))) (boxed base e) before (with_parts between lists table) new answer
-    (boxed-forgets (state_of between) lists table (reported report (told done lists table)) ∙ (λ i. boxed (same i) (sym is i)))
+-- behind these lines of the transcript
+pub boxes : {E : Type 0} (lines : List ℕ) (base : TexState) (before between new : State) (lists : Lists) (table : Eqtb) (e : Result Ended TexError) (report : List ℕ) (done : Done) (answer : Result Event E) → state_of between ≡ base → between.said ≡ before.said → e ≡ reported report (told done lists table) → IfOk answer (λ event. IsStepped (telling lines (boxed (state_of (with_parts between lists table)) (reported report (told done lists table)))) (with_parts between lists table) event new) → IfOk answer (λ event. IsStepped (telling lines (boxed base e)) before event new)
+boxes lines base before between new lists table e report done answer same said is did =
+    outcome-by (telling lines (boxed (state_of (with_parts between lists table)) (reported report (told done lists table)))) (telling lines (boxed base e)) before (with_parts between lists table) new answer
+    (ap (telling lines) (boxed-forgets (state_of between) lists table (reported report (told done lists table)) ∙ (λ i. boxed (same i) (sym is i))))
     said did
 
 -- \setbox, which is done when its box begins, changes neither the lists nor the table
@@ -84,11 +85,11 @@ settles of context base before between new target lists table done answer own_li
     did
 
 -- the end of a box, behind the end of its group
-pub ends : {E : Type 0} (before between new : State) (most : ℤ) (lists : Lists) (table : Eqtb) (report : List ℕ) (done : Done) (answer : Result Event E) → most ≡ greatest_depth before.table.table → state_of between ≡ closing (state_of before) → between.said ≡ before.said → ending most between.lists between.table ≡ reported report (told done lists table) → IfOk answer (λ event. IsStepped (boxed (state_of (with_parts between lists table)) (reported report (told done lists table))) (with_parts between lists table) event new) → IfOk answer (λ event. IsStepped (ending_box (state_of before)) before event new)
-ends before between new most lists table report done answer deep same said is did =
+pub ends : {E : Type 0} (lines : List ℕ) (before between new : State) (most : ℤ) (lists : Lists) (table : Eqtb) (report : List ℕ) (done : Done) (answer : Result Event E) → most ≡ greatest_depth before.table.table → state_of between ≡ closing (state_of before) → between.said ≡ before.said → ending most between.lists between.table ≡ reported report (told done lists table) → IfOk answer (λ event. IsStepped (telling lines (boxed (state_of (with_parts between lists table)) (reported report (told done lists table)))) (with_parts between lists table) event new) → IfOk answer (λ event. IsStepped (telling lines (ending_box (state_of before))) before event new)
+ends lines before between new most lists table report done answer deep same said is did =
     let same_lists : between.lists ≡ before.lists = ap (λ (s : TexState). s.lists) same in
     let same_table : between.table ≡ closed before.table = ap (λ (s : TexState). s.table) same in
-    boxes (closing (state_of before)) before between new lists table (ending (greatest_depth before.table.table) before.lists (closed before.table)) report done answer same said
+    boxes lines (closing (state_of before)) before between new lists table (ending (greatest_depth before.table.table) before.lists (closed before.table)) report done answer same said
     ((λ i. ending (sym deep i) (sym same_lists i) (sym same_table i)) ∙ is)
     did
 
@@ -103,3 +104,14 @@ pub every-read : (kind : BoxKind) (s : State) (read : TokenParameter) (every : L
 every-read kind s read every input is found came =
     let same : every ≡ tokens_at s.table.table (Tokens (every_in kind)) = found ∙ ap (λ (p : TokenParameter). tokens_at s.table.table (Tokens p)) is in
     ap (λ (i : Input). state_of (record s { input = i })) (came ∙ ap (λ (ts : List Token). with_list s.input ts false) same ∙ unmarked s.input (tokens_at s.table.table (Tokens (every_in kind))))
+
+-- nothing is told before the rest
+telling-nothing : (o : Outcome) → telling [] o ≡ o
+telling-nothing (Leaves s said) = refl
+telling-nothing (Asks ask s) = refl
+telling-nothing (Ships page s) = refl
+telling-nothing (Fails error) = refl
+telling-nothing Ends = refl
+
+pub tells-nothing : {E : Type 0} (o : Outcome) (s new : State) (lines : List ℕ) (answer : Result Event E) → lines ≡ [] → IfOk answer (λ event. IsStepped (telling lines o) s event new) → IfOk answer (λ event. IsStepped o s event new)
+tells-nothing o s new lines answer none did = outcome-by (telling lines o) o s s new answer (ap (λ (l : List ℕ). telling l o) none ∙ telling-nothing o) refl did

@@ -1,6 +1,7 @@
 -- What each command does, once it is whole (TeX: The Program, parts 45 to 49): a line for each family.
 use Rattle.std.specs.Prelude.{ℕ, ℤ, Bool, true, false, ◌||◌, ◌&&◌, ◌==◌, nat_lt, nat_le, List, [], ◌∷◌, ◌++◌, length, map, Option, Some, None, Result, Ok, Err, codes, if◌then◌else◌}
 use Rattle.tx_char.specs.declared.tokens.Token.{Token}
+use Rattle.tx_char.specs.declared.tokens.Token.TheVariants as token
 use Rattle.tx_node.specs.declared.plain.KernKind.TheVariants.{Explicit}
 use Rattle.tx_node.specs.declared.plain.Plain.TheVariants as small
 use Rattle.tx_node.specs.declared.plain.Shared.TheVariants as large
@@ -26,6 +27,7 @@ use Rattle.tx_prim.specs.declared.family.AfterKind.{AfterKind}
 use Rattle.tx_prim.specs.declared.family.AfterKind.TheVariants as after
 use Rattle.tx_prim.specs.declared.family.BoxKind.{BoxKind}
 use Rattle.tx_prim.specs.declared.family.DefinitionKind.{DefinitionKind}
+use Rattle.tx_prim.specs.declared.family.Indentation.{Indentation}
 use Rattle.tx_prim.specs.declared.family.ItemKind.{ItemKind}
 use Rattle.tx_prim.specs.declared.family.LeadersKind.{LeadersKind}
 use Rattle.tx_prim.specs.declared.family.LeadersKind.TheVariants as leaders
@@ -36,6 +38,7 @@ use Rattle.tx_prim.specs.declared.primitive.Primitive.TheVariants.{NullFont, Rel
 use Rattle.tx_prim.specs.declared.family.Prefix.{Prefix as APrefix}
 use Rattle.tx_prim.specs.declared.family.Prefix.TheVariants.{Global, Long, Outer}
 use Rattle.tx_prim.specs.declared.family.SizeKind.TheVariants.{Kern}
+use Rattle.tx_prim.specs.declared.tokens.TokenParameter.TheVariants.{Everypar}
 use Rattle.tx_seen.specs.declared.error.TexError.{TexError}
 use Rattle.tx_seen.specs.declared.error.TexError.TheVariants.{BadFont, MissingBox, ExtraGroupEnd, TooManyGroups, ErrorMessage, NotAllowed, NumberOutOfRange}
 use Rattle.tx_seen.specs.declared.place.FontName.{FontName}
@@ -59,7 +62,7 @@ use Rattle.tx_toklist.specs.Macros.{Definition}
 use Rattle.tx_toklist.specs.Text.{printed}
 use Rattle.tx_command.specs.declared.types.Command.{Command}
 use Rattle.tx_shape.specs.Loading.{size_asked}
-use Rattle.tx_command.specs.declared.types.Command.TheVariants.{Nothing, Space, ControlSpace, Character, ItalicCorrection, SetFactor, DefineFont, LoadFont, SetFontDimen, SetFontInteger, BeginGroup, EndGroup, BeginSemiSimple, EndSemiSimple, Prefix, Define, Assign, Sized, Rule, BeginBox, UseBox, CopyBox, LastBox, Unbox, Penalize, Remove, Skip, BeginLeaders, SetDepth, End, Interact, DefineMacro, BeginText, DefineFuture, Keep}
+use Rattle.tx_command.specs.declared.types.Command.TheVariants.{Nothing, Space, ControlSpace, Character, ItalicCorrection, Indent, InsertPar, EndParagraph, DiscretionaryHyphen, SetFactor, DefineFont, LoadFont, SetFontDimen, SetFontInteger, BeginGroup, EndGroup, BeginSemiSimple, EndSemiSimple, Prefix, Define, Assign, Sized, Rule, BeginBox, UseBox, CopyBox, LastBox, Unbox, Penalize, Remove, Skip, BeginLeaders, SetDepth, End, Interact, DefineMacro, BeginText, DefineFuture, Keep}
 use Rattle.tx_shape.specs.declared.types.BoxContext.{BoxContext}
 use Rattle.tx_shape.specs.declared.types.BoxContext.TheVariants.{Append, Register, Ship}
 use Rattle.tx_command.specs.declared.types.Head.{Head}
@@ -75,6 +78,9 @@ use Rattle.tx_box.specs.Building.{Ended, beginning, ending as ending_list, every
 use Rattle.tx_box.specs.Effects.{Effect, Left}
 use Rattle.tx_box.specs.Placing.{with_list}
 use Rattle.tx_box.specs.Sources.{appended, copying, taking_last, unboxing, using}
+use Rattle.tx_par.specs.declared.error.ParError.{ParError}
+use Rattle.tx_paragraph.specs.Beginning.{begins_paragraph, indented}
+use Rattle.tx_paragraph.specs.Ending as paragraph
 use Rattle.tx_state.specs.declared.parts.Due.{Due}
 use Rattle.tx_state.specs.declared.parts.Due.TheVariants.{Boxes, LoadFont as LoadFont_due}
 use Rattle.tx_state.specs.declared.parts.FontRequest.{FontRequest}
@@ -82,8 +88,8 @@ use Rattle.tx_main.specs.Pages.{integer}
 use Rattle.tx_state.specs.State.{TexState}
 use Rattle.tx_main.specs.Letters.{code_for, token_for}
 use Rattle.tx_state.specs.Texts.{absorbed_text, definition_text, is_global, list_text}
-use Rattle.tx_state.specs.Outcomes.{Outcome, Asks, Leaves, Fails, Ends, leaves}
-use Rattle.tx_main.specs.Words.{collecting, control_spacing, correcting, current_font, factor_now, spacing, with_list_factor}
+use Rattle.tx_state.specs.Outcomes.{Outcome, Asks, Leaves, Ships, Fails, Ends, leaves}
+use Rattle.tx_main.specs.Words.{breaking, collecting, control_spacing, correcting, current_font, factor_now, spacing, with_list_factor}
 
 -- one more prefix
 abbrev pub with_prefix : Prefixes → APrefix → Prefixes
@@ -274,14 +280,47 @@ with_every box s = record s { reader = put (tokens_at s.table.table (Tokens (eve
 abbrev pub ending_box : TexState → Outcome
 ending_box s = boxed (closing s) (ending_list (greatest_depth s.table.table) s.lists (closed s.table))
 
+-- what a turn tells before the rest of it; one that fails tells nothing
+abbrev pub telling : List ℕ → Outcome → Outcome
+telling report (Leaves s said) = Leaves s (report ++ said)
+telling report (Asks ask s) = Asks ask s
+telling report (Ships page s) = Ships page s
+telling report (Fails error) = Fails error
+telling report Ends = Ends
+
+-- the paragraph that is open in a vertical box ends before that does (section 1100)
+abbrev pub ending_behind : TexState → Result paragraph.Left ParError → Outcome
+ending_behind s (Err error) = Fails (paragraph.par_error error)
+ending_behind s (Ok left) = telling left.report (ending_box (record s { lists = left.lists; table = left.table }))
+
+abbrev pub ending_vertical : TexState → Outcome
+ending_vertical s = ending_behind s (paragraph.closing s.lists s.table)
+
+-- a paragraph begins, in which \everypar's tokens are read first (section 1091); \indent and \noindent in other lists
+abbrev pub with_every_par : Bool → TexState → TexState
+with_every_par false s = s
+with_every_par true s = record s { reader = put (tokens_at s.table.table (Tokens Everypar)) s.reader }
+
+abbrev pub indenting : Indentation → TexState → TexState
+indenting how s = carrying s (record { lists = indented how s.table.table s.lists; table = s.table; due = None })
+
+-- \par is read first (section 1095)
+abbrev pub inserting_par : TexState → TexState
+inserting_par s = record s { reader = put (token.Name (codes "par") ∷ []) s.reader }
+
+-- \par (section 1094)
+abbrev pub paragraph_ended : TexState → Result paragraph.Left ParError → Outcome
+paragraph_ended s (Err error) = Fails (paragraph.par_error error)
+paragraph_ended s (Ok left) = Leaves (carrying s (record { lists = left.lists; table = left.table; due = None })) left.report
+
 -- what an end-group token does, by the kind of the innermost group
 abbrev pub ending : TexState → Option GroupKind → Outcome
 ending s None = Fails ExtraGroupEnd
 ending s (Some kind.SemiSimple) = Fails ExtraGroupEnd
 ending s (Some kind.Simple) = leaves (closing s)
 ending s (Some kind.HorizontalBox) = ending_box s
-ending s (Some kind.VerticalBox) = ending_box s
-ending s (Some kind.TopBox) = ending_box s
+ending s (Some kind.VerticalBox) = ending_vertical s
+ending s (Some kind.TopBox) = ending_vertical s
 
 -- what \endgroup does
 abbrev pub ending_semi_simple : TexState → Option GroupKind → Outcome
@@ -371,6 +410,10 @@ effect s Space = spacing s (factor_now s)
 effect s ControlSpace = control_spacing s (factor_now s)
 effect s (Character code) = collecting s code (factor_now s)
 effect s ItalicCorrection = correcting s (factor_now s)
+effect s (Indent how) = leaves (indenting how (with_every_par (begins_paragraph s.lists.nest.innermost.state) s))
+effect s InsertPar = leaves (inserting_par s)
+effect s EndParagraph = paragraph_ended s (paragraph.ending s.lists s.table)
+effect s DiscretionaryHyphen = breaking s (factor_now s)
 effect s BeginGroup = opening s kind.Simple s
 effect s EndGroup = ending s (kind_of s.table)
 effect s BeginSemiSimple = opening s kind.SemiSimple s

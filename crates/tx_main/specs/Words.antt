@@ -1,6 +1,8 @@
 -- Characters, words, spaces and italic corrections in a list (TeX: The Program, sections 1030 to 1045, 1113 and 1243).
-use Rattle.std.specs.Prelude.{ℕ, ℤ, true, ◌||◌, ◌++◌, List, [], ◌∷◌, Option, Some, None, unwrap_or, codes, decimal, if◌then◌else◌}
+use Rattle.std.specs.Prelude.{ℕ, ℤ, Bool, true, false, ◌||◌, ◌++◌, List, [], ◌∷◌, Option, Some, None, unwrap_or, codes, decimal, if◌then◌else◌}
 use Rattle.tx_nest.specs.Changed.{with_factor}
+use Rattle.tx_nest.specs.declared.state.ModeState.{ModeState}
+use Rattle.tx_nest.specs.declared.state.ModeState.TheVariants.{Vertical, InternalVertical, Horizontal, RestrictedHorizontal, Math, DisplayMath}
 use Rattle.tx_nest.specs.Factors.{factor_of, plain_factor}
 use Rattle.tx_nest.specs.States.{space_factor}
 use Rattle.tx_node.specs.declared.plain.KernKind.TheVariants.{Explicit}
@@ -21,6 +23,7 @@ use Rattle.tx_word.specs.declared.piece.WordParams.{WordParams}
 use Rattle.tx_word.specs.Collecting.{Collected, collected, ended, without_word}
 use Rattle.tx_word.specs.Factors.{factor_behind}
 use Rattle.tx_word.specs.Italics.{last_italic}
+use Rattle.tx_word.specs.Points.{hyphen_item, hyphen_lacking}
 use Rattle.tx_word.specs.Spaces.{space_between}
 use Rattle.tx_box.specs.declared.parts.Lists.{Lists}
 use Rattle.tx_box.specs.Placing.{with_list}
@@ -52,9 +55,21 @@ factor_now s = space_factor s.lists.nest.innermost.state
 abbrev pub factored : Lists → ℕ → Lists
 factored lists factor = with_list lists (with_factor lists.nest.innermost factor)
 
+-- whether a list is that of a paragraph, where a line may be broken behind a hyphen
+abbrev pub is_paragraph : ModeState → Bool
+is_paragraph (Vertical depth) = false
+is_paragraph (InternalVertical depth) = false
+is_paragraph (Horizontal factor) = true
+is_paragraph (RestrictedHorizontal factor) = false
+is_paragraph Math = false
+is_paragraph DisplayMath = false
+
+abbrev pub in_paragraph : TexState → Bool
+in_paragraph s = is_paragraph s.lists.nest.innermost.state
+
 -- the word that is open ends
 abbrev pub word_ended : TexState → TexState
-word_ended s = record s { lists = appended s.lists (ended s.words true); words = without_word s.words }
+word_ended s = record s { lists = appended s.lists (ended s.words (in_paragraph s) true); words = without_word s.words }
 
 -- a token that begins a command ends it, if it is no character and doesn't stand for one, before anything behind it is read
 abbrev pub before_token : TexState → Seen → TexState
@@ -76,8 +91,8 @@ report_of s code (Some font) = missing code (font_name s.words.fonts font)
 abbrev pub with_collected : TexState → Collected → TexState
 with_collected s c = record s { lists = appended s.lists c.items; words = c.words }
 
-abbrev pub gathered : TexState → ℕ → ℕ → TexState
-gathered s font code = with_collected s (collected s.words font code)
+abbrev pub gathered : TexState → Bool → ℕ → ℕ → TexState
+gathered s in_paragraph font code = with_collected s (collected s.words in_paragraph font code)
 
 -- a character of a horizontal list: the space factor is that behind it, also where the font lacks it (section 1034)
 abbrev pub collecting_into : TexState → ℕ → Collected → ℕ → Outcome
@@ -86,7 +101,7 @@ collecting_into s code c factor = Leaves (with_collected (with_list_factor s fac
 abbrev pub collecting : TexState → ℕ → Option ℕ → Outcome
 collecting s code None = leaves s
 collecting s code (Some factor) =
-    collecting_into s code (collected s.words (current_font s.table.table) code) (factor_behind factor (space_code s.table.table code))
+    collecting_into s code (collected s.words (in_paragraph s) (current_font s.table.table) code) (factor_behind factor (space_code s.table.table code))
 
 -- glue, if its sizes are dimensions
 abbrev pub gluing : TexState → Option GlueSpec → Outcome
@@ -115,3 +130,16 @@ kerning s (Some size) = leaves (with_more s (plain (Kern Explicit size) ∷ []))
 abbrev pub correcting : TexState → Option ℕ → Outcome
 correcting s None = leaves s
 correcting s (Some factor) = kerning s (last_italic s.words.fonts s.lists.nest.innermost.nodes)
+
+-- `\-' in a horizontal list: a word may be broken there, behind the font's hyphen character, of which is told where the font lacks it
+-- (section 1117)
+abbrev pub lacking_report : TexState → ℕ → Option ℕ → List ℕ
+lacking_report s font None = []
+lacking_report s font (Some code) = missing code (font_name s.words.fonts font)
+
+abbrev pub breaking_in : TexState → ℕ → Outcome
+breaking_in s font = Leaves (with_more s (hyphen_item s.words.fonts font ∷ [])) (lacking_report s font (hyphen_lacking s.words.fonts font))
+
+abbrev pub breaking : TexState → Option ℕ → Outcome
+breaking s None = leaves s
+breaking s (Some factor) = breaking_in s (current_font s.table.table)

@@ -1,6 +1,6 @@
 //! The effects of the commands of boxes and lists: a part of the state is handed down to the crate that carries them out, and what
 //! this answers is taken over (TeX: The Program, part 47).
-ghost use Rattle.std.specs.Prelude.{◌≡◌, ◌∷◌, [], Some, IfOk, OnOk};
+ghost use Rattle.std.specs.Prelude.{◌≡◌, ◌∷◌, ◌++◌, [], Some, IfOk, OnOk};
 ghost use Rattle.tx_box.specs.Building.{reported};
 ghost use Rattle.tx_box.specs.Effects.{told};
 ghost use Rattle.tx_eqtb.specs.Stack.{kind_of};
@@ -21,6 +21,7 @@ use tx_box::{
     Done, Ended, OpenBox, Target, Work, begin_box, copy_list, copy_register, every_in,
     greatest_depth, place_copy, take_last, use_register,
 };
+use tx_bytes::Bytes;
 use tx_command::{BoxContext, BoxGoal};
 use tx_eqtb::GroupKind;
 use tx_list::Stack;
@@ -82,7 +83,7 @@ fn push_work(due: &mut Stack<Due>, work: Option<Work>) -> Result<(), AllocError>
 
 /// What a command of boxes left is taken over: work that is due, the mode of the list that is being built now, and these bytes for
 /// the transcript. Its only error is want of memory.
-fn take_over(s: &mut State, work: Option<Work>, report: &[u8]) -> Result<Event, AllocError>
+pub fn take_over(s: &mut State, work: Option<Work>, report: &[u8]) -> Result<Event, AllocError>
     requires { s.old.phase ≡ Phase.Running }
     ensures { IfOk result (λ event. IsStepped (Leaves (effects.carrying (state_of s.old) (record { lists = s.old.lists; table = s.old.table; due = work })) report.now) s.old event s.new) }
 {
@@ -199,29 +200,44 @@ pub fn unbox(s: &mut State, kind: UnboxKind, number: u8) -> Result<Event, AllocE
     carry(s, done)
 }
 
-/// A box's end is taken over, and the transcript's line of it.
-fn finish_box(s: &mut State, ended: Ended) -> Result<Event, AllocError>
+/// Lines of the transcript, and a line behind them. Its only error is want of memory.
+fn joined(said: Bytes, report: &Bytes) -> Result<Bytes, AllocError>
+    ensures { IfOk result (λ joined. joined ≡ said ++ report.now) }
+{
+    let mut said = said;
+    said.append(report.as_slice())?;
+    Ok(said)
+}
+
+/// A box's end is taken over, and the transcript's line of it, behind those that come with it.
+fn finish_box(s: &mut State, said: Bytes, ended: Ended) -> Result<Event, AllocError>
     requires { s.old.phase ≡ Phase.Running }
-    ensures { IfOk result (λ event. IsStepped (effects.boxed (state_of s.old) (reported ended.report (told ended.done s.old.lists s.old.table))) s.old event s.new) }
+    ensures { IfOk result (λ event. IsStepped (effects.telling said (effects.boxed (state_of s.old) (reported ended.report (told ended.done s.old.lists s.old.table)))) s.old event s.new) }
 {
     let Ended { done, report } = ended;
+    let lines = joined(said, &report)?;
     match done {
-        Done::Whole => take_over(s, None, report.as_slice()),
-        Done::Due(work) => take_over(s, Some(work), report.as_slice()),
+        Done::Whole => take_over(s, None, lines.as_slice()),
+        Done::Due(work) => take_over(s, Some(work), lines.as_slice()),
         Done::Wrong(error) => Ok(fail(s, error)),
     }
 }
 
-/// The end of a box, whose group is of this kind.
-pub fn end_box(alloc: Global, s: &mut State, kind: GroupKind) -> Result<Event, AllocError>
+/// The end of a box, whose group is of this kind, behind these lines of the transcript.
+pub fn end_box(
+    alloc: Global,
+    s: &mut State,
+    kind: GroupKind,
+    said: Bytes,
+) -> Result<Event, AllocError>
     requires running { s.old.phase ≡ Phase.Running }
     requires kind { kind_of s.old.table ≡ Some kind }
-    ensures { IfOk result (λ event. IsStepped (effects.ending_box (state_of s.old)) s.old event s.new) }
+    ensures { IfOk result (λ event. IsStepped (effects.telling said (effects.ending_box (state_of s.old))) s.old event s.new) }
 {
     let most = greatest_depth(&s.table);
     leave_group(s, kind)?;
     let ended = tx_box::end_box(alloc, &mut s.lists, &mut s.table, most)?;
-    finish_box(s, ended)
+    finish_box(s, said, ended)
 }
 
 /// A copy goes where it is to go.

@@ -14,7 +14,8 @@ use crate::boxes::{
 use crate::fonts::{define_font, find_font, set_dimension, set_integer};
 use crate::groups::{end_group, end_semi_simple, open};
 use crate::letters::{code_for, with_letters};
-use crate::words::{control_space, correct_italic, set_character, set_factor, space};
+use crate::paragraphs::{end_paragraph, indent, insert_par};
+use crate::words::{break_word, control_space, correct_italic, set_character, set_factor, space};
 use std::alloc::{AllocError, Global};
 use std::mem;
 use tx_assign::{Assignment, Carried, Change, relaxed, with_text};
@@ -420,6 +421,10 @@ pub fn carry_out(alloc: Global, s: &mut State, command: Command) -> Result<Event
         Command::ControlSpace => control_space(s),
         Command::Character(code) => set_character(alloc, s, code),
         Command::ItalicCorrection => correct_italic(s),
+        Command::Indent(how) => indent(alloc, s, how),
+        Command::InsertPar => insert_par(alloc, s),
+        Command::EndParagraph => end_paragraph(alloc, s),
+        Command::DiscretionaryHyphen => break_word(alloc, s),
         Command::BeginGroup => open(s, GroupKind::Simple),
         Command::EndGroup => end_group(alloc, s),
         Command::BeginSemiSimple => open(s, GroupKind::SemiSimple),

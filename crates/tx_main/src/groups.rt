@@ -1,5 +1,6 @@
 //! Groups begin and end (TeX: The Program, sections 269 to 284 and 1063 to 1068).
 ghost use Rattle.std.specs.Prelude.{◌≡◌, [], Some, IfOk, OnOk};
+ghost use Rattle.tx_eqtb.specs.declared.groups.GroupKind.{GroupKind};
 ghost use Rattle.tx_eqtb.specs.Stack.{kind_of};
 ghost use Rattle.tx_pending.specs.Elements.{with_tokens};
 ghost use Rattle.tx_command.specs.declared.types.Command.{Command};
@@ -10,7 +11,9 @@ ghost use Rattle.tx_state.specs.Meanings.{IsStepped, state_of};
 
 use crate::boxes::end_box;
 use crate::effects::fail;
+use crate::paragraphs::end_vertical;
 use std::alloc::{AllocError, Global};
+use tx_bytes::Bytes;
 use tx_char::Token;
 use tx_eqtb::{GroupKind, OpenError};
 use tx_list::Stack;
@@ -84,6 +87,15 @@ fn close_group(s: &mut State, kind: GroupKind) -> Result<Event, AllocError>
     Ok(Event::Went)
 }
 
+/// The end of a horizontal box.
+fn end_across(alloc: Global, s: &mut State) -> Result<Event, AllocError>
+    requires running { s.old.phase ≡ Phase.Running }
+    requires kind { kind_of s.old.table ≡ Some GroupKind.HorizontalBox }
+    ensures { IfOk result (λ event. IsStepped (effects.ending_box (state_of s.old)) s.old event s.new) }
+{
+    end_box(alloc, s, GroupKind::HorizontalBox, Bytes::new(alloc))
+}
+
 /// An end-group token: closes the innermost group, which brings back what it changed; of the list of a box a box is made.
 pub fn end_group(alloc: Global, s: &mut State) -> Result<Event, AllocError>
     requires running { s.old.phase ≡ Phase.Running }
@@ -92,9 +104,9 @@ pub fn end_group(alloc: Global, s: &mut State) -> Result<Event, AllocError>
 {
     match s.table.kind() {
         Some(GroupKind::Simple) => close_group(s, GroupKind::Simple),
-        Some(GroupKind::HorizontalBox) => end_box(alloc, s, GroupKind::HorizontalBox),
-        Some(GroupKind::VerticalBox) => end_box(alloc, s, GroupKind::VerticalBox),
-        Some(GroupKind::TopBox) => end_box(alloc, s, GroupKind::TopBox),
+        Some(GroupKind::HorizontalBox) => end_across(alloc, s),
+        Some(GroupKind::VerticalBox) => end_vertical(alloc, s, GroupKind::VerticalBox),
+        Some(GroupKind::TopBox) => end_vertical(alloc, s, GroupKind::TopBox),
         Some(GroupKind::SemiSimple) | None => Ok(fail(s, TexError::ExtraGroupEnd)),
     }
 }

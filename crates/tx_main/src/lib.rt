@@ -3,7 +3,7 @@
 //! Proved: each turn is the defined step. Only tested: that the effects and the reading are TeX's, on documents that Knuth's TeX
 //! reads alike. The state is tx_state's, and how commands are taken off tokens tx_command's.
 //!
-//! Read `letters`, `groups`, `boxes`, `words`, `fonts`, `effects`, `page`, `turn` and `machine`.
+//! Read `letters`, `groups`, `boxes`, `paragraphs`, `words`, `fonts`, `effects`, `page`, `turn` and `machine`.
 #![tactic(auto)]
 
 mod boxes;
@@ -13,6 +13,7 @@ mod groups;
 mod letters;
 mod machine;
 mod page;
+mod paragraphs;
 mod turn;
 mod words;
 

@@ -17,13 +17,15 @@ use std::alloc::{AllocError, Global};
 use tx_bytes::Bytes;
 use tx_eqtb::Eqtb;
 use tx_machine::Event;
-use tx_nest::{SpaceFactor, set_space_factor};
+use tx_nest::{ModeState, SpaceFactor, append_item, set_space_factor};
 use tx_node::{KernKind, Node, Plain};
 use tx_prim::{CharacterCode, GlueParameter};
 use tx_scan::byte;
 use tx_seen::{Place, Seen, TexError};
 use tx_state::State;
-use tx_word::{WordParams, factor_behind, last_italic, space_between};
+use tx_word::{
+    HyphenPoint, WordParams, discretionary_hyphen, factor_behind, last_italic, space_between,
+};
 
 /// The number of the current font.
 pub fn current_font(table: &Eqtb) -> u8
@@ -64,13 +66,26 @@ fn factor_now(s: &State) -> Option<SpaceFactor>
     s.lists.nest.innermost().state.space_factor()
 }
 
+/// Whether the list that is being built is that of a paragraph.
+fn in_paragraph(s: &State) -> bool
+    ensures { result ≡ spec.in_paragraph (state_of s.now) }
+{
+    match s.lists.nest.innermost().state {
+        ModeState::Horizontal(_) => true,
+        ModeState::Vertical(_) | ModeState::InternalVertical(_) => false,
+        ModeState::RestrictedHorizontal(_) | ModeState::Math | ModeState::DisplayMath => false,
+    }
+}
+
 /// The word that is open ends. Its only error is want of memory.
 fn end_word(alloc: Global, s: &mut State) -> Result<(), AllocError>
     ensures state { OnOk result (state_of s.new ≡ spec.word_ended (state_of s.old)) }
     ensures phase { OnOk result (s.new.phase ≡ s.old.phase) }
     ensures said { OnOk result (s.new.said ≡ s.old.said) }
 {
-    s.words.end(alloc, &mut s.lists.nest.top().nodes)
+    let in_paragraph = in_paragraph(s);
+    s.words
+        .end(alloc, &mut s.lists.nest.top().nodes, in_paragraph)
 }
 
 /// The word that is open ends before a token that begins a command, if that is no character and doesn't stand for one. Its only
@@ -111,14 +126,25 @@ fn pass_factor(s: &mut State, factor: SpaceFactor, code: u8)
 
 /// A character joins the open word, or ends it where the font lacks it, and the answer is the number of that font. Its only error is
 /// want of memory.
-fn gather(alloc: Global, s: &mut State, font: u8, code: u8) -> Result<Option<u8>, AllocError>
-    ensures lacking { IfOk result (λ lacking. lacking ≡ (collected s.old.words font code).lacking) }
-    ensures state { OnOk result (state_of s.new ≡ spec.gathered (state_of s.old) font code) }
+fn gather(
+    alloc: Global,
+    s: &mut State,
+    in_paragraph: bool,
+    font: u8,
+    code: u8,
+) -> Result<Option<u8>, AllocError>
+    ensures lacking { IfOk result (λ lacking. lacking ≡ (collected s.old.words in_paragraph font code).lacking) }
+    ensures state { OnOk result (state_of s.new ≡ spec.gathered (state_of s.old) in_paragraph font code) }
     ensures phase { OnOk result (s.new.phase ≡ s.old.phase) }
     ensures said { OnOk result (s.new.said ≡ s.old.said) }
 {
-    s.words
-        .collect(alloc, &mut s.lists.nest.top().nodes, font, code)
+    s.words.collect(
+        alloc,
+        &mut s.lists.nest.top().nodes,
+        in_paragraph,
+        font,
+        code,
+    )
 }
 
 /// Reports a character, if a font lacks it. Its only error is want of memory.
@@ -137,8 +163,9 @@ fn collect(alloc: Global, s: &mut State, factor: SpaceFactor, code: u8) -> Resul
     ensures { IfOk result (λ event. IsStepped (spec.collecting (state_of s.old) code (Some factor)) s.old event s.new) }
 {
     let font = current_font(&s.table);
+    let in_paragraph = in_paragraph(s);
     pass_factor(s, factor, code);
-    let lacking = gather(alloc, s, font, code)?;
+    let lacking = gather(alloc, s, in_paragraph, font, code)?;
     report(s, code, lacking)?;
     Ok(Event::Went)
 }
@@ -207,6 +234,39 @@ pub fn correct_italic(s: &mut State) -> Result<Event, AllocError>
 {
     match factor_now(s) {
         Some(_) => add_italic(s),
+        None => Ok(Event::Went),
+    }
+}
+
+/// Reports the hyphen character that a font lacks, if it does. Its only error is want of memory.
+fn report_hyphen(s: &mut State, font: u8, lacking: Option<u8>) -> Result<(), AllocError>
+    ensures { OnOk result (s.new ≡ record s.old { said = s.old.said ++ spec.lacking_report (state_of s.old) font lacking }) }
+{
+    match lacking {
+        Some(code) => report_missing(&mut s.said, code, s.words.fonts().name(font)),
+        None => Ok(()),
+    }
+}
+
+/// A place in the list where a word may be broken.
+fn add_break(alloc: Global, s: &mut State) -> Result<Event, AllocError>
+    requires { s.old.phase ≡ Phase.Running }
+    ensures { IfOk result (λ event. IsStepped (spec.breaking_in (state_of s.old) (spec.current_font s.old.table.table)) s.old event s.new) }
+{
+    let font = current_font(&s.table);
+    let HyphenPoint { node, lacking } = discretionary_hyphen(alloc, s.words.fonts(), font)?;
+    append_item(s.lists.nest.top(), node)?;
+    report_hyphen(s, font, lacking)?;
+    Ok(Event::Went)
+}
+
+/// `\-`.
+pub fn break_word(alloc: Global, s: &mut State) -> Result<Event, AllocError>
+    requires { s.old.phase ≡ Phase.Running }
+    ensures { IfOk result (λ event. IsStepped (effects.effect (state_of s.old) Command.DiscretionaryHyphen) s.old event s.new) }
+{
+    match factor_now(s) {
+        Some(_) => add_break(alloc, s),
         None => Ok(Event::Went),
     }
 }

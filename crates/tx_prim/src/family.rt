@@ -142,6 +142,15 @@ pub enum AfterKind {
     Assignment,
 }
 
+/// How a paragraph begins (The TeXbook, chapter 14).
+#[derive(Clone, Copy, PartialEq, Eq)]
+pub enum Indentation {
+    /// \indent: with an empty box as wide as \parindent.
+    Indented,
+    /// \noindent: without.
+    Flush,
+}
+
 /// A size of a box (The TeXbook, chapter 12).
 #[derive(Clone, Copy, PartialEq, Eq)]
 pub enum BoxSide {

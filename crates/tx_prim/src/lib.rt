@@ -20,8 +20,8 @@ pub use dimension::DimensionParameter;
 pub use expandable::{BoxTest, CondWord, Conversion, Expandable, Test};
 pub use family::{
     AfterKind, BoxKind, BoxSide, BoxSource, CharacterCode, DefinitionKind, FontNumber, GlueForm,
-    Interaction, ItemKind, LeadersKind, Numbered, Operation, Prefix, RuleKind, ShiftKind,
-    Shorthand, SizeKind, TextUse, UnboxKind,
+    Indentation, Interaction, ItemKind, LeadersKind, Numbered, Operation, Prefix, RuleKind,
+    ShiftKind, Shorthand, SizeKind, TextUse, UnboxKind,
 };
 pub use glue::GlueParameter;
 pub use integer::{IntegerParameter, Moment};

@@ -6,8 +6,8 @@ ghost use Rattle.tx_prim.specs.Table.{all, modes_of, name_of, named};
 use crate::dimension::DimensionParameter;
 use crate::family::{
     AfterKind, BoxKind, BoxSide, BoxSource, CharacterCode, DefinitionKind, FontNumber, GlueForm,
-    Interaction, ItemKind, LeadersKind, Numbered, Operation, Prefix, RuleKind, ShiftKind,
-    Shorthand, SizeKind, TextUse, UnboxKind,
+    Indentation, Interaction, ItemKind, LeadersKind, Numbered, Operation, Prefix, RuleKind,
+    ShiftKind, Shorthand, SizeKind, TextUse, UnboxKind,
 };
 use crate::glue::GlueParameter;
 use crate::integer::IntegerParameter;
@@ -104,10 +104,14 @@ pub enum Primitive {
     ItalicCorrection,
     /// `\ `: a space between words, wherever it stands.
     ControlSpace,
+    /// \indent and \noindent.
+    Indent(Indentation),
+    /// `\-`: a place where a word may be broken.
+    DiscretionaryHyphen,
 }
 
 /// All primitives, in the order of their table.
-const ALL: [Primitive; 204] = [
+const ALL: [Primitive; 207] = [
     Primitive::Relax,
     Primitive::EndCsName,
     Primitive::BeginGroup,
@@ -209,6 +213,9 @@ const ALL: [Primitive; 204] = [
     Primitive::SpaceFactor,
     Primitive::ItalicCorrection,
     Primitive::ControlSpace,
+    Primitive::Indent(Indentation::Indented),
+    Primitive::Indent(Indentation::Flush),
+    Primitive::DiscretionaryHyphen,
     Primitive::Integer(IntegerParameter::Pretolerance),
     Primitive::Integer(IntegerParameter::Tolerance),
     Primitive::Integer(IntegerParameter::Hbadness),
@@ -430,6 +437,9 @@ impl Primitive {
             Primitive::SpaceFactor => b"spacefactor",
             Primitive::ItalicCorrection => b"/",
             Primitive::ControlSpace => b" ",
+            Primitive::Indent(Indentation::Indented) => b"indent",
+            Primitive::Indent(Indentation::Flush) => b"noindent",
+            Primitive::DiscretionaryHyphen => b"-",
             Primitive::Integer(parameter) => parameter.name(),
             Primitive::Dimension(parameter) => parameter.name(),
             Primitive::Tokens(parameter) => parameter.name(),
@@ -470,6 +480,8 @@ impl Primitive {
             Primitive::NullFont | Primitive::LoadFont => Modes::All,
             Primitive::FontDimen | Primitive::FontInteger(_) => Modes::All,
             Primitive::Char | Primitive::ControlSpace => Modes::NotVertical,
+            Primitive::DiscretionaryHyphen => Modes::NotVertical,
+            Primitive::Indent(_) => Modes::All,
             Primitive::ItalicCorrection => Modes::OutsideVertical,
             Primitive::SpaceFactor => Modes::OnlyHorizontal,
             Primitive::Par => Modes::NotMath,

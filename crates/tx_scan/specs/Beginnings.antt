@@ -100,6 +100,8 @@ begun_by_command primitive.LoadFont = no_number
 begun_by_command primitive.Char = no_number
 begun_by_command primitive.ItalicCorrection = no_number
 begun_by_command primitive.ControlSpace = no_number
+begun_by_command (primitive.Indent how) = no_number
+begun_by_command primitive.DiscretionaryHyphen = no_number
 
 -- a name that \chardef or \mathchardef defined is its number, and that of a register stands for its value; what means a
 -- space is one

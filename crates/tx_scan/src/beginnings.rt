@@ -92,6 +92,7 @@ fn begun_by_command(command: Primitive) -> Beginning
         Primitive::FontInteger(kind) => Beginning::FontInteger(kind),
         Primitive::NullFont | Primitive::LoadFont | Primitive::Char => nothing(),
         Primitive::ItalicCorrection | Primitive::ControlSpace => nothing(),
+        Primitive::Indent(_) | Primitive::DiscretionaryHyphen => nothing(),
         Primitive::Tokens(_) => nothing(),
         Primitive::Relax | Primitive::Par | Primitive::End => nothing(),
         Primitive::IgnoreSpaces | Primitive::Interaction(_) => nothing(),

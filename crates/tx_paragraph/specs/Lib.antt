@@ -1,0 +1,4 @@
+pub mod Beginning
+pub mod Shapes
+pub mod Parameters
+pub mod Ending

@@ -1,0 +1,44 @@
+-- The shapes of a paragraph's lines (TeX: The Program, sections 847 to 849; The TeXbook, chapter 14).
+use Rattle.std.specs.Prelude.{ℕ, ◌+◌, min, ℤ, pos, ◌-ℤ◌, ◌==◌, int_lt, int_le, unsigned_abs, if◌then◌else◌, List, [], ◌∷◌, ◌++◌, length, replicate}
+use Rattle.tx_eqtb.specs.declared.table.Table.{Table}
+use Rattle.tx_eqtb.specs.Table.{number_at}
+use Rattle.tx_linebreak.specs.declared.params.LineShape.{LineShape}
+use Rattle.tx_node.specs.Items.{Item}
+use Rattle.tx_prim.specs.declared.dimension.DimensionParameter.TheVariants.{Hangindent, Hsize}
+use Rattle.tx_prim.specs.declared.integer.IntegerParameter.TheVariants.{Hangafter}
+use Rattle.tx_seen.specs.declared.place.Place.TheVariants.{Dimension, Integer}
+
+-- a line as wide as \hsize, and one that hangs: in from the left, or from the right where \hangindent is negative
+abbrev pub plain_line : ℤ → LineShape
+plain_line size = record { indent = pos 0; width = size }
+
+abbrev pub hanging_line : ℤ → ℤ → LineShape
+hanging_line size hang = record {
+  indent = if int_lt (pos 0) hang then hang else pos 0;
+  width = size -ℤ pos (unsigned_abs hang);
+}
+
+-- so many lines of one shape, then the shape of all further ones
+abbrev pub lines_then : ℕ → LineShape → LineShape → List LineShape
+lines_then count first further = replicate count first ++ further ∷ []
+
+-- how many lines \hangafter counts: it may be far more than there are lines, but a list is ended by two items, and has a line
+-- less than items then, or fewer, and one more at its end; so lines past this count are never asked for
+abbrev pub first_lines : ℤ → List Item → ℕ
+first_lines after list = min (unsigned_abs after) (length list + 2)
+
+-- the first lines are plain and all others hang, or the other way round where \hangafter is negative
+abbrev pub hanging : ℤ → ℤ → ℤ → List Item → List LineShape
+hanging size hang after list =
+    if int_le (pos 0) after
+    then lines_then (first_lines after list) (plain_line size) (hanging_line size hang)
+    else lines_then (first_lines after list) (hanging_line size hang) (plain_line size)
+
+-- the shapes of the lines of a list by \hsize, \hangindent and \hangafter: all are plain where nothing hangs
+abbrev pub shape_by : ℤ → ℤ → ℤ → List Item → List LineShape
+shape_by size hang after list =
+    if unsigned_abs hang == 0 then plain_line size ∷ [] else hanging size hang after list
+
+abbrev pub shape_of : Table → List Item → List LineShape
+shape_of table list =
+    shape_by (number_at table (Dimension Hsize)) (number_at table (Dimension Hangindent)) (number_at table (Integer Hangafter)) list
