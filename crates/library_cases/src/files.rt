@@ -13,7 +13,7 @@ struct Desk {
     seen: Seen,
 }
 
-/// `line FROM TEXT`, the line that begins there; `lines TEXT`, how many there are; `name TEXT`, whether it is one.
+/// `line FROM TEXT`, the line that begins there; `lines TEXT`, how many there are.
 pub fn write_answer(
     alloc: Global,
     text: &mut String,
@@ -26,10 +26,6 @@ pub fn write_answer(
             let bytes = bytes_of(alloc, rest)?;
             write!(text, "{}", line_count(bytes.as_slice()))
         }
-        "name" => match name_of(alloc, rest)? {
-            Some(_) => text.push_str("a name"),
-            None => text.push_str("no name"),
-        },
         _ => text.push_str("malformed"),
     }
 }

@@ -1,22 +1,19 @@
 //! Runs the worked cases of the libraries in the files that the words of its command line name, and prints how many there
-//! are in each, or those that come out otherwise. Each module says what its cases are given.
+//! are in each, or those that come out otherwise: what no document shows, or not at the borders. Each module says what its
+//! cases are given.
 //!
-//! Read `numbers`, `files`, `scripts`, `pages`, `tokens`, `names`, `primitives`, `lists`, `boxes` and
-//! `packing`, `paragraphs`, and `outside`.
+//! Read `numbers`, `files`, `scripts`, `primitives`, `lists`, `boxes` and `packing`, `paragraphs`, and `outside`.
 #![tactic(auto)]
 
 mod boxes;
 mod files;
 mod lists;
-mod names;
 mod numbers;
 mod outside;
 mod packing;
-mod pages;
 mod paragraphs;
 mod primitives;
 mod scripts;
-mod tokens;
 
 use std::alloc::{AllocError, Global};
 use std::io;
@@ -53,9 +50,6 @@ fn write_lines(
 ) -> Result<(), AllocError> {
     match word {
         "files" => files::write_play(alloc, text, lines),
-        "pages" => pages::write_answer(alloc, text, rest, lines),
-        "maps" => names::write_play(alloc, text, lines),
-        "memory" => outside::write_memory(alloc, text, rest, lines),
         _ => write_row(alloc, text, word, rest),
     }
 }
@@ -63,22 +57,12 @@ fn write_lines(
 /// Writes the answer to a case of one line.
 fn write_row(alloc: Global, text: &mut String, word: &str, rest: &str) -> Result<(), AllocError> {
     match word {
-        "line" | "lines" | "name" => files::write_answer(alloc, text, word, rest),
+        "line" | "lines" => files::write_answer(alloc, text, word, rest),
         "script" | "front" => scripts::write_answer(alloc, text, word, rest),
-        "primitive"
-        | "primitives"
-        | "expandable"
-        | "expandables"
-        | "test"
-        | "begins"
-        | "place"
-        | "standing" => { primitives::write_answer(text, word, rest) }
+        "test" | "place" | "standing" => primitives::write_answer(text, word, rest),
         "box" | "twin" | "alike" | "page" | "body" => boxes::write_answer(alloc, text, word, rest),
         "hpack" | "vpack" => packing::write_answer(alloc, text, word, rest),
         "breaks" => paragraphs::write_answer(alloc, text, rest),
-        "category" | "change" | "same" | "copy" | "tokens" | "middle" | "ended" => {
-            tokens::write_answer(alloc, text, word, rest)
-        }
         _ => numbers::write_answer(alloc, text, word, rest),
     }
 }

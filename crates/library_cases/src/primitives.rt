@@ -1,48 +1,20 @@
 //! Cases of tx_prim.
 use std::alloc::AllocError;
-use tx_cases::{first_word, write_bytes};
-use tx_prim::{Expandable, Mode, Moment, Primitive, Test};
+use tx_cases::first_word;
+use tx_prim::{Expandable, Mode, Primitive, Test};
 
-/// When the run begins.
-const BEGUN: Moment = Moment {
-    year: 2024,
-    month: 5,
-    day: 17,
-    time: 570,
-};
-
-/// - `primitive NAME`, the name of the primitive to which this name leads, or `none`; `primitives`, how many there are;
-/// - `expandable NAME` and `expandables`, the same of those that are expanded;
 /// - `test NAME MODE`, whether the mode passes this conditional's test;
-/// - `begins NAME`, the value with which INITEX begins; `place NAME`, a parameter's place in the book's order;
+/// - `place NAME`, a parameter's place in the book's order;
 /// - `standing NAME MODE`, the modes in which it may stand, and what becomes of it in this one.
 pub fn write_answer(text: &mut String, word: &str, rest: &str) -> Result<(), AllocError> {
     let (name, mode) = first_word(rest);
     match word {
-        "primitives" => write!(text, "{}", Primitive::all().len()),
-        "primitive" => match Primitive::of_name(name.as_bytes()) {
-            Some(primitive) => write_bytes(text, primitive.name()),
-            None => text.push_str("none"),
-        },
-        "expandables" => write!(text, "{}", Expandable::all().len()),
-        "expandable" => match Expandable::of_name(name.as_bytes()) {
-            Some(expandable) => write_bytes(text, expandable.name()),
-            None => text.push_str("none"),
-        },
         "test" => write_test(text, name, mode),
         "standing" => match Primitive::of_name(name.as_bytes()) {
             Some(primitive) => write_standing(text, primitive, mode),
             None => text.push_str("malformed"),
         },
-        "begins" => write_beginning(text, name),
         _ => write_place(text, name),
-    }
-}
-
-fn write_beginning(text: &mut String, name: &str) -> Result<(), AllocError> {
-    match Primitive::of_name(name.as_bytes()) {
-        Some(Primitive::Integer(parameter)) => { write!(text, "{}", parameter.initial(&BEGUN)) }
-        _ => text.push_str("malformed"),
     }
 }
 
