@@ -12,7 +12,7 @@ use Rattle.tx_linebreak.specs.declared.params.Pass.{Pass}
 use Rattle.tx_linebreak.specs.declared.params.Pass.TheVariants.{First, Second, Emergency}
 use Rattle.tx_linebreak.specs.declared.piece.Piece.{Piece}
 use Rattle.tx_linebreak.specs.Chains.{Chain, chains_of, is_last_pass}
-use Rattle.tx_linebreak.specs.Chosen.{IsAnswer, IsBest, IsBestAnswer, IsEnded, attempt, beats, first_with_chain, is_empty, passes_of}
+use Rattle.tx_linebreak.specs.Chosen.{IsAnswer, IsBest, IsBestAnswer, IsEnded, attempt, beats, first_succeeds, first_with_chain, is_empty, passes_of}
 use Rattle.tx_linebreak.specs.Kept.{all_offered, last_chains, last_special}
 use Rattle.tx_linebreak.specs.Lines.{Attempt}
 use Rattle.tx_linebreak.specs.Shared.{chain_of}
@@ -131,3 +131,21 @@ module _ (pieces : List Piece) (shape : List LineShape) (params : BreakParams) w
   pub passes-by : (a : Attempt) (found : Option Chosen) → a ≡ attempt pieces shape params First → found ≡ None → IfNone found (chains_of a ≡ []) → Passes
   passes-by a found is found_is none =
       inr (has-none (attempt pieces shape params First) (subst (λ (x : Attempt). chains_of x ≡ []) is (subst (λ (o : Option Chosen). IfNone o (chains_of a ≡ [])) found_is none)))
+
+  -- the first pass is made: its answer, or that it has no chain
+  pub first-some : (a : Attempt) (found : Option Chosen) → a ≡ attempt pieces shape params First → int_le (pos 0) params.pretolerance ≡ true → IfSome found (IsBestAnswer a) → IfSome found (λ chosen. (first_succeeds pieces shape params ≡ true) × IsAnswer pieces shape params chosen)
+  first-some a None is made some = tt
+  first-some a (Some chosen) is made some =
+      let best = best-answer a (Some chosen) chosen First is refl some in
+      let has = has-one (attempt pieces shape params First) best.0 best.1 in
+      (rw (made, has) refl, (First, best.0, record { is_first = rw (made, has) refl; is_best = best.1 }, best.2))
+
+  pub first-none : (a : Attempt) (found : Option Chosen) → a ≡ attempt pieces shape params First → int_le (pos 0) params.pretolerance ≡ true → IfNone found (chains_of a ≡ []) → IfNone found (first_succeeds pieces shape params ≡ false)
+  first-none a (Some chosen) is made none = tt
+  first-none a None is made none =
+      let empty = has-none (attempt pieces shape params First) (subst (λ (x : Attempt). chains_of x ≡ []) is none) in
+      rw (made, empty) refl
+
+  -- it isn't made
+  pub first-skipped : int_le (pos 0) params.pretolerance ≡ false → first_succeeds pieces shape params ≡ false
+  first-skipped skipped = rw skipped refl

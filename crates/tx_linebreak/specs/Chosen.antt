@@ -78,6 +78,10 @@ first_with_chain pieces shape params [] = None
 first_with_chain pieces shape params (pass ∷ passes) =
     if is_empty (chains_of (attempt pieces shape params pass)) then first_with_chain pieces shape params passes else Some pass
 
+-- the first pass is made, and has a chain
+abbrev pub first_succeeds : List Piece → List LineShape → BreakParams → Bool
+first_succeeds pieces shape params = int_le (pos 0) params.pretolerance && not (is_empty (chains_of (attempt pieces shape params First)))
+
 -- what is told of a chain: the places of its breaks, its demerits, its pass, and the places where no line fitted
 abbrev pub places_of : Chain → List ℕ
 places_of chain = reverse (map (λ line. line.place) chain)

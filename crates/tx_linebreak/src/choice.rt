@@ -1,9 +1,9 @@
 //! The breaks that are chosen.
-ghost use Rattle.std.specs.Prelude.{◌≡◌, ◌↔◌, ◌<◌, ◌^◌, [], true, length, Err, IfNone, IfSome, IfOk, IsSome};
+ghost use Rattle.std.specs.Prelude.{◌≡◌, ◌↔◌, ◌<◌, ◌^◌, [], true, false, length, Err, IfNone, IfSome, IfOk, IsSome};
 ghost use Rattle.tx_linebreak.specs.declared.error.BreakError.TheVariants.{InfiniteShrink};
 ghost use Rattle.tx_linebreak.specs.declared.params.Pass.TheVariants.{Emergency};
 ghost use Rattle.tx_linebreak.specs.Chains.{chains_of, is_last_pass};
-ghost use Rattle.tx_linebreak.specs.Chosen.{IsAnswer, IsBestAnswer, IsEnded, attempt, has_endless_shrink};
+ghost use Rattle.tx_linebreak.specs.Chosen.{IsAnswer, IsBestAnswer, IsEnded, attempt, first_succeeds, has_endless_shrink};
 ghost use Rattle.tx_linebreak.specs.Lines.{background, skips};
 ghost use Rattle.tx_linebreak.specs.Sums.{AreStarts, AreSums};
 ghost use Rattle.tx_linebreak.specs.Tasks.{IsTask, attempt_of};
@@ -92,6 +92,29 @@ impl<'a> Task<'a> {
     }
 }
 
+/// What the first pass finds; None where it isn't made, or has no chain.
+fn find_first(
+    alloc: Global,
+    pieces: &[Piece],
+    sums: &[Totals],
+    starts: &[usize],
+    shape: &[LineShape],
+    params: &BreakParams,
+) -> Result<Option<Chosen>, AllocError>
+    requires sums { AreSums sums.now pieces.now }
+    requires starts { AreStarts starts.now pieces.now }
+    requires shaped { 0 < length shape.now }
+    requires ended { IsEnded pieces.now }
+    ensures none { IfOk result (λ found. IfNone found (first_succeeds pieces.now shape.now params.now ≡ false)) }
+    ensures some { IfOk result (λ found. IfSome found (λ chosen. (first_succeeds pieces.now shape.now params.now ≡ true) × IsAnswer pieces.now shape.now params.now chosen)) }
+{
+    if params.pretolerance < 0 {
+        return Ok(None);
+    }
+    let first = Task::new(pieces, sums, starts, shape, params, Pass::First);
+    first.find(alloc)
+}
+
 /// The answer of the first pass that has a chain.
 fn choose(
     alloc: Global,
@@ -150,4 +173,30 @@ pub fn breaks(
     let starts = running_starts(alloc, list)?;
     let (sums, starts) = (sums.as_slice(), starts.as_slice());
     Ok(choose(alloc, list, sums, starts, shape.as_slice(), params)?)
+}
+
+/// The breaks of the first pass alone, as `breaks` answers them; None where this pass isn't made, or has no chain, so that words are
+/// to be hyphenated for the others (TeX: The Program, section 863). The list ends as for `breaks`, and there is a shape.
+///
+/// Its errors are those of `breaks`.
+pub fn first_breaks(
+    alloc: Global,
+    pieces: &Pieces,
+    shape: &Shape,
+    params: &BreakParams,
+) -> Result<Option<Chosen>, BreakError>
+    requires shaped { 0 < length shape.now }
+    requires ended { IsEnded pieces.now }
+    ensures none { IfOk result (λ found. IfNone found (first_succeeds pieces.now shape.now params.now ≡ false)) }
+    ensures some { IfOk result (λ found. IfSome found (λ chosen. (first_succeeds pieces.now shape.now params.now ≡ true) × IsAnswer pieces.now shape.now params.now chosen)) }
+    ensures endless { (result ≡ Err InfiniteShrink) ↔ (has_endless_shrink pieces.now params.now ≡ true) }
+{
+    let list = pieces.as_slice();
+    if has_endless_shrink(list, params) {
+        return Err(BreakError::InfiniteShrink);
+    }
+    let sums = running_sums(alloc, list)?;
+    let starts = running_starts(alloc, list)?;
+    let (sums, starts) = (sums.as_slice(), starts.as_slice());
+    Ok(find_first(alloc, list, sums, starts, shape.as_slice(), params)?)
 }

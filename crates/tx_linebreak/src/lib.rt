@@ -37,7 +37,7 @@ mod trial;
 mod trials;
 
 pub use answer::{Chosen, Places};
-pub use choice::breaks;
+pub use choice::{breaks, first_breaks};
 pub use ended::is_ended;
 pub use error::BreakError;
 pub use law::one_chain_for_each_candidate_is_enough;

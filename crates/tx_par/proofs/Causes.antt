@@ -1,18 +1,18 @@
 -- What comes of a paragraph.
-use Rattle.std.proofs.Common.{◌≡◌, ◌≢◌, ◌↔◌, Bool, true, false, cond, List, Result, Ok, Err, IfOk, IfErr, refl, sym, ap, subst, ◌∙◌, true≢false}
+use Rattle.std.proofs.Common.{◌≡◌, ◌≢◌, ◌↔◌, Bool, true, false, cond, List, None, Some, Result, Ok, Err, IfOk, IfErr, refl, sym, ap, subst, ◌∙◌, true≢false}
 use Rattle.tx_linebreak.specs.declared.answer.Chosen.{Chosen}
 use Rattle.tx_linebreak.specs.declared.error.BreakError.{BreakError}
 use Rattle.tx_linebreak.specs.declared.error.BreakError.TheVariants as breaking
 use Rattle.tx_linebreak.specs.declared.params.LineShape.{LineShape}
 use Rattle.tx_linebreak.specs.declared.piece.Piece.{Piece}
-use Rattle.tx_linebreak.specs.Chosen.{IsAnswer, has_endless_shrink}
+use Rattle.tx_linebreak.specs.Chosen.{IsAnswer, first_succeeds, has_endless_shrink}
 use Rattle.tx_node.specs.Items.{Item}
 use Rattle.tx_par.specs.declared.error.ParError.{ParError}
 use Rattle.tx_par.specs.declared.error.ParError.TheVariants.{SizeOutOfRange, TooDeep, EndlessShrink, OutOfMemory}
 use Rattle.tx_par.specs.declared.lines.Lines.{Lines}
 use Rattle.tx_par.specs.declared.params.ParParams.{ParParams}
 use Rattle.tx_par.specs.Ended.{ended}
-use Rattle.tx_par.specs.Paragraphs.{IsOutcome, lines_by, lines_by_trial, lines_of, paragraph, shrinks_endlessly}
+use Rattle.tx_par.specs.Paragraphs.{IsOutcome, first_lines, if_first, lines_by, lines_by_trial, lines_of, paragraph, shrinks_endlessly}
 use Rattle.tx_par.specs.Pieces.{pieces_of}
 use Rattle.tx_par.specs.Setting.{IsOfLines}
 use Rattle.tx_par.proofs.Unique.{answer-found}
@@ -84,3 +84,32 @@ paragraph-from list shape params items pieces chosen items_is pieces_is fin answ
     by-chosen items shape params chosen (subst (λ (ps : List Piece). IsAnswer ps shape params.breaking chosen) pieces_is answer)
     ∙ ap (λ (its : List Item). lines_by_trial its shape params) items_is
     ∙ sym (ap (λ (b : Bool). cond b (Err EndlessShrink) (lines_by_trial last shape params)) (subst (λ (ps : List Piece). has_endless_shrink ps params.breaking ≡ false) (pieces_is ∙ ap pieces_of items_is) fin))
+
+-- the first pass has a chain: its lines are those of the list that was ended
+pub first-from : (list : List Item) (shape : List LineShape) (params : ParParams) (items : List Item) (pieces : List Piece) (chosen : Chosen)
+    → items ≡ ended params.par_fill_skip list → pieces ≡ pieces_of items → has_endless_shrink pieces params.breaking ≡ false
+    → first_succeeds pieces shape params.breaking ≡ true → IsAnswer pieces shape params.breaking chosen
+    → Some (lines_of items shape params chosen) ≡ first_lines list shape params
+first-from list shape params items pieces chosen items_is pieces_is fin succeeds answer =
+    let last : List Item = ended params.par_fill_skip list in
+    let is : pieces ≡ pieces_of last = pieces_is ∙ ap pieces_of items_is in
+    let finite : has_endless_shrink (pieces_of last) params.breaking ≡ false = subst (λ (ps : List Piece). has_endless_shrink ps params.breaking ≡ false) is fin in
+    let first : first_succeeds (pieces_of last) shape params.breaking ≡ true = subst (λ (ps : List Piece). first_succeeds ps shape params.breaking ≡ true) is succeeds in
+    ap (λ (outcome : Result Lines ParError). Some outcome)
+    (by-chosen items shape params chosen (subst (λ (ps : List Piece). IsAnswer ps shape params.breaking chosen) pieces_is answer)
+    ∙ ap (λ (its : List Item). lines_by_trial its shape params) items_is)
+    ∙ sym
+    (ap (λ (b : Bool). cond b (Some (Err EndlessShrink)) (if_first (first_succeeds (pieces_of last) shape params.breaking) (lines_by_trial last shape params))) finite
+    ∙ ap (λ (b : Bool). if_first b (lines_by_trial last shape params)) first)
+
+-- it has none
+pub not-first : (list : List Item) (shape : List LineShape) (params : ParParams) (items : List Item) (pieces : List Piece)
+    → items ≡ ended params.par_fill_skip list → pieces ≡ pieces_of items → has_endless_shrink pieces params.breaking ≡ false
+    → first_succeeds pieces shape params.breaking ≡ false → first_lines list shape params ≡ None
+not-first list shape params items pieces items_is pieces_is fin fails =
+    let last : List Item = ended params.par_fill_skip list in
+    let is : pieces ≡ pieces_of last = pieces_is ∙ ap pieces_of items_is in
+    let finite : has_endless_shrink (pieces_of last) params.breaking ≡ false = subst (λ (ps : List Piece). has_endless_shrink ps params.breaking ≡ false) is fin in
+    let not : first_succeeds (pieces_of last) shape params.breaking ≡ false = subst (λ (ps : List Piece). first_succeeds ps shape params.breaking ≡ false) is fails in
+    ap (λ (b : Bool). cond b (Some (Err EndlessShrink)) (if_first (first_succeeds (pieces_of last) shape params.breaking) (lines_by_trial last shape params))) finite
+    ∙ ap (λ (b : Bool). if_first b (lines_by_trial last shape params)) not

@@ -6,7 +6,7 @@ use Rattle.tx_linebreak.specs.declared.error.BreakError.TheVariants as breaking
 use Rattle.tx_linebreak.specs.declared.params.LineShape.{LineShape}
 use Rattle.tx_linebreak.specs.declared.piece.Piece.{Piece}
 use Rattle.tx_linebreak.specs.Breaks.{discretionary_at}
-use Rattle.tx_linebreak.specs.Chosen.{IsAnswer, answer_by_trial, has_endless_shrink}
+use Rattle.tx_linebreak.specs.Chosen.{IsAnswer, answer_by_trial, first_succeeds, has_endless_shrink}
 use Rattle.tx_node.specs.Items.{Item}
 use Rattle.tx_nest.specs.declared.state.ModeState.TheVariants.{InternalVertical}
 use Rattle.tx_nest.specs.States.{prev_depth}
@@ -58,7 +58,7 @@ with_lines t from lines (place ∷ places) so_far =
 -- before the first line
 abbrev pub none_so_far : ParParams → SoFar
 none_so_far params = record {
-  list = record { state = InternalVertical params.prev_depth; nodes = [] };
+  list = record { state = InternalVertical params.prev_depth; nodes = []; prev_graf = 0 };
   badness = pos 0;
   report = [];
 }
@@ -103,6 +103,16 @@ lines_by_trial items shape params = lines_by items shape params (answer_by_trial
 abbrev pub paragraph : List Item → List LineShape → ParParams → Result Lines ParError
 paragraph list shape params =
     if shrinks_endlessly list params then Err EndlessShrink else lines_by_trial (ended params.par_fill_skip list) shape params
+
+-- what the first pass makes of a list where it is made and has a chain (TeX: The Program, section 863); glue that shrinks infinitely
+-- is looked for before
+abbrev pub if_first : Bool → Result Lines ParError → Option (Result Lines ParError)
+if_first succeeds outcome = if succeeds then Some outcome else None
+
+abbrev pub first_lines : List Item → List LineShape → ParParams → Option (Result Lines ParError)
+first_lines list shape params =
+    if shrinks_endlessly list params then Some (Err EndlessShrink)
+    else if_first (first_succeeds (pieces_of (ended params.par_fill_skip list)) shape params.breaking) (lines_by_trial (ended params.par_fill_skip list) shape params)
 
 -- no glue does, and a list, ended and broken as line breaking chooses, gives these lines, or this error in one of them
 pub record Gives (list : List Item) (shape : List LineShape) (params : ParParams) (outcome : Result Lines ParError) : Type 0 where

@@ -25,6 +25,8 @@ mod so_far;
 mod task;
 
 pub use error::ParError;
+pub use line::Line;
+pub use line_list::line_of;
 pub use lines::Lines;
 pub use params::ParParams;
-pub use set::paragraph;
+pub use set::{first_lines, paragraph};

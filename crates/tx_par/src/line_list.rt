@@ -1,5 +1,5 @@
 //! What stands in a line.
-ghost use Rattle.std.specs.Prelude.{◌≡◌, ◌∷◌, ◌++◌, [], OnOk, filter, slice_get, Some};
+ghost use Rattle.std.specs.Prelude.{◌≡◌, ◌∷◌, ◌++◌, [], IfOk, OnOk, filter, slice_get, Some};
 ghost use Rattle.tx_node.specs.declared.plain.Plain.TheVariants as small;
 ghost use Rattle.tx_node.specs.Items.{plain, shared};
 ghost use Rattle.tx_node.specs.Nodes.{item_of, list_of};
@@ -38,9 +38,18 @@ fn share_all(nodes: &mut Nodes, more: &[Node]) -> Result<(), AllocError>
     Ok(())
 }
 
+/// What of these items stands in a box, and what leaves it and follows it; both share them. Its only error is want of memory.
+pub fn line_of(alloc: Global, items: &[Node]) -> Result<Line, AllocError>
+    ensures { IfOk result (λ line. line ≡ spec.line_of (list_of items.now)) }
+{
+    let mut line = Line::new(alloc);
+    line.share_text(items)?;
+    Ok(line)
+}
+
 impl Line {
     /// A line with nothing in it; takes no memory.
-    pub fn new(alloc: Global) -> Line
+    pub(crate) fn new(alloc: Global) -> Line
         ensures { result ≡ spec.empty_line }
     {
         Line {
@@ -51,7 +60,7 @@ impl Line {
 
     /// Adds an item that it shares with the paragraph's list. After want of memory, its only error, the line may only be dropped.
     #[tactic(auto, using(crate::proofs::Lists::listed))]
-    pub fn share(&mut self, node: &Node) -> Result<(), AllocError>
+    pub(crate) fn share(&mut self, node: &Node) -> Result<(), AllocError>
         ensures { OnOk result (self.new ≡ spec.with_item self.old (item_of node.now)) }
     {
         match node {
@@ -99,14 +108,14 @@ impl Line {
     }
 
     /// Adds glue.
-    pub fn push_glue(&mut self, glue: Glue) -> Result<(), AllocError>
+    pub(crate) fn push_glue(&mut self, glue: Glue) -> Result<(), AllocError>
         ensures { OnOk result (self.new ≡ spec.with_items self.old (plain (small.Glue glue) ∷ [])) }
     {
         self.own.push(Node::Plain(Plain::Glue(glue)))
     }
 
     /// Adds glue, unless all its sizes are 0.
-    pub fn push_glue_unless_zero(&mut self, glue: Glue) -> Result<(), AllocError>
+    pub(crate) fn push_glue_unless_zero(&mut self, glue: Glue) -> Result<(), AllocError>
         ensures { OnOk result (self.new ≡ spec.with_items self.old (spec.glue_unless_zero glue)) }
     {
         if is_zero(&glue) {
@@ -116,7 +125,11 @@ impl Line {
     }
 
     /// Adds the items of a part of the list that stay in lines.
-    pub fn share_between(&mut self, nodes: &[Node], first_pass: bool) -> Result<(), AllocError>
+    pub(crate) fn share_between(
+        &mut self,
+        nodes: &[Node],
+        first_pass: bool,
+    ) -> Result<(), AllocError>
         ensures { OnOk result (self.new ≡ spec.with_items self.old (filter (spec.stays first_pass) (list_of nodes.now))) }
     {
         for node in nodes {
@@ -142,7 +155,11 @@ impl Line {
     }
 
     /// Adds the text that a break, if the line doesn't begin the list, puts at its beginning.
-    pub fn share_carried(&mut self, items: &[Node], from: Option<usize>) -> Result<(), AllocError>
+    pub(crate) fn share_carried(
+        &mut self,
+        items: &[Node],
+        from: Option<usize>,
+    ) -> Result<(), AllocError>
         ensures { OnOk result (self.new ≡ spec.with_items self.old (spec.carried (list_of items.now) from)) }
     {
         let Some(place) = from else {
@@ -208,7 +225,7 @@ impl Line {
     }
 
     /// Adds what stands at the break that ends the line; nothing at the list's end.
-    pub fn share_end(
+    pub(crate) fn share_end(
         &mut self,
         alloc: Global,
         items: &[Node],

@@ -1,5 +1,5 @@
 //! Setting a paragraph.
-ghost use Rattle.std.specs.Prelude.{◌≡◌, ◌≢◌, ◌<◌, length, IfOk, IfErr, OnOk, Ok, Err, None};
+ghost use Rattle.std.specs.Prelude.{◌≡◌, ◌≢◌, ◌<◌, length, IfOk, IfErr, IfNone, IfSome, OnOk, Ok, Err, None, Some};
 ghost use Rattle.tx_num.specs.Glue.{IsDimension};
 ghost use Rattle.tx_node.specs.Nodes.{list_of};
 ghost use Rattle.tx_par.specs.declared.error.ParError.TheVariants.{OutOfMemory};
@@ -21,7 +21,7 @@ use crate::so_far::SoFar;
 use crate::task::Paragraph;
 use std::alloc::{AllocError, Global};
 use tx_bytes::Bytes;
-use tx_linebreak::{BreakError, Chosen, Pieces, Shape, breaks};
+use tx_linebreak::{BreakError, Chosen, Pieces, Shape, breaks, first_breaks};
 use tx_nest::{ModeList, ModeState};
 use tx_node::Nodes;
 
@@ -44,6 +44,7 @@ fn none_so_far(alloc: Global, params: &ParParams) -> SoFar
         list: ModeList {
             state: ModeState::InternalVertical(params.prev_depth),
             nodes: Nodes::new(alloc),
+            prev_graf: 0,
         },
         badness: 0,
         report: Bytes::new(alloc),
@@ -199,4 +200,28 @@ pub fn paragraph(
     let pieces = pieces_of(alloc, items.as_slice())?;
     let chosen = breaks(alloc, &pieces, shape, &params.breaking)?;
     set(alloc, &items, &pieces, shape, params, chosen)
+}
+
+/// Sets a paragraph's list as `paragraph` does where the first pass breaks it; None where this pass isn't made, or has no chain. There
+/// is a shape, and \overfullrule is a dimension. Its errors are those of `paragraph`.
+pub fn first_lines(
+    alloc: Global,
+    list: &Nodes,
+    shape: &Shape,
+    params: &ParParams,
+) -> Result<Option<Lines>, ParError>
+    requires shaped { 0 < length shape.now }
+    requires rule { IsDimension params.now.packing.overfull_rule }
+    ensures none { IfOk result (λ found. IfNone found (spec.first_lines list.now shape.now params.now ≡ None)) }
+    ensures some { IfOk result (λ found. IfSome found (λ lines. spec.first_lines list.now shape.now params.now ≡ Some (Ok lines))) }
+    ensures error { IfErr result (λ e. e ≢ OutOfMemory → spec.first_lines list.now shape.now params.now ≡ Some (Err e)) }
+{
+    let mut items = list.clone()?;
+    end(&mut items, params.par_fill_skip)?;
+    let pieces = pieces_of(alloc, items.as_slice())?;
+    let Some(chosen) = first_breaks(alloc, &pieces, shape, &params.breaking)? else {
+        return Ok(None);
+    };
+    let lines = set(alloc, &items, &pieces, shape, params, chosen)?;
+    Ok(Some(lines))
 }

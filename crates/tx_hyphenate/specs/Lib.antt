@@ -1,0 +1,5 @@
+pub mod Letters
+pub mod Kinds
+pub mod Finding
+pub mod Hyphenated
+pub mod Texts

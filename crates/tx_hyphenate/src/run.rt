@@ -1,0 +1,63 @@
+//! The run that a word stands in, composed anew.
+ghost use Rattle.std.specs.Prelude.{◌≡◌, ◌++◌, ◌≤◌, true, length, drop, take, IsTrue, OnOk};
+ghost use Rattle.std.specs.List.{All};
+ghost use Rattle.tx_tfm.specs.Fonts.{font_integer, has_character};
+ghost use Rattle.tx_word.specs.Divisions.{IsPlaced, divided_list};
+ghost use Rattle.tx_node.specs.Nodes.{list_of};
+ghost use Rattle.tx_hyphenate.specs.Hyphenated as spec;
+
+use std::alloc::{AllocError, Global};
+use tx_node::{Node, Nodes};
+use tx_prim::FontNumber;
+use tx_tfm::Fonts;
+use tx_word::append_divided;
+
+/// Whether a font has all these characters.
+pub(crate) fn are_there(fonts: &Fonts, font: u8, codes: &[u8]) -> bool
+    ensures value { result ≡ spec.are_there fonts.now font codes.now }
+    ensures all { IsTrue result → All (λ code. has_character fonts.now font code ≡ true) codes.now }
+{
+    for code in codes {
+        if !fonts.has_character(font, *code) {
+            return false;
+        }
+    }
+    true
+}
+
+/// Puts nodes at the end of a list. Its only error is want of memory.
+fn append_nodes(list: &mut Nodes, nodes: Vec<Node>) -> Result<(), AllocError>
+    ensures { OnOk result (list.new ≡ list.old ++ list_of nodes.items) }
+{
+    for node in nodes {
+        list.push(node)?;
+    }
+    Ok(())
+}
+
+/// Puts items, of which those from `start` to `end` are a run of these characters, at the end of a list, the run composed anew with
+/// places. Its only error is want of memory.
+pub(crate) fn append_run(
+    alloc: Global,
+    list: &mut Nodes,
+    fonts: &Fonts,
+    font: u8,
+    start: usize,
+    end: usize,
+    codes: &[u8],
+    places: &[usize],
+    items: Nodes,
+) -> Result<(), AllocError>
+    requires order { start ≤ end }
+    requires within { end ≤ length items }
+    requires placed { IsPlaced fonts.now font codes.now places.now }
+    ensures { OnOk result (list.new ≡ list.old ++ (take start items ++ divided_list fonts.now font codes.now true true places.now (font_integer FontNumber.Hyphen fonts.now font) ++ drop end items)) }
+{
+    let mut nodes = items.into_vec();
+    let behind = nodes.split_off(end)?;
+    nodes.truncate(start);
+    append_nodes(list, nodes)?;
+    let hyphen = i64::from(fonts.integer(FontNumber::Hyphen, font));
+    append_divided(alloc, list, fonts, font, codes, true, true, places, hyphen)?;
+    append_nodes(list, behind)
+}
