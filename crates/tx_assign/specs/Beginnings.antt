@@ -55,10 +55,14 @@ primitive_variable primitive.FontDimen = None
 primitive_variable (primitive.FontInteger kind) = None
 primitive_variable primitive.Char = None
 primitive_variable primitive.SpaceFactor = None
+primitive_variable primitive.PrevGraf = None
+primitive_variable primitive.ParShape = None
 primitive_variable primitive.ItalicCorrection = None
 primitive_variable primitive.ControlSpace = None
 primitive_variable (primitive.Indent how) = None
 primitive_variable primitive.DiscretionaryHyphen = None
+primitive_variable primitive.Adjust = None
+primitive_variable primitive.Discretionary = None
 
 -- a register's name of its own is a left side too
 abbrev pub variable_of : Meaning → Option Variable

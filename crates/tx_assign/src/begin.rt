@@ -29,12 +29,14 @@ fn of_primitive(primitive: Primitive) -> Option<Variable>
         Primitive::Unbox(_) | Primitive::Penalty | Primitive::Remove(_) => None,
         Primitive::HorizontalGlue(_) | Primitive::VerticalGlue(_) => None,
         Primitive::Last(_) | Primitive::Badness | Primitive::PrevDepth => None,
+        Primitive::PrevGraf | Primitive::ParShape => None,
         Primitive::Leaders(_) => None,
         Primitive::NullFont | Primitive::LoadFont => None,
         Primitive::FontDimen | Primitive::FontInteger(_) => None,
         Primitive::Char | Primitive::SpaceFactor => None,
         Primitive::ItalicCorrection | Primitive::ControlSpace => None,
         Primitive::Indent(_) | Primitive::DiscretionaryHyphen => None,
+        Primitive::Adjust | Primitive::Discretionary => None,
     }
 }
 

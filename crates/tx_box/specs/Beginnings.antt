@@ -7,7 +7,7 @@ use Rattle.tx_box.specs.declared.parts.Lists.{Lists}
 -- the pages' list alone, empty, and no box
 abbrev pub first_lists : Lists
 first_lists = record {
-  nest = record { innermost = record { state = begun Vertical; nodes = [] }; around = [] };
+  nest = record { innermost = record { state = begun Vertical; nodes = []; prev_graf = 0 }; around = [] };
   badness = pos 0;
   boxes = [];
 }

@@ -1,6 +1,6 @@
 -- How a box begins and ends (TeX: The Program, sections 1083 to 1087).
-use Rattle.std.specs.Prelude.{◌≡◌, ℕ, ℤ, pos, nat_lt, ◌&&◌, List, [], ◌∷◌, length, Option, Some, None, Result, Ok, Err, if◌then◌else◌}
-use Rattle.tx_eqtb.specs.declared.entry.Entry.TheVariants.{Number}
+use Rattle.std.specs.Prelude.{◌≡◌, ℕ, ℤ, pos, Bool, true, false, nat_lt, ◌&&◌, List, [], ◌∷◌, length, Option, Some, None, Result, Ok, Err, if◌then◌else◌}
+use Rattle.tx_eqtb.specs.declared.entry.Entry.TheVariants.{Number, Shape}
 use Rattle.tx_eqtb.specs.declared.eqtb.Eqtb.{Eqtb}
 use Rattle.tx_eqtb.specs.declared.groups.GroupKind.{GroupKind}
 use Rattle.tx_eqtb.specs.declared.groups.GroupKind.TheVariants as group
@@ -8,7 +8,10 @@ use Rattle.tx_eqtb.specs.declared.table.Table.{Table}
 use Rattle.tx_eqtb.specs.Stack.{assigned, opened}
 use Rattle.tx_eqtb.specs.Table.{number_at}
 use Rattle.tx_nest.specs.declared.list.ModeList.{ModeList}
-use Rattle.tx_nest.specs.States.{begun}
+use Rattle.tx_nest.specs.declared.nest.Nest.{Nest}
+use Rattle.tx_nest.specs.declared.state.ModeState.{ModeState}
+use Rattle.tx_nest.specs.declared.state.ModeState.TheVariants.{Vertical, InternalVertical, Horizontal, RestrictedHorizontal, Math, DisplayMath}
+use Rattle.tx_nest.specs.Grafs.{behind_list, list_within}
 use Rattle.tx_node.specs.Items.{Item}
 use Rattle.tx_pack.specs.declared.types.Goal.{Goal}
 use Rattle.tx_pack.specs.declared.types.Goal.TheVariants as goals
@@ -19,6 +22,8 @@ use Rattle.tx_pack.specs.declared.types.PackParams.{PackParams}
 use Rattle.tx_pack.specs.Packing.{hpacked, vpacked}
 use Rattle.tx_pack.specs.Sums.{fits}
 use Rattle.tx_pack.specs.Tops.{top_packed}
+use Rattle.tx_par.specs.declared.line.Line.{Line}
+use Rattle.tx_par.specs.LineLists.{line_of}
 use Rattle.tx_prim.specs.declared.dimension.DimensionParameter.TheVariants.{Boxmaxdepth, Hangindent, Hfuzz, Overfullrule, Vfuzz}
 use Rattle.tx_prim.specs.declared.family.BoxKind.{BoxKind}
 use Rattle.tx_prim.specs.declared.family.BoxKind.TheVariants as kind
@@ -29,7 +34,9 @@ use Rattle.tx_prim.specs.declared.tokens.TokenParameter.{TokenParameter}
 use Rattle.tx_prim.specs.declared.tokens.TokenParameter.TheVariants.{Everyhbox, Everyvbox}
 use Rattle.tx_seen.specs.declared.error.TexError.{TexError}
 use Rattle.tx_seen.specs.declared.error.TexError.TheVariants.{ExtraGroupEnd, SizeOutOfRange, TooDeep, TooManyGroups}
-use Rattle.tx_seen.specs.declared.place.Place.TheVariants.{Dimension, Integer}
+use Rattle.tx_seen.specs.declared.place.Place.TheVariants.{Dimension, Integer, ParShape}
+use Rattle.tx_shape.specs.declared.types.BoxContext.{BoxContext}
+use Rattle.tx_shape.specs.declared.types.BoxContext.TheVariants.{Adjust, Append, Register, Ship}
 use Rattle.tx_shape.specs.declared.types.BoxGoal.{BoxGoal}
 use Rattle.tx_shape.specs.declared.types.BoxGoal.TheVariants.{Natural, Spread, To}
 use Rattle.tx_box.specs.declared.parts.Lists.{Lists}
@@ -37,6 +44,7 @@ use Rattle.tx_box.specs.declared.parts.OpenBox.{OpenBox}
 use Rattle.tx_box.specs.declared.parts.Target.{Target}
 use Rattle.tx_box.specs.Effects.{Effect, Left, leaves}
 use Rattle.tx_box.specs.Placing.{placed}
+use Rattle.tx_box.specs.Sources.{appended}
 
 -- the mode of a box's list, its group, and the tokens that are read first in it (section 1083)
 abbrev pub mode_in : BoxKind → Mode
@@ -57,10 +65,11 @@ every_in kind.Top = Everyvbox
 -- a paragraph's plain shape, until the group ends (section 1070)
 abbrev pub plain_shape : Eqtb → Eqtb
 plain_shape table =
-    assigned (assigned (assigned table
+    assigned (assigned (assigned (assigned table
     (Integer Looseness) (Number (pos 0)))
     (Dimension Hangindent) (Number (pos 0)))
-    (Integer Hangafter) (Number (pos 1))
+    (Integer Hangafter) (Number (pos 1)))
+    ParShape (Shape [])
 
 -- in a vertical box a paragraph has it
 abbrev pub shape_in : BoxKind → Eqtb → Eqtb
@@ -71,7 +80,7 @@ shape_in kind.Top table = plain_shape table
 -- a list begins in the one that is being built, which waits around it
 abbrev pub with_open : Lists → OpenBox → Lists
 with_open lists box = record lists {
-  nest = record { innermost = record { state = begun (mode_in box.kind); nodes = [] }; around = lists.nest.innermost ∷ lists.nest.around };
+  nest = record { innermost = list_within (mode_in box.kind) lists.nest.innermost; around = lists.nest.innermost ∷ lists.nest.around };
   boxes = box ∷ lists.boxes;
 }
 
@@ -151,29 +160,67 @@ pub record Closed : Type 0 where
   pub list : List Item
   pub left : Lists
 
+-- a list ends, and the one around it goes on; None where none waits
+abbrev pub left_list : ModeList → List ModeList → Option Nest
+left_list ended [] = None
+left_list ended (outer ∷ around) = Some (record { innermost = behind_list ended.state ended.prev_graf outer; around = around })
+
 -- None where no box is open, or no list waits
-abbrev pub closed_in : Lists → List OpenBox → List ModeList → Option Closed
-closed_in lists [] around = None
-closed_in lists (box ∷ boxes) [] = None
-closed_in lists (box ∷ boxes) (outer ∷ around) = Some (record {
+abbrev pub closed_in : Lists → List OpenBox → Option Nest → Option Closed
+closed_in lists [] left = None
+closed_in lists (box ∷ boxes) None = None
+closed_in lists (box ∷ boxes) (Some left) = Some (record {
   box = box;
   list = lists.nest.innermost.nodes;
-  left = record lists { boxes = boxes; nest = record { innermost = outer; around = around } };
+  left = record lists { boxes = boxes; nest = left };
 })
 
 abbrev pub closed_list : Lists → Option Closed
-closed_list lists = closed_in lists lists.boxes lists.nest.around
+closed_list lists = closed_in lists lists.boxes (left_list lists.nest.innermost lists.nest.around)
 
 -- the same in code
 abbrev pub IsClosed : Option Closed → Option (OpenBox × List Item) → Lists → Type 0
 IsClosed None found left = found ≡ None
 IsClosed (Some closed) found left = (found ≡ Some (closed.box, closed.list)) × (left ≡ closed.left)
 
+-- an \hbox that is appended to a vertical list lets its marks, its insertions and the lists of its \vadjust out, which follow it
+-- (sections 655, 1076 and 1083)
+abbrev pub is_vertical : ModeState → Bool
+is_vertical (Vertical depth) = true
+is_vertical (InternalVertical depth) = true
+is_vertical (Horizontal factor) = false
+is_vertical (RestrictedHorizontal factor) = false
+is_vertical Math = false
+is_vertical DisplayMath = false
+
+abbrev pub line_in : BoxKind → BoxContext → ModeState → List Item → Line
+line_in kind.Horizontal (Append shift) state list = if is_vertical state then line_of list else record { own = list; behind = [] }
+line_in box context state list = record { own = list; behind = [] }
+
+abbrev pub followed : List Item → Result Ended TexError → Result Ended TexError
+followed [] ended = ended
+followed (item ∷ rest) (Err error) = Err error
+followed (item ∷ rest) (Ok ended) = Ok (record ended { left = record ended.left { lists = appended ended.left.lists (item ∷ rest) } })
+
+-- the list of a \vadjust may be as deep as a dimension is (section 1100)
+abbrev pub most_in : BoxContext → ℤ → ℤ
+most_in (Append shift) most = most
+most_in (Register n) most = most
+most_in Ship most = most
+most_in Adjust most = pos 1073741823
+
+-- of what stands in the box it is made
+abbrev pub boxing_line : OpenBox → ℤ → Lists → Eqtb → Line → Result Ended TexError
+boxing_line box most lists table line =
+    followed line.behind
+    (boxing box.target lists table (packed_if box.kind (goal_of box.goal) (most_in box.target.context most) table.table line.own))
+
 -- a box ends, whose group has ended: this is the table around it
 abbrev pub ending_of : ℤ → Eqtb → Option Closed → Result Ended TexError
 ending_of most table None = Err ExtraGroupEnd
 ending_of most table (Some closed) =
-    boxing closed.box.target closed.left table (packed_if closed.box.kind (goal_of closed.box.goal) most table.table closed.list)
+    boxing_line closed.box most closed.left table
+    (line_in closed.box.kind closed.box.target.context closed.left.nest.innermost.state closed.list)
 
 abbrev pub ending : ℤ → Lists → Eqtb → Result Ended TexError
 ending most lists table = ending_of most table (closed_list lists)

@@ -1,24 +1,28 @@
 //! How a box begins and ends.
-ghost use Rattle.std.specs.Prelude.{◌≡◌, ◌≢◌, [], Ok, Err, IfOk, IfErr, OnOk};
+ghost use Rattle.std.specs.Prelude.{◌≡◌, ◌≢◌, [], Some, Ok, Err, IfOk, IfErr, OnOk};
+ghost use Rattle.tx_eqtb.specs.declared.eqtb.Eqtb.{Eqtb};
 ghost use Rattle.tx_num.specs.Glue.{IsDimension};
 ghost use Rattle.tx_pack.specs.Packing.{IsGoal};
 ghost use Rattle.tx_pack.specs.declared.types.PackError.TheVariants.{OutOfMemory};
 ghost use Rattle.tx_box.specs.Building as spec;
 ghost use Rattle.tx_box.specs.Effects.{told};
 
-use crate::kinds::{goal_of, group_of, mode_in, size_in};
+use crate::kinds::{goal_of, group_of, is_vertical, mode_in, most_in, size_in};
+use crate::leaving::{all_own, split_list};
 use crate::parameters::{across, dimension, down};
 use crate::parts::{Done, Lists, OpenBox, Target};
 use crate::placing::place;
 use std::alloc::{AllocError, Global};
 use tx_bytes::Bytes;
-use tx_eqtb::{Entry, Eqtb, OpenError};
-use tx_nest::ModeList;
+use tx_eqtb::{Entry, Eqtb, OpenError, ParShape};
+use tx_nest::{ModeList, ModeState, Nest, append_items, go_on_behind};
 use tx_node::Nodes;
 use tx_num::Range;
 use tx_pack::{Goal, PackError, PackParams, Packed, hpack, vpack, vtop};
+use tx_par::Line;
 use tx_prim::{BoxKind, DimensionParameter, IntegerParameter};
 use tx_seen::{Place, TexError};
+use tx_shape::BoxContext;
 
 /// What a box's end answers, and the transcript's line of the box, if it has one.
 #[derive(Drop)]
@@ -43,7 +47,8 @@ pub fn reset_shape(table: &mut Eqtb) -> Result<(), AllocError>
     table.assign(
         Place::Integer(IntegerParameter::Hangafter),
         Entry::Number(1),
-    )
+    )?;
+    table.assign(Place::ParShape, Entry::Shape(ParShape::none()))
 }
 
 /// In a vertical box a paragraph has its plain shape. After want of memory, its only error, the table may only be dropped.
@@ -60,9 +65,8 @@ fn shape(table: &mut Eqtb, kind: BoxKind) -> Result<(), AllocError>
 fn open_list(alloc: Global, lists: &mut Lists, new_box: OpenBox) -> Result<(), AllocError>
     ensures { OnOk result (lists.new ≡ spec.with_open lists.old new_box) }
 {
-    lists
-        .nest
-        .push(ModeList::new(alloc, mode_in(new_box.kind)))?;
+    let list = ModeList::within(alloc, mode_in(new_box.kind), lists.nest.innermost());
+    lists.nest.push(list)?;
     lists.boxes.push(new_box)
 }
 
@@ -165,7 +169,53 @@ fn use_packed(
     Ok(Ended { done, report })
 }
 
-/// Of a list, at most so many sp deep where it is vertical, the box is made, or can't be.
+/// Of what stands in a box, at most so many sp deep where it is vertical, the box is made, or can't be.
+fn box_own(
+    alloc: Global,
+    lists: &mut Lists,
+    table: &mut Eqtb,
+    most: i64,
+    ended: OpenBox,
+    own: Nodes,
+) -> Result<Ended, AllocError>
+    ensures { IfOk result (λ made. spec.boxing ended.target lists.old table.old (spec.packed_if ended.kind (spec.goal_of ended.goal) most table.old.table own) ≡ spec.reported made.report (told made.done lists.new table.new)) }
+{
+    match packed(alloc, ended.kind, goal_of(ended.goal), most, table, own) {
+        Ok(made) => use_packed(alloc, lists, table, ended.target, made),
+        Err(PackError::SizeOutOfRange) => Ok(wrong(alloc, TexError::SizeOutOfRange)),
+        Err(PackError::TooDeep) => Ok(wrong(alloc, TexError::TooDeep)),
+        Err(PackError::OutOfMemory) => Err(AllocError),
+    }
+}
+
+/// What leaves a box follows it, unless the box is wrong. Its only error is want of memory.
+fn follow(lists: &mut Lists, ended: Ended, behind: Nodes) -> Result<Ended, AllocError>
+    ensures { (table : Eqtb) → IfOk result (λ made. spec.followed behind (spec.reported ended.report (told ended.done lists.old table)) ≡ spec.reported made.report (told made.done lists.new table)) }
+{
+    if behind.len() > 0 {
+        append_items(lists.nest.top(), behind)?;
+    }
+    Ok(ended)
+}
+
+/// What of a list stands in its box, and what leaves it, where the list around is in this mode. Its only error is want of memory.
+fn line_in(
+    alloc: Global,
+    ended: OpenBox,
+    around: ModeState,
+    list: Nodes,
+) -> Result<Line, AllocError>
+    ensures { IfOk result (λ line. line ≡ spec.line_in ended.kind ended.target.context around list) }
+{
+    match (ended.kind, ended.target.context) {
+        (BoxKind::Horizontal, BoxContext::Append(_)) if is_vertical(around) => {
+            split_list(alloc, list)
+        }
+        (_, _) => Ok(all_own(alloc, list)),
+    }
+}
+
+/// Of a list, at most so many sp deep where it is vertical, the box is made, or can't be, and what leaves it follows it.
 fn box_list(
     alloc: Global,
     lists: &mut Lists,
@@ -174,14 +224,27 @@ fn box_list(
     ended: OpenBox,
     list: Nodes,
 ) -> Result<Ended, AllocError>
-    ensures { IfOk result (λ made. spec.boxing ended.target lists.old table.old (spec.packed_if ended.kind (spec.goal_of ended.goal) most table.old.table list) ≡ spec.reported made.report (told made.done lists.new table.new)) }
+    ensures { IfOk result (λ made. spec.boxing_line ended most lists.old table.old (spec.line_in ended.kind ended.target.context lists.old.nest.innermost.state list) ≡ spec.reported made.report (told made.done lists.new table.new)) }
 {
-    match packed(alloc, ended.kind, goal_of(ended.goal), most, table, list) {
-        Ok(made) => use_packed(alloc, lists, table, ended.target, made),
-        Err(PackError::SizeOutOfRange) => Ok(wrong(alloc, TexError::SizeOutOfRange)),
-        Err(PackError::TooDeep) => Ok(wrong(alloc, TexError::TooDeep)),
-        Err(PackError::OutOfMemory) => Err(AllocError),
-    }
+    let Line { own, behind } = line_in(alloc, ended, lists.nest.innermost().state, list)?;
+    let most = most_in(ended.target.context, most);
+    let made = box_own(alloc, lists, table, most, ended, own)?;
+    follow(lists, made, behind)
+}
+
+/// The items of the list that is being built, which ends; the one around it goes on.
+pub(crate) fn leave_list(nest: &mut Nest) -> Nodes
+    requires { nest.old.around ≢ [] }
+    ensures nodes { result ≡ nest.old.innermost.nodes }
+    ensures left { spec.left_list nest.old.innermost nest.old.around ≡ Some nest.new }
+{
+    let ModeList {
+        state,
+        nodes,
+        prev_graf,
+    } = nest.pop();
+    go_on_behind(nest.top(), state, prev_graf);
+    nodes
 }
 
 /// The innermost open box and its list, which end; None where no box is open, or no list waits around.
@@ -192,7 +255,7 @@ fn close_list(lists: &mut Lists) -> Option<(OpenBox, Nodes)>
         return None;
     }
     match lists.boxes.pop() {
-        Some(ended) => Some((ended, lists.nest.pop().nodes)),
+        Some(ended) => Some((ended, leave_list(&mut lists.nest))),
         None => None,
     }
 }

@@ -5,18 +5,21 @@
 //! exactly when each error comes. Only tested: that this is what TeX does, on documents that Knuth's TeX reads alike
 //! (tools/check-boxes).
 //!
-//! Read `parts`, `kept`, `parameters`, `placing`, `sources`, `kinds`, `building` and `due_work`.
+//! Read `parts`, `kept`, `parameters`, `placing`, `sources`, `kinds`, `leaving`, `building`, `breaks` and `due_work`.
 #![tactic(auto)]
 
+mod breaks;
 mod building;
 mod due_work;
 mod kept;
 mod kinds;
+mod leaving;
 mod parameters;
 mod parts;
 mod placing;
 mod sources;
 
+pub use breaks::{begin_break, end_break};
 pub use building::{Ended, begin_box, end_box, greatest_depth, reset_shape};
 pub use due_work::{copy_list, place_copy};
 pub use kinds::every_in;

@@ -13,8 +13,8 @@ use crate::parameters::leading_of;
 use crate::parts::{Done, Lists, Target, Work};
 use std::alloc::{AllocError, Global};
 use tx_eqtb::{BoxContents, Entry, Eqtb};
-use tx_nest::{NestError, append_box};
-use tx_node::BoxNode;
+use tx_nest::{NestError, append_box, append_item};
+use tx_node::{BoxNode, Node};
 use tx_seen::{Place, TexError};
 use tx_shape::BoxContext;
 
@@ -66,6 +66,18 @@ fn ship(found: Option<BoxNode>) -> Done
     }
 }
 
+/// The list of a box, if there is one, is one item of the list that is being built.
+fn adjust(alloc: Global, lists: &mut Lists, found: Option<BoxNode>) -> Result<Done, AllocError>
+    ensures { (global : Bool) (table : Eqtb) → IfOk result (λ done. spec.placed_in context.Adjust global lists.old table found ≡ told done lists.new table) }
+{
+    let Some(packed) = found else {
+        return Ok(Done::Whole);
+    };
+    let node = Node::from_adjustment(alloc, packed.into_nodes()?)?;
+    append_item(lists.nest.top(), node)?;
+    Ok(Done::Whole)
+}
+
 /// A box, or none, goes where it is to go. After want of memory, its only error, lists and table may only be dropped, here and in
 /// all that follows.
 pub(crate) fn place(
@@ -84,5 +96,6 @@ pub(crate) fn place(
             Ok(Done::Whole)
         }
         BoxContext::Ship => Ok(ship(found)),
+        BoxContext::Adjust => adjust(alloc, lists, found),
     }
 }

@@ -11,7 +11,7 @@ use Rattle.tx_command.specs.declared.at_once.AtOnce.{AtOnce}
 use Rattle.tx_command.specs.declared.types.Head.TheVariants.{Fresh}
 use Rattle.tx_command.specs.AtOnce.{IsMeant, IsWhole, is_horizontal}
 use Rattle.tx_command.specs.Begun.{Begun}
-use Rattle.tx_command.specs.Commands.{command, command_meant, is_begun, standing_command}
+use Rattle.tx_command.specs.Commands.{command, is_begun, standing_command}
 use Rattle.tx_command.specs.Standing.{standing_in}
 
 none-taken : (taken : List Item) → is_begun taken ≡ false → taken ≡ []

@@ -1,7 +1,8 @@
 -- Each part of a command reads on as its scan.
-use Rattle.std.proofs.Common.{◌≡◌, ◌≤◌, ◌||◌, ℕ, true, false, cond, Some, List, [], ◌∷◌, ◌++◌, length, Result, Ok, Err, IfOk, refl, ap, sym, subst, ◌∙◌, arith}
+use Rattle.std.proofs.Common.{◌≡◌, ◌≤◌, ◌||◌, ℕ, ℤ, true, false, cond, Some, List, [], ◌∷◌, ◌++◌, length, Result, Ok, Err, IfOk, refl, ap, sym, subst, ◌∙◌, arith}
 use Rattle.tx_node.specs.declared.rule.Rule.{Rule}
 use Rattle.tx_prim.specs.declared.family.AfterKind.{AfterKind}
+use Rattle.tx_prim.specs.declared.family.BreakText.{BreakText}
 use Rattle.tx_prim.specs.declared.family.DefinitionKind.{DefinitionKind}
 use Rattle.tx_prim.specs.declared.family.GlueForm.{GlueForm}
 use Rattle.tx_prim.specs.declared.family.LeadersKind.{LeadersKind}
@@ -9,10 +10,11 @@ use Rattle.tx_prim.specs.declared.family.RuleKind.{RuleKind}
 use Rattle.tx_prim.specs.declared.primitive.Primitive.TheVariants.{Rule as Rule_primitive}
 use Rattle.tx_seen.specs.declared.meaning.Meaning.TheVariants.{Command as Command_meaning}
 use Rattle.tx_prim.specs.declared.family.Shorthand.{Shorthand}
-use Rattle.tx_prim.specs.declared.family.SizeKind.{SizeKind}
+use Rattle.tx_command.specs.declared.types.SizeUse.{SizeUse}
+use Rattle.tx_command.specs.declared.types.SizeUse.TheVariants as size
 use Rattle.tx_prim.specs.declared.modes.Mode.{Mode}
 use Rattle.tx_prim.specs.declared.modes.Standing.TheVariants.{Stands}
-use Rattle.tx_seen.specs.declared.error.TexError.TheVariants.{NotAllowed, NoAssignment}
+use Rattle.tx_seen.specs.declared.error.TexError.TheVariants.{NoAssignment}
 use Rattle.tx_seen.specs.Seen.{is_space, is_relax, is_undefined}
 use Rattle.tx_seen.specs.declared.fed.Fed.{Fed}
 use Rattle.tx_seen.specs.declared.fed.Fed.TheVariants as fed
@@ -26,9 +28,10 @@ use Rattle.tx_seen.specs.declared.seen.Seen.{Seen}
 use Rattle.tx_seen.specs.Readings.{Reading, More, Done, Wrong, ending, next}
 use Rattle.tx_scan.specs.Rests.{IsFedBy, IsGivenBehind, HoldsOne}
 use Rattle.tx_scan.specs.Supplied.{NeedsNoMore, NeedsFewer, NeedsNothing}
+use Rattle.tx_scan.specs.declared.scans.DimenScan.{DimenScan}
 use Rattle.tx_scan.specs.declared.scans.Measure.{Measure}
 use Rattle.tx_scan.specs.Dimensions.{lengths}
-use Rattle.tx_scan.specs.DimensionRests.{begun_size, held as dimen_held, more_needed as dimen_needed}
+use Rattle.tx_scan.specs.DimensionRests.{begun_size, rest as dimen_rest, held as dimen_held, more_needed as dimen_needed}
 use Rattle.tx_assign.specs.declared.scan.AssignScan.{AssignScan}
 use Rattle.tx_assign.specs.declared.types.Assigning.{Assigning}
 use Rattle.tx_assign.specs.declared.types.Assigning.TheVariants.{Named}
@@ -49,9 +52,9 @@ use Rattle.tx_command.specs.declared.scans.Scans.{Scans}
 use Rattle.tx_command.specs.declared.scans.Stage.{Stage}
 use Rattle.tx_command.specs.declared.scans.Stage.TheVariants as stage
 use Rattle.tx_command.specs.declared.types.Command.{Command}
-use Rattle.tx_command.specs.declared.types.Command.TheVariants.{Nothing, Assign, Keep}
+use Rattle.tx_command.specs.declared.types.Command.TheVariants.{Nothing, Assign, Keep, Sized}
 use Rattle.tx_command.specs.declared.types.Head.{Head}
-use Rattle.tx_command.specs.declared.types.Head.TheVariants.{Fresh, Prefixed, Defining, Future, Leading, Loading}
+use Rattle.tx_command.specs.declared.types.Head.TheVariants.{Fresh, Prefixed, Defining, Future, Leading, Loading, Shaping as Shaping_head, Breaking}
 use Rattle.tx_command.specs.declared.types.Prefixes.{Prefixes}
 use Rattle.tx_command.specs.Commands.{command, command_meant, font_defining, future_defining, load_of, loading, future_of, future_second, keeping, macro_defining, fresh_command, standing_command, may_be_prefixed, prefixed_command, assigning, defining, leaders_of, leaders_rule, leading_command, leading_glue, led_by, repeated, ruling, sizing, skipping, command_of, shaping}
 use Rattle.tx_command.specs.Standing.{standing_in}
@@ -91,7 +94,7 @@ part-goes f s new (fed.Need kind) is on k = absurd k
 part-goes f s new (fed.Done a back) is on k = tt
 part-goes f s new (fed.Wrong error) is on k = tt
 
-pub size-goes : (f : Measure → Command) (kind : SizeKind) (new : Scans) (answer : Fed Measure) → new.stage ≡ stage.Sized kind → HoldsOne (dimen_held new.size) answer → GoesOn new (mapped f answer)
+pub size-goes : (f : Measure → Command) (kind : SizeUse) (new : Scans) (answer : Fed Measure) → new.stage ≡ stage.Sized kind → HoldsOne (dimen_held new.size) answer → GoesOn new (mapped f answer)
 size-goes f kind new (fed.More want) is k = rw is tt
 size-goes f kind new (fed.Need need) is k = rw is (tt, k)
 size-goes f kind new (fed.Done a back) is k = tt
@@ -123,10 +126,10 @@ assign-needs old new answer was is k = rw (was, is) (needs-mapped Assign (assign
 pub assign-fewer : (old new : Scans) (answer : Fed Assignment) → old.stage ≡ stage.Assign → new.stage ≡ stage.Assign → NeedsFewer (assign_needed old.assignment) (assign_needed new.assignment) answer → NeedsFewer (more_needed old) (more_needed new) (mapped Assign answer)
 assign-fewer old new answer was is k = rw (was, is) (fewer-mapped Assign (assign_needed old.assignment) (assign_needed new.assignment) answer k)
 
-pub size-needs : (f : Measure → Command) (kind : SizeKind) (old new : Scans) (answer : Fed Measure) → old.stage ≡ stage.Sized kind → new.stage ≡ stage.Sized kind → NeedsNoMore (dimen_needed old.size) (dimen_needed new.size) answer → NeedsNoMore (more_needed old) (more_needed new) (mapped f answer)
+pub size-needs : (f : Measure → Command) (kind : SizeUse) (old new : Scans) (answer : Fed Measure) → old.stage ≡ stage.Sized kind → new.stage ≡ stage.Sized kind → NeedsNoMore (dimen_needed old.size) (dimen_needed new.size) answer → NeedsNoMore (more_needed old) (more_needed new) (mapped f answer)
 size-needs f kind old new answer was is k = rw (was, is) (needs-mapped f (dimen_needed old.size) (dimen_needed new.size) answer k)
 
-pub size-fewer : (f : Measure → Command) (kind : SizeKind) (old new : Scans) (answer : Fed Measure) → old.stage ≡ stage.Sized kind → new.stage ≡ stage.Sized kind → NeedsFewer (dimen_needed old.size) (dimen_needed new.size) answer → NeedsFewer (more_needed old) (more_needed new) (mapped f answer)
+pub size-fewer : (f : Measure → Command) (kind : SizeUse) (old new : Scans) (answer : Fed Measure) → old.stage ≡ stage.Sized kind → new.stage ≡ stage.Sized kind → NeedsFewer (dimen_needed old.size) (dimen_needed new.size) answer → NeedsFewer (more_needed old) (more_needed new) (mapped f answer)
 size-fewer f kind old new answer was is k = rw (was, is) (fewer-mapped f (dimen_needed old.size) (dimen_needed new.size) answer k)
 
 pub rule-needs : (f : Rule → Command) (kind : RuleKind) (old new : Scans) (answer : Fed Rule) → old.stage ≡ stage.Rule kind → new.stage ≡ stage.Rule kind → NeedsNoMore (rule_needed old.rule) (rule_needed new.rule) answer → NeedsNoMore (more_needed old) (more_needed new) (mapped f answer)
@@ -160,13 +163,16 @@ shape-goes new (fed.Need kind) is k = rw is (k, k.1)
 shape-goes new (fed.Done shaped back) is k = tt
 shape-goes new (fed.Wrong error) is k = tt
 
-pub shape-begun : (what : Shaping) (new : Scans) (answer : Fed Shaped) → new.stage ≡ stage.Shape → BeginsShape (shape what) new.shape answer → Begins (shaping what) new (mapped command_of answer)
-shape-begun what new answer is k = λ mode head. record {
-  reads = mapped-read shape_rest shape_held (command_rest mode head) held command_of 0 (shape what) [] new.shape new answer
+pub shape-begun-by : (reading : List Item → Reading Shaped) (new : Scans) (answer : Fed Shaped) → new.stage ≡ stage.Shape → BeginsShape reading new.shape answer → Begins (λ items. next (reading items) (λ s behind. Done (command_of s) behind)) new (mapped command_of answer)
+shape-begun-by reading new answer is k = λ mode head. record {
+  reads = mapped-read shape_rest shape_held (command_rest mode head) held command_of 0 reading [] new.shape new answer
       (λ behind item more. ap (λ s. stage_rest mode head s new behind item more) is) (ap (λ s. stage_held s new) is) k.reads;
   needs = rw is (needs-mapped command_of 0 (shape_needed new.shape) answer (none-needs 0 (shape_needed new.shape) answer k.fewer));
   goes_on = shape-goes new answer is (none-waits new.shape (shape_needed new.shape) answer k.fewer);
 }
+
+pub shape-begun : (what : Shaping) (new : Scans) (answer : Fed Shaped) → new.stage ≡ stage.Shape → BeginsShape (shape what) new.shape answer → Begins (shaping what) new (mapped command_of answer)
+shape-begun what new answer is k = shape-begun-by (shape what) new answer is k
 
 -- what \font takes
 pub load-needs : (old new : Scans) (answer : Fed FontAsked) → old.stage ≡ stage.Loading → new.stage ≡ stage.Loading → NeedsNoMore (load_needed old.loading) (load_needed new.loading) answer → NeedsNoMore (more_needed old) (more_needed new) (mapped load_of answer)
@@ -241,7 +247,7 @@ font-begun new is = λ mode head. record { reads = (refl, rw is (omega arith), �
 pub kept-begun : (kind : AfterKind) (new : Scans) → new.stage ≡ stage.KeptToken kind → Begins (keeping kind) new (fed.More Raw)
 kept-begun kind new is = λ mode head. record { reads = (refl, rw is (omega arith), λ item more. rw is refl); needs = rw is (omega arith); goes_on = rw is tt }
 
-pub size-begun : (kind : SizeKind) (new : Scans) → new.stage ≡ stage.Sized kind → new.size ≡ begun_size lengths → Begins (sizing kind) new (fed.More Expanded)
+pub size-begun : (kind : SizeUse) (new : Scans) → new.stage ≡ stage.Sized kind → new.size ≡ begun_size lengths → Begins (sizing kind) new (fed.More Expanded)
 size-begun kind new is same = λ mode head. record { reads = (refl, rw (is, same) (omega arith), λ item more. rw (is, same) refl); needs = rw (is, same) (omega arith); goes_on = rw is tt }
 
 pub rule-begun : (kind : RuleKind) (new : Scans) → new.stage ≡ stage.Rule kind → new.rule.rule ≡ plain_rule kind → new.rule.part ≡ rule.Start → Begins (ruling kind) new (fed.More Expanded)
@@ -328,6 +334,28 @@ first-defining mode head prefixes name kind t new (Err error) e k = tt
 pub first-loading : {E : Type 0} (mode : Mode) (head : Head) (prefixes : Prefixes) (name : Place) (t : Seen) (new : Scans) (answer : Result (Fed Command) E) → head ≡ Loading prefixes name → ((m : Mode) (h : Head) → IfOk answer (IsBegunBy m h 1 (λ more. loading name (Took t ∷ more)) (Took t ∷ []) new)) → IfOk answer (IsBegunBy mode head 1 (λ more. command mode head (Took t ∷ more)) (Took t ∷ []) new)
 first-loading mode head prefixes name t new (Ok answer) e k = rw e (k mode (Loading prefixes name))
 first-loading mode head prefixes name t new (Err error) e k = tt
+
+-- the first token of a size of \parshape
+pub first-sized : (mode : Mode) (head : Head) (kind : SizeUse) (old : DimenScan) (new : Scans) (t : Seen) (answer : Fed Measure) → new.stage ≡ stage.Sized kind → old ≡ begun_size lengths → IsFedBy dimen_rest dimen_held old t new.size answer → NeedsNoMore (dimen_needed old) (dimen_needed new.size) answer → HoldsOne (dimen_held new.size) answer → IsBegunBy mode head 1 (λ more. sizing kind (Took t ∷ more)) (Took t ∷ []) new (mapped (λ measure. Sized kind measure.size) answer)
+first-sized mode head kind old new t answer is same fits needs holds =
+    let none : dimen_held old ≡ 0 = rw same refl in
+    let h : length {A = Item} [] ≤ dimen_held old = omega arith in
+    record {
+      reads = same-read (command_rest mode head) held 1 (λ more. sizing kind (Took t ∷ more)) (λ more. next (dimen_rest old [] (Took t) more) (λ measure rest. Done (Sized kind measure.size) rest)) (Took t ∷ []) new (mapped (λ measure. Sized kind measure.size) answer)
+          (λ more. rw same refl)
+          (mapped-read dimen_rest dimen_held (command_rest mode head) held (λ measure. Sized kind measure.size) 1 (λ more. dimen_rest old [] (Took t) more) (Took t ∷ []) new.size new answer
+          (λ behind item more. ap (λ s. stage_rest mode head s new behind item more) is) (ap (λ s. stage_held s new) is) (rw none at (fits [] h)));
+      needs = rw is (needs-mapped (λ measure. Sized kind measure.size) 1 (dimen_needed new.size) answer (needs-least (dimen_needed old) 1 (dimen_needed new.size) answer (rw same (omega arith)) needs));
+      goes_on = size-goes (λ measure. Sized kind measure.size) kind new answer is holds;
+    }
+
+pub first-shaping : {E : Type 0} (mode : Mode) (head : Head) (prefixes : Prefixes) (left : ℕ) (sizes : List ℤ) (t : Seen) (new : Scans) (answer : Result (Fed Command) E) → head ≡ Shaping_head prefixes left sizes → ((m : Mode) (h : Head) → IfOk answer (IsBegunBy m h 1 (λ more. sizing size.Shape (Took t ∷ more)) (Took t ∷ []) new)) → IfOk answer (IsBegunBy mode head 1 (λ more. command mode head (Took t ∷ more)) (Took t ∷ []) new)
+first-shaping mode head prefixes left sizes t new (Ok answer) e k = rw e (k mode (Shaping_head prefixes left sizes))
+first-shaping mode head prefixes left sizes t new (Err error) e k = tt
+
+-- the begin-group token before a text of \discretionary
+pub first-breaking : (mode : Mode) (head : Head) (text : BreakText) (t : Seen) (new : Scans) (answer : Fed Command) → head ≡ Breaking text → Begins (λ more. shaping (shape_glue.Break text) (Took t ∷ more)) new answer → IsBegunBy mode head 1 (λ more. command mode head (Took t ∷ more)) (Took t ∷ []) new answer
+first-breaking mode head text t new answer e k = rw e (one-token mode (Breaking text) (λ more. shaping (shape_glue.Break text) (Took t ∷ more)) t new answer (k mode (Breaking text)))
 
 -- the first of the two tokens behind \futurelet and its name
 second-reads : (mode : Mode) (head : Head) (first : Seen) (new : Scans) (item : Item) (more : List Item) → new.stage ≡ stage.SecondToken → future_second head first (item ∷ more) ≡ command_rest mode head new (ending (held new) (Took first ∷ [])) item more

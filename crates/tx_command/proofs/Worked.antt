@@ -1,15 +1,18 @@
 -- The definitions, evaluated on commands that were worked out by hand.
 use Rattle.std.proofs.Common.{◌≡◌, ℕ, true, false, Some, None, List, [], ◌∷◌, ◌++◌, map, pos, neg_ℤ, refl, codes}
 use Rattle.tx_char.specs.declared.tokens.Token.TheVariants as token
+use Rattle.tx_char.specs.declared.category.Cat.TheVariants.{BeginGroup}
 use Rattle.tx_char.specs.Category.{initial_category}
 use Rattle.tx_prim.specs.declared.primitive.Primitive.{Primitive}
 use Rattle.tx_prim.specs.declared.primitive.Primitive.TheVariants as primitive
+use Rattle.tx_prim.specs.declared.family.BreakText.TheVariants.{Behind}
 use Rattle.tx_prim.specs.declared.family.Numbered.TheVariants as number
 use Rattle.tx_prim.specs.declared.family.Operation.TheVariants.{Advance}
 use Rattle.tx_prim.specs.declared.family.Prefix.TheVariants.{Global}
 use Rattle.tx_prim.specs.declared.family.RuleKind.TheVariants.{Vertical as Vertical_rule}
 use Rattle.tx_prim.specs.declared.family.Shorthand.TheVariants as shorthand
 use Rattle.tx_prim.specs.declared.family.SizeKind.TheVariants.{Kern}
+use Rattle.tx_prim.specs.declared.family.TextUse.TheVariants.{Patterns}
 use Rattle.tx_prim.specs.declared.modes.Mode.TheVariants.{Vertical, RestrictedHorizontal}
 use Rattle.tx_prim.specs.Table.{line_of}
 use Rattle.tx_seen.specs.declared.error.TexError.TheVariants.{NumberOutOfRange, NoAssignment, NotAllowed}
@@ -23,8 +26,9 @@ use Rattle.tx_seen.specs.Readings.{Need, Done, Wrong}
 use Rattle.tx_eqtb.specs.declared.entry.Entry.TheVariants.{Number, Means}
 use Rattle.tx_assign.specs.declared.types.Change.TheVariants.{Set, Compute}
 use Rattle.tx_command.specs.declared.types.Command.TheVariants as command
-use Rattle.tx_command.specs.declared.types.Head.TheVariants.{Fresh, Prefixed, Defining}
+use Rattle.tx_command.specs.declared.types.Head.TheVariants.{Fresh, Prefixed, Defining, Shaping, Breaking}
 use Rattle.tx_command.specs.declared.types.Prefixes.{Prefixes}
+use Rattle.tx_command.specs.declared.types.SizeUse.TheVariants.{Shape}
 use Rattle.tx_command.specs.Commands.{command as read}
 
 -- characters as INITEX reads them
@@ -34,6 +38,9 @@ plain text = map (λ c. Took (record { token = token.Character c (initial_catego
 -- a name that means this primitive
 abbrev named : List ℕ → Primitive → Item
 named name primitive = Took (record { token = token.Name name; meaning = meaning.Command primitive })
+
+abbrev a_begin_group : Item
+a_begin_group = Took (record { token = token.Character 123 BeginGroup; meaning = meaning.Character 123 BeginGroup })
 
 abbrev unprefixed : Prefixes
 unprefixed = record { global = false; long = false; outer = false }
@@ -99,3 +106,17 @@ spaces_before_a_letter = refl
 spaces_before_a_held_name : read Vertical Fresh (named (codes "ignorespaces") primitive.IgnoreSpaces ∷ plain (codes "  ") ++ Took (record { token = token.Name (codes "a"); meaning = meaning.Held }) ∷ plain (codes "x")) ≡ Done command.Nothing (plain (codes "x"))
 unfolding line_of
 spaces_before_a_held_name = refl
+
+-- what follows \parshape and its number, and \discretionary and its first text
+a_size_of_a_line : read Vertical (Shaping unprefixed 3 (pos 0 ∷ [])) (plain (codes "2pt -1pt")) ≡ Done (command.Sized Shape (pos 131072)) (plain (codes "-1pt"))
+a_size_of_a_line = refl
+
+a_second_text : read RestrictedHorizontal (Breaking Behind) (plain (codes " ") ++ a_begin_group ∷ plain (codes "x")) ≡ Done (command.BeginBreak Behind) (plain (codes "x"))
+a_second_text = refl
+
+-- \patterns is an assignment, and no definition
+patterns_behind_global : read Vertical (Prefixed (record { global = true; long = false; outer = false })) (named (codes "patterns") (primitive.Text Patterns) ∷ []) ≡ Done (command.BeginText Patterns) []
+patterns_behind_global = refl
+
+patterns_behind_long : read Vertical (Prefixed (record { global = false; long = true; outer = false })) (named (codes "patterns") (primitive.Text Patterns) ∷ []) ≡ Wrong NoAssignment
+patterns_behind_long = refl

@@ -1,9 +1,10 @@
 -- The commands, as items at the front of a list (TeX: The Program, part 46 on; The TeXbook, chapters 24 to 26): first the mode, then
 -- what the command takes, by its family.
-use Rattle.std.specs.Prelude.{ℕ, pos, ◌∷◌, [], ◌||◌, Bool, true, false, not, List, Option, Some, None, if◌then◌else◌}
+use Rattle.std.specs.Prelude.{ℕ, pos, ◌∷◌, [], ◌||◌, ◌&&◌, Bool, true, false, not, List, Option, Some, None, if◌then◌else◌}
 use Rattle.tx_char.specs.declared.category.Cat.{Cat}
 use Rattle.tx_char.specs.declared.category.Cat.TheVariants as category
 use Rattle.tx_prim.specs.declared.family.AfterKind.{AfterKind}
+use Rattle.tx_prim.specs.declared.family.BreakText.TheVariants as break
 use Rattle.tx_prim.specs.declared.family.DefinitionKind.{DefinitionKind}
 use Rattle.tx_node.specs.declared.rule.Rule.{Rule as Rule_sides}
 use Rattle.tx_prim.specs.declared.family.GlueForm.{GlueForm}
@@ -11,7 +12,8 @@ use Rattle.tx_prim.specs.declared.family.Indentation.TheVariants.{Indented}
 use Rattle.tx_prim.specs.declared.family.LeadersKind.{LeadersKind}
 use Rattle.tx_prim.specs.declared.family.RuleKind.{RuleKind}
 use Rattle.tx_prim.specs.declared.family.Shorthand.{Shorthand}
-use Rattle.tx_prim.specs.declared.family.SizeKind.{SizeKind}
+use Rattle.tx_prim.specs.declared.family.TextUse.{TextUse}
+use Rattle.tx_prim.specs.declared.family.TextUse.TheVariants as purposes
 use Rattle.tx_prim.specs.declared.modes.Mode.{Mode}
 use Rattle.tx_prim.specs.declared.modes.Mode.TheVariants as mode
 use Rattle.tx_prim.specs.declared.modes.Standing.{Standing as AStanding}
@@ -48,10 +50,12 @@ use Rattle.tx_shape.specs.declared.types.FontAsked.{FontAsked}
 use Rattle.tx_shape.specs.Loading.{loading as load}
 use Rattle.tx_shape.specs.Shapes.{shape as shape_of}
 use Rattle.tx_command.specs.declared.types.Command.{Command}
-use Rattle.tx_command.specs.declared.types.Command.TheVariants.{Nothing, Space, Character, BeginGroup, EndGroup, BeginSemiSimple, EndSemiSimple, Prefix, Define, Assign, Sized, Rule, BeginBox, UseBox, CopyBox, LastBox, Unbox, Penalize, Skip, BeginLeaders, SetDepth, End, Interact, DefineMacro, BeginText, DefineFuture, Keep, Remove, ControlSpace, ItalicCorrection, Indent, InsertPar, EndParagraph, DiscretionaryHyphen, SetFactor, DefineFont, LoadFont, SetFontDimen, SetFontInteger}
+use Rattle.tx_command.specs.declared.types.Command.TheVariants.{Nothing, Space, Character, BeginGroup, EndGroup, BeginSemiSimple, EndSemiSimple, Prefix, Define, Assign, Sized, Rule, BeginBox, UseBox, CopyBox, LastBox, Unbox, Penalize, Skip, BeginLeaders, SetDepth, End, Interact, DefineMacro, BeginText, DefineFuture, Keep, Remove, ControlSpace, ItalicCorrection, Indent, InsertPar, EndParagraph, DiscretionaryHyphen, SetFactor, SetPrevGraf, BeginShape, BeginBreak, DefineFont, LoadFont, SetFontDimen, SetFontInteger}
 use Rattle.tx_command.specs.declared.types.Head.{Head}
-use Rattle.tx_command.specs.declared.types.Head.TheVariants.{Fresh, Prefixed, Defining, Future, Leading, Loading}
+use Rattle.tx_command.specs.declared.types.Head.TheVariants.{Fresh, Prefixed, Defining, Future, Leading, Loading, Shaping as Shaping_head, Breaking}
 use Rattle.tx_command.specs.declared.types.Prefixes.{Prefixes}
+use Rattle.tx_command.specs.declared.types.SizeUse.{SizeUse}
+use Rattle.tx_command.specs.declared.types.SizeUse.TheVariants as size
 use Rattle.tx_command.specs.Rules.{plain_rule, rule_sides}
 use Rattle.tx_command.specs.Standing.{standing_in}
 
@@ -107,8 +111,8 @@ keeping kind [] = More Raw
 keeping kind (Gave v ∷ rest) = Wrong NotAllowed
 keeping kind (Took t ∷ rest) = Done (Keep kind t.token) rest
 
--- the size of a kern
-abbrev pub sizing : SizeKind → List Item → Reading Command
+-- the size of a kern, or one of \parshape
+abbrev pub sizing : SizeUse → List Item → Reading Command
 sizing kind items = next (dimension lengths items) (λ measure behind. Done (Sized kind measure.size) behind)
 
 -- the sides of a rule
@@ -127,6 +131,9 @@ command_of (shaped.SetDepth size) = SetDepth size
 command_of (shaped.Skip g) = Skip g
 command_of (shaped.Character code) = Character code
 command_of (shaped.SetFactor n) = SetFactor n
+command_of (shaped.SetPrevGraf n) = SetPrevGraf n
+command_of (shaped.BeginShape lines) = BeginShape lines
+command_of (shaped.BeginBreak text) = BeginBreak text
 command_of (shaped.SetFontDimen font n size) = SetFontDimen font n size
 command_of (shaped.SetFontInteger kind font n) = SetFontInteger kind font n
 
@@ -183,7 +190,7 @@ family_command (primitive.Integer parameter) rest = assigning (assign.Variable (
 family_command (primitive.Dimension parameter) rest = assigning (assign.Variable (Standing (place.Dimension parameter))) rest
 family_command (primitive.Glue parameter) rest = assigning (assign.Variable (Standing (place.Glue parameter))) rest
 family_command (primitive.Tokens parameter) rest = assigning (assign.Variable (Standing (place.Tokens parameter))) rest
-family_command (primitive.Sized kind) rest = sizing kind rest
+family_command (primitive.Sized kind) rest = sizing (size.Item kind) rest
 family_command (primitive.Rule kind) rest = ruling kind rest
 family_command (primitive.Box kind) rest = shaping (shape.Box kind) rest
 family_command (primitive.BoxFrom source) rest = shaping (shape.From source) rest
@@ -212,6 +219,10 @@ family_command primitive.FontDimen rest = shaping shape.FontDimen rest
 family_command (primitive.FontInteger kind) rest = shaping (shape.FontInteger kind) rest
 family_command primitive.Char rest = shaping shape.Character rest
 family_command primitive.SpaceFactor rest = shaping shape.Factor rest
+family_command primitive.PrevGraf rest = shaping shape.PrevGraf rest
+family_command primitive.ParShape rest = shaping shape.ParShape rest
+family_command primitive.Adjust rest = shaping shape.Adjust rest
+family_command primitive.Discretionary rest = shaping (shape.Break break.Before) rest
 family_command primitive.ItalicCorrection rest = Done ItalicCorrection rest
 family_command primitive.ControlSpace rest = Done ControlSpace rest
 family_command (primitive.Indent how) rest = Done (Indent how) rest
@@ -255,7 +266,9 @@ prefixes_of (Prefixed prefixes) = prefixes
 prefixes_of (Defining prefixes defined kind) = prefixes
 prefixes_of (Future prefixes defined) = prefixes
 prefixes_of (Leading kind rule) = record { global = false; long = false; outer = false }
+prefixes_of (Breaking text) = record { global = false; long = false; outer = false }
 prefixes_of (Loading prefixes defined) = prefixes
+prefixes_of (Shaping_head prefixes left sizes) = prefixes
 
 -- the leaders that stand before it, with the rule that they repeat
 abbrev pub leaders_before : Head → Option (LeadersKind × Rule_sides)
@@ -265,6 +278,16 @@ leaders_before other = None
 -- \long and \outer stand before definitions alone
 abbrev pub want_definition : Prefixes → Bool
 want_definition prefixes = prefixes.long || prefixes.outer
+
+-- \patterns and \hyphenation are assignments (section 1252); what else has a text in braces is none
+abbrev pub assigns_text : TextUse → Bool
+assigns_text purposes.Message = false
+assigns_text purposes.ErrorMessage = false
+assigns_text purposes.UpperCase = false
+assigns_text purposes.LowerCase = false
+assigns_text purposes.Special = false
+assigns_text purposes.Patterns = true
+assigns_text purposes.Hyphenation = true
 
 -- whether a primitive may stand behind prefixes
 abbrev pub is_prefixable : Prefixes → Primitive → Bool
@@ -290,7 +313,7 @@ is_prefixable prefixes primitive.End = false
 is_prefixable prefixes primitive.IgnoreSpaces = false
 is_prefixable prefixes (primitive.Interaction kind) = not (want_definition prefixes)
 is_prefixable prefixes (primitive.Definition kind) = true
-is_prefixable prefixes (primitive.Text purpose) = false
+is_prefixable prefixes (primitive.Text purpose) = assigns_text purpose && not (want_definition prefixes)
 is_prefixable prefixes (primitive.After kind) = false
 is_prefixable prefixes primitive.FutureLet = not (want_definition prefixes)
 is_prefixable prefixes (primitive.BoxFrom source) = false
@@ -310,11 +333,15 @@ is_prefixable prefixes primitive.LoadFont = not (want_definition prefixes)
 is_prefixable prefixes primitive.FontDimen = not (want_definition prefixes)
 is_prefixable prefixes (primitive.FontInteger kind) = not (want_definition prefixes)
 is_prefixable prefixes primitive.SpaceFactor = not (want_definition prefixes)
+is_prefixable prefixes primitive.PrevGraf = not (want_definition prefixes)
+is_prefixable prefixes primitive.ParShape = not (want_definition prefixes)
 is_prefixable prefixes primitive.Char = false
 is_prefixable prefixes primitive.ItalicCorrection = false
 is_prefixable prefixes primitive.ControlSpace = false
 is_prefixable prefixes (primitive.Indent how) = false
 is_prefixable prefixes primitive.DiscretionaryHyphen = false
+is_prefixable prefixes primitive.Adjust = false
+is_prefixable prefixes primitive.Discretionary = false
 
 -- what has no meaning, or is expanded, is let through, since carrying it out is an error of its own
 abbrev pub may_be_prefixed : Prefixes → Meaning → Bool
@@ -388,6 +415,8 @@ command mode (Defining prefixes defined kind) items = assigning (assign.Named de
 command mode (Future prefixes defined) items = future (Future prefixes defined) items
 command mode (Leading kind rule) items = leading_command mode items
 command mode (Loading prefixes defined) items = loading defined items
+command mode (Shaping_head prefixes left sizes) items = sizing size.Shape items
+command mode (Breaking text) items = shaping (shape.Break text) items
 
 -- whether a token of a command is taken
 abbrev pub is_begun : List Item → Bool

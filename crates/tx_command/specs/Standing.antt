@@ -62,6 +62,8 @@ adds_text purposes.ErrorMessage = false
 adds_text purposes.UpperCase = false
 adds_text purposes.LowerCase = false
 adds_text purposes.Special = true
+adds_text purposes.Patterns = false
+adds_text purposes.Hyphenation = false
 
 -- whether a box that was made before may be added: that at the end of the pages' list is no item to be added, but an error of its
 -- own (TeX: The Program, section 1080)
@@ -115,10 +117,14 @@ adds_to_list primitive.FontDimen = false
 adds_to_list (primitive.FontInteger kind) = false
 adds_to_list primitive.Char = true
 adds_to_list primitive.SpaceFactor = false
+adds_to_list primitive.PrevGraf = false
+adds_to_list primitive.ParShape = false
 adds_to_list primitive.ItalicCorrection = true
 adds_to_list primitive.ControlSpace = true
 adds_to_list (primitive.Indent how) = true
 adds_to_list primitive.DiscretionaryHyphen = true
+adds_to_list primitive.Adjust = true
+adds_to_list primitive.Discretionary = true
 
 -- whether a command whose first token means this adds to the list in which it stands, of those that stand in vertical modes
 abbrev pub adds : Meaning → Bool

@@ -1,19 +1,9 @@
 //! Clones of the parts of a command that is being read. Each is the same as its source; its only error is want of memory.
-ghost use Rattle.std.specs.Prelude.{◌≡◌, Ok, IfOk};
+ghost use Rattle.std.specs.Prelude.{◌≡◌, IfOk};
 
 use crate::scans::{RuleScan, Scans};
 use std::alloc::AllocError;
-
-/// Both values, or the error of the first that failed. What else was made is dropped here, so that who makes many values has one
-/// way out.
-fn both<A: Drop, B: Drop>(
-    one: Result<A, AllocError>,
-    other: Result<B, AllocError>,
-) -> Result<(A, B), AllocError>
-    ensures { IfOk result (λ pair. (one ≡ Ok pair.0) × (other ≡ Ok pair.1)) }
-{
-    Ok((one?, other?))
-}
+use tx_list::both;
 
 impl Clone for RuleScan {
     ghost is_clone = { λ source copy. copy ≡ source };

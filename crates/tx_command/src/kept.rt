@@ -39,6 +39,10 @@ impl Kept for Head {
             Head::Future(prefixes, defined) => Ok(Head::Future(*prefixes, defined.clone()?)),
             Head::Leading(kind, rule) => Ok(Head::Leading(*kind, *rule)),
             Head::Loading(prefixes, defined) => Ok(Head::Loading(*prefixes, defined.clone()?)),
+            Head::Shaping(prefixes, left, sizes) => {
+                Ok(Head::Shaping(*prefixes, *left, sizes.share()?))
+            }
+            Head::Breaking(text) => Ok(Head::Breaking(*text)),
         }
     }
 
@@ -58,6 +62,10 @@ impl Kept for Head {
             (Head::Loading(one, defined), Head::Loading(other, also)) => {
                 one == other && defined.same(also)
             }
+            (Head::Shaping(one, left, sizes), Head::Shaping(other, also, like)) => {
+                one == other && left == also && sizes.same(like)
+            }
+            (Head::Breaking(one), Head::Breaking(other)) => one == other,
             _ => false,
         }
     }

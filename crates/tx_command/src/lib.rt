@@ -25,4 +25,4 @@ pub use at_once::AtOnce;
 pub use scans::Taken;
 pub use taking::CommandScan;
 pub use tx_shape::{AskedSize, BoxContext, BoxGoal};
-pub use types::{Command, Head, Prefixes};
+pub use types::{Command, Head, Prefixes, SizeUse};

@@ -4,10 +4,10 @@ ghost use Rattle.tx_scan.specs.DimensionRests.{IsSize};
 ghost use Rattle.tx_scan.specs.Mapped.{mapped};
 ghost use Rattle.tx_command.specs.Commands as commands;
 
-use crate::types::Command;
+use crate::types::{Command, SizeUse};
 use tx_assign::Assignment;
 use tx_node::Rule;
-use tx_prim::{DefinitionKind, LeadersKind, RuleKind, Shorthand, SizeKind};
+use tx_prim::{DefinitionKind, LeadersKind, RuleKind, Shorthand};
 use tx_scan::Measure;
 use tx_seen::{Fed, Place};
 use tx_shape::{BoxContext, BoxRead, FontAsked, Shaped};
@@ -87,15 +87,15 @@ pub fn loaded(fed: Fed<FontAsked>) -> Fed<Command>
     }
 }
 
-/// A size of which something is made.
-pub fn sized(size_kind: SizeKind, fed: Fed<Measure>) -> Fed<Command>
+/// A size that is for this.
+pub fn sized(size_use: SizeUse, fed: Fed<Measure>) -> Fed<Command>
     requires { IsSize fed }
-    ensures { result ≡ mapped (λ measure. Command.Sized size_kind measure.size) fed }
+    ensures { result ≡ mapped (λ measure. Command.Sized size_use measure.size) fed }
 {
     match fed {
         Fed::More(want) => Fed::More(want),
         Fed::Need(kind) => Fed::Need(kind),
-        Fed::Done(measure, back) => Fed::Done(Command::Sized(size_kind, measure.size as i32), back),
+        Fed::Done(measure, back) => Fed::Done(Command::Sized(size_use, measure.size as i32), back),
         Fed::Wrong(error) => Fed::Wrong(error),
     }
 }
@@ -148,6 +148,9 @@ fn command_of(shaped: Shaped) -> Command
         Shaped::Skip(glue) => Command::Skip(glue),
         Shaped::Character(code) => Command::Character(code),
         Shaped::SetFactor(number) => Command::SetFactor(number),
+        Shaped::SetPrevGraf(number) => Command::SetPrevGraf(number),
+        Shaped::BeginShape(lines) => Command::BeginShape(lines),
+        Shaped::BeginBreak(text) => Command::BeginBreak(text),
         Shaped::SetFontDimen(font, number, size) => Command::SetFontDimen(font, number, size),
         Shaped::SetFontInteger(kind, font, number) => {
             Command::SetFontInteger(kind, font, number)

@@ -1,8 +1,8 @@
 //! What a scan of a command still needs, and what taking a token to one gives.
-use crate::types::{Command, Side};
+use crate::types::{Command, Side, SizeUse};
 use tx_assign::AssignScan;
 use tx_node::Rule;
-use tx_prim::{AfterKind, DefinitionKind, LeadersKind, RuleKind, Shorthand, SizeKind};
+use tx_prim::{AfterKind, DefinitionKind, LeadersKind, RuleKind, Shorthand};
 use tx_scan::{DimenScan, KeyScan};
 use tx_seen::TexError;
 use tx_shape::{LoadScan, ShapeScan};
@@ -49,8 +49,8 @@ pub enum Stage {
     SecondToken,
     /// The token that is kept for this.
     KeptToken(AfterKind),
-    /// The size of which this is made.
-    Sized(SizeKind),
+    /// The size that is for this.
+    Sized(SizeUse),
     /// The sides of a rule of this kind.
     Rule(RuleKind),
     /// The rule that such leaders repeat, with spaces and \relax before it.

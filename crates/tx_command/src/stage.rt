@@ -14,13 +14,13 @@ use crate::mapping::{
 };
 use crate::scans::{RuleScan, Scans, Stage};
 use crate::standing::{may_be_prefixed, standing_in};
-use crate::types::{Command, Head, Prefixes};
+use crate::types::{Command, Head, Prefixes, SizeUse};
 use std::alloc::{AllocError, Global};
 use tx_assign::{AssignScan, Assigning, Assignment, Change, Variable};
 use tx_char::Cat;
 use tx_eqtb::Entry;
 use tx_prim::{
-    AfterKind, GlueForm, Indentation, LeadersKind, Mode, Primitive, RuleKind, Shorthand, SizeKind,
+    AfterKind, BreakText, GlueForm, Indentation, LeadersKind, Mode, Primitive, RuleKind, Shorthand,
     Standing,
 };
 use tx_scan::{DimenScan, NameScan};
@@ -74,6 +74,7 @@ fn feed_second(head: &Head, token: &Seen) -> Result<Fed<Command>, AllocError>
             Ok(Fed::Done(Command::Nothing, 2))
         }
         Head::Leading(_, _) | Head::Loading(_, _) => Ok(Fed::Done(Command::Nothing, 2)),
+        Head::Shaping(_, _, _) | Head::Breaking(_) => Ok(Fed::Done(Command::Nothing, 2)),
     }
 }
 
@@ -148,7 +149,7 @@ impl Scans {
             Stage::Loading => Ok(loaded(self.loading.feed(token)?)),
             Stage::SecondToken => feed_second(head, token),
             Stage::KeptToken(kind) => feed_kept(kind, token),
-            Stage::Sized(kind) => Ok(sized(kind, self.size.feed(token)?)),
+            Stage::Sized(size_use) => Ok(sized(size_use, self.size.feed(token)?)),
             Stage::Rule(kind) => Ok(ruled(kind, self.rule.feed(token)?)),
             Stage::Leaders(kind) => Ok(self.feed_leaders(kind, token)),
             Stage::LeadersRule(kind) => Ok(led(kind, self.rule.feed(token)?)),
@@ -166,7 +167,7 @@ impl Scans {
     {
         match self.stage {
             Stage::Assign => Ok(assigned(self.assignment.give(value, behind)?)),
-            Stage::Sized(kind) => Ok(sized(kind, self.size.give(value)?)),
+            Stage::Sized(size_use) => Ok(sized(size_use, self.size.give(value)?)),
             Stage::Rule(kind) => Ok(ruled(kind, self.rule.give(value, behind)?)),
             Stage::LeadersRule(kind) => Ok(led(kind, self.rule.give(value, behind)?)),
             Stage::Shape => Ok(shaped(self.shape.give(value, behind)?)),
@@ -194,6 +195,8 @@ impl Scans {
             Head::Future(_, _) => Ok(self.on(Stage::SecondToken, Want::Raw)),
             Head::Leading(_, _) => Ok(self.feed_leading(mode, token)),
             Head::Loading(_, name) => self.feed_loading(name, token),
+            Head::Shaping(_, _, _) => self.feed_shape(token),
+            Head::Breaking(text) => Ok(self.feed_break(*text, token)),
         }
     }
 
@@ -281,6 +284,23 @@ impl Scans {
         Ok(loaded(self.loading.begin(name.clone()?, token)?))
     }
 
+    /// The first token of a size of \parshape. Its only error is want of memory.
+    fn feed_shape(&mut self, token: &Seen) -> Result<Fed<Command>, AllocError>
+        ensures { (mode : Mode) (head : Head) → IfOk result (IsBegunBy mode head 1 (λ more. commands.sizing SizeUse.Shape (Took token.now ∷ more)) (Took token.now ∷ []) self.new) }
+    {
+        self.stage = Stage::Sized(SizeUse::Shape);
+        self.size.restart(false, false);
+        Ok(sized(SizeUse::Shape, self.size.feed(token)?))
+    }
+
+    /// The begin-group token before a text of \discretionary, or what is skipped before it.
+    fn feed_break(&mut self, text: BreakText, token: &Seen) -> Fed<Command>
+        ensures { Begins (λ more. commands.shaping (Shaping.Break text) (Took token.now ∷ more)) self.new result }
+    {
+        self.stage = Stage::Shape;
+        shaped(self.shape.feed_break(text, token))
+    }
+
     /// The command whose first token means this.
     fn begin(&mut self, meaning: &Meaning) -> Fed<Command>
         ensures { Begins (commands.command_meant meaning.now) self.new result }
@@ -326,7 +346,7 @@ impl Scans {
             Primitive::Tokens(parameter) => self.begin_place(Place::Tokens(parameter)),
             Primitive::Sized(kind) => {
                 self.size.restart(false, false);
-                self.on(Stage::Sized(kind), Want::Expanded)
+                self.on(Stage::Sized(SizeUse::Item(kind)), Want::Expanded)
             }
             Primitive::Rule(kind) => {
                 self.rule.begin(kind);
@@ -358,6 +378,10 @@ impl Scans {
             Primitive::FontInteger(kind) => self.begin_shape(Shaping::FontInteger(kind)),
             Primitive::Char => self.begin_shape(Shaping::Character),
             Primitive::SpaceFactor => self.begin_shape(Shaping::Factor),
+            Primitive::PrevGraf => self.begin_shape(Shaping::PrevGraf),
+            Primitive::ParShape => self.begin_shape(Shaping::ParShape),
+            Primitive::Adjust => self.begin_shape(Shaping::Adjust),
+            Primitive::Discretionary => self.begin_shape(Shaping::Break(BreakText::Before)),
             Primitive::ItalicCorrection => Fed::Done(Command::ItalicCorrection, 0),
             Primitive::ControlSpace => Fed::Done(Command::ControlSpace, 0),
             Primitive::Indent(how) => Fed::Done(Command::Indent(how), 0),

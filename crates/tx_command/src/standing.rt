@@ -51,6 +51,7 @@ fn adds_text(purpose: TextUse) -> bool
         TextUse::Message | TextUse::ErrorMessage => false,
         TextUse::UpperCase | TextUse::LowerCase => false,
         TextUse::Special => true,
+        TextUse::Patterns | TextUse::Hyphenation => false,
     }
 }
 
@@ -75,7 +76,8 @@ fn adds_to_list(primitive: Primitive) -> bool
         Primitive::HorizontalGlue(_) | Primitive::VerticalGlue(_) | Primitive::Leaders(_) => true,
         Primitive::Penalty => true,
         Primitive::Char | Primitive::ItalicCorrection | Primitive::ControlSpace => true,
-        Primitive::Indent(_) | Primitive::DiscretionaryHyphen => true,
+        Primitive::Indent(_) | Primitive::DiscretionaryHyphen | Primitive::Adjust => true,
+        Primitive::Discretionary => true,
         Primitive::Text(purpose) => adds_text(purpose),
         Primitive::Relax
         | Primitive::EndCsName
@@ -107,7 +109,9 @@ fn adds_to_list(primitive: Primitive) -> bool
         | Primitive::LoadFont
         | Primitive::FontDimen
         | Primitive::FontInteger(_)
-        | Primitive::SpaceFactor => false,
+        | Primitive::SpaceFactor
+        | Primitive::PrevGraf
+        | Primitive::ParShape => false,
     }
 }
 
@@ -152,6 +156,18 @@ fn want_definition(prefixes: Prefixes) -> bool
     prefixes.long || prefixes.outer
 }
 
+/// Whether what becomes of a text in braces is an assignment.
+fn assigns_text(purpose: TextUse) -> bool
+    ensures { result ≡ commands.assigns_text purpose }
+{
+    match purpose {
+        TextUse::Message | TextUse::ErrorMessage => false,
+        TextUse::UpperCase | TextUse::LowerCase => false,
+        TextUse::Special => false,
+        TextUse::Patterns | TextUse::Hyphenation => true,
+    }
+}
+
 /// Whether a primitive may stand behind these prefixes.
 fn is_prefixable(prefixes: Prefixes, primitive: Primitive) -> bool
     ensures { result ≡ commands.is_prefixable prefixes primitive }
@@ -174,7 +190,10 @@ fn is_prefixable(prefixes: Prefixes, primitive: Primitive) -> bool
         | Primitive::LoadFont
         | Primitive::FontDimen
         | Primitive::FontInteger(_)
-        | Primitive::SpaceFactor => !want_definition(prefixes),
+        | Primitive::SpaceFactor
+        | Primitive::PrevGraf
+        | Primitive::ParShape => !want_definition(prefixes),
+        Primitive::Text(purpose) => assigns_text(purpose) && !want_definition(prefixes),
         Primitive::Relax
         | Primitive::EndCsName
         | Primitive::Par
@@ -186,7 +205,6 @@ fn is_prefixable(prefixes: Prefixes, primitive: Primitive) -> bool
         | Primitive::Shipout
         | Primitive::End
         | Primitive::IgnoreSpaces
-        | Primitive::Text(_)
         | Primitive::After(_)
         | Primitive::BoxFrom(_)
         | Primitive::Shift(_)
@@ -202,7 +220,9 @@ fn is_prefixable(prefixes: Prefixes, primitive: Primitive) -> bool
         | Primitive::ItalicCorrection
         | Primitive::ControlSpace
         | Primitive::Indent(_)
-        | Primitive::DiscretionaryHyphen => false,
+        | Primitive::DiscretionaryHyphen
+        | Primitive::Adjust
+        | Primitive::Discretionary => false,
     }
 }
 

@@ -18,6 +18,7 @@ use crate::scans::{Scans, Stage, Taken};
 use crate::types::{Command, Head, Prefixes};
 use std::alloc::{AllocError, Global};
 use std::marker::Model;
+use std::mem::replace;
 use tx_list::{Items, Kept};
 use tx_node::Rule;
 use tx_pending::Pending;
@@ -83,14 +84,14 @@ impl CommandScan {
         ensures { result ≡ prefixes_of self.now.head }
     {
         match &self.head {
-            Head::Fresh | Head::Leading(_, _) => Prefixes {
+            Head::Fresh | Head::Leading(_, _) | Head::Breaking(_) => Prefixes {
                 global: false,
                 long: false,
                 outer: false,
             },
             Head::Prefixed(prefixes) | Head::Defining(prefixes, _, _) | Head::Future(prefixes, _) =>
                 *prefixes,
-            Head::Loading(prefixes, _) => *prefixes,
+            Head::Loading(prefixes, _) | Head::Shaping(prefixes, _, _) => *prefixes,
         }
     }
 
@@ -101,7 +102,7 @@ impl CommandScan {
         match &self.head {
             Head::Leading(kind, rule) => Some((*kind, *rule)),
             Head::Fresh | Head::Prefixed(_) | Head::Defining(_, _, _) | Head::Future(_, _) => None,
-            Head::Loading(_, _) => None,
+            Head::Loading(_, _) | Head::Shaping(_, _, _) | Head::Breaking(_) => None,
         }
     }
 
@@ -119,7 +120,8 @@ impl CommandScan {
         match &self.head {
             Head::Loading(_, _) => is_naming(self.taken.as_slice()),
             Head::Fresh | Head::Prefixed(_) | Head::Defining(_, _, _) => false,
-            Head::Future(_, _) | Head::Leading(_, _) => false,
+            Head::Future(_, _) | Head::Leading(_, _) | Head::Shaping(_, _, _) => false,
+            Head::Breaking(_) => false,
         }
     }
 
@@ -149,6 +151,17 @@ impl CommandScan {
         self.head = head;
         self.want = begun_want(&self.head);
         restart(&mut self.taken, &mut self.scans);
+    }
+
+    /// Begins a command that nothing stands before, and answers what stood before the last one.
+    pub fn take_head(&mut self) -> Head
+        ensures head { result ≡ self.old.head }
+        ensures left { self.new ≡ record { mode = self.old.mode; head = Head.Fresh; taken = [] } }
+    {
+        let head = replace(&mut self.head, Head::Fresh);
+        self.want = Want::Expanded;
+        restart(&mut self.taken, &mut self.scans);
+        head
     }
 
     /// Begins a command that nothing stands before.
@@ -229,7 +242,8 @@ fn begun_want(head: &Head) -> Want
 {
     match head {
         Head::Fresh | Head::Prefixed(_) | Head::Defining(_, _, _) => Want::Expanded,
-        Head::Leading(_, _) | Head::Loading(_, _) => Want::Expanded,
+        Head::Leading(_, _) | Head::Loading(_, _) | Head::Shaping(_, _, _) => Want::Expanded,
+        Head::Breaking(_) => Want::Expanded,
         Head::Future(_, _) => Want::Raw,
     }
 }

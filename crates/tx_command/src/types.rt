@@ -2,10 +2,11 @@
 use tx_assign::Assignment;
 use tx_bytes::Bytes;
 use tx_char::Token;
+use tx_list::Items;
 use tx_node::Rule;
 use tx_num::Glue;
 use tx_prim::{
-    AfterKind, BoxKind, DefinitionKind, FontNumber, Indentation, Interaction, ItemKind,
+    AfterKind, BoxKind, BreakText, DefinitionKind, FontNumber, Indentation, Interaction, ItemKind,
     LeadersKind, Prefix, RuleKind, Shorthand, SizeKind, TextUse, UnboxKind,
 };
 use tx_seen::{FontName, Place};
@@ -17,6 +18,15 @@ pub enum Side {
     Width,
     Height,
     Depth,
+}
+
+/// What a size is for.
+#[derive(Clone, Copy, PartialEq, Eq)]
+pub enum SizeUse {
+    /// This is made of it, as by \kern.
+    Item(SizeKind),
+    /// It is the next one of \parshape.
+    Shape,
 }
 
 /// The prefixes before a command (The TeXbook, chapter 24).
@@ -42,6 +52,10 @@ pub enum Head {
     Leading(LeadersKind, Rule),
     /// \font, with its prefixes and the name that it defines: which font that is to mean is to follow.
     Loading(Prefixes, Place),
+    /// \parshape, with its prefixes, how many sizes are to follow, and those that are read, in sp.
+    Shaping(Prefixes, u32, Items<i32>),
+    /// \discretionary and its texts before this one: its begin-group token is to follow.
+    Breaking(BreakText),
 }
 
 /// A command with all that belongs to it.
@@ -65,8 +79,8 @@ pub enum Command {
     Define(Place, Shorthand),
     /// An assignment.
     Assign(Assignment),
-    /// `\kern`, in sp.
-    Sized(SizeKind, i32),
+    /// A size in sp: that of a `\kern`, or the next one of `\parshape`.
+    Sized(SizeUse, i32),
     /// `\vrule`.
     Rule(RuleKind, Rule),
     /// `\hbox` or its kin and its begin-group token, with what its list is packed to and what becomes of the box.
@@ -102,6 +116,12 @@ pub enum Command {
     ItalicCorrection,
     /// An assignment to `\spacefactor`.
     SetFactor(i32),
+    /// An assignment to `\prevgraf`.
+    SetPrevGraf(i32),
+    /// `\parshape` and how many lines it is to have, whose sizes are to follow.
+    BeginShape(i32),
+    /// The begin-group token before this text of `\discretionary`.
+    BeginBreak(BreakText),
     /// `\font` and the name that it defines.
     DefineFont(Place),
     /// What stands behind that name: the name of the file, as it is written, of the font that the name at this place is to mean, and

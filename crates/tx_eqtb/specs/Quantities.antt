@@ -1,5 +1,5 @@
 -- The values that scans find in a table.
-use Rattle.std.specs.Prelude.{Bool, true, false, pos, Option, Some, None, if◌then◌else◌}
+use Rattle.std.specs.Prelude.{◌/◌, Bool, true, false, pos, length, Option, Some, None, if◌then◌else◌}
 use Rattle.tx_num.specs.Glue.{GlueSpec}
 use Rattle.tx_char.specs.Category.{category, number_of}
 use Rattle.tx_node.specs.Items.{PackedBox}
@@ -12,7 +12,7 @@ use Rattle.tx_prim.specs.declared.glue.GlueParameter.{GlueParameter}
 use Rattle.tx_seen.specs.declared.fed.Value.{Value}
 use Rattle.tx_seen.specs.declared.fed.Value.TheVariants.{Int, Dimen as Size, Glue as Elastic, Muglue, Flag, Absent}
 use Rattle.tx_seen.specs.declared.place.Place.{Place}
-use Rattle.tx_seen.specs.declared.place.Place.TheVariants.{Name, Active, Count, Dimen, Skip, Muskip, Toks, Category, Code, Integer, Dimension, Glue, Tokens, Box, BoxSize, BoxTest as Tested, Last, Badness, PrevDepth, Magnification, Font, FontSize, FontDimen, FontInteger, SpaceFactor}
+use Rattle.tx_seen.specs.declared.place.Place.TheVariants.{Name, Active, Count, Dimen, Skip, Muskip, Toks, Category, Code, Integer, Dimension, Glue, Tokens, Box, BoxSize, BoxTest as Tested, Last, Badness, PrevDepth, Magnification, Font, FontSize, FontDimen, FontInteger, SpaceFactor, PrevGraf, ParShape}
 use Rattle.tx_eqtb.specs.declared.eqtb.Eqtb.{Eqtb}
 use Rattle.tx_eqtb.specs.Table.{box_at, glue_at, number_at}
 
@@ -38,7 +38,8 @@ abbrev pub parameter_value : GlueParameter → GlueSpec → Value
 parameter_value parameter glue = if is_in_mu parameter then Muglue glue else Elastic glue
 
 -- a size at the registers and the parameters that hold one, in scaled points, and of the box of a register; glue at those that
--- hold that; whether the box of a register is as it is tested; the number of a category; the number that stands at any other
+-- hold that; whether the box of a register is as it is tested; the number of a category; how many lines \parshape has, each of two
+-- sizes (section 423); the number that stands at any other
 -- place, and 0 at a name, a list of tokens and a box, where none does (TeX: The Program, sections 413 and 420)
 abbrev pub value_in : Eqtb → Place → Value
 value_in e (Dimen number) = Size (number_at e.table (Dimen number))
@@ -66,3 +67,5 @@ value_in e (FontSize size) = Int (pos 0)
 value_in e (FontDimen font number) = Int (pos 0)
 value_in e (FontInteger kind font) = Int (pos 0)
 value_in e SpaceFactor = Int (pos 0)
+value_in e PrevGraf = Int (pos 0)
+value_in e ParShape = Int (pos (length e.table.par_shape / 2))

@@ -14,11 +14,11 @@ use Rattle.tx_prim.specs.Glues.{glue_number}
 use Rattle.tx_prim.specs.Tokens.{token_number}
 use Rattle.tx_prim.specs.declared.family.CharacterCode.TheVariants.{LowerCase, UpperCase, SpaceFactor, Math, Delimiter}
 use Rattle.tx_seen.specs.declared.place.Place.{Place}
-use Rattle.tx_seen.specs.declared.place.Place.TheVariants.{Name, Active, Count, Dimen, Skip, Muskip, Toks, Category, Code, Integer, Dimension, Glue, Tokens, Box, BoxSize, Font}
+use Rattle.tx_seen.specs.declared.place.Place.TheVariants.{Name, Active, Count, Dimen, Skip, Muskip, Toks, Category, Code, Integer, Dimension, Glue, Tokens, Box, BoxSize, Font, ParShape}
 use Rattle.tx_seen.specs.declared.meaning.Meaning.{Meaning}
 use Rattle.tx_seen.specs.declared.meaning.Meaning.TheVariants.{Undefined, Command, Character}
 use Rattle.tx_eqtb.specs.declared.entry.Entry.{Entry}
-use Rattle.tx_eqtb.specs.declared.entry.Entry.TheVariants.{Means, InCategory, Number, Glue as Elastic, Tokens as Listed, Box as Boxed}
+use Rattle.tx_eqtb.specs.declared.entry.Entry.TheVariants.{Means, InCategory, Number, Glue as Elastic, Tokens as Listed, Box as Boxed, Shape}
 use Rattle.tx_eqtb.specs.declared.table.Table.{Table}
 use Rattle.tx_node.specs.Items.{PackedBox}
 use Rattle.tx_eqtb.specs.declared.boxes.BoxRegister.{BoxRegister}
@@ -137,6 +137,11 @@ abbrev pub with_box_at : Table → Place → BoxRegister → Table
 with_box_at table (Box number) register = record table { boxes = slice_set table.boxes number register }
 with_box_at table other register = table
 
+-- \parshape has the sizes of its lines
+abbrev pub with_shape_at : Table → Place → List ℤ → Table
+with_shape_at table ParShape sizes = record table { par_shape = sizes }
+with_shape_at table other sizes = table
+
 -- the table with an entry at a place that it fits, where so many groups are open
 unfoldable pub with_entry : ℕ → Table → Place → Entry → Table
 with_entry level table place (Means meaning) = with_meaning_at table place meaning
@@ -145,6 +150,7 @@ with_entry level table place (Number value) = with_number_at table place value
 with_entry level table place (Elastic glue) = with_glue_at table place glue
 with_entry level table place (Listed tokens) = with_tokens_at table place tokens
 with_entry level table place (Boxed held) = with_box_at table place (record { level = level; held = held })
+with_entry level table place (Shape sizes) = with_shape_at table place sizes
 
 -- all characters have the same codes in two tables
 pub record HasSameCodes (some other : Table) : Type 0 where

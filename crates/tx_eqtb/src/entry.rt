@@ -2,6 +2,7 @@
 ghost use Rattle.std.specs.Prelude.{◌≡◌};
 
 use crate::contents::BoxContents;
+use crate::shape::ParShape;
 use std::alloc::AllocError;
 use tx_char::Cat;
 use tx_num::Glue;
@@ -23,10 +24,12 @@ pub enum Entry {
     Tokens(TokList),
     /// At a box register: its box, or none where it is to be void.
     Box(BoxContents),
+    /// At \parshape.
+    Shape(ParShape),
 }
 
-/// A clone is the same entry. Its only error is that no more owners of a meaning, a list
-/// or a box can be counted.
+/// A clone is the same entry. Its only error is that no more owners of a meaning, a list,
+/// a box or a shape can be counted.
 impl Clone for Entry {
     ghost is_clone = { λ source copy. copy ≡ source };
 
@@ -38,6 +41,7 @@ impl Clone for Entry {
             Entry::Glue(glue) => Ok(Entry::Glue(*glue)),
             Entry::Tokens(tokens) => Ok(Entry::Tokens(tokens.share()?)),
             Entry::Box(held) => Ok(Entry::Box(held.clone()?)),
+            Entry::Shape(shape) => Ok(Entry::Shape(shape.clone()?)),
         }
     }
 }

@@ -1,6 +1,7 @@
 //! Groups that are open.
 
 use crate::table::Table;
+use tx_prim::BreakText;
 
 /// What opened a group, which has to be closed by the same (TeX: The Program, section 269).
 #[derive(Clone, Copy, Debug, PartialEq, Eq)]
@@ -13,6 +14,8 @@ pub enum GroupKind {
     TopBox,
     /// \begingroup.
     SemiSimple,
+    /// The brace before this text of \discretionary.
+    Discretionary(BreakText),
 }
 
 /// A group, and the table as it stands outside it.

@@ -7,13 +7,14 @@ ghost use Rattle.tx_eqtb.specs.Boxes.{void};
 ghost use Rattle.tx_eqtb.specs.Initex as spec;
 ghost use Rattle.tx_num.specs.Glue.{zero_glue};
 
-use crate::both::both;
 use crate::boxes::BoxRegister;
 use crate::cells::Cells;
 use crate::reading::no_tokens;
+use crate::shape::ParShape;
 use crate::table::Table;
 use std::alloc::{AllocError, Global};
 use tx_char::{Codes, ControlName};
+use tx_list::both;
 use tx_name::NameMap;
 use tx_num::Glue;
 use tx_prim::{
@@ -200,6 +201,7 @@ pub fn initial_table(alloc: Global, begun: &Moment) -> Result<Table, AllocError>
         token_registers,
         token_parameters,
         boxes,
+        par_shape: ParShape::none(),
         font: 0,
     })
 }

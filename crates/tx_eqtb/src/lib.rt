@@ -4,14 +4,13 @@
 //! assigned, for what is used up or resized is so in each group that was opened since.
 //!
 //! Proved: it is a stack of tables: assignments, groups, `same` and `share` are exactly as defined, and so are the values that
-//! scans find in it. Only tested: that it begins as INITEX's table does: of its categories the borders of each kind in library_cases, of all
-//! else what documents show that Knuth's TeX reads alike (tools/check-tex).
+//! scans find in it. Only tested: that it begins as INITEX's table does, by what documents show that Knuth's TeX reads alike (the documents of
+//! call_cases, tools/check-tex).
 //!
-//! Read `entry`, what stands at a place; `cells`, `contents`, `boxes`, `table`, `reading` and `writing`; `initex`, the table at the beginning;
+//! Read `entry`, what stands at a place; `cells`, `contents`, `boxes`, `shape`, `table`, `reading` and `writing`; `initex`, the table at the beginning;
 //! `groups` and `nesting`; and then `eqtb` with `stack` and `values`. Places and meanings are tx_seen's.
 #![tactic(auto)]
 
-mod both;
 mod boxes;
 mod cells;
 mod contents;
@@ -22,6 +21,7 @@ mod groups;
 mod initex;
 mod nesting;
 mod reading;
+mod shape;
 mod stack;
 mod table;
 mod values;
@@ -32,3 +32,4 @@ pub use entry::Entry;
 pub use eqtb::Eqtb;
 pub use error::{CloseError, OpenError};
 pub use groups::GroupKind;
+pub use shape::ParShape;

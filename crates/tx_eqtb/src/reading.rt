@@ -3,12 +3,12 @@ ghost use Rattle.std.specs.Prelude.{◌≡◌, ◌↔◌, [], option_copied, IsT
 ghost use Rattle.tx_eqtb.specs.Table as spec;
 ghost use Rattle.tx_eqtb.specs.Table.{HasSameCodes, HasSameGlue};
 
-use crate::both::both;
 use crate::boxes::{box_of, level_of, size_of};
 use crate::cells::Cells;
 use crate::table::Table;
 use std::alloc::{AllocError, Global};
 use tx_char::{Cat, ControlName, Token};
+use tx_list::both;
 use tx_node::BoxNode;
 use tx_num::Glue;
 use tx_prim::{CharacterCode, Primitive};
@@ -87,6 +87,7 @@ impl Table {
             Place::Last(_) | Place::Badness | Place::PrevDepth | Place::Magnification => 0,
             Place::FontSize(_) | Place::FontDimen(_, _) => 0,
             Place::FontInteger(_, _) | Place::SpaceFactor => 0,
+            Place::PrevGraf | Place::ParShape => 0,
         }
     }
 
@@ -106,6 +107,7 @@ impl Table {
             Place::Last(_) | Place::Badness | Place::PrevDepth => Glue::zero(),
             Place::Font | Place::FontSize(_) | Place::FontDimen(_, _) => Glue::zero(),
             Place::FontInteger(_, _) | Place::SpaceFactor => Glue::zero(),
+            Place::PrevGraf | Place::ParShape => Glue::zero(),
         }
     }
 
@@ -134,6 +136,7 @@ impl Table {
             Place::Last(_) | Place::Badness | Place::PrevDepth | Place::Magnification => None,
             Place::Font | Place::FontSize(_) | Place::FontDimen(_, _) => None,
             Place::FontInteger(_, _) | Place::SpaceFactor => None,
+            Place::PrevGraf | Place::ParShape => None,
         }
     }
 
@@ -152,6 +155,7 @@ impl Table {
             Place::Last(_) | Place::Badness | Place::PrevDepth | Place::Magnification => 0,
             Place::Font | Place::FontSize(_) | Place::FontDimen(_, _) => 0,
             Place::FontInteger(_, _) | Place::SpaceFactor => 0,
+            Place::PrevGraf | Place::ParShape => 0,
         }
     }
 
@@ -201,6 +205,7 @@ impl Table {
             && self.token_registers.same(&other.token_registers)
             && self.token_parameters.same(&other.token_parameters)
             && self.boxes.same(&other.boxes)
+            && self.par_shape.same(&other.par_shape)
             && self.categories.same(&other.categories)
             && self.active.same(&other.active)
             && self.same_codes(other)
@@ -244,7 +249,7 @@ impl Table {
         let skips = both(self.skips.share(), self.muskips.share());
         let glues = both(skips, self.glue_parameters.share());
         let lists = both(self.token_registers.share(), self.token_parameters.share());
-        let boxed = both(lists, self.boxes.share());
+        let boxed = both(lists, both(self.boxes.share(), self.par_shape.clone()));
         let registered = both(glues, boxed);
         let rest = both(of_characters, registered);
         let (
@@ -254,7 +259,10 @@ impl Table {
                     ((counts, dimens), (integers, dimensions)),
                     ((lower_case, upper_case), (space_factors, (math, delimiters))),
                 ),
-                (((skips, muskips), glue_parameters), ((token_registers, token_parameters), boxes)),
+                (
+                    ((skips, muskips), glue_parameters),
+                    ((token_registers, token_parameters), (boxes, par_shape)),
+                ),
             ),
         ) = both(meanings, rest)?;
         Ok(Table {
@@ -276,6 +284,7 @@ impl Table {
             token_registers,
             token_parameters,
             boxes,
+            par_shape,
             font: self.font,
         })
     }

@@ -5,7 +5,6 @@ ghost use Rattle.tx_eqtb.specs.Stack.{assigned, assigned_everywhere, closed, kin
 ghost use Rattle.tx_eqtb.specs.Table.{active_meaning, box_at, glue_at, meaning_of, number_at, token_meaning, tokens_at};
 ghost use Rattle.tx_char.specs.Category.{category};
 
-use crate::both::both;
 use crate::entry::Entry;
 use crate::eqtb::Eqtb;
 use crate::error::{CloseError, OpenError};
@@ -15,6 +14,7 @@ use crate::nesting::Nesting;
 use std::alloc::{AllocError, Global};
 use std::mem;
 use tx_char::{Cat, Codes, ControlName, Token};
+use tx_list::both;
 use tx_node::BoxNode;
 use tx_num::Glue;
 use tx_prim::Moment;
@@ -71,6 +71,13 @@ impl Eqtb {
         ensures { option_copied result ≡ box_at self.now.table place.now }
     {
         self.table.boxed(place)
+    }
+
+    /// The sizes of \parshape, lent: of each line how far it is indented, then how wide it is, in sp.
+    pub fn par_shape(&self) -> &[i32]
+        ensures { result.now ≡ self.now.table.par_shape }
+    {
+        self.table.par_shape.as_slice()
     }
 
     /// The category of a character.

@@ -2,6 +2,7 @@
 
 use crate::boxes::BoxRegister;
 use crate::cells::Cells;
+use crate::shape::ParShape;
 use tx_char::Codes;
 use tx_name::NameMap;
 use tx_num::Glue;
@@ -29,6 +30,7 @@ pub struct Table {
     pub(crate) token_registers: Cells<TokList>,
     pub(crate) token_parameters: Cells<TokList>,
     pub(crate) boxes: Cells<BoxRegister>,
+    pub(crate) par_shape: ParShape,
     /// The number of the current font.
     pub(crate) font: u8,
 }

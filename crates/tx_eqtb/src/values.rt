@@ -59,7 +59,8 @@ impl Quantities for Eqtb {
             Place::Magnification => Value::Absent,
             Place::Font => Value::Int(i64::from(self.number(place))),
             Place::FontSize(_) | Place::FontDimen(_, _) => Value::Int(0),
-            Place::FontInteger(_, _) | Place::SpaceFactor => Value::Int(0),
+            Place::FontInteger(_, _) | Place::SpaceFactor | Place::PrevGraf => Value::Int(0),
+            Place::ParShape => Value::Int((self.par_shape().len() / 2) as i64),
             Place::Toks(_) | Place::Tokens(_) | Place::Box(_) => {
                 Value::Int(i64::from(self.number(place)))
             }

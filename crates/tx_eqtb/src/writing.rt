@@ -1,9 +1,10 @@
 //! Writing into the table.
 ghost use Rattle.std.specs.Prelude.{◌≡◌, OnOk};
-ghost use Rattle.tx_eqtb.specs.Table.{font_number, with_box_at, with_category_at, with_entry, with_glue_at, with_meaning, with_meaning_at, with_number_at, with_tokens_at};
+ghost use Rattle.tx_eqtb.specs.Table.{font_number, with_box_at, with_category_at, with_entry, with_glue_at, with_meaning, with_meaning_at, with_number_at, with_shape_at, with_tokens_at};
 
 use crate::boxes::{BoxRegister, set_size};
 use crate::entry::Entry;
+use crate::shape::ParShape;
 use crate::table::Table;
 use std::alloc::AllocError;
 use tx_char::{Cat, ControlName};
@@ -75,6 +76,7 @@ impl Table {
             Place::Last(_) | Place::Badness | Place::PrevDepth | Place::Magnification => Ok(()),
             Place::FontSize(_) | Place::FontDimen(_, _) => Ok(()),
             Place::FontInteger(_, _) | Place::SpaceFactor => Ok(()),
+            Place::PrevGraf | Place::ParShape => Ok(()),
         }
     }
 
@@ -93,6 +95,7 @@ impl Table {
             Place::Last(_) | Place::Badness | Place::PrevDepth | Place::Magnification => Ok(()),
             Place::Font | Place::FontSize(_) | Place::FontDimen(_, _) => Ok(()),
             Place::FontInteger(_, _) | Place::SpaceFactor => Ok(()),
+            Place::PrevGraf | Place::ParShape => Ok(()),
         }
     }
 
@@ -141,6 +144,17 @@ impl Table {
             Place::Last(_) | Place::Badness | Place::PrevDepth | Place::Magnification => Ok(()),
             Place::Font | Place::FontSize(_) | Place::FontDimen(_, _) => Ok(()),
             Place::FontInteger(_, _) | Place::SpaceFactor => Ok(()),
+            Place::PrevGraf | Place::ParShape => Ok(()),
+        }
+    }
+
+    /// Gives \parshape other sizes.
+    fn set_shape(&mut self, place: &Place, shape: ParShape)
+        ensures { self.new ≡ with_shape_at self.old place.now shape }
+    {
+        match place {
+            Place::ParShape => self.par_shape = shape,
+            _ => {}
         }
     }
 
@@ -156,6 +170,10 @@ impl Table {
             Entry::Glue(glue) => self.set_glue(place, glue),
             Entry::Tokens(tokens) => self.set_tokens(place, tokens),
             Entry::Box(held) => self.set_box(place, BoxRegister { level, held }),
+            Entry::Shape(shape) => {
+                self.set_shape(place, shape);
+                Ok(())
+            }
         }
     }
 }

@@ -157,6 +157,7 @@ impl<'a> Quantities for Known<'a> {
             Place::Badness => Value::Int(self.badness),
             Place::PrevDepth => depth_value(self.nest.innermost().state.prev_depth()),
             Place::SpaceFactor => factor_value(self.nest.innermost().state.space_factor()),
+            Place::PrevGraf => Value::Int(i64::from(self.nest.innermost().prev_graf)),
             Place::FontSize(size) => Value::Dimen(
                 self.fonts.parameter(self.table.font(), parameter_of(*size)),
             ),
@@ -178,6 +179,7 @@ impl<'a> Quantities for Known<'a> {
                 self.table.quantity(place)
             }
             Place::Skip(_) | Place::Muskip(_) | Place::Glue(_) => self.table.quantity(place),
+            Place::ParShape => self.table.quantity(place),
             Place::Box(_) | Place::BoxSize(_, _) | Place::BoxTest(_, _) => {
                 self.table.quantity(place)
             }

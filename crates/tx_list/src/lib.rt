@@ -4,13 +4,15 @@
 //! Proved: a list is the list of its values, a stack that of its values with the newest first, and `same` is exactly equality.
 //! Nothing is left to tests.
 //!
-//! Read `kept`, what is asked of a value; then `items` and `stack`.
+//! Read `kept`, what is asked of a value; then `items` and `stack`. `both` makes one result of two.
 #![tactic(auto)]
 
 mod items;
 mod kept;
+mod results;
 mod stack;
 
 pub use items::{Items, same_items};
 pub use kept::Kept;
+pub use results::both;
 pub use stack::Stack;

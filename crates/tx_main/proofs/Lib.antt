@@ -10,3 +10,5 @@ pub mod AtOnce
 pub mod Loads
 pub mod Collects
 pub mod Assigns
+pub mod Signs
+pub mod Vertical

@@ -1,5 +1,5 @@
 -- How a run begins.
-use Rattle.std.specs.Prelude.{ℕ, List, [], ◌∷◌, None}
+use Rattle.std.specs.Prelude.{ℕ, false, List, [], ◌∷◌, None}
 use Rattle.tx_box.specs.Beginnings.{first_lists}
 use Rattle.tx_command.specs.declared.types.Head.TheVariants.{Fresh}
 use Rattle.tx_eqtb.specs.Initex.{initial_table}
@@ -24,6 +24,7 @@ first_state date main = record {
   taken = [];
   lists = first_lists;
   words = record { fonts = no_fonts; word = None };
+  hyphenation = record { hyphens = record { patterns = []; exceptions = [] }; used = false };
   table = record { table = initial_table (moment_of date); groups = [] };
   after_groups = [];
   after_assignment = None;

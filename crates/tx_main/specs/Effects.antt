@@ -1,5 +1,5 @@
 -- What each command does, once it is whole (TeX: The Program, parts 45 to 49): a line for each family.
-use Rattle.std.specs.Prelude.{ℕ, ℤ, Bool, true, false, ◌||◌, ◌&&◌, ◌==◌, nat_lt, nat_le, List, [], ◌∷◌, ◌++◌, length, map, Option, Some, None, Result, Ok, Err, codes, if◌then◌else◌}
+use Rattle.std.specs.Prelude.{ℕ, ◌-◌, ◌*◌, ℤ, pos, int_lt, unsigned_abs, Bool, true, false, ◌||◌, ◌&&◌, ◌==◌, nat_lt, nat_le, List, [], ◌∷◌, ◌++◌, length, map, Option, Some, None, Result, Ok, Err, codes, if◌then◌else◌}
 use Rattle.tx_char.specs.declared.tokens.Token.{Token}
 use Rattle.tx_char.specs.declared.tokens.Token.TheVariants as token
 use Rattle.tx_node.specs.declared.plain.KernKind.TheVariants.{Explicit}
@@ -9,16 +9,17 @@ use Rattle.tx_node.specs.declared.plain.LeadersKind.{LeadersKind as ItemLeaders}
 use Rattle.tx_node.specs.declared.plain.LeadersKind.TheVariants as item_leaders
 use Rattle.tx_node.specs.declared.rule.Rule.{Rule as ARule}
 use Rattle.tx_num.specs.Glue.{GlueSpec}
-use Rattle.tx_node.specs.Items.{Item, plain, shared}
+use Rattle.tx_node.specs.Items.{Item as Node_item, plain, shared}
 use Rattle.tx_nest.specs.declared.list.ModeList.{ModeList}
 use Rattle.tx_nest.specs.Appended.{rule_appended}
 use Rattle.tx_nest.specs.Changed as list
 use Rattle.tx_nest.specs.Factors.{factor_of}
+use Rattle.tx_nest.specs.Grafs.{graf_of, with_graf}
 use Rattle.tx_nest.specs.States.{mode_of}
 use Rattle.tx_eqtb.specs.declared.eqtb.Eqtb.{Eqtb}
 use Rattle.tx_eqtb.specs.declared.groups.GroupKind.{GroupKind}
 use Rattle.tx_eqtb.specs.declared.groups.GroupKind.TheVariants as kind
-use Rattle.tx_eqtb.specs.declared.entry.Entry.TheVariants.{Means}
+use Rattle.tx_eqtb.specs.declared.entry.Entry.TheVariants.{Means, Shape as Shape_entry}
 use Rattle.tx_eqtb.specs.Table.{tokens_at}
 use Rattle.tx_eqtb.specs.Stack.{opened, closed, kind_of, assigned as table_assigned}
 use Rattle.tx_expand.specs.Expanding.{escape_of}
@@ -26,6 +27,8 @@ use Rattle.tx_expand.specs.Turns.{put}
 use Rattle.tx_prim.specs.declared.family.AfterKind.{AfterKind}
 use Rattle.tx_prim.specs.declared.family.AfterKind.TheVariants as after
 use Rattle.tx_prim.specs.declared.family.BoxKind.{BoxKind}
+use Rattle.tx_prim.specs.declared.family.BreakText.{BreakText}
+use Rattle.tx_prim.specs.declared.family.BreakText.TheVariants as break
 use Rattle.tx_prim.specs.declared.family.DefinitionKind.{DefinitionKind}
 use Rattle.tx_prim.specs.declared.family.Indentation.{Indentation}
 use Rattle.tx_prim.specs.declared.family.ItemKind.{ItemKind}
@@ -40,13 +43,13 @@ use Rattle.tx_prim.specs.declared.family.Prefix.TheVariants.{Global, Long, Outer
 use Rattle.tx_prim.specs.declared.family.SizeKind.TheVariants.{Kern}
 use Rattle.tx_prim.specs.declared.tokens.TokenParameter.TheVariants.{Everypar}
 use Rattle.tx_seen.specs.declared.error.TexError.{TexError}
-use Rattle.tx_seen.specs.declared.error.TexError.TheVariants.{BadFont, MissingBox, ExtraGroupEnd, TooManyGroups, ErrorMessage, NotAllowed, NumberOutOfRange}
+use Rattle.tx_seen.specs.declared.error.TexError.TheVariants.{BadFont, BadHyphenation, MissingBox, ExtraGroupEnd, TooManyGroups, ErrorMessage, NotAllowed, NumberOutOfRange}
 use Rattle.tx_seen.specs.declared.place.FontName.{FontName}
 use Rattle.tx_seen.specs.declared.place.FontName.TheVariants.{Current, Number}
 use Rattle.tx_seen.specs.declared.meaning.Meaning.{Meaning}
 use Rattle.tx_seen.specs.declared.meaning.Meaning.TheVariants.{Font, Macro, Command as Command_meaning}
 use Rattle.tx_seen.specs.declared.place.Place.{Place}
-use Rattle.tx_seen.specs.declared.place.Place.TheVariants.{Name, Tokens}
+use Rattle.tx_seen.specs.declared.place.Place.TheVariants.{Name, ParShape, Tokens}
 use Rattle.tx_assign.specs.declared.types.Assignment.{Assignment}
 use Rattle.tx_assign.specs.declared.types.Change.{Change}
 use Rattle.tx_assign.specs.declared.types.Change.TheVariants.{Set, Compute, Add, Copy, Text}
@@ -62,11 +65,12 @@ use Rattle.tx_toklist.specs.Macros.{Definition}
 use Rattle.tx_toklist.specs.Text.{printed}
 use Rattle.tx_command.specs.declared.types.Command.{Command}
 use Rattle.tx_shape.specs.Loading.{size_asked}
-use Rattle.tx_command.specs.declared.types.Command.TheVariants.{Nothing, Space, ControlSpace, Character, ItalicCorrection, Indent, InsertPar, EndParagraph, DiscretionaryHyphen, SetFactor, DefineFont, LoadFont, SetFontDimen, SetFontInteger, BeginGroup, EndGroup, BeginSemiSimple, EndSemiSimple, Prefix, Define, Assign, Sized, Rule, BeginBox, UseBox, CopyBox, LastBox, Unbox, Penalize, Remove, Skip, BeginLeaders, SetDepth, End, Interact, DefineMacro, BeginText, DefineFuture, Keep}
+use Rattle.tx_command.specs.declared.types.Command.TheVariants.{Nothing, Space, ControlSpace, Character, ItalicCorrection, Indent, InsertPar, EndParagraph, DiscretionaryHyphen, SetFactor, SetPrevGraf, BeginShape, BeginBreak, DefineFont, LoadFont, SetFontDimen, SetFontInteger, BeginGroup, EndGroup, BeginSemiSimple, EndSemiSimple, Prefix, Define, Assign, Sized, Rule, BeginBox, UseBox, CopyBox, LastBox, Unbox, Penalize, Remove, Skip, BeginLeaders, SetDepth, End, Interact, DefineMacro, BeginText, DefineFuture, Keep}
 use Rattle.tx_shape.specs.declared.types.BoxContext.{BoxContext}
-use Rattle.tx_shape.specs.declared.types.BoxContext.TheVariants.{Append, Register, Ship}
+use Rattle.tx_shape.specs.declared.types.BoxContext.TheVariants.{Adjust, Append, Register, Ship}
 use Rattle.tx_command.specs.declared.types.Head.{Head}
-use Rattle.tx_command.specs.declared.types.Head.TheVariants.{Fresh, Prefixed, Defining, Future, Leading, Loading}
+use Rattle.tx_command.specs.declared.types.Head.TheVariants.{Fresh, Prefixed, Defining, Future, Leading, Loading, Shaping, Breaking}
+use Rattle.tx_command.specs.declared.types.SizeUse.TheVariants.{Item, Shape}
 use Rattle.tx_command.specs.declared.types.Prefixes.{Prefixes}
 use Rattle.tx_command.specs.Commands.{leaders_before, prefixes_of}
 use Rattle.tx_state.specs.declared.parts.KeptToken.{KeptToken}
@@ -74,6 +78,8 @@ use Rattle.tx_state.specs.declared.parts.OpenText.{OpenText}
 use Rattle.tx_state.specs.declared.parts.OpenText.TheVariants as texts
 use Rattle.tx_box.specs.declared.parts.Target.{Target}
 use Rattle.tx_box.specs.declared.parts.Work.{Work}
+use Rattle.tx_box.specs.declared.parts.Lists.{Lists}
+use Rattle.tx_box.specs.Breaks.{breaking as begun_break, broken}
 use Rattle.tx_box.specs.Building.{Ended, beginning, ending as ending_list, every_in, greatest_depth}
 use Rattle.tx_box.specs.Effects.{Effect, Left}
 use Rattle.tx_box.specs.Placing.{with_list}
@@ -81,11 +87,16 @@ use Rattle.tx_box.specs.Sources.{appended, copying, taking_last, unboxing, using
 use Rattle.tx_par.specs.declared.error.ParError.{ParError}
 use Rattle.tx_paragraph.specs.Beginning.{begins_paragraph, indented}
 use Rattle.tx_paragraph.specs.Ending as paragraph
+use Rattle.tx_paragraph.specs.Hyphens.{Hyphenating, lower_codes}
 use Rattle.tx_state.specs.declared.parts.Due.{Due}
 use Rattle.tx_state.specs.declared.parts.Due.TheVariants.{Boxes, LoadFont as LoadFont_due}
 use Rattle.tx_state.specs.declared.parts.FontRequest.{FontRequest}
 use Rattle.tx_main.specs.Pages.{integer}
 use Rattle.tx_state.specs.State.{TexState}
+use Rattle.tx_hyphen.specs.Rules.{Rules}
+use Rattle.tx_hyphenate.specs.declared.known.Hyphenation.{Hyphenation}
+use Rattle.tx_hyphenate.specs.Texts.{with_exceptions, with_patterns}
+use Rattle.tx_main.specs.Hyphens.{words_of}
 use Rattle.tx_main.specs.Letters.{code_for, token_for}
 use Rattle.tx_state.specs.Texts.{absorbed_text, definition_text, is_global, list_text}
 use Rattle.tx_state.specs.Outcomes.{Outcome, Asks, Leaves, Ships, Fails, Ends, leaves}
@@ -135,10 +146,10 @@ abbrev pub with_top_list : TexState → ModeList → TexState
 with_top_list s new = record s { lists = with_list s.lists new }
 
 -- more items at its end that change nothing else of it
-abbrev pub with_items : TexState → List Item → TexState
+abbrev pub with_items : TexState → List Node_item → TexState
 with_items s items = record s { lists = appended s.lists items }
 
-abbrev pub adding : TexState → Item → Outcome
+abbrev pub adding : TexState → Node_item → Outcome
 adding s item = leaves (with_items s (item ∷ []))
 
 -- a rule
@@ -156,6 +167,29 @@ removing s kind = removed s (list.removing kind s.lists.nest.innermost)
 -- \prevdepth, which may stand in vertical modes alone (section 1243)
 abbrev pub setting_depth : TexState → ℤ → Outcome
 setting_depth s depth = leaves (assigned (with_top_list s (list.with_depth s.lists.nest.innermost depth)))
+
+-- \prevgraf, whatever the prefix (section 1244)
+abbrev pub setting_graf : TexState → Option ℕ → Outcome
+setting_graf s None = Fails NumberOutOfRange
+setting_graf s (Some graf) = leaves (assigned (with_top_list s (with_graf s.lists.nest.innermost graf)))
+
+-- \parshape: so many sizes are to follow, two for each of its lines, of which there are none where the number isn't positive; once
+-- they are there, it is assigned (section 1248)
+abbrev pub sizes_of : ℤ → ℕ
+sizes_of lines = if int_lt (pos 0) lines then unsigned_abs lines * 2 else 0
+
+abbrev pub shape_assigned : List ℤ → Assignment
+shape_assigned sizes = record { place = ParShape; change = Set (Shape_entry sizes) }
+
+abbrev pub shaping : TexState → Prefixes → ℕ → List ℤ → Outcome
+shaping s prefixes left sizes =
+    if nat_lt 0 left then leaves (record s { head = Shaping prefixes left sizes })
+    else assigning s (carried_out s.table (shape_assigned sizes) prefixes.global)
+
+-- one size more; nothing else has such sizes behind it
+abbrev pub shape_sized : TexState → ℤ → Head → Outcome
+shape_sized s size (Shaping prefixes left sizes) = shaping s prefixes (left - 1) (sizes ++ size ∷ [])
+shape_sized s size other = leaves (record s { head = Fresh })
 
 -- a group, if fewer than 255 are open
 abbrev pub opening : TexState → GroupKind → TexState → Outcome
@@ -219,6 +253,19 @@ lettering s upper tokens = leaves (record s { reader = put (map (token_for s.tab
 abbrev pub marking : TexState → List Token → Outcome
 marking s tokens = adding s (shared (large.Special (printed (escape_of s.table) s.table.table.categories tokens)))
 
+-- \patterns and \hyphenation: what is known of hyphenation grows, whatever groups are open (sections 934 and 1252)
+abbrev pub learned : {E : Type 0} → TexState → Result Rules E → Outcome
+learned s (Err e) = Fails BadHyphenation
+learned s (Ok rules) = leaves (assigned (record s { hyphenation = record s.hyphenation { hyphens = rules } }))
+
+abbrev pub patterning : TexState → Option (List (List ℕ)) → Outcome
+patterning s None = Fails BadHyphenation
+patterning s (Some texts) = learned s (with_patterns (lower_codes s.table.table) s.hyphenation.hyphens texts)
+
+abbrev pub excepting : TexState → Option (List (List ℕ)) → Outcome
+excepting s None = Fails BadHyphenation
+excepting s (Some words) = learned s (with_exceptions (lower_codes s.table.table) s.hyphenation.hyphens words)
+
 -- what becomes of a text in braces
 abbrev pub using_text : TexState → TextUse → List Token → Outcome
 using_text s purposes.Message tokens = printing s tokens
@@ -226,6 +273,17 @@ using_text s purposes.ErrorMessage tokens = Fails ErrorMessage
 using_text s purposes.UpperCase tokens = lettering s true tokens
 using_text s purposes.LowerCase tokens = lettering s false tokens
 using_text s purposes.Special tokens = marking s tokens
+using_text s purposes.Patterns tokens = patterning s (words_of s.table.table false tokens)
+using_text s purposes.Hyphenation tokens = excepting s (words_of s.table.table true tokens)
+
+-- a text in braces begins; no pattern can be added any more once a paragraph began its second pass (section 960)
+abbrev pub is_late : Hyphenation → TextUse → Bool
+is_late known purposes.Patterns = known.used
+is_late known _ = false
+
+abbrev pub beginning_text : TexState → TextUse → Outcome
+beginning_text s purpose =
+    if is_late s.hyphenation purpose then Fails BadHyphenation else leaves (record s { text = Some (absorbed_text purpose) })
 
 -- what becomes of the text that is whole
 abbrev pub ending_text : TexState → Option OpenText → Outcome
@@ -271,10 +329,18 @@ abbrev pub settled : BoxContext → TexState → TexState
 settled (Append shift) s = s
 settled (Register n) s = assigned s
 settled Ship s = s
+settled Adjust s = s
 
 -- what \everyhbox or \everyvbox has is read in a box, behind what \afterassignment keeps for \setbox (section 1083)
 abbrev pub with_every : BoxKind → TexState → TexState
 with_every box s = record s { reader = put (tokens_at s.table.table (Tokens (every_in box))) s.reader }
+
+-- but not in a \vadjust (section 1099)
+abbrev pub with_every_in : BoxContext → BoxKind → TexState → TexState
+with_every_in (Append shift) box s = with_every box s
+with_every_in (Register n) box s = with_every box s
+with_every_in Ship box s = with_every box s
+with_every_in Adjust box s = s
 
 -- the end of a box (section 1086): how deep it may be is read before its group ends
 abbrev pub ending_box : TexState → Outcome
@@ -288,13 +354,17 @@ telling report (Ships page s) = Ships page s
 telling report (Fails error) = Fails error
 telling report Ends = Ends
 
+-- what a paragraph's words are hyphenated by
+abbrev pub hyphenating : TexState → Hyphenating
+hyphenating s = record { fonts = s.words.fonts; known = s.hyphenation }
+
 -- the paragraph that is open in a vertical box ends before that does (section 1100)
 abbrev pub ending_behind : TexState → Result paragraph.Left ParError → Outcome
 ending_behind s (Err error) = Fails (paragraph.par_error error)
-ending_behind s (Ok left) = telling left.report (ending_box (record s { lists = left.lists; table = left.table }))
+ending_behind s (Ok left) = telling left.report (ending_box (record s { lists = left.lists; hyphenation = left.known; table = left.table }))
 
 abbrev pub ending_vertical : TexState → Outcome
-ending_vertical s = ending_behind s (paragraph.closing s.lists s.table)
+ending_vertical s = ending_behind s (paragraph.closing (hyphenating s) s.lists s.table)
 
 -- a paragraph begins, in which \everypar's tokens are read first (section 1091); \indent and \noindent in other lists
 abbrev pub with_every_par : Bool → TexState → TexState
@@ -311,7 +381,21 @@ inserting_par s = record s { reader = put (token.Name (codes "par") ∷ []) s.re
 -- \par (section 1094)
 abbrev pub paragraph_ended : TexState → Result paragraph.Left ParError → Outcome
 paragraph_ended s (Err error) = Fails (paragraph.par_error error)
-paragraph_ended s (Ok left) = Leaves (carrying s (record { lists = left.lists; table = left.table; due = None })) left.report
+paragraph_ended s (Ok left) = Leaves (carrying (record s { hyphenation = left.known }) (record { lists = left.lists; table = left.table; due = None })) left.report
+
+-- the end of a text of \discretionary, behind which the next one is to follow (section 1119)
+abbrev pub head_behind : BreakText → Head
+head_behind break.Before = Breaking break.Behind
+head_behind break.Behind = Breaking break.Instead
+head_behind break.Instead = Fresh
+
+abbrev pub broken_off : TexState → BreakText → Result Lists TexError → Outcome
+broken_off s text (Err error) = Fails error
+broken_off s text (Ok lists) =
+    leaves (record (carrying s (record { lists = lists; table = s.table; due = None })) { head = head_behind text })
+
+abbrev pub ending_break : TexState → BreakText → Outcome
+ending_break s text = broken_off (closing s) text (broken text s.lists)
 
 -- what an end-group token does, by the kind of the innermost group
 abbrev pub ending : TexState → Option GroupKind → Outcome
@@ -321,6 +405,7 @@ ending s (Some kind.Simple) = leaves (closing s)
 ending s (Some kind.HorizontalBox) = ending_box s
 ending s (Some kind.VerticalBox) = ending_vertical s
 ending s (Some kind.TopBox) = ending_vertical s
+ending s (Some (kind.Discretionary text)) = ending_break s text
 
 -- what \endgroup does
 abbrev pub ending_semi_simple : TexState → Option GroupKind → Outcome
@@ -330,6 +415,7 @@ ending_semi_simple s (Some kind.Simple) = Fails ExtraGroupEnd
 ending_semi_simple s (Some kind.HorizontalBox) = Fails ExtraGroupEnd
 ending_semi_simple s (Some kind.VerticalBox) = Fails ExtraGroupEnd
 ending_semi_simple s (Some kind.TopBox) = Fails ExtraGroupEnd
+ending_semi_simple s (Some (kind.Discretionary text)) = Fails ExtraGroupEnd
 
 -- how leaders are spread, as an item says it
 abbrev pub spread : LeadersKind → ItemLeaders
@@ -412,7 +498,7 @@ effect s (Character code) = collecting s code (factor_now s)
 effect s ItalicCorrection = correcting s (factor_now s)
 effect s (Indent how) = leaves (indenting how (with_every_par (begins_paragraph s.lists.nest.innermost.state) s))
 effect s InsertPar = leaves (inserting_par s)
-effect s EndParagraph = paragraph_ended s (paragraph.ending s.lists s.table)
+effect s EndParagraph = paragraph_ended s (paragraph.ending (hyphenating s) s.lists s.table)
 effect s DiscretionaryHyphen = breaking s (factor_now s)
 effect s BeginGroup = opening s kind.Simple s
 effect s EndGroup = ending s (kind_of s.table)
@@ -421,11 +507,12 @@ effect s EndSemiSimple = ending_semi_simple s (kind_of s.table)
 effect s (Prefix prefix) = prefixing s prefix
 effect s (Define defined kind) = naming s (Defining (prefixes_of s.head) defined kind) (carried_out s.table (relaxed defined) (prefixes_of s.head).global)
 effect s (Assign a) = assigning_now s a a.change
-effect s (Sized Kern size) = adding s (plain (small.Kern Explicit size))
+effect s (Sized (Item Kern) size) = adding s (plain (small.Kern Explicit size))
+effect s (Sized Shape size) = shape_sized s size s.head
 effect s (Rule kind rule) = ruling s rule
 effect s (Penalize n) = adding s (plain (small.Penalty n))
 effect s (BeginBox box goal context) =
-    carried (settled context (with_every box s)) (beginning (record { kind = box; goal = goal; target = target_of s context }) s.lists s.table)
+    carried (settled context (with_every_in context box s)) (beginning (record { kind = box; goal = goal; target = target_of s context }) s.lists s.table)
 effect s (UseBox n context) = carried (settled context s) (using (target_of s context) n s.lists s.table)
 effect s (CopyBox n context) = carried (settled context s) (copying (target_of s context) n s.lists s.table)
 effect s (LastBox context) = carried (settled context s) (taking_last (target_of s context) s.lists s.table)
@@ -435,6 +522,9 @@ effect s (Skip g) = skipping s g (leaders_before s.head)
 effect s (BeginLeaders kind rule) = leaves (record s { head = Leading kind rule })
 effect s (SetDepth depth) = setting_depth s depth
 effect s (SetFactor number) = setting_factor_of s number (factor_now s)
+effect s (SetPrevGraf number) = setting_graf s (graf_of number)
+effect s (BeginShape lines) = shaping s (prefixes_of s.head) (sizes_of lines) []
+effect s (BeginBreak text) = carried (record s { head = Fresh }) (begun_break text s.lists s.table)
 effect s (DefineFont defined) = naming s (Loading (prefixes_of s.head) defined) (carried_out s.table (meant (Command_meaning NullFont) defined) (prefixes_of s.head).global)
 effect s (LoadFont defined name asked) = finding s (record { defined = defined; global = (prefixes_of s.head).global; name = name; size = size_asked asked; file = None }) (found s.words.fonts name (size_asked asked))
 effect s (SetFontDimen font n size) = setting_fonts s (with_font_parameter s.words.fonts (number_of s font) n size)
@@ -442,6 +532,6 @@ effect s (SetFontInteger kind font n) = setting_fonts s (with_font_integer kind 
 effect s End = Ends
 effect s (Interact kind) = leaves (assigned s)
 effect s (DefineMacro defined kind) = leaves (record s { text = Some (definition_text defined kind) })
-effect s (BeginText purpose) = leaves (record s { text = Some (absorbed_text purpose) })
+effect s (BeginText purpose) = beginning_text s purpose
 effect s (DefineFuture defined) = leaves (record s { head = Future (prefixes_of s.head) defined })
 effect s (Keep kind t) = leaves (keeping_after s kind t)

@@ -94,7 +94,7 @@ pub fn take_over(s: &mut State, work: Option<Work>, report: &[u8]) -> Result<Eve
 }
 
 /// What a command of boxes answered is taken over.
-fn carry(s: &mut State, done: Done) -> Result<Event, AllocError>
+pub fn carry(s: &mut State, done: Done) -> Result<Event, AllocError>
     requires { s.old.phase ≡ Phase.Running }
     ensures { IfOk result (λ event. IsStepped (effects.carried (state_of s.old) (told done s.old.lists s.old.table)) s.old event s.new) }
 {
@@ -124,7 +124,30 @@ fn settle(s: &mut State, context: BoxContext) -> Result<(), AllocError>
 {
     match context {
         BoxContext::Register(_) => finish_assignment(s),
-        BoxContext::Append(_) | BoxContext::Ship => Ok(()),
+        BoxContext::Append(_) | BoxContext::Ship | BoxContext::Adjust => Ok(()),
+    }
+}
+
+/// The tokens of \everyhbox or \everyvbox are read next. Its only error is want of memory.
+fn read_every(s: &mut State, kind: BoxKind) -> Result<(), AllocError>
+    ensures state { OnOk result (state_of s.new ≡ effects.with_every kind (state_of s.old)) }
+    ensures phase { OnOk result (s.new.phase ≡ s.old.phase) }
+    ensures said { OnOk result (s.new.said ≡ s.old.said) }
+{
+    let every = s.table.tokens(&Place::Tokens(every_in(kind)))?;
+    s.input.push_list(every, false)?;
+    Ok(())
+}
+
+/// The same, unless the list is that of a \vadjust.
+fn read_every_in(s: &mut State, context: BoxContext, kind: BoxKind) -> Result<(), AllocError>
+    ensures state { OnOk result (state_of s.new ≡ effects.with_every_in context kind (state_of s.old)) }
+    ensures phase { OnOk result (s.new.phase ≡ s.old.phase) }
+    ensures said { OnOk result (s.new.said ≡ s.old.said) }
+{
+    match context {
+        BoxContext::Append(_) | BoxContext::Register(_) | BoxContext::Ship => read_every(s, kind),
+        BoxContext::Adjust => Ok(()),
     }
 }
 
@@ -140,8 +163,7 @@ pub fn open_box(
     ensures { IfOk result (λ event. IsStepped (effects.effect (state_of s.old) (Command.BeginBox kind goal context)) s.old event s.new) }
 {
     let target = target_of(s, context);
-    let every = s.table.tokens(&Place::Tokens(every_in(kind)))?;
-    s.input.push_list(every, false)?;
+    read_every_in(s, context, kind)?;
     settle(s, context)?;
     let open = OpenBox { kind, goal, target };
     let done = begin_box(alloc, &mut s.lists, &mut s.table, open)?;

@@ -11,17 +11,19 @@ ghost use Rattle.tx_state.specs.Texts.{is_global as global_kind};
 use crate::boxes::{
     add, add_rule, copy_box, open_box, remove, set_depth, take_box, unbox, use_box,
 };
+use crate::breaks::begin_break;
 use crate::fonts::{define_font, find_font, set_dimension, set_integer};
 use crate::groups::{end_group, end_semi_simple, open};
+use crate::hyphens::{is_late, use_exceptions, use_patterns};
 use crate::letters::{code_for, with_letters};
-use crate::paragraphs::{end_paragraph, indent, insert_par};
+use crate::paragraphs::{add_size, begin_shape, end_paragraph, indent, insert_par, set_graf};
 use crate::words::{break_word, control_space, correct_italic, set_character, set_factor, space};
 use std::alloc::{AllocError, Global};
 use std::mem;
 use tx_assign::{Assignment, Carried, Change, relaxed, with_text};
 use tx_bytes::Bytes;
 use tx_char::{ControlName, Token};
-use tx_command::{Command, Head, Prefixes};
+use tx_command::{Command, Head, Prefixes, SizeUse};
 use tx_eqtb::{Entry, GroupKind};
 use tx_expand::escape_of;
 use tx_machine::{Ask, AskKind, Event, Stop};
@@ -193,11 +195,14 @@ fn define_macro(alloc: Global, s: &mut State, defined: Place, kind: DefinitionKi
     Event::Went
 }
 
-/// \message or its kin: its text begins.
+/// \message or its kin: its text begins, unless it comes too late.
 fn begin_text(alloc: Global, s: &mut State, purpose: TextUse) -> Event
     requires { s.old.phase ≡ Phase.Running }
     ensures { IsStepped (effects.effect (state_of s.old) (Command.BeginText purpose)) s.old result s.new }
 {
+    if is_late(s, purpose) {
+        return fail(s, TexError::BadHyphenation);
+    }
     s.text = Some(OpenText::absorbed(alloc, purpose));
     Event::Went
 }
@@ -312,6 +317,8 @@ fn use_text(
         TextUse::UpperCase => change_letters(alloc, s, true, tokens),
         TextUse::LowerCase => change_letters(alloc, s, false, tokens),
         TextUse::Special => add_special(alloc, s, &tokens),
+        TextUse::Patterns => use_patterns(alloc, s, &tokens),
+        TextUse::Hyphenation => use_exceptions(alloc, s, &tokens),
     }
 }
 
@@ -344,12 +351,16 @@ pub fn relax_name(s: &mut State, name: ControlName) -> Result<Event, AllocError>
 }
 
 /// What is made of a size.
-fn use_size(s: &mut State, kind: SizeKind, size: i32) -> Result<Event, AllocError>
-    requires { s.old.phase ≡ Phase.Running }
-    ensures { IfOk result (λ event. IsStepped (effects.effect (state_of s.old) (Command.Sized kind size)) s.old event s.new) }
+fn use_size(alloc: Global, s: &mut State, size_use: SizeUse, size: i32) -> Result<Event, AllocError>
+    requires running { s.old.phase ≡ Phase.Running }
+    requires between { s.old.scan.taken ≡ [] }
+    ensures { IfOk result (λ event. IsStepped (effects.effect (state_of s.old) (Command.Sized size_use size)) s.old event s.new) }
 {
-    match kind {
-        SizeKind::Kern => add(s, Node::Plain(Plain::Kern(KernKind::Explicit, size))),
+    match size_use {
+        SizeUse::Item(SizeKind::Kern) => {
+            add(s, Node::Plain(Plain::Kern(KernKind::Explicit, size)))
+        }
+        SizeUse::Shape => add_size(alloc, s, size),
     }
 }
 
@@ -432,7 +443,7 @@ pub fn carry_out(alloc: Global, s: &mut State, command: Command) -> Result<Event
         Command::Prefix(found) => Ok(prefix(s, found)),
         Command::Define(defined, kind) => define(s, defined, kind),
         Command::Assign(assignment) => assign(alloc, s, assignment),
-        Command::Sized(kind, size) => use_size(s, kind, size),
+        Command::Sized(size_use, size) => use_size(alloc, s, size_use, size),
         Command::Rule(_, rule) => add_rule(alloc, s, rule),
         Command::BeginBox(kind, goal, context) => open_box(alloc, s, kind, goal, context),
         Command::UseBox(number, context) => use_box(alloc, s, number, context),
@@ -444,6 +455,9 @@ pub fn carry_out(alloc: Global, s: &mut State, command: Command) -> Result<Event
         Command::BeginLeaders(kind, rule) => Ok(begin_leaders(s, kind, rule)),
         Command::SetDepth(depth) => set_depth(s, depth),
         Command::SetFactor(number) => set_factor(s, number),
+        Command::SetPrevGraf(number) => set_graf(s, number),
+        Command::BeginShape(lines) => begin_shape(alloc, s, lines),
+        Command::BeginBreak(text) => begin_break(alloc, s, text),
         Command::DefineFont(defined) => define_font(s, defined),
         Command::LoadFont(defined, name, size) => find_font(s, defined, name, size),
         Command::SetFontDimen(font, number, size) => set_dimension(s, font, number, size),

@@ -10,6 +10,7 @@ ghost use Rattle.tx_state.specs.Outcomes.{leaves};
 ghost use Rattle.tx_state.specs.Meanings.{IsStepped, state_of};
 
 use crate::boxes::end_box;
+use crate::breaks::end_break;
 use crate::effects::fail;
 use crate::paragraphs::end_vertical;
 use std::alloc::{AllocError, Global};
@@ -107,6 +108,7 @@ pub fn end_group(alloc: Global, s: &mut State) -> Result<Event, AllocError>
         Some(GroupKind::HorizontalBox) => end_across(alloc, s),
         Some(GroupKind::VerticalBox) => end_vertical(alloc, s, GroupKind::VerticalBox),
         Some(GroupKind::TopBox) => end_vertical(alloc, s, GroupKind::TopBox),
+        Some(GroupKind::Discretionary(text)) => end_break(alloc, s, text),
         Some(GroupKind::SemiSimple) | None => Ok(fail(s, TexError::ExtraGroupEnd)),
     }
 }

@@ -3,13 +3,15 @@
 //! Proved: each turn is the defined step. Only tested: that the effects and the reading are TeX's, on documents that Knuth's TeX
 //! reads alike. The state is tx_state's, and how commands are taken off tokens tx_command's.
 //!
-//! Read `letters`, `groups`, `boxes`, `paragraphs`, `words`, `fonts`, `effects`, `page`, `turn` and `machine`.
+//! Read `letters`, `hyphens`, `groups`, `boxes`, `breaks`, `paragraphs`, `words`, `fonts`, `effects`, `page`, `turn` and `machine`.
 #![tactic(auto)]
 
 mod boxes;
+mod breaks;
 mod effects;
 mod fonts;
 mod groups;
+mod hyphens;
 mod letters;
 mod machine;
 mod page;

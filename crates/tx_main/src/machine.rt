@@ -13,6 +13,7 @@ use tx_bytes::Bytes;
 use tx_eqtb::Eqtb;
 use tx_expand::Expander;
 use tx_files::Name;
+use tx_hyphenate::Hyphenation;
 use tx_machine::{Date, Event, Machine, Reply, Steps};
 use tx_state::{Due, State, same_state, share_state};
 use tx_tfm::Fonts;
@@ -41,7 +42,8 @@ impl Machine for Tex {
         let name = main.clone()?;
         let table = Eqtb::new(alloc, &moment_of(date))?;
         let words = Words::new(alloc, Fonts::new(alloc))?;
-        let begun = State::new(alloc, Expander::new(alloc, job), words, table)?;
+        let hyphenation = Hyphenation::new(alloc)?;
+        let begun = State::new(alloc, Expander::new(alloc, job), words, table, hyphenation)?;
         // behind a pointer, where the state is dropped by a call
         let mut s = Box::new(alloc, begun)?;
         s.due.push(Due::OpenMain(name))?;

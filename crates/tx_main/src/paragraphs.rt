@@ -1,7 +1,8 @@
 //! How paragraphs begin and end (TeX: The Program, sections 1090 to 1100).
-ghost use Rattle.std.specs.Prelude.{◌≡◌, ◌≢◌, Some, IfOk, OnOk};
+ghost use Rattle.std.specs.Prelude.{◌≡◌, ◌≢◌, ◌∷◌, ◌++◌, [], Some, IfOk, OnOk};
 ghost use Rattle.tx_eqtb.specs.Stack.{kind_of};
 ghost use Rattle.tx_command.specs.declared.types.Command.{Command};
+ghost use Rattle.tx_command.specs.declared.types.SizeUse.{SizeUse};
 ghost use Rattle.tx_main.specs.Effects as effects;
 ghost use Rattle.tx_par.specs.declared.error.ParError.TheVariants.{OutOfMemory};
 ghost use Rattle.tx_paragraph.specs.Beginning as beginning;
@@ -11,12 +12,15 @@ ghost use Rattle.tx_state.specs.declared.parts.Phase.{Phase};
 ghost use Rattle.tx_state.specs.Meanings.{IsStepped, state_of};
 
 use crate::boxes::{end_box, take_over};
-use crate::effects::fail;
+use crate::effects::{assign_so, end_assignment, fail};
 use std::alloc::{AllocError, Global};
+use tx_assign::{Assignment, Change};
 use tx_char::{ControlName, Token};
-use tx_eqtb::GroupKind;
+use tx_command::{Head, Prefixes};
+use tx_eqtb::{Entry, GroupKind, ParShape};
+use tx_list::Items;
 use tx_machine::Event;
-use tx_nest::ModeState;
+use tx_nest::{ModeState, graf_of, set_prev_graf};
 use tx_par::ParError;
 use tx_paragraph::close_paragraph;
 use tx_prim::{Indentation, TokenParameter};
@@ -68,6 +72,90 @@ pub fn insert_par(alloc: Global, s: &mut State) -> Result<Event, AllocError>
     Ok(Event::Went)
 }
 
+/// An assignment to \prevgraf. Its only error is want of memory.
+pub fn set_graf(s: &mut State, number: i32) -> Result<Event, AllocError>
+    requires { s.old.phase ≡ Phase.Running }
+    ensures { IfOk result (λ event. IsStepped (effects.effect (state_of s.old) (Command.SetPrevGraf number)) s.old event s.new) }
+{
+    match graf_of(number) {
+        Some(graf) => {
+            set_prev_graf(s.lists.nest.top(), graf);
+            end_assignment(s)
+        }
+        None => Ok(fail(s, TexError::NumberOutOfRange)),
+    }
+}
+
+/// How many sizes follow \parshape for so many lines.
+fn sizes_of(lines: i32) -> u32
+    ensures { result ≡ effects.sizes_of lines }
+{
+    if lines > 0 {
+        lines.unsigned_abs() * 2
+    } else {
+        0
+    }
+}
+
+/// These sizes of \parshape are read, behind its prefixes, and so many are to follow; once none is, it is assigned. Its only error
+/// is want of memory.
+fn shape(
+    alloc: Global,
+    s: &mut State,
+    prefixes: Prefixes,
+    left: u32,
+    sizes: Items<i32>,
+) -> Result<Event, AllocError>
+    requires running { s.old.phase ≡ Phase.Running }
+    requires between { s.old.scan.taken ≡ [] }
+    ensures { IfOk result (λ event. IsStepped (effects.shaping (state_of s.old) prefixes left sizes) s.old event s.new) }
+{
+    if left > 0 {
+        s.scan.begin_behind(Head::Shaping(prefixes, left, sizes));
+        return Ok(Event::Went);
+    }
+    let shape = ParShape::new(alloc, sizes)?;
+    let change = Change::Set(Entry::Shape(shape));
+    let place = Place::ParShape;
+    assign_so(s, Assignment { place, change }, prefixes.global)
+}
+
+/// \parshape and how many lines it is to have. Its only error is want of memory.
+pub fn begin_shape(alloc: Global, s: &mut State, lines: i32) -> Result<Event, AllocError>
+    requires running { s.old.phase ≡ Phase.Running }
+    requires between { s.old.scan.taken ≡ [] }
+    ensures { IfOk result (λ event. IsStepped (effects.effect (state_of s.old) (Command.BeginShape lines)) s.old event s.new) }
+{
+    let prefixes = s.scan.prefixes();
+    shape(alloc, s, prefixes, sizes_of(lines), Items::new(alloc))
+}
+
+/// These sizes, and one more. Its only error is want of memory.
+fn with_size(sizes: Items<i32>, size: i32) -> Result<Items<i32>, AllocError>
+    ensures { IfOk result (λ more. more ≡ sizes ++ size ∷ []) }
+{
+    let mut sizes = sizes;
+    sizes.push(size)?;
+    Ok(sizes)
+}
+
+/// One more size of \parshape, in sp. Its only error is want of memory.
+pub fn add_size(alloc: Global, s: &mut State, size: i32) -> Result<Event, AllocError>
+    requires running { s.old.phase ≡ Phase.Running }
+    requires between { s.old.scan.taken ≡ [] }
+    ensures { IfOk result (λ event. IsStepped (effects.effect (state_of s.old) (Command.Sized SizeUse.Shape size)) s.old event s.new) }
+{
+    match s.scan.take_head() {
+        Head::Shaping(prefixes, left, sizes) => {
+            let sizes = with_size(sizes, size)?;
+            shape(alloc, s, prefixes, left.saturating_sub(1), sizes)
+        }
+        Head::Fresh | Head::Prefixed(_) | Head::Defining(_, _, _) => Ok(Event::Went),
+        Head::Future(_, _) | Head::Leading(_, _) | Head::Loading(_, _) => Ok(Event::Went),
+        Head::Breaking(_) => Ok(Event::Went),
+    }
+}
+
 /// The run ends by the error of a paragraph's lines, if that isn't want of memory.
 fn fail_by(s: &mut State, error: ParError) -> Result<Event, AllocError>
     ensures failed { IfOk result (λ event. IsStepped (Fails (par_error error)) s.old event s.new) }
@@ -86,7 +174,13 @@ pub fn end_paragraph(alloc: Global, s: &mut State) -> Result<Event, AllocError>
     requires { s.old.phase ≡ Phase.Running }
     ensures { IfOk result (λ event. IsStepped (effects.effect (state_of s.old) Command.EndParagraph) s.old event s.new) }
 {
-    match tx_paragraph::end_paragraph(alloc, &mut s.lists, &mut s.table) {
+    match tx_paragraph::end_paragraph(
+        alloc,
+        s.words.fonts(),
+        &mut s.hyphenation,
+        &mut s.lists,
+        &mut s.table,
+    ) {
         Ok(report) => take_over(s, None, report.as_slice()),
         Err(error) => fail_by(s, error),
     }
@@ -99,7 +193,13 @@ pub fn end_vertical(alloc: Global, s: &mut State, kind: GroupKind) -> Result<Eve
     requires kind { kind_of s.old.table ≡ Some kind }
     ensures { IfOk result (λ event. IsStepped (effects.ending_vertical (state_of s.old)) s.old event s.new) }
 {
-    match close_paragraph(alloc, &mut s.lists, &mut s.table) {
+    match close_paragraph(
+        alloc,
+        s.words.fonts(),
+        &mut s.hyphenation,
+        &mut s.lists,
+        &mut s.table,
+    ) {
         Ok(report) => end_box(alloc, s, kind, report),
         Err(error) => fail_by(s, error),
     }

@@ -20,7 +20,7 @@ with_leading nodes (Some g) = nodes ++ plain (Glue g) ∷ []
 abbrev pub below : ModeList → ℤ → PackedBox → Result (Option GlueSpec) NestError → Result ModeList NestError
 below list shift b (Err e) = Err e
 below list shift b (Ok leading) =
-    Ok (record { state = behind_box list.state b.head.depth; nodes = with_leading list.nodes leading ++ box_item shift b ∷ [] })
+    Ok (record list { state = behind_box list.state b.head.depth; nodes = with_leading list.nodes leading ++ box_item shift b ∷ [] })
 
 -- a box that is shifted by so much, with leading before it where the list is vertical
 abbrev pub box_appended : LeadingParams → ModeList → ℤ → PackedBox → Result ModeList NestError
@@ -28,4 +28,4 @@ box_appended params list shift b = below list shift b (leading_behind params (pr
 
 -- a rule, which has no leading
 abbrev pub rule_appended : ModeList → Rule → ModeList
-rule_appended list rule = record { state = behind_rule list.state; nodes = list.nodes ++ shared (large.Rule rule) ∷ [] }
+rule_appended list rule = record list { state = behind_rule list.state; nodes = list.nodes ++ shared (large.Rule rule) ∷ [] }

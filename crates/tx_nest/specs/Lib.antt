@@ -1,6 +1,7 @@
 pub mod Factors
 pub mod FactorFields
 pub mod States
+pub mod Grafs
 pub mod Lending
 pub mod Leading
 pub mod Appended

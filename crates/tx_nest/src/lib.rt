@@ -6,12 +6,13 @@
 //! where the mode is vertical; what is read and taken away is the last item where it is of that kind, and nothing else is.
 //! Nothing is left to tests.
 //!
-//! Modules in reading order: `factor`, `state`, `list`, `nest`, `leading`, `append`, `last`, `change`.
+//! Modules in reading order: `factor`, `state`, `graf`, `list`, `nest`, `leading`, `append`, `last`, `change`.
 #![tactic(auto)]
 
 mod append;
 mod change;
 mod factor;
+mod graf;
 mod last;
 mod leading;
 mod list;
@@ -23,6 +24,7 @@ pub use change::{
     append_item, append_items, has_last, remove_item, set_prev_depth, set_space_factor,
 };
 pub use factor::SpaceFactor;
+pub use graf::{go_on_behind, graf_of, raised_graf, set_prev_graf};
 pub use last::{last_kern, last_penalty, last_skip, take_last_box};
 pub use leading::{LeadingParams, NestError};
 pub use list::ModeList;

@@ -23,7 +23,7 @@ impl Nest {
 
     /// The pages' list alone, empty; takes no memory.
     pub fn new(alloc: Global) -> Nest
-        ensures { result ≡ record { innermost = record { state = begun mode.Vertical; nodes = [] }; around = [] } }
+        ensures { result ≡ record { innermost = record { state = begun mode.Vertical; nodes = []; prev_graf = 0 }; around = [] } }
     {
         Nest {
             innermost: ModeList::new(alloc, Mode::Vertical),

@@ -1,1 +1,4 @@
 mod Settings
+pub mod Filled
+mod Keeping
+mod Told

@@ -61,7 +61,7 @@ with_skip table list =
 abbrev pub paragraph_begun : Indentation → Table → Lists → Lists
 paragraph_begun how table lists = record lists {
   nest = record {
-    innermost = with_indent how table (record { state = begun mode.Horizontal; nodes = [] });
+    innermost = with_indent how table (record { state = begun mode.Horizontal; nodes = []; prev_graf = 0 });
     around = with_skip table lists.nest.innermost ∷ lists.nest.around;
   };
 }

@@ -1,4 +1,5 @@
 pub mod Beginning
 pub mod Shapes
 pub mod Parameters
+pub mod Hyphens
 pub mod Ending

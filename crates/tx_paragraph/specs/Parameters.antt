@@ -1,5 +1,5 @@
 -- What a paragraph takes from the table where it ends (TeX: The Program, part 39; The TeXbook, chapter 14).
-use Rattle.std.specs.Prelude.{ℤ}
+use Rattle.std.specs.Prelude.{ℤ, negsuc}
 use Rattle.tx_eqtb.specs.declared.table.Table.{Table}
 use Rattle.tx_eqtb.specs.Table.{glue_at, number_at}
 use Rattle.tx_linebreak.specs.declared.params.BreakParams.{BreakParams}
@@ -26,6 +26,13 @@ breaking_of table = record {
   left_skip = glue_at table (Glue Leftskip);
   right_skip = glue_at table (Glue Rightskip);
 }
+
+-- the same for the passes behind the first
+abbrev pub later_breaking : BreakParams → BreakParams
+later_breaking params = record params { pretolerance = negsuc 0 }
+
+abbrev pub later_params : ParParams → ParParams
+later_params params = record params { breaking = later_breaking params.breaking }
 
 -- all of it, behind so much \prevdepth
 abbrev pub params_of : Table → ℤ → ParParams

@@ -4,13 +4,15 @@
 //! Proved: what each command makes of the lists and the table, and exactly when each error comes. Only tested: that this is what TeX
 //! does.
 //!
-//! Read `parameters`, `beginning`, `shapes` and `ending`.
+//! Read `parameters`, `beginning`, `shapes`, `hyphens` and `ending`.
 #![tactic(auto)]
 
 mod beginning;
 mod ending;
+mod hyphens;
 mod parameters;
 mod shapes;
 
 pub use beginning::indent;
 pub use ending::{close_paragraph, end_paragraph};
+pub use hyphens::lower_codes;

@@ -60,3 +60,16 @@ pub(crate) fn params_of(table: &Eqtb, prev_depth: i32) -> ParParams
         prev_depth,
     }
 }
+
+/// The same for the passes behind the first.
+pub(crate) fn later_params(params: ParParams) -> ParParams
+    ensures { result ≡ spec.later_params params }
+{
+    ParParams {
+        breaking: BreakParams {
+            pretolerance: -1,
+            ..params.breaking
+        },
+        ..params
+    }
+}

@@ -30,11 +30,11 @@ fn hanging_line(size: i32, hang: i32) -> LineShape
     }
 }
 
-/// How many lines \hangafter counts.
-fn first_lines(after: i32, list: &Nodes) -> usize
-    ensures { result ≡ spec.first_lines after list.now }
+/// How many lines \hangafter still counts behind so many that have passed.
+fn first_lines(after: i32, passed: u32, list: &Nodes) -> usize
+    ensures { result ≡ spec.first_lines after passed list.now }
 {
-    (after.unsigned_abs() as usize).min(list.len().saturating_add(2))
+    (after.unsigned_abs().saturating_sub(passed) as usize).min(list.len().saturating_add(2))
 }
 
 /// So many lines of one shape, then the shape of all further ones. Its only error is want of memory.
@@ -57,13 +57,14 @@ fn hanging(
     size: i32,
     hang: i32,
     after: i32,
+    passed: u32,
     list: &Nodes,
 ) -> Result<Shape, AllocError>
-    ensures { IfOk result (λ shape. shape ≡ spec.hanging size hang after list.now) }
+    ensures { IfOk result (λ shape. shape ≡ spec.hanging size hang after passed list.now) }
 {
     let plain = plain_line(size);
     let hanging = hanging_line(size, hang);
-    let count = first_lines(after, list);
+    let count = first_lines(after, passed, list);
     if after >= 0 {
         lines_then(alloc, count, plain, hanging)
     } else {
@@ -71,9 +72,35 @@ fn hanging(
     }
 }
 
-/// The shapes of the lines of a list, of which there is at least one. Its only error is want of memory.
-pub(crate) fn shape_of(alloc: Global, table: &Eqtb, list: &Nodes) -> Result<Shape, AllocError>
-    ensures shape { IfOk result (λ shape. shape ≡ spec.shape_of table.now.table list.now) }
+/// The lines that \parshape tells by their sizes. Its only error is want of memory.
+fn told_lines(alloc: Global, sizes: &[i32]) -> Result<Vec<LineShape>, AllocError>
+    ensures { IfOk result (λ lines. lines.items ≡ spec.told_lines sizes.now) }
+{
+    let mut lines = Vec::new(alloc);
+    let mut rest = sizes;
+    while let [indent, width, more @ ..] = rest {
+        lines.push(LineShape {
+            indent: i64::from(*indent),
+            width: i64::from(*width),
+        })?;
+        rest = more;
+    }
+    Ok(lines)
+}
+
+/// Those behind so many that have passed. Its only error is want of memory.
+fn lines_behind(alloc: Global, passed: u32, lines: &[LineShape]) -> Result<Shape, AllocError>
+    requires { 0 < length lines.now }
+    ensures shape { IfOk result (λ shape. shape ≡ spec.lines_behind passed lines.now) }
+    ensures shaped { IfOk result (λ shape. 0 < length shape) }
+{
+    let first = (passed as usize).min(lines.len() - 1);
+    Ok(Items::from_vec(Vec::from_slice(alloc, &lines[first..])?))
+}
+
+/// The shapes of the lines of a list behind so many that have passed, where \parshape tells none. Its only error is want of memory.
+fn hung_lines(alloc: Global, table: &Eqtb, passed: u32, list: &Nodes) -> Result<Shape, AllocError>
+    ensures shape { IfOk result (λ shape. shape ≡ spec.hung_lines table.now.table passed list.now) }
     ensures shaped { IfOk result (λ shape. 0 < length shape) }
 {
     let line = size(table, DimensionParameter::Hsize);
@@ -82,5 +109,24 @@ pub(crate) fn shape_of(alloc: Global, table: &Eqtb, list: &Nodes) -> Result<Shap
         return Items::one(alloc, plain_line(line));
     }
     let after = integer(table, IntegerParameter::Hangafter);
-    hanging(alloc, line, hang, after, list)
+    hanging(alloc, line, hang, after, passed, list)
+}
+
+/// The shapes of the lines of a list behind so many lines that have passed, of which there is at least one. Its only error is want
+/// of memory.
+pub(crate) fn shape_of(
+    alloc: Global,
+    table: &Eqtb,
+    passed: u32,
+    list: &Nodes,
+) -> Result<Shape, AllocError>
+    ensures shape { IfOk result (λ shape. shape ≡ spec.shape_of table.now.table passed list.now) }
+    ensures shaped { IfOk result (λ shape. 0 < length shape) }
+{
+    let told = told_lines(alloc, table.par_shape())?;
+    if told.len() == 0 {
+        hung_lines(alloc, table, passed, list)
+    } else {
+        lines_behind(alloc, passed, told.as_slice())
+    }
 }

@@ -1,7 +1,7 @@
 -- Each primitive is the first of all that has its name.
 use Rattle.std.proofs.Common.{◌≡◌, ℕ, List, [], ◌∷◌, Some, IfSome, cond, true, false, refl}
 use Rattle.tx_prim.specs.declared.primitive.Primitive.{Primitive}
-use Rattle.tx_prim.specs.declared.primitive.Primitive.TheVariants.{Relax, EndCsName, Par, BeginGroup, EndGroup, Prefix, Let, Shorthand, Arithmetic, Numbered, Integer, Dimension, Glue, Tokens, Sized, Rule, Box, Shipout, End, IgnoreSpaces, Interaction, Definition, Text, After, FutureLet, BoxFrom, SetBox, Shift, Unbox, HorizontalGlue, VerticalGlue, Penalty, Remove, Last, Badness, PrevDepth, Leaders, NullFont, LoadFont, FontDimen, FontInteger, Char, SpaceFactor as Factor, ItalicCorrection, ControlSpace, Indent, DiscretionaryHyphen}
+use Rattle.tx_prim.specs.declared.primitive.Primitive.TheVariants.{Relax, EndCsName, Par, BeginGroup, EndGroup, Prefix, Let, Shorthand, Arithmetic, Numbered, Integer, Dimension, Glue, Tokens, Sized, Rule, Box, Shipout, End, IgnoreSpaces, Interaction, Definition, Text, After, FutureLet, BoxFrom, SetBox, Shift, Unbox, HorizontalGlue, VerticalGlue, Penalty, Remove, Last, Badness, PrevDepth, Leaders, NullFont, LoadFont, FontDimen, FontInteger, Char, SpaceFactor as Factor, ItalicCorrection, ControlSpace, Indent, DiscretionaryHyphen, PrevGraf, ParShape, Adjust, Discretionary}
 use Rattle.tx_prim.specs.declared.family.Prefix.TheVariants.{Global, Long, Outer}
 use Rattle.tx_prim.specs.declared.family.Interaction.TheVariants.{Batch, Nonstop, Scroll, Errorstop}
 use Rattle.tx_prim.specs.declared.family.Operation.TheVariants.{Advance, Multiply, Divide}
@@ -260,6 +260,12 @@ found ControlSpace = refl
 found (Indent Indented) = refl
 found (Indent Flush) = refl
 found DiscretionaryHyphen = refl
+found PrevGraf = refl
+found ParShape = refl
+found Adjust = refl
+found Discretionary = refl
+found (Text text.Patterns) = refl
+found (Text text.Hyphenation) = refl
 found (Integer p) = integer-found p
 found (Dimension p) = dimension-found p
 found (Tokens p) = token-found p

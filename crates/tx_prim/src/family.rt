@@ -131,6 +131,9 @@ pub enum TextUse {
     LowerCase,
     /// \special: to be written to the DVI file.
     Special,
+    /// \patterns and \hyphenation: to be known from now on where words are hyphenated.
+    Patterns,
+    Hyphenation,
 }
 
 /// What a token is kept for (The TeXbook, chapter 24).
@@ -149,6 +152,17 @@ pub enum Indentation {
     Indented,
     /// \noindent: without.
     Flush,
+}
+
+/// A text of a discretionary (TeX: The Program, section 145).
+#[derive(Clone, Copy, PartialEq, Eq, Debug)]
+pub enum BreakText {
+    /// The one before a break at it.
+    Before,
+    /// The one behind such a break.
+    Behind,
+    /// The one that stands there where no line ends.
+    Instead,
 }
 
 /// A size of a box (The TeXbook, chapter 12).

@@ -19,9 +19,9 @@ mod tokens;
 pub use dimension::DimensionParameter;
 pub use expandable::{BoxTest, CondWord, Conversion, Expandable, Test};
 pub use family::{
-    AfterKind, BoxKind, BoxSide, BoxSource, CharacterCode, DefinitionKind, FontNumber, GlueForm,
-    Indentation, Interaction, ItemKind, LeadersKind, Numbered, Operation, Prefix, RuleKind,
-    ShiftKind, Shorthand, SizeKind, TextUse, UnboxKind,
+    AfterKind, BoxKind, BoxSide, BoxSource, BreakText, CharacterCode, DefinitionKind, FontNumber,
+    GlueForm, Indentation, Interaction, ItemKind, LeadersKind, Numbered, Operation, Prefix,
+    RuleKind, ShiftKind, Shorthand, SizeKind, TextUse, UnboxKind,
 };
 pub use glue::GlueParameter;
 pub use integer::{IntegerParameter, Moment};

@@ -108,10 +108,18 @@ pub enum Primitive {
     Indent(Indentation),
     /// `\-`: a place where a word may be broken.
     DiscretionaryHyphen,
+    /// \prevgraf: how many lines the last paragraph has.
+    PrevGraf,
+    /// \parshape: the lines of a paragraph one by one.
+    ParShape,
+    /// \vadjust: vertical material that follows the line.
+    Adjust,
+    /// \discretionary.
+    Discretionary,
 }
 
 /// All primitives, in the order of their table.
-const ALL: [Primitive; 207] = [
+const ALL: [Primitive; 213] = [
     Primitive::Relax,
     Primitive::EndCsName,
     Primitive::BeginGroup,
@@ -216,6 +224,12 @@ const ALL: [Primitive; 207] = [
     Primitive::Indent(Indentation::Indented),
     Primitive::Indent(Indentation::Flush),
     Primitive::DiscretionaryHyphen,
+    Primitive::PrevGraf,
+    Primitive::ParShape,
+    Primitive::Adjust,
+    Primitive::Discretionary,
+    Primitive::Text(TextUse::Patterns),
+    Primitive::Text(TextUse::Hyphenation),
     Primitive::Integer(IntegerParameter::Pretolerance),
     Primitive::Integer(IntegerParameter::Tolerance),
     Primitive::Integer(IntegerParameter::Hbadness),
@@ -440,6 +454,12 @@ impl Primitive {
             Primitive::Indent(Indentation::Indented) => b"indent",
             Primitive::Indent(Indentation::Flush) => b"noindent",
             Primitive::DiscretionaryHyphen => b"-",
+            Primitive::PrevGraf => b"prevgraf",
+            Primitive::ParShape => b"parshape",
+            Primitive::Adjust => b"vadjust",
+            Primitive::Discretionary => b"discretionary",
+            Primitive::Text(TextUse::Patterns) => b"patterns",
+            Primitive::Text(TextUse::Hyphenation) => b"hyphenation",
             Primitive::Integer(parameter) => parameter.name(),
             Primitive::Dimension(parameter) => parameter.name(),
             Primitive::Tokens(parameter) => parameter.name(),
@@ -480,9 +500,9 @@ impl Primitive {
             Primitive::NullFont | Primitive::LoadFont => Modes::All,
             Primitive::FontDimen | Primitive::FontInteger(_) => Modes::All,
             Primitive::Char | Primitive::ControlSpace => Modes::NotVertical,
-            Primitive::DiscretionaryHyphen => Modes::NotVertical,
-            Primitive::Indent(_) => Modes::All,
-            Primitive::ItalicCorrection => Modes::OutsideVertical,
+            Primitive::DiscretionaryHyphen | Primitive::Discretionary => Modes::NotVertical,
+            Primitive::Indent(_) | Primitive::PrevGraf | Primitive::ParShape => Modes::All,
+            Primitive::ItalicCorrection | Primitive::Adjust => Modes::OutsideVertical,
             Primitive::SpaceFactor => Modes::OnlyHorizontal,
             Primitive::Par => Modes::NotMath,
             Primitive::End => Modes::Pages,

@@ -93,6 +93,8 @@ begun_by_command primitive.Penalty = no_number
 begun_by_command (primitive.Remove kind) = no_number
 begun_by_command (primitive.Leaders kind) = no_number
 begun_by_command primitive.SpaceFactor = begin.At place.SpaceFactor
+begun_by_command primitive.PrevGraf = begin.At place.PrevGraf
+begun_by_command primitive.ParShape = begin.At place.ParShape
 begun_by_command primitive.FontDimen = begin.FontDimen
 begun_by_command (primitive.FontInteger kind) = begin.FontInteger kind
 begun_by_command primitive.NullFont = no_number
@@ -102,6 +104,8 @@ begun_by_command primitive.ItalicCorrection = no_number
 begun_by_command primitive.ControlSpace = no_number
 begun_by_command (primitive.Indent how) = no_number
 begun_by_command primitive.DiscretionaryHyphen = no_number
+begun_by_command primitive.Adjust = no_number
+begun_by_command primitive.Discretionary = no_number
 
 -- a name that \chardef or \mathchardef defined is its number, and that of a register stands for its value; what means a
 -- space is one

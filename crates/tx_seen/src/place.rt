@@ -82,6 +82,10 @@ pub enum Place {
     FontInteger(FontNumber, FontName),
     /// \spacefactor of the list that is being built.
     SpaceFactor,
+    /// \prevgraf of the innermost vertical list.
+    PrevGraf,
+    /// \parshape, whose number is how many lines it has.
+    ParShape,
 }
 
 /// A clone is the same place, and shares its name. Its only error is that no more owners of a name can be counted.
@@ -115,6 +119,8 @@ impl Clone for Place {
             Place::FontDimen(font, number) => Ok(Place::FontDimen(*font, *number)),
             Place::FontInteger(kind, font) => Ok(Place::FontInteger(*kind, *font)),
             Place::SpaceFactor => Ok(Place::SpaceFactor),
+            Place::PrevGraf => Ok(Place::PrevGraf),
+            Place::ParShape => Ok(Place::ParShape),
         }
     }
 }
@@ -158,6 +164,8 @@ impl Kept for Place {
             (Place::FontInteger(kind, one), Place::FontInteger(also, other)) => kind == also
                 && one == other,
             (Place::SpaceFactor, Place::SpaceFactor) => true,
+            (Place::PrevGraf, Place::PrevGraf) => true,
+            (Place::ParShape, Place::ParShape) => true,
             _ => false,
         }
     }
@@ -188,7 +196,8 @@ impl Place {
             Place::Dimen(_) | Place::Dimension(_) | Place::BoxSize(_, _) => true,
             Place::Last(ItemKind::Kern) | Place::PrevDepth => true,
             Place::FontDimen(_, _) | Place::FontSize(_) => true,
-            Place::Font | Place::FontInteger(_, _) | Place::SpaceFactor => false,
+            Place::Font | Place::FontInteger(_, _) => false,
+            Place::SpaceFactor | Place::PrevGraf | Place::ParShape => false,
             Place::Skip(_) | Place::Muskip(_) | Place::Glue(_) => false,
             Place::Last(ItemKind::Penalty | ItemKind::Skip) | Place::Badness => false,
             Place::Name(_) | Place::Active(_) | Place::Count(_) | Place::Toks(_) => false,
@@ -210,6 +219,7 @@ impl Place {
             Place::Last(ItemKind::Penalty | ItemKind::Kern) | Place::PrevDepth => false,
             Place::FontDimen(_, _) | Place::FontSize(_) | Place::Font => false,
             Place::FontInteger(_, _) | Place::SpaceFactor => false,
+            Place::PrevGraf | Place::ParShape => false,
             Place::Name(_) | Place::Active(_) | Place::Count(_) | Place::Toks(_) => false,
             Place::Category(_) | Place::Code(_, _) | Place::Integer(_) | Place::Tokens(_) => false,
             Place::Box(_) | Place::BoxTest(_, _) | Place::Badness | Place::Magnification => false,
@@ -227,6 +237,7 @@ impl Place {
             Place::Last(_) | Place::PrevDepth => false,
             Place::FontDimen(_, _) | Place::FontSize(_) | Place::Font => false,
             Place::FontInteger(_, _) | Place::SpaceFactor => false,
+            Place::PrevGraf | Place::ParShape => false,
             Place::Name(_) | Place::Active(_) | Place::Count(_) | Place::Toks(_) => false,
             Place::Category(_) | Place::Code(_, _) | Place::Integer(_) | Place::Tokens(_) => false,
             Place::Box(_) | Place::BoxTest(_, _) | Place::Badness | Place::Magnification => false,

@@ -7,6 +7,7 @@ use Rattle.tx_char.specs.declared.tokens.Token.TheVariants as token
 use Rattle.tx_prim.specs.declared.family.BoxKind.TheVariants.{Horizontal}
 use Rattle.tx_prim.specs.declared.family.BoxSource.TheVariants as source
 use Rattle.tx_prim.specs.declared.family.Numbered.TheVariants.{Count}
+use Rattle.tx_prim.specs.declared.family.BreakText.TheVariants as text
 use Rattle.tx_prim.specs.declared.family.ShiftKind.TheVariants.{Raise}
 use Rattle.tx_prim.specs.declared.family.UnboxKind.TheVariants.{VerticalCopy}
 use Rattle.tx_prim.specs.declared.primitive.Primitive.{Primitive}
@@ -82,3 +83,12 @@ a_penalty = refl
 
 a_depth : shape shaping.PrevDepth (plain (codes "=-1000pt.")) ≡ Done (shaped.SetDepth (neg_ℤ (pos 65536000))) (plain (codes "."))
 a_depth = refl
+
+a_count_of_lines : shape shaping.PrevGraf (plain (codes "=-7.")) ≡ Done (shaped.SetPrevGraf (neg_ℤ (pos 7))) (plain (codes "."))
+a_count_of_lines = refl
+
+a_shape_of_two_lines : shape shaping.ParShape (plain (codes "=2 3pt")) ≡ Done (shaped.BeginShape (pos 2)) (plain (codes "3pt"))
+a_shape_of_two_lines = refl
+
+a_text_of_a_discretionary : shape (shaping.Break text.Before) (plain (codes " x")) ≡ Wrong MissingBeginGroup
+a_text_of_a_discretionary = refl

@@ -2,6 +2,7 @@
 -- chapters 21 and 24).
 use Rattle.std.specs.Prelude.{ℕ, ℤ, pos, neg_ℤ, ◌∷◌, [], ◌||◌, Bool, true, false, codes, List, Option, Some, None, if◌then◌else◌}
 use Rattle.tx_prim.specs.declared.family.BoxSource.{BoxSource}
+use Rattle.tx_prim.specs.declared.family.BreakText.{BreakText}
 use Rattle.tx_prim.specs.declared.family.BoxSource.TheVariants as source
 use Rattle.tx_num.specs.Glue.{GlueSpec, glue_of}
 use Rattle.tx_prim.specs.declared.family.GlueForm.{GlueForm}
@@ -29,7 +30,7 @@ use Rattle.tx_shape.specs.declared.types.BoxGoal.{BoxGoal}
 use Rattle.tx_shape.specs.declared.types.BoxGoal.TheVariants.{Natural, To, Spread}
 use Rattle.tx_shape.specs.declared.types.BoxRead.TheVariants.{Begin, Use, Copy, Last}
 use Rattle.tx_shape.specs.declared.types.Shaped.{Shaped}
-use Rattle.tx_shape.specs.declared.types.Shaped.TheVariants.{Box, Unbox, Penalize, Skip}
+use Rattle.tx_shape.specs.declared.types.Shaped.TheVariants.{BeginBreak, Box, Unbox, Penalize, Skip}
 use Rattle.tx_shape.specs.declared.scans.Opening.{Opening}
 
 -- what the list of a box is packed to: `to` or `spread` and a size, or nothing (section 645)
@@ -60,6 +61,10 @@ opened opening goal items = next (left_brace items) (λ _ rest. Done (begun open
 
 abbrev pub box_begin : Opening → List Item → Reading Shaped
 box_begin opening items = next (box_goal items) (opened opening)
+
+-- the begin-group token before a text of \discretionary (sections 1117 and 1119)
+abbrev pub break_begun : BreakText → List Item → Reading Shaped
+break_begun text items = next (left_brace items) (λ _ rest. Done (BeginBreak text) rest)
 
 -- the number of a register, 0 to 255
 abbrev pub by_byte : (ℕ → List Item → Reading Shaped) → Option ℕ → List Item → Reading Shaped

@@ -22,7 +22,7 @@ use Rattle.tx_scan.specs.declared.scans.FontSought.TheVariants as sought
 use Rattle.tx_scan.specs.FontNames.{parameter_number}
 use Rattle.tx_shape.specs.declared.scans.NumberSetting.{NumberSetting}
 use Rattle.tx_shape.specs.Settings.{font_setting, set_number, set_size}
-use Rattle.tx_shape.specs.Boxes.{box_begin, needed_box, opened, register_setting, shift_by, spread_goal}
+use Rattle.tx_shape.specs.Boxes.{box_begin, break_begun, needed_box, opened, register_setting, shift_by, spread_goal}
 
 -- the part, of these items
 abbrev pub plain_rest : Plain → List Item → Reading Shaped
@@ -31,6 +31,7 @@ plain_rest (plain.Needed context) items = needed_box context items
 plain_rest (plain.Goal opening) items = box_begin opening items
 plain_rest (plain.Spread opening) items = next (spread_goal items) (opened opening)
 plain_rest (plain.Brace opening goal) items = opened opening goal items
+plain_rest (plain.Break text) items = break_begun text items
 
 -- what follows, of these items
 abbrev pub next_rest : Next → List Item → Reading Shaped

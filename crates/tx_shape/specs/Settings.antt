@@ -1,4 +1,4 @@
--- What is set behind an optional `=` and is no part of the table (TeX: The Program, sections 1242, 1243 and 1253).
+-- What is set behind an optional `=` and is no part of the table (TeX: The Program, sections 1242 to 1244, 1248 and 1253).
 use Rattle.std.specs.Prelude.{ℕ, ℤ, ◌∷◌, [], List}
 use Rattle.tx_seen.specs.declared.error.TexError.TheVariants.{MissingNumber, NumberOutOfRange}
 use Rattle.tx_seen.specs.declared.fed.Kind.TheVariants.{Quantity}
@@ -25,7 +25,7 @@ use Rattle.tx_shape.specs.declared.scans.SizeSetting.{SizeSetting}
 use Rattle.tx_shape.specs.declared.scans.SizeSetting.TheVariants as size
 use Rattle.tx_shape.specs.declared.scans.Sizing.TheVariants.{Set}
 use Rattle.tx_shape.specs.declared.types.Shaped.{Shaped}
-use Rattle.tx_shape.specs.declared.types.Shaped.TheVariants.{SetDepth, SetFactor, SetFontDimen, SetFontInteger}
+use Rattle.tx_shape.specs.declared.types.Shaped.TheVariants.{SetDepth, SetFactor, SetPrevGraf, BeginShape, SetFontDimen, SetFontInteger}
 
 -- the number or the size that is set
 abbrev pub amount_of : Setting → Amount
@@ -39,6 +39,8 @@ set_size (size.FontDimen font n) s = SetFontDimen font n s
 
 abbrev pub set_number : NumberSetting → ℤ → Shaped
 set_number number.Factor n = SetFactor n
+set_number number.PrevGraf n = SetPrevGraf n
+set_number number.ParShape n = BeginShape n
 set_number (number.FontInteger kind font) n = SetFontInteger kind font n
 
 -- what is set

@@ -15,6 +15,7 @@ use crate::letters::{Letters, begins_spread, begins_to, expected, longer};
 use crate::scans::{Amount, Opening, Plain, ShapeScan, Sizing, Stage};
 use crate::types::{BoxGoal, BoxRead, Shaped};
 use crate::words::{Lost, Word};
+use tx_prim::BreakText;
 use tx_scan::BraceScan;
 use tx_seen::{Fed, Seen, TexError, Want};
 
@@ -117,6 +118,18 @@ impl ShapeScan {
             Lost::Brace => self.feed_brace(opening, BoxGoal::Natural, token),
             Lost::Begun(behind) => Fed::Done(begun(opening, BoxGoal::Natural), behind + 1),
             Lost::Bare => Fed::Wrong(TexError::MissingBeginGroup),
+        }
+    }
+
+    /// The begin-group token before a text of \discretionary, or what is skipped before it; what was read before is forgotten.
+    pub fn feed_break(&mut self, text: BreakText, token: &Seen) -> Fed<Shaped>
+        ensures { Begins (λ more. boxes.break_begun text (Took token.now ∷ more)) self.new result }
+    {
+        match BraceScan::new().feed(token) {
+            Fed::More(_) => self.on(Stage::Plain(Plain::Break(text))),
+            Fed::Need(kind) => Fed::Need(kind),
+            Fed::Done(_, back) => Fed::Done(Shaped::BeginBreak(text), back),
+            Fed::Wrong(error) => Fed::Wrong(error),
         }
     }
 

@@ -86,6 +86,8 @@ fn behind_set(setting: NumberSetting, number: i32) -> Next
 {
     match setting {
         NumberSetting::Factor => Next::Whole(Shaped::SetFactor(number)),
+        NumberSetting::PrevGraf => Next::Whole(Shaped::SetPrevGraf(number)),
+        NumberSetting::ParShape => Next::Whole(Shaped::BeginShape(number)),
         NumberSetting::FontInteger(kind, font) => {
             Next::Whole(Shaped::SetFontInteger(kind, font, number))
         }

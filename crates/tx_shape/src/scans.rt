@@ -2,7 +2,7 @@
 
 use crate::letters::Letters;
 use crate::types::{BoxContext, BoxGoal, Shaped};
-use tx_prim::{BoxKind, FontNumber, ShiftKind, UnboxKind};
+use tx_prim::{BoxKind, BreakText, FontNumber, ShiftKind, UnboxKind};
 use tx_scan::{DimenScan, FontSought, GlueScan, IntScan};
 use tx_seen::{FontName, TexError};
 
@@ -41,6 +41,10 @@ pub enum SizeSetting {
 pub enum NumberSetting {
     /// \spacefactor.
     Factor,
+    /// \prevgraf.
+    PrevGraf,
+    /// How many lines \parshape has.
+    ParShape,
     /// \hyphenchar or \skewchar of a font.
     FontInteger(FontNumber, FontName),
 }
@@ -90,6 +94,8 @@ pub enum Plain {
     Spread(Opening),
     /// A begin-group token, with spaces and \relax before it.
     Brace(Opening, BoxGoal),
+    /// The same before this text of \discretionary.
+    Break(BreakText),
 }
 
 /// What follows a number or a size.

@@ -17,8 +17,9 @@ use crate::scans::{
     Amount, AmountScan, Next, NumberSetting, Opening, Plain, Registering, Setting, ShapeScan,
     SizeSetting, Sizing, Stage,
 };
-use crate::types::{BoxContext, Shaped, Shaping};
+use crate::types::{BoxContext, BoxGoal, Shaped, Shaping};
 use std::alloc::{AllocError, Global};
+use tx_prim::BoxKind;
 use tx_scan::{FontSought, GlueScan};
 use tx_seen::{Fed, Seen, TexError, Value};
 
@@ -54,6 +55,18 @@ impl ShapeScan {
             Shaping::Glue(form) => self.begin_glue(form),
             Shaping::Character => self.to_amount(Amount::Register(Registering::Character)),
             Shaping::Factor => self.on(Stage::Setting(Setting::Number(NumberSetting::Factor))),
+            Shaping::PrevGraf => {
+                self.on(Stage::Setting(Setting::Number(NumberSetting::PrevGraf)))
+            }
+            Shaping::ParShape => {
+                self.on(Stage::Setting(Setting::Number(NumberSetting::ParShape)))
+            }
+            Shaping::Adjust => {
+                let (kind, context) = (BoxKind::Vertical, BoxContext::Adjust);
+                let opening = Opening { kind, context };
+                self.on(Stage::Plain(Plain::Brace(opening, BoxGoal::Natural)))
+            }
+            Shaping::Break(text) => self.on(Stage::Plain(Plain::Break(text))),
             Shaping::FontDimen => self.to_amount(Amount::FontDimen),
             Shaping::FontInteger(kind) => self.on(Stage::Font(FontSought::Integer(kind))),
         }
@@ -161,6 +174,7 @@ impl ShapeScan {
             Plain::Goal(opening) => self.feed_goal(opening, token),
             Plain::Spread(opening) => self.feed_spread(opening, token),
             Plain::Brace(opening, goal) => self.feed_brace(opening, goal, token),
+            Plain::Break(text) => self.feed_break(text, token),
         }
     }
 }

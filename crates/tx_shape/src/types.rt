@@ -1,7 +1,7 @@
 //! What families of commands are, and what they come to once they are read whole.
 use tx_bytes::Bytes;
 use tx_num::Glue;
-use tx_prim::{BoxKind, BoxSource, FontNumber, GlueForm, ShiftKind, UnboxKind};
+use tx_prim::{BoxKind, BoxSource, BreakText, FontNumber, GlueForm, ShiftKind, UnboxKind};
 use tx_seen::{FontName, Place};
 
 /// What becomes of a box (TeX: The Program, section 1071).
@@ -14,6 +14,8 @@ pub enum BoxContext {
     Register(u8),
     /// It is shipped.
     Ship,
+    /// Its list is that of a \vadjust.
+    Adjust,
 }
 
 /// What the list of a box is packed to: its natural size, so many sp, or so many more than that (The TeXbook, chapter 12).
@@ -61,6 +63,14 @@ pub enum Shaping {
     Character,
     /// \spacefactor.
     Factor,
+    /// \prevgraf.
+    PrevGraf,
+    /// \parshape.
+    ParShape,
+    /// \vadjust.
+    Adjust,
+    /// \discretionary, before this text.
+    Break(BreakText),
     /// \fontdimen.
     FontDimen,
     /// \hyphenchar and \skewchar.
@@ -84,6 +94,12 @@ pub enum Shaped {
     Character(u8),
     /// \spacefactor is to be this number.
     SetFactor(i32),
+    /// \prevgraf is to be this number.
+    SetPrevGraf(i32),
+    /// \parshape is to have so many lines.
+    BeginShape(i32),
+    /// This text of \discretionary begins.
+    BeginBreak(BreakText),
     /// The \fontdimen of this number of a font is to be so many sp.
     SetFontDimen(FontName, u16, i32),
     /// \hyphenchar or \skewchar of a font is to be this number.

@@ -19,6 +19,8 @@ use Rattle.tx_box.specs.declared.parts.Lists.{Lists}
 use Rattle.tx_box.specs.contracts.parts.Lists as lists
 use Rattle.tx_tfm.specs.declared.state.FontState.{FontState}
 use Rattle.tx_tfm.specs.contracts.state.FontState as font_state
+use Rattle.tx_hyphenate.specs.declared.known.Hyphenation.{Hyphenation}
+use Rattle.tx_hyphenate.specs.contracts.known.Hyphenation as hyphenation
 use Rattle.tx_word.specs.declared.open.OpenWord.{OpenWord}
 use Rattle.tx_word.specs.contracts.open.OpenWord as open_word
 use Rattle.tx_word.specs.Collecting.{Collecting}
@@ -80,9 +82,9 @@ words_code = code_by
 
 abbrev state_code : Coded TexState
 state_code = code_by
-    (List Due × (ℕ × (Reader × (Option OpenText × (Mode × (Head × (List Item × (Lists × (Collecting × (Eqtb × (List KeptToken × (Option Token × (Option ℤ × List ℕ)))))))))))))
-    (coded× (coded_list due.the_row.coded) (coded× coded_ℕ (coded× reader_code (coded× (coded_option open_text.the_row.coded) (coded× mode.the_row.coded (coded× head.the_row.coded (coded× (coded_list item.the_row.coded) (coded× lists.the_row.coded (coded× words_code (coded× eqtb.the_row.coded (coded× (coded_list kept_token.the_row.coded) (coded× (coded_option token.the_row.coded) (coded× (coded_option coded_ℤ) (coded_list coded_ℕ))))))))))))))
-    (λ s. (s.due, (s.files, (s.reader, (s.text, (s.mode, (s.head, (s.taken, (s.lists, (s.words, (s.table, (s.after_groups, (s.after_assignment, (s.magnification, s.defined))))))))))))))
+    (List Due × (ℕ × (Reader × (Option OpenText × (Mode × (Head × (List Item × (Lists × (Collecting × (Hyphenation × (Eqtb × (List KeptToken × (Option Token × (Option ℤ × List ℕ))))))))))))))
+    (coded× (coded_list due.the_row.coded) (coded× coded_ℕ (coded× reader_code (coded× (coded_option open_text.the_row.coded) (coded× mode.the_row.coded (coded× head.the_row.coded (coded× (coded_list item.the_row.coded) (coded× lists.the_row.coded (coded× words_code (coded× hyphenation.the_row.coded (coded× eqtb.the_row.coded (coded× (coded_list kept_token.the_row.coded) (coded× (coded_option token.the_row.coded) (coded× (coded_option coded_ℤ) (coded_list coded_ℕ)))))))))))))))
+    (λ s. (s.due, (s.files, (s.reader, (s.text, (s.mode, (s.head, (s.taken, (s.lists, (s.words, (s.hyphenation, (s.table, (s.after_groups, (s.after_assignment, (s.magnification, s.defined)))))))))))))))
     (λ p. record {
       due = p.0;
       files = p.1.0;
@@ -93,11 +95,12 @@ state_code = code_by
       taken = p.1.1.1.1.1.1.0;
       lists = p.1.1.1.1.1.1.1.0;
       words = p.1.1.1.1.1.1.1.1.0;
-      table = p.1.1.1.1.1.1.1.1.1.0;
-      after_groups = p.1.1.1.1.1.1.1.1.1.1.0;
-      after_assignment = p.1.1.1.1.1.1.1.1.1.1.1.0;
-      magnification = p.1.1.1.1.1.1.1.1.1.1.1.1.0;
-      defined = p.1.1.1.1.1.1.1.1.1.1.1.1.1;
+      hyphenation = p.1.1.1.1.1.1.1.1.1.0;
+      table = p.1.1.1.1.1.1.1.1.1.1.0;
+      after_groups = p.1.1.1.1.1.1.1.1.1.1.1.0;
+      after_assignment = p.1.1.1.1.1.1.1.1.1.1.1.1.0;
+      magnification = p.1.1.1.1.1.1.1.1.1.1.1.1.1.0;
+      defined = p.1.1.1.1.1.1.1.1.1.1.1.1.1.1;
     })
     (λ _. refl)
 

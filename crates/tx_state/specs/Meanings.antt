@@ -18,6 +18,7 @@ state_of s = record {
   taken = s.scan.taken;
   lists = s.lists;
   words = s.words;
+  hyphenation = s.hyphenation;
   table = s.table;
   after_groups = s.after_groups;
   after_assignment = s.after_assignment;

@@ -8,6 +8,7 @@ use Rattle.tx_box.specs.declared.parts.Lists.{Lists}
 use Rattle.tx_expand.specs.Reader.{Reader}
 use Rattle.tx_prim.specs.declared.modes.Mode.{Mode}
 use Rattle.tx_seen.specs.declared.item.Item.{Item}
+use Rattle.tx_hyphenate.specs.declared.known.Hyphenation.{Hyphenation}
 use Rattle.tx_word.specs.Collecting.{Collecting}
 use Rattle.tx_state.specs.declared.parts.Due.{Due}
 use Rattle.tx_state.specs.declared.parts.KeptToken.{KeptToken}
@@ -36,6 +37,8 @@ pub record TexState : Type 0 where
   pub lists : Lists
   -- the fonts, and the word that is open at the end of the innermost list
   pub words : Collecting
+  -- the patterns and exceptions of hyphenation, and whether a paragraph began its second pass
+  pub hyphenation : Hyphenation
   -- meanings, codes, registers and parameters, with the open groups
   pub table : Eqtb
   -- the tokens that \aftergroup keeps, the last first, and the one that \afterassignment keeps

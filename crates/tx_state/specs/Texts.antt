@@ -1,5 +1,5 @@
 -- Texts that are being taken, each with what it is for (TeX: The Program, sections 473 to 482).
-use Rattle.std.specs.Prelude.{◌≡◌, Bool, true, false, List, Option, None, Some, Result, Ok, Err, if◌then◌else◌}
+use Rattle.std.specs.Prelude.{◌≡◌, ◌&&◌, Bool, true, false, List, Option, None, Some, Result, Ok, Err, if◌then◌else◌}
 use Rattle.tx_char.specs.declared.tokens.Token.{Token}
 use Rattle.tx_expand.specs.declared.types.Wanted.{Wanted}
 use Rattle.tx_prim.specs.declared.family.DefinitionKind.{DefinitionKind}
@@ -36,13 +36,26 @@ is_global kinds.Expanded = false
 is_global kinds.Global = true
 is_global kinds.GlobalExpanded = true
 
--- the text of a message or a \special is expanded, that of \uppercase and \lowercase isn't
+-- the text of \uppercase and \lowercase isn't expanded, all others are
 abbrev pub expands_text : TextUse → Bool
 expands_text purposes.Message = true
 expands_text purposes.ErrorMessage = true
 expands_text purposes.UpperCase = false
 expands_text purposes.LowerCase = false
 expands_text purposes.Special = true
+expands_text purposes.Patterns = true
+expands_text purposes.Hyphenation = true
+
+-- what \the gives in a text that is expanded is put in as it stands, but in \patterns and \hyphenation it is expanded as all else is
+-- (sections 935 and 961)
+abbrev pub keeps_the : TextUse → Bool
+keeps_the purposes.Message = true
+keeps_the purposes.ErrorMessage = true
+keeps_the purposes.UpperCase = true
+keeps_the purposes.LowerCase = true
+keeps_the purposes.Special = true
+keeps_the purposes.Patterns = false
+keeps_the purposes.Hyphenation = false
 
 -- texts of which nothing is taken
 abbrev pub definition_text : Place → DefinitionKind → OpenText
@@ -57,7 +70,7 @@ list_text place = texts.List place absorbed.begun_text
 -- what is taken next
 abbrev pub text_wanted : OpenText → Wanted
 text_wanted (texts.Definition defined kind d) = record { want = definition.wanted d d.stage; text = true; takes_the = definition.takes_the d d.stage; names = false }
-text_wanted (texts.Absorbed purpose a) = record { want = absorbed.text_wanted a a.stage; text = true; takes_the = absorbed.text_takes_the a a.stage; names = false }
+text_wanted (texts.Absorbed purpose a) = record { want = absorbed.text_wanted a a.stage; text = true; takes_the = keeps_the purpose && absorbed.text_takes_the a a.stage; names = false }
 text_wanted (texts.List place a) = record { want = absorbed.text_wanted a a.stage; text = true; takes_the = absorbed.text_takes_the a a.stage; names = false }
 
 -- with tokens that \the gives

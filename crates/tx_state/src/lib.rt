@@ -6,7 +6,6 @@
 //! Read `parts`, `text` and `state`; last `kept`, `share` and `same`.
 #![tactic(auto)]
 
-mod both;
 mod kept;
 mod parts;
 mod same;

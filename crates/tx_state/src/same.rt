@@ -71,11 +71,19 @@ fn same_defined(one: &State, other: &State) -> bool
     one.defined.same(&other.defined)
 }
 
-/// Whether there are the same fonts, of which the pages define the same, and the same word is open.
-fn same_words(one: &State, other: &State) -> bool
-    ensures { IsTrue result ↔ ((one.now.defined ≡ other.now.defined) × (one.now.words ≡ other.now.words)) }
+/// Whether the same is known of hyphenation.
+fn same_hyphenation(one: &State, other: &State) -> bool
+    ensures { IsTrue result ↔ (one.now.hyphenation ≡ other.now.hyphenation) }
 {
-    same_defined(one, other) && one.words.same(&other.words)
+    one.hyphenation.same(&other.hyphenation)
+}
+
+/// Whether there are the same fonts, of which the pages define the same, and the same word is open, and the same is known of
+/// hyphenation.
+fn same_words(one: &State, other: &State) -> bool
+    ensures { IsTrue result ↔ ((one.now.defined ≡ other.now.defined) × ((one.now.words ≡ other.now.words) × (one.now.hyphenation ≡ other.now.hyphenation))) }
+{
+    same_defined(one, other) && one.words.same(&other.words) && same_hyphenation(one, other)
 }
 
 /// Whether two states mean the same, where both are ready or wait for the same.

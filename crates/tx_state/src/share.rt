@@ -2,12 +2,11 @@
 ghost use Rattle.std.specs.Prelude.{◌≡◌, IfOk, OnOk};
 ghost use Rattle.tx_state.specs.Meanings.{meaning_of};
 
-use crate::both::both;
 use crate::parts::OpenText;
 use crate::state::State;
 use std::alloc::{AllocError, Global};
 use tx_char::Token;
-use tx_list::Kept;
+use tx_list::{Kept, both};
 
 /// The same text once more, if one is being taken. Its only error is want of memory.
 fn share_text(text: &Option<OpenText>) -> Result<Option<OpenText>, AllocError>
@@ -124,9 +123,9 @@ fn share_built(s: &State, twin: &mut State) -> Result<(), AllocError>
     Ok(())
 }
 
-/// It gets all but the words, the table and what the expander has open.
+/// It gets all but the words, the table, what is known of hyphenation and what the expander has open.
 fn share_parts(alloc: Global, s: &State, twin: &mut State) -> Result<(), AllocError>
-    ensures { OnOk result (twin.new ≡ record s.now { expander = twin.old.expander; words = twin.old.words; table = twin.old.table }) }
+    ensures { OnOk result (twin.new ≡ record s.now { expander = twin.old.expander; words = twin.old.words; hyphenation = twin.old.hyphenation; table = twin.old.table }) }
 {
     share_begun(alloc, s, twin)?;
     share_built(s, twin)?;
@@ -143,8 +142,9 @@ pub fn share_state(alloc: Global, s: &State) -> Result<State, AllocError>
     ensures said { IfOk result (λ t. t.said ≡ s.now.said) }
 {
     let of_words = both(s.expander.share(alloc), s.words.share());
-    let ((expander, words), table) = both(of_words, s.table.share())?;
-    let twin = State::new(alloc, expander, words, table)?;
+    let of_table = both(s.table.share(), s.hyphenation.share());
+    let ((expander, words), (table, hyphenation)) = both(of_words, of_table)?;
+    let twin = State::new(alloc, expander, words, table, hyphenation)?;
     // behind a pointer, where the state is dropped by a call
     let mut twin = Box::new(alloc, twin)?;
     share_parts(alloc, s, &mut twin)?;

@@ -4,7 +4,6 @@ ghost use Rattle.tx_box.specs.Beginnings.{first_lists};
 ghost use Rattle.tx_pending.specs.Elements.{no_input};
 ghost use Rattle.tx_prim.specs.declared.modes.Mode.TheVariants as mode;
 
-use crate::both::both;
 use crate::parts::{Due, KeptToken, OpenText, Phase};
 use std::alloc::{AllocError, Global};
 use tx_box::Lists;
@@ -13,7 +12,8 @@ use tx_char::Token;
 use tx_command::{CommandScan, Head};
 use tx_eqtb::Eqtb;
 use tx_expand::Expander;
-use tx_list::Stack;
+use tx_hyphenate::Hyphenation;
+use tx_list::{Stack, both};
 use tx_pending::Pending;
 use tx_prim::Mode;
 use tx_word::Words;
@@ -35,6 +35,8 @@ pub struct State {
     pub lists: Lists,
     /// The fonts, and the word that is open.
     pub words: Words,
+    /// What is known of hyphenation.
+    pub hyphenation: Hyphenation,
     pub table: Eqtb,
     /// What \aftergroup keeps, the last first.
     pub after_groups: Stack<KeptToken>,
@@ -47,19 +49,20 @@ pub struct State {
 }
 
 impl State {
-    /// A state in which nothing is due or read, and the pages' list is built, with these words and this table. Its only error is
-    /// want of memory.
+    /// A state in which nothing is due or read, and the pages' list is built, with these words, this table and what is known of
+    /// hyphenation. Its only error is want of memory.
     pub fn new(
         alloc: Global,
         expander: Expander,
         words: Words,
         table: Eqtb,
+        hyphenation: Hyphenation,
     ) -> Result<State, AllocError>
-        ensures { IfOk result (λ s. s ≡ record { phase = Phase.Running; due = []; files = 0; input = no_input; expander = expander; text = None; scan = record { mode = mode.Vertical; head = Head.Fresh; taken = [] }; lists = first_lists; words = words; table = table; after_groups = []; after_assignment = None; magnification = None; defined = []; said = [] }) }
+        ensures { IfOk result (λ s. s ≡ record { phase = Phase.Running; due = []; files = 0; input = no_input; expander = expander; text = None; scan = record { mode = mode.Vertical; head = Head.Fresh; taken = [] }; lists = first_lists; words = words; hyphenation = hyphenation; table = table; after_groups = []; after_assignment = None; magnification = None; defined = []; said = [] }) }
     {
         // (what was given is dropped with the rest, in one way out)
-        let given = both(Ok((expander, words)), Ok(table));
-        let (((expander, words), table), scan) = both(
+        let given = both(Ok((expander, words)), Ok((table, hyphenation)));
+        let (((expander, words), (table, hyphenation)), scan) = both(
             given,
             CommandScan::new(alloc, Mode::Vertical),
         )?;
@@ -73,6 +76,7 @@ impl State {
             scan,
             lists: Lists::new(alloc),
             words,
+            hyphenation,
             table,
             after_groups: Stack::new(alloc),
             after_assignment: None,

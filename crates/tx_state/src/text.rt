@@ -37,7 +37,19 @@ fn expands_text(purpose: TextUse) -> bool
 {
     match purpose {
         TextUse::Message | TextUse::ErrorMessage | TextUse::Special => true,
+        TextUse::Patterns | TextUse::Hyphenation => true,
         TextUse::UpperCase | TextUse::LowerCase => false,
+    }
+}
+
+/// Whether what \the gives is put into a text as it stands, if the text is expanded.
+fn keeps_the(purpose: TextUse) -> bool
+    ensures { result ≡ spec.keeps_the purpose }
+{
+    match purpose {
+        TextUse::Message | TextUse::ErrorMessage | TextUse::Special => true,
+        TextUse::UpperCase | TextUse::LowerCase => true,
+        TextUse::Patterns | TextUse::Hyphenation => false,
     }
 }
 
@@ -78,10 +90,10 @@ impl OpenText {
                 takes_the: scan.takes_the(),
                 names: false,
             },
-            OpenText::Absorbed(_, scan) => Wanted {
+            OpenText::Absorbed(purpose, scan) => Wanted {
                 want: scan.want(),
                 text: true,
-                takes_the: scan.takes_the(),
+                takes_the: keeps_the(*purpose) && scan.takes_the(),
                 names: false,
             },
             OpenText::List(_, scan) => Wanted {

@@ -42,5 +42,6 @@ returns c =
       token_registers = IfOk-at_ok _ lists.0 c.empty_lists.ensures i;
       token_parameters = IfOk-at_ok _ lists.1 c.empty_lists-token_parameters.ensures i;
       boxes = IfOk-at_ok _ boxed.1 c.void_boxes.ensures i;
+      par_shape = c.none.ensures i;
       font = 0;
     }

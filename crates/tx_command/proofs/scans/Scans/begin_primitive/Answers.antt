@@ -1,5 +1,6 @@
 use Rattle.std.proofs.Common.{refl, ap, ◌∙◌}
 use Rattle.tx_seen.specs.declared.fed.Want.TheVariants.{Raw}
+use Rattle.tx_command.specs.declared.types.SizeUse.TheVariants.{Item}
 use Rattle.tx_command.proofs.Stages.{font-begun, future-begun, kept-begun, leaders-begun, macro-begun, name-begun, size-begun, rule-begun, spaces-begun}
 use Rattle.tx_command.proofs.scans.Scans.begin_primitive.Goals as goal
 
@@ -39,7 +40,7 @@ returns-in-Shorthand c = rw (c.in-Shorthand.is, c.on.ensures.answer) (name-begun
 pub returns-in-Sized : goal.returns-in-Sized
 returns-in-Sized c =
     rw (c.in-Sized.is, c.on-in-Sized.ensures.answer)
-    (size-begun c.in-Sized.kind c.on-in-Sized.new.self (ap (λ scans. scans.stage) c.on-in-Sized.ensures.scans) (ap (λ scans. scans.size) c.on-in-Sized.ensures.scans ∙ c.restart.ensures.scan))
+    (size-begun (Item c.in-Sized.kind) c.on-in-Sized.new.self (ap (λ scans. scans.stage) c.on-in-Sized.ensures.scans) (ap (λ scans. scans.size) c.on-in-Sized.ensures.scans ∙ c.restart.ensures.scan))
 
 pub returns-in-Rule : goal.returns-in-Rule
 returns-in-Rule c =
@@ -94,6 +95,18 @@ returns-in-Char c = rw c.in-Char.is c.begin_shape-in-Char.ensures
 
 pub returns-in-SpaceFactor : goal.returns-in-SpaceFactor
 returns-in-SpaceFactor c = rw c.in-SpaceFactor.is c.begin_shape-in-SpaceFactor.ensures
+
+pub returns-in-PrevGraf : goal.returns-in-PrevGraf
+returns-in-PrevGraf c = rw c.in-PrevGraf.is c.begin_shape-in-PrevGraf.ensures
+
+pub returns-in-ParShape : goal.returns-in-ParShape
+returns-in-ParShape c = rw c.in-ParShape.is c.begin_shape-in-ParShape.ensures
+
+pub returns-in-Adjust : goal.returns-in-Adjust
+returns-in-Adjust c = rw c.in-Adjust.is c.begin_shape-in-Adjust.ensures
+
+pub returns-in-Discretionary : goal.returns-in-Discretionary
+returns-in-Discretionary c = rw c.in-Discretionary.is c.begin_shape-in-Discretionary.ensures
 
 pub returns-in-LoadFont : goal.returns-in-LoadFont
 returns-in-LoadFont c = rw (c.in-LoadFont.is, c.on-in-LoadFont.ensures.answer) (font-begun c.on-in-LoadFont.new.self (ap (λ scans. scans.stage) c.on-in-LoadFont.ensures.scans))

@@ -54,16 +54,16 @@ returns-in_ok-feed-in-Name-clause-on c = rw c.defined.ensures (part-goes (λ nam
 pub returns-in_ok-feed-in-Sized-clause-fed : goal.returns-in_ok-feed-in-Sized-clause-fed
 returns-in_ok-feed-in-Sized-clause-fed c =
     rw c.sized.ensures
-    (part-fed dimen_rest dimen_held (λ measure. Sized c.in-Sized.kind measure.size) (stage.Sized c.in-Sized.kind) c.args.mode c.args.head.now c.args.self.now.size c.feed-in-Sized.new.self c.args.self.now _ c.args.token.now c.in_ok-feed-in-Sized.field-0 c.in-Sized.is c.in-Sized.is
+    (part-fed dimen_rest dimen_held (λ measure. Sized c.in-Sized.size_use measure.size) (stage.Sized c.in-Sized.size_use) c.args.mode c.args.head.now c.args.self.now.size c.feed-in-Sized.new.self c.args.self.now _ c.args.token.now c.in_ok-feed-in-Sized.field-0 c.in-Sized.is c.in-Sized.is
     (λ behind item more. refl) refl (λ behind item more. refl) refl c.in_ok-feed-in-Sized.ensures.part)
 
 pub returns-in_ok-feed-in-Sized-clause-needs : goal.returns-in_ok-feed-in-Sized-clause-needs
-returns-in_ok-feed-in-Sized-clause-needs c = rw c.sized.ensures (size-needs (λ measure. Sized c.in-Sized.kind measure.size) c.in-Sized.kind c.args.self.now _ c.in_ok-feed-in-Sized.field-0 c.in-Sized.is c.in-Sized.is c.in_ok-feed-in-Sized.ensures.needed)
+returns-in_ok-feed-in-Sized-clause-needs c = rw c.sized.ensures (size-needs (λ measure. Sized c.in-Sized.size_use measure.size) c.in-Sized.size_use c.args.self.now _ c.in_ok-feed-in-Sized.field-0 c.in-Sized.is c.in-Sized.is c.in_ok-feed-in-Sized.ensures.needed)
 
 pub returns-in_ok-feed-in-Sized-clause-on : goal.returns-in_ok-feed-in-Sized-clause-on
 returns-in_ok-feed-in-Sized-clause-on c =
     rw c.sized.ensures
-    (size-goes (λ measure. Sized c.in-Sized.kind measure.size) c.in-Sized.kind _ c.in_ok-feed-in-Sized.field-0 c.in-Sized.is
+    (size-goes (λ measure. Sized c.in-Sized.size_use measure.size) c.in-Sized.size_use _ c.in_ok-feed-in-Sized.field-0 c.in-Sized.is
     (fed-one dimen_rest dimen_held (dimen_most c.args.self.now.size) (λ more. dimen_rest c.args.self.now.size [] (Took c.args.token.now) more) c.args.token.now c.feed-in-Sized.new.self c.in_ok-feed-in-Sized.field-0 (most-size c.args.self.now.size) (c.in_ok-feed-in-Sized.ensures.fed [])))
 
 pub returns-in_ok-feed-in-Rule-clause-fed : goal.returns-in_ok-feed-in-Rule-clause-fed

@@ -27,18 +27,18 @@ pub returns-in_ok-give-in-Sized-clause-given : goal.returns-in_ok-give-in-Sized-
 returns-in_ok-give-in-Sized-clause-given c = λ mode head.
     let few : dimen_held c.args.self.now.size ≤ 1 = rw c.in-Sized.is at c.requires.1 in
     rw c.sized.ensures
-    (part-behind dimen_rest dimen_held (λ measure. Sized c.in-Sized.kind measure.size) (stage.Sized c.in-Sized.kind) mode head c.args.self.now.size c.give-in-Sized.new.self c.args.self.now _ c.args.value.now c.args.behind.now c.in_ok-give-in-Sized.field-0 c.in-Sized.is c.in-Sized.is
+    (part-behind dimen_rest dimen_held (λ measure. Sized c.in-Sized.size_use measure.size) (stage.Sized c.in-Sized.size_use) mode head c.args.self.now.size c.give-in-Sized.new.self c.args.self.now _ c.args.value.now c.args.behind.now c.in_ok-give-in-Sized.field-0 c.in-Sized.is c.in-Sized.is
     (λ behind item more. refl) refl (λ behind item more. refl) refl
     (given-behind dimen_rest dimen_held c.args.self.now.size c.give-in-Sized.new.self c.args.value.now c.args.behind.now c.in_ok-give-in-Sized.field-0 few c.in_ok-give-in-Sized.ensures.part))
 
 pub returns-in_ok-give-in-Sized-clause-needs : goal.returns-in_ok-give-in-Sized-clause-needs
-returns-in_ok-give-in-Sized-clause-needs c = rw c.sized.ensures (size-fewer (λ measure. Sized c.in-Sized.kind measure.size) c.in-Sized.kind c.args.self.now _ c.in_ok-give-in-Sized.field-0 c.in-Sized.is c.in-Sized.is c.in_ok-give-in-Sized.ensures.fewer)
+returns-in_ok-give-in-Sized-clause-needs c = rw c.sized.ensures (size-fewer (λ measure. Sized c.in-Sized.size_use measure.size) c.in-Sized.size_use c.args.self.now _ c.in_ok-give-in-Sized.field-0 c.in-Sized.is c.in-Sized.is c.in_ok-give-in-Sized.ensures.fewer)
 
 pub returns-in_ok-give-in-Sized-clause-on : goal.returns-in_ok-give-in-Sized-clause-on
 returns-in_ok-give-in-Sized-clause-on c =
     let few : dimen_held c.args.self.now.size ≤ 1 = rw c.in-Sized.is at c.requires.1 in
     rw c.sized.ensures
-    (size-goes (λ measure. Sized c.in-Sized.kind measure.size) c.in-Sized.kind _ c.in_ok-give-in-Sized.field-0 c.in-Sized.is
+    (size-goes (λ measure. Sized c.in-Sized.size_use measure.size) c.in-Sized.size_use _ c.in_ok-give-in-Sized.field-0 c.in-Sized.is
     (given-one dimen_rest dimen_held c.args.self.now.size c.give-in-Sized.new.self c.args.value.now c.in_ok-give-in-Sized.field-0 few c.in_ok-give-in-Sized.ensures.part))
 
 pub returns-in_ok-give-in-Rule-clause-given : goal.returns-in_ok-give-in-Rule-clause-given

@@ -1,11 +1,11 @@
-//! Two values as one, where the making of one may want memory.
+//! Two results as one.
 ghost use Rattle.std.specs.Prelude.{◌≡◌, Ok, IfOk};
 
 use std::alloc::AllocError;
 
 /// Both values, or the error of the first that failed. What else was made is dropped here, so that who makes many values has one
 /// way out.
-pub(crate) fn both<A: Drop, B: Drop>(
+pub fn both<A: Drop, B: Drop>(
     one: Result<A, AllocError>,
     other: Result<B, AllocError>,
 ) -> Result<(A, B), AllocError>
