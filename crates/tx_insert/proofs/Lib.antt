@@ -1,0 +1,5 @@
+pub mod Fitting
+pub mod Searching
+pub mod Places
+pub mod Parts
+pub mod Worked

@@ -1,0 +1,5 @@
+pub mod Kinds
+pub mod Sums
+pub mod Costs
+pub mod Breaks
+pub mod Splits
