@@ -1,26 +1,36 @@
-"""Line breaking by its rules, read once more: the breaks of a paragraph with the least demerits, for check-paragraphs.
+"""Line breaking by its rules, read once more: the breaks of a paragraph with the least demerits, for check-paragraphs and check-english.
 
-A list is taken as Knuth's TeX shows it by \\showlists, where the paragraph ends; the parameters are those of a message beside it.
-Of chains of breaks with equal demerits the one wins whose places, line numbers and classes are greatest, the last line first; and
-where no line fits in the last pass, the lines of all candidates that die there are taken, without demerits.
+A list is taken as Knuth's TeX shows it by \\showlists, where the paragraph ends; the parameters are those of a message beside it, and
+the list with its words hyphenated is what stands in the one endless line that the paragraph is ended as. Of that, a place within a
+ligature is none. Of chains of breaks with equal demerits the one wins whose places, line numbers and classes are greatest, the last
+line first; and where no line fits in the last pass, the lines of all candidates that die there are taken, without demerits.
 """
 import re
 from dataclasses import dataclass, field, replace
 from fractions import Fraction
 
 ORDERS = ["", "fil", "fill", "filll"]
-NUMBERS = "pretolerance tolerance linepenalty hyphenpenalty exhyphenpenalty adjdemerits doublehyphendemerits finalhyphendemerits hangafter".split()
+NUMBERS = "pretolerance tolerance linepenalty hyphenpenalty exhyphenpenalty adjdemerits doublehyphendemerits finalhyphendemerits hangafter prevgraf".split()
 SIZES = "hsize hangindent emergencystretch".split()
 GLUES = "leftskip rightskip parfillskip".split()
-# The message of the parameters.
-TOLD = "\\message{|=" + ";".join("\\the\\" + name for name in NUMBERS + SIZES + GLUES) + "=|}"
+# Begins a document that shows its paragraphs.
+SHOWN = "\\showboxbreadth=100000 \\showboxdepth=3 \\def\\shape{}"
+# Ends a paragraph: a message of the parameters, its list, and the list of its one line, which nothing breaks.
+TOLD = (
+    "\\message{|=" + ";".join("\\the\\" + name for name in NUMBERS + SIZES + GLUES) + ";\\shape=|}\\showlists"
+    "{\\pretolerance=-1 \\tolerance=-1 \\emergencystretch=0pt \\hsize=16383pt \\hangindent=0pt \\parshape=0 \\leftskip=0pt \\rightskip=0pt \\par}"
+    "\\setbox200\\lastbox\\showbox200 \\par\\def\\shape{}"
+)
+# Stands for the penalty that forces a break, which would divide the line.
+FORCING = -9999
 VERY_LOOSE, LOOSE, DECENT, TIGHT = range(4)
 OVERFULL = None
 
 
 @dataclass(frozen=True)
 class Item:
-    """An item of a list: what it is, its sizes, and the characters that it sets; of a discretionary those before and behind a break."""
+    """An item of a list: what it is, its sizes, and the characters that it sets; of a discretionary those before and behind a break,
+    and how many of the items behind it are its text where no line ends there."""
     kind: str
     width: int = 0
     stretch: tuple = (0, 0)
@@ -29,6 +39,7 @@ class Item:
     text: tuple = ()
     before: tuple = ()
     behind: tuple = ()
+    replaced: int = 0
 
 
 def scaled(text):
@@ -49,11 +60,17 @@ def glue_of(text):
     return Item("glue", scaled(width), with_order(stretch or "0.0"), with_order(shrink or "0.0"))
 
 
+def shape_of(text):
+    """The lines that \\parshape tells, each its width."""
+    sizes = [scaled(word.removesuffix("pt")) for word in text.split()]
+    return sizes[1::2]
+
+
 def parameters(text):
     """The parameters that the message tells."""
-    values = text.split(";")
+    *values, shape = text.split(";")
     readers = [int] * len(NUMBERS) + [lambda told: scaled(told.removesuffix("pt"))] * len(SIZES) + [glue_of] * len(GLUES)
-    return {name: read(value) for name, read, value in zip(NUMBERS + SIZES + GLUES, readers, values)}
+    return {"shape": shape_of(shape)} | {name: read(value) for name, read, value in zip(NUMBERS + SIZES + GLUES, readers, values)}
 
 
 def code_of(shown):
@@ -72,40 +89,84 @@ def item_of(line, widths):
     if found := re.match(r"\\kern( ?)(-?[\d.]+)$", line):
         return Item("kern" if found[1] else "solid", scaled(found[2]))
     if found := re.match(r"\\penalty (-?\d+)$", line):
-        return Item("penalty", penalty=int(found[1]))
+        return Item("penalty", penalty=-10000 if int(found[1]) == FORCING else int(found[1]))
     if found := re.match(r"\\(?:[hv]box|rule)\(\S*\)x(-?[\d.]+)", line):
         return Item("solid", scaled(found[1]))
-    if line == "\\discretionary":
-        return Item("discretionary")
+    if found := re.match(r"\\discretionary(?: replacing (\d+))?$", line):
+        return Item("discretionary", replaced=int(found[1] or 0))
     if line.startswith("\\special"):
         return Item("solid")
     font, shown = re.match(r"\\(\w+) (\S+)", line).groups()
     return Item("solid", widths[font][code_of(shown)], text=(code_of(shown),))
 
 
+def with_line(items, line, widths):
+    """Items with the one that a line shows, or with its characters in the box that stands last."""
+    if line[0] not in ".|":
+        return [*items, item_of(line, widths)]
+    return [*items[:-1], replace(items[-1], text=items[-1].text + item_of(line[1:], widths).text)]
+
+
 def items_of(shown, widths):
     """The items of a list as \\showlists shows it, with the characters of boxes in it."""
     items = []
     for line in shown:
-        if line[0] not in ".|":
-            items.append(item_of(line, widths))
-        elif items[-1].kind == "discretionary":
+        if line[0] in ".|" and items[-1].kind == "discretionary":
             side = "before" if line[0] == "." else "behind"
-            items[-1] = replace(items[-1], **{side: getattr(items[-1], side) + (item_of(line[1:], widths),)})
-        else:
-            items[-1] = replace(items[-1], text=items[-1].text + item_of(line[1:], widths).text)
+            items[-1] = replace(items[-1], **{side: tuple(with_line(getattr(items[-1], side), line[1:], widths))})
+        elif line[1:2] not in (".", "|") or line[0] not in ".|":
+            items[-1:] = with_line(items[-1:], line, widths)
     return items
 
 
+def divided(item, whole):
+    """What stands for a place and the items that it has where no line ends, if it is a seam: where both sides stand in these as they are,
+    with a kern or nothing between. Before a break there is a hyphen behind the one side, unless its font has none."""
+    right = list(item.behind)
+    for left in [list(item.before[:-1]), list(item.before)]:
+        middle = whole[len(left):len(whole) - len(right)]
+        if whole == left + middle + right and all(it.kind == "solid" and not it.text for it in middle):
+            return [*left, replace(item, before=item.before[len(left):], behind=(), replaced=len(middle)), *middle, *right]
+    return None
+
+
+def seams_only(items, given):
+    """A hyphenated list, in which places within ligatures are none and a kern at a place is the text of its discretionary; the
+    discretionaries of the list that was given stay as they are."""
+    texts = [(it.before, it.behind) for it in given if it.kind == "discretionary" and it.replaced]
+    made, at = [], 0
+    while at < len(items):
+        item = items[at]
+        at += 1
+        if not item.replaced:
+            made.append(item)
+        elif (item.before, item.behind) in texts:
+            texts.remove((item.before, item.behind))
+            made.append(item)
+        else:
+            whole = items[at:at + item.replaced]
+            at += item.replaced
+            made += divided(item, whole) or whole
+    return made
+
+
 def paragraphs_of(log, widths):
-    """The parameters and the list of each paragraph of a log whose list and message are shown where it ends."""
-    shown = re.findall(r"\|=(-?\d[^|]*)=\|.*?\n### horizontal mode entered[^\n]*\n(.*?)spacefactor", log, re.S)
-    return [(parameters(told), items_of(filter(None, lines.split("\n")), widths)) for told, lines in shown]
+    """The parameters of each paragraph of a log, its list, this with its words hyphenated, and the same as Knuth's TeX has it."""
+    pattern = r"\|=(-?\d[^|]*)=\|.*?\n### horizontal mode entered[^\n]*\n(.*?)spacefactor.*?\n> \\box200=(.*?)\n\n"
+    found = []
+    for told, lines, line in re.findall(pattern, log, re.S):
+        items = items_of(filter(None, lines.split("\n")), widths)
+        if items:
+            # (without its box, and without the end that the list gets)
+            knuths = items_of([it[1:] for it in line.split("\n")[2:-3]], widths)
+            knuths += [items[-1]] if items[-1].kind == "glue" else []
+            found.append((parameters(told), items, seams_only(knuths, items), knuths))
+    return found
 
 
 def ended(items, params):
     """A list with its end: without its last glue, and with a penalty, \\parfillskip and the break that has to be taken."""
-    whole = items[:-1] if items and items[-1].kind == "glue" else items
+    whole = items[:-1] if items and items[-1].kind == "glue" else list(items)
     return whole + [Item("penalty", penalty=10000), params["parfillskip"], Item("penalty", penalty=-10000)]
 
 
@@ -120,6 +181,9 @@ def badness(size, total):
 
 def line_width(params, number):
     """The width of a line by its number, from 1 on."""
+    number += params["prevgraf"]
+    if params["shape"]:
+        return params["shape"][min(number, len(params["shape"])) - 1]
     hang, after = params["hangindent"], params["hangafter"]
     hangs = number > after if after >= 0 else number <= -after
     return params["hsize"] - (abs(hang) if hangs else 0)
@@ -127,12 +191,17 @@ def line_width(params, number):
 
 @dataclass
 class List:
-    """An ended list, with the sums of its sizes before each place."""
+    """An ended list, with the sums of its sizes before each place, the places in texts of discretionaries, and the sizes of lines so far."""
     items: list
     params: dict
     sums: list = field(default_factory=list)
+    inside: set = field(default_factory=set)
+    skips: list = field(default_factory=list)
+    known: dict = field(default_factory=dict)
 
     def __post_init__(self):
+        self.skips = self.with_sizes(self.with_sizes([0] * 6, self.params["leftskip"]), self.params["rightskip"])
+        self.inside = {place + k + 1 for place, item in enumerate(self.items) for k in range(item.replaced)}
         sums = [0] * 6
         for item in self.items + [None]:
             self.sums.append(sums)
@@ -148,8 +217,10 @@ class List:
     def penalty(self, place):
         """The penalty of the break at a place, None where none is legal."""
         item, solid = self.items[place], ("solid", "discretionary")
+        if place in self.inside:
+            return None
         if item.kind == "glue":
-            return 0 if 0 < place and self.items[place - 1].kind in solid else None
+            return 0 if 0 < place and (self.items[place - 1].kind in solid or place - 1 in self.inside) else None
         if item.kind == "kern":
             return 0 if self.items[place + 1].kind == "glue" else None
         penalty = item.penalty
@@ -163,7 +234,7 @@ class List:
         """Where the line behind a break begins."""
         if place is None:
             return 0
-        start = place + 1
+        start = place + 1 + self.items[place].replaced
         if not self.items[place].behind:
             while start < len(self.items) and self.items[start].kind in ("glue", "kern", "penalty"):
                 start += 1
@@ -175,11 +246,13 @@ class List:
 
     def sizes(self, start, place):
         """A line's width, stretch of each order and shrink."""
-        first = min(self.start(start), place)
-        sums = [one - other for one, other in zip(self.sums[place], self.sums[first])]
-        for item in [self.params["leftskip"], self.params["rightskip"], *sum(self.at_ends(start, place), ())]:
-            sums = self.with_sizes(sums, item)
-        return sums
+        if (start, place) not in self.known:
+            first = min(self.start(start), place)
+            sums = [one - other + more for one, other, more in zip(self.sums[place], self.sums[first], self.skips)]
+            for item in sum(self.at_ends(start, place), ()):
+                sums = self.with_sizes(sums, item)
+            self.known[start, place] = sums
+        return self.known[start, place]
 
     def fit(self, start, place, number, more):
         """The badness and class of a line between breaks that may stretch by so much more."""
@@ -211,6 +284,10 @@ class List:
         behind, before = self.at_ends(start, place)
         items = [*behind, *self.items[min(self.start(start), place):place], *before]
         return tuple(code for item in items for code in item.text)
+
+    def lines(self, places):
+        """Those between breaks, where they have a character."""
+        return [line for one, other in zip(places, places[1:]) if (line := self.line(one, other))]
 
 
 def chains(whole, tolerance, more, last, beats):
@@ -248,14 +325,14 @@ def earlier(chain, other):
     return (-chain[0], other[1]) > (-other[0], chain[1])
 
 
-def breaks(items, params, beats=later):
-    """What breaks a paragraph with this list: the list with its end, the places of the breaks behind that of its beginning, their
-    demerits, and whether a line was forced."""
-    whole, best = List(ended(items, params), params), None
+def breaks(items, hyphenated, params, beats=later):
+    """What breaks a paragraph with this list, and hyphenated this one: the list that was broken, with its end, the places of the breaks
+    behind that of its beginning, their demerits, and whether a line was forced."""
     emergency = max(params["emergencystretch"], 0)
-    passes = [(params["pretolerance"], 0, False)] if params["pretolerance"] >= 0 else []
-    passes += [(params["tolerance"], 0, emergency == 0)] + ([(params["tolerance"], emergency, True)] if emergency else [])
-    for tolerance, more, last in passes:
+    passes = [(items, params["pretolerance"], 0, False)] if params["pretolerance"] >= 0 else []
+    passes += [(hyphenated, params["tolerance"], 0, emergency == 0)] + ([(hyphenated, params["tolerance"], emergency, True)] if emergency else [])
+    for list_of_pass, tolerance, more, last in passes:
+        whole, best = List(ended(list_of_pass, params), params), None
         for chain in chains(whole, tolerance, more, last, beats):
             if best is None or beats(chain, best):
                 best = chain

@@ -12,6 +12,8 @@ import resource
 import subprocess
 
 FILE = 1000000
+# What takes longer counts as endless.
+SECONDS = 2
 
 # What Knuth's TeX says of each error, by our number; the first that fits is it.
 ERRORS = [
@@ -47,9 +49,9 @@ ERRORS = [
 ]
 
 
-def ours(program, folder, names, options=()):
+def ours(program, folder, names, options=(), budget=20000):
     """The line that the program says, and its transcript."""
-    words = [program, "run", "--date", "2024-5-17-570", "--budget", "20000", "--out", "a", *options, *names]
+    words = [program, "run", "--date", "2024-5-17-570", "--budget", str(budget), "--out", "a", *options, *names]
     said = subprocess.run(words, cwd=folder, capture_output=True).stdout.decode("latin-1")
     log = b""
     if os.path.exists(os.path.join(folder, "a.log")):
@@ -103,7 +105,7 @@ def log_of(folder, *options):
     place = {"max_print_line": "1000000", "TEXINPUTS": ".", "error_line": "254", "half_error_line": "200"}
     try:
         none = subprocess.DEVNULL
-        subprocess.run(words, cwd=folder, stdin=none, stdout=none, stderr=none, env={**os.environ, **place}, timeout=2, preexec_fn=short_files)
+        subprocess.run(words, cwd=folder, stdin=none, stdout=none, stderr=none, env={**os.environ, **place}, timeout=SECONDS, preexec_fn=short_files)
     except subprocess.TimeoutExpired:
         return None
     with open(os.path.join(folder, "main.log"), encoding="latin-1") as file:
