@@ -1,5 +1,5 @@
 -- Totals of lists, piece by piece.
-use Rattle.std.proofs.Common.{◌≡◌, ℕ, suc, ◌+◌, ◌*◌, ◌-◌, ◌<◌, ◌≤◌, ◌^◌, ℤ, pos, ◌+ℤ◌, ◌-ℤ◌, unsigned_abs, List, [], ◌∷◌, ◌++◌, length, take, drop, get_or, refl, sym, ap, subst, ◌∙◌, arith}
+use Rattle.std.proofs.Common.{◌≡◌, ℕ, suc, ◌+◌, ◌*◌, ◌-◌, ◌<◌, ◌≤◌, ◌^◌, Bool, true, false, cond, ℤ, pos, ◌+ℤ◌, ◌-ℤ◌, unsigned_abs, List, [], ◌∷◌, ◌++◌, length, take, drop, get_or, refl, sym, ap, subst, ◌∙◌, arith}
 use Rattle.std.proofs.Common.{to_z, of_z}
 use Rattle.std.proofs.lemmas.Int.{ints, to_z-of_z, fits_signed_from_abs}
 use Rattle.std.proofs.lemmas.List.{take_more}
@@ -8,11 +8,14 @@ use Rattle.std.proofs.Math.Seq.{get_or-append_seam}
 use Rattle.std.proofs.Common.{inl, inr, length-append}
 use Rattle.std.proofs.lemmas.Bool.{cases_lt}
 use Rattle.std.proofs.Common.{min}
-use Rattle.std.specs.Prelude.{slice_range}
+use Rattle.std.specs.Prelude.{int_lt, slice_range}
 use Rattle.std.proofs.Math.Seq.{take-add}
 use mir.Syntax.{w128}
+use Rattle.tx_linebreak.specs.declared.line.Candidate.{Candidate}
 use Rattle.tx_linebreak.specs.declared.piece.Piece.{Piece}
 use Rattle.tx_linebreak.specs.declared.totals.Totals.{Totals}
+use Rattle.tx_linebreak.specs.Lines.{Attempt, background, begin_width, end_width, first_place, fit_of, line_fit, line_totals, line_width, shrunk, stretched}
+use Rattle.tx_linebreak.specs.Trials.{totals_until}
 use Rattle.tx_linebreak.specs.Totals.{IsWithin, both, less, piece_totals, rigid, totals_of}
 
 -- the sums up to a place
@@ -73,6 +76,17 @@ both_none a = λ i. record {
   fill = plus_zero a.fill i;
   filll = plus_zero a.filll i;
   shrink = plus_zero a.shrink i;
+}
+
+-- a width that can't move, added
+pub widened : (a : Totals) (z w : ℤ) → z ≡ a.width +ℤ w → record a { width = z } ≡ both a (rigid w)
+widened a z w is = λ i. record {
+  width = is i;
+  stretch = sym (plus_zero a.stretch) i;
+  fil = sym (plus_zero a.fil) i;
+  fill = sym (plus_zero a.fill) i;
+  filll = sym (plus_zero a.filll) i;
+  shrink = sym (plus_zero a.shrink) i;
 }
 
 pub none_both : (a : Totals) → both (rigid (pos 0)) a ≡ a
@@ -190,3 +204,51 @@ within_less a b m n h k = record {
   filll_in = abs_less a.filll b.filll m n h.filll_in k.filll_in;
   shrink_in = abs_less a.shrink b.shrink m n h.shrink_in k.shrink_in;
 }
+
+-- a line that begins with a text, by what its other pieces have to be together
+lt_moved : (x b w : ℤ) → int_lt (x +ℤ b) w ≡ int_lt x (w -ℤ b)
+lt_moved x b w = by (int_lt (x +ℤ b) w) (int_lt x (w -ℤ b)) refl refl
+  where
+    by : (p q : Bool) → int_lt (x +ℤ b) w ≡ p → int_lt x (w -ℤ b) ≡ q → p ≡ q
+    by true true e f = refl
+    by true false e f = absurd (omega (arith, ints))
+    by false true e f = absurd (omega (arith, ints))
+    by false false e f = refl
+
+pub fit_moved : (w b : ℤ) (t : Totals) → fit_of w (record t { width = t.width +ℤ b }) ≡ fit_of (w -ℤ b) t
+fit_moved w b t =
+    let short : w -ℤ (t.width +ℤ b) ≡ (w -ℤ b) -ℤ t.width = omega (arith, ints) in
+    let long : (t.width +ℤ b) -ℤ w ≡ t.width -ℤ (w -ℤ b) = omega (arith, ints) in
+    λ i. cond (lt_moved t.width b w i) (stretched t (short i)) (shrunk t (long i))
+
+pub line_moved : (b e : ℤ) (around s r : Totals) → both (both around (rigid (b +ℤ e))) (less s r) ≡ record (less (both (both around (rigid e)) s) r) { width = (less (both (both around (rigid e)) s) r).width +ℤ b }
+line_moved b e around s r = λ i. record {
+  width = by around.width s.width r.width i;
+  stretch = still around.stretch s.stretch r.stretch i;
+  fil = still around.fil s.fil r.fil i;
+  fill = still around.fill s.fill r.fill i;
+  filll = still around.filll s.filll r.filll i;
+  shrink = still around.shrink s.shrink r.shrink i;
+}
+  where
+    by : (x y z : ℤ) → (x +ℤ (b +ℤ e)) +ℤ (y -ℤ z) ≡ (((x +ℤ e) +ℤ y) -ℤ z) +ℤ b
+    by x y z = omega (arith, ints)
+
+    still : (x y z : ℤ) → (x +ℤ pos 0) +ℤ (y -ℤ z) ≡ ((x +ℤ pos 0) +ℤ y) -ℤ z
+    still x y z = omega (arith, ints)
+
+-- how a line fits, by the totals until its end and those before its beginning
+pub fits_by : (a : Attempt) (c : Candidate) (place first : ℕ) (goal : ℤ) → first ≡ min (first_place a.pieces c.place) place → goal ≡ line_width a.shape c.lines -ℤ begin_width a.pieces c.place → fit_of goal (less (totals_until a place) (totals_of (take first a.pieces))) ≡ line_fit a c place
+unfolding line_fit line_totals
+fits_by a c place first goal first_is goal_is =
+    let b = begin_width a.pieces c.place in
+    let e = end_width a.pieces place in
+    let w = line_width a.shape c.lines in
+    let around = background a.params a.pass in
+    let s = totals_of (take place a.pieces) in
+    let f = first_place a.pieces c.place in
+    let r = totals_of (take (min f place) a.pieces) in
+    (λ i. fit_of (goal_is i) (less (totals_until a place) (totals_of (take (first_is i) a.pieces))))
+    ∙ sym (fit_moved w b (less (totals_until a place) r))
+    ∙ ap (fit_of w) (sym (line_moved b e around s r))
+    ∙ ap (λ (t : Totals). fit_of w (both (both around (rigid (b +ℤ e))) t)) (part_totals a.pieces f place)

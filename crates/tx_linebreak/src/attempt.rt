@@ -1,18 +1,20 @@
 //! A pass over a list.
-ghost use Rattle.std.specs.Prelude.{◌≡◌, ◌<◌, ◌≤◌, ◌^◌, ◌+ℤ◌, ◌||◌, length, slice_range, unsigned_abs, IfSome};
+ghost use Rattle.std.specs.Prelude.{◌≡◌, ◌<◌, ◌≤◌, ◌^◌, ◌-ℤ◌, ◌||◌, ◌&&◌, is_some, length, unsigned_abs, IfSome};
 ghost use Rattle.tx_linebreak.specs.Breaks.{discretionary_at, is_forced, past_discardables, start_of};
 ghost use Rattle.tx_linebreak.specs.Chains.{is_last_pass, is_overfull, is_tolerable, line_set, tolerance_of};
-ghost use Rattle.tx_linebreak.specs.Lines.{begin_width, begins_hyphened, demerits_of, end_width, first_place, is_last, line_fit, line_totals};
+ghost use Rattle.tx_linebreak.specs.Lines.{begin_width, begins_hyphened, demerits_of, end_width, first_place, is_last, line_fit};
 ghost use Rattle.tx_linebreak.specs.Sums.{AreStarts};
 ghost use Rattle.tx_linebreak.specs.Tasks.{IsTask, attempt_of};
-ghost use Rattle.tx_linebreak.specs.Totals.{IsWithin, rigid, totals_of};
+ghost use Rattle.tx_linebreak.specs.Totals.{IsWithin};
+ghost use Rattle.tx_linebreak.specs.Trials.{IsStart, totals_until};
 
 use crate::demerits::{are_apart, line_demerits};
-use crate::fit::{fit, line_shape};
-use crate::line::{Candidate, Fit, Line};
+use crate::fit::{fit, line_width};
+use crate::line::{Fit, Line};
 use crate::params::{BreakParams, LineShape, Pass};
 use crate::piece::{Class, Discretionary, Piece};
 use crate::totals::Totals;
+use crate::trial::{Start, Trial};
 use tx_num::Scaled;
 
 /// A pass over a list: its pieces, the totals before each of its places, where lines start, the shapes of lines, the parameters, and what stands
@@ -113,14 +115,12 @@ fn begins_hyphened(pieces: &[Piece], from: Option<usize>) -> bool
     }
 }
 
-/// The sum of two widths of texts, which can't stretch or shrink.
-fn ends(begin: Scaled, end: Scaled) -> Totals
-    ensures value { result ≡ rigid (begin +ℤ end) }
-    ensures small { IsWithin (2 ^ 64) result }
+/// How wide the rest of a line of this width is that begins with a text.
+fn rest(width: Scaled, begin: Scaled) -> i128
+    ensures value { result ≡ width -ℤ begin }
+    ensures small { unsigned_abs result ≤ 2 ^ 65 }
 {
-    let mut totals = Totals::rigid(0);
-    totals.width = i128::from(begin) + i128::from(end);
-    totals
+    i128::from(width) - i128::from(begin)
 }
 
 /// Whether a place is the last one.
@@ -144,85 +144,106 @@ pub(crate) fn dies(penalty: i32, fit: Fit) -> bool
     }
 }
 
+/// Whether a line that fits so may be taken where this is the worst badness that it may have.
+pub(crate) fn is_tolerable(tolerance: i32, fit: Fit) -> bool
+    ensures { result ≡ is_tolerable tolerance fit }
+{
+    match fit {
+        Fit::Overfull => false,
+        Fit::Set { badness, .. } => i64::from(badness) <= i64::from(tolerance),
+    }
+}
+
 impl Task<'_> {
-    /// What the pieces of the line from a break to a place have.
-    fn inside(&self, from: Option<usize>, place: usize) -> Totals
+    /// Where the line behind a break at a place, or at the list's beginning, begins, with so many lines before it.
+    pub fn start(&self, from: Option<usize>, lines: usize) -> Start
         requires task { IsTask self.now }
-        requires place { place < length self.now.pieces.now }
         requires from { IfSome from (λ place. place < length self.now.pieces.now) }
-        ensures value { result ≡ totals_of (slice_range self.now.pieces.now (first_place self.now.pieces.now from) place) }
-        ensures small { IsWithin (2 ^ 95) result }
+        ensures { IsStart (attempt_of self.now) from lines result }
     {
-        let first = first_place(self.pieces, self.starts, from).min(place);
-        let until = self.sums[place];
-        let before = self.sums[first];
-        until.minus(&before)
+        let width = line_width(self.shape, lines);
+        let begin = begin_width(self.pieces, from);
+        Start {
+            first: first_place(self.pieces, self.starts, from),
+            goal: rest(width, begin),
+            hyphened: begins_hyphened(self.pieces, from),
+        }
     }
 
-    /// What the line from a break to a place has.
-    fn line_totals(&self, from: Option<usize>, place: usize) -> Totals
+    /// What the pieces before a place have, with what the pass adds to each line and the text at the line's end.
+    pub fn totals_until(&self, place: usize) -> Totals
         requires task { IsTask self.now }
         requires place { place < length self.now.pieces.now }
-        requires from { IfSome from (λ place. place < length self.now.pieces.now) }
-        ensures value { result ≡ line_totals (attempt_of self.now) from place }
+        ensures value { result ≡ totals_until (attempt_of self.now) place }
         ensures small { IsWithin (2 ^ 97) result }
     {
-        let ends = ends(
-            begin_width(self.pieces, from),
-            end_width(self.pieces, place),
-        );
-        let inside = self.inside(from, place);
-        self.background.plus(&ends).plus(&inside)
+        let end = Totals::text(end_width(self.pieces, place));
+        let before = self.sums[place];
+        self.background.plus(&end).plus(&before)
     }
 
-    /// How the line from a candidate to a place fits.
-    pub fn line_fit(&self, c: &Candidate, place: usize) -> Fit
+    /// How the line that is tried fits to a place, given what stands until it.
+    pub fn line_fit(&self, trial: &Trial, until: &Totals, place: usize) -> Fit
         requires task { IsTask self.now }
         requires place { place < length self.now.pieces.now }
-        requires from { IfSome c.now.place (λ place. place < length self.now.pieces.now) }
-        ensures { result ≡ line_fit (attempt_of self.now) c.now place }
+        requires start { IsStart (attempt_of self.now) trial.now.from.place trial.now.from.lines trial.now.start }
+        requires until { until.now ≡ totals_until (attempt_of self.now) place }
+        requires small { IsWithin (2 ^ 97) until.now }
+        ensures { result ≡ line_fit (attempt_of self.now) trial.now.from place }
     {
-        let totals = self.line_totals(c.place, place);
-        fit(&line_shape(self.shape, c.lines), &totals)
+        let first = trial.start.first.min(place);
+        let before = self.sums[first];
+        fit(trial.start.goal, &until.minus(&before))
     }
 
-    /// The demerits of the line from a candidate to a break, of this badness and class.
+    /// Whether the line that is tried begins behind a discretionary and ends at one.
+    fn is_double(&self, trial: &Trial, place: usize) -> bool
+        requires start { IsStart (attempt_of self.now) trial.now.from.place trial.now.from.lines trial.now.start }
+        ensures { result ≡ (begins_hyphened self.now.pieces.now trial.now.from.place && is_some (discretionary_at self.now.pieces.now place)) }
+    {
+        trial.start.hyphened && discretionary_at(self.pieces, place).is_some()
+    }
+
+    /// Whether the line that is tried begins behind a discretionary and is the last one.
+    fn is_behind_hyphen(&self, trial: &Trial, place: usize) -> bool
+        requires place { place < length self.now.pieces.now }
+        requires start { IsStart (attempt_of self.now) trial.now.from.place trial.now.from.lines trial.now.start }
+        ensures { result ≡ (begins_hyphened self.now.pieces.now trial.now.from.place && is_last self.now.pieces.now place) }
+    {
+        trial.start.hyphened && is_last(self.pieces, place)
+    }
+
+    /// The demerits of the line that is tried to a break, of this badness and class.
     #[tactic(auto, unfolding(crate::specs::Lines::demerits_of))]
     fn demerits(
         &self,
-        c: &Candidate,
+        trial: &Trial,
         place: usize,
         penalty: i32,
         badness: u32,
         class: Class,
     ) -> i128
         requires place { place < length self.now.pieces.now }
-        ensures value { result ≡ demerits_of (attempt_of self.now) c.now place penalty badness class }
+        requires start { IsStart (attempt_of self.now) trial.now.from.place trial.now.from.lines trial.now.start }
+        ensures value { result ≡ demerits_of (attempt_of self.now) trial.now.from place penalty badness class }
         ensures small { unsigned_abs result ≤ 2 ^ 63 }
     {
-        let apart = are_apart(class, c.class);
-        let begins = begins_hyphened(self.pieces, c.place);
-        let ends = discretionary_at(self.pieces, place).is_some();
-        let last = is_last(self.pieces, place);
-        line_demerits(
-            self.params,
-            penalty,
-            badness,
-            apart,
-            begins & ends,
-            begins & last,
-        )
+        let apart = are_apart(class, trial.from.class);
+        let double = self.is_double(trial, place);
+        let last = self.is_behind_hyphen(trial, place);
+        line_demerits(self.params, penalty, badness, apart, double, last)
     }
 
-    /// The line from a candidate to a break, given how it fits.
-    pub fn line_set(&self, c: &Candidate, place: usize, penalty: i32, fit: Fit) -> Line
+    /// The line that is tried, to a break.
+    pub fn line_set(&self, trial: &Trial, place: usize, penalty: i32) -> Line
         requires place { place < length self.now.pieces.now }
-        requires lines { c.now.lines < 2 ^ 63 }
-        ensures value { result ≡ line_set (attempt_of self.now) c.now place penalty fit }
+        requires start { IsStart (attempt_of self.now) trial.now.from.place trial.now.from.lines trial.now.start }
+        requires lines { trial.now.from.lines < 2 ^ 63 }
+        ensures value { result ≡ line_set (attempt_of self.now) trial.now.from place penalty trial.now.fit }
         ensures small { unsigned_abs result.demerits ≤ 2 ^ 63 }
     {
-        let number = c.lines + 1;
-        match fit {
+        let number = trial.from.lines + 1;
+        match trial.fit {
             Fit::Overfull => Line {
                 place,
                 number,
@@ -234,24 +255,20 @@ impl Task<'_> {
                 place,
                 number,
                 class,
-                demerits: self.demerits(c, place, penalty, badness, class),
+                demerits: self.demerits(trial, place, penalty, badness, class),
                 forced: false,
             },
         }
     }
 
-    /// Whether a line that fits so may be taken.
-    pub fn is_tolerable(&self, fit: Fit) -> bool
-        ensures { result ≡ is_tolerable (tolerance_of self.now.params.now self.now.pass) fit }
+    /// The worst badness that a line may have.
+    pub fn tolerance(&self) -> i32
+        ensures { result ≡ tolerance_of self.now.params.now self.now.pass }
     {
-        let tolerance = match self.pass {
+        match self.pass {
             Pass::First => self.params.pretolerance,
             Pass::Second => self.params.tolerance,
             Pass::Emergency => self.params.tolerance,
-        };
-        match fit {
-            Fit::Overfull => false,
-            Fit::Set { badness, .. } => i64::from(badness) <= i64::from(tolerance),
         }
     }
 

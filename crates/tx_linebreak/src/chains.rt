@@ -1,12 +1,10 @@
 //! Chains of lines that share their beginnings.
 ghost use Rattle.std.specs.Prelude.{◌≡◌, ◌<◌, ◌≤◌, ◌+◌, ◌*◌, ◌^◌, unsigned_abs, [], ◌∷◌, ◌++◌, length, IfNone, IfSome, OnOk, OnErr};
-ghost use Rattle.tx_linebreak.specs.Chains.{candidate_of, next_place};
+ghost use Rattle.tx_linebreak.specs.Chains.{candidate_of};
 ghost use Rattle.tx_linebreak.specs.Chosen.{beats, is_below, steps_of, total};
 ghost use Rattle.tx_linebreak.specs.Shared.{IsLinkOf, IsMade, chain_at, chain_of};
 
-use crate::line::{Candidate, Line};
 use crate::link::Link;
-use crate::piece::Class;
 use std::alloc::{AllocError, Global};
 use std::marker::Model;
 
@@ -57,26 +55,6 @@ impl Chains {
             return None;
         }
         Some(links[chain - 1])
-    }
-
-    /// The candidate that a chain ends with.
-    pub fn candidate(&self, chain: usize) -> Candidate
-        requires { chain < length self.now }
-        ensures value { result ≡ candidate_of (chain_at self.now chain) }
-        ensures few { result.lines ≤ next_place result.place }
-    {
-        match self.link(chain) {
-            None => Candidate {
-                place: None,
-                lines: 0,
-                class: Class::Decent,
-            },
-            Some(link) => Candidate {
-                place: Some(link.line.place),
-                lines: link.line.number,
-                class: link.line.class,
-            },
-        }
     }
 
     /// The demerits of all lines of a chain.

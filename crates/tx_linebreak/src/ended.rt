@@ -28,7 +28,7 @@ fn context_before(pieces: &[Piece], place: usize) -> Context
 {
     let mut context = Context::outset();
     for at in 0..place {
-        context = context.behind(&pieces[at]);
+        context.go_past(&pieces[at]);
     }
     context
 }

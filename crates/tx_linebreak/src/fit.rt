@@ -1,5 +1,5 @@
 //! How a line fits, and its demerits (TeX: The Program, sections 851 to 859).
-ghost use Rattle.std.specs.Prelude.{◌≡◌, ◌<◌, ◌≤◌, ◌^◌, ◌≤ℤ◌, pos, length};
+ghost use Rattle.std.specs.Prelude.{◌≡◌, ◌<◌, ◌≤◌, ◌^◌, ◌≤ℤ◌, pos, unsigned_abs, length};
 ghost use Rattle.tx_linebreak.specs.Lines.{fit_of, line_width, shrunk, shrunk_class, stretched, stretched_class};
 ghost use Rattle.tx_linebreak.specs.Totals.{IsWithin};
 
@@ -7,10 +7,10 @@ use crate::line::Fit;
 use crate::params::LineShape;
 use crate::piece::Class;
 use crate::totals::Totals;
-use tx_num::badness_of_sums;
+use tx_num::{Scaled, badness_of_sums};
 
 /// The shape of a line, by the number of lines before it.
-pub(crate) fn line_shape(shape: &[LineShape], lines: usize) -> LineShape
+fn line_shape(shape: &[LineShape], lines: usize) -> LineShape
     requires { 0 < length shape.now }
     ensures { result.width ≡ line_width shape.now lines }
 {
@@ -18,12 +18,20 @@ pub(crate) fn line_shape(shape: &[LineShape], lines: usize) -> LineShape
     shape[lines.min(last)]
 }
 
-/// How a line of this shape with these totals fits.
-pub(crate) fn fit(shape: &LineShape, totals: &Totals) -> Fit
-    requires { IsWithin (2 ^ 120) totals.now }
-    ensures { result ≡ fit_of shape.now.width totals.now }
+/// The width of a line, by the number of lines before it.
+pub(crate) fn line_width(shape: &[LineShape], lines: usize) -> Scaled
+    requires { 0 < length shape.now }
+    ensures { result ≡ line_width shape.now lines }
 {
-    let width = i128::from(shape.width);
+    line_shape(shape, lines).width
+}
+
+/// How a line of this width with these totals fits.
+pub(crate) fn fit(width: i128, totals: &Totals) -> Fit
+    requires width { unsigned_abs width ≤ 2 ^ 65 }
+    requires totals { IsWithin (2 ^ 120) totals.now }
+    ensures { result ≡ fit_of width totals.now }
+{
     if totals.width < width {
         stretched(totals, width - totals.width)
     } else {

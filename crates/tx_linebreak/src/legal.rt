@@ -26,30 +26,29 @@ impl Context {
         }
     }
 
-    /// What is said behind one more piece.
-    pub fn behind(self, piece: &Piece) -> Context
-        ensures { result ≡ behind self piece.now }
+    /// Goes past one more piece.
+    pub fn go_past(&mut self, piece: &Piece)
+        ensures { self.new ≡ behind self.old piece.now }
     {
         if self.replaced > 0 {
-            return Context {
-                after_solid: self.after_solid,
-                in_math: self.in_math,
-                replaced: self.replaced - 1,
-            };
+            self.replaced -= 1;
+            return;
         }
-        let (after_solid, in_math, replaced) = match piece {
-            Piece::Solid(_) => (true, self.in_math, 0),
-            Piece::Kern(_) => (false, self.in_math, 0),
-            Piece::Glue(_) => (false, self.in_math, 0),
-            Piece::Penalty(_) => (false, self.in_math, 0),
-            Piece::Discretionary(d) => (true, self.in_math, d.replaced),
-            Piece::MathOn(_) => (false, true, 0),
-            Piece::MathOff(_) => (false, false, 0),
-        };
-        Context {
-            after_solid,
-            in_math,
-            replaced,
+        match piece {
+            Piece::Solid(_) => self.after_solid = true,
+            Piece::Kern(_) | Piece::Glue(_) | Piece::Penalty(_) => self.after_solid = false,
+            Piece::Discretionary(d) => {
+                self.after_solid = true;
+                self.replaced = d.replaced;
+            }
+            Piece::MathOn(_) => {
+                self.after_solid = false;
+                self.in_math = true;
+            }
+            Piece::MathOff(_) => {
+                self.after_solid = false;
+                self.in_math = false;
+            }
         }
     }
 }
@@ -145,7 +144,18 @@ fn discretionary_penalty(params: &BreakParams, pass: Pass, d: &Discretionary) ->
     }
 }
 
+/// Whether there is a piece, and it is glue.
+fn is_some_glue(piece: Option<&Piece>) -> bool
+    ensures { result ≡ is_glue (option_copied piece.entry) }
+{
+    match piece {
+        None => false,
+        Some(piece) => piece.is_glue(),
+    }
+}
+
 /// The penalty of a break at a piece, None where there is no legal break, given what stands before and behind it.
+#[inline(always)]
 pub(crate) fn penalty(
     params: &BreakParams,
     pass: Pass,
@@ -158,17 +168,36 @@ pub(crate) fn penalty(
     if context.replaced > 0 {
         return None;
     }
-    let before_glue = match next {
-        None => false,
-        Some(next) => next.is_glue(),
-    };
     match piece {
         Piece::Solid(_) => None,
-        Piece::Kern(_) => free(!context.in_math && before_glue),
+        Piece::Kern(_) => free(!context.in_math && is_some_glue(next)),
         Piece::Glue(_) => free(context.after_solid && !context.in_math),
         Piece::Penalty(penalty) => unless_forbidden(*penalty),
         Piece::Discretionary(d) => discretionary_penalty(params, pass, d),
         Piece::MathOn(_) => None,
-        Piece::MathOff(_) => free(before_glue),
+        Piece::MathOff(_) => free(is_some_glue(next)),
     }
+}
+
+/// The penalty of a break at a piece, as above; and what the pieces before say goes past the piece. Most pieces are solid.
+#[inline(always)]
+pub(crate) fn penalty_past(
+    params: &BreakParams,
+    pass: Pass,
+    context: &mut Context,
+    piece: &Piece,
+    next: Option<&Piece>,
+) -> Option<i32>
+    ensures penalty { result ≡ piece_penalty params.now pass context.old.replaced context.old (Some piece.now) (option_copied next.entry) }
+    ensures context { context.new ≡ behind context.old piece.now }
+{
+    if context.replaced == 0 {
+        if let Piece::Solid(_) = piece {
+            context.after_solid = true;
+            return None;
+        }
+    }
+    let penalty = penalty(params, pass, *context, piece, next);
+    context.go_past(piece);
+    penalty
 }

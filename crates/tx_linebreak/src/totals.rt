@@ -6,7 +6,7 @@ ghost use Rattle.tx_linebreak.specs.Sums.{AreSums};
 use crate::params::BreakParams;
 use crate::piece::Piece;
 use std::alloc::{AllocError, Global};
-use tx_num::Glue;
+use tx_num::{Glue, Scaled};
 
 /// The sums of widths, of stretch by its orders, and of shrink, in sp.
 #[derive(Clone, Copy)]
@@ -35,6 +35,16 @@ impl Totals {
         }
     }
 
+    /// A text, which can't move.
+    pub fn text(width: Scaled) -> Totals
+        ensures value { result ≡ rigid width }
+        ensures small { IsWithin (2 ^ 63) result }
+    {
+        let mut totals = Totals::rigid(0);
+        totals.width = i128::from(width);
+        totals
+    }
+
     /// \emergencystretch.
     pub fn emergency(params: &BreakParams) -> Totals
         ensures value { result ≡ elastic (pos 0) params.now.emergency_stretch 0 (pos 0) }
@@ -61,22 +71,6 @@ impl Totals {
         }
         totals.shrink = i128::from(glue.shrink());
         totals
-    }
-
-    /// What a piece has, where it isn't a break.
-    pub fn of_piece(piece: &Piece) -> Totals
-        ensures value { result ≡ piece_totals piece.now }
-        ensures small { IsWithin (2 ^ 31) result }
-    {
-        match piece {
-            Piece::Solid(width) => Totals::rigid(*width),
-            Piece::Kern(width) => Totals::rigid(*width),
-            Piece::Glue(glue) => Totals::of_glue(glue),
-            Piece::Penalty(_) => Totals::rigid(0),
-            Piece::Discretionary(_) => Totals::rigid(0),
-            Piece::MathOn(width) => Totals::rigid(*width),
-            Piece::MathOff(width) => Totals::rigid(*width),
-        }
     }
 
     /// Both together.
@@ -132,15 +126,41 @@ fn difference(a: i128, b: i128) -> i128
     a - b
 }
 
+impl Totals {
+    /// Adds what a piece has, where it isn't a break.
+    #[tactic(auto, using(crate::proofs::Summing::both_none))]
+    fn add(&mut self, piece: &Piece)
+        requires { IsWithin (2 ^ 120) self.old }
+        ensures value { self.new ≡ both self.old (piece_totals piece.now) }
+        ensures small { IsWithin (2 ^ 31) (piece_totals piece.now) }
+    {
+        match piece {
+            Piece::Solid(width) | Piece::Kern(width) => self.widen(*width),
+            Piece::MathOn(width) | Piece::MathOff(width) => self.widen(*width),
+            Piece::Glue(glue) => *self = self.plus(&Totals::of_glue(glue)),
+            Piece::Penalty(_) | Piece::Discretionary(_) => {}
+        }
+    }
+
+    /// Adds a width that can't move.
+    fn widen(&mut self, width: i32)
+        requires { IsWithin (2 ^ 120) self.old }
+        ensures value { self.new ≡ both self.old (rigid width) }
+        ensures small { IsWithin (2 ^ 31) (rigid width) }
+    {
+        self.width = sum(self.width, i128::from(width));
+    }
+}
+
 /// The totals of the pieces before each place, up to all of them.
 pub(crate) fn running_sums(alloc: Global, pieces: &[Piece]) -> Result<Vec<Totals>, AllocError>
     ensures { IfOk result (λ sums. AreSums sums.items pieces.now) }
 {
     let mut total = Totals::rigid(0);
-    let mut sums = Vec::new(alloc);
+    let mut sums = Vec::with_capacity(alloc, pieces.len() + 1)?;
     sums.push(total)?;
     for piece in pieces {
-        total = total.plus(&Totals::of_piece(piece));
+        total.add(piece);
         sums.push(total)?;
     }
     Ok(sums)

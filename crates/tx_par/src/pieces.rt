@@ -117,11 +117,11 @@ fn piece_of(left: usize, node: &Node) -> Piece
 pub(crate) fn pieces_of(alloc: Global, nodes: &[Node]) -> Result<Pieces, AllocError>
     ensures { IfOk result (λ pieces. pieces ≡ spec.pieces_of (list_of nodes.now)) }
 {
-    let mut pieces = Pieces::new(alloc);
     let count = nodes.len();
+    let mut pieces = Vec::with_capacity(alloc, count + 1)?;
     for at in 0..count {
         pieces.push(piece_of(count - at - 1, &nodes[at]))?;
     }
     pieces.push(Piece::Penalty(FORCING))?;
-    Ok(pieces)
+    Ok(Pieces::from_vec(pieces))
 }

@@ -12,7 +12,7 @@ loop-at-preserved c =
     let at = c.loop-at.at in
     let next : suc at ≡ at + 1 = omega arith in
     let below : at < length pieces = omega arith in
-    c.behind-context.ensures
+    c.go_past.ensures
     ∙ (λ i. behind (c.loop-at.invariant i) (c.index-pieces-at.is i))
     ∙ context-on outset pieces at c.index-pieces-at.result below
     ∙ ap (context_from outset pieces) next
