@@ -1,5 +1,5 @@
 -- What stands at the places of a table, and how that changes.
-use Rattle.std.specs.Prelude.{◌≡◌, ◌&&◌, ℕ, ℤ, pos, int_le, unsigned_abs, if◌then◌else◌, List, [], Option, None, unwrap_or, slice_get, slice_set}
+use Rattle.std.specs.Prelude.{◌&&◌, ℕ, ℤ, pos, int_le, unsigned_abs, if◌then◌else◌, List, [], Option, None, unwrap_or, slice_get, slice_set}
 use Rattle.std.specs.FinMap.{get, insert, remove}
 use Rattle.tx_num.specs.Glue.{GlueSpec, zero_glue}
 use Rattle.tx_char.specs.declared.category.Cat.{Cat}
@@ -151,17 +151,3 @@ with_entry level table place (Elastic glue) = with_glue_at table place glue
 with_entry level table place (Listed tokens) = with_tokens_at table place tokens
 with_entry level table place (Boxed held) = with_box_at table place (record { level = level; held = held })
 with_entry level table place (Shape sizes) = with_shape_at table place sizes
-
--- all characters have the same codes in two tables
-pub record HasSameCodes (some other : Table) : Type 0 where
-  pub lower_case : some.lower_case ≡ other.lower_case
-  pub upper_case : some.upper_case ≡ other.upper_case
-  pub space_factors : some.space_factors ≡ other.space_factors
-  pub math : some.math ≡ other.math
-  pub delimiters : some.delimiters ≡ other.delimiters
-
--- all registers and parameters of glue hold the same in two tables
-pub record HasSameGlue (some other : Table) : Type 0 where
-  pub skips : some.skips ≡ other.skips
-  pub muskips : some.muskips ≡ other.muskips
-  pub glue_parameters : some.glue_parameters ≡ other.glue_parameters

@@ -1,6 +1,6 @@
 //! Groups that are open.
 
-use crate::table::Table;
+use crate::parts::Parts;
 use tx_prim::BreakText;
 
 /// What opened a group, which has to be closed by the same (TeX: The Program, section 269).
@@ -16,11 +16,15 @@ pub enum GroupKind {
     SemiSimple,
     /// The brace before this text of \discretionary.
     Discretionary(BreakText),
+    /// The brace behind \insert and this class.
+    Insert(u8),
+    /// The brace that \output's tokens begin with.
+    Output,
 }
 
 /// A group, and the table as it stands outside it.
 #[derive(Drop)]
 pub struct Group {
     pub(crate) kind: GroupKind,
-    pub(crate) outside: Table,
+    pub(crate) outside: Parts,
 }

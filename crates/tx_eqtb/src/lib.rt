@@ -7,8 +7,9 @@
 //! scans find in it. Only tested: that it begins as INITEX's table does, by what documents show that Knuth's TeX reads alike (the documents of
 //! call_cases, tools/check-tex).
 //!
-//! Read `entry`, what stands at a place; `cells`, `contents`, `boxes`, `shape`, `table`, `reading` and `writing`; `initex`, the table at the beginning;
-//! `groups` and `nesting`; and then `eqtb` with `stack` and `values`. Places and meanings are tx_seen's.
+//! Read `entry`, what stands at a place; `cells`, `contents`, `boxes`, `shape` and `table`; `seldom` and `parts`, in which the
+//! table is shared; `reading` and `writing`; `initex`, the table at the beginning; `groups` and `nesting`; and then `eqtb` with
+//! `stack` and `values`. Places and meanings are tx_seen's.
 #![tactic(auto)]
 
 mod boxes;
@@ -20,7 +21,9 @@ mod error;
 mod groups;
 mod initex;
 mod nesting;
+mod parts;
 mod reading;
+mod seldom;
 mod shape;
 mod stack;
 mod table;

@@ -5,7 +5,7 @@ ghost use Rattle.tx_eqtb.specs.Stack.{assigned_outside, assigned_within, innermo
 
 use crate::entry::Entry;
 use crate::groups::{Group, GroupKind};
-use crate::table::Table;
+use crate::parts::Parts;
 use std::alloc::{AllocError, Global};
 use std::marker::Model;
 use tx_seen::Place;
@@ -57,7 +57,7 @@ impl Nesting {
     }
 
     /// Opens a group, with the table outside it. After want of memory nothing has changed.
-    pub fn open(&mut self, kind: GroupKind, outside: Table) -> Result<(), AllocError>
+    pub fn open(&mut self, kind: GroupKind, outside: Parts) -> Result<(), AllocError>
         ensures ok { OnOk result (self.new ≡ self.old ++ record { kind = kind; outside = outside } ∷ []) }
         ensures err { OnErr result (self.new ≡ self.old) }
     {
@@ -66,7 +66,7 @@ impl Nesting {
     }
 
     /// Closes the innermost group and answers the table outside it; None exactly where none is open. It takes no memory.
-    pub fn close(&mut self) -> Option<Table>
+    pub fn close(&mut self) -> Option<Parts>
         ensures outside { result ≡ option_map (λ group. group.outside) (innermost self.old) }
         ensures left { self.new ≡ take (length self.old - 1) self.old }
     {

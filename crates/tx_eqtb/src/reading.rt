@@ -1,13 +1,15 @@
 //! Reading the table, comparing two, and making a second one.
 ghost use Rattle.std.specs.Prelude.{◌≡◌, ◌↔◌, [], option_copied, IsTrue, IfOk};
 ghost use Rattle.tx_eqtb.specs.Table as spec;
-ghost use Rattle.tx_eqtb.specs.Table.{HasSameCodes, HasSameGlue};
+ghost use Rattle.tx_eqtb.specs.Seldom.{HasSameCodes, HasSameGlue};
+ghost use Rattle.tx_char.specs.Category.{category};
 
 use crate::boxes::{box_of, level_of, size_of};
 use crate::cells::Cells;
-use crate::table::Table;
+use crate::parts::Parts;
+use crate::seldom::Seldom;
 use std::alloc::{AllocError, Global};
-use tx_char::{Cat, ControlName, Token};
+use tx_char::{Cat, Codes, ControlName, Token};
 use tx_list::both;
 use tx_node::BoxNode;
 use tx_num::Glue;
@@ -52,7 +54,35 @@ fn list_of(lists: &Cells<TokList>, at: usize) -> Result<TokList, AllocError>
     }
 }
 
-impl Table {
+impl Parts {
+    /// The number of the current font.
+    pub fn font(&self) -> u8
+        ensures { result ≡ self.now.font }
+    {
+        self.font
+    }
+
+    /// The sizes of \parshape, lent, in sp.
+    pub fn par_shape(&self) -> &[i32]
+        ensures { result.now ≡ self.now.par_shape }
+    {
+        self.seldom.par_shape.as_slice()
+    }
+
+    /// The category of a character.
+    pub fn category(&self, code: u8) -> Cat
+        ensures { result ≡ category self.now.categories code }
+    {
+        self.seldom.categories.get(code)
+    }
+
+    /// The categories of all characters, lent.
+    pub fn categories(&self) -> &Codes
+        ensures { result.now ≡ self.now.categories }
+    {
+        &self.seldom.as_ref().categories
+    }
+
     /// The number that stands at a place, and 0 where none does.
     #[tactic(auto, unfolding(crate::specs::Table::number_at))]
     pub fn number(&self, place: &Place) -> i32
@@ -62,24 +92,24 @@ impl Table {
             Place::Count(number) => number_of(&self.counts, *number as usize),
             Place::Dimen(number) => number_of(&self.dimens, *number as usize),
             Place::Code(CharacterCode::LowerCase, code) => number_of(
-                &self.lower_case,
+                &self.seldom.lower_case,
                 *code as usize,
             ),
             Place::Code(CharacterCode::UpperCase, code) => number_of(
-                &self.upper_case,
+                &self.seldom.upper_case,
                 *code as usize,
             ),
             Place::Code(CharacterCode::SpaceFactor, code) => {
-                number_of(&self.space_factors, *code as usize)
+                number_of(&self.seldom.space_factors, *code as usize)
             }
-            Place::Code(CharacterCode::Math, code) => number_of(&self.math, *code as usize),
+            Place::Code(CharacterCode::Math, code) => number_of(&self.seldom.math, *code as usize),
             Place::Code(CharacterCode::Delimiter, code) => number_of(
-                &self.delimiters,
+                &self.seldom.delimiters,
                 *code as usize,
             ),
             Place::Integer(parameter) => number_of(&self.integers, parameter.number()),
             Place::Dimension(parameter) => number_of(&self.dimensions, parameter.number()),
-            Place::BoxSize(side, number) => size_of(&self.boxes, *side, *number as usize),
+            Place::BoxSize(side, number) => size_of(&self.seldom.boxes, *side, *number as usize),
             Place::Name(_) | Place::Active(_) | Place::Category(_) => 0,
             Place::Toks(_) | Place::Tokens(_) | Place::Box(_) | Place::BoxTest(_, _) => 0,
             Place::Skip(_) | Place::Muskip(_) | Place::Glue(_) => 0,
@@ -88,6 +118,7 @@ impl Table {
             Place::FontSize(_) | Place::FontDimen(_, _) => 0,
             Place::FontInteger(_, _) | Place::SpaceFactor => 0,
             Place::PrevGraf | Place::ParShape => 0,
+            Place::Page(_) | Place::DeadCycles => 0,
         }
     }
 
@@ -96,9 +127,9 @@ impl Table {
         ensures { result ≡ spec.glue_at self.now place.now }
     {
         match place {
-            Place::Skip(number) => glue_of(&self.skips, *number as usize),
-            Place::Muskip(number) => glue_of(&self.muskips, *number as usize),
-            Place::Glue(parameter) => glue_of(&self.glue_parameters, parameter.number()),
+            Place::Skip(number) => glue_of(&self.seldom.skips, *number as usize),
+            Place::Muskip(number) => glue_of(&self.seldom.muskips, *number as usize),
+            Place::Glue(parameter) => glue_of(&self.seldom.glue_parameters, parameter.number()),
             Place::Name(_) | Place::Active(_) | Place::Category(_) => Glue::zero(),
             Place::Count(_) | Place::Dimen(_) | Place::Code(_, _) => Glue::zero(),
             Place::Integer(_) | Place::Dimension(_) | Place::BoxSize(_, _) => Glue::zero(),
@@ -108,6 +139,7 @@ impl Table {
             Place::Font | Place::FontSize(_) | Place::FontDimen(_, _) => Glue::zero(),
             Place::FontInteger(_, _) | Place::SpaceFactor => Glue::zero(),
             Place::PrevGraf | Place::ParShape => Glue::zero(),
+            Place::Page(_) | Place::DeadCycles => Glue::zero(),
         }
     }
 
@@ -117,9 +149,9 @@ impl Table {
         ensures { IfOk result (λ tokens. tokens ≡ spec.tokens_at self.now place.now) }
     {
         match place {
-            Place::Toks(number) => list_of(&self.token_registers, *number as usize),
-            Place::Tokens(parameter) => list_of(&self.token_parameters, parameter.number()),
-            _ => no_tokens(self.token_registers.allocator()),
+            Place::Toks(number) => list_of(&self.seldom.token_registers, *number as usize),
+            Place::Tokens(parameter) => list_of(&self.seldom.token_parameters, parameter.number()),
+            _ => no_tokens(self.seldom.token_registers.allocator()),
         }
     }
 
@@ -128,7 +160,7 @@ impl Table {
         ensures { option_copied result ≡ spec.box_at self.now place.now }
     {
         match place {
-            Place::Box(number) => box_of(&self.boxes, *number as usize),
+            Place::Box(number) => box_of(&self.seldom.boxes, *number as usize),
             Place::Name(_) | Place::Active(_) | Place::Category(_) | Place::Code(_, _) => None,
             Place::Count(_) | Place::Dimen(_) | Place::Toks(_) | Place::BoxSize(_, _) => None,
             Place::Skip(_) | Place::Muskip(_) | Place::Glue(_) | Place::BoxTest(_, _) => None,
@@ -137,6 +169,7 @@ impl Table {
             Place::Font | Place::FontSize(_) | Place::FontDimen(_, _) => None,
             Place::FontInteger(_, _) | Place::SpaceFactor => None,
             Place::PrevGraf | Place::ParShape => None,
+            Place::Page(_) | Place::DeadCycles => None,
         }
     }
 
@@ -146,8 +179,8 @@ impl Table {
         ensures { result ≡ spec.level_at self.now place.now }
     {
         match place {
-            Place::Box(number) => level_of(&self.boxes, *number as usize),
-            Place::BoxSize(_, number) => level_of(&self.boxes, *number as usize),
+            Place::Box(number) => level_of(&self.seldom.boxes, *number as usize),
+            Place::BoxSize(_, number) => level_of(&self.seldom.boxes, *number as usize),
             Place::Name(_) | Place::Active(_) | Place::Category(_) | Place::Code(_, _) => 0,
             Place::Count(_) | Place::Dimen(_) | Place::Toks(_) | Place::BoxTest(_, _) => 0,
             Place::Skip(_) | Place::Muskip(_) | Place::Glue(_) => 0,
@@ -156,6 +189,7 @@ impl Table {
             Place::Font | Place::FontSize(_) | Place::FontDimen(_, _) => 0,
             Place::FontInteger(_, _) | Place::SpaceFactor => 0,
             Place::PrevGraf | Place::ParShape => 0,
+            Place::Page(_) | Place::DeadCycles => 0,
         }
     }
 
@@ -173,7 +207,7 @@ impl Table {
     pub fn active_meaning(&self, code: u8) -> Result<Meaning, AllocError>
         ensures { IfOk result (λ meaning. meaning ≡ spec.active_meaning self.now.active code) }
     {
-        match self.active.get(code as usize) {
+        match self.seldom.active.get(code as usize) {
             Some(meaning) => meaning.clone(),
             None => Ok(Meaning::Undefined),
         }
@@ -193,7 +227,7 @@ impl Table {
     }
 
     /// Whether the same stands at all places of both.
-    pub fn same(&self, other: &Table) -> bool
+    pub fn same(&self, other: &Parts) -> bool
         ensures { IsTrue result ↔ (self.now ≡ other.now) }
     {
         self.counts.same(&other.counts)
@@ -201,7 +235,37 @@ impl Table {
             && self.integers.same(&other.integers)
             && self.dimensions.same(&other.dimensions)
             && self.font == other.font
-            && self.same_glue(other)
+            && self.seldom.same(&other.seldom)
+            && self.names.same(&other.names)
+    }
+
+    /// A second table, equal to this one. Its only error is that no more owners can be counted.
+    pub fn share(&self) -> Result<Parts, AllocError>
+        ensures { IfOk result (λ twin. twin ≡ self.now) }
+    {
+        let registers = both(self.counts.share(), self.dimens.share());
+        let parameters = both(self.integers.share(), self.dimensions.share());
+        let numbers = both(registers, parameters);
+        let others = both(self.names.share(), self.seldom.clone());
+        let (((counts, dimens), (integers, dimensions)), (names, seldom)) = both(numbers, others)?;
+        Ok(Parts {
+            names,
+            counts,
+            dimens,
+            integers,
+            dimensions,
+            seldom,
+            font: self.font,
+        })
+    }
+}
+
+impl Seldom {
+    /// Whether both are the same.
+    fn same(&self, other: &Seldom) -> bool
+        ensures { IsTrue result ↔ (self.now ≡ other.now) }
+    {
+        self.same_glue(other)
             && self.token_registers.same(&other.token_registers)
             && self.token_parameters.same(&other.token_parameters)
             && self.boxes.same(&other.boxes)
@@ -209,11 +273,10 @@ impl Table {
             && self.categories.same(&other.categories)
             && self.active.same(&other.active)
             && self.same_codes(other)
-            && self.names.same(&other.names)
     }
 
     /// Whether the same glue stands in both.
-    fn same_glue(&self, other: &Table) -> bool
+    fn same_glue(&self, other: &Seldom) -> bool
         ensures { IsTrue result ↔ HasSameGlue self.now other.now }
     {
         self.skips.same(&other.skips)
@@ -222,7 +285,7 @@ impl Table {
     }
 
     /// Whether all characters have the same codes in both, whatever their categories.
-    fn same_codes(&self, other: &Table) -> bool
+    fn same_codes(&self, other: &Seldom) -> bool
         ensures { IsTrue result ↔ HasSameCodes self.now other.now }
     {
         self.lower_case.same(&other.lower_case)
@@ -230,62 +293,5 @@ impl Table {
             && self.space_factors.same(&other.space_factors)
             && self.math.same(&other.math)
             && self.delimiters.same(&other.delimiters)
-    }
-
-    /// A second table, equal to this one. Its only error is want of memory.
-    pub fn share(&self) -> Result<Table, AllocError>
-        ensures { IfOk result (λ twin. twin ≡ self.now) }
-    {
-        let of_names = both(self.names.share(), self.active.share());
-        let meanings = both(of_names, self.categories.clone());
-        let registers = both(self.counts.share(), self.dimens.share());
-        let parameters = both(self.integers.share(), self.dimensions.share());
-        let numbers = both(registers, parameters);
-        let cases = both(self.lower_case.share(), self.upper_case.share());
-        let of_math = both(self.math.share(), self.delimiters.share());
-        let other_codes = both(self.space_factors.share(), of_math);
-        let codes = both(cases, other_codes);
-        let of_characters = both(numbers, codes);
-        let skips = both(self.skips.share(), self.muskips.share());
-        let glues = both(skips, self.glue_parameters.share());
-        let lists = both(self.token_registers.share(), self.token_parameters.share());
-        let boxed = both(lists, both(self.boxes.share(), self.par_shape.clone()));
-        let registered = both(glues, boxed);
-        let rest = both(of_characters, registered);
-        let (
-            ((names, active), categories),
-            (
-                (
-                    ((counts, dimens), (integers, dimensions)),
-                    ((lower_case, upper_case), (space_factors, (math, delimiters))),
-                ),
-                (
-                    ((skips, muskips), glue_parameters),
-                    ((token_registers, token_parameters), (boxes, par_shape)),
-                ),
-            ),
-        ) = both(meanings, rest)?;
-        Ok(Table {
-            names,
-            active,
-            categories,
-            counts,
-            dimens,
-            lower_case,
-            upper_case,
-            space_factors,
-            math,
-            delimiters,
-            integers,
-            dimensions,
-            skips,
-            muskips,
-            glue_parameters,
-            token_registers,
-            token_parameters,
-            boxes,
-            par_shape,
-            font: self.font,
-        })
     }
 }

@@ -11,6 +11,7 @@ use crate::error::{CloseError, OpenError};
 use crate::groups::GroupKind;
 use crate::initex;
 use crate::nesting::Nesting;
+use crate::parts::Parts;
 use std::alloc::{AllocError, Global};
 use std::mem;
 use tx_char::{Cat, Codes, ControlName, Token};
@@ -31,7 +32,7 @@ impl Eqtb {
         ensures { IfOk result (λ e. e ≡ record { table = initial_table begun.now; groups = [] }) }
     {
         Ok(Eqtb {
-            table: initex::initial_table(alloc, begun)?,
+            table: Parts::new(alloc, initex::initial_table(alloc, begun)?)?,
             groups: Nesting::new(alloc),
         })
     }
@@ -48,7 +49,7 @@ impl Eqtb {
     pub fn font(&self) -> u8
         ensures { result ≡ self.now.table.font }
     {
-        self.table.font
+        self.table.font()
     }
 
     /// The glue that stands at a place, a register or a parameter; zero glue where none stands.
@@ -77,14 +78,14 @@ impl Eqtb {
     pub fn par_shape(&self) -> &[i32]
         ensures { result.now ≡ self.now.table.par_shape }
     {
-        self.table.par_shape.as_slice()
+        self.table.par_shape()
     }
 
     /// The category of a character.
     pub fn category(&self, code: u8) -> Cat
         ensures { result ≡ category self.now.table.categories code }
     {
-        self.table.categories.get(code)
+        self.table.category(code)
     }
 
     /// The meaning of a name. Its only error is that no more owners of a meaning can be counted.
@@ -114,7 +115,7 @@ impl Eqtb {
     pub fn categories(&self) -> &Codes
         ensures { result.now ≡ self.now.table.categories }
     {
-        &self.table.categories
+        self.table.categories()
     }
 
     /// Gives a place an entry until the innermost group ends; one of another kind than stands there changes nothing. After

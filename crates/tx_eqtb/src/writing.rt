@@ -2,10 +2,11 @@
 ghost use Rattle.std.specs.Prelude.{◌≡◌, OnOk};
 ghost use Rattle.tx_eqtb.specs.Table.{font_number, with_box_at, with_category_at, with_entry, with_glue_at, with_meaning, with_meaning_at, with_number_at, with_shape_at, with_tokens_at};
 
-use crate::boxes::{BoxRegister, set_size};
+use crate::boxes::BoxRegister;
 use crate::entry::Entry;
+use crate::parts::Parts;
+use crate::seldom;
 use crate::shape::ParShape;
-use crate::table::Table;
 use std::alloc::AllocError;
 use tx_char::{Cat, ControlName};
 use tx_name::NameMap;
@@ -40,7 +41,7 @@ fn font_number(number: i32) -> u8
 }
 
 // After want of memory, the only error of each of these, the table may only be dropped.
-impl Table {
+impl Parts {
     /// Gives a register, a code or a parameter a value. Other places have no number.
     fn set_number(&mut self, place: &Place, value: i32) -> Result<(), AllocError>
         ensures { OnOk result (self.new ≡ with_number_at self.old place.now value) }
@@ -48,23 +49,25 @@ impl Table {
         match place {
             Place::Count(number) => self.counts.set(*number as usize, value),
             Place::Dimen(number) => self.dimens.set(*number as usize, value),
-            Place::Code(CharacterCode::LowerCase, code) => self
-                .lower_case
-                .set(*code as usize, value),
-            Place::Code(CharacterCode::UpperCase, code) => self
-                .upper_case
-                .set(*code as usize, value),
-            Place::Code(CharacterCode::SpaceFactor, code) => {
-                self.space_factors.set(*code as usize, value)
+            Place::Code(CharacterCode::LowerCase, code) => {
+                seldom::set_lower_case(&mut self.seldom, *code as usize, value)
             }
-            Place::Code(CharacterCode::Math, code) => self.math.set(*code as usize, value),
-            Place::Code(CharacterCode::Delimiter, code) => self
-                .delimiters
-                .set(*code as usize, value),
+            Place::Code(CharacterCode::UpperCase, code) => {
+                seldom::set_upper_case(&mut self.seldom, *code as usize, value)
+            }
+            Place::Code(CharacterCode::SpaceFactor, code) => {
+                seldom::set_space_factor(&mut self.seldom, *code as usize, value)
+            }
+            Place::Code(CharacterCode::Math, code) => {
+                seldom::set_math(&mut self.seldom, *code as usize, value)
+            }
+            Place::Code(CharacterCode::Delimiter, code) => {
+                seldom::set_delimiter(&mut self.seldom, *code as usize, value)
+            }
             Place::Integer(parameter) => self.integers.set(parameter.number(), value),
             Place::Dimension(parameter) => self.dimensions.set(parameter.number(), value),
             Place::BoxSize(side, number) => {
-                set_size(&mut self.boxes, *side, *number as usize, value)
+                seldom::set_box_size(&mut self.seldom, *side, *number as usize, value)
             }
             Place::Name(_) | Place::Active(_) | Place::Category(_) => Ok(()),
             Place::Toks(_) | Place::Tokens(_) | Place::Box(_) | Place::BoxTest(_, _) => Ok(()),
@@ -77,6 +80,7 @@ impl Table {
             Place::FontSize(_) | Place::FontDimen(_, _) => Ok(()),
             Place::FontInteger(_, _) | Place::SpaceFactor => Ok(()),
             Place::PrevGraf | Place::ParShape => Ok(()),
+            Place::Page(_) | Place::DeadCycles => Ok(()),
         }
     }
 
@@ -85,9 +89,11 @@ impl Table {
         ensures { OnOk result (self.new ≡ with_glue_at self.old place.now glue) }
     {
         match place {
-            Place::Skip(number) => self.skips.set(*number as usize, glue),
-            Place::Muskip(number) => self.muskips.set(*number as usize, glue),
-            Place::Glue(parameter) => self.glue_parameters.set(parameter.number(), glue),
+            Place::Skip(number) => seldom::set_skip(&mut self.seldom, *number as usize, glue),
+            Place::Muskip(number) => seldom::set_muskip(&mut self.seldom, *number as usize, glue),
+            Place::Glue(parameter) => {
+                seldom::set_glue_parameter(&mut self.seldom, parameter.number(), glue)
+            }
             Place::Name(_) | Place::Active(_) | Place::Category(_) => Ok(()),
             Place::Count(_) | Place::Dimen(_) | Place::Code(_, _) => Ok(()),
             Place::Integer(_) | Place::Dimension(_) | Place::BoxSize(_, _) => Ok(()),
@@ -96,6 +102,7 @@ impl Table {
             Place::Font | Place::FontSize(_) | Place::FontDimen(_, _) => Ok(()),
             Place::FontInteger(_, _) | Place::SpaceFactor => Ok(()),
             Place::PrevGraf | Place::ParShape => Ok(()),
+            Place::Page(_) | Place::DeadCycles => Ok(()),
         }
     }
 
@@ -105,7 +112,7 @@ impl Table {
     {
         match place {
             Place::Name(name) => set_name(&mut self.names, name, meaning),
-            Place::Active(code) => self.active.set(*code as usize, meaning),
+            Place::Active(code) => seldom::set_active(&mut self.seldom, *code as usize, meaning),
             _ => Ok(()),
         }
     }
@@ -115,7 +122,7 @@ impl Table {
         ensures { OnOk result (self.new ≡ with_category_at self.old place.now category) }
     {
         match place {
-            Place::Category(code) => self.categories.set(*code, category),
+            Place::Category(code) => seldom::set_category(&mut self.seldom, *code, category),
             _ => Ok(()),
         }
     }
@@ -125,8 +132,12 @@ impl Table {
         ensures { OnOk result (self.new ≡ with_tokens_at self.old place.now tokens) }
     {
         match place {
-            Place::Toks(number) => self.token_registers.set(*number as usize, tokens),
-            Place::Tokens(parameter) => self.token_parameters.set(parameter.number(), tokens),
+            Place::Toks(number) => {
+                seldom::set_token_register(&mut self.seldom, *number as usize, tokens)
+            }
+            Place::Tokens(parameter) => {
+                seldom::set_token_parameter(&mut self.seldom, parameter.number(), tokens)
+            }
             _ => Ok(()),
         }
     }
@@ -136,7 +147,7 @@ impl Table {
         ensures { OnOk result (self.new ≡ with_box_at self.old place.now register) }
     {
         match place {
-            Place::Box(number) => self.boxes.set(*number as usize, register),
+            Place::Box(number) => seldom::set_box(&mut self.seldom, *number as usize, register),
             Place::Name(_) | Place::Active(_) | Place::Category(_) | Place::Code(_, _) => Ok(()),
             Place::Count(_) | Place::Dimen(_) | Place::Toks(_) | Place::BoxSize(_, _) => Ok(()),
             Place::Skip(_) | Place::Muskip(_) | Place::Glue(_) | Place::BoxTest(_, _) => Ok(()),
@@ -145,16 +156,17 @@ impl Table {
             Place::Font | Place::FontSize(_) | Place::FontDimen(_, _) => Ok(()),
             Place::FontInteger(_, _) | Place::SpaceFactor => Ok(()),
             Place::PrevGraf | Place::ParShape => Ok(()),
+            Place::Page(_) | Place::DeadCycles => Ok(()),
         }
     }
 
     /// Gives \parshape other sizes.
-    fn set_shape(&mut self, place: &Place, shape: ParShape)
-        ensures { self.new ≡ with_shape_at self.old place.now shape }
+    fn set_shape(&mut self, place: &Place, shape: ParShape) -> Result<(), AllocError>
+        ensures { OnOk result (self.new ≡ with_shape_at self.old place.now shape) }
     {
         match place {
-            Place::ParShape => self.par_shape = shape,
-            _ => {}
+            Place::ParShape => seldom::set_shape(&mut self.seldom, shape),
+            _ => Ok(()),
         }
     }
 
@@ -170,10 +182,7 @@ impl Table {
             Entry::Glue(glue) => self.set_glue(place, glue),
             Entry::Tokens(tokens) => self.set_tokens(place, tokens),
             Entry::Box(held) => self.set_box(place, BoxRegister { level, held }),
-            Entry::Shape(shape) => {
-                self.set_shape(place, shape);
-                Ok(())
-            }
+            Entry::Shape(shape) => self.set_shape(place, shape),
         }
     }
 }
