@@ -1,0 +1,9 @@
+pub mod Kerns
+pub mod Placing
+pub mod Pages
+pub mod Codes
+pub mod Inserts
+pub mod Contributed
+pub mod Quantities
+pub mod Fired
+pub mod Histories
