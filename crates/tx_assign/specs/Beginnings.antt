@@ -63,6 +63,9 @@ primitive_variable (primitive.Indent how) = None
 primitive_variable primitive.DiscretionaryHyphen = None
 primitive_variable primitive.Adjust = None
 primitive_variable primitive.Discretionary = None
+primitive_variable primitive.Insert = None
+primitive_variable primitive.DeadCycles = None
+primitive_variable (primitive.Page quantity) = None
 
 -- a register's name of its own is a left side too
 abbrev pub variable_of : Meaning → Option Variable

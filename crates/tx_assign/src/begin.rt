@@ -37,6 +37,7 @@ fn of_primitive(primitive: Primitive) -> Option<Variable>
         Primitive::ItalicCorrection | Primitive::ControlSpace => None,
         Primitive::Indent(_) | Primitive::DiscretionaryHyphen => None,
         Primitive::Adjust | Primitive::Discretionary => None,
+        Primitive::Insert | Primitive::DeadCycles | Primitive::Page(_) => None,
     }
 }
 

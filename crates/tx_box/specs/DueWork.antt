@@ -3,10 +3,12 @@ use Rattle.std.specs.Prelude.{ℕ, max}
 use Rattle.tx_node.specs.Counts.{box_count, count_of, ended}
 use Rattle.tx_node.specs.Items.{items_of}
 use Rattle.tx_box.specs.declared.parts.Work.{Work}
-use Rattle.tx_box.specs.declared.parts.Work.TheVariants.{Copy, CopyList, Ship}
+use Rattle.tx_box.specs.declared.parts.Work.TheVariants.{Copy, CopyList, Ship, ShipPage, Build}
 
 -- a box is a node itself and counts with all that it holds; of a list what is in it counts, but a turn costs something
 abbrev pub work_cost : Work → ℕ
 work_cost (Copy b target) = ended (box_count b)
 work_cost (CopyList list) = max 1 (ended (count_of (items_of list)))
 work_cost (Ship b) = ended (box_count b)
+work_cost (ShipPage b) = ended (box_count b)
+work_cost Build = 1

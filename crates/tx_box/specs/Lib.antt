@@ -6,3 +6,4 @@ pub mod Leaving
 pub mod Building
 pub mod DueWork
 pub mod Breaks
+pub mod Inserts

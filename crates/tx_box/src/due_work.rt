@@ -18,8 +18,9 @@ impl Work {
         ensures { result ≡ spec.work_cost self.now }
     {
         match self {
-            Work::Copy(found, _) | Work::Ship(found) => found.count(),
+            Work::Copy(found, _) | Work::Ship(found) | Work::ShipPage(found) => found.count(),
             Work::CopyList(list) => list.count().max(1),
+            Work::Build => 1,
         }
     }
 }

@@ -4,9 +4,10 @@ ghost use Rattle.tx_box.specs.Beginnings.{first_lists};
 
 use crate::parts::{Lists, OpenBox, Target, Work};
 use std::alloc::{AllocError, Global};
-use tx_list::{Kept, Stack};
+use tx_list::{Kept, Stack, both};
 use tx_nest::Nest;
 use tx_node::same_box;
+use tx_pages::Pages;
 use tx_prim::BoxKind;
 use tx_shape::BoxGoal;
 
@@ -49,6 +50,8 @@ impl Kept for Work {
             Work::Copy(copied, target) => Ok(Work::Copy(copied.clone()?, *target)),
             Work::CopyList(list) => Ok(Work::CopyList(list.clone()?)),
             Work::Ship(shipped) => Ok(Work::Ship(shipped.clone()?)),
+            Work::ShipPage(shipped) => Ok(Work::ShipPage(shipped.clone()?)),
+            Work::Build => Ok(Work::Build),
         }
     }
 
@@ -59,6 +62,8 @@ impl Kept for Work {
             }
             (Work::CopyList(one), Work::CopyList(other)) => one.same(other),
             (Work::Ship(one), Work::Ship(other)) => same_box(one, other),
+            (Work::ShipPage(one), Work::ShipPage(other)) => same_box(one, other),
+            (Work::Build, Work::Build) => true,
             _ => false,
         }
     }
@@ -73,6 +78,7 @@ impl Lists {
             nest: Nest::new(alloc),
             badness: 0,
             boxes: Stack::new(alloc),
+            pages: Pages::new(alloc),
         }
     }
 
@@ -82,6 +88,7 @@ impl Lists {
     {
         self.badness == other.badness
             && self.boxes.same(&other.boxes)
+            && self.pages.same(&other.pages)
             && self.nest.same(&other.nest)
     }
 
@@ -89,10 +96,16 @@ impl Lists {
     pub fn share(&self) -> Result<Lists, AllocError>
         ensures { IfOk result (λ twin. twin ≡ self.now) }
     {
+        let parts = both(
+            self.nest.share(),
+            both(self.boxes.share(), self.pages.share()),
+        );
+        let (nest, (boxes, pages)) = parts?;
         Ok(Lists {
-            nest: self.nest.share()?,
+            nest,
             badness: self.badness,
-            boxes: self.boxes.share()?,
+            boxes,
+            pages,
         })
     }
 }

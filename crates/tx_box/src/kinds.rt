@@ -9,7 +9,7 @@ use tx_prim::{BoxKind, Mode, TokenParameter};
 use tx_shape::{BoxContext, BoxGoal};
 
 /// The greatest dimension, in sp.
-const GREATEST_SIZE: i64 = 1_073_741_823;
+pub(crate) const GREATEST_SIZE: i64 = 1_073_741_823;
 
 /// The mode of a box's list.
 pub(crate) fn mode_in(kind: BoxKind) -> Mode

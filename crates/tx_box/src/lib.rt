@@ -5,12 +5,13 @@
 //! exactly when each error comes. Only tested: that this is what TeX does, on documents that Knuth's TeX reads alike
 //! (tools/check-boxes).
 //!
-//! Read `parts`, `kept`, `parameters`, `placing`, `sources`, `kinds`, `leaving`, `building`, `breaks` and `due_work`.
+//! Read `parts`, `kept`, `parameters`, `placing`, `sources`, `kinds`, `leaving`, `building`, `breaks`, `inserts` and `due_work`.
 #![tactic(auto)]
 
 mod breaks;
 mod building;
 mod due_work;
+mod inserts;
 mod kept;
 mod kinds;
 mod leaving;
@@ -22,7 +23,9 @@ mod sources;
 pub use breaks::{begin_break, end_break};
 pub use building::{Ended, begin_box, end_box, greatest_depth, reset_shape};
 pub use due_work::{copy_list, place_copy};
+pub use inserts::{InsertParams, begin_vertical, end_insert, end_vertical, insert_params};
 pub use kinds::every_in;
-pub use parameters::{across, dimension, glue, leading_of};
+pub use parameters::{across, dimension, down, glue, integer, leading_of};
 pub use parts::{Done, Lists, OpenBox, Target, Work};
+pub use placing::place;
 pub use sources::{copy_register, take_last, unbox, use_register};

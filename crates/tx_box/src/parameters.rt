@@ -27,7 +27,7 @@ pub fn glue(table: &Eqtb, parameter: GlueParameter) -> Glue
 }
 
 /// An integer parameter.
-fn integer(table: &Eqtb, parameter: IntegerParameter) -> i64
+pub fn integer(table: &Eqtb, parameter: IntegerParameter) -> i64
     ensures { result ≡ number_at table.now.table (place.Integer parameter) }
 {
     i64::from(table.number(&Place::Integer(parameter)))
@@ -56,7 +56,7 @@ pub fn across(table: &Eqtb) -> PackParams
 }
 
 /// How vertical boxes are packed.
-pub(crate) fn down(table: &Eqtb) -> PackParams
+pub fn down(table: &Eqtb) -> PackParams
     ensures { result ≡ building.down table.now.table }
 {
     PackParams {

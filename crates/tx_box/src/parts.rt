@@ -2,6 +2,7 @@
 use tx_list::Stack;
 use tx_nest::Nest;
 use tx_node::{BoxNode, Nodes};
+use tx_pages::Pages;
 use tx_prim::BoxKind;
 use tx_seen::TexError;
 use tx_shape::{BoxContext, BoxGoal};
@@ -32,6 +33,8 @@ pub struct Lists {
     pub badness: i64,
     /// The boxes whose lists are being built, the innermost first.
     pub boxes: Stack<OpenBox>,
+    /// What is kept of pages.
+    pub pages: Pages,
 }
 
 /// What a command leaves to a turn of its own.
@@ -43,6 +46,10 @@ pub enum Work {
     CopyList(Nodes),
     /// To ship this box.
     Ship(BoxNode),
+    /// To ship the box of a page that fired, and then to go on with the page builder.
+    ShipPage(BoxNode),
+    /// To go on with the page builder.
+    Build,
 }
 
 /// What a command of boxes answers.

@@ -80,7 +80,7 @@ fn adjust(alloc: Global, lists: &mut Lists, found: Option<BoxNode>) -> Result<Do
 
 /// A box, or none, goes where it is to go. After want of memory, its only error, lists and table may only be dropped, here and in
 /// all that follows.
-pub(crate) fn place(
+pub fn place(
     alloc: Global,
     lists: &mut Lists,
     table: &mut Eqtb,

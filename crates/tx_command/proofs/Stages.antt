@@ -2,7 +2,7 @@
 use Rattle.std.proofs.Common.{◌≡◌, ◌≤◌, ◌||◌, ℕ, ℤ, true, false, cond, Some, List, [], ◌∷◌, ◌++◌, length, Result, Ok, Err, IfOk, refl, ap, sym, subst, ◌∙◌, arith}
 use Rattle.tx_node.specs.declared.rule.Rule.{Rule}
 use Rattle.tx_prim.specs.declared.family.AfterKind.{AfterKind}
-use Rattle.tx_prim.specs.declared.family.BreakText.{BreakText}
+use Rattle.tx_shape.specs.declared.types.Opener.{Opener}
 use Rattle.tx_prim.specs.declared.family.DefinitionKind.{DefinitionKind}
 use Rattle.tx_prim.specs.declared.family.GlueForm.{GlueForm}
 use Rattle.tx_prim.specs.declared.family.LeadersKind.{LeadersKind}
@@ -54,7 +54,7 @@ use Rattle.tx_command.specs.declared.scans.Stage.TheVariants as stage
 use Rattle.tx_command.specs.declared.types.Command.{Command}
 use Rattle.tx_command.specs.declared.types.Command.TheVariants.{Nothing, Assign, Keep, Sized}
 use Rattle.tx_command.specs.declared.types.Head.{Head}
-use Rattle.tx_command.specs.declared.types.Head.TheVariants.{Fresh, Prefixed, Defining, Future, Leading, Loading, Shaping as Shaping_head, Breaking}
+use Rattle.tx_command.specs.declared.types.Head.TheVariants.{Fresh, Prefixed, Defining, Future, Leading, Loading, Shaping as Shaping_head, Opening}
 use Rattle.tx_command.specs.declared.types.Prefixes.{Prefixes}
 use Rattle.tx_command.specs.Commands.{command, command_meant, font_defining, future_defining, load_of, loading, future_of, future_second, keeping, macro_defining, fresh_command, standing_command, may_be_prefixed, prefixed_command, assigning, defining, leaders_of, leaders_rule, leading_command, leading_glue, led_by, repeated, ruling, sizing, skipping, command_of, shaping}
 use Rattle.tx_command.specs.Standing.{standing_in}
@@ -354,8 +354,8 @@ first-shaping mode head prefixes left sizes t new (Ok answer) e k = rw e (k mode
 first-shaping mode head prefixes left sizes t new (Err error) e k = tt
 
 -- the begin-group token before a text of \discretionary
-pub first-breaking : (mode : Mode) (head : Head) (text : BreakText) (t : Seen) (new : Scans) (answer : Fed Command) → head ≡ Breaking text → Begins (λ more. shaping (shape_glue.Break text) (Took t ∷ more)) new answer → IsBegunBy mode head 1 (λ more. command mode head (Took t ∷ more)) (Took t ∷ []) new answer
-first-breaking mode head text t new answer e k = rw e (one-token mode (Breaking text) (λ more. shaping (shape_glue.Break text) (Took t ∷ more)) t new answer (k mode (Breaking text)))
+pub first-opening : (mode : Mode) (head : Head) (opener : Opener) (t : Seen) (new : Scans) (answer : Fed Command) → head ≡ Opening opener → Begins (λ more. shaping (shape_glue.Open opener) (Took t ∷ more)) new answer → IsBegunBy mode head 1 (λ more. command mode head (Took t ∷ more)) (Took t ∷ []) new answer
+first-opening mode head opener t new answer e k = rw e (one-token mode (Opening opener) (λ more. shaping (shape_glue.Open opener) (Took t ∷ more)) t new answer (k mode (Opening opener)))
 
 -- the first of the two tokens behind \futurelet and its name
 second-reads : (mode : Mode) (head : Head) (first : Seen) (new : Scans) (item : Item) (more : List Item) → new.stage ≡ stage.SecondToken → future_second head first (item ∷ more) ≡ command_rest mode head new (ending (held new) (Took first ∷ [])) item more

@@ -5,7 +5,10 @@ use Rattle.tx_char.specs.declared.category.Cat.TheVariants.{BeginGroup}
 use Rattle.tx_char.specs.Category.{initial_category}
 use Rattle.tx_prim.specs.declared.primitive.Primitive.{Primitive}
 use Rattle.tx_prim.specs.declared.primitive.Primitive.TheVariants as primitive
+use Rattle.tx_prim.specs.declared.family.BoxSource.TheVariants.{Split}
 use Rattle.tx_prim.specs.declared.family.BreakText.TheVariants.{Behind}
+use Rattle.tx_shape.specs.declared.types.BoxContext.TheVariants.{Append}
+use Rattle.tx_shape.specs.declared.types.Opener.TheVariants as opener
 use Rattle.tx_prim.specs.declared.family.Numbered.TheVariants as number
 use Rattle.tx_prim.specs.declared.family.Operation.TheVariants.{Advance}
 use Rattle.tx_prim.specs.declared.family.Prefix.TheVariants.{Global}
@@ -15,7 +18,7 @@ use Rattle.tx_prim.specs.declared.family.SizeKind.TheVariants.{Kern}
 use Rattle.tx_prim.specs.declared.family.TextUse.TheVariants.{Patterns}
 use Rattle.tx_prim.specs.declared.modes.Mode.TheVariants.{Vertical, RestrictedHorizontal}
 use Rattle.tx_prim.specs.Table.{line_of}
-use Rattle.tx_seen.specs.declared.error.TexError.TheVariants.{NumberOutOfRange, NoAssignment, NotAllowed}
+use Rattle.tx_seen.specs.declared.error.TexError.TheVariants.{MissingUnit, NumberOutOfRange, NoAssignment, NotAllowed}
 use Rattle.tx_seen.specs.declared.fed.Kind.TheVariants.{Quantity}
 use Rattle.tx_seen.specs.declared.fed.Value.TheVariants.{Int}
 use Rattle.tx_seen.specs.declared.item.Item.{Item}
@@ -26,9 +29,9 @@ use Rattle.tx_seen.specs.Readings.{Need, Done, Wrong}
 use Rattle.tx_eqtb.specs.declared.entry.Entry.TheVariants.{Number, Means}
 use Rattle.tx_assign.specs.declared.types.Change.TheVariants.{Set, Compute}
 use Rattle.tx_command.specs.declared.types.Command.TheVariants as command
-use Rattle.tx_command.specs.declared.types.Head.TheVariants.{Fresh, Prefixed, Defining, Shaping, Breaking}
+use Rattle.tx_command.specs.declared.types.Head.TheVariants.{Fresh, Prefixed, Defining, Shaping, Opening}
 use Rattle.tx_command.specs.declared.types.Prefixes.{Prefixes}
-use Rattle.tx_command.specs.declared.types.SizeUse.TheVariants.{Shape}
+use Rattle.tx_command.specs.declared.types.SizeUse.TheVariants.{Item as An_item, Shape}
 use Rattle.tx_command.specs.Commands.{command as read}
 
 -- characters as INITEX reads them
@@ -53,9 +56,34 @@ a_side_that_breaks_off : read RestrictedHorizontal Fresh (named (codes "vrule") 
 unfolding line_of
 a_side_that_breaks_off = refl
 
-a_kern_in_a_vertical_list : read Vertical Fresh (named (codes "kern") (primitive.Sized Kern) ∷ plain (codes "1pt ")) ≡ Wrong NotAllowed
+a_kern_in_a_vertical_list : read Vertical Fresh (named (codes "kern") (primitive.Sized Kern) ∷ plain (codes "1pt ")) ≡ Done (command.Sized (An_item Kern) (pos 65536)) []
 unfolding line_of
 a_kern_in_a_vertical_list = refl
+
+-- \end stands on the pages alone, where it is read again
+the_end : read Vertical Fresh (named (codes "end") primitive.End ∷ plain (codes "x")) ≡ Done command.End (named (codes "end") primitive.End ∷ plain (codes "x"))
+unfolding line_of
+the_end = refl
+
+an_end_in_a_box : read RestrictedHorizontal Fresh (named (codes "end") primitive.End ∷ []) ≡ Wrong NotAllowed
+unfolding line_of
+an_end_in_a_box = refl
+
+a_split : read Vertical Fresh (named (codes "vsplit") (primitive.BoxFrom Split) ∷ plain (codes "7 to2pt ")) ≡ Done (command.SplitBox 7 (pos 131072) (Append (pos 0))) []
+unfolding line_of
+a_split = refl
+
+a_split_without_to : read Vertical Fresh (named (codes "vsplit") (primitive.BoxFrom Split) ∷ plain (codes "7 2pt")) ≡ Wrong MissingUnit
+unfolding line_of
+a_split_without_to = refl
+
+an_insert : read Vertical Fresh (named (codes "insert") primitive.Insert ∷ plain (codes "254 ") ++ a_begin_group ∷ plain (codes "x")) ≡ Done (command.Open (opener.Insert 254)) (plain (codes "x"))
+unfolding line_of
+an_insert = refl
+
+an_insert_of_no_class : read Vertical Fresh (named (codes "insert") primitive.Insert ∷ plain (codes "255 ")) ≡ Wrong NumberOutOfRange
+unfolding line_of
+an_insert_of_no_class = refl
 
 a_register : read Vertical Fresh (named (codes "count") (primitive.Numbered number.Count) ∷ plain (codes "1=5x")) ≡ Done (command.Assign (record { place = Count 1; change = Set (Number (pos 5)) })) (plain (codes "x"))
 unfolding line_of
@@ -111,7 +139,7 @@ spaces_before_a_held_name = refl
 a_size_of_a_line : read Vertical (Shaping unprefixed 3 (pos 0 ∷ [])) (plain (codes "2pt -1pt")) ≡ Done (command.Sized Shape (pos 131072)) (plain (codes "-1pt"))
 a_size_of_a_line = refl
 
-a_second_text : read RestrictedHorizontal (Breaking Behind) (plain (codes " ") ++ a_begin_group ∷ plain (codes "x")) ≡ Done (command.BeginBreak Behind) (plain (codes "x"))
+a_second_text : read RestrictedHorizontal (Opening (opener.Break Behind)) (plain (codes " ") ++ a_begin_group ∷ plain (codes "x")) ≡ Done (command.Open (opener.Break Behind)) (plain (codes "x"))
 a_second_text = refl
 
 -- \patterns is an assignment, and no definition

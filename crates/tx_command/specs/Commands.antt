@@ -5,6 +5,7 @@ use Rattle.tx_char.specs.declared.category.Cat.{Cat}
 use Rattle.tx_char.specs.declared.category.Cat.TheVariants as category
 use Rattle.tx_prim.specs.declared.family.AfterKind.{AfterKind}
 use Rattle.tx_prim.specs.declared.family.BreakText.TheVariants as break
+use Rattle.tx_shape.specs.declared.types.Opener.TheVariants as opener
 use Rattle.tx_prim.specs.declared.family.DefinitionKind.{DefinitionKind}
 use Rattle.tx_node.specs.declared.rule.Rule.{Rule as Rule_sides}
 use Rattle.tx_prim.specs.declared.family.GlueForm.{GlueForm}
@@ -17,7 +18,7 @@ use Rattle.tx_prim.specs.declared.family.TextUse.TheVariants as purposes
 use Rattle.tx_prim.specs.declared.modes.Mode.{Mode}
 use Rattle.tx_prim.specs.declared.modes.Mode.TheVariants as mode
 use Rattle.tx_prim.specs.declared.modes.Standing.{Standing as AStanding}
-use Rattle.tx_prim.specs.declared.modes.Standing.TheVariants.{Stands, BeginsParagraph, EndsParagraph, Refused}
+use Rattle.tx_prim.specs.declared.modes.Standing.TheVariants.{Stands, BeginsParagraph, EndsParagraph, EndsRun, Refused}
 use Rattle.tx_prim.specs.declared.primitive.Primitive.{Primitive}
 use Rattle.tx_prim.specs.declared.primitive.Primitive.TheVariants as primitive
 use Rattle.tx_seen.specs.declared.error.TexError.TheVariants.{Undefined, NoAssignment, NotAllowed, MisplacedAlignment, MissingBox, BadName}
@@ -50,9 +51,9 @@ use Rattle.tx_shape.specs.declared.types.FontAsked.{FontAsked}
 use Rattle.tx_shape.specs.Loading.{loading as load}
 use Rattle.tx_shape.specs.Shapes.{shape as shape_of}
 use Rattle.tx_command.specs.declared.types.Command.{Command}
-use Rattle.tx_command.specs.declared.types.Command.TheVariants.{Nothing, Space, Character, BeginGroup, EndGroup, BeginSemiSimple, EndSemiSimple, Prefix, Define, Assign, Sized, Rule, BeginBox, UseBox, CopyBox, LastBox, Unbox, Penalize, Skip, BeginLeaders, SetDepth, End, Interact, DefineMacro, BeginText, DefineFuture, Keep, Remove, ControlSpace, ItalicCorrection, Indent, InsertPar, EndParagraph, DiscretionaryHyphen, SetFactor, SetPrevGraf, BeginShape, BeginBreak, DefineFont, LoadFont, SetFontDimen, SetFontInteger}
+use Rattle.tx_command.specs.declared.types.Command.TheVariants.{Nothing, Space, Character, BeginGroup, EndGroup, BeginSemiSimple, EndSemiSimple, Prefix, Define, Assign, Sized, Rule, BeginBox, UseBox, CopyBox, LastBox, Unbox, Penalize, Skip, BeginLeaders, SetDepth, End, Interact, DefineMacro, BeginText, DefineFuture, Keep, Remove, ControlSpace, ItalicCorrection, Indent, InsertPar, EndParagraph, DiscretionaryHyphen, SetFactor, SetPrevGraf, BeginShape, Open, SetDeadCycles, SetPage, SplitBox, DefineFont, LoadFont, SetFontDimen, SetFontInteger}
 use Rattle.tx_command.specs.declared.types.Head.{Head}
-use Rattle.tx_command.specs.declared.types.Head.TheVariants.{Fresh, Prefixed, Defining, Future, Leading, Loading, Shaping as Shaping_head, Breaking}
+use Rattle.tx_command.specs.declared.types.Head.TheVariants.{Fresh, Prefixed, Defining, Future, Leading, Loading, Shaping as Shaping_head, Opening}
 use Rattle.tx_command.specs.declared.types.Prefixes.{Prefixes}
 use Rattle.tx_command.specs.declared.types.SizeUse.{SizeUse}
 use Rattle.tx_command.specs.declared.types.SizeUse.TheVariants as size
@@ -125,6 +126,7 @@ command_of (shaped.Box (box.Begin kind goal) context) = BeginBox kind goal conte
 command_of (shaped.Box (box.Use n) context) = UseBox n context
 command_of (shaped.Box (box.Copy n) context) = CopyBox n context
 command_of (shaped.Box box.Last context) = LastBox context
+command_of (shaped.Box (box.Split n size) context) = SplitBox n size context
 command_of (shaped.Unbox kind n) = Unbox kind n
 command_of (shaped.Penalize n) = Penalize n
 command_of (shaped.SetDepth size) = SetDepth size
@@ -133,7 +135,9 @@ command_of (shaped.Character code) = Character code
 command_of (shaped.SetFactor n) = SetFactor n
 command_of (shaped.SetPrevGraf n) = SetPrevGraf n
 command_of (shaped.BeginShape lines) = BeginShape lines
-command_of (shaped.BeginBreak text) = BeginBreak text
+command_of (shaped.Open opener) = Open opener
+command_of (shaped.SetDeadCycles n) = SetDeadCycles n
+command_of (shaped.SetPage quantity v) = SetPage quantity v
 command_of (shaped.SetFontDimen font n size) = SetFontDimen font n size
 command_of (shaped.SetFontInteger kind font n) = SetFontInteger kind font n
 
@@ -222,7 +226,10 @@ family_command primitive.SpaceFactor rest = shaping shape.Factor rest
 family_command primitive.PrevGraf rest = shaping shape.PrevGraf rest
 family_command primitive.ParShape rest = shaping shape.ParShape rest
 family_command primitive.Adjust rest = shaping shape.Adjust rest
-family_command primitive.Discretionary rest = shaping (shape.Break break.Before) rest
+family_command primitive.Discretionary rest = shaping (shape.Open (opener.Break break.Before)) rest
+family_command primitive.Insert rest = shaping shape.Insert rest
+family_command primitive.DeadCycles rest = shaping shape.DeadCycles rest
+family_command (primitive.Page quantity) rest = shaping (shape.Page quantity) rest
 family_command primitive.ItalicCorrection rest = Done ItalicCorrection rest
 family_command primitive.ControlSpace rest = Done ControlSpace rest
 family_command (primitive.Indent how) rest = Done (Indent how) rest
@@ -251,6 +258,7 @@ abbrev pub standing_command : AStanding → Seen → List Item → Reading Comma
 standing_command Stands t rest = command_meant t.meaning rest
 standing_command BeginsParagraph t rest = Done (Indent Indented) (Took t ∷ rest)
 standing_command EndsParagraph t rest = Done InsertPar (Took t ∷ rest)
+standing_command EndsRun t rest = Done End (Took t ∷ rest)
 standing_command Refused t rest = Wrong NotAllowed
 
 -- a command that nothing stands before
@@ -266,7 +274,7 @@ prefixes_of (Prefixed prefixes) = prefixes
 prefixes_of (Defining prefixes defined kind) = prefixes
 prefixes_of (Future prefixes defined) = prefixes
 prefixes_of (Leading kind rule) = record { global = false; long = false; outer = false }
-prefixes_of (Breaking text) = record { global = false; long = false; outer = false }
+prefixes_of (Opening opener) = record { global = false; long = false; outer = false }
 prefixes_of (Loading prefixes defined) = prefixes
 prefixes_of (Shaping_head prefixes left sizes) = prefixes
 
@@ -288,6 +296,7 @@ assigns_text purposes.LowerCase = false
 assigns_text purposes.Special = false
 assigns_text purposes.Patterns = true
 assigns_text purposes.Hyphenation = true
+assigns_text purposes.Mark = false
 
 -- whether a primitive may stand behind prefixes
 abbrev pub is_prefixable : Prefixes → Primitive → Bool
@@ -342,6 +351,9 @@ is_prefixable prefixes (primitive.Indent how) = false
 is_prefixable prefixes primitive.DiscretionaryHyphen = false
 is_prefixable prefixes primitive.Adjust = false
 is_prefixable prefixes primitive.Discretionary = false
+is_prefixable prefixes primitive.Insert = false
+is_prefixable prefixes primitive.DeadCycles = not (want_definition prefixes)
+is_prefixable prefixes (primitive.Page quantity) = not (want_definition prefixes)
 
 -- what has no meaning, or is expanded, is let through, since carrying it out is an error of its own
 abbrev pub may_be_prefixed : Prefixes → Meaning → Bool
@@ -416,7 +428,7 @@ command mode (Future prefixes defined) items = future (Future prefixes defined) 
 command mode (Leading kind rule) items = leading_command mode items
 command mode (Loading prefixes defined) items = loading defined items
 command mode (Shaping_head prefixes left sizes) items = sizing size.Shape items
-command mode (Breaking text) items = shaping (shape.Break text) items
+command mode (Opening opener) items = shaping (shape.Open opener) items
 
 -- whether a token of a command is taken
 abbrev pub is_begun : List Item → Bool

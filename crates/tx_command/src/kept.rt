@@ -42,7 +42,7 @@ impl Kept for Head {
             Head::Shaping(prefixes, left, sizes) => {
                 Ok(Head::Shaping(*prefixes, *left, sizes.share()?))
             }
-            Head::Breaking(text) => Ok(Head::Breaking(*text)),
+            Head::Opening(opener) => Ok(Head::Opening(*opener)),
         }
     }
 
@@ -65,7 +65,7 @@ impl Kept for Head {
             (Head::Shaping(one, left, sizes), Head::Shaping(other, also, like)) => {
                 one == other && left == also && sizes.same(like)
             }
-            (Head::Breaking(one), Head::Breaking(other)) => one == other,
+            (Head::Opening(one), Head::Opening(other)) => one == other,
             _ => false,
         }
     }

@@ -133,6 +133,7 @@ fn box_command(read: BoxRead, context: BoxContext) -> Command
         BoxRead::Use(register) => Command::UseBox(register, context),
         BoxRead::Copy(register) => Command::CopyBox(register, context),
         BoxRead::Last => Command::LastBox(context),
+        BoxRead::Split(register, size) => Command::SplitBox(register, size, context),
     }
 }
 
@@ -150,7 +151,9 @@ fn command_of(shaped: Shaped) -> Command
         Shaped::SetFactor(number) => Command::SetFactor(number),
         Shaped::SetPrevGraf(number) => Command::SetPrevGraf(number),
         Shaped::BeginShape(lines) => Command::BeginShape(lines),
-        Shaped::BeginBreak(text) => Command::BeginBreak(text),
+        Shaped::Open(opener) => Command::Open(opener),
+        Shaped::SetDeadCycles(number) => Command::SetDeadCycles(number),
+        Shaped::SetPage(quantity, value) => Command::SetPage(quantity, value),
         Shaped::SetFontDimen(font, number, size) => Command::SetFontDimen(font, number, size),
         Shaped::SetFontInteger(kind, font, number) => {
             Command::SetFontInteger(kind, font, number)

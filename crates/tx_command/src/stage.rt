@@ -25,7 +25,7 @@ use tx_prim::{
 };
 use tx_scan::{DimenScan, NameScan};
 use tx_seen::{Fed, Meaning, Place, Seen, TexError, Value, Want};
-use tx_shape::{LoadScan, ShapeScan, Shaping};
+use tx_shape::{LoadScan, Opener, ShapeScan, Shaping};
 
 /// Whether a token that means this is one that \noexpand holds.
 fn is_held(meaning: &Meaning) -> bool
@@ -74,7 +74,7 @@ fn feed_second(head: &Head, token: &Seen) -> Result<Fed<Command>, AllocError>
             Ok(Fed::Done(Command::Nothing, 2))
         }
         Head::Leading(_, _) | Head::Loading(_, _) => Ok(Fed::Done(Command::Nothing, 2)),
-        Head::Shaping(_, _, _) | Head::Breaking(_) => Ok(Fed::Done(Command::Nothing, 2)),
+        Head::Shaping(_, _, _) | Head::Opening(_) => Ok(Fed::Done(Command::Nothing, 2)),
     }
 }
 
@@ -196,7 +196,7 @@ impl Scans {
             Head::Leading(_, _) => Ok(self.feed_leading(mode, token)),
             Head::Loading(_, name) => self.feed_loading(name, token),
             Head::Shaping(_, _, _) => self.feed_shape(token),
-            Head::Breaking(text) => Ok(self.feed_break(*text, token)),
+            Head::Opening(opener) => Ok(self.feed_open(*opener, token)),
         }
     }
 
@@ -208,6 +208,7 @@ impl Scans {
             Standing::Stands => self.begin(&token.meaning),
             Standing::BeginsParagraph => Fed::Done(Command::Indent(Indentation::Indented), 1),
             Standing::EndsParagraph => Fed::Done(Command::InsertPar, 1),
+            Standing::EndsRun => Fed::Done(Command::End, 1),
             Standing::Refused => Fed::Wrong(TexError::NotAllowed),
         }
     }
@@ -293,12 +294,12 @@ impl Scans {
         Ok(sized(SizeUse::Shape, self.size.feed(token)?))
     }
 
-    /// The begin-group token before a text of \discretionary, or what is skipped before it.
-    fn feed_break(&mut self, text: BreakText, token: &Seen) -> Fed<Command>
-        ensures { Begins (λ more. commands.shaping (Shaping.Break text) (Took token.now ∷ more)) self.new result }
+    /// The begin-group token that is awaited, or what is skipped before it.
+    fn feed_open(&mut self, opener: Opener, token: &Seen) -> Fed<Command>
+        ensures { Begins (λ more. commands.shaping (Shaping.Open opener) (Took token.now ∷ more)) self.new result }
     {
         self.stage = Stage::Shape;
-        shaped(self.shape.feed_break(text, token))
+        shaped(self.shape.feed_open(opener, token))
     }
 
     /// The command whose first token means this.
@@ -381,7 +382,12 @@ impl Scans {
             Primitive::PrevGraf => self.begin_shape(Shaping::PrevGraf),
             Primitive::ParShape => self.begin_shape(Shaping::ParShape),
             Primitive::Adjust => self.begin_shape(Shaping::Adjust),
-            Primitive::Discretionary => self.begin_shape(Shaping::Break(BreakText::Before)),
+            Primitive::Discretionary => {
+                self.begin_shape(Shaping::Open(Opener::Break(BreakText::Before)))
+            }
+            Primitive::Insert => self.begin_shape(Shaping::Insert),
+            Primitive::DeadCycles => self.begin_shape(Shaping::DeadCycles),
+            Primitive::Page(quantity) => self.begin_shape(Shaping::Page(quantity)),
             Primitive::ItalicCorrection => Fed::Done(Command::ItalicCorrection, 0),
             Primitive::ControlSpace => Fed::Done(Command::ControlSpace, 0),
             Primitive::Indent(how) => Fed::Done(Command::Indent(how), 0),

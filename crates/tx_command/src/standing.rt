@@ -6,7 +6,7 @@ ghost use Rattle.tx_command.specs.Standing as spec;
 
 use crate::types::Prefixes;
 use tx_char::Cat;
-use tx_prim::{BoxSource, Mode, Modes, Primitive, Standing, TextUse};
+use tx_prim::{Mode, Modes, Primitive, Standing, TextUse};
 use tx_seen::Meaning;
 
 /// In which modes a character of a category may stand.
@@ -43,110 +43,11 @@ fn modes_of_meaning(meaning: &Meaning) -> Modes
     }
 }
 
-/// Whether a text in braces becomes an item of the list.
-fn adds_text(purpose: TextUse) -> bool
-    ensures { result ≡ spec.adds_text purpose }
-{
-    match purpose {
-        TextUse::Message | TextUse::ErrorMessage => false,
-        TextUse::UpperCase | TextUse::LowerCase => false,
-        TextUse::Special => true,
-        TextUse::Patterns | TextUse::Hyphenation => false,
-    }
-}
-
-/// Whether a box that was made before may be added to the pages' list.
-fn adds_box(source: BoxSource) -> bool
-    ensures { result ≡ spec.adds_box source }
-{
-    match source {
-        BoxSource::Register | BoxSource::Copy => true,
-        BoxSource::Last => false,
-    }
-}
-
-/// Whether a primitive adds to the list in which it stands.
-fn adds_to_list(primitive: Primitive) -> bool
-    ensures { result ≡ spec.adds_to_list primitive }
-{
-    match primitive {
-        Primitive::Sized(_) | Primitive::Rule(_) | Primitive::Box(_) => true,
-        Primitive::BoxFrom(source) => adds_box(source),
-        Primitive::Shift(_) | Primitive::Unbox(_) => true,
-        Primitive::HorizontalGlue(_) | Primitive::VerticalGlue(_) | Primitive::Leaders(_) => true,
-        Primitive::Penalty => true,
-        Primitive::Char | Primitive::ItalicCorrection | Primitive::ControlSpace => true,
-        Primitive::Indent(_) | Primitive::DiscretionaryHyphen | Primitive::Adjust => true,
-        Primitive::Discretionary => true,
-        Primitive::Text(purpose) => adds_text(purpose),
-        Primitive::Relax
-        | Primitive::EndCsName
-        | Primitive::Par
-        | Primitive::BeginGroup
-        | Primitive::EndGroup
-        | Primitive::Prefix(_)
-        | Primitive::Let
-        | Primitive::Shorthand(_)
-        | Primitive::Arithmetic(_)
-        | Primitive::Numbered(_)
-        | Primitive::Integer(_)
-        | Primitive::Dimension(_)
-        | Primitive::Glue(_)
-        | Primitive::Tokens(_)
-        | Primitive::Shipout
-        | Primitive::End
-        | Primitive::IgnoreSpaces
-        | Primitive::Interaction(_)
-        | Primitive::Definition(_)
-        | Primitive::After(_)
-        | Primitive::FutureLet
-        | Primitive::SetBox
-        | Primitive::Remove(_)
-        | Primitive::Last(_)
-        | Primitive::Badness
-        | Primitive::PrevDepth
-        | Primitive::NullFont
-        | Primitive::LoadFont
-        | Primitive::FontDimen
-        | Primitive::FontInteger(_)
-        | Primitive::SpaceFactor
-        | Primitive::PrevGraf
-        | Primitive::ParShape => false,
-    }
-}
-
-/// Whether a command whose first token means this adds to the list in which it stands.
-fn adds(meaning: &Meaning) -> bool
-    ensures { result ≡ spec.adds meaning.now }
-{
-    match meaning {
-        Meaning::Command(primitive) => adds_to_list(*primitive),
-        _ => false,
-    }
-}
-
-/// Nothing can be added to the pages' list yet, nor can a paragraph begin there.
-fn on_pages(adds: bool, standing: Standing) -> Standing
-    ensures { result ≡ spec.on_pages adds standing }
-{
-    match standing {
-        Standing::Stands if adds => Standing::Refused,
-        Standing::Stands => Standing::Stands,
-        Standing::BeginsParagraph | Standing::Refused => Standing::Refused,
-        Standing::EndsParagraph => Standing::EndsParagraph,
-    }
-}
-
 /// What becomes in a mode of a command whose first token means this.
 pub fn standing_in(mode: Mode, meaning: &Meaning) -> Standing
     ensures { result ≡ spec.standing_in mode meaning.now }
 {
-    let standing = modes_of_meaning(meaning).standing(mode);
-    match mode {
-        Mode::Vertical => on_pages(adds(meaning), standing),
-        Mode::InternalVertical | Mode::Horizontal | Mode::RestrictedHorizontal => standing,
-        Mode::Math | Mode::DisplayMath => standing,
-    }
+    modes_of_meaning(meaning).standing(mode)
 }
 
 /// Whether prefixes stand before definitions alone.
@@ -163,7 +64,7 @@ fn assigns_text(purpose: TextUse) -> bool
     match purpose {
         TextUse::Message | TextUse::ErrorMessage => false,
         TextUse::UpperCase | TextUse::LowerCase => false,
-        TextUse::Special => false,
+        TextUse::Special | TextUse::Mark => false,
         TextUse::Patterns | TextUse::Hyphenation => true,
     }
 }
@@ -192,7 +93,9 @@ fn is_prefixable(prefixes: Prefixes, primitive: Primitive) -> bool
         | Primitive::FontInteger(_)
         | Primitive::SpaceFactor
         | Primitive::PrevGraf
-        | Primitive::ParShape => !want_definition(prefixes),
+        | Primitive::ParShape
+        | Primitive::DeadCycles
+        | Primitive::Page(_) => !want_definition(prefixes),
         Primitive::Text(purpose) => assigns_text(purpose) && !want_definition(prefixes),
         Primitive::Relax
         | Primitive::EndCsName
@@ -222,6 +125,7 @@ fn is_prefixable(prefixes: Prefixes, primitive: Primitive) -> bool
         | Primitive::Indent(_)
         | Primitive::DiscretionaryHyphen
         | Primitive::Adjust
+        | Primitive::Insert
         | Primitive::Discretionary => false,
     }
 }

@@ -84,7 +84,7 @@ impl CommandScan {
         ensures { result ≡ prefixes_of self.now.head }
     {
         match &self.head {
-            Head::Fresh | Head::Leading(_, _) | Head::Breaking(_) => Prefixes {
+            Head::Fresh | Head::Leading(_, _) | Head::Opening(_) => Prefixes {
                 global: false,
                 long: false,
                 outer: false,
@@ -102,7 +102,7 @@ impl CommandScan {
         match &self.head {
             Head::Leading(kind, rule) => Some((*kind, *rule)),
             Head::Fresh | Head::Prefixed(_) | Head::Defining(_, _, _) | Head::Future(_, _) => None,
-            Head::Loading(_, _) | Head::Shaping(_, _, _) | Head::Breaking(_) => None,
+            Head::Loading(_, _) | Head::Shaping(_, _, _) | Head::Opening(_) => None,
         }
     }
 
@@ -121,7 +121,7 @@ impl CommandScan {
             Head::Loading(_, _) => is_naming(self.taken.as_slice()),
             Head::Fresh | Head::Prefixed(_) | Head::Defining(_, _, _) => false,
             Head::Future(_, _) | Head::Leading(_, _) | Head::Shaping(_, _, _) => false,
-            Head::Breaking(_) => false,
+            Head::Opening(_) => false,
         }
     }
 
@@ -243,7 +243,7 @@ fn begun_want(head: &Head) -> Want
     match head {
         Head::Fresh | Head::Prefixed(_) | Head::Defining(_, _, _) => Want::Expanded,
         Head::Leading(_, _) | Head::Loading(_, _) | Head::Shaping(_, _, _) => Want::Expanded,
-        Head::Breaking(_) => Want::Expanded,
+        Head::Opening(_) => Want::Expanded,
         Head::Future(_, _) => Want::Raw,
     }
 }

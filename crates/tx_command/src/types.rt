@@ -6,11 +6,11 @@ use tx_list::Items;
 use tx_node::Rule;
 use tx_num::Glue;
 use tx_prim::{
-    AfterKind, BoxKind, BreakText, DefinitionKind, FontNumber, Indentation, Interaction, ItemKind,
-    LeadersKind, Prefix, RuleKind, Shorthand, SizeKind, TextUse, UnboxKind,
+    AfterKind, BoxKind, DefinitionKind, FontNumber, Indentation, Interaction, ItemKind,
+    LeadersKind, PageQuantity, Prefix, RuleKind, Shorthand, SizeKind, TextUse, UnboxKind,
 };
 use tx_seen::{FontName, Place};
-use tx_shape::{AskedSize, BoxContext, BoxGoal};
+use tx_shape::{AskedSize, BoxContext, BoxGoal, Opener};
 
 /// A side of a rule.
 #[derive(Clone, Copy, PartialEq, Eq)]
@@ -54,8 +54,8 @@ pub enum Head {
     Loading(Prefixes, Place),
     /// \parshape, with its prefixes, how many sizes are to follow, and those that are read, in sp.
     Shaping(Prefixes, u32, Items<i32>),
-    /// \discretionary and its texts before this one: its begin-group token is to follow.
-    Breaking(BreakText),
+    /// The begin-group token of this is to follow: of a text of \discretionary, behind it and its texts before, or of \output.
+    Opening(Opener),
 }
 
 /// A command with all that belongs to it.
@@ -90,6 +90,8 @@ pub enum Command {
     CopyBox(u8, BoxContext),
     /// `\lastbox`, with what becomes of the box.
     LastBox(BoxContext),
+    /// `\vsplit` of a register to so many sp, with what becomes of the box.
+    SplitBox(u8, i32, BoxContext),
     /// `\unhbox` or its kin of a register.
     Unbox(UnboxKind, u8),
     /// `\penalty`.
@@ -120,8 +122,12 @@ pub enum Command {
     SetPrevGraf(i32),
     /// `\parshape` and how many lines it is to have, whose sizes are to follow.
     BeginShape(i32),
-    /// The begin-group token before this text of `\discretionary`.
-    BeginBreak(BreakText),
+    /// The begin-group token before a text of `\discretionary`, or of `\output`'s tokens.
+    Open(Opener),
+    /// An assignment to `\deadcycles`.
+    SetDeadCycles(i32),
+    /// An assignment to a quantity of the page, in sp; to `\insertpenalties` a number.
+    SetPage(PageQuantity, i32),
     /// `\font` and the name that it defines.
     DefineFont(Place),
     /// What stands behind that name: the name of the file, as it is written, of the font that the name at this place is to mean, and
@@ -131,7 +137,7 @@ pub enum Command {
     SetFontDimen(FontName, u16, i32),
     /// An assignment to `\hyphenchar` or `\skewchar` of a font.
     SetFontInteger(FontNumber, FontName, i32),
-    /// `\end`.
+    /// `\end`, which is read again unless the run ends.
     End,
     /// `\batchmode` and its kin, assignments that nothing comes of.
     Interact(Interaction),

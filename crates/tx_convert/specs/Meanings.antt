@@ -13,6 +13,8 @@ use Rattle.tx_toklist.specs.Macros.{Definition}
 use Rattle.tx_toklist.specs.declared.body.Slot.{Slot}
 use Rattle.tx_seen.specs.declared.meaning.Meaning.{Meaning}
 use Rattle.tx_seen.specs.declared.meaning.Meaning.TheVariants as meaning
+use Rattle.tx_prim.specs.declared.expandable.Expandable.TheVariants.{Mark}
+use Rattle.tx_prim.specs.declared.expandable.MarkKind.{MarkKind}
 use Rattle.tx_prim.specs.declared.primitive.Primitive.TheVariants.{NullFont}
 use Rattle.tx_tfm.specs.declared.state.FontState.{FontState}
 use Rattle.tx_convert.specs.Fonts.{font_text}
@@ -126,3 +128,8 @@ meaning_text escape categories fonts (meaning.Font n) = selection fonts n
 meaning_text escape categories fonts (meaning.Expandable e) = escaped escape (expandable.name_of e)
 meaning_text escape categories fonts (meaning.Macro m) = macro_text escape categories m
 meaning_text escape categories fonts meaning.Held = escaped escape (codes "relax")
+
+-- what it prints of \topmark and its kin, with the tokens of the mark (section 296)
+abbrev pub mark_text : Option ℕ → List Cat → MarkKind → List Token → List ℕ
+mark_text escape categories kind tokens =
+    escaped escape (expandable.name_of (Mark kind)) ++ character ":" ∷ [] ++ all_shown escape categories tokens

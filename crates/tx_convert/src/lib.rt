@@ -16,6 +16,6 @@ mod texts;
 
 pub use fonts::push_font_name;
 pub use jobs::push_job_name;
-pub use meanings::push_meaning;
+pub use meanings::{push_mark, push_meaning};
 pub use numerals::{push_glue, push_number, push_roman, push_size};
 pub use texts::{push_string, push_text};

@@ -10,8 +10,8 @@ use crate::texts::push_text;
 use itoa::Buffer;
 use std::alloc::{AllocError, Global};
 use tx_bytes::Bytes;
-use tx_char::{Cat, Codes};
-use tx_prim::Primitive;
+use tx_char::{Cat, Codes, Token};
+use tx_prim::{Expandable, MarkKind, Primitive};
 use tx_seen::Meaning;
 use tx_tfm::Fonts;
 use tx_toklist::{Macro, Toks};
@@ -182,5 +182,24 @@ pub fn push_meaning(
 {
     let mut text = Bytes::new(alloc);
     put_meaning(alloc, &mut text, escape, codes, fonts, meaning)?;
+    push_text(tokens, text.as_slice())
+}
+
+/// Puts what \meaning prints of \topmark or its kin behind the tokens: its name, a colon, and the tokens of the mark, printed as
+/// those of a macro (TeX: The Program, section 296). Its only error is want of memory.
+pub fn push_mark(
+    alloc: Global,
+    tokens: &mut Toks,
+    escape: Option<u8>,
+    codes: &Codes,
+    kind: MarkKind,
+    mark: &[Token],
+) -> Result<(), AllocError>
+    ensures { OnOk result (tokens.new ≡ tokens.old ++ as_tokens (spec.mark_text escape codes.now kind mark.now)) }
+{
+    let mut text = Bytes::new(alloc);
+    put_escaped(&mut text, escape, Expandable::Mark(kind).name())?;
+    text.push(b':')?;
+    put_all(&mut text, escape, codes, mark)?;
     push_text(tokens, text.as_slice())
 }

@@ -1,5 +1,5 @@
 -- What an expansion reads is read as the scan of it says.
-use Rattle.std.proofs.Common.{◌≡◌, Bool, ℕ, Result, Ok, Err, IfOk, [], ◌∷◌, refl, arith, lit≤}
+use Rattle.std.proofs.Common.{◌≡◌, Bool, Result, Ok, Err, IfOk, [], ◌∷◌, refl, lit≤}
 use Rattle.tx_prim.specs.declared.family.Numbered.{Numbered}
 use Rattle.tx_seen.specs.declared.fed.Fed.{Fed}
 use Rattle.tx_seen.specs.declared.fed.Fed.TheVariants as fed

@@ -1,5 +1,5 @@
 -- Worked cases of expansion, as Knuth's TeX has them.
-use Rattle.std.proofs.Common.{◌≡◌, ℕ, zero, suc, true, false, List, [], ◌∷◌, ◌++◌, None, Some, refl, map, pos}
+use Rattle.std.proofs.Common.{◌≡◌, ℕ, zero, suc, true, false, List, [], ◌∷◌, ◌++◌, Option, None, Some, refl, map, pos}
 use Rattle.std.specs.Prelude.{codes, cond}
 use Rattle.std.specs.Str.{bytes_eq as same_text}
 use Rattle.tx_char.specs.declared.category.Cat.TheVariants.{Letter, Other, Space}
@@ -12,6 +12,9 @@ use Rattle.tx_prim.specs.declared.expandable.Expandable.TheVariants as x
 use Rattle.tx_prim.specs.declared.expandable.Test.TheVariants as tests
 use Rattle.tx_prim.specs.declared.expandable.Conversion.TheVariants as kind
 use Rattle.tx_prim.specs.declared.expandable.CondWord.TheVariants as word
+use Rattle.tx_prim.specs.declared.expandable.MarkKind.{MarkKind}
+use Rattle.tx_prim.specs.declared.expandable.MarkKind.TheVariants as mark
+use Rattle.tx_prim.specs.Expandables.{name_of}
 use Rattle.tx_prim.specs.declared.primitive.Primitive.TheVariants.{Relax, EndCsName, Numbered}
 use Rattle.tx_seen.specs.declared.error.TexError.{TexError}
 use Rattle.tx_seen.specs.declared.error.TexError.TheVariants.{Undefined, MissingNumber, NumberOutOfRange, ExtraConditionalWord, BadName, IncompleteText, IncompleteConditional}
@@ -20,6 +23,7 @@ use Rattle.tx_seen.specs.declared.fed.Want.TheVariants.{Expanded}
 use Rattle.tx_prim.specs.declared.family.Numbered.TheVariants.{Count, Toks}
 use Rattle.tx_seen.specs.declared.meaning.Meaning.{Meaning}
 use Rattle.tx_seen.specs.declared.meaning.Meaning.TheVariants as meaning
+use Rattle.tx_convert.specs.Texts.{as_tokens}
 use Rattle.tx_expand.specs.declared.types.Expanded.{Expanded as Answer}
 use Rattle.tx_expand.specs.declared.types.Expanded.TheVariants as answer
 use Rattle.tx_expand.specs.declared.types.Wanted.{Wanted}
@@ -83,15 +87,26 @@ named_by n =
     cond (same_text n (codes "ifx")) (meaning.Expandable (x.Test tests.Same)) (
     cond (same_text n (codes "count")) (meaning.Command (Numbered Count)) (
     cond (same_text n (codes "toks")) (meaning.Command (Numbered Toks)) (
-    cond (same_text n (codes "relax")) (meaning.Command Relax) meaning.Undefined))))))))))))))))))))))))))))
+    cond (same_text n (codes "topmark")) (meaning.Expandable (x.Mark mark.Top)) (
+    cond (same_text n (codes "firstmark")) (meaning.Expandable (x.Mark mark.First)) (
+    cond (same_text n (codes "botmark")) (meaning.Expandable (x.Mark mark.Bottom)) (
+    cond (same_text n (codes "relax")) (meaning.Command Relax) meaning.Undefined)))))))))))))))))))))))))))))))
 
 abbrev means : Token → Meaning
 means (token.Name n) = named_by n
 means (token.Character c category) = meaning.Character c category
 means token.FrozenRelax = meaning.Command Relax
 
+-- the first mark is t\relax, the last one \a; there is no other
+abbrev marks : MarkKind → Option (List Token)
+marks mark.Top = None
+marks mark.First = Some (letter 116 ∷ token.Name (codes "relax") ∷ [])
+marks mark.Bottom = Some (token.Name (codes "a") ∷ [])
+marks mark.SplitFirst = None
+marks mark.SplitBottom = None
+
 abbrev around : World
-around = record { meaning = means; value = λ p. Int (pos 7); tokens = λ p. token.Name (codes "a") ∷ []; codes = []; escape = Some 92; fonts = []; font = λ f. 0; mode = Vertical }
+around = record { meaning = means; value = λ p. Int (pos 7); tokens = λ p. token.Name (codes "a") ∷ []; mark = marks; codes = []; escape = Some 92; fonts = []; font = λ f. 0; mode = Vertical }
 
 abbrev reads : List Token → Reader
 reads tokens = record { input = record { elements = map Given tokens; closing = false }; begun = []; conditionals = []; job = codes "texput.tex" }
@@ -179,6 +194,24 @@ a_list = refl
 -- in a text \a isn't expanded
 a_list_in_a_text : run_wanted wants_text 20 (reads (cs (codes "the") ∷ cs (codes "toks") ∷ other 49 ∷ token.Character 32 Space ∷ letter 122 ∷ [])) ≡ All (cs (codes "a") ∷ letter 122 ∷ [])
 a_list_in_a_text = refl
+
+-- \botmark z: the mark is read and expanded
+a_mark : run 20 (reads (cs (codes "botmark") ∷ letter 122 ∷ [])) ≡ All (letter 120 ∷ letter 121 ∷ letter 122 ∷ [])
+a_mark = refl
+
+-- \topmark z: there is none
+no_mark : run 20 (reads (cs (codes "topmark") ∷ letter 122 ∷ [])) ≡ All (letter 122 ∷ [])
+no_mark = refl
+
+-- \meaning\firstmark
+meaning_of_a_mark : run 40 (reads (cs (codes "meaning") ∷ cs (codes "firstmark") ∷ [])) ≡ All (as_tokens (92 ∷ codes "firstmark:t" ++ (92 ∷ codes "relax ")))
+unfolding name_of
+meaning_of_a_mark = refl
+
+-- \meaning\topmark
+meaning_of_no_mark : run 40 (reads (cs (codes "meaning") ∷ cs (codes "topmark") ∷ [])) ≡ All (as_tokens (92 ∷ codes "topmark:"))
+unfolding name_of
+meaning_of_no_mark = refl
 
 -- \the\toks256 and \number\toks1
 no_such_list : run 20 (reads (cs (codes "the") ∷ cs (codes "toks") ∷ other 50 ∷ other 53 ∷ other 54 ∷ token.Character 32 Space ∷ [])) ≡ Stopped [] NumberOutOfRange

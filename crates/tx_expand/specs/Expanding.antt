@@ -8,6 +8,7 @@ use Rattle.tx_scan.specs.Integers.{byte_of}
 use Rattle.tx_eqtb.specs.declared.eqtb.Eqtb.{Eqtb}
 use Rattle.tx_eqtb.specs.Table.{number_at, token_meaning, tokens_at}
 use Rattle.tx_known.specs.Values.{Lent, font_number, value_now}
+use Rattle.tx_pages.specs.Marks.{mark_of}
 use Rattle.tx_cond.specs.declared.types.Conditional.{Conditional}
 use Rattle.tx_expand.specs.declared.begun.Begun.{Begun}
 use Rattle.tx_expand.specs.declared.state.Open.{Open}
@@ -29,6 +30,7 @@ world_of known mode = record {
   meaning = token_meaning known.table.table;
   value = value_now known;
   tokens = tokens_at known.table.table;
+  mark = λ kind. mark_of kind known.pages.marks;
   codes = known.table.table.categories;
   escape = escape_of known.table;
   fonts = known.fonts;

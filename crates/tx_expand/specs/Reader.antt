@@ -4,6 +4,7 @@ use Rattle.std.specs.Prelude.{ℕ, Option, List}
 use Rattle.tx_char.specs.declared.category.Cat.{Cat}
 use Rattle.tx_char.specs.declared.tokens.Token.{Token}
 use Rattle.tx_pending.specs.Elements.{Input}
+use Rattle.tx_prim.specs.declared.expandable.MarkKind.{MarkKind}
 use Rattle.tx_prim.specs.declared.modes.Mode.{Mode}
 use Rattle.tx_seen.specs.declared.error.TexError.{TexError}
 use Rattle.tx_seen.specs.declared.fed.Value.{Value}
@@ -15,11 +16,13 @@ use Rattle.tx_cond.specs.declared.types.Conditional.{Conditional}
 use Rattle.tx_expand.specs.declared.begun.Begun.{Begun}
 use Rattle.tx_expand.specs.declared.types.Expanded.{Expanded}
 
--- what is around: what tokens mean, what values and which lists of tokens stand at places, the categories, the escape character if there is one, the fonts and how they are told, the mode
+-- what is around: what tokens mean, what values and which lists of tokens stand at places, the marks that there are, the categories,
+-- the escape character if there is one, the fonts and how they are told, the mode
 pub record World : Type 0 where
   pub meaning : Token → Meaning
   pub value : Place → Value
   pub tokens : Place → List Token
+  pub mark : MarkKind → Option (List Token)
   pub codes : List Cat
   pub escape : Option ℕ
   pub fonts : List FontState

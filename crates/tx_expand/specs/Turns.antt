@@ -1,5 +1,5 @@
 -- One turn: a token is read, and what comes of it before another one is needed (TeX: The Program, sections 366 to 380).
-use Rattle.std.specs.Prelude.{◌≡◌, ℕ, Bool, true, false, not, ◌&&◌, ◌||◌, Option, None, Some, List, [], ◌∷◌, ◌++◌, ℤ, if◌then◌else◌}
+use Rattle.std.specs.Prelude.{◌≡◌, ℕ, Bool, true, false, not, ◌&&◌, ◌||◌, Option, None, Some, List, [], ◌∷◌, ◌++◌, ℤ, unwrap_or, if◌then◌else◌}
 use Rattle.tx_char.specs.declared.tokens.Token.{Token}
 use Rattle.tx_char.specs.declared.tokens.Token.TheVariants as token
 use Rattle.tx_toklist.specs.Bodies.{filled}
@@ -10,6 +10,7 @@ use Rattle.tx_pending.specs.Elements.{Step, step, with_close, with_held, with_to
 use Rattle.tx_prim.specs.declared.expandable.Conversion.TheVariants as conversion
 use Rattle.tx_prim.specs.declared.expandable.Expandable.{Expandable}
 use Rattle.tx_prim.specs.declared.expandable.Expandable.TheVariants as expandable
+use Rattle.tx_prim.specs.declared.expandable.MarkKind.{MarkKind}
 use Rattle.tx_prim.specs.declared.expandable.Test.{Test}
 use Rattle.tx_prim.specs.declared.expandable.Test.TheVariants as tests
 use Rattle.tx_seen.specs.declared.error.TexError.{TexError}
@@ -39,7 +40,7 @@ use Rattle.tx_cond.specs.Conditionals.{Met, decide, is_skipped, meeting}
 use Rattle.tx_macro.specs.Matching as macro
 use Rattle.tx_convert.specs.Fonts.{font_text}
 use Rattle.tx_convert.specs.Jobs.{job_name}
-use Rattle.tx_convert.specs.Meanings.{meaning_text}
+use Rattle.tx_convert.specs.Meanings.{mark_text, meaning_text}
 use Rattle.tx_convert.specs.Texts.{as_tokens, string_text}
 use Rattle.tx_expand.specs.declared.begun.Begun.{Begun}
 use Rattle.tx_expand.specs.declared.begun.Begun.TheVariants as begun
@@ -169,10 +170,30 @@ skips_on t r (Inside depth) = begins (begun.Skipping depth) r
 skips_on t r (Ended word) = met_word t r (meeting r.conditionals word)
 skips_on t r (Refused error) = Fails error
 
+-- which mark a meaning is that of, if it is \topmark or one of its kin
+abbrev pub mark_in : Expandable → Option MarkKind
+mark_in (expandable.Mark kind) = Some kind
+mark_in other = None
+
+abbrev pub mark_meant : Meaning → Option MarkKind
+mark_meant (meaning.Expandable e) = mark_in e
+mark_meant other = None
+
+-- what \meaning prints: of \topmark and its kin also the tokens of the mark, if there is one (section 296)
+abbrev pub mark_shown : World → MarkKind → List ℕ
+mark_shown w kind = mark_text w.escape w.codes kind (unwrap_or (w.mark kind) [])
+
+abbrev pub meaning_shown : World → Meaning → List ℕ
+meaning_shown w m = by (mark_meant m)
+  where
+    by : Option MarkKind → List ℕ
+    by None = meaning_text w.escape w.codes w.fonts m
+    by (Some kind) = mark_shown w kind
+
 -- what is printed of a token (section 472)
 abbrev pub text_of : World → Printed → Seen → List ℕ
 text_of w printed.Token t = string_text w.escape t.token
-text_of w printed.Meaning t = meaning_text w.escape w.codes w.fonts t.meaning
+text_of w printed.Meaning t = meaning_shown w t.meaning
 
 -- an expansion takes a token within those around it
 abbrev pub given_by : World → Seen → Reader → Begun → Turn
@@ -249,6 +270,11 @@ abbrev pub is_case : Test → Bool
 is_case tests.Case = true
 is_case other = false
 
+-- a mark is put in, if there is one (section 386)
+abbrev pub marked : Option (List Token) → Reader → Turn
+marked None r = ended r
+marked (Some tokens) r = replaced tokens r
+
 -- the expansion of a primitive, whose token is this (section 367)
 abbrev pub expands : World → Wanted → Token → Reader → Expandable → Turn
 expands w wanted t r expandable.ExpandAfter = begins begun.After r
@@ -265,6 +291,7 @@ expands w wanted t r expandable.Input = if wanted.names || is_finding r.begun th
 expands w wanted t r expandable.EndInput = ended (put_close r)
 expands w wanted t r (expandable.Test test) = reads w (scanned.Test test w.mode) [] (with_conditionals (Testing (is_case test) ∷ r.conditionals) r)
 expands w wanted t r (expandable.Word word) = met_word t r (meeting r.conditionals word)
+expands w wanted t r (expandable.Mark kind) = marked (w.mark kind) r
 
 -- whether a parameter text is empty
 abbrev pub is_bare : Parameters → Bool

@@ -1,5 +1,5 @@
 //! What a token makes of what is open.
-ghost use Rattle.std.specs.Prelude.{◌≡◌, ◌||◌, ◌∷◌, [], true, false, List, ℕ, IfOk, OnOk};
+ghost use Rattle.std.specs.Prelude.{◌≡◌, ◌||◌, ◌∷◌, ◌++◌, [], true, false, List, ℕ, IfOk, OnOk};
 ghost use Rattle.tx_char.specs.declared.tokens.Token.{Token as Any_token};
 ghost use Rattle.tx_cond.specs.Conditionals.{meeting};
 ghost use Rattle.tx_cond.specs.declared.types.Conditional.{Conditional};
@@ -9,7 +9,7 @@ ghost use Rattle.tx_eqtb.specs.Table.{tokens_at};
 ghost use Rattle.tx_pending.specs.Elements.{Input};
 ghost use Rattle.tx_prim.specs.declared.modes.Mode.{Mode as Any_mode};
 ghost use Rattle.tx_expand.specs.declared.types.Wanted.{Wanted as Any_wanted};
-ghost use Rattle.tx_expand.specs.Expanding.{escape_of, reader, reader_of, world_of};
+ghost use Rattle.tx_expand.specs.Expanding.{reader, reader_of, world_of};
 ghost use Rattle.tx_expand.specs.Reader.{World};
 ghost use Rattle.tx_expand.specs.Taken.{IsPassedBegun, IsPassedFirst, IsReadBegun, IsReadFirst};
 ghost use Rattle.tx_expand.specs.Turns as turns;
@@ -18,6 +18,7 @@ ghost use Rattle.tx_expand.specs.Uses.{comes_to, with_taken};
 
 use crate::begun::Begun;
 use crate::part::Part;
+use crate::printing::push_printed;
 use crate::scanning::Scanning;
 use crate::state::Open;
 use crate::step::Step;
@@ -27,11 +28,10 @@ use std::alloc::{AllocError, Global};
 use std::collections::VecDeque;
 use tx_char::{ControlName, Token};
 use tx_cond::{Meet, SkipItem, Skipper};
-use tx_convert::{push_font_name, push_job_name, push_meaning, push_string};
-use tx_eqtb::Eqtb;
+use tx_convert::{push_font_name, push_job_name};
 use tx_known::Known;
 use tx_pending::Pending;
-use tx_prim::{CondWord, Conversion, Expandable, IntegerParameter, Mode, Test};
+use tx_prim::{CondWord, Conversion, Expandable, MarkKind, Mode, Test};
 use tx_scan::{byte, token_of};
 use tx_seen::{Fed, FontName, Meaning, Place, Seen, TexError, Want};
 use tx_toklist::{Macro, TokList, Toks};
@@ -408,18 +408,7 @@ impl Open {
         ensures { (any : Any_mode) → IfOk result (IsTurned (replaced (as_tokens (text_of (world_of (lent known.now) any) what token.now)) (reader_of self.old input.old)) (reader_of self.new input.new)) }
     {
         let mut tokens = Toks::new(alloc);
-        let escape = escape_of(known.table);
-        match what {
-            Printed::Token => push_string(&mut tokens, escape, &token.token)?,
-            Printed::Meaning => push_meaning(
-                alloc,
-                &mut tokens,
-                escape,
-                known.table.categories(),
-                known.fonts,
-                &token.meaning,
-            )?,
-        }
+        push_printed(alloc, &mut tokens, known, what, token)?;
         self.replace(alloc, input, tokens)
     }
 
@@ -560,7 +549,23 @@ impl Open {
                 self.scan(alloc, input, known, Scanned::Test(test, mode))
             }
             Expandable::Word(word) => self.meet(input, token, word),
+            Expandable::Mark(kind) => self.put_mark(input, known, kind),
         }
+    }
+
+    /// A mark stands in the place of its expansion, if there is one. Its only error is want of memory.
+    fn put_mark(
+        &mut self,
+        input: &mut Pending,
+        known: &Known,
+        kind: MarkKind,
+    ) -> Result<Expanded, AllocError>
+        ensures { (any : Any_mode) → IfOk result (IsTurned (turns.marked ((world_of (lent known.now) any).mark kind) (reader_of self.old input.old)) (reader_of self.new input.new)) }
+    {
+        if let Some(tokens) = known.pages.marks.get(kind)? {
+            input.push_list(tokens, false)?;
+        }
+        self.went(input)
     }
 
     /// What is printed as tokens. Its only error is want of memory.
@@ -741,13 +746,6 @@ impl Open {
         }
         Ok(())
     }
-}
-
-/// The escape character, if there is one.
-pub fn escape_of(table: &Eqtb) -> Option<u8>
-    ensures { result ≡ escape_of table.now }
-{
-    byte(i64::from(table.number(&Place::Integer(IntegerParameter::Escapechar))))
 }
 
 /// Whether a token that means this is never expanded.

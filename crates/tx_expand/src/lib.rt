@@ -5,8 +5,8 @@
 //! does what comes before the first line of a file, and the error where a file ends. Only tested: that the definitions are
 //! Knuth's, on cases worked out by hand, most of them seen in his program (`proofs/Worked.antt`).
 //!
-//! Read `types` and `begun`; `part`, `mapping`, `feeding` and `scanning`; `step` and `using`; then `state`, `expanding`, `kept` and
-//! `expander`.
+//! Read `types` and `begun`; `part`, `mapping`, `feeding` and `scanning`; `step`, `using` and `printing`; then `state`,
+//! `expanding`, `kept` and `expander`.
 #![tactic(auto)]
 
 mod begun;
@@ -16,6 +16,7 @@ mod feeding;
 mod kept;
 mod mapping;
 mod part;
+mod printing;
 mod scanning;
 mod state;
 mod step;
@@ -24,7 +25,7 @@ mod using;
 
 pub use begun::Begun;
 pub use expander::Expander;
-pub use expanding::escape_of;
+pub use printing::escape_of;
 pub use scanning::Scanning;
 pub use types::{Expanded, Made, Printed, Read, Scanned, Wanted};
 pub use using::Using;

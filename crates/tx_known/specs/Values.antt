@@ -5,11 +5,18 @@ use Rattle.tx_eqtb.specs.declared.eqtb.Eqtb.{Eqtb}
 use Rattle.tx_eqtb.specs.Quantities.{value_in}
 use Rattle.tx_eqtb.specs.Table.{number_at}
 use Rattle.tx_nest.specs.declared.nest.Nest.{Nest}
+use Rattle.tx_nest.specs.Changed.{is_bare_page}
 use Rattle.tx_nest.specs.Lasts.{last_kern, last_penalty, last_skip}
 use Rattle.tx_nest.specs.States.{prev_depth, space_factor}
 use Rattle.tx_node.specs.Items.{Item}
 use Rattle.tx_prim.specs.declared.integer.IntegerParameter.TheVariants.{Mag}
 use Rattle.tx_num.specs.Glue.{zero_glue}
+use Rattle.tx_pagebuilder.specs.Quantities.{shown}
+use Rattle.tx_pages.specs.declared.last.LastItem.{LastItem}
+use Rattle.tx_pages.specs.declared.last.LastItem.TheVariants as last
+use Rattle.tx_pages.specs.declared.pages.Pages.{Pages}
+use Rattle.tx_prim.specs.declared.family.PageQuantity.{PageQuantity}
+use Rattle.tx_prim.specs.declared.family.PageQuantity.TheVariants as page
 use Rattle.tx_prim.specs.declared.family.FontNumber.{FontNumber}
 use Rattle.tx_prim.specs.declared.family.ItemKind.{ItemKind}
 use Rattle.tx_prim.specs.declared.family.ItemKind.TheVariants as item
@@ -37,9 +44,12 @@ no_last item.Penalty = Int (pos 0)
 no_last item.Kern = Dimen (pos 0)
 no_last item.Skip = Glue zero_glue
 
-abbrev pub last_or_none : Bool → ItemKind → List Item → Value
-last_or_none true kind nodes = no_last kind
-last_or_none false kind nodes = last_value kind nodes
+-- the same of the last node that was contributed to the page (sections 424 and 996)
+abbrev pub page_value : ItemKind → LastItem → Value
+page_value item.Penalty (last.Penalty n) = Int n
+page_value item.Kern (last.Kern size) = Dimen size
+page_value item.Skip (last.Skip g) = Glue g
+page_value kind _ = no_last kind
 
 -- \spacefactor, which horizontal modes have
 abbrev pub factor_value : Option ℕ → Value
@@ -76,25 +86,42 @@ may_be first mag = (int_le (pos 1) mag && int_le mag (pos 32768)) && is_that fir
 abbrev pub magnification_value : Option ℤ → ℤ → Value
 magnification_value first mag = if may_be first mag then Magnification (unsigned_abs mag) else Absent
 
--- the table, the lists, \badness, the magnification if it is used, the fonts, and whether a word is open, without the loans
+-- the table, the lists, what is kept of pages, \badness, the magnification if it is used, the fonts, and whether a word is open, without the loans
 pub record Lent : Type 0 where
   pub table : Eqtb
   pub nest : Nest
+  pub pages : Pages
   pub badness : ℤ
   pub magnification : Option ℤ
   pub fonts : List FontState
   pub has_word : Bool
 
 abbrev pub lent : Known → Lent
-lent known = record { table = known.table.now; nest = known.nest.now; badness = known.badness; magnification = known.magnification; fonts = known.fonts.now; has_word = known.has_word }
+lent known = record { table = known.table.now; nest = known.nest.now; pages = known.pages.now; badness = known.badness; magnification = known.magnification; fonts = known.fonts.now; has_word = known.has_word }
 
 -- the number of a font, as a document tells it
 abbrev pub font_number : Lent → FontName → ℕ
 font_number known Current = known.table.table.font
 font_number known (Number n) = n
 
+-- \lastpenalty, \lastkern and \lastskip: on the pages' list with no contribution left, those of the page
+abbrev pub last_of_list : ItemKind → Lent → Value
+last_of_list kind known =
+    if is_bare_page known.nest.innermost.state known.nest.innermost.nodes
+    then page_value kind known.pages.last
+    else last_value kind known.nest.innermost.nodes
+
+abbrev pub last_or_none : Bool → ItemKind → Lent → Value
+last_or_none true kind known = no_last kind
+last_or_none false kind known = last_of_list kind known
+
+-- \pagegoal and its kin are sizes, \insertpenalties is an integer (section 421)
+abbrev pub quantity_value : Pages → PageQuantity → Value
+quantity_value pages page.InsertPenalties = Int (shown page.InsertPenalties pages.page.measures)
+quantity_value pages quantity = Dimen (shown quantity pages.page.measures)
+
 abbrev pub value_now : Lent → Place → Value
-value_now known (place.Last kind) = last_or_none known.has_word kind known.nest.innermost.nodes
+value_now known (place.Last kind) = last_or_none known.has_word kind known
 value_now known place.Badness = Int known.badness
 value_now known place.PrevDepth = depth_value (prev_depth known.nest.innermost.state)
 value_now known place.SpaceFactor = factor_value (space_factor known.nest.innermost.state)
@@ -111,6 +138,8 @@ value_now known (place.Count number) = value_in known.table (place.Count number)
 value_now known (place.Dimen number) = value_in known.table (place.Dimen number)
 value_now known place.Magnification = magnification_value known.magnification (number_at known.table.table (place.Integer Mag))
 value_now known place.ParShape = value_in known.table place.ParShape
+value_now known (place.Page quantity) = quantity_value known.pages quantity
+value_now known place.DeadCycles = Int known.pages.dead_cycles
 value_now known (place.Skip number) = value_in known.table (place.Skip number)
 value_now known (place.Muskip number) = value_in known.table (place.Muskip number)
 value_now known (place.Glue parameter) = value_in known.table (place.Glue parameter)

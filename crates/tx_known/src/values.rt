@@ -4,28 +4,32 @@ ghost use Rattle.tx_known.specs.Values as spec;
 
 use crate::known::Known;
 use tx_eqtb::Eqtb;
-use tx_nest::{Nest, SpaceFactor, last_kern, last_penalty, last_skip};
+use tx_nest::{Nest, SpaceFactor, is_bare_page, last_kern, last_penalty, last_skip};
 use tx_node::Nodes;
 use tx_num::Glue;
-use tx_prim::{FontNumber, IntegerParameter, ItemKind};
+use tx_pages::{LastItem, Pages};
+use tx_prim::{FontNumber, IntegerParameter, ItemKind, PageQuantity};
 use tx_seen::{FontName, FontSize, Place, Quantities, Value};
 use tx_tfm::Fonts;
 
 impl<'a> Known<'a> {
-    /// This table, these lists, \badness, the magnification if it is used, these fonts, and whether a word is open.
+    /// This table, these lists, what is kept of pages, \badness, the magnification if it is used, these fonts, and whether a word is
+    /// open.
     pub fn new(
         table: &'a Eqtb,
         nest: &'a Nest,
+        pages: &'a Pages,
         badness: i64,
         magnification: Option<i32>,
         fonts: &'a Fonts,
         has_word: bool,
     ) -> Known<'a>
-        ensures { spec.lent result ≡ record { table = table.now; nest = nest.now; badness = badness; magnification = magnification; fonts = fonts.now; has_word = has_word } }
+        ensures { spec.lent result ≡ record { table = table.now; nest = nest.now; pages = pages.now; badness = badness; magnification = magnification; fonts = fonts.now; has_word = has_word } }
     {
         Known {
             table,
             nest,
+            pages,
             badness,
             magnification,
             fonts,
@@ -33,14 +37,26 @@ impl<'a> Known<'a> {
         }
     }
 
+    /// \lastpenalty, \lastkern or \lastskip, where no word is open.
+    fn last_of_list(&self, kind: ItemKind) -> Value
+        ensures { result ≡ spec.last_of_list kind (spec.lent self.now) }
+    {
+        let list = self.nest.innermost();
+        if is_bare_page(list) {
+            page_value(kind, self.pages.last)
+        } else {
+            last_value(kind, &list.nodes)
+        }
+    }
+
     /// \lastpenalty, \lastkern or \lastskip, also where a word is open.
     fn last(&self, kind: ItemKind) -> Value
-        ensures { result ≡ spec.last_or_none self.now.has_word kind self.now.nest.now.innermost.nodes }
+        ensures { result ≡ spec.last_or_none self.now.has_word kind (spec.lent self.now) }
     {
         if self.has_word {
             no_last(kind)
         } else {
-            last_value(kind, &self.nest.innermost().nodes)
+            self.last_of_list(kind)
         }
     }
 
@@ -63,6 +79,40 @@ fn last_value(kind: ItemKind, nodes: &Nodes) -> Value
         ItemKind::Penalty => Value::Int(i64::from(last_penalty(nodes))),
         ItemKind::Kern => Value::Dimen(i64::from(last_kern(nodes))),
         ItemKind::Skip => Value::Glue(last_skip(nodes)),
+    }
+}
+
+/// The same of the page's last node.
+fn page_value(kind: ItemKind, last: LastItem) -> Value
+    ensures { result ≡ spec.page_value kind last }
+{
+    match (kind, last) {
+        (ItemKind::Penalty, LastItem::Penalty(number)) => Value::Int(i64::from(number)),
+        (ItemKind::Kern, LastItem::Kern(size)) => Value::Dimen(i64::from(size)),
+        (ItemKind::Skip, LastItem::Skip(glue)) => Value::Glue(glue),
+        (ItemKind::Penalty, LastItem::Kern(_) | LastItem::Skip(_) | LastItem::Other) => no_last(
+            kind,
+        ),
+        (ItemKind::Kern, LastItem::Penalty(_) | LastItem::Skip(_) | LastItem::Other) => no_last(
+            kind,
+        ),
+        (ItemKind::Skip, LastItem::Penalty(_) | LastItem::Kern(_) | LastItem::Other) => no_last(
+            kind,
+        ),
+    }
+}
+
+/// A quantity of the page: \insertpenalties is an integer, the others are sizes.
+fn quantity_value(pages: &Pages, quantity: PageQuantity) -> Value
+    ensures { result ≡ spec.quantity_value pages.now quantity }
+{
+    let value = pages.page.get(quantity);
+    match quantity {
+        PageQuantity::InsertPenalties => Value::Int(value),
+        PageQuantity::Goal | PageQuantity::Total | PageQuantity::Depth => Value::Dimen(value),
+        PageQuantity::Stretch | PageQuantity::FilStretch => Value::Dimen(value),
+        PageQuantity::FillStretch | PageQuantity::FilllStretch => Value::Dimen(value),
+        PageQuantity::Shrink => Value::Dimen(value),
     }
 }
 
@@ -180,6 +230,8 @@ impl<'a> Quantities for Known<'a> {
             }
             Place::Skip(_) | Place::Muskip(_) | Place::Glue(_) => self.table.quantity(place),
             Place::ParShape => self.table.quantity(place),
+            Place::Page(quantity) => quantity_value(self.pages, *quantity),
+            Place::DeadCycles => Value::Int(i64::from(self.pages.dead_cycles)),
             Place::Box(_) | Place::BoxSize(_, _) | Place::BoxTest(_, _) => {
                 self.table.quantity(place)
             }

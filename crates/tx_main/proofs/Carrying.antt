@@ -1,5 +1,5 @@
 -- What comes of a command of boxes by what it answers.
-use Rattle.std.proofs.Common.{◌≡◌, ◌++◌, map, append-nil, ℕ, ℤ, false, List, [], Option, Some, None, Result, Ok, Err, IfOk, refl, ap, sym, ◌∙◌}
+use Rattle.std.proofs.Common.{◌≡◌, ◌++◌, map, append-nil, Bool, true, if◌then◌else◌, ℕ, ℤ, false, List, [], Option, Some, None, Result, Ok, Err, IfOk, refl, ap, sym, ◌∙◌}
 use Rattle.tx_char.specs.declared.tokens.Token.{Token}
 use Rattle.tx_box.specs.declared.parts.Done.{Done}
 use Rattle.tx_box.specs.declared.parts.Lists.{Lists}
@@ -9,7 +9,9 @@ use Rattle.tx_box.specs.Effects.{Effect, told}
 use Rattle.tx_eqtb.specs.declared.eqtb.Eqtb.{Eqtb}
 use Rattle.tx_eqtb.specs.Stack.{closed}
 use Rattle.tx_eqtb.specs.Table.{tokens_at}
+use Rattle.tx_galley.specs.Exercising.{Exercised, exercising as exercising_pages}
 use Rattle.tx_machine.specs.declared.types.Event.{Event}
+use Rattle.tx_main.specs.Building.{built, built_in, exercised, exercising, is_pages}
 use Rattle.tx_pending.specs.Elements.{Element, Given, Input, with_list, with_tokens}
 use Rattle.tx_prim.specs.declared.family.BoxKind.{BoxKind}
 use Rattle.tx_prim.specs.declared.tokens.TokenParameter.{TokenParameter}
@@ -18,9 +20,9 @@ use Rattle.tx_seen.specs.declared.place.Place.TheVariants.{Tokens}
 use Rattle.tx_shape.specs.declared.types.BoxContext.{BoxContext}
 use Rattle.tx_shape.specs.declared.types.BoxContext.TheVariants.{Adjust, Append, Register, Ship}
 use Rattle.tx_state.specs.declared.state.State.{State}
-use Rattle.tx_main.specs.Effects.{boxed, carried, closing, ending_box, settled, target_of, telling, with_after, with_every, with_every_in}
+use Rattle.tx_main.specs.Effects.{boxed, carried, closing, packing_box, settled, target_of, telling, with_after, with_every, with_every_in}
 use Rattle.tx_state.specs.Meanings.{IsStepped, state_of}
-use Rattle.tx_state.specs.Outcomes.{Outcome, Leaves, Asks, Ships, Fails, Ends}
+use Rattle.tx_state.specs.Outcomes.{Outcome, Leaves, Asks, Ships, Fails, FailsTelling, Ends}
 use Rattle.tx_state.specs.State.{TexState}
 
 -- other lists and another table in a state
@@ -100,7 +102,7 @@ settles of context base before between new target lists table done answer own_li
     did
 
 -- the end of a box, behind the end of its group
-pub ends : {E : Type 0} (lines : List ℕ) (before between new : State) (most : ℤ) (lists : Lists) (table : Eqtb) (report : List ℕ) (done : Done) (answer : Result Event E) → most ≡ greatest_depth before.table.table → state_of between ≡ closing (state_of before) → between.said ≡ before.said → ending most between.lists between.table ≡ reported report (told done lists table) → IfOk answer (λ event. IsStepped (telling lines (boxed (state_of (with_parts between lists table)) (reported report (told done lists table)))) (with_parts between lists table) event new) → IfOk answer (λ event. IsStepped (telling lines (ending_box (state_of before))) before event new)
+pub ends : {E : Type 0} (lines : List ℕ) (before between new : State) (most : ℤ) (lists : Lists) (table : Eqtb) (report : List ℕ) (done : Done) (answer : Result Event E) → most ≡ greatest_depth before.table.table → state_of between ≡ closing (state_of before) → between.said ≡ before.said → ending most between.lists between.table ≡ reported report (told done lists table) → IfOk answer (λ event. IsStepped (telling lines (boxed (state_of (with_parts between lists table)) (reported report (told done lists table)))) (with_parts between lists table) event new) → IfOk answer (λ event. IsStepped (telling lines (packing_box (state_of before))) before event new)
 ends lines before between new most lists table report done answer deep same said is did =
     let same_lists : between.lists ≡ before.lists = ap (λ (s : TexState). s.lists) same in
     let same_table : between.table ≡ closed before.table = ap (λ (s : TexState). s.table) same in
@@ -126,7 +128,31 @@ telling-nothing (Leaves s said) = refl
 telling-nothing (Asks ask s) = refl
 telling-nothing (Ships page s) = refl
 telling-nothing (Fails error) = refl
+telling-nothing (FailsTelling error said) = refl
 telling-nothing Ends = refl
 
 pub tells-nothing : {E : Type 0} (o : Outcome) (s new : State) (lines : List ℕ) (answer : Result Event E) → lines ≡ [] → IfOk answer (λ event. IsStepped (telling lines o) s event new) → IfOk answer (λ event. IsStepped o s event new)
 tells-nothing o s new lines answer none did = outcome-by (telling lines o) o s s new answer (ap (λ (l : List ℕ). telling l o) none ∙ telling-nothing o) refl did
+
+-- what is told before the page builder is exercised stays before
+telling-exercised : (lines said : List ℕ) (s : TexState) (x : Result Exercised TexError) → telling lines (exercised s said x) ≡ exercised s (lines ++ said) x
+telling-exercised lines said s (Ok x) = refl
+telling-exercised lines said s (Err e) = refl
+
+telling-then : (lines said : List ℕ) (s : TexState) (b : Bool) → telling lines (if b then exercising s said else Leaves s said) ≡ (if b then exercising s (lines ++ said) else Leaves s (lines ++ said))
+telling-then lines said s true = telling-exercised lines said s (exercising_pages s.lists.nest s.table s.lists.pages)
+telling-then lines said s false = refl
+
+pub telling-built : (lines : List ℕ) (o : Outcome) → telling lines (built o) ≡ built (telling lines o)
+telling-built lines (Leaves s said) = telling-then lines said s (is_pages s.mode)
+telling-built lines (Asks ask s) = refl
+telling-built lines (Ships page s) = refl
+telling-built lines (Fails error) = refl
+telling-built lines (FailsTelling error said) = refl
+telling-built lines Ends = refl
+
+pub telling-in : (lines : List ℕ) (context : BoxContext) (o : Outcome) → telling lines (built_in context o) ≡ built_in context (telling lines o)
+telling-in lines (Append shift) o = telling-built lines o
+telling-in lines (Register n) o = refl
+telling-in lines Ship o = refl
+telling-in lines Adjust o = refl

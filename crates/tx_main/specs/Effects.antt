@@ -1,5 +1,5 @@
 -- What each command does, once it is whole (TeX: The Program, parts 45 to 49): a line for each family.
-use Rattle.std.specs.Prelude.{ℕ, ◌-◌, ◌*◌, ℤ, pos, int_lt, unsigned_abs, Bool, true, false, ◌||◌, ◌&&◌, ◌==◌, nat_lt, nat_le, List, [], ◌∷◌, ◌++◌, length, map, Option, Some, None, Result, Ok, Err, codes, if◌then◌else◌}
+use Rattle.std.specs.Prelude.{ℕ, ◌-◌, ◌*◌, ℤ, pos, int_lt, unsigned_abs, Bool, true, false, ◌||◌, ◌&&◌, ◌==◌, nat_lt, nat_le, List, [], ◌∷◌, ◌++◌, length, map, Option, Some, None, is_some, Result, Ok, Err, codes, if◌then◌else◌}
 use Rattle.tx_char.specs.declared.tokens.Token.{Token}
 use Rattle.tx_char.specs.declared.tokens.Token.TheVariants as token
 use Rattle.tx_node.specs.declared.plain.KernKind.TheVariants.{Explicit}
@@ -9,10 +9,11 @@ use Rattle.tx_node.specs.declared.plain.LeadersKind.{LeadersKind as ItemLeaders}
 use Rattle.tx_node.specs.declared.plain.LeadersKind.TheVariants as item_leaders
 use Rattle.tx_node.specs.declared.rule.Rule.{Rule as ARule}
 use Rattle.tx_num.specs.Glue.{GlueSpec}
-use Rattle.tx_node.specs.Items.{Item as Node_item, plain, shared}
+use Rattle.tx_node.specs.Items.{Item as Node_item, plain, shared, PackedBox}
 use Rattle.tx_nest.specs.declared.list.ModeList.{ModeList}
 use Rattle.tx_nest.specs.Appended.{rule_appended}
 use Rattle.tx_nest.specs.Changed as list
+use Rattle.tx_nest.specs.Lasts.{last_box}
 use Rattle.tx_nest.specs.Factors.{factor_of}
 use Rattle.tx_nest.specs.Grafs.{graf_of, with_graf}
 use Rattle.tx_nest.specs.States.{mode_of}
@@ -20,7 +21,7 @@ use Rattle.tx_eqtb.specs.declared.eqtb.Eqtb.{Eqtb}
 use Rattle.tx_eqtb.specs.declared.groups.GroupKind.{GroupKind}
 use Rattle.tx_eqtb.specs.declared.groups.GroupKind.TheVariants as kind
 use Rattle.tx_eqtb.specs.declared.entry.Entry.TheVariants.{Means, Shape as Shape_entry}
-use Rattle.tx_eqtb.specs.Table.{tokens_at}
+use Rattle.tx_eqtb.specs.Table.{box_at, tokens_at}
 use Rattle.tx_eqtb.specs.Stack.{opened, closed, kind_of, assigned as table_assigned}
 use Rattle.tx_expand.specs.Expanding.{escape_of}
 use Rattle.tx_expand.specs.Turns.{put}
@@ -32,6 +33,7 @@ use Rattle.tx_prim.specs.declared.family.BreakText.TheVariants as break
 use Rattle.tx_prim.specs.declared.family.DefinitionKind.{DefinitionKind}
 use Rattle.tx_prim.specs.declared.family.Indentation.{Indentation}
 use Rattle.tx_prim.specs.declared.family.ItemKind.{ItemKind}
+use Rattle.tx_prim.specs.declared.family.ItemKind.TheVariants as item
 use Rattle.tx_prim.specs.declared.family.LeadersKind.{LeadersKind}
 use Rattle.tx_prim.specs.declared.family.LeadersKind.TheVariants as leaders
 use Rattle.tx_prim.specs.declared.integer.IntegerParameter.TheVariants.{Defaulthyphenchar, Defaultskewchar, Globaldefs}
@@ -43,13 +45,13 @@ use Rattle.tx_prim.specs.declared.family.Prefix.TheVariants.{Global, Long, Outer
 use Rattle.tx_prim.specs.declared.family.SizeKind.TheVariants.{Kern}
 use Rattle.tx_prim.specs.declared.tokens.TokenParameter.TheVariants.{Everypar}
 use Rattle.tx_seen.specs.declared.error.TexError.{TexError}
-use Rattle.tx_seen.specs.declared.error.TexError.TheVariants.{BadFont, BadHyphenation, MissingBox, ExtraGroupEnd, TooManyGroups, ErrorMessage, NotAllowed, NumberOutOfRange}
+use Rattle.tx_seen.specs.declared.error.TexError.TheVariants.{BadFont, BadHyphenation, MissingBox, ExtraGroupEnd, TooManyGroups, ErrorMessage, NotAllowed, NumberOutOfRange, UnbalancedOutput}
 use Rattle.tx_seen.specs.declared.place.FontName.{FontName}
 use Rattle.tx_seen.specs.declared.place.FontName.TheVariants.{Current, Number}
 use Rattle.tx_seen.specs.declared.meaning.Meaning.{Meaning}
 use Rattle.tx_seen.specs.declared.meaning.Meaning.TheVariants.{Font, Macro, Command as Command_meaning}
 use Rattle.tx_seen.specs.declared.place.Place.{Place}
-use Rattle.tx_seen.specs.declared.place.Place.TheVariants.{Name, ParShape, Tokens}
+use Rattle.tx_seen.specs.declared.place.Place.TheVariants.{Box, Name, ParShape, Tokens}
 use Rattle.tx_assign.specs.declared.types.Assignment.{Assignment}
 use Rattle.tx_assign.specs.declared.types.Change.{Change}
 use Rattle.tx_assign.specs.declared.types.Change.TheVariants.{Set, Compute, Add, Copy, Text}
@@ -65,11 +67,11 @@ use Rattle.tx_toklist.specs.Macros.{Definition}
 use Rattle.tx_toklist.specs.Text.{printed}
 use Rattle.tx_command.specs.declared.types.Command.{Command}
 use Rattle.tx_shape.specs.Loading.{size_asked}
-use Rattle.tx_command.specs.declared.types.Command.TheVariants.{Nothing, Space, ControlSpace, Character, ItalicCorrection, Indent, InsertPar, EndParagraph, DiscretionaryHyphen, SetFactor, SetPrevGraf, BeginShape, BeginBreak, DefineFont, LoadFont, SetFontDimen, SetFontInteger, BeginGroup, EndGroup, BeginSemiSimple, EndSemiSimple, Prefix, Define, Assign, Sized, Rule, BeginBox, UseBox, CopyBox, LastBox, Unbox, Penalize, Remove, Skip, BeginLeaders, SetDepth, End, Interact, DefineMacro, BeginText, DefineFuture, Keep}
+use Rattle.tx_command.specs.declared.types.Command.TheVariants.{Nothing, Space, ControlSpace, Character, ItalicCorrection, Indent, InsertPar, EndParagraph, DiscretionaryHyphen, SetFactor, SetPrevGraf, BeginShape, Open, SetDeadCycles, SetPage, SplitBox, DefineFont, LoadFont, SetFontDimen, SetFontInteger, BeginGroup, EndGroup, BeginSemiSimple, EndSemiSimple, Prefix, Define, Assign, Sized, Rule, BeginBox, UseBox, CopyBox, LastBox, Unbox, Penalize, Remove, Skip, BeginLeaders, SetDepth, End, Interact, DefineMacro, BeginText, DefineFuture, Keep}
 use Rattle.tx_shape.specs.declared.types.BoxContext.{BoxContext}
 use Rattle.tx_shape.specs.declared.types.BoxContext.TheVariants.{Adjust, Append, Register, Ship}
 use Rattle.tx_command.specs.declared.types.Head.{Head}
-use Rattle.tx_command.specs.declared.types.Head.TheVariants.{Fresh, Prefixed, Defining, Future, Leading, Loading, Shaping, Breaking}
+use Rattle.tx_command.specs.declared.types.Head.TheVariants.{Fresh, Prefixed, Defining, Future, Leading, Loading, Shaping, Opening}
 use Rattle.tx_command.specs.declared.types.SizeUse.TheVariants.{Item, Shape}
 use Rattle.tx_command.specs.declared.types.Prefixes.{Prefixes}
 use Rattle.tx_command.specs.Commands.{leaders_before, prefixes_of}
@@ -80,17 +82,31 @@ use Rattle.tx_box.specs.declared.parts.Target.{Target}
 use Rattle.tx_box.specs.declared.parts.Work.{Work}
 use Rattle.tx_box.specs.declared.parts.Lists.{Lists}
 use Rattle.tx_box.specs.Breaks.{breaking as begun_break, broken}
-use Rattle.tx_box.specs.Building.{Ended, beginning, ending as ending_list, every_in, greatest_depth}
+use Rattle.tx_box.specs.Building.{Ended, beginning, ending as ending_list, every_in, greatest_depth, reported}
+use Rattle.tx_box.specs.declared.parts.OpenBox.{OpenBox}
 use Rattle.tx_box.specs.Effects.{Effect, Left}
-use Rattle.tx_box.specs.Placing.{with_list}
+use Rattle.tx_box.specs.Inserts.{VerticalLeft, beginning_vertical, ending_insert as insert_ended, insert_params, left_vertical}
+use Rattle.tx_box.specs.Placing.{placed, with_list}
 use Rattle.tx_box.specs.Sources.{appended, copying, taking_last, unboxing, using}
 use Rattle.tx_par.specs.declared.error.ParError.{ParError}
 use Rattle.tx_paragraph.specs.Beginning.{begins_paragraph, indented}
 use Rattle.tx_paragraph.specs.Ending as paragraph
 use Rattle.tx_paragraph.specs.Hyphens.{Hyphenating, lower_codes}
+use Rattle.tx_galley.specs.Ending.{ending_output as output_ended, is_done, with_end}
+use Rattle.tx_galley.specs.Assigning.{setting}
+use Rattle.tx_galley.specs.Splitting.{SplitOff, splitting as split_off}
+use Rattle.tx_pack.specs.declared.types.Packed.{Packed}
+use Rattle.tx_pages.specs.declared.last.LastItem.{LastItem}
+use Rattle.tx_pages.specs.declared.last.LastItem.TheVariants as last
+use Rattle.tx_pages.specs.declared.pages.Pages.{Pages}
+use Rattle.tx_pending.specs.Elements.{Step, step}
+use Rattle.tx_pending.specs.declared.next.Next.{Next}
+use Rattle.tx_pending.specs.declared.next.Next.TheVariants.{Marker}
+use Rattle.tx_shape.specs.declared.types.Opener.TheVariants as opener
 use Rattle.tx_state.specs.declared.parts.Due.{Due}
 use Rattle.tx_state.specs.declared.parts.Due.TheVariants.{Boxes, LoadFont as LoadFont_due}
 use Rattle.tx_state.specs.declared.parts.FontRequest.{FontRequest}
+use Rattle.tx_main.specs.Building.{built, built_if, built_in, exercised, exercising, is_pages}
 use Rattle.tx_main.specs.Pages.{integer}
 use Rattle.tx_state.specs.State.{TexState}
 use Rattle.tx_hyphen.specs.Rules.{Rules}
@@ -99,7 +115,7 @@ use Rattle.tx_hyphenate.specs.Texts.{with_exceptions, with_patterns}
 use Rattle.tx_main.specs.Hyphens.{words_of}
 use Rattle.tx_main.specs.Letters.{code_for, token_for}
 use Rattle.tx_state.specs.Texts.{absorbed_text, definition_text, is_global, list_text}
-use Rattle.tx_state.specs.Outcomes.{Outcome, Asks, Leaves, Ships, Fails, Ends, leaves}
+use Rattle.tx_state.specs.Outcomes.{Outcome, Asks, Leaves, Ships, Fails, FailsTelling, Ends, leaves}
 use Rattle.tx_main.specs.Words.{breaking, collecting, control_spacing, correcting, current_font, factor_now, spacing, with_list_factor}
 
 -- one more prefix
@@ -161,8 +177,17 @@ abbrev pub removed : TexState → Option ModeList → Outcome
 removed s None = Fails MissingBox
 removed s (Some new) = leaves (with_top_list s new)
 
+-- on the pages' list with no contribution left \unskip is refused too where glue went to the page last (section 1106)
+abbrev pub is_glue_of_page : LastItem → Bool
+is_glue_of_page (last.Skip g) = true
+is_glue_of_page _ = false
+
+abbrev pub takes_of_page : ItemKind → TexState → Bool
+takes_of_page item.Skip s = list.is_bare_page s.lists.nest.innermost.state s.lists.nest.innermost.nodes && is_glue_of_page s.lists.pages.last
+takes_of_page kind s = false
+
 abbrev pub removing : TexState → ItemKind → Outcome
-removing s kind = removed s (list.removing kind s.lists.nest.innermost)
+removing s kind = if takes_of_page kind s then Fails MissingBox else removed s (list.removing kind s.lists.nest.innermost)
 
 -- \prevdepth, which may stand in vertical modes alone (section 1243)
 abbrev pub setting_depth : TexState → ℤ → Outcome
@@ -275,6 +300,7 @@ using_text s purposes.LowerCase tokens = lettering s false tokens
 using_text s purposes.Special tokens = marking s tokens
 using_text s purposes.Patterns tokens = patterning s (words_of s.table.table false tokens)
 using_text s purposes.Hyphenation tokens = excepting s (words_of s.table.table true tokens)
+using_text s purposes.Mark tokens = adding s (shared (large.Mark tokens))
 
 -- a text in braces begins; no pattern can be added any more once a paragraph began its second pass (section 960)
 abbrev pub is_late : Hyphenation → TextUse → Bool
@@ -342,9 +368,17 @@ with_every_in (Register n) box s = with_every box s
 with_every_in Ship box s = with_every box s
 with_every_in Adjust box s = s
 
+-- what is to become of the innermost open box
+abbrev pub context_of : List OpenBox → BoxContext
+context_of [] = Ship
+context_of (box ∷ boxes) = box.target.context
+
 -- the end of a box (section 1086): how deep it may be is read before its group ends
+abbrev pub packing_box : TexState → Outcome
+packing_box s = boxed (closing s) (ending_list (greatest_depth s.table.table) s.lists (closed s.table))
+
 abbrev pub ending_box : TexState → Outcome
-ending_box s = boxed (closing s) (ending_list (greatest_depth s.table.table) s.lists (closed s.table))
+ending_box s = built_in (context_of s.lists.boxes) (packing_box s)
 
 -- what a turn tells before the rest of it; one that fails tells nothing
 abbrev pub telling : List ℕ → Outcome → Outcome
@@ -352,6 +386,7 @@ telling report (Leaves s said) = Leaves s (report ++ said)
 telling report (Asks ask s) = Asks ask s
 telling report (Ships page s) = Ships page s
 telling report (Fails error) = Fails error
+telling report (FailsTelling error said) = FailsTelling error (report ++ said)
 telling report Ends = Ends
 
 -- what a paragraph's words are hyphenated by
@@ -365,6 +400,52 @@ ending_behind s (Ok left) = telling left.report (ending_box (record s { lists = 
 
 abbrev pub ending_vertical : TexState → Outcome
 ending_vertical s = ending_behind s (paragraph.closing (hyphenating s) s.lists s.table)
+
+-- the list of an \insert ends, and a paragraph in it before that (section 1100); what the insertion takes from the table is read before
+-- its group ends
+abbrev pub packing_insert : TexState → ℕ → Outcome
+packing_insert s class = boxed (closing s) (reported [] (insert_ended class (insert_params s.table.table) s.lists (closed s.table)))
+
+abbrev pub ending_insert : TexState → ℕ → Outcome
+ending_insert s class = built (packing_insert s class)
+
+abbrev pub insert_behind : ℕ → TexState → Result paragraph.Left ParError → Outcome
+insert_behind class s (Err error) = Fails (paragraph.par_error error)
+insert_behind class s (Ok left) = telling left.report (ending_insert (record s { lists = left.lists; hyphenation = left.known; table = left.table }) class)
+
+abbrev pub inserting : TexState → ℕ → Outcome
+inserting s class = insert_behind class s (paragraph.closing (hyphenating s) s.lists s.table)
+
+-- \output's group ends (sections 1026 to 1028): its tokens have to end there too
+abbrev pub is_marker : Next → Bool
+is_marker Marker = true
+is_marker _ = false
+
+-- what comes next of the input, and what is left then
+abbrev pub next_of : TexState → Step
+next_of s = step s.table.table.categories s.reader.input
+
+abbrev pub is_at_marker : TexState → Bool
+is_at_marker s = is_marker (next_of s).next
+
+abbrev pub without_marker : TexState → TexState
+without_marker s = record s { reader = record s.reader { input = (next_of s).left } }
+
+abbrev pub ending_output_in : TexState → Option VerticalLeft → Outcome
+ending_output_in s None = Fails ExtraGroupEnd
+ending_output_in s (Some left) =
+    exercised (carrying s (record { lists = left.lists; table = s.table; due = None })) []
+    (output_ended left.items true left.lists.nest s.table left.lists.pages)
+
+abbrev pub ending_output : TexState → Outcome
+ending_output s = if is_at_marker s then ending_output_in (closing (without_marker s)) (left_vertical s.lists) else Fails UnbalancedOutput
+
+abbrev pub output_behind : TexState → Result paragraph.Left ParError → Outcome
+output_behind s (Err error) = Fails (paragraph.par_error error)
+output_behind s (Ok left) = telling left.report (ending_output (record s { lists = left.lists; hyphenation = left.known; table = left.table }))
+
+abbrev pub outputting : TexState → Outcome
+outputting s = output_behind s (paragraph.closing (hyphenating s) s.lists s.table)
 
 -- a paragraph begins, in which \everypar's tokens are read first (section 1091); \indent and \noindent in other lists
 abbrev pub with_every_par : Bool → TexState → TexState
@@ -385,8 +466,8 @@ paragraph_ended s (Ok left) = Leaves (carrying (record s { hyphenation = left.kn
 
 -- the end of a text of \discretionary, behind which the next one is to follow (section 1119)
 abbrev pub head_behind : BreakText → Head
-head_behind break.Before = Breaking break.Behind
-head_behind break.Behind = Breaking break.Instead
+head_behind break.Before = Opening (opener.Break break.Behind)
+head_behind break.Behind = Opening (opener.Break break.Instead)
 head_behind break.Instead = Fresh
 
 abbrev pub broken_off : TexState → BreakText → Result Lists TexError → Outcome
@@ -406,6 +487,8 @@ ending s (Some kind.HorizontalBox) = ending_box s
 ending s (Some kind.VerticalBox) = ending_vertical s
 ending s (Some kind.TopBox) = ending_vertical s
 ending s (Some (kind.Discretionary text)) = ending_break s text
+ending s (Some (kind.Insert class)) = inserting s class
+ending s (Some kind.Output) = outputting s
 
 -- what \endgroup does
 abbrev pub ending_semi_simple : TexState → Option GroupKind → Outcome
@@ -416,6 +499,8 @@ ending_semi_simple s (Some kind.HorizontalBox) = Fails ExtraGroupEnd
 ending_semi_simple s (Some kind.VerticalBox) = Fails ExtraGroupEnd
 ending_semi_simple s (Some kind.TopBox) = Fails ExtraGroupEnd
 ending_semi_simple s (Some (kind.Discretionary text)) = Fails ExtraGroupEnd
+ending_semi_simple s (Some (kind.Insert class)) = Fails ExtraGroupEnd
+ending_semi_simple s (Some kind.Output) = Fails ExtraGroupEnd
 
 -- how leaders are spread, as an item says it
 abbrev pub spread : LeadersKind → ItemLeaders
@@ -489,6 +574,49 @@ abbrev pub loading : TexState → FontRequest → Option (List ℕ) → Outcome
 loading s request None = Fails BadFont
 loading s request (Some bytes) = loading_from s request bytes
 
+-- what is kept of pages changes
+abbrev pub with_pages : TexState → Pages → TexState
+with_pages s pages = record s { lists = record s.lists { pages = pages } }
+
+-- the list of an \insert, or that of \output, begins behind its begin-group token
+abbrev pub beginning_list : TexState → GroupKind → Outcome
+beginning_list s group = carried (record s { head = Fresh }) (beginning_vertical group s.lists s.table)
+
+-- an assignment to a quantity of the page (section 1245)
+abbrev pub paged_so : TexState → Result Pages TexError → Outcome
+paged_so s (Err error) = Fails error
+paged_so s (Ok pages) = leaves (assigned (with_pages s pages))
+
+-- a paragraph that begins on the pages' list lets the page builder have its \parskip
+abbrev pub beginning_paragraph : Bool → TexState → Outcome
+beginning_paragraph true s = exercising s []
+beginning_paragraph false s = leaves s
+
+-- what \vsplit splits off goes where it is to go
+abbrev pub split_placed : TexState → Target → Eqtb → Option Packed → Outcome
+split_placed s target table None = carried s (placed target s.lists table None)
+split_placed s target table (Some made) =
+    boxed s (reported made.report (placed target (record s.lists { badness = made.badness }) table (Some made.node)))
+
+abbrev pub splitting : TexState → Target → Result (SplitOff (Option Packed)) TexError → Outcome
+splitting s target (Err error) = Fails error
+splitting s target (Ok off) = split_placed (with_pages s off.pages) target off.table off.packed
+
+abbrev pub splitting_box : TexState → ℕ → ℤ → BoxContext → Outcome
+splitting_box s n size context = splitting (settled context s) (target_of s context) (split_off n size s.table s.lists.pages)
+
+-- \end ends the run where nothing is left to be put out; else it is read again behind what fires a page (section 1054)
+abbrev pub ending_run : TexState → Bool → Outcome
+ending_run s true = Ends
+ending_run s false = exercising (record s { lists = record s.lists { nest = with_end s.table.table s.lists.nest } }) []
+
+-- a box that was made before goes where it is to go
+abbrev pub moving_box : TexState → ℕ → BoxContext → Outcome
+moving_box s n context = carried (settled context s) (using (target_of s context) n s.lists s.table)
+
+abbrev pub moving_last : TexState → BoxContext → Outcome
+moving_last s context = carried (settled context s) (taking_last (target_of s context) s.lists s.table)
+
 -- the effect of each command
 abbrev pub effect : TexState → Command → Outcome
 effect s Nothing = leaves s
@@ -496,9 +624,9 @@ effect s Space = spacing s (factor_now s)
 effect s ControlSpace = control_spacing s (factor_now s)
 effect s (Character code) = collecting s code (factor_now s)
 effect s ItalicCorrection = correcting s (factor_now s)
-effect s (Indent how) = leaves (indenting how (with_every_par (begins_paragraph s.lists.nest.innermost.state) s))
+effect s (Indent how) = beginning_paragraph (is_pages s.mode) (indenting how (with_every_par (begins_paragraph s.lists.nest.innermost.state) s))
 effect s InsertPar = leaves (inserting_par s)
-effect s EndParagraph = paragraph_ended s (paragraph.ending (hyphenating s) s.lists s.table)
+effect s EndParagraph = built (paragraph_ended s (paragraph.ending (hyphenating s) s.lists s.table))
 effect s DiscretionaryHyphen = breaking s (factor_now s)
 effect s BeginGroup = opening s kind.Simple s
 effect s EndGroup = ending s (kind_of s.table)
@@ -510,12 +638,13 @@ effect s (Assign a) = assigning_now s a a.change
 effect s (Sized (Item Kern) size) = adding s (plain (small.Kern Explicit size))
 effect s (Sized Shape size) = shape_sized s size s.head
 effect s (Rule kind rule) = ruling s rule
-effect s (Penalize n) = adding s (plain (small.Penalty n))
+effect s (Penalize n) = built (adding s (plain (small.Penalty n)))
 effect s (BeginBox box goal context) =
     carried (settled context (with_every_in context box s)) (beginning (record { kind = box; goal = goal; target = target_of s context }) s.lists s.table)
-effect s (UseBox n context) = carried (settled context s) (using (target_of s context) n s.lists s.table)
+effect s (UseBox n context) = built_if (is_some (box_at s.table.table (Box n))) context (moving_box s n context)
 effect s (CopyBox n context) = carried (settled context s) (copying (target_of s context) n s.lists s.table)
-effect s (LastBox context) = carried (settled context s) (taking_last (target_of s context) s.lists s.table)
+effect s (LastBox context) = built_if (is_some (last_box s.lists.nest.innermost.nodes)) context (moving_last s context)
+effect s (SplitBox n size context) = built_if (is_some (box_at s.table.table (Box n))) context (splitting_box s n size context)
 effect s (Unbox kind n) = carried s (unboxing kind n s.lists s.table)
 effect s (Remove kind) = removing s kind
 effect s (Skip g) = skipping s g (leaders_before s.head)
@@ -524,12 +653,16 @@ effect s (SetDepth depth) = setting_depth s depth
 effect s (SetFactor number) = setting_factor_of s number (factor_now s)
 effect s (SetPrevGraf number) = setting_graf s (graf_of number)
 effect s (BeginShape lines) = shaping s (prefixes_of s.head) (sizes_of lines) []
-effect s (BeginBreak text) = carried (record s { head = Fresh }) (begun_break text s.lists s.table)
+effect s (Open (opener.Break text)) = carried (record s { head = Fresh }) (begun_break text s.lists s.table)
+effect s (Open (opener.Insert class)) = beginning_list s (kind.Insert class)
+effect s (Open opener.Output) = beginning_list s kind.Output
+effect s (SetDeadCycles n) = leaves (assigned (with_pages s (record s.lists.pages { dead_cycles = n })))
+effect s (SetPage quantity v) = paged_so s (setting quantity v s.lists.pages)
 effect s (DefineFont defined) = naming s (Loading (prefixes_of s.head) defined) (carried_out s.table (meant (Command_meaning NullFont) defined) (prefixes_of s.head).global)
 effect s (LoadFont defined name asked) = finding s (record { defined = defined; global = (prefixes_of s.head).global; name = name; size = size_asked asked; file = None }) (found s.words.fonts name (size_asked asked))
 effect s (SetFontDimen font n size) = setting_fonts s (with_font_parameter s.words.fonts (number_of s font) n size)
 effect s (SetFontInteger kind font n) = setting_fonts s (with_font_integer kind s.words.fonts (number_of s font) n)
-effect s End = Ends
+effect s End = ending_run s (is_done s.lists.nest s.lists.pages)
 effect s (Interact kind) = leaves (assigned s)
 effect s (DefineMacro defined kind) = leaves (record s { text = Some (definition_text defined kind) })
 effect s (BeginText purpose) = beginning_text s purpose

@@ -6,8 +6,8 @@ use Rattle.tx_machine.specs.declared.types.Reply.{Reply}
 use Rattle.tx_machine.specs.Machine.{Stepped, IsLawful, Ready, Awaits, mode_after}
 use Rattle.tx_state.specs.declared.parts.Due.{Due}
 use Rattle.tx_state.specs.declared.parts.Due.TheVariants.{OpenMain, FileAbsent, FileEnded, MainClosed, LoadFont, Boxes}
-use Rattle.tx_box.specs.declared.parts.Work.TheVariants.{Copy, CopyList, Ship}
-use Rattle.tx_state.specs.Outcomes.{Outcome, Leaves, Asks, Ships, Fails, Ends, stepped}
+use Rattle.tx_box.specs.declared.parts.Work.TheVariants.{Build, Copy, CopyList, Ship, ShipPage}
+use Rattle.tx_state.specs.Outcomes.{Outcome, Leaves, Asks, Ships, Fails, FailsTelling, Ends, stepped}
 use Rattle.tx_machine.specs.Same.{same-tells}
 use Rattle.tx_state.specs.Codes.{meaning_code}
 use Rattle.tx_state.specs.State.{Meaning, Runs, Waits, Stops, mode_of}
@@ -22,6 +22,7 @@ stepped-leads (Leaves s said) = refl
 stepped-leads (Asks ask s) = refl
 stepped-leads (Ships page s) = refl
 stepped-leads (Fails error) = refl
+stepped-leads (FailsTelling error said) = refl
 stepped-leads Ends = refl
 
 due-costs : (due : List Due) → 1 ≤ due_cost due
@@ -34,6 +35,8 @@ due-costs (LoadFont request ∷ due) = omega arith
 due-costs (Boxes (Copy box target) ∷ due) = omega arith
 due-costs (Boxes (CopyList list) ∷ due) = omega arith
 due-costs (Boxes (Ship box) ∷ due) = omega arith
+due-costs (Boxes (ShipPage box) ∷ due) = omega arith
+due-costs (Boxes Build ∷ due) = omega arith
 
 turn-costs : (m : Meaning) → 1 ≤ cost m
 turn-costs (Runs s) = due-costs s.due

@@ -3,6 +3,7 @@ pub mod Beginning
 pub mod Letters
 pub mod Hyphens
 pub mod Words
+pub mod Building
 pub mod Effects
 pub mod Turns
 pub mod Lawful

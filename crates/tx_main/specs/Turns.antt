@@ -1,5 +1,5 @@
 -- One turn of TeX: due work, the ask for a line, or one token and its expansion (TeX: The Program, sections 1030, 343, 360 and 366).
-use Rattle.std.specs.Prelude.{ℕ, suc, ℤ, true, false, List, [], ◌∷◌, ◌++◌, Option, None, Some, is_some, Result, Ok, Err, if◌then◌else◌}
+use Rattle.std.specs.Prelude.{ℕ, suc, ℤ, pos, true, false, List, [], ◌∷◌, ◌++◌, Option, None, Some, is_some, Result, Ok, Err, if◌then◌else◌}
 use Rattle.tx_char.specs.declared.tokens.Token.{Token}
 use Rattle.tx_seen.specs.declared.item.Item.{Item}
 use Rattle.tx_seen.specs.declared.item.Item.TheVariants.{Took}
@@ -15,14 +15,16 @@ use Rattle.tx_machine.specs.declared.types.Reply.{Reply}
 use Rattle.tx_machine.specs.declared.types.Reply.TheVariants.{Found, Absent, Line as ReplyLine, Ended, Whole as ReplyWhole, Closed}
 use Rattle.tx_machine.specs.Machine.{Formatter, Stepped}
 use Rattle.tx_seen.specs.declared.error.TexError.{TexError}
-use Rattle.tx_seen.specs.declared.error.TexError.TheVariants.{SizeOutOfRange, FileAbsent, BadMagnification, NoEnd}
+use Rattle.tx_seen.specs.declared.error.TexError.TheVariants.{SizeOutOfRange, FileAbsent, BadMagnification, NoEnd, UnbalancedOutput}
 use Rattle.tx_state.specs.declared.parts.Due.{Due}
 use Rattle.tx_state.specs.declared.parts.Due.TheVariants.{OpenMain, FileAbsent as Due_file_absent, FileEnded, MainClosed, LoadFont, Boxes}
 use Rattle.tx_state.specs.declared.parts.OpenText.{OpenText}
 use Rattle.tx_command.specs.declared.types.Command.{Command}
+use Rattle.tx_box.specs.declared.parts.Target.{Target}
 use Rattle.tx_box.specs.declared.parts.Work.{Work}
-use Rattle.tx_box.specs.declared.parts.Work.TheVariants.{Copy, CopyList, Ship}
+use Rattle.tx_box.specs.declared.parts.Work.TheVariants.{Build, Copy, CopyList, Ship, ShipPage}
 use Rattle.tx_box.specs.DueWork.{work_cost}
+use Rattle.tx_node.specs.Items.{PackedBox}
 use Rattle.tx_box.specs.Placing.{placed}
 use Rattle.tx_known.specs.Values.{Lent, value_now}
 use Rattle.tx_ship.specs.declared.error.ShipError.{ShipError}
@@ -41,7 +43,8 @@ use Rattle.tx_main.specs.Words.{before_token}
 use Rattle.tx_known.specs.Values.{may_be}
 use Rattle.tx_seen.specs.Magnified.{magnification_in, noted}
 use Rattle.tx_command.specs.Commands.{command, is_naming}
-use Rattle.tx_main.specs.Effects.{carried, effect, ending_text, loading, relaxing, with_items}
+use Rattle.tx_main.specs.Effects.{carried, effect, ending_text, loading, relaxing, with_items, with_pages}
+use Rattle.tx_main.specs.Building.{built_in, exercising}
 use Rattle.tx_seen.specs.Readings.{Reading, More, Need, Done, Wrong}
 use Rattle.tx_state.specs.Outcomes.{Outcome, Asks, Ships, Fails, Ends, leaves, stepped}
 use Rattle.tx_machine.specs.Same.{same_by}
@@ -52,7 +55,7 @@ use Rattle.tx_main.specs.Beginning.{first_state}
 
 -- what scans, expansions and tests may ask for
 abbrev pub known_of : TexState → Lent
-known_of s = record { table = s.table; nest = s.lists.nest; badness = s.lists.badness; magnification = s.magnification; fonts = s.words.fonts; has_word = is_some s.words.word }
+known_of s = record { table = s.table; nest = s.lists.nest; pages = s.lists.pages; badness = s.lists.badness; magnification = s.magnification; fonts = s.words.fonts; has_word = is_some s.words.word }
 
 -- what comes of these items: the command goes on, or is wrong, or takes effect, and what it didn't need is read again
 abbrev pub scanned : TexState → List Item → Reading Command → Outcome
@@ -110,7 +113,7 @@ answered s (answer.Got t) = taken_by s t s.text
 answered s (answer.Text tokens) = given_to_text s tokens s.text
 answered s answer.Went = leaves s
 answered s (answer.Relaxes name) = leaves (relaxing s name)
-answered s answer.Marked = leaves s
+answered s answer.Marked = Fails UnbalancedOutput
 answered s (answer.Used false) = Asks Line s
 answered s (answer.Used true) = closes s
 answered s (answer.Asks name) = Asks (Open name) s
@@ -133,11 +136,21 @@ ships_with s mag (Ok page) = Ships page (record s { magnification = Some mag; de
 abbrev pub ships : TexState → ℤ → Result Page ShipError → Outcome
 ships s mag page = if may_be s.magnification mag then ships_with s mag page else Fails BadMagnification
 
+-- a page that is shipped ends what dead cycles there were (section 638)
+abbrev pub ships_box : TexState → PackedBox → Outcome
+ships_box s box =
+    ships (with_pages s (record s.lists.pages { dead_cycles = pos 0 })) (integer s.table.table Mag) (page_of s.words.fonts s.defined s.table.table box)
+
+abbrev pub copies : TexState → PackedBox → Target → Outcome
+copies s box target = carried s (placed target s.lists s.table (Some box))
+
 -- copies go where they are to go, and a box that is to be shipped is
 abbrev pub works_boxes : TexState → Work → Outcome
-works_boxes s (Copy box target) = carried s (placed target s.lists s.table (Some box))
+works_boxes s (Copy box target) = built_in target.context (copies s box target)
 works_boxes s (CopyList list) = leaves (with_items s list)
-works_boxes s (Ship box) = ships s (integer s.table.table Mag) (page_of s.words.fonts s.defined s.table.table box)
+works_boxes s (Ship box) = ships_box s box
+works_boxes s (ShipPage box) = ships_box (record s { due = Boxes Build ∷ s.due }) box
+works_boxes s Build = exercising s []
 
 -- the next piece of due work
 abbrev pub works : TexState → Due → Outcome

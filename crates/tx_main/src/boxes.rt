@@ -15,6 +15,7 @@ ghost use Rattle.tx_main.specs.Turns as turns;
 use crate::effects::{end_assignment, fail, finish_assignment};
 use crate::groups::leave_group;
 use crate::page::integer;
+use crate::pages::{build_if, build_in, context_of};
 use std::alloc::{AllocError, Global};
 use tx_assign::is_global;
 use tx_box::{
@@ -26,8 +27,9 @@ use tx_command::{BoxContext, BoxGoal};
 use tx_eqtb::GroupKind;
 use tx_list::Stack;
 use tx_machine::Event;
-use tx_nest::{append_item, append_rule, remove_item, set_prev_depth};
+use tx_nest::{append_item, append_rule, has_last_box, is_bare_page, remove_item, set_prev_depth};
 use tx_node::{BoxNode, Node, Nodes, Rule};
+use tx_pages::LastItem;
 use tx_prim::{BoxKind, IntegerParameter, ItemKind, UnboxKind};
 use tx_seen::{Place, TexError};
 use tx_state::{Due, State};
@@ -50,11 +52,27 @@ pub fn add_rule(alloc: Global, s: &mut State, rule: Rule) -> Result<Event, Alloc
     Ok(Event::Went)
 }
 
+/// Whether \unskip would take glue that has gone to the page.
+fn takes_of_page(s: &State, kind: ItemKind) -> bool
+    ensures { result ≡ effects.takes_of_page kind (state_of s.now) }
+{
+    match kind {
+        ItemKind::Skip => {
+            is_bare_page(s.lists.nest.innermost())
+                && matches!(s.lists.pages.last, LastItem::Skip(_))
+        }
+        ItemKind::Penalty | ItemKind::Kern => false,
+    }
+}
+
 /// \unpenalty and its kin.
 pub fn remove(s: &mut State, kind: ItemKind) -> Event
     requires { s.old.phase ≡ Phase.Running }
     ensures { IsStepped (effects.removing (state_of s.old) kind) s.old result s.new }
 {
+    if takes_of_page(s, kind) {
+        return fail(s, TexError::MissingBox);
+    }
     if remove_item(s.lists.nest.top(), kind) {
         Event::Went
     } else {
@@ -106,7 +124,7 @@ pub fn carry(s: &mut State, done: Done) -> Result<Event, AllocError>
 }
 
 /// What becomes of a box.
-fn target_of(s: &State, context: BoxContext) -> Target
+pub fn target_of(s: &State, context: BoxContext) -> Target
     ensures { result ≡ effects.target_of (state_of s.now) context }
 {
     let globaldefs = integer(&s.table, IntegerParameter::Globaldefs);
@@ -117,7 +135,7 @@ fn target_of(s: &State, context: BoxContext) -> Target
 }
 
 /// \setbox is an assignment that is done as soon as its box begins or is found. Its only error is want of memory.
-fn settle(s: &mut State, context: BoxContext) -> Result<(), AllocError>
+pub fn settle(s: &mut State, context: BoxContext) -> Result<(), AllocError>
     ensures state { OnOk result (state_of s.new ≡ effects.settled context (state_of s.old)) }
     ensures phase { OnOk result (s.new.phase ≡ s.old.phase) }
     ensures said { OnOk result (s.new.said ≡ s.old.said) }
@@ -170,7 +188,23 @@ pub fn open_box(
     carry(s, done)
 }
 
-/// \box: the box of a register.
+/// The box of a register goes where it is to go.
+fn move_box(
+    alloc: Global,
+    s: &mut State,
+    number: u8,
+    context: BoxContext,
+) -> Result<Event, AllocError>
+    requires running { s.old.phase ≡ Phase.Running }
+    ensures { IfOk result (λ event. IsStepped (effects.moving_box (state_of s.old) number context) s.old event s.new) }
+{
+    let target = target_of(s, context);
+    settle(s, context)?;
+    let done = use_register(alloc, &mut s.lists, &mut s.table, target, number)?;
+    carry(s, done)
+}
+
+/// \box: the box of a register, behind which the page builder is exercised unless it is void.
 pub fn use_box(
     alloc: Global,
     s: &mut State,
@@ -180,10 +214,9 @@ pub fn use_box(
     requires running { s.old.phase ≡ Phase.Running }
     ensures { IfOk result (λ event. IsStepped (effects.effect (state_of s.old) (Command.UseBox number context)) s.old event s.new) }
 {
-    let target = target_of(s, context);
-    settle(s, context)?;
-    let done = use_register(alloc, &mut s.lists, &mut s.table, target, number)?;
-    carry(s, done)
+    let found = s.table.boxed(&Place::Box(number)).is_some();
+    let event = move_box(alloc, s, number, context)?;
+    build_if(alloc, s, found, context, event)
 }
 
 /// \copy: the box of a register, which keeps it.
@@ -202,15 +235,25 @@ pub fn copy_box(
     carry(s, done)
 }
 
-/// \lastbox: the box at the list's end.
-pub fn take_box(alloc: Global, s: &mut State, context: BoxContext) -> Result<Event, AllocError>
+/// The box at the list's end goes where it is to go.
+fn move_last(alloc: Global, s: &mut State, context: BoxContext) -> Result<Event, AllocError>
     requires running { s.old.phase ≡ Phase.Running }
-    ensures { IfOk result (λ event. IsStepped (effects.effect (state_of s.old) (Command.LastBox context)) s.old event s.new) }
+    ensures { IfOk result (λ event. IsStepped (effects.moving_last (state_of s.old) context) s.old event s.new) }
 {
     let target = target_of(s, context);
     settle(s, context)?;
     let done = take_last(alloc, &mut s.lists, &mut s.table, target)?;
     carry(s, done)
+}
+
+/// \lastbox: the box at the list's end, behind which the page builder is exercised if there is one.
+pub fn take_box(alloc: Global, s: &mut State, context: BoxContext) -> Result<Event, AllocError>
+    requires running { s.old.phase ≡ Phase.Running }
+    ensures { IfOk result (λ event. IsStepped (effects.effect (state_of s.old) (Command.LastBox context)) s.old event s.new) }
+{
+    let found = has_last_box(&s.lists.nest.innermost().nodes);
+    let event = move_last(alloc, s, context)?;
+    build_if(alloc, s, found, context, event)
 }
 
 /// \unhbox and its kin.
@@ -232,7 +275,7 @@ fn joined(said: Bytes, report: &Bytes) -> Result<Bytes, AllocError>
 }
 
 /// A box's end is taken over, and the transcript's line of it, behind those that come with it.
-fn finish_box(s: &mut State, said: Bytes, ended: Ended) -> Result<Event, AllocError>
+pub fn finish_box(s: &mut State, said: Bytes, ended: Ended) -> Result<Event, AllocError>
     requires { s.old.phase ≡ Phase.Running }
     ensures { IfOk result (λ event. IsStepped (effects.telling said (effects.boxed (state_of s.old) (reported ended.report (told ended.done s.old.lists s.old.table)))) s.old event s.new) }
 {
@@ -243,6 +286,18 @@ fn finish_box(s: &mut State, said: Bytes, ended: Ended) -> Result<Event, AllocEr
         Done::Due(work) => take_over(s, Some(work), lines.as_slice()),
         Done::Wrong(error) => Ok(fail(s, error)),
     }
+}
+
+/// The list of a box, whose group of this kind ends, is packed and goes where it is to go, behind these lines of the transcript.
+fn pack_box(alloc: Global, s: &mut State, kind: GroupKind, said: Bytes) -> Result<Event, AllocError>
+    requires running { s.old.phase ≡ Phase.Running }
+    requires kind { kind_of s.old.table ≡ Some kind }
+    ensures { IfOk result (λ event. IsStepped (effects.telling said (effects.packing_box (state_of s.old))) s.old event s.new) }
+{
+    let most = greatest_depth(&s.table);
+    leave_group(s, kind)?;
+    let ended = tx_box::end_box(alloc, &mut s.lists, &mut s.table, most)?;
+    finish_box(s, said, ended)
 }
 
 /// The end of a box, whose group is of this kind, behind these lines of the transcript.
@@ -256,13 +311,26 @@ pub fn end_box(
     requires kind { kind_of s.old.table ≡ Some kind }
     ensures { IfOk result (λ event. IsStepped (effects.telling said (effects.ending_box (state_of s.old))) s.old event s.new) }
 {
-    let most = greatest_depth(&s.table);
-    leave_group(s, kind)?;
-    let ended = tx_box::end_box(alloc, &mut s.lists, &mut s.table, most)?;
-    finish_box(s, said, ended)
+    let context = context_of(&s.lists.boxes);
+    let event = pack_box(alloc, s, kind, said)?;
+    build_in(alloc, s, context, event)
 }
 
 /// A copy goes where it is to go.
+fn put_copy(
+    alloc: Global,
+    s: &mut State,
+    target: Target,
+    copied: BoxNode,
+) -> Result<Event, AllocError>
+    requires { s.old.phase ≡ Phase.Running }
+    ensures { IfOk result (λ event. IsStepped (turns.copies (state_of s.old) copied target) s.old event s.new) }
+{
+    let done = place_copy(alloc, &mut s.lists, &mut s.table, target, copied)?;
+    carry(s, done)
+}
+
+/// A copy goes where it is to go, behind which the page builder is exercised.
 pub fn add_copy(
     alloc: Global,
     s: &mut State,
@@ -272,8 +340,8 @@ pub fn add_copy(
     requires { s.old.phase ≡ Phase.Running }
     ensures { IfOk result (λ event. IsStepped (turns.works_boxes (state_of s.old) (Work.Copy copied target)) s.old event s.new) }
 {
-    let done = place_copy(alloc, &mut s.lists, &mut s.table, target, copied)?;
-    carry(s, done)
+    let event = put_copy(alloc, s, target, copied)?;
+    build_in(alloc, s, target.context, event)
 }
 
 /// A copied list stands at the end of the one that is being built.

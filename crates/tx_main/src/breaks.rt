@@ -14,13 +14,14 @@ use tx_command::Head;
 use tx_eqtb::GroupKind;
 use tx_machine::Event;
 use tx_prim::BreakText;
+use tx_shape::Opener;
 use tx_state::State;
 
 /// A text of \discretionary begins. Its only error is want of memory.
 pub fn begin_break(alloc: Global, s: &mut State, text: BreakText) -> Result<Event, AllocError>
     requires running { s.old.phase ≡ Phase.Running }
     requires between { s.old.scan.taken ≡ [] }
-    ensures { IfOk result (λ event. IsStepped (effects.effect (state_of s.old) (Command.BeginBreak text)) s.old event s.new) }
+    ensures { IfOk result (λ event. IsStepped (effects.effect (state_of s.old) (Command.Open (Opener.Break text))) s.old event s.new) }
 {
     s.scan.begin_fresh();
     let done = tx_box::begin_break(alloc, &mut s.lists, &mut s.table, text)?;
@@ -32,8 +33,8 @@ fn head_behind(text: BreakText) -> Head
     ensures { result ≡ effects.head_behind text }
 {
     match text {
-        BreakText::Before => Head::Breaking(BreakText::Behind),
-        BreakText::Behind => Head::Breaking(BreakText::Instead),
+        BreakText::Before => Head::Opening(Opener::Break(BreakText::Behind)),
+        BreakText::Behind => Head::Opening(Opener::Break(BreakText::Instead)),
         BreakText::Instead => Head::Fresh,
     }
 }

@@ -16,6 +16,7 @@ use crate::fonts::{define_font, find_font, set_dimension, set_integer};
 use crate::groups::{end_group, end_semi_simple, open};
 use crate::hyphens::{is_late, use_exceptions, use_patterns};
 use crate::letters::{code_for, with_letters};
+use crate::pages::{begin_vertical_list, build_here, end_run, set_dead_cycles, set_page, split};
 use crate::paragraphs::{add_size, begin_shape, end_paragraph, indent, insert_par, set_graf};
 use crate::words::{break_word, control_space, correct_italic, set_character, set_factor, space};
 use std::alloc::{AllocError, Global};
@@ -27,6 +28,7 @@ use tx_command::{Command, Head, Prefixes, SizeUse};
 use tx_eqtb::{Entry, GroupKind};
 use tx_expand::escape_of;
 use tx_machine::{Ask, AskKind, Event, Stop};
+use tx_nest::append_item;
 use tx_node::{KernKind, Leaders, Node, Plain, Rule, Shared};
 use tx_num::Glue;
 use tx_prim::{
@@ -34,6 +36,7 @@ use tx_prim::{
     TextUse,
 };
 use tx_seen::{Meaning, Place, TexError};
+use tx_shape::Opener;
 use tx_state::{KeptToken, OpenText, Phase, State, is_global};
 use tx_text::{DefinitionScan, TextScan};
 use tx_toklist::{TokList, Toks, text_of};
@@ -284,6 +287,16 @@ fn add_special(alloc: Global, s: &mut State, tokens: &Toks) -> Result<Event, All
     add(s, node)
 }
 
+/// Appends a mark with these tokens. Its only error is want of memory.
+fn add_mark(alloc: Global, s: &mut State, tokens: Toks) -> Result<Event, AllocError>
+    requires { s.old.phase ≡ Phase.Running }
+    ensures { IfOk result (λ event. IsStepped (effects.using_text (state_of s.old) TextUse.Mark tokens) s.old event s.new) }
+{
+    let tokens = TokList::from_toks(alloc, tokens)?;
+    let node = Node::from_shared(alloc, Shared::Mark(tokens))?;
+    add(s, node)
+}
+
 /// The text of \uppercase or \lowercase is read next, with other letters. Its only error is want of memory.
 fn change_letters(
     alloc: Global,
@@ -319,6 +332,7 @@ fn use_text(
         TextUse::Special => add_special(alloc, s, &tokens),
         TextUse::Patterns => use_patterns(alloc, s, &tokens),
         TextUse::Hyphenation => use_exceptions(alloc, s, &tokens),
+        TextUse::Mark => add_mark(alloc, s, tokens),
     }
 }
 
@@ -413,11 +427,33 @@ fn interact(s: &mut State, kind: Interaction) -> Result<Event, AllocError>
 }
 
 /// The run ends as \end does it.
-fn finish(s: &mut State) -> Event
+pub fn finish(s: &mut State) -> Event
     ensures { IsStepped Ends s.old result s.new }
 {
     s.phase = Phase::Halted;
     Event::Stopped(Stop::End)
+}
+
+/// A penalty, behind which the page builder is exercised.
+fn penalize(alloc: Global, s: &mut State, number: i32) -> Result<Event, AllocError>
+    requires { s.old.phase ≡ Phase.Running }
+    ensures { IfOk result (λ event. IsStepped (effects.effect (state_of s.old) (Command.Penalize number)) s.old event s.new) }
+{
+    append_item(s.lists.nest.top(), Node::Plain(Plain::Penalty(number)))?;
+    build_here(alloc, s)
+}
+
+/// The begin-group token that was awaited.
+fn open_by(alloc: Global, s: &mut State, opener: Opener) -> Result<Event, AllocError>
+    requires running { s.old.phase ≡ Phase.Running }
+    requires between { s.old.scan.taken ≡ [] }
+    ensures { IfOk result (λ event. IsStepped (effects.effect (state_of s.old) (Command.Open opener)) s.old event s.new) }
+{
+    match opener {
+        Opener::Break(text) => begin_break(alloc, s, text),
+        Opener::Insert(class) => begin_vertical_list(alloc, s, GroupKind::Insert(class)),
+        Opener::Output => begin_vertical_list(alloc, s, GroupKind::Output),
+    }
 }
 
 /// Carries out a command. Its only error is want of memory.
@@ -450,20 +486,23 @@ pub fn carry_out(alloc: Global, s: &mut State, command: Command) -> Result<Event
         Command::CopyBox(number, context) => copy_box(alloc, s, number, context),
         Command::LastBox(context) => take_box(alloc, s, context),
         Command::Unbox(kind, number) => unbox(s, kind, number),
-        Command::Penalize(number) => add(s, Node::Plain(Plain::Penalty(number))),
+        Command::Penalize(number) => penalize(alloc, s, number),
+        Command::SplitBox(number, size, context) => split(alloc, s, number, size, context),
         Command::Skip(glue) => skip(alloc, s, glue),
         Command::BeginLeaders(kind, rule) => Ok(begin_leaders(s, kind, rule)),
         Command::SetDepth(depth) => set_depth(s, depth),
         Command::SetFactor(number) => set_factor(s, number),
         Command::SetPrevGraf(number) => set_graf(s, number),
         Command::BeginShape(lines) => begin_shape(alloc, s, lines),
-        Command::BeginBreak(text) => begin_break(alloc, s, text),
+        Command::Open(opener) => open_by(alloc, s, opener),
+        Command::SetDeadCycles(number) => set_dead_cycles(s, number),
+        Command::SetPage(quantity, value) => set_page(s, quantity, value),
         Command::DefineFont(defined) => define_font(s, defined),
         Command::LoadFont(defined, name, size) => find_font(s, defined, name, size),
         Command::SetFontDimen(font, number, size) => set_dimension(s, font, number, size),
         Command::SetFontInteger(kind, font, value) => set_integer(s, kind, font, value),
         Command::Remove(kind) => Ok(remove(s, kind)),
-        Command::End => Ok(finish(s)),
+        Command::End => end_run(alloc, s),
         Command::Interact(kind) => interact(s, kind),
         Command::DefineMacro(defined, kind) => Ok(define_macro(alloc, s, defined, kind)),
         Command::BeginText(purpose) => Ok(begin_text(alloc, s, purpose)),

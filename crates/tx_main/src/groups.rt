@@ -12,7 +12,7 @@ ghost use Rattle.tx_state.specs.Meanings.{IsStepped, state_of};
 use crate::boxes::end_box;
 use crate::breaks::end_break;
 use crate::effects::fail;
-use crate::paragraphs::end_vertical;
+use crate::paragraphs::{end_insert, end_output, end_vertical};
 use std::alloc::{AllocError, Global};
 use tx_bytes::Bytes;
 use tx_char::Token;
@@ -109,6 +109,8 @@ pub fn end_group(alloc: Global, s: &mut State) -> Result<Event, AllocError>
         Some(GroupKind::VerticalBox) => end_vertical(alloc, s, GroupKind::VerticalBox),
         Some(GroupKind::TopBox) => end_vertical(alloc, s, GroupKind::TopBox),
         Some(GroupKind::Discretionary(text)) => end_break(alloc, s, text),
+        Some(GroupKind::Insert(class)) => end_insert(alloc, s, class),
+        Some(GroupKind::Output) => end_output(alloc, s),
         Some(GroupKind::SemiSimple) | None => Ok(fail(s, TexError::ExtraGroupEnd)),
     }
 }

@@ -131,6 +131,6 @@ pub fn is_late(s: &State, purpose: TextUse) -> bool
         TextUse::Patterns => s.hyphenation.used,
         TextUse::Hyphenation => false,
         TextUse::Message | TextUse::ErrorMessage | TextUse::Special => false,
-        TextUse::UpperCase | TextUse::LowerCase => false,
+        TextUse::UpperCase | TextUse::LowerCase | TextUse::Mark => false,
     }
 }

@@ -13,6 +13,7 @@ ghost use Rattle.tx_state.specs.Meanings.{IsStepped, state_of};
 
 use crate::boxes::{end_box, take_over};
 use crate::effects::{assign_so, end_assignment, fail};
+use crate::pages::{build, build_behind, finish_insert, finish_output, is_pages};
 use std::alloc::{AllocError, Global};
 use tx_assign::{Assignment, Change};
 use tx_char::{ControlName, Token};
@@ -51,15 +52,18 @@ fn read_every_par(s: &mut State, begins: bool) -> Result<(), AllocError>
     Ok(())
 }
 
-/// \indent and \noindent, and what begins a paragraph. Its only error is want of memory.
+/// \indent and \noindent, and what begins a paragraph, of which the page builder then has the \parskip. Its only error is want of
+/// memory.
 pub fn indent(alloc: Global, s: &mut State, how: Indentation) -> Result<Event, AllocError>
     requires { s.old.phase ≡ Phase.Running }
     ensures { IfOk result (λ event. IsStepped (effects.effect (state_of s.old) (Command.Indent how)) s.old event s.new) }
 {
     let begins = begins_paragraph(s);
+    let on_pages = is_pages(s.scan.mode());
     read_every_par(s, begins)?;
     tx_paragraph::indent(alloc, &mut s.lists, &s.table, how)?;
-    take_over(s, None, b"")
+    let event = take_over(s, None, b"")?;
+    if on_pages { build(alloc, s) } else { Ok(event) }
 }
 
 /// A command ends a paragraph before it: \par is read first. Its only error is want of memory.
@@ -152,7 +156,7 @@ pub fn add_size(alloc: Global, s: &mut State, size: i32) -> Result<Event, AllocE
         }
         Head::Fresh | Head::Prefixed(_) | Head::Defining(_, _, _) => Ok(Event::Went),
         Head::Future(_, _) | Head::Leading(_, _) | Head::Loading(_, _) => Ok(Event::Went),
-        Head::Breaking(_) => Ok(Event::Went),
+        Head::Opening(_) => Ok(Event::Went),
     }
 }
 
@@ -181,7 +185,10 @@ pub fn end_paragraph(alloc: Global, s: &mut State) -> Result<Event, AllocError>
         &mut s.lists,
         &mut s.table,
     ) {
-        Ok(report) => take_over(s, None, report.as_slice()),
+        Ok(report) => {
+            let event = take_over(s, None, report.as_slice())?;
+            build_behind(alloc, s, event)
+        }
         Err(error) => fail_by(s, error),
     }
 }
@@ -201,6 +208,43 @@ pub fn end_vertical(alloc: Global, s: &mut State, kind: GroupKind) -> Result<Eve
         &mut s.table,
     ) {
         Ok(report) => end_box(alloc, s, kind, report),
+        Err(error) => fail_by(s, error),
+    }
+}
+
+/// The end of the list of an \insert of this class: the paragraph that is open in it ends first. Its only further error is want of
+/// memory.
+pub fn end_insert(alloc: Global, s: &mut State, class: u8) -> Result<Event, AllocError>
+    requires running { s.old.phase ≡ Phase.Running }
+    requires kind { kind_of s.old.table ≡ Some (GroupKind.Insert class) }
+    ensures { IfOk result (λ event. IsStepped (effects.inserting (state_of s.old) class) s.old event s.new) }
+{
+    match close_paragraph(
+        alloc,
+        s.words.fonts(),
+        &mut s.hyphenation,
+        &mut s.lists,
+        &mut s.table,
+    ) {
+        Ok(report) => finish_insert(alloc, s, class, report),
+        Err(error) => fail_by(s, error),
+    }
+}
+
+/// The end of \output: the paragraph that is open in its list ends first. Its only further error is want of memory.
+pub fn end_output(alloc: Global, s: &mut State) -> Result<Event, AllocError>
+    requires running { s.old.phase ≡ Phase.Running }
+    requires kind { kind_of s.old.table ≡ Some GroupKind.Output }
+    ensures { IfOk result (λ event. IsStepped (effects.outputting (state_of s.old)) s.old event s.new) }
+{
+    match close_paragraph(
+        alloc,
+        s.words.fonts(),
+        &mut s.hyphenation,
+        &mut s.lists,
+        &mut s.table,
+    ) {
+        Ok(report) => finish_output(alloc, s, report),
         Err(error) => fail_by(s, error),
     }
 }

@@ -18,6 +18,7 @@ use crate::boxes::{add_copy, add_list};
 use crate::effects::{ask, carry_out, end_text, fail, relax_name};
 use crate::fonts::{load_font, with_file};
 use crate::page::{integer, join_defined, line_end, ship_params};
+use crate::pages::build;
 use crate::words::{set_character, settle_word, space};
 use std::alloc::{AllocError, Global};
 use tx_box::Work;
@@ -53,6 +54,7 @@ fn feed_command(alloc: Global, s: &mut State, seen: Seen) -> Result<Event, Alloc
     let known = Known::new(
         &s.table,
         &s.lists.nest,
+        &s.lists.pages,
         s.lists.badness,
         s.magnification,
         s.words.fonts(),
@@ -181,7 +183,8 @@ fn heed(alloc: Global, s: &mut State, answer: Expanded) -> Result<Event, AllocEr
     match answer {
         Expanded::Got(seen) => take(alloc, s, seen),
         Expanded::Text(tokens) => put_text(s, tokens),
-        Expanded::Went | Expanded::Marked => Ok(Event::Went),
+        Expanded::Went => Ok(Event::Went),
+        Expanded::Marked => Ok(fail(s, TexError::UnbalancedOutput)),
         Expanded::Relaxes(name) => relax_name(s, name),
         Expanded::Used(false) => Ok(ask(s, AskKind::Line, Ask::Line)),
         Expanded::Used(true) => Ok(close(s)),
@@ -200,6 +203,7 @@ fn read(alloc: Global, s: &mut State) -> Result<Event, AllocError>
     let known = Known::new(
         &s.table,
         &s.lists.nest,
+        &s.lists.pages,
         s.lists.badness,
         s.magnification,
         s.words.fonts(),
@@ -243,8 +247,9 @@ fn ship_with(
 /// Ships a box: the magnification has to be one, and that of the first page.
 fn ship_box(alloc: Global, s: &mut State, shipped: &BoxNode) -> Result<Event, AllocError>
     requires { s.old.phase ≡ Phase.Running }
-    ensures { IfOk result (λ event. IsStepped (turns.ships (state_of s.old) (magnification_in s.old.table.table Mag) (page_of s.old.words.fonts s.old.defined s.old.table.table shipped.now)) s.old event s.new) }
+    ensures { IfOk result (λ event. IsStepped (turns.ships_box (state_of s.old) shipped.now) s.old event s.new) }
 {
+    s.lists.pages.dead_cycles = 0;
     let magnification = integer(&s.table, IntegerParameter::Mag);
     if !may_be(s.magnification, magnification) {
         return Ok(fail(s, TexError::BadMagnification));
@@ -283,6 +288,15 @@ pub fn cost(s: &State) -> u64
     }
 }
 
+/// Ships the box of a page that fired, behind which the page builder goes on.
+fn ship_page(alloc: Global, s: &mut State, shipped: &BoxNode) -> Result<Event, AllocError>
+    requires { s.old.phase ≡ Phase.Running }
+    ensures { IfOk result (λ event. IsStepped (turns.works_boxes (state_of s.old) (Work.ShipPage shipped.now)) s.old event s.new) }
+{
+    s.due.push(Due::Boxes(Work::Build))?;
+    ship_box(alloc, s, shipped)
+}
+
 /// Copies boxes, or ships one.
 fn work_boxes(alloc: Global, s: &mut State, work: Work) -> Result<Event, AllocError>
     requires { s.old.phase ≡ Phase.Running }
@@ -292,6 +306,8 @@ fn work_boxes(alloc: Global, s: &mut State, work: Work) -> Result<Event, AllocEr
         Work::Copy(copied, target) => add_copy(alloc, s, target, copied),
         Work::CopyList(list) => add_list(s, list),
         Work::Ship(shipped) => ship_box(alloc, s, &shipped),
+        Work::ShipPage(shipped) => ship_page(alloc, s, &shipped),
+        Work::Build => build(alloc, s),
     }
 }
 

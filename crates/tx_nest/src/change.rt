@@ -55,7 +55,7 @@ pub fn has_last(list: &ModeList) -> bool
 }
 
 /// Whether the last item would be the page's.
-fn is_bare_page(list: &ModeList) -> bool
+pub fn is_bare_page(list: &ModeList) -> bool
     ensures { result ≡ spec.is_bare_page list.now.state list.now.nodes }
 {
     match list.state {

@@ -1,5 +1,5 @@
 //! What commands read and take away of a list's last item.
-ghost use Rattle.std.specs.Prelude.{◌≡◌, option_copied, option_map, IfOk, OnOk};
+ghost use Rattle.std.specs.Prelude.{◌≡◌, is_some, option_copied, option_map, IfOk, OnOk};
 ghost use Rattle.tx_node.specs.Nodes.{item_of, list_of};
 ghost use Rattle.tx_nest.specs.Lasts as spec;
 
@@ -168,6 +168,13 @@ fn last_box(nodes: &Nodes) -> Result<Option<BoxNode>, AllocError>
         Some(node) => box_of(node),
         None => Ok(None),
     }
+}
+
+/// Whether a box stands last that belongs to no no-break text.
+pub fn has_last_box(nodes: &Nodes) -> bool
+    ensures { result ≡ is_some (spec.last_box nodes.now) }
+{
+    !is_replaced(nodes) && matches!(last_node(nodes), Some(Node::Box(_, _)))
 }
 
 /// \lastbox: takes a box that stands last away and answers it, without its shift; None where no box stands last, or one of a

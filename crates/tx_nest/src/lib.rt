@@ -21,11 +21,12 @@ mod state;
 
 pub use append::{append_box, append_rule};
 pub use change::{
-    append_item, append_items, has_last, remove_item, set_prev_depth, set_space_factor,
+    append_item, append_items, has_last, is_bare_page, remove_item, set_prev_depth,
+    set_space_factor,
 };
 pub use factor::SpaceFactor;
 pub use graf::{go_on_behind, graf_of, raised_graf, set_prev_graf};
-pub use last::{last_kern, last_penalty, last_skip, take_last_box};
+pub use last::{has_last_box, last_kern, last_penalty, last_skip, take_last_box};
 pub use leading::{LeadingParams, NestError};
 pub use list::ModeList;
 pub use nest::Nest;

@@ -1,11 +1,12 @@
 -- Each expandable primitive is the first of all that has its name.
 use Rattle.std.proofs.Common.{◌≡◌, ℕ, List, [], ◌∷◌, Some, IfSome, cond, true, false, refl}
 use Rattle.tx_prim.specs.declared.expandable.Expandable.{Expandable}
-use Rattle.tx_prim.specs.declared.expandable.Expandable.TheVariants.{ExpandAfter, NoExpand, CsName, Convert, The, Input, EndInput, Test, Word}
+use Rattle.tx_prim.specs.declared.expandable.Expandable.TheVariants.{ExpandAfter, NoExpand, CsName, Convert, The, Input, EndInput, Test, Word, Mark}
 use Rattle.tx_prim.specs.declared.expandable.Conversion.TheVariants as converts
 use Rattle.tx_prim.specs.declared.expandable.Test.TheVariants as tests
 use Rattle.tx_prim.specs.declared.expandable.BoxTest.TheVariants as box
 use Rattle.tx_prim.specs.declared.expandable.CondWord.TheVariants as word
+use Rattle.tx_prim.specs.declared.expandable.MarkKind.TheVariants as mark
 use Rattle.tx_prim.specs.declared.modes.ModeTest.TheVariants as mode
 use Rattle.std.specs.Str.{bytes_eq}
 use Rattle.std.specs.Cmp.Lexicographic.{bytes_decides}
@@ -44,6 +45,11 @@ found (Test tests.Case) = refl
 found (Word word.Else) = refl
 found (Word word.Or) = refl
 found (Word word.Fi) = refl
+found (Mark mark.Top) = refl
+found (Mark mark.First) = refl
+found (Mark mark.Bottom) = refl
+found (Mark mark.SplitFirst) = refl
+found (Mark mark.SplitBottom) = refl
 
 -- what is found has the name
 pub has-name : (expandables : List Expandable) (name : List ℕ) → IfSome (named expandables name) (λ e. name_of e ≡ name)

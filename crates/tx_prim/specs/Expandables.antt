@@ -1,11 +1,12 @@
 -- The table of the expandable primitives (The TeXbook, chapter 20; TeX: The Program, sections 366, 468 and 487).
 use Rattle.std.specs.Prelude.{ℕ, List, [], ◌∷◌, Option, None, Some, codes, cond, bytes_eq}
 use Rattle.tx_prim.specs.declared.expandable.Expandable.{Expandable}
-use Rattle.tx_prim.specs.declared.expandable.Expandable.TheVariants.{ExpandAfter, NoExpand, CsName, Convert, The, Input, EndInput, Test, Word}
+use Rattle.tx_prim.specs.declared.expandable.Expandable.TheVariants.{ExpandAfter, NoExpand, CsName, Convert, The, Input, EndInput, Test, Word, Mark}
 use Rattle.tx_prim.specs.declared.expandable.Conversion.TheVariants as converts
 use Rattle.tx_prim.specs.declared.expandable.Test.TheVariants as tests
 use Rattle.tx_prim.specs.declared.expandable.BoxTest.TheVariants as box
 use Rattle.tx_prim.specs.declared.expandable.CondWord.TheVariants as word
+use Rattle.tx_prim.specs.declared.expandable.MarkKind.TheVariants as mark
 use Rattle.tx_prim.specs.declared.modes.ModeTest.TheVariants as mode
 
 -- what an expandable primitive is called
@@ -41,10 +42,15 @@ name_of (Test tests.Case) = codes "ifcase"
 name_of (Word word.Else) = codes "else"
 name_of (Word word.Or) = codes "or"
 name_of (Word word.Fi) = codes "fi"
+name_of (Mark mark.Top) = codes "topmark"
+name_of (Mark mark.First) = codes "firstmark"
+name_of (Mark mark.Bottom) = codes "botmark"
+name_of (Mark mark.SplitFirst) = codes "splitfirstmark"
+name_of (Mark mark.SplitBottom) = codes "splitbotmark"
 
 -- all expandable primitives
 unfoldable pub all : List Expandable
-all = ExpandAfter ∷ NoExpand ∷ CsName ∷ Convert converts.Token ∷ Convert converts.Number ∷ Convert converts.RomanNumeral ∷ Convert converts.Meaning ∷ Convert converts.JobName ∷ Convert converts.FontName ∷ The ∷ Input ∷ EndInput ∷ Test tests.Character ∷ Test tests.Category ∷ Test tests.Number ∷ Test tests.Dimension ∷ Test tests.Odd ∷ Test (tests.Mode mode.Vertical) ∷ Test (tests.Mode mode.Horizontal) ∷ Test (tests.Mode mode.Math) ∷ Test (tests.Mode mode.Inner) ∷ Test (tests.Box box.Void) ∷ Test (tests.Box box.Horizontal) ∷ Test (tests.Box box.Vertical) ∷ Test tests.Same ∷ Test tests.True ∷ Test tests.False ∷ Test tests.Case ∷ Word word.Else ∷ Word word.Or ∷ Word word.Fi ∷ []
+all = ExpandAfter ∷ NoExpand ∷ CsName ∷ Convert converts.Token ∷ Convert converts.Number ∷ Convert converts.RomanNumeral ∷ Convert converts.Meaning ∷ Convert converts.JobName ∷ Convert converts.FontName ∷ The ∷ Input ∷ EndInput ∷ Test tests.Character ∷ Test tests.Category ∷ Test tests.Number ∷ Test tests.Dimension ∷ Test tests.Odd ∷ Test (tests.Mode mode.Vertical) ∷ Test (tests.Mode mode.Horizontal) ∷ Test (tests.Mode mode.Math) ∷ Test (tests.Mode mode.Inner) ∷ Test (tests.Box box.Void) ∷ Test (tests.Box box.Horizontal) ∷ Test (tests.Box box.Vertical) ∷ Test tests.Same ∷ Test tests.True ∷ Test tests.False ∷ Test tests.Case ∷ Word word.Else ∷ Word word.Or ∷ Word word.Fi ∷ Mark mark.Top ∷ Mark mark.First ∷ Mark mark.Bottom ∷ Mark mark.SplitFirst ∷ Mark mark.SplitBottom ∷ []
 
 -- the first one of a list that has a name
 abbrev pub named : List Expandable → List ℕ → Option Expandable

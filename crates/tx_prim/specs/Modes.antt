@@ -7,12 +7,13 @@ use Rattle.tx_prim.specs.declared.modes.ModeTest.TheVariants as tests
 use Rattle.tx_prim.specs.declared.modes.Modes.{Modes}
 use Rattle.tx_prim.specs.declared.modes.Modes.TheVariants.{All, NotMath, NotVertical, InVertical, OnlyVertical, OutsideVertical, OnlyHorizontal, Pages, Math as Math_only, Nowhere}
 use Rattle.tx_prim.specs.declared.modes.Standing.{Standing}
-use Rattle.tx_prim.specs.declared.modes.Standing.TheVariants.{Stands, BeginsParagraph, EndsParagraph, Refused}
+use Rattle.tx_prim.specs.declared.modes.Standing.TheVariants.{Stands, BeginsParagraph, EndsParagraph, EndsRun, Refused}
 
 -- a command of all modes stands in each; \par isn't for formulas; \vrule begins a paragraph in vertical modes; \hrule stands in
--- those and ends a paragraph; \moveleft stands in vertical modes alone, \raise in all others, \spacefactor in horizontal modes alone; \end stands on the pages' list and
--- ends a paragraph, but may stand in no box and no formula; a subscript stands in formulas alone, and a parameter character in no
--- mode (TeX: The Program, sections 1045 to 1056, 1071, 1090 to 1096)
+-- those and ends a paragraph; \moveleft stands in vertical modes alone, \raise in all others, \spacefactor in horizontal modes alone;
+-- \end ends the run on the pages' list, once all is put out, and ends a paragraph, but may stand in no box and no formula; a
+-- subscript stands in formulas alone, and a parameter character in no mode (TeX: The Program, sections 1045 to 1056, 1071, 1090 to
+-- 1096)
 abbrev pub standing : Modes → Mode → Standing
 standing All mode = Stands
 standing NotMath Math = Refused
@@ -34,7 +35,7 @@ standing OutsideVertical mode = Stands
 standing OnlyHorizontal Horizontal = Stands
 standing OnlyHorizontal RestrictedHorizontal = Stands
 standing OnlyHorizontal mode = Refused
-standing Pages Vertical = Stands
+standing Pages Vertical = EndsRun
 standing Pages Horizontal = EndsParagraph
 standing Pages mode = Refused
 standing Math_only Math = Stands

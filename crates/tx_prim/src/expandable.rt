@@ -67,6 +67,19 @@ pub enum CondWord {
     Fi,
 }
 
+/// A mark of the last page, or of the last split (The TeXbook, chapter 23).
+#[derive(Clone, Copy, PartialEq, Eq)]
+pub enum MarkKind {
+    /// \topmark: the last one before the page.
+    Top,
+    /// \firstmark and \botmark: the first and the last one on it.
+    First,
+    Bottom,
+    /// \splitfirstmark and \splitbotmark: those of what \vsplit split off.
+    SplitFirst,
+    SplitBottom,
+}
+
 /// A primitive that is expanded (The TeXbook, chapter 20; TeX: The Program, section 366).
 #[derive(Clone, Copy, PartialEq, Eq)]
 pub enum Expandable {
@@ -88,10 +101,12 @@ pub enum Expandable {
     Test(Test),
     /// \else, \or and \fi.
     Word(CondWord),
+    /// A mark, as \topmark.
+    Mark(MarkKind),
 }
 
 /// All of them, in the order of their table.
-const ALL: [Expandable; 31] = [
+const ALL: [Expandable; 36] = [
     Expandable::ExpandAfter,
     Expandable::NoExpand,
     Expandable::CsName,
@@ -123,6 +138,11 @@ const ALL: [Expandable; 31] = [
     Expandable::Word(CondWord::Else),
     Expandable::Word(CondWord::Or),
     Expandable::Word(CondWord::Fi),
+    Expandable::Mark(MarkKind::Top),
+    Expandable::Mark(MarkKind::First),
+    Expandable::Mark(MarkKind::Bottom),
+    Expandable::Mark(MarkKind::SplitFirst),
+    Expandable::Mark(MarkKind::SplitBottom),
 ];
 
 impl Expandable {
@@ -171,6 +191,11 @@ impl Expandable {
             Expandable::Word(CondWord::Else) => b"else",
             Expandable::Word(CondWord::Or) => b"or",
             Expandable::Word(CondWord::Fi) => b"fi",
+            Expandable::Mark(MarkKind::Top) => b"topmark",
+            Expandable::Mark(MarkKind::First) => b"firstmark",
+            Expandable::Mark(MarkKind::Bottom) => b"botmark",
+            Expandable::Mark(MarkKind::SplitFirst) => b"splitfirstmark",
+            Expandable::Mark(MarkKind::SplitBottom) => b"splitbotmark",
         }
     }
 

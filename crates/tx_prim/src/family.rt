@@ -134,6 +134,8 @@ pub enum TextUse {
     /// \patterns and \hyphenation: to be known from now on where words are hyphenated.
     Patterns,
     Hyphenation,
+    /// \mark: to be found on the page where it stands.
+    Mark,
 }
 
 /// What a token is kept for (The TeXbook, chapter 24).
@@ -185,6 +187,8 @@ pub enum BoxSource {
     Copy,
     /// \lastbox: the end of the list.
     Last,
+    /// \vsplit: what a vertical box in a register begins with, up to the best break.
+    Split,
 }
 
 /// Which way a box is shifted (TeX: The Program, section 1071).
@@ -244,6 +248,26 @@ pub enum LeadersKind {
     Centered,
     /// \xleaders.
     Expanded,
+}
+
+/// What can be read of the page that is being built, and assigned (The TeXbook, chapter 15).
+#[derive(Clone, Copy, PartialEq, Eq)]
+pub enum PageQuantity {
+    /// \pagegoal: how high it is to be.
+    Goal,
+    /// \pagetotal: how high it is.
+    Total,
+    /// \pagestretch, \pagefilstretch and their kin: how much it stretches, by each order.
+    Stretch,
+    FilStretch,
+    FillStretch,
+    FilllStretch,
+    /// \pageshrink.
+    Shrink,
+    /// \pagedepth.
+    Depth,
+    /// \insertpenalties, an integer.
+    InsertPenalties,
 }
 
 /// An integer that each font has (The TeXbook, chapter 24).

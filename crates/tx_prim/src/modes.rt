@@ -66,6 +66,8 @@ pub enum Standing {
     BeginsParagraph,
     /// The paragraph is ended, as by \par, and then it is carried out.
     EndsParagraph,
+    /// It ends the run, or is read again behind what that needs.
+    EndsRun,
     /// It may not stand there.
     Refused,
 }
@@ -110,7 +112,7 @@ impl Modes {
             (Modes::OnlyHorizontal, _) => Standing::Refused,
             (Modes::Pages, Mode::Horizontal) => Standing::EndsParagraph,
             (Modes::All | Modes::NotMath | Modes::NotVertical, _) => Standing::Stands,
-            (Modes::Pages, Mode::Vertical) => Standing::Stands,
+            (Modes::Pages, Mode::Vertical) => Standing::EndsRun,
             (Modes::Pages, _) => Standing::Refused,
             (Modes::Math, Mode::Math | Mode::DisplayMath) => Standing::Stands,
             (Modes::Math, _) | (Modes::Nowhere, _) => Standing::Refused,

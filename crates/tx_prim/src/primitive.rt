@@ -6,8 +6,8 @@ ghost use Rattle.tx_prim.specs.Table.{all, modes_of, name_of, named};
 use crate::dimension::DimensionParameter;
 use crate::family::{
     AfterKind, BoxKind, BoxSide, BoxSource, CharacterCode, DefinitionKind, FontNumber, GlueForm,
-    Indentation, Interaction, ItemKind, LeadersKind, Numbered, Operation, Prefix, RuleKind,
-    ShiftKind, Shorthand, SizeKind, TextUse, UnboxKind,
+    Indentation, Interaction, ItemKind, LeadersKind, Numbered, Operation, PageQuantity, Prefix,
+    RuleKind, ShiftKind, Shorthand, SizeKind, TextUse, UnboxKind,
 };
 use crate::glue::GlueParameter;
 use crate::integer::IntegerParameter;
@@ -116,10 +116,16 @@ pub enum Primitive {
     Adjust,
     /// \discretionary.
     Discretionary,
+    /// \insert: vertical material that goes to a place of its own on the page.
+    Insert,
+    /// \deadcycles: how often \output was read since a page was shipped.
+    DeadCycles,
+    /// What can be read of the page that is being built, as \pagegoal.
+    Page(PageQuantity),
 }
 
 /// All primitives, in the order of their table.
-const ALL: [Primitive; 213] = [
+const ALL: [Primitive; 226] = [
     Primitive::Relax,
     Primitive::EndCsName,
     Primitive::BeginGroup,
@@ -230,6 +236,19 @@ const ALL: [Primitive; 213] = [
     Primitive::Discretionary,
     Primitive::Text(TextUse::Patterns),
     Primitive::Text(TextUse::Hyphenation),
+    Primitive::BoxFrom(BoxSource::Split),
+    Primitive::Insert,
+    Primitive::Text(TextUse::Mark),
+    Primitive::DeadCycles,
+    Primitive::Page(PageQuantity::Goal),
+    Primitive::Page(PageQuantity::Total),
+    Primitive::Page(PageQuantity::Stretch),
+    Primitive::Page(PageQuantity::FilStretch),
+    Primitive::Page(PageQuantity::FillStretch),
+    Primitive::Page(PageQuantity::FilllStretch),
+    Primitive::Page(PageQuantity::Shrink),
+    Primitive::Page(PageQuantity::Depth),
+    Primitive::Page(PageQuantity::InsertPenalties),
     Primitive::Integer(IntegerParameter::Pretolerance),
     Primitive::Integer(IntegerParameter::Tolerance),
     Primitive::Integer(IntegerParameter::Hbadness),
@@ -460,6 +479,19 @@ impl Primitive {
             Primitive::Discretionary => b"discretionary",
             Primitive::Text(TextUse::Patterns) => b"patterns",
             Primitive::Text(TextUse::Hyphenation) => b"hyphenation",
+            Primitive::BoxFrom(BoxSource::Split) => b"vsplit",
+            Primitive::Insert => b"insert",
+            Primitive::Text(TextUse::Mark) => b"mark",
+            Primitive::DeadCycles => b"deadcycles",
+            Primitive::Page(PageQuantity::Goal) => b"pagegoal",
+            Primitive::Page(PageQuantity::Total) => b"pagetotal",
+            Primitive::Page(PageQuantity::Stretch) => b"pagestretch",
+            Primitive::Page(PageQuantity::FilStretch) => b"pagefilstretch",
+            Primitive::Page(PageQuantity::FillStretch) => b"pagefillstretch",
+            Primitive::Page(PageQuantity::FilllStretch) => b"pagefilllstretch",
+            Primitive::Page(PageQuantity::Shrink) => b"pageshrink",
+            Primitive::Page(PageQuantity::Depth) => b"pagedepth",
+            Primitive::Page(PageQuantity::InsertPenalties) => b"insertpenalties",
             Primitive::Integer(parameter) => parameter.name(),
             Primitive::Dimension(parameter) => parameter.name(),
             Primitive::Tokens(parameter) => parameter.name(),
@@ -502,6 +534,7 @@ impl Primitive {
             Primitive::Char | Primitive::ControlSpace => Modes::NotVertical,
             Primitive::DiscretionaryHyphen | Primitive::Discretionary => Modes::NotVertical,
             Primitive::Indent(_) | Primitive::PrevGraf | Primitive::ParShape => Modes::All,
+            Primitive::Insert | Primitive::DeadCycles | Primitive::Page(_) => Modes::All,
             Primitive::ItalicCorrection | Primitive::Adjust => Modes::OutsideVertical,
             Primitive::SpaceFactor => Modes::OnlyHorizontal,
             Primitive::Par => Modes::NotMath,

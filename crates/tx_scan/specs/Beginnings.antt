@@ -106,6 +106,9 @@ begun_by_command (primitive.Indent how) = no_number
 begun_by_command primitive.DiscretionaryHyphen = no_number
 begun_by_command primitive.Adjust = no_number
 begun_by_command primitive.Discretionary = no_number
+begun_by_command primitive.Insert = no_number
+begun_by_command primitive.DeadCycles = begin.At place.DeadCycles
+begun_by_command (primitive.Page quantity) = begin.At (place.Page quantity)
 
 -- a name that \chardef or \mathchardef defined is its number, and that of a register stands for its value; what means a
 -- space is one

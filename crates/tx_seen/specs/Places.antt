@@ -3,6 +3,7 @@ use Rattle.std.specs.Prelude.{ℕ, Bool, true, false, not, ◌||◌}
 use Rattle.tx_prim.specs.declared.family.Numbered.{Numbered}
 use Rattle.tx_prim.specs.declared.family.Numbered.TheVariants as number
 use Rattle.tx_prim.specs.declared.family.ItemKind.TheVariants as item
+use Rattle.tx_prim.specs.declared.family.PageQuantity.TheVariants as page
 use Rattle.tx_prim.specs.Glues.{is_in_mu}
 use Rattle.tx_seen.specs.declared.place.Place.{Place}
 use Rattle.tx_seen.specs.declared.place.Place.TheVariants as place
@@ -27,6 +28,8 @@ is_size (place.Last item.Kern) = true
 is_size place.PrevDepth = true
 is_size (place.FontDimen font n) = true
 is_size (place.FontSize size) = true
+is_size (place.Page page.InsertPenalties) = false
+is_size (place.Page quantity) = true
 is_size other = false
 
 -- whether glue stands there, told in mu or in all other units

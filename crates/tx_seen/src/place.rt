@@ -8,7 +8,7 @@ use tx_char::ControlName;
 use tx_list::Kept;
 use tx_prim::{
     BoxSide, BoxTest, CharacterCode, DimensionParameter, FontNumber, GlueParameter,
-    IntegerParameter, ItemKind, Numbered, Primitive, TokenParameter,
+    IntegerParameter, ItemKind, Numbered, PageQuantity, Primitive, TokenParameter,
 };
 
 /// How a document tells a font (TeX: The Program, section 577).
@@ -86,6 +86,10 @@ pub enum Place {
     PrevGraf,
     /// \parshape, whose number is how many lines it has.
     ParShape,
+    /// \pagegoal and its kin, of the page that is being built.
+    Page(PageQuantity),
+    /// \deadcycles.
+    DeadCycles,
 }
 
 /// A clone is the same place, and shares its name. Its only error is that no more owners of a name can be counted.
@@ -121,6 +125,8 @@ impl Clone for Place {
             Place::SpaceFactor => Ok(Place::SpaceFactor),
             Place::PrevGraf => Ok(Place::PrevGraf),
             Place::ParShape => Ok(Place::ParShape),
+            Place::Page(quantity) => Ok(Place::Page(*quantity)),
+            Place::DeadCycles => Ok(Place::DeadCycles),
         }
     }
 }
@@ -166,6 +172,8 @@ impl Kept for Place {
             (Place::SpaceFactor, Place::SpaceFactor) => true,
             (Place::PrevGraf, Place::PrevGraf) => true,
             (Place::ParShape, Place::ParShape) => true,
+            (Place::Page(one), Place::Page(other)) => one == other,
+            (Place::DeadCycles, Place::DeadCycles) => true,
             _ => false,
         }
     }
@@ -198,6 +206,8 @@ impl Place {
             Place::FontDimen(_, _) | Place::FontSize(_) => true,
             Place::Font | Place::FontInteger(_, _) => false,
             Place::SpaceFactor | Place::PrevGraf | Place::ParShape => false,
+            Place::Page(PageQuantity::InsertPenalties) | Place::DeadCycles => false,
+            Place::Page(_) => true,
             Place::Skip(_) | Place::Muskip(_) | Place::Glue(_) => false,
             Place::Last(ItemKind::Penalty | ItemKind::Skip) | Place::Badness => false,
             Place::Name(_) | Place::Active(_) | Place::Count(_) | Place::Toks(_) => false,
@@ -220,6 +230,7 @@ impl Place {
             Place::FontDimen(_, _) | Place::FontSize(_) | Place::Font => false,
             Place::FontInteger(_, _) | Place::SpaceFactor => false,
             Place::PrevGraf | Place::ParShape => false,
+            Place::Page(_) | Place::DeadCycles => false,
             Place::Name(_) | Place::Active(_) | Place::Count(_) | Place::Toks(_) => false,
             Place::Category(_) | Place::Code(_, _) | Place::Integer(_) | Place::Tokens(_) => false,
             Place::Box(_) | Place::BoxTest(_, _) | Place::Badness | Place::Magnification => false,
@@ -238,6 +249,7 @@ impl Place {
             Place::FontDimen(_, _) | Place::FontSize(_) | Place::Font => false,
             Place::FontInteger(_, _) | Place::SpaceFactor => false,
             Place::PrevGraf | Place::ParShape => false,
+            Place::Page(_) | Place::DeadCycles => false,
             Place::Name(_) | Place::Active(_) | Place::Count(_) | Place::Toks(_) => false,
             Place::Category(_) | Place::Code(_, _) | Place::Integer(_) | Place::Tokens(_) => false,
             Place::Box(_) | Place::BoxTest(_, _) | Place::Badness | Place::Magnification => false,

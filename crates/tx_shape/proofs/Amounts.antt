@@ -1,5 +1,5 @@
 -- A number or a size, as a part of a command's rest.
-use Rattle.std.proofs.Common.{◌≡◌, ◌≤◌, ◌+◌, ℕ, ℤ, zero, suc, Option, Some, None, List, [], ◌∷◌, ◌++◌, refl, ap, sym, ◌∙◌, arith}
+use Rattle.std.proofs.Common.{◌≡◌, ◌≤◌, ◌+◌, ◌==◌, Bool, true, false, if◌then◌else◌, ℕ, ℤ, zero, suc, Option, Some, None, List, [], ◌∷◌, ◌++◌, refl, ap, sym, ◌∙◌, arith}
 use Rattle.tx_seen.specs.declared.fed.Fed.{Fed}
 use Rattle.tx_seen.specs.declared.fed.Fed.TheVariants as fed
 use Rattle.tx_seen.specs.declared.fed.Kind.{Kind}
@@ -33,7 +33,10 @@ use Rattle.tx_shape.specs.declared.scans.ShapeScan.{ShapeScan}
 use Rattle.tx_shape.specs.declared.scans.Sizing.{Sizing}
 use Rattle.tx_shape.specs.declared.scans.Sizing.TheVariants as sizing
 use Rattle.tx_shape.specs.declared.scans.Stage.TheVariants as stage
+use Rattle.tx_shape.specs.declared.scans.Plain.TheVariants as plain
+use Rattle.tx_shape.specs.declared.types.Opener.TheVariants.{Insert}
 use Rattle.tx_shape.specs.declared.types.Shaped.{Shaped}
+use Rattle.tx_seen.specs.declared.error.TexError.TheVariants.{NumberOutOfRange}
 use Rattle.tx_shape.specs.AmountRests.{IsAmountFed, LeavesFewer, amount_held, amount_needed, amount_rest, needed_behind}
 use Rattle.tx_shape.specs.Nexts.{behind_byte, behind_measure, behind_number, behind_parameter, behind_penalty, behind_register, behind_set, behind_size, next_rest}
 use Rattle.tx_shape.specs.Rests.{Begins, WaitsIfNeeded, held, needed, rest, stage_held, stage_rest}
@@ -141,12 +144,18 @@ leaves-mapped f old new (fed.Need kind) none k = k
 leaves-mapped f old new (fed.Done a back) none k = rw (none a back) (omega arith)
 leaves-mapped f old new (fed.Wrong error) none k = tt
 
+class-alone : (is_last : Bool) (n back : ℕ) → needed_behind (if is_last then Wrong NumberOutOfRange else Part (plain.Open (Insert n))) back ≡ 0
+class-alone true n back = refl
+class-alone false n back = refl
+
 register-alone : (what : Registering) (n back : ℕ) → needed_behind (behind_register what n) back ≡ 0
 register-alone (registering.Use context) n back = refl
 register-alone (registering.Copy context) n back = refl
 register-alone (registering.Unbox kind) n back = refl
 register-alone registering.Set n back = refl
 register-alone registering.Character n back = refl
+register-alone registering.Insert n back = class-alone (n == 255) n back
+register-alone (registering.Split context) n back = refl
 
 byte-alone : (what : Registering) (byte : Option ℕ) (back : ℕ) → needed_behind (behind_byte what byte) back ≡ 0
 byte-alone what None back = refl
@@ -157,6 +166,7 @@ size-alone (sizing.To opening) size back = refl
 size-alone (sizing.Spread opening) size back = refl
 size-alone (sizing.Shift kind) size back = refl
 size-alone (sizing.Set what) size back = refl
+size-alone (sizing.Split n context) size back = refl
 
 pub penalty-fewer : (old : AmountScan) (scan : IntScan) (answer : Fed ℤ) → old.amount ≡ amount.Penalty → NeedsFewer (integers.waiting old.integer) (integers.waiting scan) answer → LeavesFewer (amount_needed old) (amount_needed (record old { integer = scan })) (mapped behind_penalty answer)
 penalty-fewer old scan answer was k = rw was (leaves-mapped behind_penalty (integers.waiting old.integer) (integers.waiting scan) answer (λ n back. refl) k)

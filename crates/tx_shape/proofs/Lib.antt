@@ -1,5 +1,6 @@
 pub mod Parts
 pub mod Wording
+pub mod Splitting
 pub mod Amounts
 pub mod Steps
 mod Worked

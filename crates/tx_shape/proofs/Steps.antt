@@ -29,9 +29,9 @@ use Rattle.tx_shape.specs.declared.letters.Letters.{Letters}
 use Rattle.tx_shape.specs.declared.scans.Opening.{Opening}
 use Rattle.tx_shape.specs.declared.scans.Plain.TheVariants as plain
 use Rattle.tx_shape.specs.declared.scans.ShapeScan.{ShapeScan}
-use Rattle.tx_prim.specs.declared.family.BreakText.{BreakText}
+use Rattle.tx_shape.specs.declared.types.Opener.{Opener}
 use Rattle.tx_shape.specs.declared.types.Shaped.{Shaped}
-use Rattle.tx_shape.specs.declared.types.Shaped.TheVariants.{BeginBreak}
+use Rattle.tx_shape.specs.declared.types.Shaped.TheVariants.{Open}
 use Rattle.tx_shape.specs.declared.scans.Stage.TheVariants as stage
 use Rattle.tx_shape.specs.declared.scans.Amount.{Amount}
 use Rattle.tx_shape.specs.declared.scans.Amount.TheVariants as amount
@@ -46,7 +46,7 @@ use Rattle.tx_shape.specs.declared.words.Lost.{Lost}
 use Rattle.tx_shape.specs.declared.words.Lost.TheVariants as lost
 use Rattle.tx_shape.specs.declared.words.Word.{Word}
 use Rattle.tx_shape.specs.declared.words.Word.TheVariants as word
-use Rattle.tx_shape.specs.Boxes.{begun, box_begin, break_begun, needed_box, opened, register_setting, spread_goal}
+use Rattle.tx_shape.specs.Boxes.{begun, box_begin, group_begun, needed_box, opened, register_setting, spread_goal}
 use Rattle.tx_shape.specs.Rests.{Begins, BeginsSetting, WaitsIfNeeded, behind_with, begun_at, held, left_of, letters_rest, lost_rest, needed, rest, size_rest, sizing_behind, stage_held, stage_rest, word_rest}
 use Rattle.tx_shape.specs.Words.{behind_group, expected as letter, longer, lost_behind, lost_by, lost_to}
 use Rattle.tx_shape.proofs.Amounts.{none-waits, one-kept}
@@ -334,13 +334,13 @@ brace-there opening goal scan t new back value shaped k same = record {
   fewer = tt;
 }
 
-pub break-there : (text : BreakText) (scan : BraceScan) (t : Seen) (new : ShapeScan) (back : ℕ) (value : Unit {0}) → IsBraceFed scan t (fed.Done value back) → Begins (λ more. break_begun text (Took t ∷ more)) new (fed.Done (BeginBreak text) back)
-break-there text scan t new back value k = record {
+pub group-there : (opener : Opener) (scan : BraceScan) (t : Seen) (new : ShapeScan) (back : ℕ) (value : Unit {0}) → IsBraceFed scan t (fed.Done value back) → Begins (λ more. group_begun opener (Took t ∷ more)) new (fed.Done (Open opener) back)
+group-there opener scan t new back value k = record {
   reads = (
     (k []).0,
     λ more.
-        ap (λ r. next r (λ _ rest. Done (BeginBreak text) rest)) ((k []).1 more)
-        ∙ ap (λ (items : List Item). Done (BeginBreak text) (items ++ more)) (brace-back back t (k []).0),
+        ap (λ r. next r (λ _ rest. Done (Open opener) rest)) ((k []).1 more)
+        ∙ ap (λ (items : List Item). Done (Open opener) (items ++ more)) (brace-back back t (k []).0),
   );
   fewer = tt;
 }

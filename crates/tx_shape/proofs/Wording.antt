@@ -45,7 +45,7 @@ pub group-lost : (opening : Opening) (t : Seen) (xs : List Item) → is_undefine
 group-lost opening t xs u = by-group opening (is_undefined t) (is_space t || is_relax t) (is_begin_group t) xs u
 
 -- a token that is to be expanded
-expanded-by : {A B : Type 0} (f : Reading A → Reading B) → f (Wrong Undefined) ≡ Wrong Undefined → (u : Bool) (x : Reading A) (y : Reading B) → (u ≡ false → f x ≡ y) → f (if u then Wrong Undefined else x) ≡ (if u then Wrong Undefined else y)
+pub expanded-by : {A B : Type 0} (f : Reading A → Reading B) → f (Wrong Undefined) ≡ Wrong Undefined → (u : Bool) (x : Reading A) (y : Reading B) → (u ≡ false → f x ≡ y) → f (if u then Wrong Undefined else x) ≡ (if u then Wrong Undefined else y)
 expanded-by f wrong true x y same = wrong
 expanded-by f wrong false x y same = same refl
 

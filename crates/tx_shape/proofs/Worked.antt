@@ -8,6 +8,7 @@ use Rattle.tx_prim.specs.declared.family.BoxKind.TheVariants.{Horizontal}
 use Rattle.tx_prim.specs.declared.family.BoxSource.TheVariants as source
 use Rattle.tx_prim.specs.declared.family.Numbered.TheVariants.{Count}
 use Rattle.tx_prim.specs.declared.family.BreakText.TheVariants as text
+use Rattle.tx_shape.specs.declared.types.Opener.TheVariants as opener
 use Rattle.tx_prim.specs.declared.family.ShiftKind.TheVariants.{Raise}
 use Rattle.tx_prim.specs.declared.family.UnboxKind.TheVariants.{VerticalCopy}
 use Rattle.tx_prim.specs.declared.primitive.Primitive.{Primitive}
@@ -90,5 +91,5 @@ a_count_of_lines = refl
 a_shape_of_two_lines : shape shaping.ParShape (plain (codes "=2 3pt")) ≡ Done (shaped.BeginShape (pos 2)) (plain (codes "3pt"))
 a_shape_of_two_lines = refl
 
-a_text_of_a_discretionary : shape (shaping.Break text.Before) (plain (codes " x")) ≡ Wrong MissingBeginGroup
+a_text_of_a_discretionary : shape (shaping.Open (opener.Break text.Before)) (plain (codes " x")) ≡ Wrong MissingBeginGroup
 a_text_of_a_discretionary = refl

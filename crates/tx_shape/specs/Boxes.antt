@@ -2,7 +2,6 @@
 -- chapters 21 and 24).
 use Rattle.std.specs.Prelude.{ℕ, ℤ, pos, neg_ℤ, ◌∷◌, [], ◌||◌, Bool, true, false, codes, List, Option, Some, None, if◌then◌else◌}
 use Rattle.tx_prim.specs.declared.family.BoxSource.{BoxSource}
-use Rattle.tx_prim.specs.declared.family.BreakText.{BreakText}
 use Rattle.tx_prim.specs.declared.family.BoxSource.TheVariants as source
 use Rattle.tx_num.specs.Glue.{GlueSpec, glue_of}
 use Rattle.tx_prim.specs.declared.family.GlueForm.{GlueForm}
@@ -11,13 +10,16 @@ use Rattle.tx_prim.specs.declared.family.ShiftKind.{ShiftKind}
 use Rattle.tx_prim.specs.declared.family.ShiftKind.TheVariants as shift
 use Rattle.tx_prim.specs.declared.family.UnboxKind.{UnboxKind}
 use Rattle.tx_prim.specs.declared.primitive.Primitive.TheVariants as primitive
-use Rattle.tx_seen.specs.declared.error.TexError.TheVariants.{MissingBox, NumberOutOfRange}
+use Rattle.tx_seen.specs.declared.error.TexError.{TexError}
+use Rattle.tx_seen.specs.declared.error.TexError.TheVariants.{MissingBox, MissingUnit, NumberOutOfRange, Undefined}
 use Rattle.tx_seen.specs.declared.fed.Want.TheVariants.{Expanded}
 use Rattle.tx_seen.specs.declared.item.Item.{Item}
 use Rattle.tx_seen.specs.declared.item.Item.TheVariants.{Took, Gave}
 use Rattle.tx_seen.specs.declared.meaning.Meaning.{Meaning}
 use Rattle.tx_seen.specs.declared.meaning.Meaning.TheVariants as meaning
-use Rattle.tx_seen.specs.Seen.{is_space, is_relax}
+use Rattle.tx_seen.specs.declared.seen.Seen.{Seen}
+use Rattle.tx_char.specs.Character.{character}
+use Rattle.tx_seen.specs.Seen.{is_key, is_space, is_relax, is_undefined}
 use Rattle.tx_seen.specs.Readings.{Reading, More, Done, Wrong, next}
 use Rattle.tx_scan.specs.Dimensions.{dimension, lengths}
 use Rattle.tx_scan.specs.Glues.{glue}
@@ -28,9 +30,10 @@ use Rattle.tx_shape.specs.declared.types.BoxContext.{BoxContext}
 use Rattle.tx_shape.specs.declared.types.BoxContext.TheVariants.{Append, Register}
 use Rattle.tx_shape.specs.declared.types.BoxGoal.{BoxGoal}
 use Rattle.tx_shape.specs.declared.types.BoxGoal.TheVariants.{Natural, To, Spread}
-use Rattle.tx_shape.specs.declared.types.BoxRead.TheVariants.{Begin, Use, Copy, Last}
+use Rattle.tx_shape.specs.declared.types.BoxRead.TheVariants.{Begin, Use, Copy, Last, Split}
+use Rattle.tx_shape.specs.declared.types.Opener.{Opener}
 use Rattle.tx_shape.specs.declared.types.Shaped.{Shaped}
-use Rattle.tx_shape.specs.declared.types.Shaped.TheVariants.{BeginBreak, Box, Unbox, Penalize, Skip}
+use Rattle.tx_shape.specs.declared.types.Shaped.TheVariants.{Box, Open, Unbox, Penalize, Skip}
 use Rattle.tx_shape.specs.declared.scans.Opening.{Opening}
 
 -- what the list of a box is packed to: `to` or `spread` and a size, or nothing (section 645)
@@ -62,9 +65,10 @@ opened opening goal items = next (left_brace items) (λ _ rest. Done (begun open
 abbrev pub box_begin : Opening → List Item → Reading Shaped
 box_begin opening items = next (box_goal items) (opened opening)
 
--- the begin-group token before a text of \discretionary (sections 1117 and 1119)
-abbrev pub break_begun : BreakText → List Item → Reading Shaped
-break_begun text items = next (left_brace items) (λ _ rest. Done (BeginBreak text) rest)
+-- the begin-group token before a text of \discretionary (sections 1117 and 1119), the list of an \insert (section 1099) and the
+-- tokens of \output (section 1025)
+abbrev pub group_begun : Opener → List Item → Reading Shaped
+group_begun opener items = next (left_brace items) (λ _ rest. Done (Open opener) rest)
 
 -- the number of a register, 0 to 255
 abbrev pub by_byte : (ℕ → List Item → Reading Shaped) → Option ℕ → List Item → Reading Shaped
@@ -74,11 +78,32 @@ by_byte on (Some n) rest = on n rest
 abbrev pub by_register : (ℕ → List Item → Reading Shaped) → List Item → Reading Shaped
 by_register on items = next (integer items) (λ n rest. by_byte on (byte_of n) rest)
 
--- a box that was made before: \box, \copy and \lastbox (section 1079)
+-- \vsplit: behind the number of its register the word `to` and a size have to follow (section 1082)
+abbrev pub split_size : ℕ → BoxContext → List Item → Reading Shaped
+split_size n context items = next (dimension lengths items) (λ measure rest. Done (Box (Split n measure.size) context) rest)
+
+abbrev pub split_by : ℕ → BoxContext → Bool → List Item → Reading Shaped
+split_by n context true rest = split_size n context rest
+split_by n context false rest = Wrong MissingUnit
+
+abbrev pub split_to : ℕ → BoxContext → List Item → Reading Shaped
+split_to n context items = next (keyword (codes "to") items) (split_by n context)
+
+-- the same behind the first letter of `to`
+abbrev pub split_letter : ℕ → BoxContext → List Item → Reading Shaped
+split_letter n context [] = More Expanded
+split_letter n context (Gave v ∷ rest) = Wrong MissingUnit
+split_letter n context (Took t ∷ rest) = expanded t (if is_key (character "o") t then split_size n context rest else Wrong MissingUnit)
+
+abbrev pub missing_word : Seen → TexError
+missing_word t = if is_undefined t then Undefined else MissingUnit
+
+-- a box that was made before: \box, \copy, \lastbox and \vsplit (section 1079)
 abbrev pub box_from : BoxSource → BoxContext → List Item → Reading Shaped
 box_from source.Register context items = by_register (λ n rest. Done (Box (Use n) context) rest) items
 box_from source.Copy context items = by_register (λ n rest. Done (Box (Copy n) context) rest) items
 box_from source.Last context items = Done (Box Last context) items
+box_from source.Split context items = by_register (λ n rest. split_to n context rest) items
 
 -- the box that a primitive begins or stands for; no other is one
 abbrev pub box_meant : BoxContext → Meaning → List Item → Reading Shaped

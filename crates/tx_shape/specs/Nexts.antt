@@ -1,5 +1,6 @@
 -- What follows a number or a size, by what it is for.
-use Rattle.std.specs.Prelude.{ℕ, ℤ, Option, Some, None, List}
+use Rattle.std.specs.Prelude.{ℕ, ℤ, ◌==◌, Option, Some, None, List, if◌then◌else◌}
+use Rattle.tx_shape.specs.declared.types.Opener.TheVariants.{Insert}
 use Rattle.tx_seen.specs.declared.error.TexError.TheVariants.{NumberOutOfRange}
 use Rattle.tx_seen.specs.declared.item.Item.{Item}
 use Rattle.tx_seen.specs.Readings.{Reading, Done, Wrong as Wrong_reading, next}
@@ -22,7 +23,7 @@ use Rattle.tx_scan.specs.declared.scans.FontSought.TheVariants as sought
 use Rattle.tx_scan.specs.FontNames.{parameter_number}
 use Rattle.tx_shape.specs.declared.scans.NumberSetting.{NumberSetting}
 use Rattle.tx_shape.specs.Settings.{font_setting, set_number, set_size}
-use Rattle.tx_shape.specs.Boxes.{box_begin, break_begun, needed_box, opened, register_setting, shift_by, spread_goal}
+use Rattle.tx_shape.specs.Boxes.{box_begin, group_begun, needed_box, opened, register_setting, shift_by, split_letter, split_to, spread_goal}
 
 -- the part, of these items
 abbrev pub plain_rest : Plain → List Item → Reading Shaped
@@ -31,7 +32,9 @@ plain_rest (plain.Needed context) items = needed_box context items
 plain_rest (plain.Goal opening) items = box_begin opening items
 plain_rest (plain.Spread opening) items = next (spread_goal items) (opened opening)
 plain_rest (plain.Brace opening goal) items = opened opening goal items
-plain_rest (plain.Break text) items = break_begun text items
+plain_rest (plain.Open opener) items = group_begun opener items
+plain_rest (plain.To n context) items = split_to n context items
+plain_rest (plain.ToLetter n context) items = split_letter n context items
 
 -- what follows, of these items
 abbrev pub next_rest : Next → List Item → Reading Shaped
@@ -40,6 +43,10 @@ next_rest (Font what) items = font_setting what items
 next_rest (Whole shaped) items = Done shaped items
 next_rest (Wrong error) items = Wrong_reading error
 
+-- what follows the number of a class of insertions, of which there is none of 255 (section 1099)
+abbrev pub behind_class : ℕ → Next
+behind_class n = if n == 255 then Wrong NumberOutOfRange else Part (plain.Open (Insert n))
+
 -- what follows the number of a register
 abbrev pub behind_register : Registering → ℕ → Next
 behind_register (registering.Use context) n = Whole (Box (box.Use n) context)
@@ -47,6 +54,8 @@ behind_register (registering.Copy context) n = Whole (Box (box.Copy n) context)
 behind_register (registering.Unbox kind) n = Whole (Unbox kind n)
 behind_register registering.Set n = Part (plain.Equals n)
 behind_register registering.Character n = Whole (Character n)
+behind_register registering.Insert n = behind_class n
+behind_register (registering.Split context) n = Part (plain.To n context)
 
 abbrev pub behind_byte : Registering → Option ℕ → Next
 behind_byte what None = Wrong NumberOutOfRange
@@ -72,6 +81,7 @@ behind_size (sizing.To opening) size = Part (plain.Brace opening (To size))
 behind_size (sizing.Spread opening) size = Part (plain.Brace opening (Spread size))
 behind_size (sizing.Shift kind) size = Part (plain.Needed (Append (shift_by kind size)))
 behind_size (sizing.Set what) size = Whole (set_size what size)
+behind_size (sizing.Split n context) size = Whole (Box (box.Split n size) context)
 
 abbrev pub behind_measure : Sizing → Measure → Next
 behind_measure what measure = behind_size what measure.size

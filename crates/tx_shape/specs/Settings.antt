@@ -1,5 +1,7 @@
 -- What is set behind an optional `=` and is no part of the table (TeX: The Program, sections 1242 to 1244, 1248 and 1253).
 use Rattle.std.specs.Prelude.{ℕ, ℤ, ◌∷◌, [], List}
+use Rattle.tx_prim.specs.declared.family.PageQuantity.{PageQuantity}
+use Rattle.tx_prim.specs.declared.family.PageQuantity.TheVariants as page
 use Rattle.tx_seen.specs.declared.error.TexError.TheVariants.{MissingNumber, NumberOutOfRange}
 use Rattle.tx_seen.specs.declared.fed.Kind.TheVariants.{Quantity}
 use Rattle.tx_seen.specs.declared.fed.Value.{Value}
@@ -25,7 +27,7 @@ use Rattle.tx_shape.specs.declared.scans.SizeSetting.{SizeSetting}
 use Rattle.tx_shape.specs.declared.scans.SizeSetting.TheVariants as size
 use Rattle.tx_shape.specs.declared.scans.Sizing.TheVariants.{Set}
 use Rattle.tx_shape.specs.declared.types.Shaped.{Shaped}
-use Rattle.tx_shape.specs.declared.types.Shaped.TheVariants.{SetDepth, SetFactor, SetPrevGraf, BeginShape, SetFontDimen, SetFontInteger}
+use Rattle.tx_shape.specs.declared.types.Shaped.TheVariants.{SetDepth, SetFactor, SetPrevGraf, BeginShape, SetDeadCycles, SetPage, SetFontDimen, SetFontInteger}
 
 -- the number or the size that is set
 abbrev pub amount_of : Setting → Amount
@@ -36,12 +38,20 @@ amount_of (Number what) = amount.Number what
 abbrev pub set_size : SizeSetting → ℤ → Shaped
 set_size size.Depth s = SetDepth s
 set_size (size.FontDimen font n) s = SetFontDimen font n s
+set_size (size.Page quantity) s = SetPage quantity s
 
 abbrev pub set_number : NumberSetting → ℤ → Shaped
 set_number number.Factor n = SetFactor n
 set_number number.PrevGraf n = SetPrevGraf n
 set_number number.ParShape n = BeginShape n
+set_number number.DeadCycles n = SetDeadCycles n
+set_number (number.Page quantity) n = SetPage quantity n
 set_number (number.FontInteger kind font) n = SetFontInteger kind font n
+
+-- what is set of the page: \insertpenalties is a number, the others are sizes (sections 1245 and 1246)
+abbrev pub page_setting : PageQuantity → Setting
+page_setting page.InsertPenalties = Number (number.Page page.InsertPenalties)
+page_setting quantity = Size (size.Page quantity)
 
 -- what is set
 abbrev pub set : Setting → List Item → Reading Shaped

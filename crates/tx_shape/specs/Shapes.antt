@@ -1,20 +1,22 @@
 -- What families of commands take behind their first token.
-use Rattle.std.specs.Prelude.{pos, List}
+use Rattle.std.specs.Prelude.{ℕ, pos, ◌==◌, List, if◌then◌else◌}
 use Rattle.tx_prim.specs.declared.family.BoxKind.TheVariants.{Vertical}
 use Rattle.tx_seen.specs.declared.item.Item.{Item}
-use Rattle.tx_seen.specs.Readings.{Reading, Done}
+use Rattle.tx_seen.specs.declared.error.TexError.TheVariants.{NumberOutOfRange}
+use Rattle.tx_seen.specs.Readings.{Reading, Done, Wrong}
 use Rattle.tx_scan.specs.declared.scans.FontSought.TheVariants as sought
 use Rattle.tx_shape.specs.declared.scans.NumberSetting.TheVariants as number
 use Rattle.tx_shape.specs.declared.scans.Setting.TheVariants.{Size, Number}
 use Rattle.tx_shape.specs.declared.scans.SizeSetting.TheVariants as size
 use Rattle.tx_shape.specs.declared.types.BoxContext.TheVariants.{Adjust, Append, Ship}
+use Rattle.tx_shape.specs.declared.types.Opener.TheVariants.{Insert}
 use Rattle.tx_shape.specs.declared.types.BoxGoal.TheVariants.{Natural}
 use Rattle.tx_shape.specs.declared.types.Shaped.{Shaped}
 use Rattle.tx_shape.specs.declared.types.Shaped.TheVariants.{Character}
 use Rattle.tx_shape.specs.declared.types.Shaping.{Shaping}
 use Rattle.tx_shape.specs.declared.types.Shaping.TheVariants as shaping
-use Rattle.tx_shape.specs.Boxes.{box_begin, box_from, break_begun, by_register, needed_box, opened, penalizing, setting as box_setting, shifting, skipping, unboxing}
-use Rattle.tx_shape.specs.Settings.{dimen_setting, font_setting, setting}
+use Rattle.tx_shape.specs.Boxes.{box_begin, box_from, by_register, group_begun, needed_box, opened, penalizing, setting as box_setting, shifting, skipping, unboxing}
+use Rattle.tx_shape.specs.Settings.{dimen_setting, font_setting, page_setting, setting}
 
 -- \char: the code of a character (section 1124)
 abbrev pub character : List Item → Reading Shaped
@@ -23,6 +25,13 @@ character items = by_register (λ n rest. Done (Character n) rest) items
 -- \vadjust: the begin-group token of a vertical list (section 1099)
 abbrev pub adjusting : List Item → Reading Shaped
 adjusting items = opened (record { kind = Vertical; context = Adjust }) Natural items
+
+-- \insert: the number of a class, then the begin-group token of a vertical list (section 1099)
+abbrev pub inserting_at : ℕ → List Item → Reading Shaped
+inserting_at n rest = if n == 255 then Wrong NumberOutOfRange else group_begun (Insert n) rest
+
+abbrev pub inserting : List Item → Reading Shaped
+inserting items = by_register inserting_at items
 
 -- what a command takes behind its first token; a box that stands alone is appended as it is
 abbrev pub shape : Shaping → List Item → Reading Shaped
@@ -40,6 +49,9 @@ shape shaping.Factor items = setting (Number number.Factor) items
 shape shaping.PrevGraf items = setting (Number number.PrevGraf) items
 shape shaping.ParShape items = setting (Number number.ParShape) items
 shape shaping.Adjust items = adjusting items
-shape (shaping.Break text) items = break_begun text items
+shape shaping.Insert items = inserting items
+shape shaping.DeadCycles items = setting (Number number.DeadCycles) items
+shape (shaping.Page quantity) items = setting (page_setting quantity) items
+shape (shaping.Open opener) items = group_begun opener items
 shape shaping.FontDimen items = dimen_setting items
 shape (shaping.FontInteger kind) items = font_setting (sought.Integer kind) items

@@ -13,9 +13,8 @@ ghost use Rattle.tx_shape.specs.Words as words;
 
 use crate::letters::{Letters, begins_spread, begins_to, expected, longer};
 use crate::scans::{Amount, Opening, Plain, ShapeScan, Sizing, Stage};
-use crate::types::{BoxGoal, BoxRead, Shaped};
+use crate::types::{BoxGoal, BoxRead, Opener, Shaped};
 use crate::words::{Lost, Word};
-use tx_prim::BreakText;
 use tx_scan::BraceScan;
 use tx_seen::{Fed, Seen, TexError, Want};
 
@@ -121,14 +120,14 @@ impl ShapeScan {
         }
     }
 
-    /// The begin-group token before a text of \discretionary, or what is skipped before it; what was read before is forgotten.
-    pub fn feed_break(&mut self, text: BreakText, token: &Seen) -> Fed<Shaped>
-        ensures { Begins (λ more. boxes.break_begun text (Took token.now ∷ more)) self.new result }
+    /// The begin-group token that is awaited, or what is skipped before it; what was read before is forgotten.
+    pub fn feed_open(&mut self, opener: Opener, token: &Seen) -> Fed<Shaped>
+        ensures { Begins (λ more. boxes.group_begun opener (Took token.now ∷ more)) self.new result }
     {
         match BraceScan::new().feed(token) {
-            Fed::More(_) => self.on(Stage::Plain(Plain::Break(text))),
+            Fed::More(_) => self.on(Stage::Plain(Plain::Open(opener))),
             Fed::Need(kind) => Fed::Need(kind),
-            Fed::Done(_, back) => Fed::Done(Shaped::BeginBreak(text), back),
+            Fed::Done(_, back) => Fed::Done(Shaped::Open(opener), back),
             Fed::Wrong(error) => Fed::Wrong(error),
         }
     }

@@ -1,5 +1,6 @@
 //! What families of commands take behind their first token (The TeXbook, chapter 24; TeX: The Program, parts 46 to 49): boxes, what
-//! is done with them, penalties, \prevdepth, and fonts. It is scanned token by token, with the values that it needs.
+//! is done with them, inserts, penalties, \prevdepth, quantities of the page, and fonts. It is scanned token by token, with the
+//! values that it needs.
 //!
 //! Proved: the rest of a command is read exactly as the grammar of tokens and values says, and what stands behind it is given back.
 //! Only tested: that the grammars are TeX's, on documents that Knuth's TeX reads alike.
@@ -24,4 +25,4 @@ mod words;
 
 pub use loading::LoadScan;
 pub use scans::ShapeScan;
-pub use types::{AskedSize, BoxContext, BoxGoal, BoxRead, FontAsked, Shaped, Shaping};
+pub use types::{AskedSize, BoxContext, BoxGoal, BoxRead, FontAsked, Opener, Shaped, Shaping};

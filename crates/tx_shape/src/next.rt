@@ -8,10 +8,20 @@ ghost use Rattle.tx_shape.specs.Boxes.{shift_by};
 ghost use Rattle.tx_shape.specs.Nexts as spec;
 
 use crate::scans::{Next, NumberSetting, Plain, Registering, SizeSetting, Sizing};
-use crate::types::{BoxContext, BoxGoal, BoxRead, Shaped};
+use crate::types::{BoxContext, BoxGoal, BoxRead, Opener, Shaped};
 use tx_prim::ShiftKind;
 use tx_scan::{FontSought, Measure, byte, parameter};
 use tx_seen::{Fed, TexError};
+
+/// What follows the number of a class of insertions.
+fn behind_class(class: u8) -> Next
+    ensures { result ≡ spec.behind_class class }
+{
+    if class == 255 {
+        return Next::Wrong(TexError::NumberOutOfRange);
+    }
+    Next::Part(Plain::Open(Opener::Insert(class)))
+}
 
 /// What follows the number of a register.
 fn behind_register(registering: Registering, register: u8) -> Next
@@ -23,6 +33,8 @@ fn behind_register(registering: Registering, register: u8) -> Next
         Registering::Unbox(kind) => Next::Whole(Shaped::Unbox(kind, register)),
         Registering::Set => Next::Part(Plain::Equals(register)),
         Registering::Character => Next::Whole(Shaped::Character(register)),
+        Registering::Insert => behind_class(register),
+        Registering::Split(context) => Next::Part(Plain::To(register, context)),
     }
 }
 
@@ -64,6 +76,10 @@ fn behind_size(sizing: Sizing, size: i32) -> Next
         Sizing::Set(SizeSetting::FontDimen(font, number)) => {
             Next::Whole(Shaped::SetFontDimen(font, number, size))
         }
+        Sizing::Set(SizeSetting::Page(quantity)) => Next::Whole(Shaped::SetPage(quantity, size)),
+        Sizing::Split(register, context) => {
+            Next::Whole(Shaped::Box(BoxRead::Split(register, size), context))
+        }
     }
 }
 
@@ -88,6 +104,8 @@ fn behind_set(setting: NumberSetting, number: i32) -> Next
         NumberSetting::Factor => Next::Whole(Shaped::SetFactor(number)),
         NumberSetting::PrevGraf => Next::Whole(Shaped::SetPrevGraf(number)),
         NumberSetting::ParShape => Next::Whole(Shaped::BeginShape(number)),
+        NumberSetting::DeadCycles => Next::Whole(Shaped::SetDeadCycles(number)),
+        NumberSetting::Page(quantity) => Next::Whole(Shaped::SetPage(quantity, number)),
         NumberSetting::FontInteger(kind, font) => {
             Next::Whole(Shaped::SetFontInteger(kind, font, number))
         }

@@ -1,8 +1,8 @@
 //! How far the scan of a command's rest is.
 
 use crate::letters::Letters;
-use crate::types::{BoxContext, BoxGoal, Shaped};
-use tx_prim::{BoxKind, BreakText, FontNumber, ShiftKind, UnboxKind};
+use crate::types::{BoxContext, BoxGoal, Opener, Shaped};
+use tx_prim::{BoxKind, FontNumber, PageQuantity, ShiftKind, UnboxKind};
 use tx_scan::{DimenScan, FontSought, GlueScan, IntScan};
 use tx_seen::{FontName, TexError};
 
@@ -25,6 +25,10 @@ pub enum Registering {
     Set,
     /// \char: the code of a character, and no register.
     Character,
+    /// \insert: a class, and no register; there is none of 255.
+    Insert,
+    /// \vsplit.
+    Split(BoxContext),
 }
 
 /// A size that is set behind an optional `=`.
@@ -34,6 +38,8 @@ pub enum SizeSetting {
     Depth,
     /// The \fontdimen of this number of a font.
     FontDimen(FontName, u16),
+    /// A size of the page.
+    Page(PageQuantity),
 }
 
 /// A number that is set behind an optional `=`.
@@ -45,6 +51,10 @@ pub enum NumberSetting {
     PrevGraf,
     /// How many lines \parshape has.
     ParShape,
+    /// \deadcycles.
+    DeadCycles,
+    /// A number of the page.
+    Page(PageQuantity),
     /// \hyphenchar or \skewchar of a font.
     FontInteger(FontNumber, FontName),
 }
@@ -66,6 +76,8 @@ pub enum Sizing {
     Shift(ShiftKind),
     /// \prevdepth and its kin.
     Set(SizeSetting),
+    /// \vsplit of this register.
+    Split(u8, BoxContext),
 }
 
 /// A number or a size, by what it is for.
@@ -94,8 +106,12 @@ pub enum Plain {
     Spread(Opening),
     /// A begin-group token, with spaces and \relax before it.
     Brace(Opening, BoxGoal),
-    /// The same before this text of \discretionary.
-    Break(BreakText),
+    /// The same, with which this begins.
+    Open(Opener),
+    /// The word `to` of \vsplit of this register, with spaces before it.
+    To(u8, BoxContext),
+    /// Its second letter.
+    ToLetter(u8, BoxContext),
 }
 
 /// What follows a number or a size.

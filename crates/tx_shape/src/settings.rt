@@ -9,6 +9,7 @@ ghost use Rattle.tx_shape.specs.Rests.{held, needed, rest, Begins, BeginsSetting
 use crate::scans::{Amount, NumberSetting, Setting, ShapeScan, SizeSetting, Sizing, Stage};
 use crate::types::Shaped;
 use std::alloc::AllocError;
+use tx_prim::PageQuantity;
 use tx_scan::{EqualsScan, FontScan, FontSought};
 use tx_seen::{Fed, FontName, Kind, Place, Seen, TexError, Value};
 
@@ -19,6 +20,24 @@ fn amount_of(setting: Setting) -> Amount
     match setting {
         Setting::Size(size) => Amount::Size(Sizing::Set(size)),
         Setting::Number(number) => Amount::Number(number),
+    }
+}
+
+/// What is set of the page: \insertpenalties is a number, the others are sizes.
+pub(crate) fn page_setting(quantity: PageQuantity) -> Setting
+    ensures { result ≡ settings.page_setting quantity }
+{
+    match quantity {
+        PageQuantity::InsertPenalties => Setting::Number(NumberSetting::Page(quantity)),
+        PageQuantity::Goal | PageQuantity::Total | PageQuantity::Depth => {
+            Setting::Size(SizeSetting::Page(quantity))
+        }
+        PageQuantity::Stretch | PageQuantity::FilStretch | PageQuantity::FillStretch => {
+            Setting::Size(SizeSetting::Page(quantity))
+        }
+        PageQuantity::FilllStretch | PageQuantity::Shrink => {
+            Setting::Size(SizeSetting::Page(quantity))
+        }
     }
 }
 

@@ -17,6 +17,7 @@ use crate::scans::{
     Amount, AmountScan, Next, NumberSetting, Opening, Plain, Registering, Setting, ShapeScan,
     SizeSetting, Sizing, Stage,
 };
+use crate::settings::page_setting;
 use crate::types::{BoxContext, BoxGoal, Shaped, Shaping};
 use std::alloc::{AllocError, Global};
 use tx_prim::BoxKind;
@@ -66,7 +67,12 @@ impl ShapeScan {
                 let opening = Opening { kind, context };
                 self.on(Stage::Plain(Plain::Brace(opening, BoxGoal::Natural)))
             }
-            Shaping::Break(text) => self.on(Stage::Plain(Plain::Break(text))),
+            Shaping::Insert => self.to_amount(Amount::Register(Registering::Insert)),
+            Shaping::DeadCycles => {
+                self.on(Stage::Setting(Setting::Number(NumberSetting::DeadCycles)))
+            }
+            Shaping::Page(quantity) => self.on(Stage::Setting(page_setting(quantity))),
+            Shaping::Open(opener) => self.on(Stage::Plain(Plain::Open(opener))),
             Shaping::FontDimen => self.to_amount(Amount::FontDimen),
             Shaping::FontInteger(kind) => self.on(Stage::Font(FontSought::Integer(kind))),
         }
@@ -174,7 +180,9 @@ impl ShapeScan {
             Plain::Goal(opening) => self.feed_goal(opening, token),
             Plain::Spread(opening) => self.feed_spread(opening, token),
             Plain::Brace(opening, goal) => self.feed_brace(opening, goal, token),
-            Plain::Break(text) => self.feed_break(text, token),
+            Plain::Open(opener) => self.feed_open(opener, token),
+            Plain::To(register, context) => self.feed_to(register, context, token),
+            Plain::ToLetter(register, context) => self.feed_to_letter(register, context, token),
         }
     }
 }

@@ -1,7 +1,9 @@
 //! What families of commands are, and what they come to once they are read whole.
 use tx_bytes::Bytes;
 use tx_num::Glue;
-use tx_prim::{BoxKind, BoxSource, BreakText, FontNumber, GlueForm, ShiftKind, UnboxKind};
+use tx_prim::{
+    BoxKind, BoxSource, BreakText, FontNumber, GlueForm, PageQuantity, ShiftKind, UnboxKind,
+};
 use tx_seen::{FontName, Place};
 
 /// What becomes of a box (TeX: The Program, section 1071).
@@ -26,6 +28,17 @@ pub enum BoxGoal {
     Spread(i32),
 }
 
+/// What begins with a begin-group token that is awaited by itself.
+#[derive(Clone, Copy, PartialEq, Eq)]
+pub enum Opener {
+    /// This text of \discretionary.
+    Break(BreakText),
+    /// The list of an \insert of this class.
+    Insert(u8),
+    /// The tokens of \output.
+    Output,
+}
+
 /// A box that is meant (TeX: The Program, section 1079).
 #[derive(Clone, Copy, PartialEq, Eq)]
 pub enum BoxRead {
@@ -36,6 +49,8 @@ pub enum BoxRead {
     Copy(u8),
     /// \lastbox.
     Last,
+    /// \vsplit of this register, to so many sp.
+    Split(u8, i32),
 }
 
 /// A command by its first token: what stands behind that is read.
@@ -69,8 +84,14 @@ pub enum Shaping {
     ParShape,
     /// \vadjust.
     Adjust,
-    /// \discretionary, before this text.
-    Break(BreakText),
+    /// \insert.
+    Insert,
+    /// \deadcycles.
+    DeadCycles,
+    /// \pagegoal and its kin.
+    Page(PageQuantity),
+    /// What begins with a begin-group token that is awaited.
+    Open(Opener),
     /// \fontdimen.
     FontDimen,
     /// \hyphenchar and \skewchar.
@@ -98,8 +119,12 @@ pub enum Shaped {
     SetPrevGraf(i32),
     /// \parshape is to have so many lines.
     BeginShape(i32),
-    /// This text of \discretionary begins.
-    BeginBreak(BreakText),
+    /// \deadcycles is to be this number.
+    SetDeadCycles(i32),
+    /// A quantity of the page is to be this number or so many sp.
+    SetPage(PageQuantity, i32),
+    /// The begin-group token of this is there.
+    Open(Opener),
     /// The \fontdimen of this number of a font is to be so many sp.
     SetFontDimen(FontName, u16, i32),
     /// \hyphenchar or \skewchar of a font is to be this number.

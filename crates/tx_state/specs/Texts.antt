@@ -45,6 +45,7 @@ expands_text purposes.LowerCase = false
 expands_text purposes.Special = true
 expands_text purposes.Patterns = true
 expands_text purposes.Hyphenation = true
+expands_text purposes.Mark = true
 
 -- what \the gives in a text that is expanded is put in as it stands, but in \patterns and \hyphenation it is expanded as all else is
 -- (sections 935 and 961)
@@ -56,6 +57,7 @@ keeps_the purposes.LowerCase = true
 keeps_the purposes.Special = true
 keeps_the purposes.Patterns = false
 keeps_the purposes.Hyphenation = false
+keeps_the purposes.Mark = true
 
 -- texts of which nothing is taken
 abbrev pub definition_text : Place → DefinitionKind → OpenText

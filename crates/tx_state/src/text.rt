@@ -37,7 +37,7 @@ fn expands_text(purpose: TextUse) -> bool
 {
     match purpose {
         TextUse::Message | TextUse::ErrorMessage | TextUse::Special => true,
-        TextUse::Patterns | TextUse::Hyphenation => true,
+        TextUse::Patterns | TextUse::Hyphenation | TextUse::Mark => true,
         TextUse::UpperCase | TextUse::LowerCase => false,
     }
 }
@@ -48,7 +48,7 @@ fn keeps_the(purpose: TextUse) -> bool
 {
     match purpose {
         TextUse::Message | TextUse::ErrorMessage | TextUse::Special => true,
-        TextUse::UpperCase | TextUse::LowerCase => true,
+        TextUse::UpperCase | TextUse::LowerCase | TextUse::Mark => true,
         TextUse::Patterns | TextUse::Hyphenation => false,
     }
 }

@@ -1,9 +1,9 @@
-use Rattle.std.proofs.Common.{◌≡◌, rules, to_z, of_z, w64}
-use Rattle.tx_main.proofs.Carrying.{ends}
+use Rattle.tx_state.specs.Meanings.{state_of}
+use Rattle.tx_main.specs.Effects.{context_of, packing_box, telling}
+use Rattle.tx_main.proofs.Carrying.{telling-in}
 use Rattle.tx_main.proofs.boxes.end_box.Goals as goal
 
 pub returns : goal.returns
 returns c =
-    let same : to_z w64 (of_z w64 c.greatest_depth-most.result) ≡ c.greatest_depth-most.result = search rules in
-    ends c.args.said c.args.s.now c.leave_group.new.s c.finish_box.new.s c.greatest_depth-most.result c.end_box.new.lists c.end_box.new.table c.in_ok-ended.ended.report c.in_ok-ended.ended.done c.finish_box.result
-    c.greatest_depth-most.ensures c.in_ok-leave_group.ensures.state c.in_ok-leave_group.ensures.said (rw same at c.in_ok-ended.ensures) c.finish_box.ensures
+    rw (telling-in c.args.said (context_of c.args.s.now.lists.boxes) (packing_box (state_of c.args.s.now)))
+    (rw c.context_of-context.ensures at (c.build_in.ensures c.args.s.now (telling c.args.said (packing_box (state_of c.args.s.now))) c.in_ok-event.ensures))

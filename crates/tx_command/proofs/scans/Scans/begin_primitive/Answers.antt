@@ -99,6 +99,15 @@ returns-in-SpaceFactor c = rw c.in-SpaceFactor.is c.begin_shape-in-SpaceFactor.e
 pub returns-in-PrevGraf : goal.returns-in-PrevGraf
 returns-in-PrevGraf c = rw c.in-PrevGraf.is c.begin_shape-in-PrevGraf.ensures
 
+pub returns-in-DeadCycles : goal.returns-in-DeadCycles
+returns-in-DeadCycles c = rw c.in-DeadCycles.is c.begin_shape-in-DeadCycles.ensures
+
+pub returns-in-Insert : goal.returns-in-Insert
+returns-in-Insert c = rw c.in-Insert.is c.begin_shape-in-Insert.ensures
+
+pub returns-in-Page : goal.returns-in-Page
+returns-in-Page c = rw c.in-Page.is c.begin_shape-in-Page.ensures
+
 pub returns-in-ParShape : goal.returns-in-ParShape
 returns-in-ParShape c = rw c.in-ParShape.is c.begin_shape-in-ParShape.ensures
 

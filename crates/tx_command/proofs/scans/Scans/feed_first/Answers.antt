@@ -1,5 +1,5 @@
 use Rattle.std.proofs.Common.{ap}
-use Rattle.tx_command.proofs.Stages.{first-fresh, first-prefixed, first-defining, first-future, first-leading, first-loading, first-shaping, first-breaking}
+use Rattle.tx_command.proofs.Stages.{first-fresh, first-prefixed, first-defining, first-future, first-leading, first-loading, first-shaping, first-opening}
 use Rattle.tx_command.proofs.scans.Scans.feed_first.Goals as goal
 
 pub returns-in-Fresh : goal.returns-in-Fresh
@@ -23,5 +23,5 @@ returns-in-Loading c = first-loading c.args.mode c.args.head.now _ c.in-Loading.
 pub returns-in-Shaping : goal.returns-in-Shaping
 returns-in-Shaping c = first-shaping c.args.mode c.args.head.now _ _ _ c.args.token.now c.feed_shape.new.self c.feed_shape.result c.in-Shaping.is c.feed_shape.ensures
 
-pub returns-in-Breaking : goal.returns-in-Breaking
-returns-in-Breaking c = first-breaking c.args.mode c.args.head.now _ c.args.token.now c.feed_break.new.self c.feed_break.result c.in-Breaking.is c.feed_break.ensures
+pub returns-in-Opening : goal.returns-in-Opening
+returns-in-Opening c = first-opening c.args.mode c.args.head.now _ c.args.token.now c.feed_open.new.self c.feed_open.result c.in-Opening.is c.feed_open.ensures

@@ -15,3 +15,6 @@ returns-else-is_naming c = rw (c.in-Input.is, sym c.is_naming.ensures ∙ c.if-i
 
 pub returns-in_ok-begin-in-Test : goal.returns-in_ok-begin-in-Test
 returns-in_ok-begin-in-Test c = rw c.in-Test.is (rw (c.in_ok-begin-in-Test.ensures.ok, c.is_case.ensures) at (c.scan-in-Test.ensures c.args.mode))
+
+pub returns-in-Mark : goal.returns-in-Mark
+returns-in-Mark c = rw c.in-Mark.is (c.put_mark.ensures c.args.mode)

@@ -1,0 +1,132 @@
+//! What the page builder takes from the table.
+ghost use Rattle.std.specs.Prelude.{◌≡◌, ◌++◌, IfOk, OnOk};
+ghost use Rattle.tx_eqtb.specs.Table.{number_at};
+ghost use Rattle.tx_node.specs.Nodes.{item_of};
+ghost use Rattle.tx_pack.specs.Sums.{fits};
+ghost use Rattle.tx_seen.specs.declared.place.Place.TheVariants as place;
+ghost use Rattle.tx_galley.specs.Params as spec;
+
+use std::alloc::{AllocError, Global};
+use tx_box::glue;
+use tx_eqtb::Eqtb;
+use tx_node::{BoxNode, Direction, Node};
+use tx_pagebuilder::{BoxList, Class, ClassBox, ClassParams, PageParams};
+use tx_prim::{DimensionParameter, GlueParameter, IntegerParameter};
+use tx_seen::Place;
+
+/// Whether a size, in sp, is a dimension.
+pub(crate) fn fits(size: i64) -> bool
+    ensures { result ≡ fits size }
+{
+    size.unsigned_abs() < 1 << 30
+}
+
+/// Whether a number is an integer.
+pub(crate) fn is_integer(number: i64) -> bool
+    ensures { result ≡ spec.is_integer number }
+{
+    number.unsigned_abs() < 1 << 31
+}
+
+/// A dimension parameter, in sp.
+pub(crate) fn dimension(table: &Eqtb, parameter: DimensionParameter) -> i32
+    ensures { result ≡ number_at table.now.table (place.Dimension parameter) }
+{
+    table.number(&Place::Dimension(parameter))
+}
+
+/// The height and depth of a box together, in sp.
+fn whole_size(found: &BoxNode) -> i64
+    ensures { result ≡ spec.whole_size found.now.head }
+{
+    let head = found.head();
+    i64::from(head.height) + i64::from(head.depth)
+}
+
+/// Whether a box is an \hbox.
+fn is_across(found: &BoxNode) -> bool
+    ensures { result ≡ spec.is_across found.now.head }
+{
+    matches!(found.head().direction, Direction::Horizontal)
+}
+
+/// The registers of a class of insertions.
+fn class_params(table: &Eqtb, class: u8) -> ClassParams
+    ensures { result ≡ spec.class_params table.now.table class }
+{
+    let found = table.boxed(&Place::Box(class));
+    ClassParams {
+        box_size: found.map(whole_size),
+        is_hbox: found.is_some_and(is_across),
+        count: table.number(&Place::Count(class)),
+        dimen: table.number(&Place::Dimen(class)),
+        skip: table.glue(&Place::Skip(class)),
+    }
+}
+
+/// The same of the class of a node, if that is an insertion.
+fn node_class(table: &Eqtb, node: &Node) -> Option<ClassParams>
+    ensures { result ≡ spec.item_class table.now.table (item_of node.now) }
+{
+    match node {
+        Node::Insertion(inner) => Some(class_params(table, inner.head().class)),
+        Node::Plain(_) | Node::Shared(_) | Node::Box(_, _) => None,
+        Node::Discretionary(_) | Node::Adjustment(_) => None,
+    }
+}
+
+/// What contributing a node takes from the table.
+pub(crate) fn node_params(alloc: Global, table: &Eqtb, node: &Node) -> PageParams
+    ensures value { result ≡ spec.item_params table.now.table (item_of node.now) }
+{
+    PageParams {
+        vsize: dimension(table, DimensionParameter::Vsize),
+        max_depth: dimension(table, DimensionParameter::Maxdepth),
+        top_skip: glue(table, GlueParameter::Topskip),
+        holding_inserts: table.number(&Place::Integer(IntegerParameter::Holdinginserts)),
+        class: node_class(table, node),
+        boxes: BoxList::new(alloc),
+    }
+}
+
+/// Puts the box of a class behind others, unless its register is void. Its only error is want of memory.
+fn push_box(boxes: &mut BoxList, table: &Eqtb, class: u8) -> Result<(), AllocError>
+    ensures { OnOk result (boxes.new ≡ boxes.old ++ spec.class_box table.now.table class) }
+{
+    match table.boxed(&Place::Box(class)) {
+        Some(found) => {
+            let node = found.clone()?;
+            boxes.push(ClassBox { class, node })
+        }
+        None => Ok(()),
+    }
+}
+
+/// The boxes of classes, those that are void left out. Its only error is want of memory.
+fn class_boxes(alloc: Global, table: &Eqtb, classes: &[Class]) -> Result<BoxList, AllocError>
+    ensures { IfOk result (λ boxes. boxes ≡ spec.class_boxes table.now.table classes.now) }
+{
+    let mut boxes = BoxList::new(alloc);
+    for class in classes {
+        push_box(&mut boxes, table, class.number)?;
+    }
+    Ok(boxes)
+}
+
+/// What firing a page with these classes takes from the table. Its only error is want of memory.
+pub(crate) fn fire_params(
+    alloc: Global,
+    table: &Eqtb,
+    classes: &[Class],
+) -> Result<PageParams, AllocError>
+    ensures { IfOk result (λ params. params ≡ spec.fire_params table.now.table classes.now) }
+{
+    Ok(PageParams {
+        vsize: dimension(table, DimensionParameter::Vsize),
+        max_depth: dimension(table, DimensionParameter::Maxdepth),
+        top_skip: glue(table, GlueParameter::Topskip),
+        holding_inserts: table.number(&Place::Integer(IntegerParameter::Holdinginserts)),
+        class: None,
+        boxes: class_boxes(alloc, table, classes)?,
+    })
+}

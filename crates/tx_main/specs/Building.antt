@@ -1,0 +1,66 @@
+-- The page builder is exercised, and what comes of a page that fires (TeX: The Program, sections 994 and 1025).
+use Rattle.std.specs.Prelude.{ℕ, Bool, true, false, List, [], ◌∷◌, Result, Ok, Err, if◌then◌else◌}
+use Rattle.tx_box.specs.declared.parts.Work.TheVariants.{ShipPage}
+use Rattle.tx_command.specs.declared.types.Head.TheVariants.{Opening}
+use Rattle.tx_galley.specs.declared.errors.GalleyError.{GalleyError}
+use Rattle.tx_galley.specs.declared.firing.Next.{Next}
+use Rattle.tx_galley.specs.declared.firing.Next.TheVariants as next
+use Rattle.tx_galley.specs.Errors.{error_of}
+use Rattle.tx_galley.specs.Exercising.{Exercised, exercising as exercising_pages}
+use Rattle.tx_pending.specs.Elements.{with_list}
+use Rattle.tx_prim.specs.declared.modes.Mode.{Mode}
+use Rattle.tx_prim.specs.declared.modes.Mode.TheVariants as mode
+use Rattle.tx_seen.specs.declared.error.TexError.{TexError}
+use Rattle.tx_shape.specs.declared.types.BoxContext.{BoxContext}
+use Rattle.tx_shape.specs.declared.types.BoxContext.TheVariants.{Adjust, Append, Register, Ship}
+use Rattle.tx_shape.specs.declared.types.Opener.TheVariants.{Output}
+use Rattle.tx_state.specs.declared.parts.Due.TheVariants.{Boxes}
+use Rattle.tx_state.specs.Outcomes.{Outcome, Asks, Leaves, Ships, Fails, FailsTelling, Ends}
+use Rattle.tx_state.specs.State.{TexState}
+
+-- its box is shipped, and then the page builder goes on; or \output's tokens are read, marked at their end, whose begin-group token is
+-- awaited
+abbrev pub paging : Next → TexState → TexState
+paging next.Goes s = s
+paging (next.Ships b badness) s = record s { lists = record s.lists { badness = badness }; due = Boxes (ShipPage b) ∷ s.due }
+paging (next.Reads tokens badness) s =
+    record s { lists = record s.lists { badness = badness }; head = Opening Output; taken = []; reader = record s.reader { input = with_list s.reader.input tokens true } }
+
+-- the same as code answers it
+abbrev pub paged : TexState → List ℕ → Result Next GalleyError → Outcome
+paged s said (Err error) = FailsTelling (error_of error) said
+paged s said (Ok n) = Leaves (paging n s) said
+
+abbrev pub exercised : TexState → List ℕ → Result Exercised TexError → Outcome
+exercised s said (Err error) = FailsTelling error said
+exercised s said (Ok x) = Leaves (paging x.next (record s { lists = record s.lists { nest = x.nest; pages = x.pages }; table = x.table })) said
+
+abbrev pub exercising : TexState → List ℕ → Outcome
+exercising s said = exercised s said (exercising_pages s.lists.nest s.table s.lists.pages)
+
+-- where the pages' list is being built it is exercised behind what changes that
+abbrev pub is_pages : Mode → Bool
+is_pages mode.Vertical = true
+is_pages _ = false
+
+abbrev pub then_building : TexState → List ℕ → Outcome
+then_building s said = if is_pages s.mode then exercising s said else Leaves s said
+
+abbrev pub built : Outcome → Outcome
+built (Leaves s said) = then_building s said
+built (Asks ask s) = Asks ask s
+built (Ships page s) = Ships page s
+built (Fails error) = Fails error
+built (FailsTelling error said) = FailsTelling error said
+built Ends = Ends
+
+-- a box that is appended there does, unless it is void (section 1076)
+abbrev pub built_in : BoxContext → Outcome → Outcome
+built_in (Append shift) outcome = built outcome
+built_in (Register n) outcome = outcome
+built_in Ship outcome = outcome
+built_in Adjust outcome = outcome
+
+abbrev pub built_if : Bool → BoxContext → Outcome → Outcome
+built_if true context outcome = built_in context outcome
+built_if false context outcome = outcome

@@ -1,5 +1,0 @@
-use Rattle.tx_shape.proofs.Steps.{break-there}
-use Rattle.tx_shape.proofs.scans.ShapeScan.feed_break.Goals as goal
-
-pub returns-in-Done : goal.returns-in-Done
-returns-in-Done c = break-there c.args.text c.feed.new.self c.args.token.now c.args.self.now c.in-Done.back c.in-Done.field-0 c.in-Done.ensures.fed
