@@ -167,16 +167,23 @@ MEANT = [
     (b'\\shipout\\hbox{}\\mag=2000\n\\shipout\\hbox{}\\end\n', 'run: 1 pages, error 35 at main.tex line 2', b''),
 ]
 
+# What is contributed to pages.
+PAGES = [
+    (b'\\chardef\\a=1\\a\\end\n', 'run: 1 pages, end', b'\1'),
+    (b'a\\end\n', 'run: 1 pages, end', b'a'),
+    (b'\n\\kern 1pt\\end\n', 'run: 1 pages, end', b''),
+    (b'\\hsize=9pt \\parfillskip=0pt plus 1fil \\vrule\\end\n', 'run: 1 pages, end', b''),
+    (b'\\hbox{}\\end\n', 'run: 1 pages, end', b''),
+    (b'\\hskip 3pt\\end\n', 'run: 1 pages, end', b''),
+    (b'\\vskip 3pt\\end\n', 'run: 1 pages, end', b''),
+    (b'\\vskip 3pt\\par\\end\n', 'run: 0 pages, end', b''),
+    (b'\\hbox{}\n\\lastbox\\end\n', 'run: 0 pages, error 34 at main.tex line 2', b''),
+    (b'a\n\n\\par b\\vfill\\end\n', 'run: 1 pages, end', b'ab'),
+]
+
 # Commands that begin what isn't there yet, with what is said of them until it is.
 FOR_NOW = [
-    (b'\\chardef\\a=1\\a\\end\n', 'run: 0 pages, error 24 at main.tex line 1', b''),
-    (b'a\\end\n', 'run: 0 pages, error 24 at main.tex line 1', b''),
-    (b'\n\\kern 1pt\\end\n', 'run: 0 pages, error 24 at main.tex line 2', b''),
-    (b'\\vrule\\end\n', 'run: 0 pages, error 24 at main.tex line 1', b''),
-    (b'\\hbox{}\\end\n', 'run: 0 pages, error 24 at main.tex line 1', b''),
     (b'\\catcode`$=3 \\shipout\\hbox{$$}\\end\n', 'run: 0 pages, error 24 at main.tex line 1', b''),
-    (b'\\hskip 3pt\\end\n', 'run: 0 pages, error 24 at main.tex line 1', b''),
-    (b'\\vskip 3pt\\end\n', 'run: 0 pages, error 24 at main.tex line 1', b''),
     (b'\\shipout\\hbox{\\leaders\\hbox{}\\hskip 3pt}\\end\n', 'run: 0 pages, error 34 at main.tex line 1', b''),
     (b'\\shipout\\hbox{\\mskip 3mu}\\end\n', 'run: 0 pages, error 2 at main.tex line 1', b''),
     (b'\\textfont0=\\nullfont \\end\n', 'run: 0 pages, error 2 at main.tex line 1', b''),
