@@ -1,17 +1,14 @@
 -- Items with a word, whose run is composed anew.
-use Rattle.std.proofs.Common.{◌≡◌, ◌∙◌, ◌+◌, ◌-◌, ℕ, Bool, true, false, cond, Option, Some, List, ◌++◌, length, drop, take, reverse, ap, sym}
+use Rattle.std.proofs.Common.{◌≡◌, ◌∙◌, ◌+◌, ◌-◌, ℕ, Bool, true, false, cond, Option, Some, List, length, drop, take, reverse, ap, sym}
 use Rattle.std.specs.Prelude.{◌==◌}
 use Rattle.std.specs.List.{prefix_len}
 use Rattle.std.proofs.lemmas.List.{drop-map, take-map}
 use Rattle.tx_node.specs.declared.node.Node.{Node}
 use Rattle.tx_node.specs.Items.{Item}
 use Rattle.tx_node.specs.Nodes.{item_of, list_of}
-use Rattle.tx_prim.specs.declared.family.FontNumber.TheVariants.{Hyphen}
 use Rattle.tx_tfm.specs.declared.state.FontState.{FontState}
-use Rattle.tx_tfm.specs.Fonts.{font_integer}
-use Rattle.tx_word.specs.Divisions.{divided_list}
 use Rattle.tx_hyphenate.specs.Finding.{is_in_run, word_start}
-use Rattle.tx_hyphenate.specs.Hyphenated.{Ways, are_there, codes_between, font_at_place, placed, run_before, run_behind, run_divided, stretch_hyphenated, with_run, with_word, with_word_at, word_places}
+use Rattle.tx_hyphenate.specs.Hyphenated.{Ways, are_there, codes_between, font_at_place, kept, placed, put_between, run_before, run_behind, run_divided, run_made, stretch_hyphenated, with_run, with_word, with_word_at, word_places}
 
 module _ (fonts : List FontState) (font word : ℕ) (places : List ℕ) (items : List Item) where
   -- the places of the run between two places
@@ -25,18 +22,18 @@ module _ (fonts : List FontState) (font word : ℕ) (places : List ℕ) (items :
   word-run nodes b h is b_is h_is some =
       let before : b ≡ run_before font (take word items) = b_is ∙ ap (λ (list : List Item). prefix_len (is_in_run font) (reverse list)) (sym (take-map item_of word nodes) ∙ ap (take word) is) in
       let behind : h ≡ run_behind font (drop word items) = h_is ∙ ap (prefix_len (is_in_run font)) (sym (drop-map item_of word nodes) ∙ ap (drop word) is) in
-      ap (λ (empty : Bool). cond empty items (with_run fonts font (word - run_before font (take word items)) word (word + run_behind font (drop word items)) places items)) some
+      ap (λ (empty : Bool). cond empty (kept items) (with_run fonts font (word - run_before font (take word items)) word (word + run_behind font (drop word items)) places items)) some
       ∙ (λ i. with_run fonts font (word - sym before i) word (word + sym behind i) places items)
 
   -- where the font lacks a character, all stays as it is
-  pub not-anew : (start end : ℕ) (ps : List ℕ) → are_there fonts font (codes_between start end items) ≡ false → run_divided fonts font start end ps items ≡ items
+  pub not-anew : (start end : ℕ) (ps : List ℕ) → are_there fonts font (codes_between start end items) ≡ false → run_divided fonts font start end ps items ≡ kept items
   not-anew start end ps lacking =
-      ap (λ (there : Bool). cond there ((take start items ++ divided_list fonts font (codes_between start end items) true true ps (font_integer Hyphen fonts font)) ++ drop end items) items) lacking
+      ap (λ (there : Bool). cond there (put_between start end items (run_made fonts font (codes_between start end items) ps)) (kept items)) lacking
 
   pub anew : (start end : ℕ) (ps : List ℕ) → are_there fonts font (codes_between start end items) ≡ true
-      → run_divided fonts font start end ps items ≡ (take start items ++ divided_list fonts font (codes_between start end items) true true ps (font_integer Hyphen fonts font)) ++ drop end items
+      → run_divided fonts font start end ps items ≡ put_between start end items (run_made fonts font (codes_between start end items) ps)
   anew start end ps there =
-      ap (λ (has : Bool). cond has ((take start items ++ divided_list fonts font (codes_between start end items) true true ps (font_integer Hyphen fonts font)) ++ drop end items) items) there
+      ap (λ (has : Bool). cond has (put_between start end items (run_made fonts font (codes_between start end items) ps)) (kept items)) there
 
 -- a word that is found behind glue, by its nodes
 pub stretch-is : (w : Ways) (items : List Item) (nodes : List Node) (word font : ℕ) (places : List ℕ) → list_of nodes ≡ items

@@ -1,5 +1,6 @@
--- A list with its words hyphenated (TeX: The Program, sections 891 to 903). The run of characters, ligatures and kerns of one font in
--- which a word stands is composed anew as one word, with the places at which the word may be divided.
+-- A list with its words hyphenated (TeX: The Program, sections 891 to 903 and 915). The run of characters, ligatures and kerns of one
+-- font in which a word stands is composed anew as one word, with the places at which the word may be divided; for each place at
+-- which a hyphen is put in that the font lacks, the transcript gets a line.
 use Rattle.std.specs.Prelude.{ℕ, ◌+◌, ◌-◌, ◌==◌, ◌&&◌, nat_lt, if◌then◌else◌, Bool, true, false, List, [], ◌∷◌, ◌++◌, length, map, filter, take, drop, reverse, slice_get, slice_index, Option, Some, None, is_some}
 use Rattle.std.specs.List.{flat_map, prefix_len}
 use Rattle.std.specs.Option.{option_and_then, unwrap_or}
@@ -10,12 +11,15 @@ use Rattle.tx_prim.specs.declared.family.FontNumber.TheVariants.{Hyphen}
 use Rattle.tx_tfm.specs.declared.state.FontState.{FontState}
 use Rattle.tx_tfm.specs.Fonts.{font_integer, has_character}
 use Rattle.tx_word.specs.Divisions.{divided_list, hyphen_code}
+use Rattle.tx_word.specs.Points.{hyphen_lacking}
 use Rattle.tx_hyphenate.specs.declared.kind.Kind.{Kind}
 use Rattle.tx_hyphenate.specs.declared.kind.Kind.TheVariants.{Characters, Kern, Special, Glue, Ends, Other}
+use Rattle.tx_hyphenate.specs.declared.made.Made.{Made}
 use Rattle.tx_hyphenate.specs.declared.params.HyphenParams.{HyphenParams}
 use Rattle.tx_hyphenate.specs.Kinds.{kind}
 use Rattle.tx_hyphenate.specs.Letters.{codes_of, font_of}
 use Rattle.tx_hyphenate.specs.Finding.{is_in_run, may_end, word_length, word_start}
+use Rattle.tx_hyphenate.specs.Lacking.{division_report, lacking_report}
 
 -- what hyphenation goes by: the fonts, the patterns and exceptions, the \lccodes, and its parameters
 pub record Ways : Type 0 where
@@ -61,46 +65,66 @@ placed count length places = filter (is_between length) (map (λ (place : ℕ). 
 abbrev pub codes_between : ℕ → ℕ → List Item → List ℕ
 codes_between start end items = flat_map codes_of (take (end - start) (drop start items))
 
+-- items that stay as they are, of which nothing is reported
+abbrev pub kept : List Item → Made
+kept items = record { items = items; report = [] }
+
+-- what is made of items, and behind it what is made of others
+abbrev pub joined : Made → Made → Made
+joined before behind = record { items = before.items ++ behind.items; report = before.report ++ behind.report }
+
+-- the items of a run, and a report for each discretionary among them, if the font lacks its hyphen
+abbrev pub told : List FontState → ℕ → List Item → Made
+told fonts font items = record { items = items; report = flat_map (division_report (lacking_report fonts font (hyphen_lacking fonts font))) items }
+
+-- a run of these characters, composed anew with places
+abbrev pub run_made : List FontState → ℕ → List ℕ → List ℕ → Made
+run_made fonts font chars places = told fonts font (divided_list fonts font chars true true places (font_integer Hyphen fonts font))
+
+-- what stands before `start` and from `end` on among items stays, around what is made of the others
+abbrev pub put_between : ℕ → ℕ → List Item → Made → Made
+put_between start end items made = record made { items = take start items ++ made.items ++ drop end items }
+
 -- items of which those from `start` to `end` are a run: it is composed anew with places, where its font has all its characters, as in
 -- each list that TeX makes
-abbrev pub run_divided : List FontState → ℕ → ℕ → ℕ → List ℕ → List Item → List Item
+abbrev pub run_divided : List FontState → ℕ → ℕ → ℕ → List ℕ → List Item → Made
 run_divided fonts font start end places items =
     if are_there fonts font (codes_between start end items)
-    then take start items ++ divided_list fonts font (codes_between start end items) true true places (font_integer Hyphen fonts font) ++ drop end items
-    else items
+    then put_between start end items (run_made fonts font (codes_between start end items) places)
+    else kept items
 
 -- items with a word before which so many stand, where its run begins behind `start` and ends with `end` of them
-abbrev pub with_run : List FontState → ℕ → ℕ → ℕ → ℕ → List ℕ → List Item → List Item
+abbrev pub with_run : List FontState → ℕ → ℕ → ℕ → ℕ → List ℕ → List Item → Made
 with_run fonts font start word end places items =
     run_divided fonts font start end (placed (length (codes_between start word items)) (length (codes_between start end items)) places) items
 
 -- a list without places stays as it is
-abbrev pub with_word : List FontState → ℕ → ℕ → List ℕ → List Item → List Item
+abbrev pub with_word : List FontState → ℕ → ℕ → List ℕ → List Item → Made
 with_word fonts font word places items =
-    if length places == 0 then items
+    if length places == 0 then kept items
     else with_run fonts font (word - run_before font (take word items)) word (word + run_behind font (drop word items)) places items
 
 -- the font of the item at a place
 abbrev pub font_at_place : ℕ → List Item → ℕ
 font_at_place word items = unwrap_or (option_and_then font_of (slice_get items word)) 0
 
-abbrev pub with_word_at : Ways → Option ℕ → List Item → List Item
-with_word_at w None items = items
+abbrev pub with_word_at : Ways → Option ℕ → List Item → Made
+with_word_at w None items = kept items
 with_word_at w (Some word) items =
     with_word w.fonts (font_at_place word items) word (word_places w (font_at_place word items) (drop word items)) items
 
 -- the items from a glue to the next one, or to the list's end, with their word hyphenated
-abbrev pub stretch_hyphenated : Ways → List Item → List Item
+abbrev pub stretch_hyphenated : Ways → List Item → Made
 stretch_hyphenated w items = with_word_at w (word_start w.lower w.params.uc_hyph items) items
 
 -- items between two places of glue, or the ends of a list: a word is looked for where glue stands before them
-abbrev pub finished : Ways → Bool → List Item → List Item
-finished w behind_glue items = if behind_glue then stretch_hyphenated w items else items
+abbrev pub finished : Ways → Bool → List Item → Made
+finished w behind_glue items = if behind_glue then stretch_hyphenated w items else kept items
 
--- a list, parted at its first glue: the items before it, and the list from it on, hyphenated
+-- a list, parted at its first glue: the items before it, and what is made of the list from it on
 pub record Parted : Type 0 where
   pub first : List Item
-  pub rest : List Item
+  pub rest : Made
 
 abbrev pub is_glue : Kind → Bool
 is_glue Characters = false
@@ -113,13 +137,13 @@ is_glue Other = false
 abbrev pub with_item : Ways → Item → Parted → Parted
 with_item w item parted =
     if is_glue (kind item)
-    then record { first = []; rest = item ∷ stretch_hyphenated w parted.first ++ parted.rest }
+    then record { first = []; rest = joined (kept (item ∷ [])) (joined (stretch_hyphenated w parted.first) parted.rest) }
     else record { first = item ∷ parted.first; rest = parted.rest }
 
 unfoldable pub parted_at_glue : Ways → List Item → Parted
-parted_at_glue w [] = record { first = []; rest = [] }
+parted_at_glue w [] = record { first = []; rest = kept [] }
 parted_at_glue w (item ∷ items) = with_item w item (parted_at_glue w items)
 
 -- no word stands before the first glue
-abbrev pub hyphenated : Ways → List Item → List Item
-hyphenated w items = (parted_at_glue w items).first ++ (parted_at_glue w items).rest
+abbrev pub hyphenated : Ways → List Item → Made
+hyphenated w items = joined (kept (parted_at_glue w items).first) (parted_at_glue w items).rest

@@ -5,31 +5,33 @@ ghost use Rattle.tx_hyphenate.specs.Hyphenated as spec;
 
 use crate::find::{codes_between, font_at, run_before, run_behind, word_start};
 use crate::kind::{Kind, kind_of};
+use crate::made::{Made, keep};
 use crate::params::HyphenParams;
 use crate::places::{moved, word_places};
 use crate::run::{append_run, are_there};
 use std::alloc::{AllocError, Global};
 use std::mem::replace;
+use tx_bytes::Bytes;
 use tx_hyphen::hyphens::Hyphens;
 use tx_node::Nodes;
 use tx_tfm::Fonts;
 
-/// Puts items with a word before which so many stand at the end of a list: its run is composed anew with the places, if there are
+/// Puts items with a word before which so many stand behind what is made: its run is composed anew with the places, if there are
 /// any. Its only error is want of memory.
 fn append_with_word(
     alloc: Global,
-    list: &mut Nodes,
+    made: &mut Made,
     fonts: &Fonts,
     font: u8,
     word: usize,
     places: &[usize],
-    mut items: Nodes,
+    items: Nodes,
 ) -> Result<(), AllocError>
     requires { word ≤ length items }
-    ensures { OnOk result (list.new ≡ list.old ++ spec.with_word fonts.now font word places.now items) }
+    ensures { OnOk result (made.new ≡ spec.joined made.old (spec.with_word fonts.now font word places.now items)) }
 {
     if places.is_empty() {
-        return list.append(&mut items);
+        return keep(made, items);
     }
     let nodes = items.as_slice();
     let start = word - run_before(font, &nodes[..word]);
@@ -38,11 +40,11 @@ fn append_with_word(
     let before = codes_between(alloc, nodes, start, word)?;
     let places = moved(alloc, before.len(), codes.len(), places)?;
     if !are_there(fonts, font, codes.as_slice()) {
-        return list.append(&mut items);
+        return keep(made, items);
     }
     append_run(
         alloc,
-        list,
+        made,
         fonts,
         font,
         start,
@@ -53,44 +55,44 @@ fn append_with_word(
     )
 }
 
-/// Puts items that stand behind glue at the end of a list, with their word hyphenated. Its only error is want of
-/// memory.
+/// Puts items that stand behind glue behind what is made, with their word hyphenated. Its only error is want of memory.
 fn append_stretch(
     alloc: Global,
-    list: &mut Nodes,
+    made: &mut Made,
     fonts: &Fonts,
     hyphens: &Hyphens,
     lower: &[u8],
     params: HyphenParams,
-    mut items: Nodes,
+    items: Nodes,
 ) -> Result<(), AllocError>
     requires { length lower.now ≡ 256 }
-    ensures { OnOk result (list.new ≡ list.old ++ spec.stretch_hyphenated (spec.ways fonts.now hyphens.now lower.now params) items) }
+    ensures { OnOk result (made.new ≡ spec.joined made.old (spec.stretch_hyphenated (spec.ways fonts.now hyphens.now lower.now params) items)) }
 {
     let nodes = items.as_slice();
     let Some(word) = word_start(lower, params.uc_hyph, nodes) else {
-        return list.append(&mut items);
+        return keep(made, items);
     };
     let font = font_at(nodes, word);
     let places = word_places(alloc, fonts, hyphens, lower, params, font, &nodes[word..])?;
-    append_with_word(alloc, list, fonts, font, word, places.as_slice(), items)
+    append_with_word(alloc, made, fonts, font, word, places.as_slice(), items)
 }
 
-/// A list with its words hyphenated (TeX: The Program, sections 891 to 903). Behind each glue a word is looked for; the run of
-/// characters, ligatures and kerns of its font in which it stands is composed anew, with a discretionary at each place where the
-/// patterns and exceptions permit one; `lower` holds the 256 \lccodes. The list has no mathematics. Its only error is want of memory.
-pub fn hyphenated(
+/// What is made of a list whose words are hyphenated. Its only error is want of memory.
+fn made_of(
     alloc: Global,
     list: Nodes,
     fonts: &Fonts,
     hyphens: &Hyphens,
     lower: &[u8],
     params: HyphenParams,
-) -> Result<Nodes, AllocError>
+) -> Result<Made, AllocError>
     requires { length lower.now ≡ 256 }
     ensures { IfOk result (λ made. made ≡ spec.hyphenated (spec.ways fonts.now hyphens.now lower.now params) list) }
 {
-    let mut done = Nodes::new(alloc);
+    let mut made = Made {
+        items: Nodes::new(alloc),
+        report: Bytes::new(alloc),
+    };
     let mut items = Nodes::new(alloc);
     let mut behind_glue = false;
     for node in list.into_vec() {
@@ -98,7 +100,7 @@ pub fn hyphenated(
             let stretch = replace(&mut items, Nodes::new(alloc));
             finish(
                 alloc,
-                &mut done,
+                &mut made,
                 fonts,
                 hyphens,
                 lower,
@@ -106,7 +108,7 @@ pub fn hyphenated(
                 behind_glue,
                 stretch,
             )?;
-            done.push(node)?;
+            made.items.push(node)?;
             behind_glue = true;
         } else {
             items.push(node)?;
@@ -114,7 +116,7 @@ pub fn hyphenated(
     }
     finish(
         alloc,
-        &mut done,
+        &mut made,
         fonts,
         hyphens,
         lower,
@@ -122,27 +124,52 @@ pub fn hyphenated(
         behind_glue,
         items,
     )?;
-    Ok(done)
+    Ok(made)
 }
 
-/// Puts items between two places of glue, or the ends of a list, at the end of a list: where glue stands before them, their word is
+/// A list with its words hyphenated (TeX: The Program, sections 891 to 903). Behind each glue a word is looked for; the run of
+/// characters, ligatures and kerns of its font in which it stands is composed anew, with a discretionary at each place where the
+/// patterns and exceptions permit one; `lower` holds the 256 \lccodes. A line for each of these whose hyphen the font lacks is put at
+/// the end of `report` (section 915). The list has no mathematics. Its only error is want of memory.
+pub fn hyphenated(
+    alloc: Global,
+    list: Nodes,
+    fonts: &Fonts,
+    hyphens: &Hyphens,
+    lower: &[u8],
+    params: HyphenParams,
+    report: &mut Bytes,
+) -> Result<Nodes, AllocError>
+    requires { length lower.now ≡ 256 }
+    ensures list { IfOk result (λ made. made ≡ (spec.hyphenated (spec.ways fonts.now hyphens.now lower.now params) list).items) }
+    ensures report { OnOk result (report.new ≡ report.old ++ (spec.hyphenated (spec.ways fonts.now hyphens.now lower.now params) list).report) }
+{
+    let Made {
+        items,
+        report: told,
+    } = made_of(alloc, list, fonts, hyphens, lower, params)?;
+    report.append(told.as_slice())?;
+    Ok(items)
+}
+
+/// Puts items between two places of glue, or the ends of a list, behind what is made: where glue stands before them, their word is
 /// hyphenated. Its only error is want of memory.
 fn finish(
     alloc: Global,
-    list: &mut Nodes,
+    made: &mut Made,
     fonts: &Fonts,
     hyphens: &Hyphens,
     lower: &[u8],
     params: HyphenParams,
     behind_glue: bool,
-    mut items: Nodes,
+    items: Nodes,
 ) -> Result<(), AllocError>
     requires { length lower.now ≡ 256 }
-    ensures { OnOk result (list.new ≡ list.old ++ spec.finished (spec.ways fonts.now hyphens.now lower.now params) behind_glue items) }
+    ensures { OnOk result (made.new ≡ spec.joined made.old (spec.finished (spec.ways fonts.now hyphens.now lower.now params) behind_glue items)) }
 {
     if behind_glue {
-        append_stretch(alloc, list, fonts, hyphens, lower, params, items)
+        append_stretch(alloc, made, fonts, hyphens, lower, params, items)
     } else {
-        list.append(&mut items)
+        keep(made, items)
     }
 }

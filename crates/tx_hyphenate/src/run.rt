@@ -1,11 +1,13 @@
 //! The run that a word stands in, composed anew.
-ghost use Rattle.std.specs.Prelude.{◌≡◌, ◌++◌, ◌≤◌, true, length, drop, take, IsTrue, OnOk};
+ghost use Rattle.std.specs.Prelude.{◌≡◌, ◌++◌, ◌≤◌, true, length, IsTrue, OnOk};
 ghost use Rattle.std.specs.List.{All};
-ghost use Rattle.tx_tfm.specs.Fonts.{font_integer, has_character};
-ghost use Rattle.tx_word.specs.Divisions.{IsPlaced, divided_list};
+ghost use Rattle.tx_tfm.specs.Fonts.{has_character};
+ghost use Rattle.tx_word.specs.Divisions.{IsPlaced};
 ghost use Rattle.tx_node.specs.Nodes.{list_of};
 ghost use Rattle.tx_hyphenate.specs.Hyphenated as spec;
 
+use crate::lacking::{hyphen_lacking, report_divisions};
+use crate::made::Made;
 use std::alloc::{AllocError, Global};
 use tx_node::{Node, Nodes};
 use tx_prim::FontNumber;
@@ -35,11 +37,33 @@ fn append_nodes(list: &mut Nodes, nodes: Vec<Node>) -> Result<(), AllocError>
     Ok(())
 }
 
-/// Puts items, of which those from `start` to `end` are a run of these characters, at the end of a list, the run composed anew with
+/// Puts a run of these characters behind what is made, composed anew with places. Its only error is want of memory.
+fn append_made(
+    alloc: Global,
+    made: &mut Made,
+    fonts: &Fonts,
+    font: u8,
+    codes: &[u8],
+    places: &[usize],
+) -> Result<(), AllocError>
+    requires { IsPlaced fonts.now font codes.now places.now }
+    ensures { OnOk result (made.new ≡ spec.joined made.old (spec.run_made fonts.now font codes.now places.now)) }
+{
+    let hyphen = i64::from(fonts.integer(FontNumber::Hyphen, font));
+    let mut run = Nodes::new(alloc);
+    append_divided(
+        alloc, &mut run, fonts, font, codes, true, true, places, hyphen,
+    )?;
+    let lacking = hyphen_lacking(fonts, font);
+    report_divisions(&mut made.report, fonts, font, lacking, run.as_slice())?;
+    made.items.append(&mut run)
+}
+
+/// Puts items, of which those from `start` to `end` are a run of these characters, behind what is made, the run composed anew with
 /// places. Its only error is want of memory.
 pub(crate) fn append_run(
     alloc: Global,
-    list: &mut Nodes,
+    made: &mut Made,
     fonts: &Fonts,
     font: u8,
     start: usize,
@@ -51,13 +75,12 @@ pub(crate) fn append_run(
     requires order { start ≤ end }
     requires within { end ≤ length items }
     requires placed { IsPlaced fonts.now font codes.now places.now }
-    ensures { OnOk result (list.new ≡ list.old ++ (take start items ++ divided_list fonts.now font codes.now true true places.now (font_integer FontNumber.Hyphen fonts.now font) ++ drop end items)) }
+    ensures { OnOk result (made.new ≡ spec.joined made.old (spec.put_between start end items (spec.run_made fonts.now font codes.now places.now))) }
 {
     let mut nodes = items.into_vec();
     let behind = nodes.split_off(end)?;
     nodes.truncate(start);
-    append_nodes(list, nodes)?;
-    let hyphen = i64::from(fonts.integer(FontNumber::Hyphen, font));
-    append_divided(alloc, list, fonts, font, codes, true, true, places, hyphen)?;
-    append_nodes(list, behind)
+    append_nodes(&mut made.items, nodes)?;
+    append_made(alloc, made, fonts, font, codes, places)?;
+    append_nodes(&mut made.items, behind)
 }

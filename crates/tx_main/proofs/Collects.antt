@@ -1,5 +1,6 @@
 -- What comes of a character of a horizontal list.
 use Rattle.std.proofs.Common.{◌≡◌, ◌++◌, ℕ, Bool, true, false, List, [], Option, None, Some, refl, ap, ◌∙◌, if◌then◌else◌}
+use Rattle.tx_hyphenate.specs.Lacking.{missing}
 use Rattle.tx_machine.specs.declared.types.Event.TheVariants.{Went}
 use Rattle.tx_tfm.specs.declared.state.FontState.{FontState}
 use Rattle.tx_tfm.specs.Fonts.{font_name, has_character}
@@ -9,7 +10,7 @@ use Rattle.tx_state.specs.declared.parts.Phase.TheVariants.{Running}
 use Rattle.tx_state.specs.declared.state.State.{State}
 use Rattle.tx_state.specs.Meanings.{IsStepped, state_of}
 use Rattle.tx_state.specs.State.{TexState, Runs}
-use Rattle.tx_main.specs.Words.{collecting, current_font, gathered, in_paragraph, missing, report_of, space_code, with_list_factor}
+use Rattle.tx_main.specs.Words.{collecting, current_font, gathered, in_paragraph, report_of, space_code, with_list_factor}
 
 -- what comes of a character, by whether the font has it
 abbrev collected_by : Bool → Collecting → Bool → ℕ → ℕ → Collected

@@ -1,5 +1,5 @@
 -- Characters, words, spaces and italic corrections in a list (TeX: The Program, sections 1030 to 1045, 1113 and 1243).
-use Rattle.std.specs.Prelude.{ℕ, ℤ, Bool, true, false, ◌||◌, ◌++◌, List, [], ◌∷◌, Option, Some, None, unwrap_or, codes, decimal, if◌then◌else◌}
+use Rattle.std.specs.Prelude.{ℕ, ℤ, Bool, true, false, ◌||◌, List, [], ◌∷◌, Option, Some, None, unwrap_or, if◌then◌else◌}
 use Rattle.tx_nest.specs.Changed.{with_factor}
 use Rattle.tx_nest.specs.declared.state.ModeState.{ModeState}
 use Rattle.tx_nest.specs.declared.state.ModeState.TheVariants.{Vertical, InternalVertical, Horizontal, RestrictedHorizontal, Math, DisplayMath}
@@ -18,6 +18,7 @@ use Rattle.tx_seen.specs.declared.seen.Seen.{Seen}
 use Rattle.tx_seen.specs.Seen.{continues_word}
 use Rattle.tx_eqtb.specs.declared.table.Table.{Table}
 use Rattle.tx_eqtb.specs.Table.{glue_at, number_at}
+use Rattle.tx_hyphenate.specs.Lacking.{lacking_report, missing}
 use Rattle.tx_tfm.specs.Fonts.{font_name}
 use Rattle.tx_word.specs.declared.piece.WordParams.{WordParams}
 use Rattle.tx_word.specs.Collecting.{Collected, collected, ended, without_word}
@@ -80,9 +81,6 @@ abbrev pub with_list_factor : TexState → ℕ → TexState
 with_list_factor s factor = record s { lists = factored s.lists factor }
 
 -- what the transcript gets of a character that its font lacks
-unfoldable pub missing : ℕ → List ℕ → List ℕ
-missing code name = codes "missing character " ++ (decimal code ++ (codes " in " ++ (name ++ 10 ∷ [])))
-
 abbrev pub report_of : TexState → ℕ → Option ℕ → List ℕ
 report_of s code None = []
 report_of s code (Some font) = missing code (font_name s.words.fonts font)
@@ -133,12 +131,8 @@ correcting s (Some factor) = kerning s (last_italic s.words.fonts s.lists.nest.i
 
 -- `\-' in a horizontal list: a word may be broken there, behind the font's hyphen character, of which is told where the font lacks it
 -- (section 1117)
-abbrev pub lacking_report : TexState → ℕ → Option ℕ → List ℕ
-lacking_report s font None = []
-lacking_report s font (Some code) = missing code (font_name s.words.fonts font)
-
 abbrev pub breaking_in : TexState → ℕ → Outcome
-breaking_in s font = Leaves (with_more s (hyphen_item s.words.fonts font ∷ [])) (lacking_report s font (hyphen_lacking s.words.fonts font))
+breaking_in s font = Leaves (with_more s (hyphen_item s.words.fonts font ∷ [])) (lacking_report s.words.fonts font (hyphen_lacking s.words.fonts font))
 
 abbrev pub breaking : TexState → Option ℕ → Outcome
 breaking s None = leaves s

@@ -2,6 +2,7 @@
 ghost use Rattle.std.specs.Prelude.{◌≡◌, ◌≤◌, ◌++◌, Some, IfOk, OnOk};
 ghost use Rattle.tx_command.specs.declared.types.Command.{Command};
 ghost use Rattle.tx_state.specs.declared.parts.Phase.{Phase};
+ghost use Rattle.tx_hyphenate.specs.Lacking.{lacking_report};
 ghost use Rattle.tx_main.specs.Effects as effects;
 ghost use Rattle.tx_main.specs.Words as spec;
 ghost use Rattle.tx_nest.specs.Factors.{factor_of};
@@ -12,10 +13,9 @@ ghost use Rattle.tx_state.specs.Meanings.{IsStepped, state_of};
 
 use crate::boxes::add;
 use crate::effects::{end_assignment, fail};
-use itoa::Buffer;
 use std::alloc::{AllocError, Global};
-use tx_bytes::Bytes;
 use tx_eqtb::Eqtb;
+use tx_hyphenate::{report_lacking, report_missing};
 use tx_machine::Event;
 use tx_nest::{ModeState, SpaceFactor, append_item, set_space_factor};
 use tx_node::{KernKind, Node, Plain};
@@ -99,19 +99,6 @@ pub fn settle_word(alloc: Global, s: &mut State, seen: &Seen) -> Result<(), Allo
         return Ok(());
     }
     end_word(alloc, s)
-}
-
-/// Reports a character that a font of this name lacks. Its only error is want of memory.
-fn report_missing(said: &mut Bytes, code: u8, name: &[u8]) -> Result<(), AllocError>
-    ensures { OnOk result (said.new ≡ said.old ++ spec.missing code name.now) }
-{
-    let mut digits = Buffer::new();
-    said.append(b"missing character ")?;
-    said.append(digits.format(code).as_bytes())?;
-    said.append(b" in ")?;
-    said.append(name)?;
-    said.append(b"\n")?;
-    Ok(())
 }
 
 /// The space factor is that behind a character.
@@ -240,12 +227,9 @@ pub fn correct_italic(s: &mut State) -> Result<Event, AllocError>
 
 /// Reports the hyphen character that a font lacks, if it does. Its only error is want of memory.
 fn report_hyphen(s: &mut State, font: u8, lacking: Option<u8>) -> Result<(), AllocError>
-    ensures { OnOk result (s.new ≡ record s.old { said = s.old.said ++ spec.lacking_report (state_of s.old) font lacking }) }
+    ensures { OnOk result (s.new ≡ record s.old { said = s.old.said ++ lacking_report (state_of s.old).words.fonts font lacking }) }
 {
-    match lacking {
-        Some(code) => report_missing(&mut s.said, code, s.words.fonts().name(font)),
-        None => Ok(()),
-    }
+    report_lacking(&mut s.said, s.words.fonts(), font, lacking)
 }
 
 /// A place in the list where a word may be broken.

@@ -1,5 +1,5 @@
 -- How a paragraph ends (TeX: The Program, sections 815, 863, 1070, 1094 and 1096).
-use Rattle.std.specs.Prelude.{ℕ, ℤ, pos, true, List, [], ◌∷◌, length, Option, Some, None, unwrap_or, Result, Ok, Err, if◌then◌else◌}
+use Rattle.std.specs.Prelude.{ℕ, ℤ, pos, true, List, [], ◌∷◌, ◌++◌, length, Option, Some, None, unwrap_or, Result, Ok, Err, if◌then◌else◌}
 use Rattle.tx_eqtb.specs.declared.eqtb.Eqtb.{Eqtb}
 use Rattle.tx_eqtb.specs.declared.table.Table.{Table}
 use Rattle.tx_eqtb.specs.Table.{number_at}
@@ -15,6 +15,7 @@ use Rattle.tx_par.specs.declared.error.ParError.{ParError}
 use Rattle.tx_par.specs.declared.error.ParError.TheVariants as par
 use Rattle.tx_par.specs.declared.lines.Lines.{Lines as Set}
 use Rattle.tx_hyphenate.specs.declared.known.Hyphenation.{Hyphenation}
+use Rattle.tx_hyphenate.specs.declared.made.Made.{Made}
 use Rattle.tx_hyphenate.specs.Hyphenated.{hyphenated}
 use Rattle.tx_par.specs.Paragraphs.{first_lines, paragraph}
 use Rattle.tx_prim.specs.declared.dimension.DimensionParameter.TheVariants.{Overfullrule}
@@ -44,6 +45,15 @@ first_of table depth passed list = first_lines list (shape_of table passed list)
 unfoldable pub later_of : Table → ℤ → ℕ → List Item → Result Set ParError
 later_of table depth passed list = paragraph list (shape_of table passed list) (later_params (params_of table depth))
 
+-- what is told of hyphens that their fonts lack stands before what is told of the lines
+abbrev pub told_first : List ℕ → Result Set ParError → Result Set ParError
+told_first report (Err error) = Err error
+told_first report (Ok set) = Ok (record set { report = report ++ set.report })
+
+-- the lines of what hyphenation made of a list
+abbrev pub lines_made : Table → ℤ → ℕ → Made → Result Set ParError
+lines_made table depth passed made = told_first made.report (later_of table depth passed made.items)
+
 abbrev pub lines_after : Option (Result Set ParError) → Result Set ParError → Result Set ParError
 lines_after None later = later
 lines_after (Some outcome) later = outcome
@@ -51,7 +61,7 @@ lines_after (Some outcome) later = outcome
 -- the lines of a list
 abbrev pub lines_of : Hyphenating → Table → ℤ → ℕ → List Item → Result Set ParError
 lines_of h table depth passed list =
-    lines_after (first_of table depth passed list) (later_of table depth passed (hyphenated (ways_of h table) list))
+    lines_after (first_of table depth passed list) (lines_made table depth passed (hyphenated (ways_of h table) list))
 
 -- \overfullrule is a dimension, whatever is assigned
 abbrev pub lines_if : Hyphenating → Table → ℤ → ℕ → List Item → Result Set ParError
@@ -69,7 +79,7 @@ abbrev pub with_lines : Lists → List Item → ℤ → ℕ → ℤ → Lists
 with_lines lists nodes depth graf badness =
     record (with_list lists (with_graf (with_depth (with_items lists.nest.innermost nodes) depth) graf)) { badness = badness }
 
--- what a paragraph's end leaves, and what the transcript gets of its lines
+-- what a paragraph's end leaves, and what the transcript gets of its hyphens and lines
 pub record Left : Type 0 where
   pub lists : Lists
   pub table : Eqtb

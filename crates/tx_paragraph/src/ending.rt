@@ -1,5 +1,5 @@
 //! How a paragraph ends.
-ghost use Rattle.std.specs.Prelude.{◌≡◌, ◌≢◌, [], None, Some, Ok, Err, IfOk, IfErr, IfNone, IfSome, OnOk};
+ghost use Rattle.std.specs.Prelude.{◌≡◌, ◌≢◌, ◌++◌, [], None, Some, Ok, Err, IfOk, IfErr, IfNone, IfSome, OnOk};
 ghost use Rattle.tx_box.specs.Building.{across, plain_shape};
 ghost use Rattle.tx_num.specs.Glue.{IsDimension};
 ghost use Rattle.tx_par.specs.declared.error.ParError.TheVariants.{OutOfMemory};
@@ -61,15 +61,17 @@ fn lines_later(
     )
 }
 
-/// A list with its words hyphenated. Its only error is want of memory.
+/// A list with its words hyphenated; `report` gets a line for each hyphen that its font lacks. Its only error is want of memory.
 fn hyphenate(
     alloc: Global,
     fonts: &Fonts,
     known: &Hyphenation,
     table: &Eqtb,
     list: Nodes,
+    report: &mut Bytes,
 ) -> Result<Nodes, AllocError>
-    ensures { IfOk result (λ made. made ≡ hyphenated_list (ways_of (record { fonts = fonts.now; known = known.now }) table.now.table) list) }
+    ensures list { IfOk result (λ made. made ≡ (hyphenated_list (ways_of (record { fonts = fonts.now; known = known.now }) table.now.table) list).items) }
+    ensures report { OnOk result (report.new ≡ report.old ++ (hyphenated_list (ways_of (record { fonts = fonts.now; known = known.now }) table.now.table) list).report) }
 {
     let lower = lower_codes(alloc, table)?;
     hyphenated(
@@ -79,7 +81,34 @@ fn hyphenate(
         &known.hyphens,
         lower.as_slice(),
         hyphen_params(table),
+        report,
     )
+}
+
+/// Lines of which this is told before what is told of them already. Its only error is want of memory.
+fn tell_first(mut report: Bytes, mut set: Lines) -> Result<Lines, AllocError>
+    ensures { IfOk result (λ told. told ≡ record set { report = report ++ set.report }) }
+{
+    report.append(set.report.as_slice())?;
+    set.report = report;
+    Ok(set)
+}
+
+/// What the others make of a list whose words are hyphenated, where this was told of the hyphens.
+fn lines_told(
+    alloc: Global,
+    table: &Eqtb,
+    prev_depth: i32,
+    passed: u32,
+    list: Nodes,
+    report: Bytes,
+) -> Result<Lines, ParError>
+    requires rule { IsDimension (across table.now.table).overfull_rule }
+    ensures lines { IfOk result (λ set. spec.told_first report (spec.later_of table.now.table prev_depth passed list) ≡ Ok set) }
+    ensures error { IfErr result (λ e. e ≢ OutOfMemory → spec.told_first report (spec.later_of table.now.table prev_depth passed list) ≡ Err e) }
+{
+    let set = lines_later(alloc, table, prev_depth, passed, list)?;
+    Ok(tell_first(report, set)?)
 }
 
 /// The lines of a list: its words are hyphenated where the first pass makes none of it.
@@ -101,8 +130,9 @@ fn lines_of(
         return Ok(set);
     }
     known.used = true;
-    let list = hyphenate(alloc, fonts, known, table, list)?;
-    lines_later(alloc, table, prev_depth, passed, list)
+    let mut report = Bytes::new(alloc);
+    let list = hyphenate(alloc, fonts, known, table, list, &mut report)?;
+    lines_told(alloc, table, prev_depth, passed, list, report)
 }
 
 /// The same, where \overfullrule is a dimension.
@@ -255,7 +285,8 @@ fn leave(
 
 /// Ends the paragraph that is open, as at the end of a vertical box: its list is set as lines at the end of the list around, unless it
 /// is empty, and the next paragraph has the plain shape. Words are hyphenated where the first pass makes no lines of it, and `known`
-/// keeps that a second pass began. Where no paragraph is open, nothing happens. The answer is what the transcript gets of the lines.
+/// keeps that a second pass began. Where no paragraph is open, nothing happens. The answer is what the transcript gets: a line for each
+/// hyphen that was put in and that its font lacks, then what is told of the lines.
 /// Its errors are those of the lines, and want of memory, after which lists, table and `known` may only be dropped.
 pub fn close_paragraph(
     alloc: Global,

@@ -1,15 +1,11 @@
-use Rattle.std.proofs.Common.{◌≡◌, ◌≤◌, ◌+◌, ◌-◌, ◌++◌, ℕ, true, false, List, length, drop, take, rules, arith, ap, sym, ◌∙◌}
+use Rattle.std.proofs.Common.{◌≡◌, ◌≤◌, ◌+◌, ◌-◌, ℕ, true, false, List, length, drop, rules, arith, ap, sym, ◌∙◌}
 use Rattle.std.specs.Prelude.{◌==◌}
 use Rattle.std.specs.List.{prefix_len}
 use Rattle.std.proofs.lemmas.Result.{on_ok_weaker}
 use Rattle.tx_node.specs.declared.node.Node.{Node}
-use Rattle.tx_node.specs.Items.{Item}
 use Rattle.tx_node.specs.Nodes.{list_of}
-use Rattle.tx_prim.specs.declared.family.FontNumber.TheVariants.{Hyphen}
-use Rattle.tx_tfm.specs.Fonts.{font_integer}
-use Rattle.tx_word.specs.Divisions.{divided_list}
 use Rattle.tx_hyphenate.specs.Finding.{is_in_run}
-use Rattle.tx_hyphenate.specs.Hyphenated.{are_there, codes_between, placed, with_word}
+use Rattle.tx_hyphenate.specs.Hyphenated.{are_there, codes_between, joined, kept, placed, put_between, run_made, with_word}
 use Rattle.tx_hyphenate.proofs.Placing.{from-place}
 use Rattle.tx_hyphenate.proofs.Runs.{fewer}
 use Rattle.tx_hyphenate.proofs.Wording.{anew, not-anew, word-run}
@@ -33,10 +29,10 @@ returns-then-not-are_there c =
     let codes : c.as_slice.result.now ≡ codes_between start end c.args.items = c.as_slice.ensures ∙ c.in_ok-codes.ensures ∙ ap (codes_between start end) is in
     let fails : c.are_there.result ≡ false = search rules in
     let lacking : are_there c.args.fonts.now c.args.font (codes_between start end c.args.items) ≡ false = ap (are_there c.args.fonts.now c.args.font) (sym codes) ∙ sym c.are_there.ensures.value ∙ fails in
-    let same : c.args.items ≡ with_word c.args.fonts.now c.args.font c.args.word c.args.places.now c.args.items =
+    let same : kept c.args.items ≡ with_word c.args.fonts.now c.args.font c.args.word c.args.places.now c.args.items =
     sym (word-run c.args.fonts.now c.args.font c.args.word c.args.places.now c.args.items nodes c.run_before.result c.run_behind.result is c.run_before.ensures.value behind some
     ∙ not-anew c.args.fonts.now c.args.font c.args.word c.args.places.now c.args.items start end _ lacking) in
-    on_ok_weaker c.append-then-not-are_there.result (λ e. e.0 ∙ ap (λ (items : List Item). c.args.list.now ++ items) same) c.append-then-not-are_there.ensures.ok
+    on_ok_weaker c.keep-then-not-are_there.result (λ e. e ∙ ap (joined c.args.made.now) same) c.keep-then-not-are_there.ensures
 
 pub returns : goal.returns
 returns c =
@@ -55,7 +51,7 @@ returns c =
     let places : c.as_slice-3.result.now ≡ placed (length (codes_between start c.args.word c.args.items)) (length (codes_between start end c.args.items)) c.args.places.now =
     c.as_slice-3.ensures ∙ c.in_ok-places.ensures.value ∙ (λ i. placed (before i) (all i) c.args.places.now) in
     let same =
-    (λ i. (take start c.args.items ++ divided_list c.args.fonts.now c.args.font (codes i) true true (places i) (font_integer Hyphen c.args.fonts.now c.args.font)) ++ drop end c.args.items)
+    (λ i. put_between start end c.args.items (run_made c.args.fonts.now c.args.font (codes i) (places i)))
     ∙ sym (word-run c.args.fonts.now c.args.font c.args.word c.args.places.now c.args.items nodes c.run_before.result c.run_behind.result is c.run_before.ensures.value behind some
     ∙ anew c.args.fonts.now c.args.font c.args.word c.args.places.now c.args.items start end _ there) in
-    on_ok_weaker c.append_run.result (λ e. e ∙ ap (λ (items : List Item). c.args.list.now ++ items) same) c.append_run.ensures
+    on_ok_weaker c.append_run.result (λ e. e ∙ ap (joined c.args.made.now) same) c.append_run.ensures
