@@ -1,1 +1,2 @@
 mod SameDate
+mod Spaces

@@ -24,7 +24,7 @@ ship-leads s text first = choice-leads (nat_le (length text) 200000) _ _ refl re
 
 read-leads : (s : Meaning) (text : List ℕ) → Leads (reads s text)
 read-leads s [] = refl
-read-leads s (first ∷ rest) = choice-leads (is_lone 46 first rest) _ _ refl (choice-leads (is_lone 41 first rest) _ _ refl (choice-leads (first == 40) _ _ refl (ship-leads s (first ∷ rest) first)))
+read-leads s (first ∷ rest) = choice-leads (first == 32) _ _ refl (choice-leads (is_lone 46 first rest) _ _ refl (choice-leads (is_lone 41 first rest) _ _ refl (choice-leads (first == 40) _ _ refl (ship-leads s (first ∷ rest) first))))
 
 step-leads : (s : Meaning) (phase : Phase) → Leads (steps s phase)
 step-leads s (Begins name) = refl

@@ -1,5 +1,5 @@
 -- The machine of which each line is a page, but for those that lead to other files and back.
-use Rattle.std.specs.Prelude.{◌≡◌, ℕ, ◌-◌, ◌==◌, Bool, false, pos, List, [], ◌∷◌, ◌++◌, length, take, slice_get, replicate, nat_le, Option, Some, None, if◌then◌else◌}
+use Rattle.std.specs.Prelude.{◌≡◌, ℕ, zero, suc, ◌-◌, ◌==◌, Bool, false, pos, List, [], ◌∷◌, ◌++◌, length, take, drop, slice_get, replicate, nat_le, Option, Some, None, if◌then◌else◌}
 use Rattle.tx_dvi.specs.declared.page.DateParameters.{DateParameters}
 use Rattle.tx_dvi.specs.Page.{Page}
 use Rattle.tx_files.specs.Lines.{is_line_feed}
@@ -9,7 +9,7 @@ use Rattle.tx_machine.specs.declared.types.Ask.TheVariants.{Open, Line as AskLin
 use Rattle.tx_machine.specs.declared.types.Reply.{Reply}
 use Rattle.tx_machine.specs.declared.types.Reply.TheVariants.{Found, Absent, Line, Ended, Whole, Closed}
 use Rattle.tx_machine.specs.declared.types.Event.{Event}
-use Rattle.tx_machine.specs.declared.types.Event.TheVariants.{Asks, Shipped, Stopped}
+use Rattle.tx_machine.specs.declared.types.Event.TheVariants.{Went, Asks, Shipped, Stopped}
 use Rattle.tx_machine.specs.declared.types.Stop.{Stop}
 use Rattle.tx_machine.specs.declared.types.Stop.TheVariants.{End, Error}
 use Rattle.tx_machine.specs.Machine.{Formatter, Stepped, kind_of}
@@ -58,6 +58,10 @@ stops s stop = record { event = Stopped stop; next = record s { phase = Halted }
 abbrev pub fails : Meaning → LineError → Stepped Meaning
 fails s error = stops s (Error (number_of error))
 
+-- a space at the beginning of what is left of a line is passed over
+abbrev pub passes : Meaning → List ℕ → Stepped Meaning
+passes s rest = record { event = Went; next = record s { phase = Reads rest }; said = [] }
+
 -- a line that has bytes is a page, and its first byte is said
 abbrev pub ships : Meaning → List ℕ → ℕ → Stepped Meaning
 ships s text first =
@@ -70,12 +74,13 @@ abbrev pub is_lone : ℕ → ℕ → List ℕ → Bool
 is_lone character first [] = first == character
 is_lone character first (second ∷ rest) = false
 
--- what comes of a line: nothing; the end; by `)` the file around this one is read on; by `(` and a name that file is read; or a
--- page
+-- what comes of a line: nothing; by a space what is behind it; the end; by `)` the file around this one is read on; by `(` and a
+-- name that file is read; or a page
 abbrev pub reads : Meaning → List ℕ → Stepped Meaning
 reads s [] = asks s AskLine
 reads s (first ∷ rest) =
-    if is_lone 46 first rest then stops s End
+    if first == 32 then passes s rest
+    else if is_lone 46 first rest then stops s End
     else if is_lone 41 first rest then asks s Close
     else if first == 40 then asks s (Open rest)
     else ships s (first ∷ rest) first
@@ -110,6 +115,11 @@ line_machine = record {
   mode = λ s. mode_of s.phase;
   same = same_by meaning_code;
 }
+
+-- a text begins with so many spaces
+abbrev pub HasSpaces : List ℕ → ℕ → Type 0
+HasSpaces text zero = Unit {0}
+HasSpaces text (suc more) = HasSpaces text more × (drop more text ≡ 32 ∷ drop (suc more) text)
 
 -- an event, the state after it and the transcript that waits are those of this turn
 pub record IsStepped (t : Stepped Meaning) (event : Event) (state : Meaning) (before after : List ℕ) : Type 0 where

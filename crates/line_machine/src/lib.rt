@@ -1,5 +1,6 @@
 //! The smallest machine behind the seam: each line is a page, but for `(NAME`, which leads to the file of that name, `)`, which
-//! leads back, and a full stop, which ends the run. It shows that the seam isn't TeX's own.
+//! leads back, and a full stop, which ends the run; spaces at a line's beginning are passed over, at one go. It shows that the seam
+//! isn't TeX's own.
 //!
 //! Proved: it meets the trait `Machine`, as TeX does. Only tested: its fresh runs and its sessions, worked out by hand.
 //!

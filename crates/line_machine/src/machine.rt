@@ -5,15 +5,16 @@ ghost use Rattle.line_machine.specs.Turns.{line_machine};
 ghost use Rattle.line_machine.specs.Lawful.{line-machine-lawful};
 
 use crate::state::{Phase, State};
-use crate::turn::{self, date_parameters, hear};
+use crate::turn::{self, date_parameters, hear, pass_spaces};
 use std::alloc::{AllocError, Global};
 use std::mem;
 use tx_bytes::Bytes;
 use tx_files::Name;
 use tx_machine::{Date, Event, Machine, Reply, Steps};
 
-/// The machine of which each line is a page. It asks for the main file to be opened and for its lines; a line that has
-/// bytes before its LF is a page with these as its body, and its first byte is said; a line `.` ends the run.
+/// The machine of which each line is a page. It asks for the main file to be opened and for its lines; spaces at a line's
+/// beginning are passed over, a turn each; a line that has bytes behind them and before its LF is a page with these as its body,
+/// and its first byte is said; a line `.` ends the run.
 #[derive(Clone, Copy)]
 pub struct LineMachine;
 
@@ -48,6 +49,16 @@ impl Machine for LineMachine {
     fn turn(&self, alloc: Global, s: &mut State, steps: &mut Steps) -> Result<Event, AllocError> {
         steps.tick();
         turn::turn(alloc, s)
+    }
+
+    fn run_on(
+        &self,
+        alloc: Global,
+        s: &mut State,
+        most: u64,
+        steps: &mut Steps,
+    ) -> Result<u64, AllocError> {
+        pass_spaces(alloc, s, most, steps)
     }
 
     #[tactic(auto, unfolding(crate::specs::Turns::line_machine))]

@@ -1,11 +1,13 @@
-//! One turn: an ask, a page or the end.
-ghost use Rattle.std.specs.Prelude.{◌≡◌, ◌++◌, ◌∷◌, [], IfOk, OnOk};
+//! One turn: a space that is passed over, an ask, a page or the end.
+ghost use Rattle.std.specs.Prelude.{◌≡◌, ◌≤◌, ◌++◌, ◌∷◌, [], length, IfOk, OnOk, OnErr};
 ghost use Rattle.tx_machine.specs.Machine.{kind_of, Ready};
+ghost use Rattle.tx_machine.specs.Plain.{ArePlain, HasPassed};
 ghost use Rattle.tx_machine.specs.Ranges.{IsDate};
+ghost use Rattle.tx_machine.specs.Steps.{raised};
 ghost use Rattle.tx_machine.specs.declared.types.Ask.TheVariants.{Open};
 ghost use Rattle.line_machine.specs.State.{meaning_of, mode_of};
 ghost use Rattle.line_machine.specs.Turns as turns;
-ghost use Rattle.line_machine.specs.Turns.{IsStepped};
+ghost use Rattle.line_machine.specs.Turns.{line_machine, HasSpaces, IsStepped};
 
 use crate::error::LineError;
 use crate::state::{Phase, State};
@@ -14,7 +16,7 @@ use std::mem;
 use tx_bytes::Bytes;
 use tx_dvi::{DateParameters, PageBody, PageParts};
 use tx_list::Items;
-use tx_machine::{Ask, AskKind, Date, Event, Reply, Stop};
+use tx_machine::{Ask, AskKind, Date, Event, Reply, Steps, Stop};
 
 /// The most bytes that the body of a page may have.
 const MAX_BODY: usize = 200000;
@@ -89,12 +91,21 @@ fn open(alloc: Global, s: &mut State, name: &[u8]) -> Result<Event, AllocError>
     Ok(ask(s, AskKind::Open, Ask::Open(name)))
 }
 
+/// Passes over a space, behind which this is left of the line.
+fn pass(alloc: Global, s: &mut State, rest: &[u8]) -> Result<Event, AllocError>
+    ensures { IfOk result (λ event. IsStepped (turns.passes (meaning_of s.old) rest.now) event (meaning_of s.new) s.old.said s.new.said) }
+{
+    s.phase = Phase::Reads(Bytes::from_slice(alloc, rest)?);
+    Ok(Event::Went)
+}
+
 /// What comes of a line.
 fn read(alloc: Global, s: &mut State, text: Bytes) -> Result<Event, AllocError>
     ensures { IfOk result (λ event. IsStepped (turns.reads (meaning_of s.old) text) event (meaning_of s.new) s.old.said s.new.said) }
 {
     match text.as_slice() {
         [] => Ok(ask(s, AskKind::Line, Ask::Line)),
+        [b' ', rest @ ..] => pass(alloc, s, rest),
         [b'.'] => Ok(stop(s, Stop::End)),
         [b')'] => Ok(ask(s, AskKind::Close, Ask::Close)),
         [b'(', name @ ..] => open(alloc, s, name),
@@ -116,6 +127,49 @@ pub fn turn(alloc: Global, s: &mut State) -> Result<Event, AllocError>
         Phase::Fails(error) => Ok(stop(s, Stop::Error(error.number()))),
         Phase::Waits(_) | Phase::Halted => unreachable!(),
     }
+}
+
+/// How many spaces a text begins with, at most so many; each is a turn, and is counted.
+fn count_spaces(text: &[u8], most: u64, steps: &mut Steps) -> u64
+    ensures most { result ≤ most }
+    ensures within { result ≤ length text.now }
+    ensures spaces { HasSpaces text.now result }
+    ensures steps { steps.new ≡ raised steps.old result }
+{
+    let mut count = 0;
+    for byte in text {
+        if count == most || *byte != b' ' {
+            return count;
+        }
+        steps.tick();
+        count += 1;
+    }
+    count
+}
+
+/// Passes over the spaces that the line begins with, at one go, at most so many. Its only error is want of memory.
+pub fn pass_spaces(
+    alloc: Global,
+    s: &mut State,
+    most: u64,
+    steps: &mut Steps,
+) -> Result<u64, AllocError>
+    ensures most { IfOk result (λ count. count ≤ most) }
+    ensures turns { IfOk result (λ count. ArePlain line_machine count (meaning_of s.old) (meaning_of s.new)) }
+    ensures steps { IfOk result (λ count. steps.new ≡ raised steps.old count) }
+    ensures said { OnOk result (s.new.said ≡ s.old.said) }
+    ensures bound { OnErr result (HasPassed line_machine most (meaning_of s.old) steps.old steps.new) }
+{
+    let Phase::Reads(text) = &s.phase else {
+        return Ok(0);
+    };
+    let count = count_spaces(text.as_slice(), most, steps);
+    if count == 0 {
+        return Ok(0);
+    }
+    let rest = Bytes::from_slice(alloc, &text.as_slice()[count as usize..])?;
+    s.phase = Phase::Reads(rest);
+    Ok(count)
 }
 
 /// What a reply brings. Its only error is want of memory.

@@ -1,5 +1,5 @@
-//! Cases of fresh runs of line_machine, worked out by hand: a turn for each ask, each page and each stop, and each turn costs
-//! 1.
+//! Cases of fresh runs of line_machine, worked out by hand: a turn for each ask, each space that is passed over, each page and
+//! each stop, and each turn costs 1.
 ghost use Rattle.std.specs.Prelude.{◌≤◌, IfSome};
 ghost use Rattle.tx_machine.specs.Ranges.{AreLimits};
 

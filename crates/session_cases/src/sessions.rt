@@ -1,6 +1,6 @@
 //! Cases of sessions over line_machine, worked out by hand: a run takes a turn to open a file, one for each line, one for
-//! each page, each line that leads to another file or back, and one to stop; an edit takes those of the pages that it formats
-//! alone.
+//! each page, each space at a line's beginning, each line that leads to another file or back, and one to stop; an edit takes
+//! those of the pages that it formats alone.
 use crate::documents::{main_name, put, set_of};
 use crate::edits::edit_of;
 use line_machine::LineMachine;

@@ -104,6 +104,14 @@ impl Expander {
         })
     }
 
+    /// Whether no expansion has begun that hasn't ended.
+    #[inline(always)]
+    pub fn is_idle(&self) -> bool
+        ensures { IsTrue result ↔ (self.now.begun.items ≡ []) }
+    {
+        self.open.begun.is_empty()
+    }
+
     /// Whether the first line of a file is awaited.
     pub fn is_opening(&self) -> bool
         ensures { result ≡ turns.is_opening self.now.begun.items }

@@ -14,7 +14,7 @@ use Rattle.tx_lex.proofs.CharacterLaws.{characters-nil, characters-plain, charac
 use Rattle.tx_lex.proofs.Loops.{drops, letters-more, letters-over, skip_while-dropped, skip_while-kept}
 
 -- only a character of category Superscript begins a notation
-reduction-other : (codes : List Cat) (c : ℕ) (rest : List ℕ) → is_superscript (category codes c) ≡ false → reduction codes c rest ≡ None
+pub reduction-other : (codes : List Cat) (c : ℕ) (rest : List ℕ) → is_superscript (category codes c) ≡ false → reduction codes c rest ≡ None
 reduction-other codes c [] h = refl
 reduction-other codes c (b ∷ []) h = refl
 reduction-other codes c (b ∷ d ∷ rest) h = ap (λ t. cond (t && (eqb b c && ltb d 128)) (Some (denoted d rest)) None) h

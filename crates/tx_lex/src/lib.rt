@@ -4,7 +4,7 @@
 //! Proved: the token, rest and state are exactly the defined ones, and follow the rules of reading, which allow no other.
 //! Only tested: that the rules are Knuth's.
 //!
-//! Read `line`, `types`, `notation`, `characters`, `names`, `lexer`, then `rules`.
+//! Read `line`, `types`, `notation`, `characters`, `names`, `lexer`, `plain`, then `rules`.
 #![tactic(auto)]
 
 mod characters;
@@ -12,10 +12,12 @@ mod lexer;
 mod line;
 mod names;
 mod notation;
+mod plain;
 mod rules;
 mod types;
 
 pub use lexer::{lex, lex_on};
 pub use line::line_text;
+pub use plain::first_plain;
 pub use rules::the_rules_leave_no_choice;
-pub use types::{Lexed, ReadState};
+pub use types::{Lexed, PlainToken, ReadState};

@@ -29,6 +29,15 @@ pub enum Lexed {
     E1,
 }
 
+/// A character that is a token as it stands in a line.
+#[derive(Clone, Copy)]
+pub enum PlainToken {
+    /// A letter or another character, which is set.
+    Set(u8),
+    /// A space within the line.
+    Blank,
+}
+
 /// A character of a line as reading sees it, its `^^` replaced, and the place of what stands behind it.
 #[derive(Clone, Copy)]
 pub(crate) struct Character {

@@ -1,4 +1,5 @@
 pub mod Stretch
 pub mod Going
+pub mod Passing
 pub mod Running
 pub mod PageCounts

@@ -17,6 +17,7 @@ use Rattle.tx_machine.specs.declared.types.Event.TheVariants.{Went, Asks, Shippe
 use Rattle.tx_machine.specs.declared.types.OpenFile.{OpenFile}
 use Rattle.tx_machine.specs.Counts.{closing_turns}
 use Rattle.tx_machine.specs.Machine.{Formatter, IsLawful, Ready, mode_after, kind_of, fits}
+use Rattle.tx_machine.specs.Plain.{IsPlain}
 use Rattle.tx_machine.specs.Opens.{reply_to, opening, reading, reading_on, whole, innermost, bytes_of}
 use Rattle.tx_machine.specs.Turn.{Place, Progress, one_turn, after_event, joined, stretch, stretch_by}
 
@@ -54,6 +55,14 @@ module _ {S : Type 0} (m : Formatter S) (files : Files) where
       by : (b : Bool) → nat_lt p.left (m.cost p.state) ≡ b → IsTurn p
       by true h = Refused (ltb-true _ _ h) (ap (λ b. cond b (refused p) (allowed p)) h)
       by false h = Allowed (ltb-false _ _ h) (ap (λ b. cond b (refused p) (allowed p)) h)
+
+  -- a plain turn takes 1 of the budget and leads to its next state; it says nothing and sees nothing of files
+  pub one_turn-plain : (p : Place S) {to : S} → IsPlain m p.state to → 1 ≤ p.left
+      → one_turn m files p ≡ record { close = None; said = []; turns = 1; log = []; place = record { state = to; opens = p.opens; left = p.left - 1 } }
+  one_turn-plain p plain fits = elim (is_turn p) [
+    | Refused h e ↦ absurd (omega (arith, plain.costs))
+    | Allowed h e ↦ e ∙ (λ i. after_event m files p.opens (p.left - plain.costs i) (plain.next i) (plain.silent i) (plain.went i))
+  ]
 
   left-after_event : (opens : List OpenFile) (left : ℕ) (next : S) (said : List ℕ) (event : Event) → (after_event m files opens left next said event).place.left ≡ left
   left-after_event opens left next said Went = refl

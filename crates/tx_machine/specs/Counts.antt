@@ -1,8 +1,10 @@
 -- What a call that takes turns leaves.
-use Rattle.std.specs.Prelude.{◌≡◌, ℕ, List, ◌++◌, Option, Some}
+use Rattle.std.specs.Prelude.{◌≡◌, ℕ, ◌+◌, List, ◌++◌, Option, Some}
 use Rattle.tx_machine.specs.declared.types.Close.{Close}
 use Rattle.tx_machine.specs.declared.types.Close.TheVariants.{Page, Halt, Spent}
 use Rattle.tx_machine.specs.declared.spot.Closed.{Closed}
+use Rattle.tx_machine.specs.Machine.{Formatter}
+use Rattle.tx_machine.specs.Plain.{ArePlain}
 use Rattle.tx_machine.specs.Turn.{Place, Progress}
 
 -- a turn that ends a page or the run is taken, and one that the budget doesn't allow isn't
@@ -16,6 +18,12 @@ pub record Made {S : Type 0} (t : Progress S) (close : Option Close) (place : Pl
   pub close_is : close ≡ t.close
   pub place_is : place ≡ t.place
   pub said_is : after ≡ before ++ t.said
+
+-- so many turns were taken at one go from this place to that one: the open files are the same, and each turn took 1 of the budget
+pub record Passes {S : Type 0} (m : Formatter S) (from : Place S) (count : ℕ) (to : Place S) : Type 0 where
+  pub turns : ArePlain m count from.state to.state
+  pub opens_are : to.opens ≡ from.opens
+  pub left_is : from.left ≡ count + to.left
 
 -- this close, this piece of the transcript, this number of turns and this place are those of a stretch of turns
 pub record Closes {S : Type 0} (t : Progress S) (closed : Closed) (place : Place S) : Type 0 where

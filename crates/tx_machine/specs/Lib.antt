@@ -1,6 +1,7 @@
 pub mod Ranges
 pub mod Steps
 pub mod Machine
+pub mod Plain
 pub mod Opens
 pub mod Notes
 pub mod Turn

@@ -1,7 +1,8 @@
-ghost use Rattle.std.specs.Prelude.{◌≡◌, ◌≤◌, ◌++◌, [], Some, IfOk, OnOk};
+ghost use Rattle.std.specs.Prelude.{◌≡◌, ◌≤◌, ◌++◌, [], Some, IfOk, OnOk, OnErr};
 ghost use Rattle.tx_files.specs.Reads.{noting};
 ghost use Rattle.tx_machine.specs.Machine.{Ready};
-ghost use Rattle.tx_machine.specs.Counts.{Made, Closes, closing_turns};
+ghost use Rattle.tx_machine.specs.Counts.{Made, Passes, Closes, closing_turns};
+ghost use Rattle.tx_machine.specs.Plain.{HasPassed};
 ghost use Rattle.tx_machine.specs.Steps.{raised};
 ghost use Rattle.tx_machine.specs.Turn.{one_turn, stretch, place_of};
 
@@ -47,6 +48,24 @@ pub fn take_turn<M: Machine>(
     }
 }
 
+/// Lets the machine take turns at one go, as many as the budget allows at most, and answers how many it took.
+fn run_on_within<M: Machine>(
+    alloc: Global,
+    machine: &M,
+    spot: &mut Spot<M::State>,
+    steps: &mut Steps,
+) -> Result<u64, AllocError>
+    requires { M.formatter.mode (M.meaning spot.old.state) ≡ Ready }
+    ensures passes { IfOk result (λ passed. Passes M.formatter (place_of M.meaning spot.old) passed (place_of M.meaning spot.new)) }
+    ensures pending { OnOk result (M.pending spot.new.state ≡ M.pending spot.old.state) }
+    ensures steps { IfOk result (λ passed. steps.new ≡ raised steps.old passed) }
+    ensures bound { OnErr result (HasPassed M.formatter spot.old.left (M.meaning spot.old.state) steps.old steps.new) }
+{
+    let passed = machine.run_on(alloc, &mut spot.state, spot.left, steps)?;
+    spot.left -= passed;
+    Ok(passed)
+}
+
 /// How many turns a close took.
 fn closing_turns(close: &Close) -> u64
     ensures { result ≡ closing_turns close.now }
@@ -57,7 +76,7 @@ fn closing_turns(close: &Close) -> u64
     }
 }
 
-/// Takes turns up to the next page or the run's end, and notes what they see of files.
+/// Takes turns up to the next page or the run's end, at one go where the machine can, and notes what they see of files.
 pub fn format_page<M: Machine>(
     alloc: Global,
     machine: &M,
@@ -76,6 +95,8 @@ pub fn format_page<M: Machine>(
 {
     let mut turns = 0;
     loop {
+        let passed = run_on_within(alloc, machine, spot, steps)?;
+        turns += passed;
         let close = take_turn(alloc, machine, files, spot, seen, steps)?;
         if let Some(close) = close {
             turns += closing_turns(&close);

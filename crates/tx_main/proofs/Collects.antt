@@ -13,7 +13,7 @@ use Rattle.tx_state.specs.State.{TexState, Runs}
 use Rattle.tx_main.specs.Words.{collecting, current_font, gathered, in_paragraph, report_of, space_code, with_list_factor}
 
 -- what comes of a character, by whether the font has it
-abbrev collected_by : Bool → Collecting → Bool → ℕ → ℕ → Collected
+abbrev pub collected_by : Bool → Collecting → Bool → ℕ → ℕ → Collected
 collected_by there words inside font code =
     if there
     then record { items = []; words = record words { word = Some (joined words.word font code) }; lacking = None }

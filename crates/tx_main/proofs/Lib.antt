@@ -13,3 +13,4 @@ pub mod Assigns
 pub mod Signs
 pub mod Vertical
 pub mod Building
+pub mod MainLoop

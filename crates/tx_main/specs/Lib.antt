@@ -6,4 +6,5 @@ pub mod Words
 pub mod Building
 pub mod Effects
 pub mod Turns
+pub mod MainLoop
 pub mod Lawful

@@ -3,7 +3,8 @@
 //! Proved: each turn is the defined step. Only tested: that the effects and the reading are TeX's, on documents that Knuth's TeX
 //! reads alike. The state is tx_state's, and how commands are taken off tokens tx_command's.
 //!
-//! Read `letters`, `hyphens`, `groups`, `boxes`, `breaks`, `pages`, `paragraphs`, `words`, `fonts`, `effects`, `page`, `turn` and `machine`.
+//! Read `letters`, `hyphens`, `groups`, `boxes`, `breaks`, `pages`, `paragraphs`, `words`, `fonts`, `effects`, `page`, `turn`,
+//! `main_loop` and `machine`.
 #![tactic(auto)]
 
 mod boxes;
@@ -14,6 +15,7 @@ mod groups;
 mod hyphens;
 mod letters;
 mod machine;
+mod main_loop;
 mod page;
 mod pages;
 mod paragraphs;

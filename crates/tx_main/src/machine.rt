@@ -6,7 +6,7 @@ ghost use Rattle.tx_main.specs.Turns.{tex};
 ghost use Rattle.tx_main.specs.Lawful.{tex-lawful};
 
 use crate::page::moment_of;
-use crate::turn;
+use crate::{main_loop, turn};
 use std::alloc::{AllocError, Global};
 use std::mem;
 use tx_bytes::Bytes;
@@ -59,6 +59,17 @@ impl Machine for Tex {
     fn turn(&self, alloc: Global, s: &mut State, steps: &mut Steps) -> Result<Event, AllocError> {
         steps.tick();
         turn::turn(alloc, s)
+    }
+
+    #[tactic(auto, unfolding(crate::specs::Turns::tex))]
+    fn run_on(
+        &self,
+        alloc: Global,
+        s: &mut State,
+        most: u64,
+        steps: &mut Steps,
+    ) -> Result<u64, AllocError> {
+        main_loop::run_on(alloc, s, most, steps)
     }
 
     #[tactic(auto, unfolding(crate::specs::Turns::tex))]

@@ -50,7 +50,7 @@ fn space_code(table: &Eqtb, code: u8) -> u16
 }
 
 /// \spaceskip and \xspaceskip.
-fn word_params(table: &Eqtb) -> WordParams
+pub fn word_params(table: &Eqtb) -> WordParams
     ensures { result ≡ spec.word_params table.now.table }
 {
     WordParams {
@@ -60,7 +60,7 @@ fn word_params(table: &Eqtb) -> WordParams
 }
 
 /// The space factor of the list that is being built, None where it isn't horizontal.
-fn factor_now(s: &State) -> Option<SpaceFactor>
+pub fn factor_now(s: &State) -> Option<SpaceFactor>
     ensures { result ≡ spec.factor_now (state_of s.now) }
 {
     s.lists.nest.innermost().state.space_factor()
@@ -78,7 +78,7 @@ fn in_paragraph(s: &State) -> bool
 }
 
 /// The word that is open ends. Its only error is want of memory.
-fn end_word(alloc: Global, s: &mut State) -> Result<(), AllocError>
+pub fn end_word(alloc: Global, s: &mut State) -> Result<(), AllocError>
     ensures state { OnOk result (state_of s.new ≡ spec.word_ended (state_of s.old)) }
     ensures phase { OnOk result (s.new.phase ≡ s.old.phase) }
     ensures said { OnOk result (s.new.said ≡ s.old.said) }
@@ -102,7 +102,7 @@ pub fn settle_word(alloc: Global, s: &mut State, seen: &Seen) -> Result<(), Allo
 }
 
 /// The space factor is that behind a character.
-fn pass_factor(s: &mut State, factor: SpaceFactor, code: u8)
+pub fn pass_factor(s: &mut State, factor: SpaceFactor, code: u8)
     ensures state { state_of s.new ≡ spec.with_list_factor (state_of s.old) (factor_behind_code factor (spec.space_code s.old.table.table code)) }
     ensures phase { s.new.phase ≡ s.old.phase }
     ensures said { s.new.said ≡ s.old.said }

@@ -1,4 +1,5 @@
 pub mod Elements
+pub mod Plain
 pub mod Tails
 pub mod Steps
 pub mod Sources

@@ -1,7 +1,8 @@
 //! A line that is being read.
-ghost use Rattle.std.specs.Prelude.{◌≡◌, ◌↔◌, ◌∷◌, ◌++◌, IsTrue, IfOk};
+ghost use Rattle.std.specs.Prelude.{◌≡◌, ◌↔◌, ◌∷◌, ◌++◌, drop, IsTrue, IfOk, IfSome};
 ghost use Rattle.std.specs.Option.{option_to_list};
 ghost use Rattle.tx_lex.specs.declared.types.ReadState.TheVariants.{N};
+ghost use Rattle.tx_lex.specs.Plain.{Begins};
 ghost use Rattle.tx_pending.specs.Steps.{IsLineStep};
 
 use crate::given::Given;
@@ -10,7 +11,7 @@ use std::marker::Model;
 use std::rc::Rc;
 use tx_bytes::Bytes;
 use tx_char::Codes;
-use tx_lex::{Lexed, ReadState, lex_on};
+use tx_lex::{Lexed, PlainToken, ReadState, first_plain, lex_on};
 
 /// A shared line, and how much of it is read. Contracts see its unread rest and the state in which that is read.
 #[derive(Drop)]
@@ -66,6 +67,28 @@ impl LineReading {
             }
             Lexed::LineDone => Ok(Given::Used),
             Lexed::E1 => Ok(Given::E1),
+        }
+    }
+
+    /// The token with which the rest begins, where it is one character as it stands.
+    #[inline(always)]
+    pub fn first_plain(&self, codes: &Codes) -> Option<PlainToken>
+        ensures { IfSome result (Begins codes.now self.now.state self.now.unread) }
+    {
+        let rest = &self.line.as_ref().as_slice()[self.used..];
+        first_plain(self.front, rest, self.state, codes)
+    }
+
+    /// Passes the first character of the rest, if there is one, and goes on in this state.
+    #[inline(always)]
+    pub fn pass_first(&mut self, state: ReadState)
+        ensures { self.new ≡ record { unread = drop 1 self.old.unread; state = state } }
+    {
+        self.state = state;
+        if self.front.is_some() {
+            self.front = None;
+        } else if self.used < self.line.as_ref().len() {
+            self.used += 1;
         }
     }
 

@@ -1,9 +1,10 @@
 //! The pending input.
-ghost use Rattle.std.specs.Prelude.{◌≡◌, ◌↔◌, ◌++◌, ◌-◌, drop, map, take, IsTrue, IfOk, OnOk, OnErr};
+ghost use Rattle.std.specs.Prelude.{◌≡◌, ◌↔◌, ◌++◌, ◌-◌, drop, map, take, IsTrue, IfOk, IfSome, OnOk, OnErr};
 ghost use Rattle.tx_toklist.specs.Bodies.{argument, filled, filled_from};
 ghost use Rattle.tx_pending.specs.Elements.{Given as Element_given, no_input, step, with_close, with_held, with_line, with_list, with_token, with_tokens};
+ghost use Rattle.tx_pending.specs.Plain.{IsNext, behind_first, passed};
 ghost use Rattle.tx_pending.specs.Sources.{IsReady, elements_of, stack_elements};
-ghost use Rattle.tx_pending.specs.Steps.{Takes};
+ghost use Rattle.tx_pending.specs.Steps.{BeginsLine, Takes};
 
 use crate::given::Given;
 use crate::line::LineReading;
@@ -15,6 +16,7 @@ use std::alloc::{AllocError, Global};
 use std::marker::Model;
 use tx_bytes::Bytes;
 use tx_char::{Codes, Token};
+use tx_lex::{PlainToken, ReadState};
 use tx_toklist::{Macro, Slot, TokList};
 
 /// What is read before another line is asked for. Contracts see one list of tokens, markers and lines, and whether
@@ -127,6 +129,24 @@ impl Pending {
         }
     }
 
+    /// What comes next, where it is a token as it stands in the line at the front; it isn't taken. A source of which nothing is
+    /// left may hide the line.
+    #[inline(always)]
+    pub fn first_plain(&self, codes: &Codes) -> Option<PlainToken>
+        ensures { IfSome result (IsNext codes.now self.now) }
+    {
+        first_plain(&self.stack, codes)
+    }
+
+    /// Takes the first character of the line at the front, which goes on in this state; where no line is there all stays.
+    #[inline(always)]
+    pub fn pass_first(&mut self, state: ReadState)
+        ensures { self.new ≡ behind_first state self.old }
+    {
+        drop_spent(&mut self.stack);
+        pass_first(&mut self.stack, state);
+    }
+
     /// Whether the same is pending, however the lists are cut, and \endinput came in both or in none.
     pub fn same(&self, other: &Pending) -> bool
         ensures { IsTrue result ↔ (self.now ≡ other.now) }
@@ -235,6 +255,30 @@ fn take(stack: &mut Vec<Source>, alloc: Global, codes: &Codes) -> Result<Given, 
         stack.truncate(top);
     }
     Ok(given)
+}
+
+/// What comes next, where the innermost source is a line that goes on with a token as it stands.
+#[inline(always)]
+fn first_plain(stack: &[Source], codes: &Codes) -> Option<PlainToken>
+    ensures { IfSome result (BeginsLine codes.now (stack_elements stack.now)) }
+{
+    if stack.is_empty() {
+        return None;
+    }
+    stack[stack.len() - 1].first_plain(codes)
+}
+
+/// Passes the first character of the innermost source, if it is a line, which goes on in this state.
+#[inline(always)]
+fn pass_first(stack: &mut Vec<Source>, state: ReadState)
+    requires { IsReady stack.old.items }
+    ensures { stack_elements stack.new.items ≡ passed state (stack_elements stack.old.items) }
+{
+    if stack.is_empty() {
+        return;
+    }
+    let top = stack.len() - 1;
+    stack[top].pass_first(state);
 }
 
 /// The same sources, in a stack of their own. Its only error is want of memory.

@@ -1,14 +1,16 @@
 //! The sources of pending input.
 ghost use Rattle.std.specs.Prelude.{◌≡◌, ◌≢◌, ◌↔◌, ◌<◌, [], None, Some, length, slice_get, IsTrue, IfOk, IfSome};
 ghost use Rattle.tx_pending.specs.Elements.{Given as Element_given, Held as Element_held, Unread, list_elements};
+ghost use Rattle.tx_pending.specs.Plain.{passed};
 ghost use Rattle.tx_pending.specs.Sources.{elements_of};
-ghost use Rattle.tx_pending.specs.Steps.{Gives};
+ghost use Rattle.tx_pending.specs.Steps.{BeginsLine, Gives};
 
 use crate::given::Given;
 use crate::line::LineReading;
 use crate::list::ListReading;
 use std::alloc::{AllocError, Global};
 use tx_char::{Codes, Token};
+use tx_lex::{PlainToken, ReadState};
 
 /// What is being read.
 #[derive(Drop)]
@@ -43,6 +45,30 @@ impl Source {
             Source::Line(line) => line.next(alloc, codes),
             Source::Token(token) => Ok(Given::Token(read_again(token))),
             Source::Held(token) => Ok(Given::Held(read_again(token))),
+        }
+    }
+
+    /// The token with which it goes on, where it is a line and the token one character as it stands.
+    #[inline(always)]
+    pub fn first_plain(&self, codes: &Codes) -> Option<PlainToken>
+        ensures { IfSome result (BeginsLine codes.now (elements_of self.now)) }
+    {
+        match self {
+            Source::Line(line) => line.first_plain(codes),
+            Source::List(_) => None,
+            Source::Token(_) | Source::Held(_) => None,
+        }
+    }
+
+    /// Passes the first character, if it is a line, which goes on in this state.
+    #[inline(always)]
+    pub fn pass_first(&mut self, state: ReadState)
+        ensures { elements_of self.new ≡ passed state (elements_of self.old) }
+    {
+        match self {
+            Source::Line(line) => line.pass_first(state),
+            Source::List(_) => {}
+            Source::Token(_) | Source::Held(_) => {}
         }
     }
 

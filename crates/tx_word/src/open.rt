@@ -167,9 +167,16 @@ impl Words {
         }
     }
 
+    /// Whether the font of the next character, where this one is current, has this character.
+    pub fn has_next(&self, font: u8, code: u8) -> bool
+        ensures { result ≡ has_character self.now.fonts (spec.font_of self.now.word font) code }
+    {
+        self.fonts().has_character(self.font_of(font), code)
+    }
+
     /// A character that its font has joins the open word, or opens one in the font of this number. After want of memory, its only
     /// error, the words may only be dropped, here and in all that follows.
-    fn join(&mut self, alloc: Global, font: u8, code: u8) -> Result<(), AllocError>
+    pub fn join(&mut self, alloc: Global, font: u8, code: u8) -> Result<(), AllocError>
         requires { has_character self.old.fonts (spec.font_of self.old.word font) code ≡ true }
         ensures { OnOk result (self.new ≡ record self.old { word = Some (spec.joined self.old.word font code) }) }
     {
