@@ -9,3 +9,4 @@ pub mod SameFonts
 pub mod Used
 pub mod Listed
 pub mod Numbered
+pub mod Said

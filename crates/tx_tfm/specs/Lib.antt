@@ -7,5 +7,6 @@ pub mod Table
 pub mod Filling
 pub mod Metrics
 pub mod Sound
+pub mod Characters
 pub mod Parameters
 pub mod Fonts

@@ -1,7 +1,7 @@
 //! Ligature and kerning programs: which command a pair of characters meets. At the left of a pair `None` is the left
 //! boundary of a word, at its right the right boundary.
 ghost use Rattle.std.specs.Prelude.{◌≡◌, ◌≤◌, ◌<◌, ◌^◌, IfSome};
-ghost use Rattle.tx_tfm.specs.LigKern.{command_at, target, boundary_code, boundary_start, character_start, found, start_of, code_of, command_of};
+ghost use Rattle.tx_tfm.specs.LigKern.{command_at, target, boundary_code, boundary_start, character_start, found, start_of};
 
 use super::file::{Tfm, Word};
 
@@ -91,25 +91,6 @@ impl Tfm {
             left -= 1;
         }
         None
-    }
-
-    /// The command that a pair meets.
-    #[tactic(auto, unfolding(crate::specs::LigKern::command_of))]
-    pub fn command_of(&self, left: Option<u8>, right: Option<u8>) -> Option<Word>
-        ensures { result ≡ command_of self.now left right }
-    {
-        let code = self.code_of(right)?;
-        let start = self.start_of(left)?;
-        self.find(start, code)
-    }
-
-    pub fn code_of(&self, right: Option<u8>) -> Option<u8>
-        ensures { result ≡ code_of self.now right }
-    {
-        match right {
-            None => self.boundary_code(),
-            Some(code) => Some(code),
-        }
     }
 
     pub fn start_of(&self, left: Option<u8>) -> Option<usize>

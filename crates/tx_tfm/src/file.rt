@@ -90,6 +90,26 @@ impl Tfm {
         requires { place < 2 ^ 32 }
         ensures { result ≡ word_at self.now place }
     {
+        let bytes = self.bytes.as_slice();
+        let at = 4 * place;
+        if at + 3 < bytes.len() {
+            return Word {
+                a: bytes[at],
+                b: bytes[at + 1],
+                c: bytes[at + 2],
+                d: bytes[at + 3],
+            };
+        }
+        self.word_past_end(place)
+    }
+
+    /// The same where the file may end within the word or before it.
+    #[inline(never)]
+    #[tactic(auto, unfolding(crate::specs::Format::word_at))]
+    fn word_past_end(&self, place: usize) -> Word
+        requires { place < 2 ^ 32 }
+        ensures { result ≡ word_at self.now place }
+    {
         Word {
             a: self.byte(4 * place),
             b: self.byte(4 * place + 1),

@@ -3,20 +3,24 @@ ghost use Rattle.std.specs.Prelude.{◌≡◌, ◌↔◌, ◌<◌, ◌≤◌, �
 ghost use Rattle.tx_tfm.specs.Rules.{first_broken};
 ghost use Rattle.tx_tfm.specs.Format.{checksum_of, design_size_of, is_there};
 ghost use Rattle.tx_tfm.specs.LigKern.{command_of};
+ghost use Rattle.tx_tfm.specs.Characters.{IsSaid};
 ghost use Rattle.tx_tfm.specs.Metrics.{metrics_of, width_of, height_of, depth_of, italic_of, successor_of, recipe_of, parameter_of, parameter_count_of, is_used_at, kern_of};
 ghost use Rattle.tx_tfm.specs.Sound.{IsSound, ErrorNames};
 
+use super::characters::{CharacterMetrics, Characters};
 use super::errors::FontError;
 use super::file::{Tfm, Word};
 use super::metrics::Metrics;
 use super::rules::Size;
-use std::alloc::Global;
+use std::alloc::{AllocError, Global};
 use std::marker::Model;
 
-/// A font at a size. Contracts see its file and its size in sp, and know that no rule is broken.
+/// A font at a size. Contracts see its file and its size in sp, and know that no rule is broken. What each letter of a text asks
+/// for is kept beside them.
 #[derive(Drop)]
 pub struct Font {
     metrics: Metrics,
+    characters: Characters,
 }
 
 impl Model for Font {
@@ -24,14 +28,26 @@ impl Model for Font {
 
     ghost Value = { Metrics };
 
-    ghost use Rattle.tx_tfm.specs.Sound.{IsSound};
+    ghost use Rattle.tx_tfm.specs.Characters.{IsFont};
 
     ghost view = { λ f. f.metrics };
 
-    ghost invariant = { λ f. IsSound f.metrics };
+    ghost invariant = { λ f. IsFont f.metrics f.characters };
 }
 
 impl Font {
+    /// The font of a file that breaks no rule. Its only error is want of memory.
+    fn of(alloc: Global, metrics: Metrics) -> Result<Font, AllocError>
+        requires { IsSound metrics }
+        ensures { IfOk result (λ font. font ≡ metrics) }
+    {
+        let characters = metrics.characters(alloc)?;
+        Ok(Font {
+            metrics,
+            characters,
+        })
+    }
+
     /// The font of these bytes at that size. `BadFont` names the first rule that they break, exactly where they break one.
     #[tactic(auto, using(crate::proofs::FirstFalse::append_steps))]
     pub fn read(alloc: Global, bytes: &[u8], size: Size) -> Result<Font, FontError>
@@ -52,9 +68,10 @@ impl Font {
             Ok(size) => match file.check_tables(alloc) {
                 Err(error) => Err(FontError::OutOfMemory(error)),
                 Ok(Some(rule)) => Err(FontError::BadFont { rule }),
-                Ok(None) => Ok(Font {
-                    metrics: Metrics { file, size },
-                }),
+                Ok(None) => match Font::of(alloc, Metrics { file, size }) {
+                    Err(error) => Err(FontError::OutOfMemory(error)),
+                    Ok(font) => Ok(font),
+                },
             },
         }
     }
@@ -80,7 +97,14 @@ impl Font {
     pub fn is_there(&self, code: u8) -> bool
         ensures { result ≡ is_there self.now.file code }
     {
-        self.metrics.file.is_there(usize::from(code))
+        self.characters.get(code).is_there
+    }
+
+    /// What the font says of a character.
+    pub fn character(&self, code: u8) -> CharacterMetrics
+        ensures { IsSaid self.now code result }
+    {
+        self.characters.get(code)
     }
 
     /// A character's width, in sp as all sizes.
@@ -88,7 +112,7 @@ impl Font {
         ensures value { result ≡ width_of self.now code }
         ensures bound { unsigned_abs result < 2 ^ 31 }
     {
-        self.metrics.width(code)
+        i64::from(self.characters.get(code).width)
     }
 
     /// A character's height above the baseline.
@@ -96,7 +120,7 @@ impl Font {
         ensures value { result ≡ height_of self.now code }
         ensures bound { unsigned_abs result < 2 ^ 31 }
     {
-        self.metrics.height(code)
+        i64::from(self.characters.get(code).height)
     }
 
     /// A character's depth below the baseline.
@@ -104,7 +128,7 @@ impl Font {
         ensures value { result ≡ depth_of self.now code }
         ensures bound { unsigned_abs result < 2 ^ 31 }
     {
-        self.metrics.depth(code)
+        i64::from(self.characters.get(code).depth)
     }
 
     /// A character's italic correction.
@@ -112,7 +136,7 @@ impl Font {
         ensures value { result ≡ italic_of self.now code }
         ensures bound { unsigned_abs result < 2 ^ 31 }
     {
-        self.metrics.italic(code)
+        i64::from(self.characters.get(code).italic)
     }
 
     /// The next larger character.
@@ -165,10 +189,13 @@ impl Font {
     }
 
     /// The command of a ligature and kerning program that a pair meets. `None` is a boundary of a word.
+    #[tactic(auto, unfolding(crate::specs::LigKern::command_of))]
     pub fn command(&self, left: Option<u8>, right: Option<u8>) -> Option<Word>
         ensures { result ≡ command_of self.now.file left right }
     {
-        self.metrics.file.command_of(left, right)
+        let code = self.characters.code_of(right)?;
+        let start = self.characters.start_of(left)?;
+        self.metrics.file.find(usize::from(start), code)
     }
 
     /// The kern that a command puts in.

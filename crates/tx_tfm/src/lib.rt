@@ -5,9 +5,10 @@
 //! is its definition on the bytes. Only tested: that the rules are those of TeX's fonts, against tftopl.
 //!
 //! Modules in reading order: `lengths`, `file`, `scaling`, `commands`, `ligatures`, `rewriting`, `rules`, `metrics`,
-//! `errors`, `font`, `named`, `parameters`, `state`, `fonts`.
+//! `characters`, `errors`, `font`, `named`, `parameters`, `state`, `fonts`.
 #![tactic(auto)]
 
+mod characters;
 mod commands;
 mod errors;
 mod file;
@@ -23,6 +24,7 @@ mod rules;
 mod scaling;
 mod state;
 
+pub use characters::CharacterMetrics;
 pub use errors::FontError;
 pub use file::Word;
 pub use font::Font;
