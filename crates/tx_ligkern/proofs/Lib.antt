@@ -3,4 +3,5 @@ mod Rewritten
 mod Runs
 mod Steps
 pub mod Once
-mod Within
+pub mod Within
+pub mod Fronts

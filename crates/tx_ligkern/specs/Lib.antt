@@ -2,3 +2,4 @@ pub mod Pieces
 pub mod Composing
 pub mod Steps
 pub mod Composed
+pub mod Pairs

@@ -49,7 +49,8 @@ fn run(alloc: Global, font: &Font, first: Piece, rest: Vec<Piece>) -> Result<Ite
 {
     let mut current = first;
     let mut rest = rest;
-    let mut done = Items::new(alloc);
+    let room = Vec::with_capacity(alloc, rest.len())?;
+    let mut done = Items::from_vec(room);
     while let Some(next) = rest.pop() {
         current = step(alloc, font, current, next, &mut rest, &mut done)?;
     }

@@ -4,13 +4,15 @@
 //! Proved: a word becomes exactly what five rules of rewriting make of it, these allow no other answer, and every word
 //! ends. Only tested: that the rules are TeX's, on words that his program composes alike.
 //!
-//! Read `item`, then `piece`, `ligature`, `composing`.
+//! Read `item`, then `piece`, `ligature`, `composing`; `pair`.
 #![tactic(auto)]
 
 mod composing;
 pub mod item;
 mod ligature;
+mod pair;
 mod piece;
 
 pub use composing::{compose, every_word_ends};
 pub use item::{Items, LigItem};
+pub use pair::{Met, pair_meets};

@@ -60,7 +60,7 @@ pub(crate) fn word(
 ) -> Result<Vec<Piece>, AllocError>
     ensures { IfOk result (λ pieces. pieces.items ≡ word_of chars.now left right) }
 {
-    let mut pieces = Vec::new(alloc);
+    let mut pieces = Vec::with_capacity(alloc, chars.len() + 2)?;
     if left {
         pieces.push(Piece::Boundary)?;
     }

@@ -1,4 +1,4 @@
-use Rattle.std.proofs.Common.{◌≡◌, ◌<◌, List, [], ◌∷◌, reverse, sym, subst, arith}
+use Rattle.std.proofs.Common.{◌≡◌, ◌<◌, List, [], ◌∷◌, reverse, sym, subst, ◌∙◌, arith}
 use Rattle.tx_ligkern.specs.declared.item.LigItem.{LigItem}
 use Rattle.tx_ligkern.specs.declared.piece.Piece.{Piece}
 use Rattle.tx_ligkern.specs.Composing.{Becomes}
@@ -9,7 +9,7 @@ use Rattle.tx_ligkern.proofs.composing.run.Goals as goal
 pub loop-next-init : goal.loop-next-init
 loop-next-init c =
     let start : List Piece = c.args.first ∷ reverse c.args.rest.items in
-    subst (λ (d : List LigItem). Going c.args.font.now start (most_commands start) c.args.first (reverse c.args.rest.items) d) (sym c.new-done.ensures) (going-begun c.requires)
+    subst (λ (d : List LigItem). Going c.args.font.now start (most_commands start) c.args.first (reverse c.args.rest.items) d) (sym (c.from_vec-done.ensures ∙ c.in_ok-room.ensures.items)) (going-begun c.requires)
 
 pub loop-next-smaller : goal.loop-next-smaller
 loop-next-smaller c =
