@@ -392,6 +392,7 @@ impl Clone for Node {
 
     ghost is_clone = { λ source copy. item_of copy ≡ item_of source };
 
+    #[inline(always)]
     fn clone(&self) -> Result<Self, AllocError> {
         match self {
             Node::Plain(item) => Ok(Node::Plain(*item)),

@@ -90,6 +90,13 @@ impl Nodes {
         counted(&self.items)
     }
 
+    /// Makes room for so many more nodes. Its only error is want of memory.
+    pub fn reserve(&mut self, more: usize) -> Result<(), AllocError>
+        ensures { self.new ≡ self.old }
+    {
+        self.items.reserve(more)
+    }
+
     /// Puts a node at the end. After want of memory nothing has changed.
     pub fn push(&mut self, node: Node) -> Result<(), AllocError>
         ensures ok { OnOk result (self.new ≡ self.old ++ item_of node ∷ []) }
@@ -137,7 +144,7 @@ impl Clone for Nodes {
 fn shared(alloc: Global, nodes: &[Node]) -> Result<Vec<Node>, AllocError>
     ensures { IfOk result (λ copy. list_of copy.items ≡ list_of nodes.now) }
 {
-    let mut copy = Vec::new(alloc);
+    let mut copy = Vec::with_capacity(alloc, nodes.len())?;
     for node in nodes {
         copy.push(node.clone()?)?;
     }

@@ -82,6 +82,7 @@ fn shared_advance(direction: Direction, item: &Shared) -> i64
 
 impl Node {
     /// How far the node moves the reference point naturally, in sp: to the right in a horizontal list, down in a vertical one.
+    #[inline(always)]
     pub fn advance(&self, direction: Direction) -> i64
         ensures value { result ≡ spec.advance direction (item_of self.now) }
         ensures size { unsigned_abs result ≤ 2 ^ 32 }
