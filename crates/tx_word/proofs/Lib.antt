@@ -1,4 +1,5 @@
 mod Made
+pub mod Fronts
 mod Worked
 mod Opened
 mod Spaced

@@ -1,7 +1,7 @@
 -- The glue of a space: its cases, and its orders.
 use Rattle.std.proofs.Common.{◌≡◌, ℕ, ◌<◌, ◌≤◌, ◌^◌, ℤ, pos, ◌+ℤ◌, ◌*ℤ◌, Bool, true, false, List, Some, None, refl, sym, ap, subst, ◌∙◌, arith, rules, w64, of_z, to_z, to_z-of_z, true≢false}
 use Rattle.std.specs.Prelude.{if◌then◌else◌, int_div, unsigned_abs, FitsSigned}
-use Rattle.std.proofs.lemmas.Int.{fits_signed_from_abs}
+use Rattle.std.proofs.lemmas.Int.{fits_signed_from_abs, ints}
 use Rattle.tx_num.specs.Glue.{GlueSpec, IsGlue}
 use Rattle.tx_tfm.specs.declared.state.FontState.{FontState}
 use Rattle.tx_word.specs.declared.piece.WordParams.{WordParams}
@@ -22,6 +22,14 @@ pub read_quotient : (size x n d x' n' d' : ℤ) → unsigned_abs (int_div (x' *�
 read_quotient size x n d x' n' d' small x_is n_is d_is is =
     let size_in : unsigned_abs size ≤ 2 ^ 31 = subst (λ (z : ℤ). unsigned_abs z ≤ 2 ^ 31) (sym is) (omega (arith, small)) in
     read_back size size_in ∙ (is ∙ (λ i. int_div (x_is i *ℤ n_is i) (d_is i)))
+
+-- the plain space factor changes no size
+plain-stays : (z : ℤ) → int_div (z *ℤ pos 1000) (pos 1000) ≡ z
+plain-stays z = omega (arith, ints)
+
+-- a size that stays at it, as it is handed on
+pub read_plain : (z : ℤ) → unsigned_abs z ≤ 2 ^ 31 → to_z w64 (of_z w64 z) ≡ int_div (z *ℤ pos 1000) (pos 1000)
+read_plain z small = read_back z small ∙ sym (plain-stays z)
 
 -- glue is what a space gives that isn't \xspaceskip
 pub factored : (fonts : List FontState) (params : WordParams) (font : ℕ) (factor extra factor' extra' : ℤ) (g : GlueSpec) → factor' ≡ factor → extra' ≡ extra

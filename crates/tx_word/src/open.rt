@@ -183,7 +183,8 @@ impl Words {
         match &mut self.word {
             Some(word) => word.chars.push(code),
             None => {
-                let chars = Bytes::from_slice(alloc, &[code])?;
+                let mut chars = Bytes::new(alloc);
+                chars.push(code)?;
                 self.word = Some(OpenWord { font, chars });
                 Ok(())
             }

@@ -1,5 +1,5 @@
 //! The glue between words.
-ghost use Rattle.std.specs.Prelude.{◌≡◌, ◌↔◌, ◌≤◌, ◌<◌, ◌^◌, unsigned_abs, IsOk, IfOk};
+ghost use Rattle.std.specs.Prelude.{◌≡◌, ◌↔◌, ◌≤◌, ◌<◌, ◌^◌, pos, unsigned_abs, IsOk, IfOk};
 ghost use Rattle.tx_num.specs.Glue.{IsGlue};
 ghost use Rattle.tx_word.specs.Factors.{IsFactor, ends_sentence};
 ghost use Rattle.tx_word.specs.Sizes.{glue_of_sizes};
@@ -92,6 +92,23 @@ fn ends_sentence(factor: i64) -> bool
     factor >= 2000
 }
 
+/// Glue of these sizes at the plain space factor, 1000, wider by so many sp: the others stay. `Overflow` exactly where a size of it
+/// is no dimension.
+fn at_plain_factor(extra: i64, sizes: Sizes) -> Result<Glue, Overflow>
+    requires extra_in { unsigned_abs extra ≤ 2 ^ 31 }
+    requires small { spec.AreSmall (glue_of_sizes sizes) }
+    ensures glue { IfOk result (λ g. g ≡ spec.at_factor extra (pos 1000) (glue_of_sizes sizes)) }
+    ensures overflow { IsOk result ↔ IsGlue (spec.at_factor extra (pos 1000) (glue_of_sizes sizes)) }
+{
+    Glue::try_new(
+        sizes.width + extra,
+        sizes.stretch,
+        sizes.stretch_order,
+        sizes.shrink,
+        sizes.shrink_order,
+    )
+}
+
 /// Glue of these sizes at a space factor, wider by so many sp. `Overflow` exactly where a size of it is no dimension.
 fn at_factor(extra: i64, factor: i64, sizes: Sizes) -> Result<Glue, Overflow>
     requires factor { IsFactor factor }
@@ -100,6 +117,9 @@ fn at_factor(extra: i64, factor: i64, sizes: Sizes) -> Result<Glue, Overflow>
     ensures glue { IfOk result (λ g. g ≡ spec.at_factor extra factor (glue_of_sizes sizes)) }
     ensures overflow { IsOk result ↔ IsGlue (spec.at_factor extra factor (glue_of_sizes sizes)) }
 {
+    if factor == 1000 {
+        return at_plain_factor(extra, sizes);
+    }
     let (stretch, _) = xn_over_d(sizes.stretch, factor, 1000, Range::Dimen)?;
     let (shrink, _) = xn_over_d(sizes.shrink, 1000, factor, Range::Dimen)?;
     Glue::try_new(

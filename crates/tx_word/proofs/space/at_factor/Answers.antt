@@ -1,7 +1,9 @@
-use Rattle.std.proofs.Common.{◌≡◌, ◌↔◌, ◌<◌, ℤ, pos, ◌*ℤ◌, refl, subst, arith, w64, of_z, to_z, to_z-of_z}
+use Rattle.std.proofs.Common.{◌≡◌, ◌↔◌, ◌<◌, ℤ, pos, ◌*ℤ◌, refl, sym, subst, arith, w64, of_z, to_z, to_z-of_z}
 use Rattle.std.specs.Prelude.{IsOk, IfOk, int_div, unsigned_abs}
 use Rattle.std.proofs.lemmas.Result.{err_from_is_err_and}
 use Rattle.tx_num.specs.Glue.{GlueSpec, IsGlue, glue_of}
+use Rattle.tx_word.specs.Sizes.{glue_of_sizes}
+use Rattle.tx_word.specs.Spaces.{at_factor}
 use Rattle.tx_word.proofs.Spaced.{read_back, read_quotient, read_sum}
 use Rattle.tx_word.proofs.space.at_factor.Goals as goal
 
@@ -35,3 +37,15 @@ returns-clause-overflow c =
     (read_quotient c.in_ok-stretch.stretch c.args.sizes.stretch c.args.factor (pos 1000) _ _ (pos 1000) c.in_ok-stretch.ensures.overflow stretch factor refl c.in_ok-stretch.ensures.quotient i) c.args.sizes.stretch_order
     (read_quotient c.in_ok-shrink.shrink c.args.sizes.shrink (pos 1000) c.args.factor _ (pos 1000) _ c.in_ok-shrink.ensures.overflow shrink refl factor c.in_ok-shrink.ensures.quotient i) c.args.sizes.shrink_order)
     c.try_new.ensures.overflow
+
+pub returns-then-factor-eq1000-clause-glue : goal.returns-then-factor-eq1000-clause-glue
+returns-then-factor-eq1000-clause-glue c =
+    subst (λ (g : GlueSpec). IfOk c.at_plain_factor.result (λ (r : GlueSpec). r ≡ g))
+    (λ i. at_factor (read_back c.args.extra c.requires.extra_in i) (sym c.if-factor-eq1000.true i) (glue_of_sizes c.args.sizes))
+    c.at_plain_factor.ensures.glue
+
+pub returns-then-factor-eq1000-clause-overflow : goal.returns-then-factor-eq1000-clause-overflow
+returns-then-factor-eq1000-clause-overflow c =
+    subst (λ (g : GlueSpec). IsOk c.at_plain_factor.result ↔ IsGlue g)
+    (λ i. at_factor (read_back c.args.extra c.requires.extra_in i) (sym c.if-factor-eq1000.true i) (glue_of_sizes c.args.sizes))
+    c.at_plain_factor.ensures.overflow
