@@ -6,10 +6,12 @@ ghost use Rattle.tx_node.specs.declared.head.Direction.TheVariants.{Horizontal};
 ghost use Rattle.tx_node.specs.Setting.{glue_part};
 ghost use Rattle.tx_node.specs.Sizes.{advance, glue_of_item};
 ghost use Rattle.tx_node.specs.Nodes.{item_of, list_of};
+ghost use Rattle.tx_node.specs.Items.{plain};
+ghost use Rattle.tx_node.specs.declared.plain.Plain.TheVariants as small;
 ghost use Rattle.tx_pack.specs.Sums as spec;
 
 use crate::asked::{depth_asked, depth_left, height_asked, width_asked};
-use tx_node::{Change, Direction, Node};
+use tx_node::{Change, Character, Direction, Node, Plain};
 use tx_num::Glue;
 
 /// Stretch or shrink by its order, in sp.
@@ -235,7 +237,7 @@ fn all_fit(sums: &Sums) -> bool
 }
 
 /// The sums with one more node, None where one of them is no dimension.
-fn joined_if_fit(direction: Direction, sums: &Sums, node: &Node) -> Option<Sums>
+fn any_if_fit(direction: Direction, sums: &Sums, node: &Node) -> Option<Sums>
     requires { spec.IsSmall sums.now }
     ensures value { result ≡ spec.joined_if_fit direction sums.now (item_of node.now) }
     ensures small { IfSome result spec.IsSmall }
@@ -245,6 +247,55 @@ fn joined_if_fit(direction: Direction, sums: &Sums, node: &Node) -> Option<Sums>
         Some(more)
     } else {
         None
+    }
+}
+
+/// Whether a character's height and depth are dimensions.
+fn character_fits(character: Character) -> bool
+    ensures { result ≡ spec.asked_fit Horizontal (plain (small.Character character)) }
+{
+    fits(i64::from(character.height)) && fits(i64::from(character.depth))
+}
+
+/// The sums of a horizontal list with one more character, which has no glue: those of stretch and shrink stay.
+fn beside_character(sums: &Sums, character: Character) -> Sums
+    requires { spec.IsSmall sums.now }
+    ensures { result ≡ spec.beside sums.now (plain (small.Character character)) }
+{
+    Sums {
+        width: plus(sums.width, i64::from(character.width)),
+        height: greater(sums.height, i64::from(character.height)),
+        depth: greater(sums.depth, i64::from(character.depth)),
+        stretch: sums.stretch,
+        shrink: sums.shrink,
+    }
+}
+
+/// These, None where one of them is no dimension. The sums that stay are dimensions, so only the others are looked at.
+fn character_if_fits(sums: &Sums, character: Character) -> Option<Sums>
+    requires { spec.IsSmall sums.now }
+    ensures value { result ≡ spec.joined_if_fit Horizontal sums.now (plain (small.Character character)) }
+    ensures small { IfSome result spec.IsSmall }
+{
+    let more = beside_character(sums, character);
+    if character_fits(character) && sizes_fit(&more) {
+        Some(more)
+    } else {
+        None
+    }
+}
+
+/// The sums with one more node, None where one of them is no dimension. Most nodes of a line are characters.
+fn joined_if_fit(direction: Direction, sums: &Sums, node: &Node) -> Option<Sums>
+    requires { spec.IsSmall sums.now }
+    ensures value { result ≡ spec.joined_if_fit direction sums.now (item_of node.now) }
+    ensures small { IfSome result spec.IsSmall }
+{
+    match (direction, node) {
+        (Direction::Horizontal, Node::Plain(Plain::Character(character))) => character_if_fits(
+            sums, *character,
+        ),
+        (Direction::Horizontal, _) | (Direction::Vertical, _) => any_if_fit(direction, sums, node),
     }
 }
 
