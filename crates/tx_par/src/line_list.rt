@@ -132,6 +132,7 @@ impl Line {
     ) -> Result<(), AllocError>
         ensures { OnOk result (self.new ≡ spec.with_items self.old (filter (spec.stays first_pass) (list_of nodes.now))) }
     {
+        self.own.reserve(nodes.len())?;
         for node in nodes {
             if stays(first_pass, node) {
                 self.share(node)?;
