@@ -1,5 +1,5 @@
 //! The commands of characters, and of the fonts that they need.
-ghost use Rattle.std.specs.Prelude.{◌≡◌, ◌≤◌, ◌++◌, ◌&&◌, true, length, IsTrue, IfOk, IfErr, OnOk};
+ghost use Rattle.std.specs.Prelude.{◌≡◌, ◌≤◌, ◌<◌, ◌^◌, ◌+ℤ◌, ◌-ℤ◌, ◌++◌, ◌&&◌, true, length, unsigned_abs, IsTrue, IfOk, IfErr, OnOk};
 ghost use Rattle.tx_ship.specs.Standing.{character_sides as sides_of};
 ghost use Rattle.tx_ship.specs.Characters as spec;
 ghost use Rattle.tx_ship.specs.Commands as commands;
@@ -9,10 +9,10 @@ ghost use Rattle.tx_ship.specs.Written.{IsWritten};
 use crate::commands::move_to;
 use crate::error::ShipError;
 use crate::fonts::{definition_for, dvi_number};
-use crate::frames::{character_sides, reference};
+use crate::frames::reference;
 use crate::output::Output;
 use crate::places::{Cursor, Frame, Point, Span, Stand};
-use crate::within::{cursor_at, edges_lie, point_lies};
+use crate::within::{cursor_at, is_within, point_lies};
 use std::alloc::AllocError;
 use tx_dvi::definition;
 use tx_node::Character;
@@ -53,6 +53,7 @@ fn put_code(body: &mut Vec<u8>, code: u8) -> Result<(), AllocError>
 }
 
 /// Appends the definition of a font, if it isn't defined.
+#[inline(never)]
 #[tactic(auto, unfolding(crate::specs::Characters::definition_commands))]
 fn define_font(output: &mut Output, number: u8, font: &NamedFont) -> Result<(), AllocError>
     requires { length font.now.name ≤ 255 }
@@ -119,6 +120,17 @@ fn put_at(
     Ok(behind_character(at, character))
 }
 
+/// Whether the right, the upper and the lower edge of a character lie on the page, which has its reference point there.
+fn sides_lie(right: i64, down: i64, character: Character) -> bool
+    requires right { unsigned_abs right < 2 ^ 30 }
+    requires down { unsigned_abs down < 2 ^ 30 }
+    ensures { result ≡ (within.on_page (right +ℤ character.width) && (within.on_page (down -ℤ character.height) && within.on_page (down +ℤ character.depth))) }
+{
+    is_within(right + i64::from(character.width))
+        && (is_within(down - i64::from(character.height))
+            && is_within(down + i64::from(character.depth)))
+}
+
 /// Whether a character lies on the page whose reference point is there: its four edges and that point do.
 fn lies(at: Point, character: Character) -> bool
     requires { within.IsNear at }
@@ -126,10 +138,11 @@ fn lies(at: Point, character: Character) -> bool
     ensures point { IsTrue result → within.IsReader (commands.cursor_at at) }
     ensures behind { IsTrue result → within.IsReader (commands.behind_character (commands.cursor_at at) character) }
 {
-    edges_lie(at, character_sides(character)) && point_lies(at)
+    point_lies(at) && sides_lie(at.h as i64, at.v as i64, character)
 }
 
 /// Appends a character of a list, and answers the cursor behind it. `OutsidePage` comes exactly where it lies outside.
+#[inline(always)]
 pub fn put_character(
     output: &mut Output,
     fonts: &Fonts,

@@ -8,7 +8,7 @@ ghost use Rattle.tx_ship.specs.Standing as spec;
 ghost use Rattle.tx_ship.specs.Within as within;
 
 use crate::places::{Frame, Point, Reached, Sides, Span, Stand};
-use tx_node::{BoxHead, BoxNode, Character, Direction, Node, Rule, side};
+use tx_node::{BoxHead, BoxNode, Direction, Node, Rule, side};
 
 /// Where the list of a box begins: at its left edge, or at its upper one.
 fn start_of(frame: Frame) -> i128
@@ -115,18 +115,6 @@ pub fn leaders_sides(head: BoxHead, rule: Rule, span: Span) -> Sides
             height: size,
             depth: 0,
         },
-    }
-}
-
-/// The sides of a character.
-pub fn character_sides(character: Character) -> Sides
-    ensures value { result ≡ spec.character_sides character }
-    ensures near { within.IsNearSides result }
-{
-    Sides {
-        width: i128::from(character.width),
-        height: i128::from(character.height),
-        depth: i128::from(character.depth),
     }
 }
 

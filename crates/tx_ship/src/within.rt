@@ -6,9 +6,16 @@ ghost use Rattle.tx_ship.specs.Within as spec;
 use crate::places::{Cursor, Point, Sides};
 
 /// The furthest place of a page, in sp, either way.
-const FURTHEST: u128 = 1073741823;
+const FURTHEST: u64 = 1073741823;
 
 fn is_on_page(place: i128) -> bool
+    ensures { result ≡ spec.on_page place }
+{
+    place.unsigned_abs() <= u128::from(FURTHEST)
+}
+
+/// The same for a place that 64 bits hold.
+pub fn is_within(place: i64) -> bool
     ensures { result ≡ spec.on_page place }
 {
     place.unsigned_abs() <= FURTHEST
