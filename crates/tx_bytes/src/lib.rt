@@ -81,6 +81,7 @@ impl Bytes {
     }
 
     /// Puts one byte at the end. After want of memory nothing has changed.
+    #[inline(always)]
     pub fn push(&mut self, byte: u8) -> Result<(), AllocError>
         ensures ok { OnOk result (self.new ≡ self.old ++ byte ∷ []) }
         ensures err { OnErr result (self.new ≡ self.old) }

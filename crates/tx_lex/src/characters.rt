@@ -28,6 +28,7 @@ fn reduced(codes: &Codes, line: &[u8], code: u8, next: usize) -> Character
 }
 
 /// The character that is read at this place of a line; None exactly at its end.
+#[inline(always)]
 pub(crate) fn character_at(codes: &Codes, line: &[u8], place: usize) -> Option<Character>
     ensures read { MatchOption result (length line.now ≤ place) (IsReadFrom codes.now (drop place line.now) line.now) }
     ensures inside { IfSome result (λ c. place < length line.now) }

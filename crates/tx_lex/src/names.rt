@@ -13,6 +13,7 @@ use tx_char::{Cat, Codes, ControlName, Token};
 
 /// Reads the name that an escape character begins, behind which the bytes from this place on are unread. Its only
 /// error is want of memory.
+#[inline(never)]
 pub(crate) fn read_name(
     alloc: Global,
     codes: &Codes,

@@ -84,6 +84,7 @@ impl<T: Drop> Items<T> {
     }
 
     /// Puts a value behind the others. After want of memory nothing has changed.
+    #[inline(always)]
     pub fn push(&mut self, value: T) -> Result<(), AllocError>
         ensures ok { OnOk result (self.new ≡ self.old ++ value ∷ []) }
         ensures err { OnErr result (self.new ≡ self.old) }

@@ -47,6 +47,7 @@ fn note(used: &mut Option<i32>, taken: Option<u16>)
 }
 
 /// A token joins the open command, which is read by its grammar.
+#[inline(never)]
 fn feed_command(alloc: Global, s: &mut State, seen: Seen) -> Result<Event, AllocError>
     requires { s.old.phase ≡ Phase.Running }
     ensures { IfOk result (λ event. IsStepped (turns.taking (state_of s.old) seen) s.old event s.new) }
@@ -71,6 +72,7 @@ fn feed_command(alloc: Global, s: &mut State, seen: Seen) -> Result<Event, Alloc
 }
 
 /// A character or a space takes effect.
+#[inline(always)]
 fn take_at_once(alloc: Global, s: &mut State, found: AtOnce) -> Result<Event, AllocError>
     requires { s.old.phase ≡ Phase.Running }
     ensures { IfOk result (λ event. IsStepped (effect (state_of s.old) (whole found)) s.old event s.new) }
@@ -82,6 +84,7 @@ fn take_at_once(alloc: Global, s: &mut State, found: AtOnce) -> Result<Event, Al
 }
 
 /// A token joins the open command, or is one by itself, behind the word that it may have ended.
+#[inline(always)]
 fn take_settled(alloc: Global, s: &mut State, seen: Seen) -> Result<Event, AllocError>
     requires { s.old.phase ≡ Phase.Running }
     ensures { IfOk result (λ event. IsStepped (turns.taking (state_of s.old) seen) s.old event s.new) }
@@ -93,6 +96,7 @@ fn take_settled(alloc: Global, s: &mut State, seen: Seen) -> Result<Event, Alloc
 }
 
 /// A token joins the open command, and a word may end before it.
+#[inline(always)]
 fn take_command(alloc: Global, s: &mut State, seen: Seen) -> Result<Event, AllocError>
     requires { s.old.phase ≡ Phase.Running }
     ensures { IfOk result (λ event. IsStepped (turns.taking (before_token (state_of s.old) seen) seen) s.old event s.new) }
@@ -112,6 +116,7 @@ fn feed_text(alloc: Global, text: &mut Option<OpenText>, seen: Seen) -> Result<F
 }
 
 /// A token joins the open text.
+#[inline(never)]
 fn take_text(alloc: Global, s: &mut State, seen: Seen) -> Result<Event, AllocError>
     requires running { s.old.phase ≡ Phase.Running }
     requires text { is_some s.old.text ≡ true }
@@ -126,6 +131,7 @@ fn take_text(alloc: Global, s: &mut State, seen: Seen) -> Result<Event, AllocErr
 }
 
 /// A token joins the open text, or else the open command, where a word may end before it.
+#[inline(always)]
 fn take(alloc: Global, s: &mut State, seen: Seen) -> Result<Event, AllocError>
     requires { s.old.phase ≡ Phase.Running }
     ensures { IfOk result (λ event. IsStepped (turns.taken_by (state_of s.old) seen s.old.text) s.old event s.new) }

@@ -158,6 +158,7 @@ fn collect(alloc: Global, s: &mut State, factor: SpaceFactor, code: u8) -> Resul
 }
 
 /// A character, which only horizontal lists take.
+#[inline(always)]
 pub fn set_character(alloc: Global, s: &mut State, code: u8) -> Result<Event, AllocError>
     requires { s.old.phase ≡ Phase.Running }
     ensures { IfOk result (λ event. IsStepped (effects.effect (state_of s.old) (Command.Character code)) s.old event s.new) }
@@ -182,6 +183,7 @@ fn space_at(s: &mut State, factor: SpaceFactor) -> Result<Event, AllocError>
 }
 
 /// A space token.
+#[inline(never)]
 pub fn space(s: &mut State) -> Result<Event, AllocError>
     requires { s.old.phase ≡ Phase.Running }
     ensures { IfOk result (λ event. IsStepped (effects.effect (state_of s.old) Command.Space) s.old event s.new) }

@@ -110,6 +110,7 @@ impl Pending {
     /// Takes what comes next. `Marker` comes exactly where a marker is at the front; `Used` exactly where a line of which
     /// nothing but dropped characters is left is at the front, which is taken away, or nothing is pending; `E1` exactly
     /// where the line at the front has a character of category Invalid next. Its only error is want of memory.
+    #[inline(always)]
     pub fn next(&mut self, alloc: Global, codes: &Codes) -> Result<Next, AllocError>
         ensures next { IfOk result (λ next. next ≡ (step codes.now self.old).next) }
         ensures left { OnOk result (self.new ≡ (step codes.now self.old).left) }
