@@ -1,10 +1,13 @@
-//! Characters and spaces of a horizontal list, which are whole commands by themselves.
-ghost use Rattle.std.specs.Prelude.{◌≡◌, IfSome};
+//! Commands that are one token, behind which nothing is read.
+ghost use Rattle.std.specs.Prelude.{◌≡◌, ◌↔◌, IfSome, IsTrue};
+ghost use Rattle.tx_prim.specs.declared.modes.Standing.TheVariants.{Stands};
 ghost use Rattle.tx_command.specs.AtOnce as spec;
+ghost use Rattle.tx_command.specs.Standing.{standing_in as standing_of};
 
+use crate::standing::standing_in;
 use crate::taking::CommandScan;
 use tx_char::Cat;
-use tx_prim::Mode;
+use tx_prim::{Indentation, ItemKind, Mode, Prefix, Primitive, Standing};
 use tx_seen::{Meaning, Seen};
 
 /// A command that one token is.
@@ -14,52 +17,109 @@ pub enum AtOnce {
     Character(u8),
     /// A space.
     Space,
+    /// A begin-group or an end-group token.
+    BeginGroup,
+    EndGroup,
+    /// `\begingroup` and `\endgroup`.
+    BeginSemiSimple,
+    EndSemiSimple,
+    /// `\relax`, or what \noexpand holds.
+    Nothing,
+    /// A prefix of the command behind it.
+    Prefix(Prefix),
+    /// `\par`.
+    EndParagraph,
+    /// `\indent` or `\noindent`.
+    Indent(Indentation),
+    /// `\ `.
+    ControlSpace,
+    /// `\/`.
+    ItalicCorrection,
+    /// `\-`.
+    DiscretionaryHyphen,
+    /// `\unpenalty` or its kin.
+    Remove(ItemKind),
 }
 
-/// What a character is in a horizontal list, by its category.
-fn set_by(code: u8, category: Cat) -> Option<AtOnce>
-    ensures { IfSome result (λ found. spec.IsMeant (spec.character code category) found) }
+/// What a character is by itself, by its category.
+fn character_alone(code: u8, category: Cat) -> Option<AtOnce>
+    ensures { IfSome result (λ found. spec.IsAlone (spec.character code category) found) }
 {
     match category {
         Cat::Letter | Cat::Other => Some(AtOnce::Character(code)),
         Cat::Space => Some(AtOnce::Space),
-        Cat::Escape | Cat::BeginGroup | Cat::EndGroup | Cat::MathShift | Cat::AlignmentTab => None,
-        Cat::EndOfLine | Cat::Parameter | Cat::Superscript | Cat::Subscript | Cat::Ignored => None,
+        Cat::BeginGroup => Some(AtOnce::BeginGroup),
+        Cat::EndGroup => Some(AtOnce::EndGroup),
+        Cat::Escape | Cat::MathShift | Cat::AlignmentTab | Cat::EndOfLine | Cat::Parameter => None,
+        Cat::Superscript | Cat::Subscript | Cat::Ignored => None,
         Cat::Active | Cat::Comment | Cat::Invalid => None,
     }
 }
 
-/// What a token sets in a horizontal list, by what it means.
-fn set_at_once(meaning: &Meaning) -> Option<AtOnce>
-    ensures { IfSome result (λ found. spec.IsMeant meaning.now found) }
+/// What a primitive is by itself.
+fn primitive_alone(primitive: Primitive) -> Option<AtOnce>
+    ensures { IfSome result (λ found. spec.IsAlone (spec.primitive_meaning primitive) found) }
+{
+    match primitive {
+        Primitive::Relax => Some(AtOnce::Nothing),
+        Primitive::BeginGroup => Some(AtOnce::BeginSemiSimple),
+        Primitive::EndGroup => Some(AtOnce::EndSemiSimple),
+        Primitive::Prefix(prefix) => Some(AtOnce::Prefix(prefix)),
+        Primitive::Par => Some(AtOnce::EndParagraph),
+        Primitive::Indent(how) => Some(AtOnce::Indent(how)),
+        Primitive::ControlSpace => Some(AtOnce::ControlSpace),
+        Primitive::ItalicCorrection => Some(AtOnce::ItalicCorrection),
+        Primitive::DiscretionaryHyphen => Some(AtOnce::DiscretionaryHyphen),
+        Primitive::Remove(kind) => Some(AtOnce::Remove(kind)),
+        // all others are assignments, no commands, or have something read behind them
+        _ => None,
+    }
+}
+
+/// What a token that means this is by itself.
+fn alone(meaning: &Meaning) -> Option<AtOnce>
+    ensures { IfSome result (λ found. spec.IsAlone meaning.now found) }
 {
     match meaning {
-        Meaning::Character(code, category) => set_by(*code, *category),
+        Meaning::Character(code, category) => character_alone(*code, *category),
         Meaning::CharacterNumber(code) => Some(AtOnce::Character(*code)),
-        Meaning::Undefined | Meaning::Command(_) | Meaning::Expandable(_) => None,
-        Meaning::Macro(_) | Meaning::MathNumber(_) | Meaning::Font(_) | Meaning::Held => None,
+        Meaning::Command(primitive) => primitive_alone(*primitive),
+        Meaning::Held => Some(AtOnce::Nothing),
+        Meaning::Undefined | Meaning::Expandable(_) | Meaning::Macro(_) => None,
+        Meaning::MathNumber(_) | Meaning::Font(_) => None,
         Meaning::CountRegister(_) | Meaning::DimenRegister(_) => None,
         Meaning::SkipRegister(_) | Meaning::MuskipRegister(_) => None,
         Meaning::ToksRegister(_) => None,
     }
 }
 
-/// Whether a list is horizontal in a mode.
-fn is_horizontal(mode: Mode) -> bool
-    ensures { result ≡ spec.is_horizontal mode }
+/// Whether a command whose first token means this is carried out in a mode.
+fn stands(mode: Mode, meaning: &Meaning) -> bool
+    ensures { IsTrue result ↔ (standing_of mode meaning.now ≡ Stands) }
 {
-    matches!(mode, Mode::Horizontal | Mode::RestrictedHorizontal)
+    standing_in(mode, meaning) == Standing::Stands
+}
+
+/// What a token that means this is by itself in a mode. The table of the modes is asked last, since only a token that is whole by
+/// itself needs it.
+fn alone_in(mode: Mode, meaning: &Meaning) -> Option<AtOnce>
+    ensures { IfSome result (λ found. spec.IsAloneIn mode meaning.now found) }
+{
+    match alone(meaning) {
+        Some(found) if stands(mode, meaning) => Some(found),
+        Some(_) | None => None,
+    }
 }
 
 impl CommandScan {
-    /// The character or the space that this token is, where nothing of a command is taken and nothing stands before it, in a
-    /// horizontal list.
+    /// The command that this token is by itself, where nothing of a command is taken and nothing stands before it. Where it isn't
+    /// carried out in the mode, since it is refused there or a paragraph begins or ends before it, the answer is None.
     pub fn at_once(&self, seen: &Seen) -> Option<AtOnce>
         ensures { IfSome result (λ found. spec.IsWhole self.now seen.now found) }
     {
-        if self.is_begun() || !self.is_fresh() || !is_horizontal(self.mode()) {
+        if self.is_begun() || !self.is_fresh() {
             return None;
         }
-        set_at_once(&seen.meaning)
+        alone_in(self.mode(), &seen.meaning)
     }
 }

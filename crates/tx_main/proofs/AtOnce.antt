@@ -29,7 +29,7 @@ takes-at-once s t c none is =
     ∙ ap (scanned s (Took t ∷ [])) is
     ∙ ap (λ (taken : List Item). effect (record s { taken = taken }) c) (sym none)
 
--- a character or a space
+-- what one token is
 pub takes-whole-at-once : {E : Type 0} (s new : State) (t : Seen) (found : AtOnce) (answer : Result Event E) → IsWhole s.scan t found → IfOk answer (λ event. IsStepped (effect (state_of s) (whole found)) s event new) → IfOk answer (λ event. IsStepped (taking (state_of s) t) s event new)
 takes-whole-at-once s new t found (Ok event) by did = rw (takes-at-once (state_of s) t (whole found) by.between by.is) did
 takes-whole-at-once s new t found (Err e) by did = tt

@@ -2,6 +2,7 @@
 ghost use Rattle.std.specs.Prelude.{◌≡◌, ◌≢◌, ◌++◌, ◌||◌, [], Some, Ok, Err, IfOk, IfErr, OnOk};
 ghost use Rattle.tx_node.specs.Nodes.{item_of};
 ghost use Rattle.tx_assign.specs.Changes.{carried_out};
+ghost use Rattle.tx_command.specs.AtOnce.{whole};
 ghost use Rattle.tx_main.specs.Effects as effects;
 ghost use Rattle.tx_machine.specs.Machine.{kind_of};
 ghost use Rattle.tx_state.specs.Outcomes.{Asks, Fails, Ends, leaves};
@@ -24,7 +25,7 @@ use std::mem;
 use tx_assign::{Assignment, Carried, Change, relaxed, with_text};
 use tx_bytes::Bytes;
 use tx_char::{ControlName, Token};
-use tx_command::{Command, Head, Prefixes, SizeUse};
+use tx_command::{AtOnce, Command, Head, Prefixes, SizeUse};
 use tx_eqtb::{Entry, GroupKind};
 use tx_expand::escape_of;
 use tx_machine::{Ask, AskKind, Event, Stop};
@@ -508,5 +509,29 @@ pub fn carry_out(alloc: Global, s: &mut State, command: Command) -> Result<Event
         Command::BeginText(purpose) => Ok(begin_text(alloc, s, purpose)),
         Command::DefineFuture(defined) => Ok(define_future(s, defined)),
         Command::Keep(kind, token) => keep(s, kind, token),
+    }
+}
+
+/// Carries out a command that one token is. Its only error is want of memory.
+pub fn take_at_once(alloc: Global, s: &mut State, found: AtOnce) -> Result<Event, AllocError>
+    requires running { s.old.phase ≡ Phase.Running }
+    requires between { s.old.scan.taken ≡ [] }
+    ensures { IfOk result (λ event. IsStepped (effects.effect (state_of s.old) (whole found)) s.old event s.new) }
+{
+    match found {
+        AtOnce::Character(code) => set_character(alloc, s, code),
+        AtOnce::Space => space(s),
+        AtOnce::BeginGroup => open(s, GroupKind::Simple),
+        AtOnce::EndGroup => end_group(alloc, s),
+        AtOnce::BeginSemiSimple => open(s, GroupKind::SemiSimple),
+        AtOnce::EndSemiSimple => end_semi_simple(s),
+        AtOnce::Nothing => Ok(Event::Went),
+        AtOnce::Prefix(found) => Ok(prefix(s, found)),
+        AtOnce::EndParagraph => end_paragraph(alloc, s),
+        AtOnce::Indent(how) => indent(alloc, s, how),
+        AtOnce::ControlSpace => control_space(s),
+        AtOnce::ItalicCorrection => correct_italic(s),
+        AtOnce::DiscretionaryHyphen => break_word(alloc, s),
+        AtOnce::Remove(kind) => Ok(remove(s, kind)),
     }
 }

@@ -8,22 +8,20 @@ ghost use Rattle.tx_main.specs.Pages.{integer as magnification_in, page_of};
 ghost use Rattle.tx_state.specs.State.{Runs, mode_of};
 ghost use Rattle.tx_state.specs.Outcomes.{Asks};
 ghost use Rattle.tx_state.specs.Texts.{IsTextAnswered};
-ghost use Rattle.tx_command.specs.AtOnce.{whole};
-ghost use Rattle.tx_main.specs.Effects.{effect};
 ghost use Rattle.tx_main.specs.Turns as turns;
 ghost use Rattle.tx_main.specs.Words.{before_token};
 ghost use Rattle.tx_state.specs.Meanings.{IsStepped, meaning_of, state_of};
 
 use crate::boxes::{add_copy, add_list};
-use crate::effects::{ask, carry_out, end_text, fail, relax_name};
+use crate::effects::{ask, carry_out, end_text, fail, relax_name, take_at_once};
 use crate::fonts::{load_font, with_file};
 use crate::page::{integer, join_defined, line_end, ship_params};
 use crate::pages::build;
-use crate::words::{set_character, settle_word, space};
+use crate::words::settle_word;
 use std::alloc::{AllocError, Global};
 use tx_box::Work;
 use tx_bytes::Bytes;
-use tx_command::{AtOnce, Taken};
+use tx_command::Taken;
 use tx_dvi::PageBody;
 use tx_expand::{Expanded, Wanted};
 use tx_known::{Known, may_be};
@@ -68,18 +66,6 @@ fn feed_command(alloc: Global, s: &mut State, seen: Seen) -> Result<Event, Alloc
         }
         Taken::Wrong(error) => Ok(fail(s, error)),
         Taken::Whole(command) => carry_out(alloc, s, command),
-    }
-}
-
-/// A character or a space takes effect.
-#[inline(always)]
-fn take_at_once(alloc: Global, s: &mut State, found: AtOnce) -> Result<Event, AllocError>
-    requires { s.old.phase ≡ Phase.Running }
-    ensures { IfOk result (λ event. IsStepped (effect (state_of s.old) (whole found)) s.old event s.new) }
-{
-    match found {
-        AtOnce::Character(code) => set_character(alloc, s, code),
-        AtOnce::Space => space(s),
     }
 }
 

@@ -4,4 +4,4 @@ use Rattle.tx_command.proofs.taking.CommandScan.at_once.Goals as goal
 
 pub returns : goal.returns
 returns c =
-    at-once c.args.self.now c.args.seen.now c.set_at_once.result (search rules) (search rules) (search rules) c.set_at_once.ensures
+    at-once c.args.self.now c.mode.result c.args.seen.now c.alone_in.result (search rules) (search rules) (search rules) c.alone_in.ensures
