@@ -1,5 +1,5 @@
 -- What a font keeps of what its file says: of each character by its code, and of the boundary of a word.
-use Rattle.std.specs.Prelude.{◌≡◌, ℕ, ◌<◌, ◌^◌, pos, unsigned_abs, false, None, List, get_or}
+use Rattle.std.specs.Prelude.{◌≡◌, ℕ, ◌<◌, ◌^◌, pos, unsigned_abs, false, None, get_or}
 use Rattle.tx_tfm.specs.declared.characters.CharacterMetrics.{CharacterMetrics}
 use Rattle.tx_tfm.specs.declared.characters.Characters.{Characters}
 use Rattle.tx_tfm.specs.declared.metrics.Metrics.{Metrics}
