@@ -13,11 +13,10 @@ use Rattle.tx_tfm.specs.Metrics.{kern_of}
 use Rattle.tx_tfm.specs.Sound.{IsSound}
 use Rattle.tx_ligkern.specs.declared.item.LigItem.{LigItem}
 use Rattle.tx_ligkern.specs.declared.item.LigItem.TheVariants as items
-use Rattle.tx_ligkern.specs.declared.pair.Met.{Met}
 use Rattle.tx_ligkern.specs.declared.pair.Met.TheVariants.{Kern, Ligature}
 use Rattle.tx_ligkern.specs.declared.piece.Piece.{Piece}
 use Rattle.tx_ligkern.specs.declared.piece.Piece.TheVariants.{Boundary, Char}
-use Rattle.tx_ligkern.specs.Pieces.{boundary, code_of, items_of, word_of}
+use Rattle.tx_ligkern.specs.Pieces.{boundary, code_of, items_of}
 use Rattle.tx_ligkern.specs.Composing.{Becomes, Last, Apart, Kerned}
 use Rattle.tx_ligkern.specs.Composed.{composed}
 use Rattle.tx_ligkern.specs.Pairs.{is_ligature, kern_in, met_by, met_of}
