@@ -49,7 +49,6 @@ impl Font {
     }
 
     /// The font of these bytes at that size. `BadFont` names the first rule that they break, exactly where they break one.
-    #[tactic(auto, using(crate::proofs::FirstFalse::append_steps))]
     pub fn read(alloc: Global, bytes: &[u8], size: Size) -> Result<Font, FontError>
         ensures font { IfOk result (λ font. font ≡ metrics_of bytes.now size) }
         ensures broken { MatchResult result

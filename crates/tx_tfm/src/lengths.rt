@@ -1,6 +1,6 @@
 //! The lengths of a font metric file's tables, and where each table begins.
-ghost use Rattle.std.specs.Prelude.{◌≡◌, ◌-◌, ◌+◌, ◌≤◌, ◌<◌, ◌^◌, length};
-ghost use Rattle.tx_tfm.specs.Format.{lengths_of, characters_at, character_count, widths_at, heights_at, depths_at, italics_at, commands_at, kerns_at, recipes_at, parameters_at};
+ghost use Rattle.std.specs.Prelude.{◌≡◌, ◌-◌, ◌+◌, ◌*◌, ◌≤◌, ◌<◌, ◌^◌, length};
+ghost use Rattle.tx_tfm.specs.Format.{half, lengths_of, characters_at, character_count, widths_at, heights_at, depths_at, italics_at, commands_at, kerns_at, recipes_at, parameters_at};
 
 use byteorder::{BigEndian, ByteOrder};
 
@@ -27,19 +27,27 @@ pub fn read_lengths(bytes: &[u8]) -> Lengths
     ensures { result ≡ lengths_of bytes.now }
 {
     Lengths {
-        file: BigEndian::read_u16(bytes),
-        header: BigEndian::read_u16(&bytes[2..]),
-        first: BigEndian::read_u16(&bytes[4..]),
-        last: BigEndian::read_u16(&bytes[6..]),
-        widths: BigEndian::read_u16(&bytes[8..]),
-        heights: BigEndian::read_u16(&bytes[10..]),
-        depths: BigEndian::read_u16(&bytes[12..]),
-        italics: BigEndian::read_u16(&bytes[14..]),
-        commands: BigEndian::read_u16(&bytes[16..]),
-        kerns: BigEndian::read_u16(&bytes[18..]),
-        recipes: BigEndian::read_u16(&bytes[20..]),
-        parameters: BigEndian::read_u16(&bytes[22..]),
+        file: half_at(bytes, 0),
+        header: half_at(bytes, 1),
+        first: half_at(bytes, 2),
+        last: half_at(bytes, 3),
+        widths: half_at(bytes, 4),
+        heights: half_at(bytes, 5),
+        depths: half_at(bytes, 6),
+        italics: half_at(bytes, 7),
+        commands: half_at(bytes, 8),
+        kerns: half_at(bytes, 9),
+        recipes: half_at(bytes, 10),
+        parameters: half_at(bytes, 11),
     }
+}
+
+/// The number of two bytes at a place, counted in such numbers.
+fn half_at(bytes: &[u8], place: usize) -> u16
+    requires { 2 * place + 2 ≤ length bytes.now }
+    ensures { result ≡ half bytes.now place }
+{
+    BigEndian::read_u16(&bytes[2 * place..])
 }
 
 impl Lengths {

@@ -69,7 +69,6 @@ impl Parameters {
 }
 
 /// The parameters that a font's file has. Its only error is want of memory.
-#[tactic(auto, using(crate::proofs::Listed::listed_steps))]
 fn values_of(alloc: Global, font: &Font) -> Result<Vec<i32>, AllocError>
     ensures { IfOk result (λ values. values.items ≡ spec.first_parameters font.now font.now.file.lengths.parameters) }
 {
