@@ -1,5 +1,5 @@
 -- A word that is put at the end of a list from its front: a pair at a time, as long as no ligature comes.
-use Rattle.std.proofs.Common.{◌≡◌, ℕ, ◌+◌, ◌<◌, ◌≤◌, Bool, true, false, Option, Some, None, List, [], ◌∷◌, ◌++◌, length, drop, get_or, refl, sym, ap, subst, ◌∙◌, add-one, append_assoc, arith}
+use Rattle.std.proofs.Common.{◌≡◌, ℕ, suc, ◌+◌, ◌<◌, ◌≤◌, Bool, true, false, Option, Some, None, List, [], ◌∷◌, ◌++◌, length, drop, get_or, refl, sym, ap, subst, ◌∙◌, add-one, append_assoc, arith}
 use Rattle.std.specs.List.{All, flat_map}
 use Rattle.std.proofs.Math.Seq.{drop-cons}
 use Rattle.std.proofs.lemmas.Grind.{flat_map-append}
@@ -16,7 +16,7 @@ use Rattle.tx_tfm.specs.declared.named.NamedFont.{NamedFont}
 use Rattle.tx_tfm.specs.declared.state.FontState.{FontState}
 use Rattle.tx_tfm.specs.Fonts.{font_at, has_character}
 use Rattle.tx_tfm.specs.Sound.{IsSound}
-use Rattle.tx_word.specs.Composed.{composed_in, left_items, word_list, IsPaired}
+use Rattle.tx_word.specs.Composed.{composed_in, word_list, IsPaired}
 use Rattle.tx_word.specs.Words.{Composed, WithWord, word_items}
 use Rattle.tx_word.proofs.Made.{there-in}
 

@@ -1,4 +1,4 @@
-use Rattle.std.proofs.Common.{◌≡◌, ◌↔◌, ◌<◌, ℤ, pos, ◌*ℤ◌, refl, sym, subst, arith, w64, of_z, to_z, to_z-of_z}
+use Rattle.std.proofs.Common.{◌≡◌, ◌↔◌, ◌<◌, ℤ, pos, ◌*ℤ◌, refl, sym, ap, ◌∙◌, subst, arith, w64, of_z, to_z, to_z-of_z}
 use Rattle.std.specs.Prelude.{IsOk, IfOk, int_div, unsigned_abs}
 use Rattle.std.proofs.lemmas.Result.{err_from_is_err_and}
 use Rattle.tx_num.specs.Glue.{GlueSpec, IsGlue, glue_of}
@@ -40,12 +40,14 @@ returns-clause-overflow c =
 
 pub returns-then-factor-eq1000-clause-glue : goal.returns-then-factor-eq1000-clause-glue
 returns-then-factor-eq1000-clause-glue c =
+    let plain : pos 1000 ≡ c.args.factor = sym (ap (to_z w64) c.if-factor-eq1000.true) ∙ to_z-of_z c.ranges.factor in
     subst (λ (g : GlueSpec). IfOk c.at_plain_factor.result (λ (r : GlueSpec). r ≡ g))
-    (λ i. at_factor (read_back c.args.extra c.requires.extra_in i) (sym c.if-factor-eq1000.true i) (glue_of_sizes c.args.sizes))
+    (λ i. at_factor (read_back c.args.extra c.requires.extra_in i) (plain i) (glue_of_sizes c.args.sizes))
     c.at_plain_factor.ensures.glue
 
 pub returns-then-factor-eq1000-clause-overflow : goal.returns-then-factor-eq1000-clause-overflow
 returns-then-factor-eq1000-clause-overflow c =
+    let plain : pos 1000 ≡ c.args.factor = sym (ap (to_z w64) c.if-factor-eq1000.true) ∙ to_z-of_z c.ranges.factor in
     subst (λ (g : GlueSpec). IsOk c.at_plain_factor.result ↔ IsGlue g)
-    (λ i. at_factor (read_back c.args.extra c.requires.extra_in i) (sym c.if-factor-eq1000.true i) (glue_of_sizes c.args.sizes))
+    (λ i. at_factor (read_back c.args.extra c.requires.extra_in i) (plain i) (glue_of_sizes c.args.sizes))
     c.at_plain_factor.ensures.overflow

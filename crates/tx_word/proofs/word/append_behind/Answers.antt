@@ -1,4 +1,5 @@
-use Rattle.std.proofs.Common.{◌+◌, ◌++◌, Bool, false, Some, List, drop, arith, subst, ap, ◌∙◌, get_or}
+use Rattle.std.proofs.Common.{ℕ, ◌+◌, ◌++◌, Bool, false, Some, List, drop, arith, subst, ap, ◌∙◌, get_or}
+use Rattle.std.proofs.lemmas.List.{take_rest}
 use Rattle.std.proofs.lemmas.Result.{IfOk-equal}
 use Rattle.tx_node.specs.Items.{Item}
 use Rattle.tx_word.specs.Composed.{word_list, IsPaired}
@@ -7,8 +8,8 @@ use Rattle.tx_word.proofs.word.append_behind.Goals as goal
 
 pub loop-at-preserved : goal.loop-at-preserved
 loop-at-preserved c = record {
-  put = on-pair c.args.fonts.now c.args.font c.args.named.now c.args.hyphen c.requires.named c.requires.sound c.args.chars.now c.loop-at.at c.args.right c.loop-at.list c.append_pair-done.new.list c.loop-at-test.true c.requires.there
-      (subst (λ (done : Bool). IsPaired c.args.fonts.now c.args.font c.args.hyphen c.args.named.now.font (Some (get_or c.args.chars.now c.loop-at.at 0)) (Some (get_or c.args.chars.now (c.loop-at.at + 1) 0)) done c.loop-at.list c.append_pair-done.new.list)
+  put = on-pair c.args.fonts.now c.args.font c.args.named.now c.args.hyphen c.requires.named c.requires.sound c.args.chars.now c.loop-at.at c.args.right c.loop-at.list c.append_pair.new.list c.loop-at-test.true c.requires.there
+      (subst (λ (done : Bool). IsPaired c.args.fonts.now c.args.font c.args.hyphen c.args.named.now.font (Some (get_or c.args.chars.now c.loop-at.at 0)) (Some (get_or c.args.chars.now (c.loop-at.at + 1) 0)) done c.loop-at.list c.append_pair.new.list)
       c.if-not-done.false c.in_ok-done.ensures)
       ∙ c.loop-at.invariant.put;
   inside = omega arith;
@@ -25,7 +26,9 @@ returns c =
 
 pub returns-then-not-done : goal.returns-then-not-done
 returns-then-not-done c =
-    let kept = subst (λ (done : Bool). IsPaired c.args.fonts.now c.args.font c.args.hyphen c.args.named.now.font (Some (get_or c.args.chars.now c.loop-at.at 0)) (Some (get_or c.args.chars.now (c.loop-at.at + 1) 0)) done c.loop-at.list c.append_pair-done.new.list)
+    let kept = subst (λ (done : Bool). IsPaired c.args.fonts.now c.args.font c.args.hyphen c.args.named.now.font (Some (get_or c.args.chars.now c.loop-at.at 0)) (Some (get_or c.args.chars.now (c.loop-at.at + 1) 0)) done c.loop-at.list c.append_pair.new.list)
     c.if-not-done.true c.in_ok-done.ensures in
     IfOk-equal c.append_whole.result _ _ _ c.append_whole.ensures.value
-    (ap (λ (list : List Item). list ++ word_list c.args.fonts.now c.args.font (drop c.loop-at.at c.args.chars.now) false c.args.right c.args.hyphen) kept ∙ c.loop-at.invariant.put)
+    (ap (λ (part : List ℕ). c.append_pair.new.list ++ word_list c.args.fonts.now c.args.font part false c.args.right c.args.hyphen) (take_rest c.args.chars.now c.loop-at.at)
+    ∙ ap (λ (list : List Item). list ++ word_list c.args.fonts.now c.args.font (drop c.loop-at.at c.args.chars.now) false c.args.right c.args.hyphen) kept
+    ∙ c.loop-at.invariant.put)

@@ -12,13 +12,13 @@ returns-then-not-right c =
 
 pub returns-then-done : goal.returns-then-done
 returns-then-done c =
-    on-last c.args.fonts.now c.args.font c.args.named.now c.args.hyphen c.requires.named c.requires.sound c.args.code c.args.list.now c.append_pair-done.new.list c.requires.there
-    (subst (λ (done : Bool). IsPaired c.args.fonts.now c.args.font c.args.hyphen c.args.named.now.font (Some c.args.code) None done c.args.list.now c.append_pair-done.new.list) c.if-done.true c.in_ok-done.ensures)
+    on-last c.args.fonts.now c.args.font c.args.named.now c.args.hyphen c.requires.named c.requires.sound c.args.code c.args.list.now c.append_pair.new.list c.requires.there
+    (subst (λ (done : Bool). IsPaired c.args.fonts.now c.args.font c.args.hyphen c.args.named.now.font (Some c.args.code) None done c.args.list.now c.append_pair.new.list) c.if-done.true c.in_ok-done.ensures)
     ∙ ap (λ (right : Bool). c.args.list.now ++ word_list c.args.fonts.now c.args.font (c.args.code ∷ []) false right c.args.hyphen) (sym c.if-not-right.false)
 
 pub returns : goal.returns
 returns c =
-    let kept = subst (λ (done : Bool). IsPaired c.args.fonts.now c.args.font c.args.hyphen c.args.named.now.font (Some c.args.code) None done c.args.list.now c.append_pair-done.new.list) c.if-done.false c.in_ok-done.ensures in
+    let kept = subst (λ (done : Bool). IsPaired c.args.fonts.now c.args.font c.args.hyphen c.args.named.now.font (Some c.args.code) None done c.args.list.now c.append_pair.new.list) c.if-done.false c.in_ok-done.ensures in
     let right_is = sym c.if-not-right.false in
     IfOk-equal c.append_whole.result _ _ _ c.append_whole.ensures.value
     (λ i. kept i ++ word_list c.args.fonts.now c.args.font (c.args.code ∷ []) false (right_is i) c.args.hyphen)
