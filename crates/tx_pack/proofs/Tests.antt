@@ -1,14 +1,10 @@
 -- What tests of sums tell.
-use Rattle.std.proofs.Common.{◌≡◌, ℤ, Bool, true, false, ◌&&◌, Option, Some, None, refl, sym, ap, subst, ◌∙◌, if◌then◌else◌}
-use Rattle.std.proofs.lemmas.Bool.{lt-ltb, ltb-true}
-use Rattle.tx_num.specs.Glue.{GlueSpec, IsDimension}
-use Rattle.tx_node.specs.declared.head.Change.TheVariants.{Stretch, Shrink}
-use Rattle.tx_node.specs.declared.head.Direction.TheVariants.{Horizontal}
-use Rattle.tx_node.specs.Items.{Item}
-use Rattle.tx_node.specs.Sizes.{glue_of_item}
+use Rattle.std.proofs.Common.{◌≡◌, ℤ, Bool, true, false, ◌&&◌, refl}
+use Rattle.std.proofs.lemmas.Bool.{ltb-true}
+use Rattle.tx_num.specs.Glue.{IsDimension}
 use Rattle.tx_pack.specs.declared.sums.Orders.{Orders}
 use Rattle.tx_pack.specs.declared.sums.Sums.{Sums}
-use Rattle.tx_pack.specs.Sums.{fits, orders_fit, sizes_fit, all_fit, asked_fit, with_glue, beside, joined_if_fit, AreSmall, IsSmall}
+use Rattle.tx_pack.specs.Sums.{fits, orders_fit, all_fit, AreSmall, IsSmall}
 
 -- both of two tests
 pub both : {a b : Bool} → (a && b) ≡ true → (a ≡ true) × (b ≡ true)
@@ -42,28 +38,3 @@ sums-are s e = record {
   stretch = orders-are s.stretch (both (both e).1).0;
   shrink = orders-are s.shrink (both (both e).1).1;
 }
-
--- sums of stretch or shrink that are dimensions
-orders-fit : (o : Orders) → AreSmall o → orders_fit o ≡ true
-orders-fit o are = together (together (lt-ltb _ _ are.normal) (lt-ltb _ _ are.fil)) (together (lt-ltb _ _ are.fill) (lt-ltb _ _ are.filll))
-
-and-true : (a : Bool) → a ≡ (a && true)
-and-true true = refl
-and-true false = refl
-
--- where a node has no glue, its sizes alone are looked at
-module _ (s : Sums) (item : Item) (small : IsSmall s) (none : glue_of_item item ≡ None) where
-  stays : (orders_fit (beside s item).stretch && orders_fit (beside s item).shrink) ≡ true
-  stays =
-      ap (λ (g : Option GlueSpec). orders_fit (with_glue Stretch g s.stretch) && orders_fit (with_glue Shrink g s.shrink)) none
-      ∙ together (orders-fit s.stretch small.stretch) (orders-fit s.shrink small.shrink)
-
-  pub joined-by-sizes : {more : Sums} (asked sizes : Bool) → more ≡ beside s item → asked ≡ asked_fit Horizontal item → sizes ≡ sizes_fit more
-      → (if asked && sizes then Some more else None) ≡ joined_if_fit Horizontal s item
-  joined-by-sizes {more} asked sizes more_is asked_is sizes_is =
-      let all_is : sizes ≡ all_fit (beside s item) = sizes_is ∙ ap sizes_fit more_is ∙ and-true (sizes_fit (beside s item)) ∙ ap (λ (o : Bool). sizes_fit (beside s item) && o) (sym stays) in
-      λ i. if asked_is i && all_is i then Some (more_is i) else None
-
-  pub small-by-sizes : {more : Sums} → more ≡ beside s item → sizes_fit more ≡ true → IsSmall more
-  small-by-sizes more_is fits =
-      subst IsSmall (sym more_is) (sums-are (beside s item) (together (ap sizes_fit (sym more_is) ∙ fits) stays))
