@@ -20,11 +20,6 @@ and-false false = refl
 with-others : {a p : Bool} (b c : Bool) → true ≡ a → true ≡ p → (b && c) ≡ (((a && b) && c) && p)
 with-others b c a_is p_is = and-true (b && c) ∙ (λ i. ((a_is i && b) && c) && p_is i)
 
--- the three edges that aren't the point's own, from there
-pub three-are : {x y z x' y' z' : ℤ} {across above below : Bool} → across ≡ on_page x → above ≡ on_page y → below ≡ on_page z → x ≡ x' → y ≡ y' → z ≡ z'
-    → (across && (above && below)) ≡ (on_page x' && (on_page y' && on_page z'))
-three-are a b c x_is y_is z_is = λ i. (a ∙ ap on_page x_is) i && ((b ∙ ap on_page y_is) i && (c ∙ ap on_page z_is) i)
-
 -- where the point lies on the page, that the three do is that all four do
 pub all-lie : (at : Point) (sides : Sides) {h v : ℤ} {told : Bool} → true ≡ point_lies at → h ≡ at.h → v ≡ at.v
     → told ≡ (on_page (h +ℤ sides.width) && (on_page (v -ℤ sides.height) && on_page (v +ℤ sides.depth))) → told ≡ (edges_lie at sides && point_lies at)
@@ -44,4 +39,4 @@ reader-at at sides told_is is = point-is (both (sym told_is ∙ is)).1
 pub reader-behind : (at : Point) (c : CharacterItem) {told : Bool} → told ≡ (edges_lie at (character_sides c) && point_lies at) → told ≡ true → IsReader (behind_character (cursor_at at) c)
 reader-behind at c told_is is =
     let parts = both (sym told_is ∙ is) in
-    record { right = (lies-is parts.0).right; down = (point-is parts.1).down }
+    record { right = (lies-is parts.0).right; down = (point-is {at = at} parts.1).down }

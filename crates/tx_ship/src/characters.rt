@@ -120,15 +120,30 @@ fn put_at(
     Ok(behind_character(at, character))
 }
 
+/// Whether what lies so far to the right of a place of the page, or below it, lies on the page too.
+fn lies_past(place: i64, size: i32) -> bool
+    requires { unsigned_abs place < 2 ^ 30 }
+    ensures { result ≡ within.on_page (place +ℤ size) }
+{
+    is_within(place + i64::from(size))
+}
+
+/// The same of what lies so far above it.
+fn lies_above(place: i64, size: i32) -> bool
+    requires { unsigned_abs place < 2 ^ 30 }
+    ensures { result ≡ within.on_page (place -ℤ size) }
+{
+    is_within(place - i64::from(size))
+}
+
 /// Whether the right, the upper and the lower edge of a character lie on the page, which has its reference point there.
 fn sides_lie(right: i64, down: i64, character: Character) -> bool
     requires right { unsigned_abs right < 2 ^ 30 }
     requires down { unsigned_abs down < 2 ^ 30 }
     ensures { result ≡ (within.on_page (right +ℤ character.width) && (within.on_page (down -ℤ character.height) && within.on_page (down +ℤ character.depth))) }
 {
-    is_within(right + i64::from(character.width))
-        && (is_within(down - i64::from(character.height))
-            && is_within(down + i64::from(character.depth)))
+    lies_past(right, character.width)
+        && (lies_above(down, character.height) && lies_past(down, character.depth))
 }
 
 /// Whether a character lies on the page whose reference point is there: its four edges and that point do.
