@@ -1,10 +1,12 @@
 -- What tests of sums tell.
-use Rattle.std.proofs.Common.{◌≡◌, ℤ, Bool, true, false, ◌&&◌, refl}
+use Rattle.std.proofs.Common.{◌≡◌, ℤ, Bool, true, false, ◌&&◌, Some, None, refl, ap, ◌∙◌, if◌then◌else◌}
 use Rattle.std.proofs.lemmas.Bool.{ltb-true}
 use Rattle.tx_num.specs.Glue.{IsDimension}
+use Rattle.tx_node.specs.declared.head.Direction.{Direction}
+use Rattle.tx_node.specs.Items.{Item}
 use Rattle.tx_pack.specs.declared.sums.Orders.{Orders}
 use Rattle.tx_pack.specs.declared.sums.Sums.{Sums}
-use Rattle.tx_pack.specs.Sums.{fits, orders_fit, all_fit, AreSmall, IsSmall}
+use Rattle.tx_pack.specs.Sums.{fits, orders_fit, all_fit, asked_fit, joined, joined_if_fit, AreSmall, IsSmall}
 
 -- both of two tests
 pub both : {a b : Bool} → (a && b) ≡ true → (a ≡ true) × (b ≡ true)
@@ -38,3 +40,8 @@ sums-are s e = record {
   stretch = orders-are s.stretch (both (both e).1).0;
   shrink = orders-are s.shrink (both (both e).1).1;
 }
+
+-- a list's sums with one more item, which fit
+pub joined-fits : (direction : Direction) (s : Sums) (item : Item) {more : Sums} → more ≡ joined direction s item → true ≡ asked_fit direction item → true ≡ all_fit more
+    → Some more ≡ joined_if_fit direction s item
+joined-fits direction s item more_is asked_is all_is = λ i. if asked_is i && (all_is ∙ ap all_fit more_is) i then Some (more_is i) else None
