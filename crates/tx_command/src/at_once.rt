@@ -11,7 +11,7 @@ use tx_prim::{Indentation, ItemKind, Mode, Prefix, Primitive, Standing};
 use tx_seen::{Meaning, Seen};
 
 /// A command that one token is.
-#[derive(Clone, Copy, PartialEq, Eq)]
+#[derive(Clone, Copy)]
 pub enum AtOnce {
     /// A character to be set.
     Character(u8),

@@ -7,7 +7,7 @@ ghost use Rattle.tx_command.specs.Naming as spec;
 use tx_seen::{Item, Meaning, Seen};
 
 /// What the next item behind \font and the name that it defines is a part of.
-#[derive(Clone, Copy, PartialEq, Eq)]
+#[derive(Clone, Copy)]
 pub(crate) enum NamePart {
     /// An optional `=`, or a space before it.
     Equals,
