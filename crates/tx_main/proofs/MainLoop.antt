@@ -11,8 +11,9 @@ use Rattle.tx_box.specs.Sources.{appended}
 use Rattle.tx_command.specs.declared.at_once.AtOnce.{AtOnce}
 use Rattle.tx_command.specs.declared.at_once.AtOnce.TheVariants as at_once
 use Rattle.tx_command.specs.declared.types.Command.TheVariants as command
-use Rattle.tx_command.specs.AtOnce.{IsMeant, IsWhole, whole}
+use Rattle.tx_command.specs.AtOnce.{IsAloneIn, IsWhole, whole}
 use Rattle.tx_command.specs.Begun.{Begun as Beginning}
+use Rattle.tx_command.specs.Standing.{standing_in}
 use Rattle.tx_command.proofs.Alone.{at-once}
 use Rattle.tx_eqtb.specs.declared.table.Table.{Table}
 use Rattle.tx_eqtb.specs.Table.{token_meaning}
@@ -33,6 +34,11 @@ use Rattle.tx_num.specs.Glue.{GlueSpec}
 use Rattle.tx_pending.specs.declared.next.Next.TheVariants as front
 use Rattle.tx_pending.specs.Elements.{Input, step}
 use Rattle.tx_pending.specs.Plain.{behind_first}
+use Rattle.tx_prim.specs.declared.modes.Mode.{Mode}
+use Rattle.tx_prim.specs.declared.modes.Mode.TheVariants as mode_of
+use Rattle.tx_prim.specs.declared.modes.ModeTest.TheVariants as tests
+use Rattle.tx_prim.specs.declared.modes.Standing.TheVariants.{Stands}
+use Rattle.tx_prim.specs.Modes.{holds}
 use Rattle.tx_seen.specs.declared.meaning.Meaning.{Meaning}
 use Rattle.tx_seen.specs.declared.meaning.Meaning.TheVariants as meaning
 use Rattle.tx_seen.specs.declared.seen.Seen.{Seen}
@@ -68,10 +74,21 @@ continues-set code Letter set = refl
 continues-set code Other set = refl
 continues-set code _ set = cc
 
-meant-set : (code : ℕ) (kind : Cat) → is_set kind ≡ true → IsMeant (meaning.Character code kind) (at_once.Character code)
-meant-set code Letter set = record { is = refl; stands = refl; restricted = refl }
-meant-set code Other set = record { is = refl; stands = refl; restricted = refl }
-meant-set code _ set = absurd (cc set)
+stands-there : (mode : Mode) (meant : Meaning) → holds tests.Horizontal mode ≡ true → standing_in mode_of.Horizontal meant ≡ Stands → standing_in mode_of.RestrictedHorizontal meant ≡ Stands → standing_in mode meant ≡ Stands
+stands-there mode_of.Horizontal meant e h r = h
+stands-there mode_of.RestrictedHorizontal meant e h r = r
+stands-there mode_of.Vertical meant e h r = cc
+stands-there mode_of.InternalVertical meant e h r = cc
+stands-there mode_of.Math meant e h r = cc
+stands-there mode_of.DisplayMath meant e h r = cc
+
+alone-set : (mode : Mode) (code : ℕ) (kind : Cat) → holds tests.Horizontal mode ≡ true → is_set kind ≡ true → IsAloneIn mode (meaning.Character code kind) (at_once.Character code)
+alone-set mode code Letter horizontal set = record { stands = stands-there mode (meaning.Character code Letter) horizontal refl refl; is = refl }
+alone-set mode code Other horizontal set = record { stands = stands-there mode (meaning.Character code Other) horizontal refl refl; is = refl }
+alone-set mode code _ horizontal set = absurd (cc set)
+
+alone-space : (mode : Mode) → holds tests.Horizontal mode ≡ true → IsAloneIn mode (meaning.Character 32 Space) at_once.Space
+alone-space mode horizontal = record { stands = stands-there mode (meaning.Character 32 Space) horizontal refl refl; is = refl }
 
 same-either : {A : Type 0} (b : Bool) (x : A) → (if b then x else x) ≡ x
 same-either true x = refl
@@ -105,11 +122,11 @@ reads-character s left code kind awaits means comes =
     ∙ ap (taken_by (behind s left) (seen code kind)) awaits.text
 
 -- it is a command by itself
-takes-alone : (s : TexState) (code : ℕ) (kind : Cat) (found : AtOnce) → AwaitsToken s → IsMeant (meaning.Character code kind) found → taking s (seen code kind) ≡ effect s (whole found)
-takes-alone s code kind found awaits meant =
+takes-alone : (s : TexState) (code : ℕ) (kind : Cat) (found : AtOnce) → AwaitsToken s → IsAloneIn s.mode (meaning.Character code kind) found → taking s (seen code kind) ≡ effect s (whole found)
+takes-alone s code kind found awaits alone =
     let scan : Beginning = record { mode = s.mode; head = s.head; taken = s.taken } in
-    let alone : IsWhole scan (seen code kind) found = at-once scan (seen code kind) (Some found) awaits.taken awaits.head awaits.horizontal meant in
-    takes-at-once s (seen code kind) (whole found) alone.between alone.is
+    let all : IsWhole scan (seen code kind) found = at-once scan s.mode (seen code kind) (Some found) awaits.taken awaits.head refl alone in
+    takes-at-once s (seen code kind) (whole found) all.between all.is
 
 -- one that is set ends no word, and a space does
 stays : (s : TexState) (code : ℕ) (kind : Cat) → AwaitsToken s → is_set kind ≡ true → before_token s (seen code kind) ≡ s
@@ -143,7 +160,7 @@ letter-goes s font factor code awaits is_font has_factor next =
     let left : Input = behind_first M s.reader.input in
     reads-character s left code kind awaits (meaning-set s.table.table code kind next.comes.set) next.comes.next
     ∙ ap (λ (t : TexState). taking t (seen code kind)) (stays (behind s left) code kind (awaits-behind s left awaits) next.comes.set)
-    ∙ takes-alone (behind s left) code kind (at_once.Character code) (awaits-behind s left awaits) (meant-set code kind next.comes.set)
+    ∙ takes-alone (behind s left) code kind (at_once.Character code) (awaits-behind s left awaits) (alone-set s.mode code kind awaits.horizontal next.comes.set)
     ∙ sets (behind s left) font factor code is_font has_factor next.has
     ∙ set-behind s font factor code awaits.begun
 
@@ -165,7 +182,7 @@ space-goes s font factor glue awaits is_font has_factor next =
     let left : Input = behind_first S s.reader.input in
     reads-character s left 32 Space awaits refl next.comes.next
     ∙ ap (λ (t : TexState). taking t (seen 32 Space)) (ends (behind s left) (awaits-behind s left awaits))
-    ∙ takes-alone (word_ended (behind s left)) 32 Space at_once.Space (awaits-ended (behind s left) (awaits-behind s left awaits)) (record { is = refl; stands = refl; restricted = refl })
+    ∙ takes-alone (word_ended (behind s left)) 32 Space at_once.Space (awaits-ended (behind s left) (awaits-behind s left awaits)) (alone-space s.mode awaits.horizontal)
     ∙ spaces (word_ended (behind s left)) font factor glue is_font has_factor next.glue_is
     ∙ space-behind s glue awaits.begun
 

@@ -5,7 +5,6 @@ use Rattle.tx_lex.specs.declared.types.PlainToken.{PlainToken}
 use Rattle.tx_lex.specs.declared.types.PlainToken.TheVariants.{Set, Blank}
 use Rattle.tx_lex.specs.Plain.{state_behind}
 use Rattle.tx_command.specs.declared.types.Head.TheVariants.{Fresh}
-use Rattle.tx_command.specs.AtOnce.{is_horizontal}
 use Rattle.tx_command.specs.Commands.{is_begun}
 use Rattle.tx_machine.specs.Plain.{ArePlain, IsPlain}
 use Rattle.tx_machine.specs.Steps.{raised}
@@ -13,6 +12,8 @@ use Rattle.tx_node.specs.declared.plain.Plain.TheVariants.{Glue}
 use Rattle.tx_node.specs.Items.{plain}
 use Rattle.tx_num.specs.Glue.{GlueSpec}
 use Rattle.tx_pending.specs.Plain.{IsNext, behind_first}
+use Rattle.tx_prim.specs.declared.modes.ModeTest.TheVariants.{Horizontal}
+use Rattle.tx_prim.specs.Modes.{holds}
 use Rattle.tx_tfm.specs.Fonts.{has_character}
 use Rattle.tx_word.specs.Collecting.{font_of, joined}
 use Rattle.tx_word.specs.Factors.{factor_behind}
@@ -32,7 +33,7 @@ pub record AwaitsToken (s : TexState) : Type 0 where
   pub begun : s.reader.begun ≡ []
   pub head : s.head ≡ Fresh
   pub taken : is_begun s.taken ≡ false
-  pub horizontal : is_horizontal s.mode ≡ true
+  pub horizontal : holds Horizontal s.mode ≡ true
 
 -- a character that is set comes next, and the font of the word has it, where this font is current
 pub record IsLetterNext (s : TexState) (font code : ℕ) : Type 0 where

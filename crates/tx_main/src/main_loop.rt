@@ -1,7 +1,6 @@
 //! The main loop: characters that follow one another join the open word, and spaces between them end it, many turns at one go
 //! (TeX: The Program, sections 1034 to 1041).
 ghost use Rattle.std.specs.Prelude.{◌≡◌, ◌≤◌, ◌∷◌, [], true, Some, IsTrue, IfOk, OnOk, OnErr};
-ghost use Rattle.tx_command.specs.AtOnce.{is_horizontal as is_horizontal_mode};
 ghost use Rattle.tx_machine.specs.Machine.{Ready};
 ghost use Rattle.tx_machine.specs.Plain.{ArePlain, HasPassed};
 ghost use Rattle.tx_machine.specs.Steps.{raised};
@@ -22,16 +21,9 @@ use tx_machine::Steps;
 use tx_nest::{SpaceFactor, append_item};
 use tx_node::{Node, Plain};
 use tx_num::Glue;
-use tx_prim::Mode;
+use tx_prim::ModeTest;
 use tx_state::{Phase, State};
 use tx_word::space_between;
-
-/// Whether a list is horizontal in a mode.
-fn is_horizontal(mode: Mode) -> bool
-    ensures { result ≡ is_horizontal_mode mode }
-{
-    matches!(mode, Mode::Horizontal | Mode::RestrictedHorizontal)
-}
 
 /// Whether a token is read next, for a command of which nothing is taken, in a horizontal list.
 fn awaits_token(s: &State) -> bool
@@ -40,10 +32,10 @@ fn awaits_token(s: &State) -> bool
     if !s.due.is_empty() || s.text.is_some() || !s.expander.is_idle() {
         return false;
     }
-    if s.scan.is_begun() || !s.scan.is_fresh() || !is_horizontal(s.scan.mode()) {
+    if s.scan.is_begun() || !s.scan.is_fresh() {
         return false;
     }
-    true
+    ModeTest::Horizontal.holds(s.scan.mode())
 }
 
 /// A character that its font has is passed and joins the word, in a list of this space factor. Its only error is want of memory.
