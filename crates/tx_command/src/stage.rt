@@ -59,6 +59,7 @@ fn character(scans: &Scans, code: u8, category: Cat) -> Fed<Command>
 
 /// The second of the two tokens behind the name that \futurelet defines, which is to mean what it means; both are read again.
 /// Its only error is that no more owners of a name or a meaning can be counted.
+#[inline(never)]
 fn feed_second(head: &Head, token: &Seen) -> Result<Fed<Command>, AllocError>
     ensures { IfOk result (λ fed. fed ≡ Fed.Done (commands.future_of head.now token.now) 2) }
 {
@@ -79,6 +80,7 @@ fn feed_second(head: &Head, token: &Seen) -> Result<Fed<Command>, AllocError>
 }
 
 /// The token of \aftergroup or \afterassignment. Its only error is that no more owners of a name can be counted.
+#[inline(never)]
 fn feed_kept(kind: AfterKind, token: &Seen) -> Result<Fed<Command>, AllocError>
     ensures { IfOk result (λ fed. fed ≡ Fed.Done (Command.Keep kind token.now.token) 0) }
 {
@@ -159,6 +161,7 @@ impl Scans {
     }
 
     /// Takes the value that an assignment or a size needs, where this token was taken last. Its only error is want of memory.
+    #[inline(never)]
     pub(crate) fn give(&mut self, value: &Value, behind: &Seen) -> Result<Fed<Command>, AllocError>
         requires { IsWaiting self.old }
         ensures given { (mode : Mode) (head : Head) → IfOk result (IsGivenBehind (command_rest mode head) held self.old value.now behind.now self.new) }
@@ -180,6 +183,7 @@ impl Scans {
     }
 
     /// The first token of a command. Its only error is want of memory.
+    #[inline(never)]
     fn feed_first(
         &mut self,
         mode: Mode,
@@ -244,6 +248,7 @@ impl Scans {
     }
 
     /// The rule that leaders repeat, or what is skipped before it; boxes aren't repeated yet.
+    #[inline(never)]
     fn feed_leaders(&mut self, kind: LeadersKind, token: &Seen) -> Fed<Command>
         ensures { Begins (λ more. commands.leaders_of kind (Took token.now ∷ more)) self.new result }
     {

@@ -308,6 +308,7 @@ fn take<Q: Quantities>(
 
 /// Gives the values that the command needs behind the token that was taken last, as the table has them, until it needs none. Its
 /// only error is want of memory.
+#[inline(never)]
 fn settle<Q: Quantities>(
     taken: &mut Items<Item>,
     scans: &mut Scans,

@@ -593,6 +593,7 @@ impl Open {
     }
 
     /// The use of a macro. Its only error is want of memory.
+    #[inline(never)]
     pub(crate) fn use_macro(
         &mut self,
         alloc: Global,

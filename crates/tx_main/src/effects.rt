@@ -51,6 +51,7 @@ pub fn fail(s: &mut State, error: TexError) -> Event
 }
 
 /// The turn ends with an ask.
+#[inline(never)]
 pub fn ask(s: &mut State, kind: AskKind, ask: Ask) -> Event
     requires { kind ≡ kind_of ask }
     ensures { IsStepped (Asks ask (state_of s.old)) s.old result s.new }
@@ -354,6 +355,7 @@ pub fn end_text(alloc: Global, s: &mut State) -> Result<Event, AllocError>
 
 /// The name that \csname has made means \relax from now on, locally (TeX: The Program, section 372). Its only error is want of
 /// memory.
+#[inline(never)]
 pub fn relax_name(s: &mut State, name: ControlName) -> Result<Event, AllocError>
     requires { s.old.phase ≡ Phase.Running }
     ensures { IfOk result (λ event. IsStepped (leaves (effects.relaxing (state_of s.old) name)) s.old event s.new) }
@@ -458,6 +460,7 @@ fn open_by(alloc: Global, s: &mut State, opener: Opener) -> Result<Event, AllocE
 }
 
 /// Carries out a command. Its only error is want of memory.
+#[inline(never)]
 pub fn carry_out(alloc: Global, s: &mut State, command: Command) -> Result<Event, AllocError>
     requires running { s.old.phase ≡ Phase.Running }
     requires between { s.old.scan.taken ≡ [] }

@@ -130,6 +130,7 @@ fn take(alloc: Global, s: &mut State, seen: Seen) -> Result<Event, AllocError>
 }
 
 /// Tokens that \the gives belong to the open text. Its only error is want of memory.
+#[inline(never)]
 fn put_text(s: &mut State, tokens: Toks) -> Result<Event, AllocError>
     requires { s.old.phase ≡ Phase.Running }
     ensures { IfOk result (λ event. IsStepped (turns.given_to_text (state_of s.old) tokens s.old.text) s.old event s.new) }
@@ -157,6 +158,7 @@ fn wanted(s: &State) -> Wanted
 }
 
 /// The innermost file has ended: the ask for it to be closed, if it may end here.
+#[inline(never)]
 fn close(s: &mut State) -> Event
     requires { s.old.phase ≡ Phase.Running }
     ensures { IsStepped (turns.closes (state_of s.old)) s.old result s.new }
@@ -304,6 +306,7 @@ fn work_boxes(alloc: Global, s: &mut State, work: Work) -> Result<Event, AllocEr
 }
 
 /// Does a piece of work.
+#[inline(never)]
 fn work(alloc: Global, s: &mut State, due: Due) -> Result<Event, AllocError>
     requires { s.old.phase ≡ Phase.Running }
     ensures { IfOk result (λ event. IsStepped (turns.works (state_of s.old) due) s.old event s.new) }

@@ -20,6 +20,7 @@ pub fn token_of(seen: Seen) -> Token
 
 /// Puts the last tokens that were taken, so many of them, at the front of the input, in their order; what they meant is
 /// forgotten, and of `taken` nothing is said from then on. Its only error is want of memory.
+#[inline(never)]
 pub fn give_back(
     taken: &mut Items<Item>,
     input: &mut Pending,
