@@ -6,7 +6,7 @@ use crate::name::ControlName;
 use std::alloc::AllocError;
 use tx_list::Kept;
 
-/// What reading makes of characters (The TeXbook, chapter 7), and the one token that reading makes of none.
+/// What reading makes of characters (The TeXbook, chapter 7), and the two kinds of token that reading makes of none.
 #[derive(Drop)]
 pub enum Token {
     /// A character code with the category that it had when it was read. An active character is one too.
@@ -17,10 +17,14 @@ pub enum Token {
     /// It isn't the control sequence `\relax`, but it means \relax whatever that has come to mean, and it is printed as
     /// `\relax` is (TeX: The Program, sections 379 and 510).
     FrozenRelax,
+    /// TeX's frozen identifier of the font of this number, which \the makes of a font. It means the font whatever the name has come
+    /// to mean by which \font named this last, and it is printed as that name is (TeX: The Program, sections 222 and 465).
+    FontIdentifier(u8),
 }
 
 impl Token {
-    /// Whether both are the same token: the same code with the same category, the same name, or both the frozen \relax.
+    /// Whether both are the same token: the same code with the same category, the same name, both the frozen \relax, or the
+    /// identifier of the same font.
     pub fn same(&self, other: &Token) -> bool
         ensures { IsTrue result ↔ (self.now ≡ other.now) }
     {
@@ -30,6 +34,7 @@ impl Token {
             }
             (Token::Name(name), Token::Name(other_name)) => name.same(other_name),
             (Token::FrozenRelax, Token::FrozenRelax) => true,
+            (Token::FontIdentifier(font), Token::FontIdentifier(other_font)) => font == other_font,
             _ => false,
         }
     }
@@ -44,6 +49,7 @@ impl Clone for Token {
             Token::Character(code, category) => Ok(Token::Character(*code, *category)),
             Token::Name(name) => Ok(Token::Name(name.clone()?)),
             Token::FrozenRelax => Ok(Token::FrozenRelax),
+            Token::FontIdentifier(font) => Ok(Token::FontIdentifier(*font)),
         }
     }
 }

@@ -5,10 +5,9 @@ use Rattle.tx_char.specs.Character.{character}
 use Rattle.tx_char.specs.declared.category.Cat.{Cat}
 use Rattle.tx_char.specs.declared.category.Cat.TheVariants as cat
 use Rattle.tx_char.specs.declared.tokens.Token.{Token}
-use Rattle.tx_char.specs.declared.tokens.Token.TheVariants.{Character, Name, FrozenRelax}
+use Rattle.tx_char.specs.declared.tokens.Token.TheVariants.{Character, Name, FrozenRelax, FontIdentifier}
 use Rattle.tx_prim.specs.Table as primitive
 use Rattle.tx_prim.specs.Expandables as expandable
-use Rattle.tx_toklist.specs.Text.{is_letter_code}
 use Rattle.tx_toklist.specs.Macros.{Definition}
 use Rattle.tx_toklist.specs.declared.body.Slot.{Slot}
 use Rattle.tx_seen.specs.declared.meaning.Meaning.{Meaning}
@@ -17,7 +16,9 @@ use Rattle.tx_prim.specs.declared.expandable.Expandable.TheVariants.{Mark}
 use Rattle.tx_prim.specs.declared.expandable.MarkKind.{MarkKind}
 use Rattle.tx_prim.specs.declared.primitive.Primitive.TheVariants.{NullFont}
 use Rattle.tx_tfm.specs.declared.state.FontState.{FontState}
+use Rattle.tx_tfm.specs.Fonts.{font_identifier}
 use Rattle.tx_convert.specs.Fonts.{font_text}
+use Rattle.tx_convert.specs.Messages.{identifier_text, is_letter_code}
 use Rattle.tx_convert.specs.Texts.{escaped, name_text}
 
 -- whether a blank stands behind a name in the text of a macro: there is none behind one character that isn't a letter at this
@@ -30,36 +31,37 @@ abbrev pub shown_name : Option ℕ → List Cat → List ℕ → List ℕ
 shown_name escape categories name = name_text escape name ++ (if has_blank categories name then character " " ∷ [] else [])
 
 -- a token in the text of a macro: a parameter character is doubled
-abbrev pub shown : Option ℕ → List Cat → Token → List ℕ
-shown escape categories (Character code cat.Parameter) = code ∷ code ∷ []
-shown escape categories (Character code _) = code ∷ []
-shown escape categories (Name name) = shown_name escape categories name
-shown escape categories FrozenRelax = shown_name escape categories (codes "relax")
+abbrev pub shown : Option ℕ → List Cat → List FontState → Token → List ℕ
+shown escape categories fonts (Character code cat.Parameter) = code ∷ code ∷ []
+shown escape categories fonts (Character code _) = code ∷ []
+shown escape categories fonts (Name name) = shown_name escape categories name
+shown escape categories fonts FrozenRelax = shown_name escape categories (codes "relax")
+shown escape categories fonts (FontIdentifier font) = identifier_text escape (font_identifier fonts font)
 
-abbrev pub all_shown : Option ℕ → List Cat → List Token → List ℕ
-all_shown escape categories tokens = flat_map (shown escape categories) tokens
+abbrev pub all_shown : Option ℕ → List Cat → List FontState → List Token → List ℕ
+all_shown escape categories fonts tokens = flat_map (shown escape categories fonts) tokens
 
 -- the parameter with this number, and the character that stands for # before it
 abbrev pub parameter : ℕ → ℕ → List ℕ
 parameter sign number = sign ∷ decimal number
 
 -- the parameters from this number on, each with the tokens behind it
-abbrev pub parameters : Option ℕ → List Cat → ℕ → List ℕ → List (List Token) → List ℕ
-parameters escape categories number (sign ∷ signs) (delimiter ∷ delimiters) =
-    parameter sign number ++ all_shown escape categories delimiter ++ parameters escape categories (number + 1) signs delimiters
-parameters escape categories number _ _ = []
+abbrev pub parameters : Option ℕ → List Cat → List FontState → ℕ → List ℕ → List (List Token) → List ℕ
+parameters escape categories fonts number (sign ∷ signs) (delimiter ∷ delimiters) =
+    parameter sign number ++ all_shown escape categories fonts delimiter ++ parameters escape categories fonts (number + 1) signs delimiters
+parameters escape categories fonts number _ _ = []
 
 -- the character that stands for # in the body: that of the last parameter
 abbrev pub last_sign : List ℕ → ℕ
 last_sign signs = slice_index_or signs (length signs - 1) (character "#")
 
 -- the tokens of a body from this place on, with its parameters where they stand
-abbrev pub body_from : Option ℕ → List Cat → ℕ → List Token → ℕ → List Slot → List ℕ
-body_from escape categories sign tokens from [] = all_shown escape categories (drop from tokens)
-body_from escape categories sign tokens from (slot ∷ slots) =
-    all_shown escape categories (take (slot.before - from) (drop from tokens))
+abbrev pub body_from : Option ℕ → List Cat → List FontState → ℕ → List Token → ℕ → List Slot → List ℕ
+body_from escape categories fonts sign tokens from [] = all_shown escape categories fonts (drop from tokens)
+body_from escape categories fonts sign tokens from (slot ∷ slots) =
+    all_shown escape categories fonts (take (slot.before - from) (drop from tokens))
     ++ parameter sign slot.number
-    ++ body_from escape categories sign tokens slot.before slots
+    ++ body_from escape categories fonts sign tokens slot.before slots
 
 -- the prefixes with which a macro was defined
 abbrev pub prefixes : Option ℕ → Bool → Bool → List ℕ
@@ -68,13 +70,13 @@ prefixes escape long outer =
     ++ (if outer then escaped escape (codes "outer") else [])
     ++ (if long || outer then character " " ∷ [] else [])
 
-abbrev pub macro_text : Option ℕ → List Cat → Definition → List ℕ
-macro_text escape categories m =
+abbrev pub macro_text : Option ℕ → List Cat → List FontState → Definition → List ℕ
+macro_text escape categories fonts m =
     prefixes escape m.long m.outer ++ codes "macro:"
-    ++ all_shown escape categories m.parameters.before
-    ++ parameters escape categories 1 m.signs m.parameters.delimiters
+    ++ all_shown escape categories fonts m.parameters.before
+    ++ parameters escape categories fonts 1 m.signs m.parameters.delimiters
     ++ codes "->"
-    ++ body_from escape categories (last_sign m.signs) m.body.tokens 0 m.body.slots
+    ++ body_from escape categories fonts (last_sign m.signs) m.body.tokens 0 m.body.slots
 
 -- what a character is for TeX, by its category; of the last ones no token is made, and nothing means them
 abbrev pub kind_text : Cat → List ℕ
@@ -126,10 +128,10 @@ meaning_text escape categories fonts (meaning.MuskipRegister n) = escaped escape
 meaning_text escape categories fonts (meaning.ToksRegister n) = escaped escape (codes "toks") ++ register n
 meaning_text escape categories fonts (meaning.Font n) = selection fonts n
 meaning_text escape categories fonts (meaning.Expandable e) = escaped escape (expandable.name_of e)
-meaning_text escape categories fonts (meaning.Macro m) = macro_text escape categories m
+meaning_text escape categories fonts (meaning.Macro m) = macro_text escape categories fonts m
 meaning_text escape categories fonts meaning.Held = escaped escape (codes "relax")
 
 -- what it prints of \topmark and its kin, with the tokens of the mark (section 296)
-abbrev pub mark_text : Option ℕ → List Cat → MarkKind → List Token → List ℕ
-mark_text escape categories kind tokens =
-    escaped escape (expandable.name_of (Mark kind)) ++ character ":" ∷ [] ++ all_shown escape categories tokens
+abbrev pub mark_text : Option ℕ → List Cat → List FontState → MarkKind → List Token → List ℕ
+mark_text escape categories fonts kind tokens =
+    escaped escape (expandable.name_of (Mark kind)) ++ character ":" ∷ [] ++ all_shown escape categories fonts tokens

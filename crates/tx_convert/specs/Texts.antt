@@ -4,7 +4,9 @@ use Rattle.std.specs.Prelude.{ℕ, List, [], ◌∷◌, ◌++◌, ◌==◌, map,
 use Rattle.tx_char.specs.Character.{character}
 use Rattle.tx_char.specs.declared.category.Cat.TheVariants.{Space, Other}
 use Rattle.tx_char.specs.declared.tokens.Token.{Token}
-use Rattle.tx_char.specs.declared.tokens.Token.TheVariants.{Character, Name, FrozenRelax}
+use Rattle.tx_char.specs.declared.tokens.Token.TheVariants.{Character, Name, FrozenRelax, FontIdentifier}
+use Rattle.tx_tfm.specs.declared.state.FontState.{FontState}
+use Rattle.tx_tfm.specs.Fonts.{font_identifier}
 
 -- a blank is a space, of category 10, and every other character has category 12
 abbrev pub as_token : ℕ → Token
@@ -22,8 +24,10 @@ abbrev pub name_text : Option ℕ → List ℕ → List ℕ
 name_text escape [] = escaped escape (codes "csname") ++ escaped escape (codes "endcsname")
 name_text escape (code ∷ name) = escaped escape (code ∷ name)
 
--- what \string prints of a token: a character of any category, also an active one, is itself
-abbrev pub string_text : Option ℕ → Token → List ℕ
-string_text escape (Character code category) = code ∷ []
-string_text escape (Name name) = name_text escape name
-string_text escape FrozenRelax = escaped escape (codes "relax")
+-- what \string prints of a token: a character of any category, also an active one, is itself, and a font's identifier as \font
+-- named the font last
+abbrev pub string_text : Option ℕ → List FontState → Token → List ℕ
+string_text escape fonts (Character code category) = code ∷ []
+string_text escape fonts (Name name) = name_text escape name
+string_text escape fonts FrozenRelax = escaped escape (codes "relax")
+string_text escape fonts (FontIdentifier font) = escaped escape (font_identifier fonts font)

@@ -94,19 +94,28 @@ fn put_macro(
     text: &mut Bytes,
     escape: Option<u8>,
     codes: &Codes,
+    fonts: &Fonts,
     shown: &Macro,
 ) -> Result<(), AllocError>
-    ensures { OnOk result (text.new ≡ text.old ++ spec.macro_text escape codes.now shown.now) }
+    ensures { OnOk result (text.new ≡ text.old ++ spec.macro_text escape codes.now fonts.now shown.now) }
 {
     put_prefixes(text, escape, shown.is_long(), shown.is_outer())?;
     text.append(b"macro:")?;
-    put_all(text, escape, codes, shown.before())?;
-    put_parameters(text, escape, codes, shown.signs(), shown.delimiters())?;
+    put_all(text, escape, codes, fonts, shown.before())?;
+    put_parameters(
+        text,
+        escape,
+        codes,
+        fonts,
+        shown.signs(),
+        shown.delimiters(),
+    )?;
     text.append(b"->")?;
     put_body(
         text,
         escape,
         codes,
+        fonts,
         last_sign(shown.signs()),
         shown.tokens().as_slice(),
         shown.slots(),
@@ -161,7 +170,7 @@ fn put_meaning(
         Meaning::ToksRegister(number) => put_register(text, escape, b"toks", *number),
         Meaning::Font(number) => put_selection(alloc, text, fonts, *number),
         Meaning::Expandable(expandable) => put_escaped(text, escape, expandable.name()),
-        Meaning::Macro(shown) => put_macro(text, escape, codes, shown),
+        Meaning::Macro(shown) => put_macro(text, escape, codes, fonts, shown),
         Meaning::Held => put_escaped(text, escape, b"relax"),
     }
 }
@@ -192,14 +201,15 @@ pub fn push_mark(
     tokens: &mut Toks,
     escape: Option<u8>,
     codes: &Codes,
+    fonts: &Fonts,
     kind: MarkKind,
     mark: &[Token],
 ) -> Result<(), AllocError>
-    ensures { OnOk result (tokens.new ≡ tokens.old ++ as_tokens (spec.mark_text escape codes.now kind mark.now)) }
+    ensures { OnOk result (tokens.new ≡ tokens.old ++ as_tokens (spec.mark_text escape codes.now fonts.now kind mark.now)) }
 {
     let mut text = Bytes::new(alloc);
     put_escaped(&mut text, escape, Expandable::Mark(kind).name())?;
     text.push(b':')?;
-    put_all(&mut text, escape, codes, mark)?;
+    put_all(&mut text, escape, codes, fonts, mark)?;
     push_text(tokens, text.as_slice())
 }

@@ -1,14 +1,15 @@
 //! Tokens and macros as \meaning prints them.
 ghost use Rattle.std.specs.Prelude.{◌≡◌, ◌++◌, OnOk, length};
 ghost use Rattle.tx_toklist.specs.Bodies.{ArePlaced};
-ghost use Rattle.tx_toklist.specs.Text.{is_letter_code};
 ghost use Rattle.tx_convert.specs.Meanings as spec;
 ghost use Rattle.tx_convert.specs.Texts.{escaped, name_text};
 
+use crate::messages::{is_letter, print_identifier};
 use itoa::Buffer;
 use std::alloc::AllocError;
 use tx_bytes::Bytes;
 use tx_char::{Cat, Codes, Token};
+use tx_tfm::Fonts;
 use tx_toklist::{Slot, Toks};
 
 // The only error of each of these is want of memory.
@@ -38,13 +39,6 @@ fn put_name(text: &mut Bytes, escape: Option<u8>, name: &[u8]) -> Result<(), All
         }
         [_, ..] => put_escaped(text, escape, name),
     }
-}
-
-/// Whether this character is a letter at this moment.
-fn is_letter(codes: &Codes, code: u8) -> bool
-    ensures { result ≡ is_letter_code codes.now code }
-{
-    matches!(codes.get(code), Cat::Letter)
 }
 
 /// Whether a blank stands behind a name.
@@ -78,9 +72,10 @@ fn put_shown(
     text: &mut Bytes,
     escape: Option<u8>,
     codes: &Codes,
+    fonts: &Fonts,
     token: &Token,
 ) -> Result<(), AllocError>
-    ensures { OnOk result (text.new ≡ text.old ++ spec.shown escape codes.now token.now) }
+    ensures { OnOk result (text.new ≡ text.old ++ spec.shown escape codes.now fonts.now token.now) }
 {
     match token {
         Token::Character(code, Cat::Parameter) => {
@@ -90,6 +85,7 @@ fn put_shown(
         Token::Character(code, _) => text.push(*code),
         Token::Name(name) => put_shown_name(text, escape, codes, name.as_slice()),
         Token::FrozenRelax => put_shown_name(text, escape, codes, b"relax"),
+        Token::FontIdentifier(font) => print_identifier(text, escape, fonts.identifier(*font)),
     }
 }
 
@@ -98,12 +94,13 @@ pub(crate) fn put_all(
     text: &mut Bytes,
     escape: Option<u8>,
     codes: &Codes,
+    fonts: &Fonts,
     tokens: &[Token],
 ) -> Result<(), AllocError>
-    ensures { OnOk result (text.new ≡ text.old ++ spec.all_shown escape codes.now tokens.now) }
+    ensures { OnOk result (text.new ≡ text.old ++ spec.all_shown escape codes.now fonts.now tokens.now) }
 {
     for token in tokens {
-        put_shown(text, escape, codes, token)?;
+        put_shown(text, escape, codes, fonts, token)?;
     }
     Ok(())
 }
@@ -122,15 +119,16 @@ pub(crate) fn put_parameters(
     text: &mut Bytes,
     escape: Option<u8>,
     codes: &Codes,
+    fonts: &Fonts,
     signs: &[u8],
     delimiters: &[Toks],
 ) -> Result<(), AllocError>
     requires { length signs.now ≡ length delimiters.now }
-    ensures { OnOk result (text.new ≡ text.old ++ spec.parameters escape codes.now 1 signs.now delimiters.now) }
+    ensures { OnOk result (text.new ≡ text.old ++ spec.parameters escape codes.now fonts.now 1 signs.now delimiters.now) }
 {
     for k in 0..signs.len() {
         put_parameter(text, signs[k], k + 1)?;
-        put_all(text, escape, codes, delimiters[k].as_slice())?;
+        put_all(text, escape, codes, fonts, delimiters[k].as_slice())?;
     }
     Ok(())
 }
@@ -151,18 +149,19 @@ pub(crate) fn put_body(
     text: &mut Bytes,
     escape: Option<u8>,
     codes: &Codes,
+    fonts: &Fonts,
     sign: u8,
     tokens: &[Token],
     slots: &[Slot],
 ) -> Result<(), AllocError>
     requires { ArePlaced 0 (length tokens.now) slots.now }
-    ensures { OnOk result (text.new ≡ text.old ++ spec.body_from escape codes.now sign tokens.now 0 slots.now) }
+    ensures { OnOk result (text.new ≡ text.old ++ spec.body_from escape codes.now fonts.now sign tokens.now 0 slots.now) }
 {
     let mut from = 0;
     for slot in slots {
-        put_all(text, escape, codes, &tokens[from..slot.before])?;
+        put_all(text, escape, codes, fonts, &tokens[from..slot.before])?;
         put_parameter(text, sign, slot.number as usize)?;
         from = slot.before;
     }
-    put_all(text, escape, codes, &tokens[from..])
+    put_all(text, escape, codes, fonts, &tokens[from..])
 }

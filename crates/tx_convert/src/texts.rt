@@ -5,6 +5,7 @@ ghost use Rattle.tx_convert.specs.Texts.{as_tokens};
 
 use std::alloc::AllocError;
 use tx_char::{Cat, Token};
+use tx_tfm::Fonts;
 use tx_toklist::Toks;
 
 /// A character of a text as a token.
@@ -60,14 +61,20 @@ fn push_name(tokens: &mut Toks, escape: Option<u8>, name: &[u8]) -> Result<(), A
 }
 
 /// Puts what \string prints of a token behind these: a name has the escape character before it, if there is one, and no blank
-/// behind it; a character, also an active one, is itself (TeX: The Program, sections 263 and 472). Its only error is want of
-/// memory.
-pub fn push_string(tokens: &mut Toks, escape: Option<u8>, token: &Token) -> Result<(), AllocError>
-    ensures { OnOk result (tokens.new ≡ tokens.old ++ as_tokens (spec.string_text escape token.now)) }
+/// behind it, and so has the identifier of a font; a character, also an active one, is itself (TeX: The Program, sections 263 and
+/// 472). Its only error is want of memory.
+pub fn push_string(
+    tokens: &mut Toks,
+    escape: Option<u8>,
+    fonts: &Fonts,
+    token: &Token,
+) -> Result<(), AllocError>
+    ensures { OnOk result (tokens.new ≡ tokens.old ++ as_tokens (spec.string_text escape fonts.now token.now)) }
 {
     match token {
         Token::Character(code, _) => push_code(tokens, *code),
         Token::Name(name) => push_name(tokens, escape, name.as_slice()),
         Token::FrozenRelax => push_escaped(tokens, escape, b"relax"),
+        Token::FontIdentifier(font) => push_escaped(tokens, escape, fonts.identifier(*font)),
     }
 }

@@ -1,5 +1,5 @@
 -- What stands at the places of a table, and how that changes.
-use Rattle.std.specs.Prelude.{◌&&◌, ℕ, ℤ, pos, int_le, unsigned_abs, if◌then◌else◌, List, [], Option, None, unwrap_or, slice_get, slice_set}
+use Rattle.std.specs.Prelude.{◌&&◌, ◌==◌, ℕ, ℤ, pos, int_le, unsigned_abs, if◌then◌else◌, List, [], Option, None, unwrap_or, slice_get, slice_set}
 use Rattle.std.specs.FinMap.{get, insert, remove}
 use Rattle.tx_num.specs.Glue.{GlueSpec, zero_glue}
 use Rattle.tx_char.specs.declared.category.Cat.{Cat}
@@ -7,7 +7,7 @@ use Rattle.tx_char.specs.declared.category.Cat.TheVariants as category
 use Rattle.tx_char.specs.declared.tokens.Token.{Token}
 use Rattle.tx_char.specs.declared.tokens.Token.TheVariants as token
 use Rattle.tx_name.specs.Names.{Names}
-use Rattle.tx_prim.specs.declared.primitive.Primitive.TheVariants.{Relax}
+use Rattle.tx_prim.specs.declared.primitive.Primitive.TheVariants.{NullFont, Relax}
 use Rattle.tx_prim.specs.Integers.{integer_number}
 use Rattle.tx_prim.specs.Dimensions.{dimension_number}
 use Rattle.tx_prim.specs.Glues.{glue_number}
@@ -16,7 +16,7 @@ use Rattle.tx_prim.specs.declared.family.CharacterCode.TheVariants.{LowerCase, U
 use Rattle.tx_seen.specs.declared.place.Place.{Place}
 use Rattle.tx_seen.specs.declared.place.Place.TheVariants.{Name, Active, Count, Dimen, Skip, Muskip, Toks, Category, Code, Integer, Dimension, Glue, Tokens, Box, BoxSize, Font, ParShape}
 use Rattle.tx_seen.specs.declared.meaning.Meaning.{Meaning}
-use Rattle.tx_seen.specs.declared.meaning.Meaning.TheVariants.{Undefined, Command, Character}
+use Rattle.tx_seen.specs.declared.meaning.Meaning.TheVariants.{Undefined, Command, Character, Font as Selected}
 use Rattle.tx_eqtb.specs.declared.entry.Entry.{Entry}
 use Rattle.tx_eqtb.specs.declared.entry.Entry.TheVariants.{Means, InCategory, Number, Glue as Elastic, Tokens as Listed, Box as Boxed, Shape}
 use Rattle.tx_eqtb.specs.declared.table.Table.{Table}
@@ -75,13 +75,18 @@ tokens_at table (Toks number) = list_of table.token_registers number
 tokens_at table (Tokens parameter) = list_of table.token_parameters (token_number parameter)
 tokens_at table other = []
 
+-- what a name of the font of a number means, and so its identifier: to make it the current one
+abbrev pub font_meaning : ℕ → Meaning
+font_meaning font = if font == 0 then Command NullFont else Selected font
+
 -- what a token means (TeX: The Program, part 20): a name and an active character what the table says, any other character
--- itself, and the frozen \relax what \relax means at the beginning
+-- itself, the frozen \relax what \relax means at the beginning, and a font's identifier the font
 abbrev pub token_meaning : Table → Token → Meaning
 token_meaning table (token.Name name) = meaning_of table.names name
 token_meaning table (token.Character code category.Active) = active_meaning table.active code
 token_meaning table (token.Character code other) = Character code other
 token_meaning table token.FrozenRelax = Command Relax
+token_meaning table (token.FontIdentifier font) = font_meaning font
 
 -- a number as that of a font; one that none can have is that of \nullfont
 abbrev pub font_number : ℤ → ℕ

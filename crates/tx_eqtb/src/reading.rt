@@ -17,6 +17,17 @@ use tx_prim::{CharacterCode, Primitive};
 use tx_seen::{Meaning, Place};
 use tx_toklist::{TokList, Toks};
 
+/// What the identifier of the font of a number means.
+fn font_meaning(font: u8) -> Meaning
+    ensures { result ≡ spec.font_meaning font }
+{
+    if font == 0 {
+        Meaning::Command(Primitive::NullFont)
+    } else {
+        Meaning::Font(font)
+    }
+}
+
 /// A register, a code or a parameter.
 fn number_of(numbers: &Cells<i32>, at: usize) -> i32
     ensures { result ≡ spec.number_of numbers.now at }
@@ -223,6 +234,7 @@ impl Parts {
             Token::Character(code, Cat::Active) => self.active_meaning(*code),
             Token::Character(code, category) => Ok(Meaning::Character(*code, *category)),
             Token::FrozenRelax => Ok(Meaning::Command(Primitive::Relax)),
+            Token::FontIdentifier(font) => Ok(font_meaning(*font)),
         }
     }
 

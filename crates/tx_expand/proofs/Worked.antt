@@ -96,6 +96,7 @@ abbrev means : Token → Meaning
 means (token.Name n) = named_by n
 means (token.Character c category) = meaning.Character c category
 means token.FrozenRelax = meaning.Command Relax
+means (token.FontIdentifier font) = meaning.Font font
 
 -- the first mark is t\relax, the last one \a; there is no other
 abbrev marks : MarkKind → Option (List Token)

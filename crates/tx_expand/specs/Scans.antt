@@ -6,7 +6,9 @@ use Rattle.tx_seen.specs.declared.error.TexError.TheVariants.{NoAssignment}
 use Rattle.tx_seen.specs.declared.fed.Want.TheVariants.{Expanded}
 use Rattle.tx_seen.specs.declared.item.Item.{Item}
 use Rattle.tx_seen.specs.declared.item.Item.TheVariants.{Took, Gave}
+use Rattle.tx_seen.specs.declared.place.FontName.{FontName}
 use Rattle.tx_seen.specs.declared.seen.Seen.{Seen}
+use Rattle.tx_seen.specs.Seen.{font_name}
 use Rattle.tx_seen.specs.declared.error.TexError.{TexError}
 use Rattle.tx_seen.specs.declared.fed.Value.{Value}
 use Rattle.tx_seen.specs.declared.fed.Value.TheVariants.{Int, Dimen, Glue, Muglue}
@@ -70,11 +72,16 @@ quantity text begin.FontDimen rest = next (quantity_begun begin.FontDimen rest) 
 quantity text (begin.FontInteger kind) rest = next (quantity_begun (begin.FontInteger kind) rest) (printed_value text)
 quantity text other rest = Wrong NoAssignment
 
--- the list of tokens that a token stands for, or a quantity (section 465)
+-- the identifier of the font that a token tells, or a quantity
+abbrev pub identified : Bool → Option FontName → Seen → List Item → Reading Made
+identified text (Some font) t rest = Done (made.Identifier text font) rest
+identified text None t rest = quantity text (beginning t) rest
+
+-- the list of tokens that a token stands for, a font's identifier, or a quantity (sections 415 and 465)
 abbrev pub shown_by : Bool → ListBegun → Seen → List Item → Reading Made
 shown_by text (list.At place) t rest = Done (made.List text place) rest
 shown_by text list.Register t rest = next (integer rest) (λ n rest. Done (made.Register text n) rest)
-shown_by text list.Nothing t rest = quantity text (beginning t) rest
+shown_by text list.Nothing t rest = identified text (font_name t) t rest
 
 -- what stands behind \the, with its value
 abbrev pub the : Bool → List Item → Reading Made

@@ -122,7 +122,8 @@ abbrev pub named : List ℕ → Meaning → Reader → Turn
 named name meaning.Undefined r = Goes (answer.Relaxes name) r
 named name other r = Goes answer.Went r
 
--- a list of tokens is put in, or belongs to the text that the caller takes (section 467)
+-- a list of tokens is put in, or belongs to the text that the caller takes; a font's identifier is one of its own (sections 466
+-- and 467)
 abbrev pub listed : Bool → List Token → Reader → Turn
 listed false tokens r = replaced tokens r
 listed true tokens r = Goes (answer.Text tokens) (released r)
@@ -138,6 +139,7 @@ come w (made.Puts tokens) r = replaced tokens r
 come w (made.Gives tokens) r = Goes (answer.Text tokens) (released r)
 come w (made.List text place) r = listed text (w.tokens place) r
 come w (made.Register text n) r = register_listed w text (byte_of n) r
+come w (made.Identifier text font) r = listed text (token.FontIdentifier (w.font font) ∷ []) r
 come w (made.Names name) r = named name (w.meaning (token.Name name)) (released (put (token.Name name ∷ []) r))
 come w (made.Decides value) r = decided value r
 come w (made.Font font) r = replaced (as_tokens (font_text w.fonts (w.font font))) r
@@ -181,7 +183,7 @@ mark_meant other = None
 
 -- what \meaning prints: of \topmark and its kin also the tokens of the mark, if there is one (section 296)
 abbrev pub mark_shown : World → MarkKind → List ℕ
-mark_shown w kind = mark_text w.escape w.codes kind (unwrap_or (w.mark kind) [])
+mark_shown w kind = mark_text w.escape w.codes w.fonts kind (unwrap_or (w.mark kind) [])
 
 abbrev pub meaning_shown : World → Meaning → List ℕ
 meaning_shown w m = by (mark_meant m)
@@ -192,7 +194,7 @@ meaning_shown w m = by (mark_meant m)
 
 -- what is printed of a token (section 472)
 abbrev pub text_of : World → Printed → Seen → List ℕ
-text_of w printed.Token t = string_text w.escape t.token
+text_of w printed.Token t = string_text w.escape w.fonts t.token
 text_of w printed.Meaning t = meaning_shown w t.meaning
 
 -- an expansion takes a token within those around it

@@ -272,6 +272,27 @@ impl Open {
         }
     }
 
+    /// The identifier of a font stands in the place of an expansion that has ended, or belongs to the text that the caller takes.
+    /// Its only error is want of memory.
+    fn identify_font(
+        &mut self,
+        alloc: Global,
+        input: &mut Pending,
+        known: &Known,
+        text: bool,
+        font: FontName,
+    ) -> Result<Expanded, AllocError>
+        ensures { (any : Any_mode) → IfOk result (IsTurned (come (world_of (lent known.now) any) (Made.Identifier text font) (reader_of self.old input.old)) (reader_of self.new input.new)) }
+    {
+        let tokens = Toks::one(alloc, Token::FontIdentifier(known.font_number(font)))?;
+        if text {
+            release(&mut self.begun, input)?;
+            Ok(Expanded::Text(tokens))
+        } else {
+            self.replace(alloc, input, tokens)
+        }
+    }
+
     /// The name of a font stands in the place of an expansion that has ended. Its only error is want of memory.
     fn name_font(
         &mut self,
@@ -314,6 +335,7 @@ impl Open {
                 self.begun.push_front(Begun::Opening)?;
                 Ok(Expanded::Asks(name))
             }
+            Made::Identifier(text, font) => self.identify_font(alloc, input, known, text, font),
             Made::Font(font) => self.name_font(alloc, input, known, font),
         }
     }

@@ -87,11 +87,14 @@ impl Part {
                 *self = Part::Integer(IntScan::new(alloc), Figures::Register { text });
                 Ok(Fed::More(Want::Expanded))
             }
-            ListBegun::Nothing => self.feed_number(alloc, text, token),
+            ListBegun::Nothing => match token.font_name() {
+                Some(font) => Ok(Fed::Done(Made::Identifier(text, font), 0)),
+                None => self.feed_number(alloc, text, token),
+            },
         }
     }
 
-    /// Takes the token behind \the, where it begins no list of tokens. Its only error is want of memory.
+    /// Takes the token behind \the, where it begins no list of tokens and tells no font. Its only error is want of memory.
     fn feed_number(
         &mut self,
         alloc: Global,

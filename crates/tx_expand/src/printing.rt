@@ -46,8 +46,16 @@ fn push_mark_of(
     let escape = escape_of(known.table);
     let codes = known.table.categories();
     match known.pages.marks.get(kind)? {
-        Some(mark) => push_mark(alloc, tokens, escape, codes, kind, mark.as_slice()),
-        None => push_mark(alloc, tokens, escape, codes, kind, &[]),
+        Some(mark) => push_mark(
+            alloc,
+            tokens,
+            escape,
+            codes,
+            known.fonts,
+            kind,
+            mark.as_slice(),
+        ),
+        None => push_mark(alloc, tokens, escape, codes, known.fonts, kind, &[]),
     }
 }
 
@@ -84,7 +92,7 @@ pub(crate) fn push_printed(
     ensures { (any : Any_mode) → OnOk result (tokens.new ≡ tokens.old ++ as_tokens (text_of (world_of (lent known.now) any) what token.now)) }
 {
     match what {
-        Printed::Token => push_string(tokens, escape_of(known.table), &token.token),
+        Printed::Token => push_string(tokens, escape_of(known.table), known.fonts, &token.token),
         Printed::Meaning => push_shown(alloc, tokens, known, &token.meaning),
     }
 }

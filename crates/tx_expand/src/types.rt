@@ -57,6 +57,8 @@ pub enum Made {
     List(bool, Place),
     /// So does that of the register of \toks of this number.
     Register(bool, i64),
+    /// So does the identifier of this font.
+    Identifier(bool, FontName),
     /// This name stands in its place, and means \relax from now on if it had no meaning.
     Names(ControlName),
     /// The innermost test has this value.

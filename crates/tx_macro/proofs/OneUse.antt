@@ -7,7 +7,7 @@ use Rattle.std.proofs.lemmas.Bool.Decides.{leb_tells}
 use Rattle.tx_char.specs.declared.category.Cat.{Cat}
 use Rattle.tx_char.specs.declared.category.Cat.TheVariants.{Escape, BeginGroup, EndGroup, MathShift, AlignmentTab, EndOfLine, Parameter, Superscript, Subscript, Ignored, Space, Letter, Other, Active, Comment, Invalid}
 use Rattle.tx_char.specs.declared.tokens.Token.{Token}
-use Rattle.tx_char.specs.declared.tokens.Token.TheVariants.{Character, Name, FrozenRelax}
+use Rattle.tx_char.specs.declared.tokens.Token.TheVariants.{Character, Name, FrozenRelax, FontIdentifier}
 use Rattle.tx_toklist.specs.Macros.{Definition, is_begin, is_begin_category, is_end}
 use Rattle.tx_macro.specs.Tokens.{is_space, is_space_category}
 use Rattle.tx_macro.specs.Arguments.{common, depth_after, is_balanced, is_refused, level, stays_open, without_braces}
@@ -86,6 +86,7 @@ begin-visible : (t : Token) → is_begin t ≡ true → is_space t ≡ false
 begin-visible (Character code kind) h = begin-kind kind h
 begin-visible (Name name) h = refl
 begin-visible FrozenRelax h = refl
+begin-visible (FontIdentifier font) h = refl
 
 -- the first token but for spaces is one
 first-visible : (s s' : List Token) (t t' : Token) (u u' : List Token) → list_all is_space s ≡ true → list_all is_space s' ≡ true → is_space t ≡ false → is_space t' ≡ false → s ++ t ∷ u ≡ s' ++ t' ∷ u' → (t ≡ t') × (u ≡ u')

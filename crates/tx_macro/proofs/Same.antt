@@ -5,7 +5,7 @@ use Rattle.std.proofs.lemmas.Bool.Decides.{eqb_tells}
 use Rattle.tx_char.specs.declared.category.Cat.{Cat}
 use Rattle.tx_char.specs.declared.category.Cat.TheVariants.{Escape, BeginGroup, EndGroup, MathShift, AlignmentTab, EndOfLine, Parameter, Superscript, Subscript, Ignored, Space, Letter, Other, Active, Comment, Invalid}
 use Rattle.tx_char.specs.declared.tokens.Token.{Token}
-use Rattle.tx_char.specs.declared.tokens.Token.TheVariants.{Character, Name, FrozenRelax}
+use Rattle.tx_char.specs.declared.tokens.Token.TheVariants.{Character, Name, FrozenRelax, FontIdentifier}
 use Rattle.tx_char.specs.Category.{number_of}
 use Rattle.tx_macro.specs.Tokens.{is_par, same_bytes, same_token}
 
@@ -90,6 +90,16 @@ token-tells FrozenRelax (Character x k) = inr (refl, (λ h. cc))
 token-tells (Name n) FrozenRelax = inr (refl, (λ h. cc))
 token-tells FrozenRelax (Name n) = inr (refl, (λ h. cc))
 token-tells FrozenRelax FrozenRelax = inl (refl, refl)
+token-tells (Character x k) (FontIdentifier m) = inr (refl, (λ h. cc))
+token-tells (FontIdentifier m) (Character x k) = inr (refl, (λ h. cc))
+token-tells (Name n) (FontIdentifier m) = inr (refl, (λ h. cc))
+token-tells (FontIdentifier m) (Name n) = inr (refl, (λ h. cc))
+token-tells FrozenRelax (FontIdentifier m) = inr (refl, (λ h. cc))
+token-tells (FontIdentifier m) FrozenRelax = inr (refl, (λ h. cc))
+token-tells (FontIdentifier m) (FontIdentifier n) = elim (eqb_tells m n) [
+  | inl p ↦ inl (p.0, ap FontIdentifier p.1)
+  | inr p ↦ inr (p.0, (λ h. p.1 (cc h)))
+]
 token-tells (Name n) (Name m) = elim (bytes-tell n m) [
   | inl p ↦ inl (p.0, ap Name p.1)
   | inr p ↦ inr (p.0, (λ h. p.1 (cc h)))

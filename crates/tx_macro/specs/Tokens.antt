@@ -3,7 +3,7 @@ use Rattle.std.specs.Prelude.{ℕ, Bool, true, false, List, [], ◌∷◌, ◌&&
 use Rattle.tx_char.specs.declared.category.Cat.{Cat}
 use Rattle.tx_char.specs.declared.category.Cat.TheVariants.{Space}
 use Rattle.tx_char.specs.declared.tokens.Token.{Token}
-use Rattle.tx_char.specs.declared.tokens.Token.TheVariants.{Character, Name, FrozenRelax}
+use Rattle.tx_char.specs.declared.tokens.Token.TheVariants.{Character, Name, FrozenRelax, FontIdentifier}
 use Rattle.tx_char.specs.Category.{number_of}
 
 -- whether two lists of bytes are the same
@@ -12,11 +12,12 @@ same_bytes [] [] = true
 same_bytes (a ∷ xs) (b ∷ ys) = (a == b) && same_bytes xs ys
 same_bytes _ _ = false
 
--- tokens are the same if their codes and categories are, or their names
+-- tokens are the same if their codes and categories are, or their names, or the fonts of which they are the identifiers
 abbrev pub same_token : Token → Token → Bool
 same_token (Character code kind) (Character other other_kind) = (code == other) && (number_of kind == number_of other_kind)
 same_token (Name name) (Name other) = same_bytes name other
 same_token FrozenRelax FrozenRelax = true
+same_token (FontIdentifier font) (FontIdentifier other) = font == other
 same_token _ _ = false
 
 abbrev pub is_space_category : Cat → Bool

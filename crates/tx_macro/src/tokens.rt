@@ -32,6 +32,6 @@ pub(crate) fn is_paragraph(token: &Token) -> bool
 {
     match token {
         Token::Name(name) => matches!(name.as_slice(), [b'p', b'a', b'r']),
-        Token::Character(_, _) | Token::FrozenRelax => false,
+        Token::Character(_, _) | Token::FrozenRelax | Token::FontIdentifier(_) => false,
     }
 }

@@ -51,20 +51,20 @@ use Rattle.tx_seen.specs.declared.place.FontName.TheVariants.{Current, Number}
 use Rattle.tx_seen.specs.declared.meaning.Meaning.{Meaning}
 use Rattle.tx_seen.specs.declared.meaning.Meaning.TheVariants.{Font, Macro, Command as Command_meaning}
 use Rattle.tx_seen.specs.declared.place.Place.{Place}
-use Rattle.tx_seen.specs.declared.place.Place.TheVariants.{Box, Name, ParShape, Tokens}
+use Rattle.tx_seen.specs.declared.place.Place.TheVariants.{Active, Box, Name, ParShape, Tokens}
 use Rattle.tx_assign.specs.declared.types.Assignment.{Assignment}
 use Rattle.tx_assign.specs.declared.types.Change.{Change}
 use Rattle.tx_assign.specs.declared.types.Change.TheVariants.{Set, Compute, Add, Copy, Text}
 use Rattle.tx_assign.specs.Changes.{carried_out, is_global as globally, relaxed, with_text}
 use Rattle.tx_tfm.specs.declared.named.NamedFont.{NamedFont}
 use Rattle.tx_tfm.specs.declared.state.FontState.{FontState}
-use Rattle.tx_tfm.specs.Fonts.{found, loaded_state, with_font_integer, with_font_parameter}
+use Rattle.tx_tfm.specs.Fonts.{found, loaded_state, with_font_identifier, with_font_integer, with_font_parameter}
 use Rattle.tx_tfm.specs.Metrics.{metrics_of}
 use Rattle.tx_tfm.specs.Rules.{first_broken}
 use Rattle.tx_machine.specs.declared.types.Ask.TheVariants.{Whole}
 use Rattle.tx_text.specs.Definitions.{Defining as Defined_text}
 use Rattle.tx_toklist.specs.Macros.{Definition}
-use Rattle.tx_toklist.specs.Text.{printed}
+use Rattle.tx_convert.specs.Messages.{printed}
 use Rattle.tx_command.specs.declared.types.Command.{Command}
 use Rattle.tx_shape.specs.Loading.{size_asked}
 use Rattle.tx_command.specs.declared.types.Command.TheVariants.{Nothing, Space, ControlSpace, Character, ItalicCorrection, Indent, InsertPar, EndParagraph, DiscretionaryHyphen, SetFactor, SetPrevGraf, BeginShape, Open, SetDeadCycles, SetPage, SplitBox, DefineFont, LoadFont, SetFontDimen, SetFontInteger, BeginGroup, EndGroup, BeginSemiSimple, EndSemiSimple, Prefix, Define, Assign, Sized, Rule, BeginBox, UseBox, CopyBox, LastBox, Unbox, Penalize, Remove, Skip, BeginLeaders, SetDepth, End, Interact, DefineMacro, BeginText, DefineFuture, Keep}
@@ -268,7 +268,7 @@ unfoldable pub message : List ℕ → List ℕ
 message text = codes "message " ++ (text ++ 10 ∷ [])
 
 abbrev pub printing : TexState → List Token → Outcome
-printing s tokens = Leaves s (message (printed (escape_of s.table) s.table.table.categories tokens))
+printing s tokens = Leaves s (message (printed (escape_of s.table) s.table.table.categories s.words.fonts tokens))
 
 -- a text is read next, with other letters
 abbrev pub lettering : TexState → Bool → List Token → Outcome
@@ -276,7 +276,7 @@ lettering s upper tokens = leaves (record s { reader = put (map (token_for s.tab
 
 -- a \special has the bytes that its text has when it is read
 abbrev pub marking : TexState → List Token → Outcome
-marking s tokens = adding s (shared (large.Special (printed (escape_of s.table) s.table.table.categories tokens)))
+marking s tokens = adding s (shared (large.Special (printed (escape_of s.table) s.table.table.categories s.words.fonts tokens)))
 
 -- \patterns and \hyphenation: what is known of hyphenation grows, whatever groups are open (sections 934 and 1252)
 abbrev pub learned : {E : Type 0} → TexState → Result Rules E → Outcome
@@ -535,9 +535,21 @@ number_of s (Number n) = n
 abbrev pub meant : Meaning → Place → Assignment
 meant meaning place = record { place = place; change = Set (Means meaning) }
 
--- the name of \font means the font of a number (section 1257)
+-- how the identifier of a font is printed that \font gives this name: as the name, but `FONT` where that has no letters, and
+-- before an active character (section 1257)
+abbrev pub identifier_of : Place → List ℕ
+identifier_of (Name []) = codes "FONT"
+identifier_of (Name (code ∷ name)) = code ∷ name
+identifier_of (Active code) = codes "FONT" ++ code ∷ []
+identifier_of other = []
+
+-- the name of a \font is the identifier of the font of a number from now on, in all groups (section 1257)
+abbrev pub identifying : TexState → Place → ℕ → TexState
+identifying s defined n = record s { words = record s.words { fonts = with_font_identifier s.words.fonts n (identifier_of defined) } }
+
+-- it means that font too
 abbrev pub naming_font : TexState → Place → Bool → ℕ → Outcome
-naming_font s defined global n = assigning s (carried_out s.table (meant (Font n) defined) global)
+naming_font s defined global n = assigning (identifying s defined n) (carried_out s.table (meant (Font n) defined) global)
 
 -- the file of a font
 abbrev pub font_file : List ℕ → List ℕ

@@ -26,3 +26,4 @@ abbrev pub token_for : Table → CharacterCode → Token → Token
 token_for table kind (token.Character code category) = token.Character (letter_for table kind code) category
 token_for table kind (token.Name name) = token.Name name
 token_for table kind token.FrozenRelax = token.FrozenRelax
+token_for table kind (token.FontIdentifier font) = token.FontIdentifier font

@@ -26,6 +26,7 @@ use tx_assign::{Assignment, Carried, Change, relaxed, with_text};
 use tx_bytes::Bytes;
 use tx_char::{ControlName, Token};
 use tx_command::{AtOnce, Command, Head, Prefixes, SizeUse};
+use tx_convert::text_of;
 use tx_eqtb::{Entry, GroupKind};
 use tx_expand::escape_of;
 use tx_machine::{Ask, AskKind, Event, Stop};
@@ -40,7 +41,7 @@ use tx_seen::{Meaning, Place, TexError};
 use tx_shape::Opener;
 use tx_state::{KeptToken, OpenText, Phase, State, is_global};
 use tx_text::{DefinitionScan, TextScan};
-use tx_toklist::{TokList, Toks, text_of};
+use tx_toklist::{TokList, Toks};
 
 /// The run ends by an error.
 pub fn fail(s: &mut State, error: TexError) -> Event
@@ -269,6 +270,7 @@ fn print_message(alloc: Global, s: &mut State, tokens: &Toks) -> Result<Event, A
         tokens.as_slice(),
         escape_of(&s.table),
         s.table.categories(),
+        s.words.fonts(),
     )?;
     report_message(&mut s.said, text.as_slice())?;
     Ok(Event::Went)
@@ -284,6 +286,7 @@ fn add_special(alloc: Global, s: &mut State, tokens: &Toks) -> Result<Event, All
         tokens.as_slice(),
         escape_of(&s.table),
         s.table.categories(),
+        s.words.fonts(),
     )?;
     let node = Node::from_shared(alloc, Shared::Special(text))?;
     add(s, node)
@@ -502,7 +505,7 @@ pub fn carry_out(alloc: Global, s: &mut State, command: Command) -> Result<Event
         Command::SetDeadCycles(number) => set_dead_cycles(s, number),
         Command::SetPage(quantity, value) => set_page(s, quantity, value),
         Command::DefineFont(defined) => define_font(s, defined),
-        Command::LoadFont(defined, name, size) => find_font(s, defined, name, size),
+        Command::LoadFont(defined, name, size) => find_font(alloc, s, defined, name, size),
         Command::SetFontDimen(font, number, size) => set_dimension(s, font, number, size),
         Command::SetFontInteger(kind, font, value) => set_integer(s, kind, font, value),
         Command::Remove(kind) => Ok(remove(s, kind)),

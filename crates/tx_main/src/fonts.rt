@@ -1,5 +1,5 @@
 //! Fonts that are named, loaded and changed (TeX: The Program, sections 1253 and 1256 to 1260).
-ghost use Rattle.std.specs.Prelude.{◌≡◌, ◌<◌, ◌≤◌, [], Some, None, length, nat_lt, IfOk};
+ghost use Rattle.std.specs.Prelude.{◌≡◌, ◌<◌, ◌≤◌, ◌++◌, [], Some, None, codes, length, nat_lt, IfOk};
 ghost use Rattle.tx_tfm.specs.Rules.{first_broken};
 ghost use Rattle.tx_command.specs.declared.types.Command.{Command};
 ghost use Rattle.tx_state.specs.declared.parts.Phase.{Phase};
@@ -51,11 +51,42 @@ pub fn define_font(s: &mut State, defined: Place) -> Result<Event, AllocError>
     }
 }
 
-/// The name of \font means the font of a number. Its only further error is want of memory.
-fn name_font(s: &mut State, defined: Place, global: bool, number: u8) -> Result<Event, AllocError>
+/// `FONT` with this behind it. Its only error is want of memory.
+fn font_and(alloc: Global, behind: &[u8]) -> Result<Bytes, AllocError>
+    ensures { IfOk result (λ text. text ≡ codes "FONT" ++ behind.now) }
+{
+    let mut text = Bytes::from_slice(alloc, b"FONT")?;
+    text.append(behind)?;
+    Ok(text)
+}
+
+/// How the identifier of a font is printed that \font gives this name. Its only error is want of memory.
+fn identifier_of(alloc: Global, defined: &Place) -> Result<Bytes, AllocError>
+    ensures { IfOk result (λ text. text ≡ effects.identifier_of defined.now) }
+{
+    match defined {
+        Place::Name(name) => match name.as_slice() {
+            [] => font_and(alloc, &[]),
+            name => Bytes::from_slice(alloc, name),
+        },
+        Place::Active(code) => font_and(alloc, &[*code]),
+        _ => Ok(Bytes::new(alloc)),
+    }
+}
+
+/// The name of \font means the font of a number, and is its identifier. Its only further error is want of memory.
+fn name_font(
+    alloc: Global,
+    s: &mut State,
+    defined: Place,
+    global: bool,
+    number: u8,
+) -> Result<Event, AllocError>
     requires { s.old.phase ≡ Phase.Running }
     ensures { IfOk result (λ event. IsStepped (effects.naming_font (state_of s.old) defined global number) s.old event s.new) }
 {
+    let identifier = identifier_of(alloc, &defined)?;
+    s.words.set_identifier(number, identifier)?;
     assign_so(s, meant(Meaning::Font(number), defined), global)
 }
 
@@ -80,6 +111,7 @@ fn ask_font(s: &mut State, request: FontRequest) -> Result<Event, AllocError>
 
 /// \font with all that belongs to it: the font that has the name and the size, or else its file is asked for.
 pub fn find_font(
+    alloc: Global,
     s: &mut State,
     defined: Place,
     name: Bytes,
@@ -92,7 +124,7 @@ pub fn find_font(
     let size = asked.size();
     let global = s.scan.prefixes().global;
     match s.words.fonts().find(name.as_slice(), size) {
-        Some(number) => name_font(s, defined, global, number),
+        Some(number) => name_font(alloc, s, defined, global, number),
         None => ask_font(
             s,
             FontRequest {
@@ -135,7 +167,7 @@ fn add_font(
     let hyphen = integer(&s.table, IntegerParameter::Defaulthyphenchar);
     let skew = integer(&s.table, IntegerParameter::Defaultskewchar);
     let number = s.words.push(alloc, font, hyphen, skew)?;
-    name_font(s, defined, global, number)
+    name_font(alloc, s, defined, global, number)
 }
 
 /// The font of these bytes is loaded, if they are those of one. Its only further error is want of memory.

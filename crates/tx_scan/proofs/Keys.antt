@@ -31,6 +31,7 @@ other-by c (token.Character code Comment) m other low high h = codes-differ c co
 other-by c (token.Character code Invalid) m other low high h = codes-differ c code other low high h
 other-by c (token.Name name) m other low high h = refl
 other-by c token.FrozenRelax m other low high h = refl
+other-by c (token.FontIdentifier font) m other low high h = refl
 
 other-key : (c d : ℕ) (t : Seen) → c ≡ d → (d ≡ 109 → ⊥) → 78 ≤ d → d ≤ 140 → is_key c t ≡ true → is_key 109 t ≡ false
 other-key c d t same other low high h = other-by d t.token t.meaning other low high (ap (λ (x : ℕ). is_key x t) (sym same) ∙ h)

@@ -32,6 +32,7 @@ letter_of (token.Character code Active) = None
 letter_of (token.Character code _) = Some code
 letter_of (token.Name name) = None
 letter_of token.FrozenRelax = None
+letter_of (token.FontIdentifier font) = None
 
 -- one more character must be there
 abbrev pub with_letter : {A : Type 0} → Option ℕ → (ℕ → Reading A) → Reading A

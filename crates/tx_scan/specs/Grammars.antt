@@ -36,6 +36,7 @@ named (token.Character code Space) later rest = later
 named (token.Character code Active) later rest = Done (place.Active code) rest
 named (token.Character code _) later rest = Wrong MissingName
 named token.FrozenRelax later rest = Wrong MissingName
+named (token.FontIdentifier font) later rest = Wrong MissingName
 
 -- a name must be there (TeX: The Program, section 1215)
 abbrev pub name : List Item → Reading Place

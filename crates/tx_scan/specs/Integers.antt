@@ -56,6 +56,7 @@ code_named (token.Character code category) = Some code
 code_named (token.Name (code ∷ [])) = Some code
 code_named (token.Name _) = None
 code_named token.FrozenRelax = None
+code_named (token.FontIdentifier font) = None
 
 -- a code, if there is one, and an optional space
 abbrev pub coded : Option ℕ → List Item → Reading Ended

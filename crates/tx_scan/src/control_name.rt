@@ -30,7 +30,7 @@ fn letter_of(token: &Token) -> Option<u8>
     match token {
         Token::Character(_, Cat::Active) => None,
         Token::Character(code, _) => Some(*code),
-        Token::Name(_) | Token::FrozenRelax => None,
+        Token::Name(_) | Token::FrozenRelax | Token::FontIdentifier(_) => None,
     }
 }
 

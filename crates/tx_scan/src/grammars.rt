@@ -117,7 +117,9 @@ impl NameScan {
             Token::Name(name) => Ok(Fed::Done(Place::Name(name.clone()?), 0)),
             Token::Character(_, Cat::Space) => Ok(Fed::More(Want::Raw)),
             Token::Character(code, Cat::Active) => Ok(Fed::Done(Place::Active(*code), 0)),
-            Token::Character(_, _) | Token::FrozenRelax => Ok(Fed::Wrong(TexError::MissingName)),
+            Token::Character(_, _) | Token::FrozenRelax | Token::FontIdentifier(_) => {
+                Ok(Fed::Wrong(TexError::MissingName))
+            }
         }
     }
 }

@@ -127,7 +127,7 @@ pub(crate) fn character_named(token: &Token) -> Option<u8>
             [code] => Some(*code),
             _ => None,
         },
-        Token::FrozenRelax => None,
+        Token::FrozenRelax | Token::FontIdentifier(_) => None,
     }
 }
 

@@ -107,3 +107,4 @@ is_key c t = is_letter t.token
     is_letter (token.Character code _) = (code == c) || (code + (character "a" - character "A") == c)
     is_letter (token.Name name) = false
     is_letter token.FrozenRelax = false
+    is_letter (token.FontIdentifier font) = false

@@ -163,7 +163,7 @@ impl Seen {
             Token::Character(_, Cat::Active) => false,
             Token::Character(code, _) => *code == letter
                 || u16::from(*code) + 32 == u16::from(letter),
-            Token::Name(_) | Token::FrozenRelax => false,
+            Token::Name(_) | Token::FrozenRelax | Token::FontIdentifier(_) => false,
         }
     }
 }

@@ -157,6 +157,7 @@ key-once (token.Character code Active) m h = refl
 key-once (token.Character code _) m h = grind arith
 key-once (token.Name name) m h = refl
 key-once token.FrozenRelax m h = refl
+key-once (token.FontIdentifier font) m h = refl
 
 defined-by : {A : Type 0} (u : Bool) (x : Reading A) → u ≡ false → (if u then Wrong Undefined else x) ≡ x
 defined-by false x e = refl

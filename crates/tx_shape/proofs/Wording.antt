@@ -33,6 +33,7 @@ key-once (token.Character code Active) m h = refl
 key-once (token.Character code _) m h = grind arith
 key-once (token.Name name) m h = refl
 key-once token.FrozenRelax m h = refl
+key-once (token.FontIdentifier font) m h = refl
 
 -- a token where a begin-group token is to be
 by-group : (opening : Opening) (u skipped begins : Bool) (xs : List Item) → u ≡ false → next (if u then Wrong Undefined else if skipped then left_brace xs else if begins then Done tt xs else Wrong MissingBeginGroup) (λ _ rest. Done (begun opening Natural) rest) ≡ lost_rest opening (if skipped then lost.Brace else if begins then lost.Begun 0 else lost.Bare) [] xs

@@ -6,7 +6,7 @@ use Rattle.std.proofs.lemmas.List.{length-set}
 use Rattle.tx_char.specs.declared.category.Cat.{Cat}
 use Rattle.tx_char.specs.declared.category.Cat.TheVariants.{Escape, BeginGroup, EndGroup, MathShift, AlignmentTab, EndOfLine, Parameter, Superscript, Subscript, Ignored, Space, Letter, Other, Active, Comment, Invalid}
 use Rattle.tx_char.specs.declared.tokens.Token.{Token}
-use Rattle.tx_char.specs.declared.tokens.Token.TheVariants.{Character, Name, FrozenRelax}
+use Rattle.tx_char.specs.declared.tokens.Token.TheVariants.{Character, Name, FrozenRelax, FontIdentifier}
 use Rattle.tx_toklist.specs.Bodies.{BodyText}
 use Rattle.tx_toklist.specs.Macros.{Parameters, is_begin, is_begin_category, is_delimiter, is_end, is_end_category, is_known, last_delimiter, with_token}
 use Rattle.tx_text.specs.declared.stages.Stage.{Stage}
@@ -126,6 +126,7 @@ begin-no-end : (t : Token) → is_begin t ≡ true → not (is_end t) ≡ true
 begin-no-end (Character code kind) h = category-begins kind h
 begin-no-end (Name name) h = refl
 begin-no-end FrozenRelax h = refl
+begin-no-end (FontIdentifier font) h = refl
 
 by-token : (p : Parameters) (signs : List ℕ) (body : BodyText) (stage now : Stage) (t : Token) → IsSound p signs body stage → IsTrue (is_heading stage) → not (is_end t) ≡ true → (IsTrue (is_heading now) → is_braceless t ≡ true) → IsSound (with_token p t) signs body now
 by-token p signs body stage now t s heading no-end braceless = record {

@@ -56,6 +56,7 @@ means (token.Name n) =
     cond (same_text n (codes "relax")) (meaning.Command Relax) meaning.Undefined)))
 means (token.Character c category) = meaning.Character c category
 means token.FrozenRelax = meaning.Command Relax
+means (token.FontIdentifier font) = meaning.Font font
 
 abbrev seen : Token → Seen
 seen t = record { token = t; meaning = means t }

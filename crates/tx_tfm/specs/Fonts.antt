@@ -1,6 +1,6 @@
 -- The fonts of a run (TeX: The Program, sections 549, 552, 578 and 1257 to 1260): number 0 is \nullfont, without characters, and the
 -- fonts that were loaded have the numbers from 1 on, in their order. Beside what its file says each has parameters, a \hyphenchar and
--- a \skewchar, which commands change.
+-- a \skewchar, which commands change, and an identifier.
 use Rattle.std.specs.Prelude.{ℕ, zero, suc, ◌+◌, ◌^◌, ◌<◌, ◌≤◌, ◌==◌, ◌&&◌, ◌||◌, max, nat_le, nat_lt, if◌then◌else◌, Bool, false, ℤ, pos, neg_ℤ, List, [], ◌∷◌, length, slice_get, slice_set, Option, Some, None, option_and_then, codes, bytes_eq}
 use Rattle.std.specs.List.{All}
 use Rattle.std.specs.Option.{option_map_or}
@@ -15,7 +15,7 @@ use Rattle.tx_tfm.specs.Parameters.{first_parameters, parameter_at, with_value}
 
 -- \nullfont as INITEX has it: seven parameters that are 0, \hyphenchar 45 and \skewchar -1 (section 552)
 abbrev pub null_state : FontState
-null_state = record { named = None; parameters = []; hyphen = pos 45; skew = neg_ℤ (pos 1) }
+null_state = record { named = None; parameters = []; hyphen = pos 45; skew = neg_ℤ (pos 1); identifier = [] }
 
 abbrev pub no_fonts : List FontState
 no_fonts = null_state ∷ []
@@ -83,13 +83,24 @@ font_integer kind fonts number = option_map_or (state_integer kind) (slice_get f
 abbrev pub with_font_integer : FontNumber → List FontState → ℕ → ℤ → List FontState
 with_font_integer kind fonts number value = changed (with_integer kind value) fonts number
 
+-- the text of a font's identifier: the name by which \font named the font last, and `nullfont` (sections 552 and 1257)
+abbrev pub font_identifier : List FontState → ℕ → List ℕ
+font_identifier fonts zero = codes "nullfont"
+font_identifier fonts (suc n) = option_map_or (λ (s : FontState). s.identifier) (slice_get fonts (suc n)) []
+
+abbrev pub with_identifier : List ℕ → FontState → FontState
+with_identifier text state = record state { identifier = text }
+
+abbrev pub with_font_identifier : List FontState → ℕ → List ℕ → List FontState
+with_font_identifier fonts number text = changed (with_identifier text) fonts number
+
 -- the name of a font as \font was given it
 abbrev pub font_name : List FontState → ℕ → List ℕ
 font_name fonts number = option_map_or (λ (f : NamedFont). f.name) (font_at fonts number) (codes "nullfont")
 
 -- a font when it is loaded (section 576)
 abbrev pub loaded_state : NamedFont → ℤ → ℤ → FontState
-loaded_state f hyphen skew = record { named = Some f; parameters = first_parameters f.font f.font.file.lengths.parameters; hyphen = hyphen; skew = skew }
+loaded_state f hyphen skew = record { named = Some f; parameters = first_parameters f.font f.font.file.lengths.parameters; hyphen = hyphen; skew = skew; identifier = [] }
 
 -- \font gives the first loaded font of the name that is used at the size (section 1260)
 abbrev pub is_asked : List ℕ → Size → NamedFont → Bool

@@ -7,6 +7,7 @@ use super::rules::Size;
 use super::state::FontState;
 use std::alloc::{AllocError, Global};
 use std::marker::Model;
+use tx_bytes::Bytes;
 use tx_list::{Items, Kept, same_items};
 use tx_prim::FontNumber;
 
@@ -234,6 +235,36 @@ impl Fonts {
         let at = usize::from(number) - 1;
         if at < self.loaded.len() {
             self.loaded[at].set_integer(kind, value);
+        }
+    }
+
+    /// The text of the identifier of the font of a number: the name by which \font named it last, or `nullfont` (TeX: The Program,
+    /// sections 552 and 1257).
+    #[tactic(auto, using(crate::proofs::Numbered::number_steps))]
+    pub fn identifier(&self, number: u8) -> &[u8]
+        ensures { result.now ≡ spec.font_identifier self.now number }
+    {
+        if number == 0 {
+            return b"nullfont";
+        }
+        match self.state(number) {
+            Some(state) => state.identifier.as_slice(),
+            None => b"",
+        }
+    }
+
+    /// Gives the identifier of the font of a number a text; nothing changes where no font has it.
+    #[tactic(auto, using(crate::proofs::Numbered::number_steps))]
+    pub fn set_identifier(&mut self, number: u8, identifier: Bytes)
+        ensures { self.new ≡ spec.with_font_identifier self.old number identifier }
+    {
+        if number == 0 {
+            self.null.set_identifier(identifier);
+            return;
+        }
+        let at = usize::from(number) - 1;
+        if at < self.loaded.len() {
+            self.loaded[at].set_identifier(identifier);
         }
     }
 

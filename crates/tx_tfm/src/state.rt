@@ -1,4 +1,4 @@
-//! What \fontdimen, \hyphenchar and \skewchar say of a font, beside what its file says.
+//! What \fontdimen, \hyphenchar and \skewchar say of a font, and its identifier, beside what its file says.
 ghost use Rattle.std.specs.Prelude.{◌≡◌, ◌↔◌, ◌<◌, ◌≤◌, ◌^◌, false, option_copied, unsigned_abs, IsTrue, IfOk, OnOk};
 ghost use Rattle.std.specs.Option.{option_map_or};
 ghost use Rattle.tx_tfm.specs.Fonts as spec;
@@ -8,6 +8,7 @@ use super::named::{LoadedFont, NamedFont};
 use super::parameters::Parameters;
 use super::rules::Size;
 use std::alloc::{AllocError, Global};
+use tx_bytes::Bytes;
 use tx_list::Kept;
 use tx_prim::FontNumber;
 
@@ -25,6 +26,8 @@ pub struct FontState {
     pub hyphen: i32,
     /// \skewchar.
     pub skew: i32,
+    /// The text of the font's identifier, by which \font named it last; empty for \nullfont, and until then.
+    pub identifier: Bytes,
 }
 
 impl FontState {
@@ -37,10 +40,12 @@ impl FontState {
             parameters: Parameters::new(alloc),
             hyphen: i32::from(b'-'),
             skew: -1,
+            identifier: Bytes::new(alloc),
         }
     }
 
-    /// A font that is loaded now: it has the parameters of its file, and these numbers. Its only error is want of memory.
+    /// A font that is loaded now: it has the parameters of its file, and these numbers, and no identifier yet. Its only error is
+    /// want of memory.
     pub(crate) fn loaded(
         alloc: Global,
         font: NamedFont,
@@ -55,6 +60,7 @@ impl FontState {
             parameters,
             hyphen,
             skew,
+            identifier: Bytes::new(alloc),
         })
     }
 
@@ -122,6 +128,14 @@ impl FontState {
             FontNumber::Skew => self.skew = value,
         }
     }
+
+    /// Gives its identifier a text.
+    pub(crate) fn set_identifier(&mut self, identifier: Bytes)
+        ensures value { self.new ≡ spec.with_identifier identifier self.old }
+        ensures named { self.new.named ≡ self.old.named }
+    {
+        self.identifier = identifier;
+    }
 }
 
 /// Whether both are the same loaded font, or \nullfont.
@@ -152,12 +166,14 @@ impl Kept for FontState {
             parameters: self.parameters.share()?,
             hyphen: self.hyphen,
             skew: self.skew,
+            identifier: self.identifier.clone()?,
         })
     }
 
     fn same(&self, other: &Self) -> bool {
         self.hyphen == other.hyphen
             && self.skew == other.skew
+            && self.identifier.same(&other.identifier)
             && self.parameters.same(&other.parameters)
             && same_named(&self.named, &other.named)
     }

@@ -1,18 +1,16 @@
 //! Lists of tokens: those that one owner builds, those that many share, and the macros that are made of them (The
 //! TeXbook, chapter 20; TeX: The Program, parts 20 and 25).
 //!
-//! Proved: lists are the lists that they are said to be, `same` is exactly equality, and tokens are printed exactly as
-//! defined. Only tested: that this is how TeX prints them.
+//! Proved: lists are the lists that they are said to be, and `same` is exactly equality. Nothing is left to tests.
 //!
-//! Modules in reading order: `toks`, `tok_list`, `text`, `parameters`, `body`, `macros`; and `item`, what is fed where not
-//! every token may come.
+//! Modules in reading order: `toks`, `tok_list`, `parameters`, `body`, `macros`; and `item`, what is fed where not every token
+//! may come.
 #![tactic(auto)]
 
 mod body;
 mod item;
 mod macros;
 mod parameters;
-mod text;
 mod tok_list;
 mod toks;
 
@@ -20,6 +18,5 @@ pub use body::{Body, Slot, Slots};
 pub use item::Item;
 pub use macros::Macro;
 pub use parameters::ParameterText;
-pub use text::text_of;
 pub use tok_list::TokList;
 pub use toks::{Lists, Toks};

@@ -7,7 +7,7 @@ use Rattle.tx_prim.specs.declared.family.FontNumber.TheVariants.{Hyphen, Skew}
 use Rattle.tx_tfm.specs.declared.named.NamedFont.{NamedFont}
 use Rattle.tx_tfm.specs.declared.state.FontState.{FontState}
 use Rattle.tx_tfm.specs.Format.{is_there}
-use Rattle.tx_tfm.specs.Fonts.{font_at, has_character, with_font_integer, with_integer}
+use Rattle.tx_tfm.specs.Fonts.{font_at, has_character, with_font_identifier, with_font_integer, with_identifier, with_integer}
 use Rattle.tx_tfm.proofs.Numbered.{font_at_changed, has_more}
 use Rattle.tx_word.specs.declared.open.OpenWord.{OpenWord}
 use Rattle.tx_word.specs.Collecting.{AreCollecting, Collecting, IsOpen, font_of, joined}
@@ -48,11 +48,23 @@ open-integer (Ok done) old new word kind number value ok err opened =
     open-files old new word (λ (at : ℕ). ap (λ (fonts : List FontState). font_at fonts at) ok ∙ font_at_changed (with_integer kind value) (integer-keeps kind value) old number at) opened
 open-integer (Err e) old new word kind number value ok err opened = subst (λ (fonts : List FontState). AreCollecting fonts word) (sym err) opened
 
+-- nor is its identifier
+pub open-identifier : {T E : Type 0} (r : Result T E) (old new : List FontState) (word : Option OpenWord) (number : ℕ) (text : List ℕ)
+    → OnOk r (new ≡ with_font_identifier old number text) → OnErr r (new ≡ old) → AreCollecting old word → AreCollecting new word
+open-identifier (Ok done) old new word number text ok err opened =
+    open-files old new word (λ (at : ℕ). ap (λ (fonts : List FontState). font_at fonts at) ok ∙ font_at_changed (with_identifier text) (λ (s : FontState). refl) old number at) opened
+open-identifier (Err e) old new word number text ok err opened = subst (λ (fonts : List FontState). AreCollecting fonts word) (sym err) opened
+
 -- fonts that are changed in one way are so behind the words
 pub words-with : {T E : Type 0} (change : List FontState → ℤ → List FontState) (r : Result T E) (old : Collecting) (fonts new : List FontState) (word : Option OpenWord) (given value : ℤ)
     → collecting fonts word ≡ old → given ≡ value → OnOk r (new ≡ change fonts given) → OnOk r (collecting new word ≡ record old { fonts = change old.fonts value })
 words-with change (Ok done) old fonts new word given value is same e = λ i. record { fonts = (e ∙ (λ j. change ((is j).fonts) (same j))) i; word = (is i).word }
 words-with change (Err e) old fonts new word given value is same ok = tt
+
+pub words-by : {T E : Type 0} (change : List FontState → List FontState) (r : Result T E) (old : Collecting) (fonts new : List FontState) (word : Option OpenWord)
+    → collecting fonts word ≡ old → OnOk r (new ≡ change fonts) → OnOk r (collecting new word ≡ record old { fonts = change old.fonts })
+words-by change (Ok done) old fonts new word is e = λ i. record { fonts = (e ∙ (λ j. change ((is j).fonts))) i; word = (is i).word }
+words-by change (Err e) old fonts new word is ok = tt
 
 -- fonts that were taken to be changed, a copy or not, are those that there were
 pub one-way : {A : Type 0} → A ⊎ A → A

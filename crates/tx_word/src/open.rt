@@ -1,6 +1,6 @@
 //! The word that is open, and the fonts.
 ghost use Rattle.std.specs.Prelude.{◌≡◌, ◌↔◌, ◌<◌, ◌≤◌, ◌++◌, ◌∷◌, [], true, None, Some, is_some, length, ℕ, IsTrue, IfOk, OnOk, OnErr};
-ghost use Rattle.tx_tfm.specs.Fonts.{font_at, has_character, loaded_state, with_font_integer, with_font_parameter};
+ghost use Rattle.tx_tfm.specs.Fonts.{font_at, has_character, loaded_state, with_font_identifier, with_font_integer, with_font_parameter};
 ghost use Rattle.tx_word.specs.Collecting as spec;
 
 use crate::point::hyphen_of;
@@ -118,6 +118,20 @@ fn set_font_integer(
 {
     let own = Rc::make_mut(fonts)?;
     own.set_integer(kind, number, value);
+    Ok(())
+}
+
+/// Gives the identifier of the font of a number a text; where no font has the number, nothing changes.
+fn set_font_identifier(
+    fonts: &mut Rc<Fonts>,
+    number: u8,
+    identifier: Bytes,
+) -> Result<(), AllocError>
+    ensures ok { OnOk result (fonts.new.value ≡ with_font_identifier fonts.old.value number identifier) }
+    ensures err { OnErr result (fonts.new.value ≡ fonts.old.value) }
+{
+    let own = Rc::make_mut(fonts)?;
+    own.set_identifier(number, identifier);
     Ok(())
 }
 
@@ -288,6 +302,13 @@ impl Words {
         ensures { OnOk result (self.new ≡ record self.old { fonts = with_font_integer kind self.old.fonts number value }) }
     {
         set_font_integer(&mut self.fonts, kind, number, value)
+    }
+
+    /// Gives the identifier of the font of a number a text; where no font has the number, nothing changes.
+    pub fn set_identifier(&mut self, number: u8, identifier: Bytes) -> Result<(), AllocError>
+        ensures { OnOk result (self.new ≡ record self.old { fonts = with_font_identifier self.old.fonts number identifier }) }
+    {
+        set_font_identifier(&mut self.fonts, number, identifier)
     }
 
     /// Whether both have the same fonts, and the same word is open.

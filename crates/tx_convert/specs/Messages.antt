@@ -5,9 +5,11 @@ use Rattle.std.specs.Option.{option_to_list}
 use Rattle.tx_char.specs.declared.category.Cat.{Cat}
 use Rattle.tx_char.specs.declared.category.Cat.TheVariants.{Letter}
 use Rattle.tx_char.specs.declared.tokens.Token.{Token}
-use Rattle.tx_char.specs.declared.tokens.Token.TheVariants.{Character, Name, FrozenRelax}
+use Rattle.tx_char.specs.declared.tokens.Token.TheVariants.{Character, Name, FrozenRelax, FontIdentifier}
 use Rattle.tx_char.specs.Category.{category}
 use Rattle.tx_char.specs.Character.{character}
+use Rattle.tx_tfm.specs.declared.state.FontState.{FontState}
+use Rattle.tx_tfm.specs.Fonts.{font_identifier}
 
 -- whether a category is Letter, 11
 abbrev pub is_letter : Cat → Bool
@@ -27,12 +29,17 @@ abbrev pub name_text : Option ℕ → List Cat → List ℕ → List ℕ
 name_text escape categories name =
     option_to_list escape ++ name ++ (if is_word categories name then character " " ∷ [] else [])
 
--- a character is printed as its byte, whatever its category, and the frozen \relax as the name is
-abbrev pub token_text : Option ℕ → List Cat → Token → List ℕ
-token_text escape categories (Character code kind) = code ∷ []
-token_text escape categories (Name name) = name_text escape categories name
-token_text escape categories FrozenRelax = name_text escape categories (codes "relax")
+-- the identifier of a font always has a blank behind it
+abbrev pub identifier_text : Option ℕ → List ℕ → List ℕ
+identifier_text escape identifier = option_to_list escape ++ identifier ++ character " " ∷ []
+
+-- a character is printed as its byte, whatever its category, the frozen \relax as the name is, and a font as \font named it last
+abbrev pub token_text : Option ℕ → List Cat → List FontState → Token → List ℕ
+token_text escape categories fonts (Character code kind) = code ∷ []
+token_text escape categories fonts (Name name) = name_text escape categories name
+token_text escape categories fonts FrozenRelax = name_text escape categories (codes "relax")
+token_text escape categories fonts (FontIdentifier font) = identifier_text escape (font_identifier fonts font)
 
 -- the text of tokens is that of each in order
-abbrev pub printed : Option ℕ → List Cat → List Token → List ℕ
-printed escape categories tokens = flat_map (token_text escape categories) tokens
+abbrev pub printed : Option ℕ → List Cat → List FontState → List Token → List ℕ
+printed escape categories fonts tokens = flat_map (token_text escape categories fonts) tokens
