@@ -1,10 +1,13 @@
-use Rattle.std.proofs.Common.{ℕ, ◌+◌, ◌++◌, Bool, false, Some, List, drop, arith, subst, ap, ◌∙◌, get_or}
+use Rattle.std.proofs.Common.{ℕ, ◌+◌, ◌++◌, Bool, false, Some, List, drop, arith, refl, subst, ap, ◌∙◌, get_or}
 use Rattle.std.proofs.lemmas.List.{take_rest}
 use Rattle.std.proofs.lemmas.Result.{IfOk-equal}
 use Rattle.tx_node.specs.Items.{Item}
 use Rattle.tx_word.specs.Composed.{word_list, IsPaired}
 use Rattle.tx_word.proofs.Fronts.{last-had, last-left, on-pair}
 use Rattle.tx_word.proofs.word.append_behind.Goals as goal
+
+pub loop-at-init : goal.loop-at-init
+loop-at-init c = record { put = refl; inside = c.requires.some }
 
 pub loop-at-preserved : goal.loop-at-preserved
 loop-at-preserved c = record {
