@@ -9,7 +9,7 @@ use Rattle.tx_node.specs.declared.plain.LeadersKind.{LeadersKind as ItemLeaders}
 use Rattle.tx_node.specs.declared.plain.LeadersKind.TheVariants as item_leaders
 use Rattle.tx_node.specs.declared.rule.Rule.{Rule as ARule}
 use Rattle.tx_num.specs.Glue.{GlueSpec}
-use Rattle.tx_node.specs.Items.{Item as Node_item, plain, shared, PackedBox}
+use Rattle.tx_node.specs.Items.{Item as Node_item, plain, shared}
 use Rattle.tx_nest.specs.declared.list.ModeList.{ModeList}
 use Rattle.tx_nest.specs.Appended.{rule_appended}
 use Rattle.tx_nest.specs.Changed as list
