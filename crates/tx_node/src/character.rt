@@ -3,7 +3,7 @@ use tx_bytes::Bytes;
 
 /// A character of a font, with the sizes that the font gives it, in sp (TeX: The Program, section 134). Font 0 is \nullfont,
 /// the others are numbered from 1 in the order in which they were loaded.
-#[derive(Clone, Copy, Debug, PartialEq, Eq)]
+#[derive(Clone, Copy)]
 pub struct Character {
     pub font: u8,
     pub code: u8,

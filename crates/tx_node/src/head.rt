@@ -2,7 +2,7 @@
 use tx_num::Glue;
 
 /// Which way the items of a list follow one another.
-#[derive(Clone, Copy, Debug, PartialEq, Eq)]
+#[derive(Clone, Copy, PartialEq, Eq)]
 pub enum Direction {
     /// To the right, as in \hbox.
     Horizontal,
@@ -11,7 +11,7 @@ pub enum Direction {
 }
 
 /// Which part of its glue a box sets.
-#[derive(Clone, Copy, Debug, PartialEq, Eq)]
+#[derive(Clone, Copy, PartialEq, Eq)]
 pub enum Change {
     Stretch,
     Shrink,
@@ -19,7 +19,7 @@ pub enum Change {
 
 /// How glue is set that isn't left natural: which part of it, of which order (0 to 3: normal, fil, fill, filll), how much of
 /// it the list has in all, and how far the list has to grow, less than 0 where it has to shrink. In sp.
-#[derive(Clone, Copy, Debug, PartialEq, Eq)]
+#[derive(Clone, Copy)]
 pub struct GlueSet {
     pub change: Change,
     pub order: u8,
@@ -28,7 +28,7 @@ pub struct GlueSet {
 }
 
 /// How the glue of a box is set (TeX: The Program, sections 135 and 619).
-#[derive(Clone, Copy, Debug, PartialEq, Eq)]
+#[derive(Clone, Copy)]
 pub enum Setting {
     /// All of it is as wide as it is naturally.
     Natural,
@@ -37,7 +37,7 @@ pub enum Setting {
 }
 
 /// A box beside its list: which way this goes, width, height and depth in sp, and how its glue is set.
-#[derive(Clone, Copy, Debug, PartialEq, Eq)]
+#[derive(Clone, Copy)]
 pub struct BoxHead {
     pub direction: Direction,
     pub width: i32,
@@ -48,7 +48,7 @@ pub struct BoxHead {
 
 /// A discretionary beside its texts (TeX: The Program, section 145): how many of the items that stand behind it in its list are
 /// its no-break text, and whether hyphenation made it.
-#[derive(Clone, Copy, Debug, PartialEq, Eq)]
+#[derive(Clone, Copy)]
 pub struct BreakHead {
     pub replaced: u8,
     pub hyphenated: bool,

@@ -6,7 +6,7 @@ use tx_num::Glue;
 use tx_toklist::TokList;
 
 /// Where a kern comes from (TeX: The Program, section 155).
-#[derive(Clone, Copy, Debug, PartialEq, Eq)]
+#[derive(Clone, Copy, PartialEq, Eq)]
 pub enum KernKind {
     /// From a font's table, or from TeX itself.
     Implicit,
@@ -15,7 +15,7 @@ pub enum KernKind {
 }
 
 /// A small item, which its node holds.
-#[derive(Clone, Copy, PartialEq, Eq)]
+#[derive(Clone, Copy)]
 pub enum Plain {
     /// A kern of so many sp.
     Kern(KernKind, i32),
@@ -28,7 +28,7 @@ pub enum Plain {
 }
 
 /// How the copies of leaders are spread (TeX: The Program, section 149).
-#[derive(Clone, Copy, Debug, PartialEq, Eq)]
+#[derive(Clone, Copy, PartialEq, Eq)]
 pub enum LeadersKind {
     /// \leaders.
     Aligned,
