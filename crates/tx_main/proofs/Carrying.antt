@@ -2,6 +2,7 @@
 use Rattle.std.proofs.Common.{◌≡◌, ◌++◌, map, append-nil, Bool, true, if◌then◌else◌, ℕ, ℤ, false, List, [], Option, Some, None, Result, Ok, Err, IfOk, refl, ap, sym, ◌∙◌}
 use Rattle.tx_char.specs.declared.tokens.Token.{Token}
 use Rattle.tx_box.specs.declared.parts.Done.{Done}
+use Rattle.tx_box.specs.declared.parts.Done.TheVariants.{Whole, Due, Wrong}
 use Rattle.tx_box.specs.declared.parts.Lists.{Lists}
 use Rattle.tx_box.specs.declared.parts.Target.{Target}
 use Rattle.tx_box.specs.Building.{Ended, ending, every_in, greatest_depth, reported}
@@ -156,3 +157,14 @@ telling-in lines (Append shift) o = telling-built lines o
 telling-in lines (Register n) o = refl
 telling-in lines Ship o = refl
 telling-in lines Adjust o = refl
+
+-- lines before that of a box are told with it
+lines-told : (s : State) (said report : List ℕ) (done : Done) → telling said (boxed (state_of s) (reported report (told done s.lists s.table))) ≡ boxed (state_of s) (reported (said ++ report) (told done s.lists s.table))
+lines-told s said report Whole = refl
+lines-told s said report (Due work) = refl
+lines-told s said report (Wrong error) = refl
+
+pub box-told : {E : Type 0} (s new : State) (said report lines : List ℕ) (done : Done) (answer : Result Event E) → lines ≡ said ++ report → IfOk answer (λ event. IsStepped (boxed (state_of s) (reported lines (told done s.lists s.table))) s event new) → IfOk answer (λ event. IsStepped (telling said (boxed (state_of s) (reported report (told done s.lists s.table)))) s event new)
+box-told s new said report lines done answer is did =
+    outcome-by (boxed (state_of s) (reported lines (told done s.lists s.table))) (telling said (boxed (state_of s) (reported report (told done s.lists s.table)))) s s new answer
+    (ap (λ (l : List ℕ). boxed (state_of s) (reported l (told done s.lists s.table))) is ∙ sym (lines-told s said report done)) refl did

@@ -274,6 +274,18 @@ fn joined(said: Bytes, report: &Bytes) -> Result<Bytes, AllocError>
     Ok(said)
 }
 
+/// What the end of a box left is taken over, with these lines of the transcript.
+fn take_ended(s: &mut State, done: Done, lines: &[u8]) -> Result<Event, AllocError>
+    requires { s.old.phase ≡ Phase.Running }
+    ensures { IfOk result (λ event. IsStepped (effects.boxed (state_of s.old) (reported lines.now (told done s.old.lists s.old.table))) s.old event s.new) }
+{
+    match done {
+        Done::Whole => take_over(s, None, lines),
+        Done::Due(work) => take_over(s, Some(work), lines),
+        Done::Wrong(error) => Ok(fail(s, error)),
+    }
+}
+
 /// A box's end is taken over, and the transcript's line of it, behind those that come with it.
 pub fn finish_box(s: &mut State, said: Bytes, ended: Ended) -> Result<Event, AllocError>
     requires { s.old.phase ≡ Phase.Running }
@@ -281,11 +293,7 @@ pub fn finish_box(s: &mut State, said: Bytes, ended: Ended) -> Result<Event, All
 {
     let Ended { done, report } = ended;
     let lines = joined(said, &report)?;
-    match done {
-        Done::Whole => take_over(s, None, lines.as_slice()),
-        Done::Due(work) => take_over(s, Some(work), lines.as_slice()),
-        Done::Wrong(error) => Ok(fail(s, error)),
-    }
+    take_ended(s, done, lines.as_slice())
 }
 
 /// The list of a box, whose group of this kind ends, is packed and goes where it is to go, behind these lines of the transcript.

@@ -155,12 +155,20 @@ fn assign(alloc: Global, s: &mut State, assignment: Assignment) -> Result<Event,
     }
 }
 
+/// This text is taken from now on.
+fn open_text(s: &mut State, text: OpenText)
+    ensures { s.new ≡ record s.old { text = Some text } }
+{
+    // (what stood there is dropped by a call)
+    drop(mem::replace(&mut s.text, Some(text)));
+}
+
 /// The list of tokens that is to stand at this place begins.
 fn begin_list(alloc: Global, s: &mut State, place: Place) -> Event
     requires { s.old.phase ≡ Phase.Running }
     ensures { IsStepped (leaves (effects.in_list (state_of s.old) place)) s.old result s.new }
 {
-    s.text = Some(OpenText::list(alloc, place));
+    open_text(s, OpenText::list(alloc, place));
     Event::Went
 }
 
@@ -197,7 +205,7 @@ fn define_macro(alloc: Global, s: &mut State, defined: Place, kind: DefinitionKi
     requires { s.old.phase ≡ Phase.Running }
     ensures { IsStepped (effects.effect (state_of s.old) (Command.DefineMacro defined kind)) s.old result s.new }
 {
-    s.text = Some(OpenText::definition(alloc, defined, kind));
+    open_text(s, OpenText::definition(alloc, defined, kind));
     Event::Went
 }
 
@@ -209,7 +217,7 @@ fn begin_text(alloc: Global, s: &mut State, purpose: TextUse) -> Event
     if is_late(s, purpose) {
         return fail(s, TexError::BadHyphenation);
     }
-    s.text = Some(OpenText::absorbed(alloc, purpose));
+    open_text(s, OpenText::absorbed(alloc, purpose));
     Event::Went
 }
 

@@ -1,5 +1,6 @@
 //! The texts of \patterns and \hyphenation (TeX: The Program, sections 934 to 940 and 960 to 963).
 ghost use Rattle.std.specs.Prelude.{◌≡◌, ◌∷◌, ◌++◌, [], Some, option_map, IfOk, OnOk};
+ghost use Rattle.tx_eqtb.specs.Table.{token_meaning};
 ghost use Rattle.tx_main.specs.Effects as effects;
 ghost use Rattle.tx_main.specs.Hyphens as spec;
 ghost use Rattle.tx_state.specs.Meanings.{IsStepped, state_of};
@@ -41,6 +42,14 @@ fn sign_of(numbers: bool, meaning: &Meaning) -> Sign
     }
 }
 
+/// What a token is in such a text, by what it means in the table. Its only error is want of memory.
+fn sign_at(table: &Eqtb, numbers: bool, token: &Token) -> Result<Sign, AllocError>
+    ensures { IfOk result (λ sign. sign ≡ spec.sign_of numbers (token_meaning table.now.table token.now)) }
+{
+    let meaning = table.meaning(token)?;
+    Ok(sign_of(numbers, &meaning))
+}
+
 /// The word that is open ends, and the next one is. Its only error is want of memory.
 fn end_word(alloc: Global, words: &mut Vec<Bytes>, word: &mut Bytes) -> Result<(), AllocError>
     ensures words { OnOk result (words.new.items ≡ words.old.items ++ word.old ∷ []) }
@@ -62,8 +71,8 @@ fn words_of(
     let mut words = Vec::new(alloc);
     let mut word = Bytes::new(alloc);
     for token in tokens {
-        let meaning = table.meaning(token)?;
-        match sign_of(numbers, &meaning) {
+        let sign = sign_at(table, numbers, token)?;
+        match sign {
             Sign::Letter(code) => word.push(code)?,
             Sign::Blank => end_word(alloc, &mut words, &mut word)?,
             Sign::Wrong => return Ok(None),

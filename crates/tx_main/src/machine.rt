@@ -1,7 +1,11 @@
 //! TeX behind the seam.
-ghost use Rattle.std.specs.Prelude.{◌≡◌, List, ℕ};
+ghost use Rattle.std.specs.Prelude.{◌≡◌, ◌∷◌, [], List, ℕ, IfOk};
+ghost use Rattle.tx_machine.specs.Ranges.{IsDate};
+ghost use Rattle.tx_state.specs.declared.parts.Due.TheVariants.{OpenMain};
+ghost use Rattle.tx_state.specs.declared.parts.Phase.{Phase};
 ghost use Rattle.tx_state.specs.State.{Meaning};
-ghost use Rattle.tx_state.specs.Meanings.{meaning_of};
+ghost use Rattle.tx_state.specs.Meanings.{meaning_of, state_of};
+ghost use Rattle.tx_main.specs.Beginning.{first_state};
 ghost use Rattle.tx_main.specs.Turns.{tex};
 ghost use Rattle.tx_main.specs.Lawful.{tex-lawful};
 
@@ -14,10 +18,35 @@ use tx_eqtb::Eqtb;
 use tx_expand::Expander;
 use tx_files::Name;
 use tx_hyphenate::Hyphenation;
+use tx_list::{Stack, both};
 use tx_machine::{Date, Event, Machine, Reply, Steps};
 use tx_state::{Due, State, same_state, share_state};
 use tx_tfm::Fonts;
 use tx_word::Words;
+
+/// The main file is to be asked for. Its only error is want of memory.
+fn first_due(alloc: Global, main: &Name) -> Result<Stack<Due>, AllocError>
+    ensures { IfOk result (λ due. due ≡ OpenMain main.now ∷ []) }
+{
+    let mut due = Stack::new(alloc);
+    due.push(Due::OpenMain(main.clone()?))?;
+    Ok(due)
+}
+
+/// The first state, but for what is due in it. Its only error is want of memory.
+fn blank(alloc: Global, date: &Date, main: &Name) -> Result<State, AllocError>
+    requires { IsDate date.now }
+    ensures state { IfOk result (λ s. state_of s ≡ record (first_state date.now main.now) { due = [] }) }
+    ensures phase { IfOk result (λ s. s.phase ≡ Phase.Running) }
+    ensures said { IfOk result (λ s. s.said ≡ []) }
+{
+    let words = Words::new(alloc, Fonts::new(alloc));
+    let (name, (words, hyphenation)) = both(main.clone(), both(words, Hyphenation::new(alloc)))?;
+    // (the table comes last, so that nothing drops one)
+    let table = Eqtb::new(alloc, &moment_of(date))?;
+    let expander = Expander::new(alloc, name.into_bytes());
+    State::new(alloc, expander, words, table, hyphenation)
+}
 
 /// TeX, begun as INITEX.
 #[derive(Clone, Copy)]
@@ -38,16 +67,10 @@ impl Machine for Tex {
 
     #[tactic(auto, unfolding(crate::specs::Turns::tex))]
     fn start(&self, alloc: Global, date: &Date, main: &Name) -> Result<State, AllocError> {
-        let job = main.clone()?.into_bytes();
-        let name = main.clone()?;
-        let table = Eqtb::new(alloc, &moment_of(date))?;
-        let words = Words::new(alloc, Fonts::new(alloc))?;
-        let hyphenation = Hyphenation::new(alloc)?;
-        let begun = State::new(alloc, Expander::new(alloc, job), words, table, hyphenation)?;
-        // behind a pointer, where the state is dropped by a call
-        let mut s = Box::new(alloc, begun)?;
-        s.due.push(Due::OpenMain(name))?;
-        Ok(Box::into_inner(s))
+        let due = first_due(alloc, main)?;
+        let mut s = blank(alloc, date, main)?;
+        drop(mem::replace(&mut s.due, due));
+        Ok(s)
     }
 
     #[tactic(auto, unfolding(crate::specs::Turns::tex))]

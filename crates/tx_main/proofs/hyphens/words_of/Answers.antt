@@ -15,9 +15,8 @@ loop-token-preserved c =
     let rest : List Token = drop (c.loop-token.token-index + 1) c.args.tokens.now in
     let is : drop c.loop-token.token-index c.args.tokens.now ≡ c.token-item.result ∷ rest =
     drop_more c.args.tokens.now c.loop-token.token-index c.token-item.result c.loop-token-test.true ∙ ap (λ (t : Token). t ∷ rest) (sym c.token-item.is) in
-    let means : sign_of c.args.numbers (token_meaning c.args.table.now.table c.token-item.result) ≡ c.sign_of.result =
-    sym (c.sign_of.ensures ∙ ap (sign_of c.args.numbers) c.in_ok-meaning.ensures) in
-    elim c.match-sign_of.branch [
+    let means : sign_of c.args.numbers (token_meaning c.args.table.now.table c.token-item.result) ≡ c.in_ok-sign.sign = sym c.in_ok-sign.ensures in
+    elim c.match-sign.branch [
       | in-Letter+in_ok-push-in-Letter w ↦
           rw (w.words-is, w.word-is, w.in_ok-push-in-Letter.ensures.ok)
           (after-letter c.args.table.now.table c.args.numbers c.loop-token.words.items c.loop-token.word c.token-item.result (drop c.loop-token.token-index c.args.tokens.now) rest c.args.tokens.now w.in-Letter.code
