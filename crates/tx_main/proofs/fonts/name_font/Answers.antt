@@ -1,4 +1,4 @@
-use Rattle.std.proofs.Common.{◌≡◌, ℕ, List, ap, ◌∙◌}
+use Rattle.std.proofs.Common.{ℕ, List, ap, ◌∙◌}
 use Rattle.tx_tfm.specs.Fonts.{with_font_identifier}
 use Rattle.tx_word.specs.Collecting.{Collecting}
 use Rattle.tx_main.proofs.Loads.{names-font}
