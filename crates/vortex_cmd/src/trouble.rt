@@ -6,7 +6,7 @@ use std::alloc::AllocError;
 use thiserror::Error;
 
 /// What cuts a call short.
-#[derive(Clone, Copy, Debug, PartialEq, Eq, Error)]
+#[derive(Clone, Copy, Debug, Error)]
 pub enum Trouble {
     /// There was no memory left.
     #[error("out of memory")]
@@ -28,7 +28,7 @@ impl From<AllocError> for Trouble {
 }
 
 /// What ends a call before all is done.
-#[derive(Clone, Copy, Debug, PartialEq, Eq, Error)]
+#[derive(Clone, Copy, Debug, Error)]
 pub enum Interruption {
     /// Trouble that came in the midst of the outputs.
     #[error("{0}")]
