@@ -1,6 +1,6 @@
 /// What came of an edit that was accepted, in pages: those that were resumed after, those that were formatted and those
 /// that were reused make up all.
-#[derive(Clone, Copy, PartialEq, Eq)]
+#[derive(Clone, Copy)]
 pub struct Report {
     /// All pages of the document as it is now.
     pub pages: usize,
