@@ -59,7 +59,7 @@ pub struct KeptToken {
 }
 
 /// What a state is ready for.
-#[derive(Clone, Copy, PartialEq, Eq)]
+#[derive(Clone, Copy)]
 pub enum Phase {
     Running,
     Waiting(AskKind),
