@@ -13,7 +13,7 @@ use tx_seen::{FontName, Place};
 use tx_shape::{AskedSize, BoxContext, BoxGoal, Opener};
 
 /// A side of a rule.
-#[derive(Clone, Copy, PartialEq, Eq)]
+#[derive(Clone, Copy)]
 pub enum Side {
     Width,
     Height,
@@ -21,7 +21,7 @@ pub enum Side {
 }
 
 /// What a size is for.
-#[derive(Clone, Copy, PartialEq, Eq)]
+#[derive(Clone, Copy)]
 pub enum SizeUse {
     /// This is made of it, as by \kern.
     Item(SizeKind),
