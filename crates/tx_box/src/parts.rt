@@ -15,7 +15,7 @@ pub struct Target {
 }
 
 /// A box whose list is being built.
-#[derive(Clone, Copy, PartialEq, Eq)]
+#[derive(Clone, Copy)]
 pub struct OpenBox {
     /// How the list is packed, and to what.
     pub kind: BoxKind,
