@@ -40,7 +40,7 @@ pub enum Opener {
 }
 
 /// A box that is meant (TeX: The Program, section 1079).
-#[derive(Clone, Copy, PartialEq, Eq)]
+#[derive(Clone, Copy)]
 pub enum BoxRead {
     /// \hbox or its kin, whose begin-group token is taken.
     Begin(BoxKind, BoxGoal),
@@ -54,7 +54,7 @@ pub enum BoxRead {
 }
 
 /// A command by its first token: what stands behind that is read.
-#[derive(Clone, Copy, PartialEq, Eq)]
+#[derive(Clone, Copy)]
 pub enum Shaping {
     /// \hbox and its kin.
     Box(BoxKind),
@@ -99,7 +99,7 @@ pub enum Shaping {
 }
 
 /// What such a command is once it is whole.
-#[derive(Clone, Copy, PartialEq, Eq)]
+#[derive(Clone, Copy)]
 pub enum Shaped {
     /// A box, and what becomes of it.
     Box(BoxRead, BoxContext),
@@ -132,7 +132,7 @@ pub enum Shaped {
 }
 
 /// The size at which \font asks for a font, in little room: commands are moved with each token.
-#[derive(Clone, Copy, PartialEq, Eq)]
+#[derive(Clone, Copy)]
 pub enum AskedSize {
     /// Its design size.
     Design,

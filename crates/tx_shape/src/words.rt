@@ -1,7 +1,7 @@
 //! The words `to` and `spread`, letter by letter.
 
 /// What is read of `to` or `spread`, by its last letter.
-#[derive(Clone, Copy, PartialEq, Eq)]
+#[derive(Clone, Copy)]
 pub enum Word {
     T,
     S,
@@ -12,7 +12,7 @@ pub enum Word {
 }
 
 /// What follows where the word breaks off and its letters are read anew.
-#[derive(Clone, Copy, PartialEq, Eq)]
+#[derive(Clone, Copy)]
 pub enum Lost {
     /// They are skipped, and `spread` may come yet.
     Spread,
