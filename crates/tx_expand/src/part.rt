@@ -3,7 +3,7 @@ use tx_cond::TestScan;
 use tx_scan::{ControlNameScan, FileNameScan, FontScan, IntScan, QuantityScan};
 
 /// How an integer is printed, or what it tells.
-#[derive(Clone, Copy, PartialEq, Eq)]
+#[derive(Clone, Copy)]
 pub enum Figures {
     /// In decimal digits.
     Decimal,

@@ -6,7 +6,7 @@ use tx_seen::{FontName, Place, Seen, TexError, Want};
 use tx_toklist::Toks;
 
 /// What the caller takes.
-#[derive(Clone, Copy, PartialEq, Eq)]
+#[derive(Clone, Copy)]
 pub struct Wanted {
     /// How it wants its next token.
     pub want: Want,
