@@ -4,7 +4,7 @@ use tx_scan::{DimenScan, IntScan, QuantityScan};
 use tx_seen::Seen;
 
 /// What a relation stands between.
-#[derive(Clone, Copy, PartialEq, Eq)]
+#[derive(Clone, Copy)]
 pub enum Comparand {
     /// \ifnum: integers.
     Number,
@@ -13,7 +13,7 @@ pub enum Comparand {
 }
 
 /// A relation of two numbers, as \ifnum has one between its two.
-#[derive(Clone, Copy, PartialEq, Eq)]
+#[derive(Clone, Copy)]
 pub enum Relation {
     Less,
     Equal,
@@ -21,7 +21,7 @@ pub enum Relation {
 }
 
 /// In what two tokens are compared.
-#[derive(Clone, Copy, PartialEq, Eq)]
+#[derive(Clone, Copy)]
 pub enum Compared {
     /// \if: their character codes.
     Code,
@@ -32,7 +32,7 @@ pub enum Compared {
 }
 
 /// What the last number of a test is taken for.
-#[derive(Clone, Copy, PartialEq, Eq)]
+#[derive(Clone, Copy)]
 pub enum Judged {
     /// \ifcase: it chooses the branch.
     Case,

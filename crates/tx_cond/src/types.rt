@@ -3,7 +3,7 @@
 use tx_prim::CondWord;
 
 /// What a token is to text that is skipped.
-#[derive(Clone, Copy, PartialEq, Eq)]
+#[derive(Clone, Copy)]
 pub enum SkipItem {
     /// It begins a conditional, \ifcase among them.
     If,
@@ -16,7 +16,7 @@ pub enum SkipItem {
 }
 
 /// What the caller does behind a word.
-#[derive(Clone, Copy, PartialEq, Eq)]
+#[derive(Clone, Copy)]
 pub enum Meet {
     /// A \relax is inserted before the word, which is read again behind it.
     Relax,
