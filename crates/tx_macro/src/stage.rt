@@ -10,7 +10,7 @@ use tx_toklist::{Lists, Toks};
 pub(crate) type Table = Items<usize>;
 
 /// What the use of a macro waits for.
-#[derive(Clone, Copy, PartialEq, Eq)]
+#[derive(Clone, Copy)]
 pub(crate) enum Awaited {
     /// The tokens before the first parameter, of which so many are met.
     Before { met: usize },
@@ -21,7 +21,7 @@ pub(crate) enum Awaited {
 }
 
 /// What an argument is that is being taken.
-#[derive(Clone, Copy, PartialEq, Eq)]
+#[derive(Clone, Copy)]
 pub(crate) enum Kind {
     /// Undelimited; nothing but spaces was met.
     Undelimited,
@@ -73,7 +73,7 @@ impl Clone for Gathered {
 }
 
 /// What a token makes of an argument.
-#[derive(Clone, Copy, PartialEq, Eq)]
+#[derive(Clone, Copy)]
 pub(crate) enum Move {
     /// It goes on so.
     On(Kind),
