@@ -8,7 +8,7 @@ use tx_prim::{BoxTest, FontNumber, Numbered};
 use tx_seen::{FontName, FontSize, Place, Seen, TexError};
 
 /// What the digits of a constant count in.
-#[derive(Clone, Copy, PartialEq, Eq)]
+#[derive(Clone, Copy)]
 pub enum Radix {
     Octal,
     Decimal,
@@ -25,7 +25,7 @@ pub enum Counted {
 }
 
 /// What is needed of the font behind a token.
-#[derive(Clone, Copy, PartialEq, Eq)]
+#[derive(Clone, Copy)]
 pub enum FontSought {
     /// Its parameter of this number; 0 stands for all numbers that no parameter can have.
     Dimen(u16),
@@ -121,7 +121,7 @@ pub struct IntScan {
 }
 
 /// What the number behind a token tells apart.
-#[derive(Clone, Copy, PartialEq, Eq)]
+#[derive(Clone, Copy)]
 pub enum Sought {
     /// Registers, codes and sizes of boxes.
     Numbered(Numbered),
@@ -173,7 +173,7 @@ pub struct NameScan {}
 pub struct FontScan {}
 
 /// In which units a dimension is told.
-#[derive(Clone, Copy, PartialEq, Eq)]
+#[derive(Clone, Copy)]
 pub struct Units {
     /// Whether `mu` stands in place of all others (The TeXbook, chapter 18).
     pub mu: bool,
@@ -182,7 +182,7 @@ pub struct Units {
 }
 
 /// How infinite a size is (The TeXbook, chapter 12), the least first.
-#[derive(Clone, Copy, PartialEq, Eq)]
+#[derive(Clone, Copy)]
 pub enum Order {
     Normal,
     Fil,
@@ -191,14 +191,14 @@ pub enum Order {
 }
 
 /// A dimension: so many scaled points, or so many 65536ths of `mu`, or of this infinite unit.
-#[derive(Clone, Copy, PartialEq, Eq)]
+#[derive(Clone, Copy)]
 pub struct Measure {
     pub size: i64,
     pub order: Order,
 }
 
 /// A unit by its name, but for the infinite ones.
-#[derive(Clone, Copy, PartialEq, Eq)]
+#[derive(Clone, Copy)]
 pub enum UnitName {
     /// One of the same size everywhere.
     Physical(PhysicalUnit),
@@ -209,7 +209,7 @@ pub enum UnitName {
 }
 
 /// What is read of a unit's name.
-#[derive(Clone, Copy, PartialEq, Eq)]
+#[derive(Clone, Copy)]
 pub enum Letters {
     P,
     I,
@@ -227,7 +227,7 @@ pub enum Letters {
 }
 
 /// What one more letter makes of a unit's name.
-#[derive(Clone, Copy, PartialEq, Eq)]
+#[derive(Clone, Copy)]
 pub enum Spelled {
     /// These letters, behind which more are needed.
     On(Letters),
