@@ -6,7 +6,7 @@ use std::alloc::AllocError;
 use thiserror::Error;
 
 /// Why a group can't be opened.
-#[derive(Debug, Clone, Copy, PartialEq, Eq, Error)]
+#[derive(Debug, Clone, Copy, Error)]
 pub enum OpenError {
     #[error("a 256th group would be open")]
     TooMany,
@@ -15,7 +15,7 @@ pub enum OpenError {
 }
 
 /// Why a group can't be closed.
-#[derive(Debug, Clone, Copy, PartialEq, Eq, Error)]
+#[derive(Debug, Clone, Copy, Error)]
 pub enum CloseError {
     #[error("the innermost group is of another kind, or none is open")]
     NotThatGroup,

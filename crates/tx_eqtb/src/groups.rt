@@ -4,7 +4,7 @@ use crate::parts::Parts;
 use tx_prim::BreakText;
 
 /// What opened a group, which has to be closed by the same (TeX: The Program, section 269).
-#[derive(Clone, Copy, Debug, PartialEq, Eq)]
+#[derive(Clone, Copy, PartialEq, Eq)]
 pub enum GroupKind {
     /// A character that begins a group.
     Simple,
