@@ -8,7 +8,7 @@ use thiserror::Error;
 
 /// The error that ends a run; the first one always does. Its text tells the user what it means, and stands in
 /// docs/FORMATS.md too; where it says less than when exactly the error comes, that stands above it.
-#[derive(Clone, Copy, Debug, PartialEq, Eq, Error)]
+#[derive(Clone, Copy, Debug, Error)]
 pub enum TexError {
     #[error("a character that no text may have (category 15)")]
     InvalidCharacter,

@@ -7,7 +7,7 @@ use tx_list::Kept;
 use tx_num::Glue;
 
 /// How the next token is wanted.
-#[derive(Clone, Copy, PartialEq, Eq)]
+#[derive(Clone, Copy)]
 pub enum Want {
     /// As it stands.
     Raw,
@@ -23,7 +23,7 @@ pub enum Kind {
 }
 
 /// What a caller gives to a scan that needs it.
-#[derive(Clone, Copy, PartialEq, Eq)]
+#[derive(Clone, Copy)]
 pub enum Value {
     /// An integer.
     Int(i64),
