@@ -2,7 +2,7 @@
 //! 26).
 
 /// A prefix of assignments (The TeXbook, chapter 24).
-#[derive(Clone, Copy, PartialEq, Eq)]
+#[derive(Clone, Copy)]
 pub enum Prefix {
     /// \global.
     Global,
@@ -12,7 +12,7 @@ pub enum Prefix {
 }
 
 /// How much TeX asks of its user (The TeXbook, chapter 6); nothing, whatever is said.
-#[derive(Clone, Copy, PartialEq, Eq)]
+#[derive(Clone, Copy)]
 pub enum Interaction {
     /// \batchmode and its kin.
     Batch,
@@ -22,7 +22,7 @@ pub enum Interaction {
 }
 
 /// What \advance, \multiply and \divide do.
-#[derive(Clone, Copy, PartialEq, Eq)]
+#[derive(Clone, Copy)]
 pub enum Operation {
     Advance,
     Multiply,
@@ -81,14 +81,14 @@ pub enum Numbered {
 }
 
 /// What is made of a dimension.
-#[derive(Clone, Copy, PartialEq, Eq)]
+#[derive(Clone, Copy)]
 pub enum SizeKind {
     /// \kern.
     Kern,
 }
 
 /// In which lists a rule stands (The TeXbook, chapter 21).
-#[derive(Clone, Copy, PartialEq, Eq)]
+#[derive(Clone, Copy)]
 pub enum RuleKind {
     /// \vrule, in horizontal ones.
     Vertical,
@@ -139,7 +139,7 @@ pub enum TextUse {
 }
 
 /// What a token is kept for (The TeXbook, chapter 24).
-#[derive(Clone, Copy, PartialEq, Eq)]
+#[derive(Clone, Copy)]
 pub enum AfterKind {
     /// \aftergroup: the end of the group.
     Group,
@@ -148,7 +148,7 @@ pub enum AfterKind {
 }
 
 /// How a paragraph begins (The TeXbook, chapter 14).
-#[derive(Clone, Copy, PartialEq, Eq)]
+#[derive(Clone, Copy)]
 pub enum Indentation {
     /// \indent: with an empty box as wide as \parindent.
     Indented,
@@ -157,7 +157,7 @@ pub enum Indentation {
 }
 
 /// A text of a discretionary (TeX: The Program, section 145).
-#[derive(Clone, Copy, PartialEq, Eq, Debug)]
+#[derive(Clone, Copy, PartialEq, Eq)]
 pub enum BreakText {
     /// The one before a break at it.
     Before,
@@ -179,7 +179,7 @@ pub enum BoxSide {
 }
 
 /// Where a box comes from that was made before (TeX: The Program, section 1071).
-#[derive(Clone, Copy, PartialEq, Eq)]
+#[derive(Clone, Copy)]
 pub enum BoxSource {
     /// \box: a register, which is void from then on.
     Register,
@@ -192,7 +192,7 @@ pub enum BoxSource {
 }
 
 /// Which way a box is shifted (TeX: The Program, section 1071).
-#[derive(Clone, Copy, PartialEq, Eq)]
+#[derive(Clone, Copy)]
 pub enum ShiftKind {
     /// \raise and \lower, in horizontal lists.
     Raise,
@@ -203,7 +203,7 @@ pub enum ShiftKind {
 }
 
 /// A box of which kind gives its list to the list around, and whether it keeps it (TeX: The Program, section 1107).
-#[derive(Clone, Copy, PartialEq, Eq)]
+#[derive(Clone, Copy)]
 pub enum UnboxKind {
     /// \unhbox and \unhcopy.
     Horizontal,
@@ -214,7 +214,7 @@ pub enum UnboxKind {
 }
 
 /// Which glue is appended (TeX: The Program, section 1058).
-#[derive(Clone, Copy, PartialEq, Eq)]
+#[derive(Clone, Copy)]
 pub enum GlueForm {
     /// \hskip and \vskip: glue that follows.
     Skip,

@@ -3,7 +3,7 @@ ghost use Rattle.std.specs.Prelude.{◌≡◌, ◌<◌};
 ghost use Rattle.tx_prim.specs.Integers.{all_integers, integer_name, integer_number, initial_integer};
 
 /// An integer parameter.
-#[derive(Clone, Copy, PartialEq, Eq)]
+#[derive(Clone, Copy)]
 pub enum IntegerParameter {
     Pretolerance,
     Tolerance,
@@ -64,7 +64,7 @@ pub enum IntegerParameter {
 
 /// When the run began, as its words say: the year, the month from 1 on, the day from 1 on, and the minutes since
 /// midnight.
-#[derive(Clone, Copy, PartialEq, Eq)]
+#[derive(Clone, Copy)]
 pub struct Moment {
     pub year: i32,
     pub month: i32,

@@ -3,7 +3,7 @@ ghost use Rattle.std.specs.Prelude.{◌≡◌};
 ghost use Rattle.tx_prim.specs.Modes.{holds, standing};
 
 /// What TeX is building (The TeXbook, chapter 13).
-#[derive(Clone, Copy, PartialEq, Eq, Debug)]
+#[derive(Clone, Copy, PartialEq, Eq)]
 pub enum Mode {
     /// The pages' list.
     Vertical,
@@ -33,7 +33,7 @@ pub enum ModeTest {
 }
 
 /// In which modes a command may stand.
-#[derive(Clone, Copy, PartialEq, Eq, Debug)]
+#[derive(Clone, Copy, Debug)]
 pub enum Modes {
     /// In all modes.
     All,

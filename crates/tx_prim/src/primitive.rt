@@ -16,7 +16,7 @@ use crate::tokens::TokenParameter;
 
 /// A primitive of TeX: a command that isn't defined by others, and with which INITEX begins (The TeXbook, chapters 24 to
 /// 26). The primitives of one family are one variant.
-#[derive(Clone, Copy, PartialEq, Eq)]
+#[derive(Clone, Copy)]
 pub enum Primitive {
     /// \relax.
     Relax,
