@@ -16,7 +16,7 @@ pub struct Date {
 }
 
 /// How far a run may go.
-#[derive(Clone, Copy, PartialEq, Eq)]
+#[derive(Clone, Copy)]
 pub struct Limits {
     /// What the turns of one page may cost together.
     pub budget: u64,
@@ -66,7 +66,7 @@ pub enum Reply {
 }
 
 /// Why a machine stops: by the end of its text, or by an error with its number.
-#[derive(Clone, Copy, PartialEq, Eq)]
+#[derive(Clone, Copy)]
 pub enum Stop {
     End,
     Error(u8),
