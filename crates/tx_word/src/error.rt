@@ -6,7 +6,7 @@ use std::alloc::AllocError;
 use thiserror::Error;
 
 /// Why words and spaces can't be made into a list.
-#[derive(Clone, Copy, Debug, PartialEq, Eq, Error)]
+#[derive(Clone, Copy, Debug, Error)]
 pub enum WordError {
     #[error("a size of the glue between words leaves the range of dimensions")]
     SizeOutOfRange,
