@@ -6,7 +6,7 @@ use std::alloc::AllocError;
 use thiserror::Error;
 
 /// Why a paragraph can't be set as lines.
-#[derive(Clone, Copy, Debug, PartialEq, Eq, Error)]
+#[derive(Clone, Copy, Debug, Error)]
 pub enum ParError {
     #[error("a size, leading or a penalty leaves its range")]
     SizeOutOfRange,
