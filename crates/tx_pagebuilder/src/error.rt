@@ -6,7 +6,7 @@ use std::alloc::AllocError;
 use thiserror::Error;
 
 /// Why a node can't be contributed to a page, or a page not be fired.
-#[derive(Clone, Copy, Debug, PartialEq, Eq, Error)]
+#[derive(Clone, Copy, Debug, Error)]
 pub enum PageError {
     #[error("an insertion of class 255")]
     ClassOutOfRange,
