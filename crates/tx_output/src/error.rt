@@ -6,7 +6,7 @@ use std::alloc::AllocError;
 use thiserror::Error;
 
 /// Why a page that was fired can't be put out, or its \output can't end.
-#[derive(Clone, Copy, Debug, PartialEq, Eq, Error)]
+#[derive(Clone, Copy, Debug, Error)]
 pub enum OutputError {
     #[error("a page is complete while \\box255 is in use")]
     OccupiedPageBox,
