@@ -32,7 +32,7 @@ pub struct Packed {
 }
 
 /// Why a list can't be packed.
-#[derive(Clone, Copy, Debug, PartialEq, Eq, Error)]
+#[derive(Clone, Copy, Debug, Error)]
 pub enum PackError {
     #[error("a sum of sizes leaves the range of dimensions")]
     SizeOutOfRange,
