@@ -17,7 +17,7 @@ pub struct LeadingParams {
 }
 
 /// Why a box can't be appended.
-#[derive(Clone, Copy, Debug, PartialEq, Eq, Error)]
+#[derive(Clone, Copy, Debug, Error)]
 pub enum NestError {
     #[error("the leading leaves the range of dimensions")]
     SizeOutOfRange,
