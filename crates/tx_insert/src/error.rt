@@ -6,7 +6,7 @@ use std::alloc::AllocError;
 use thiserror::Error;
 
 /// Why a vertical list can't be broken or split.
-#[derive(Clone, Copy, Debug, PartialEq, Eq, Error)]
+#[derive(Clone, Copy, Debug, Error)]
 pub enum SplitError {
     #[error("a sum of sizes leaves the range of dimensions")]
     SizeOutOfRange,

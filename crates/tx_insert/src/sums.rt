@@ -11,7 +11,7 @@ use tx_num::{Glue, Scaled};
 
 /// What the items before a place have together, in sp: their height with all depths but the last, this depth, their stretch by its
 /// order, and their shrink.
-#[derive(Clone, Copy, PartialEq, Eq)]
+#[derive(Clone, Copy)]
 pub struct Sums {
     pub height: i64,
     pub depth: i64,
