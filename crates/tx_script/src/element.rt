@@ -9,7 +9,7 @@ use tx_bytes::Bytes;
 use tx_files::Name;
 
 /// The word that begins a command.
-#[derive(Clone, Copy, PartialEq, Eq)]
+#[derive(Clone, Copy)]
 pub(crate) enum CommandWord {
     Edit,
     Save,

@@ -7,7 +7,7 @@ use std::alloc::AllocError;
 use thiserror::Error;
 
 /// What the bytes of a script's text belong to.
-#[derive(Clone, Copy, Debug, PartialEq, Eq)]
+#[derive(Clone, Copy, Debug)]
 pub enum Rule {
     /// The script's file, which is absent: for callers, since `read_script` is given the bytes.
     File,
@@ -40,7 +40,7 @@ impl Rule {
 }
 
 /// Why no script was read.
-#[derive(Clone, Copy, Debug, PartialEq, Eq, Error)]
+#[derive(Clone, Copy, Debug, Error)]
 pub enum ScriptError {
     /// The bytes are no script's text: the first `place` of them begin one, no more of them do, and what would have to
     /// come there is of this rule.
@@ -60,14 +60,14 @@ impl From<AllocError> for ScriptError {
 }
 
 /// Where reading ended: before the last `left` bytes, at an element of this rule.
-#[derive(Clone, Copy, PartialEq, Eq)]
+#[derive(Clone, Copy)]
 pub(crate) struct Broken {
     pub left: usize,
     pub rule: Rule,
 }
 
 /// Why an element or a command was not read.
-#[derive(Clone, Copy, PartialEq, Eq)]
+#[derive(Clone, Copy)]
 pub(crate) enum Fault {
     Broken(Broken),
     OutOfMemory,
