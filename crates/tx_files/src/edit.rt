@@ -28,7 +28,7 @@ pub enum Undo {
 }
 
 /// Why an edit wasn't made. Nothing has changed then.
-#[derive(Clone, Copy, Debug, PartialEq, Eq, Error)]
+#[derive(Clone, Copy, Debug, Error)]
 pub enum Refusal {
     /// The edit goes past the end of its file, which has `len` bytes; an absent file has none.
     #[error("outside, file has {len} bytes")]

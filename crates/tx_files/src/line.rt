@@ -2,7 +2,7 @@ ghost use Rattle.std.specs.Prelude.{◌≡◌, position};
 ghost use Rattle.tx_files.specs.Lines.{IsLineWithin, is_line_feed, line_count, next_line_at};
 
 /// Where the line that begins at a place of a file ends.
-#[derive(Clone, Copy, PartialEq, Eq)]
+#[derive(Clone, Copy)]
 pub enum NextLine {
     /// The line goes up to `end` bytes from the file's start, and its last byte is LF or else the file's last byte.
     Line { end: u64, has_lf: bool },

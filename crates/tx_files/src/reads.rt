@@ -2,7 +2,7 @@
 use tx_bytes::Bytes;
 
 /// What the reply to one ask shows of a file.
-#[derive(Clone, Copy, PartialEq, Eq)]
+#[derive(Clone, Copy)]
 pub enum Sight {
     /// There is no such file.
     Absent,
@@ -24,7 +24,7 @@ pub struct Note {
 }
 
 /// How much of a file was read.
-#[derive(Clone, Copy, PartialEq, Eq)]
+#[derive(Clone, Copy)]
 pub enum Extent {
     /// It wasn't there.
     Absent,
@@ -35,7 +35,7 @@ pub enum Extent {
 }
 
 /// What was read of one file, and whether it was asked for by its name, to be opened or taken whole.
-#[derive(Clone, Copy, PartialEq, Eq)]
+#[derive(Clone, Copy)]
 pub struct FileReads {
     pub extent: Extent,
     pub asked: bool,
