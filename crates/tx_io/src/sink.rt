@@ -3,7 +3,7 @@ ghost use Rattle.tx_io.specs.Output.{Output, Say, Save};
 ghost use Rattle.tx_io.specs.Sink.{PutGives, PutCause};
 
 /// What a sink answers when it is given something to put out.
-#[derive(Clone, Copy, PartialEq, Eq)]
+#[derive(Clone, Copy)]
 pub enum Put {
     /// It took all of it.
     Done,
