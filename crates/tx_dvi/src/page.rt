@@ -10,7 +10,7 @@ use tx_bytes::Bytes;
 use tx_list::Items;
 
 /// The parameters \year, \month, \day and \time (minutes since midnight). A document may set them to anything.
-#[derive(Clone, Copy, PartialEq, Eq)]
+#[derive(Clone, Copy)]
 pub struct DateParameters {
     pub year: i32,
     pub month: i32,
