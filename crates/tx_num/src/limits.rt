@@ -5,12 +5,12 @@ ghost use Rattle.tx_num.specs.Limits.{limit};
 use thiserror::Error;
 
 /// A number left the range of its use.
-#[derive(Clone, Copy, Debug, PartialEq, Eq, Error)]
+#[derive(Clone, Copy, Debug, Error)]
 #[error("arithmetic overflow")]
 pub struct Overflow;
 
 /// What a number is used as, which says how large it may be, either way.
-#[derive(Clone, Copy, PartialEq, Eq)]
+#[derive(Clone, Copy)]
 pub enum Range {
     /// An integer, at most 2^31 - 1.
     Integer,

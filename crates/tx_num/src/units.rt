@@ -6,7 +6,7 @@ ghost use Rattle.tx_num.specs.Units.{points_in, size_of};
 use super::limits::{Overflow, Range};
 
 /// A unit of length of the same size everywhere (The TeXbook, chapter 10).
-#[derive(Clone, Copy, PartialEq, Eq)]
+#[derive(Clone, Copy)]
 pub enum PhysicalUnit {
     /// `pt`, the printer's point.
     Point,
