@@ -4,15 +4,17 @@
 //! Proved: a list is the list of its values, a stack that of its values with the newest first, and `same` is exactly equality.
 //! Nothing is left to tests.
 //!
-//! Read `kept`, what is asked of a value; then `items` and `stack`. `both` makes one result of two.
+//! Read `kept`, what is asked of a value; then `items`, `stack` and `options`. `both` makes one result of two.
 #![tactic(auto)]
 
 mod items;
 mod kept;
+mod options;
 mod results;
 mod stack;
 
 pub use items::{Items, same_items};
 pub use kept::Kept;
+pub use options::{same_option, share_option};
 pub use results::both;
 pub use stack::Stack;

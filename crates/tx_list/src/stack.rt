@@ -60,15 +60,6 @@ impl<T> Stack<T> {
 }
 
 impl<T: Drop> Stack<T> {
-    /// One value. Its only error is want of memory.
-    pub fn one(alloc: Global, value: T) -> Result<Stack<T>, AllocError>
-        ensures { IfOk result (λ stack. stack ≡ value ∷ []) }
-    {
-        Ok(Stack {
-            oldest_first: Items::one(alloc, value)?,
-        })
-    }
-
     /// Puts a value on the others. After want of memory nothing has changed.
     pub fn push(&mut self, value: T) -> Result<(), AllocError>
         ensures ok { OnOk result (self.new ≡ value ∷ self.old) }
