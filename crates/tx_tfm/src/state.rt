@@ -1,5 +1,5 @@
 //! What \fontdimen, \hyphenchar and \skewchar say of a font, and its identifier, beside what its file says.
-ghost use Rattle.std.specs.Prelude.{◌≡◌, ◌↔◌, ◌<◌, ◌≤◌, ◌^◌, false, option_copied, unsigned_abs, IsTrue, IfOk, OnOk};
+ghost use Rattle.std.specs.Prelude.{◌≡◌, ◌<◌, ◌≤◌, ◌^◌, false, option_copied, unsigned_abs, IfOk, OnOk};
 ghost use Rattle.std.specs.Option.{option_map_or};
 ghost use Rattle.tx_tfm.specs.Fonts as spec;
 ghost use Rattle.tx_tfm.specs.Parameters.{parameter_at};
@@ -9,7 +9,7 @@ use super::parameters::Parameters;
 use super::rules::Size;
 use std::alloc::{AllocError, Global};
 use tx_bytes::Bytes;
-use tx_list::Kept;
+use tx_list::{Kept, same_option, share_option};
 use tx_prim::FontNumber;
 
 /// How many parameters a font has at least.
@@ -138,31 +138,10 @@ impl FontState {
     }
 }
 
-/// Whether both are the same loaded font, or \nullfont.
-fn same_named(some: &Option<LoadedFont>, others: &Option<LoadedFont>) -> bool
-    ensures { IsTrue result ↔ (some.now ≡ others.now) }
-{
-    match (some, others) {
-        (Some(one), Some(other)) => one.same(other),
-        (None, None) => true,
-        (Some(_), None) | (None, Some(_)) => false,
-    }
-}
-
-/// One more owner of a loaded font. Its only error is that no more can be counted.
-fn share_named(named: &Option<LoadedFont>) -> Result<Option<LoadedFont>, AllocError>
-    ensures { IfOk result (λ shared. shared ≡ named.now) }
-{
-    match named {
-        Some(loaded) => Ok(Some(loaded.share()?)),
-        None => Ok(None),
-    }
-}
-
 impl Kept for FontState {
     fn share(&self) -> Result<Self, AllocError> {
         Ok(FontState {
-            named: share_named(&self.named)?,
+            named: share_option(&self.named)?,
             parameters: self.parameters.share()?,
             hyphen: self.hyphen,
             skew: self.skew,
@@ -175,6 +154,6 @@ impl Kept for FontState {
             && self.skew == other.skew
             && self.identifier.same(&other.identifier)
             && self.parameters.same(&other.parameters)
-            && same_named(&self.named, &other.named)
+            && same_option(&self.named, &other.named)
     }
 }
