@@ -10,7 +10,7 @@ use std::marker::Model;
 use std::mem::replace;
 use std::rc::Rc;
 use tx_bytes::Bytes;
-use tx_list::Kept;
+use tx_list::{Kept, same_option, share_option};
 use tx_node::Nodes;
 use tx_prim::FontNumber;
 use tx_tfm::{Fonts, NamedFont};
@@ -51,27 +51,6 @@ impl Model for Words {
     ghost view = { λ w. record { fonts = w.fonts.value; word = w.word } };
 
     ghost invariant = { λ w. AreCollecting w.fonts.value w.word };
-}
-
-/// The same word, if one is open. Its only error is want of memory.
-fn share_word(word: &Option<OpenWord>) -> Result<Option<OpenWord>, AllocError>
-    ensures { IfOk result (λ shared. shared ≡ word.now) }
-{
-    match word {
-        Some(word) => Ok(Some(word.share()?)),
-        None => Ok(None),
-    }
-}
-
-/// Whether the same word is open, or none.
-fn same_word(one: &Option<OpenWord>, other: &Option<OpenWord>) -> bool
-    ensures { IsTrue result ↔ (one.now ≡ other.now) }
-{
-    match (one, other) {
-        (Some(word), Some(other_word)) => word.same(other_word),
-        (None, None) => true,
-        (Some(_), None) | (None, Some(_)) => false,
-    }
 }
 
 /// Puts a font behind those of a run, with its \hyphenchar and \skewchar, and answers its number.
@@ -315,7 +294,7 @@ impl Words {
     pub fn same(&self, other: &Words) -> bool
         ensures { IsTrue result ↔ (self.now ≡ other.now) }
     {
-        same_word(&self.word, &other.word) && self.fonts().same(other.fonts())
+        same_option(&self.word, &other.word) && self.fonts().same(other.fonts())
     }
 
     /// The same words once more, which share the fonts. Its only error is want of memory.
@@ -324,7 +303,7 @@ impl Words {
     {
         Ok(Words {
             fonts: self.fonts.clone()?,
-            word: share_word(&self.word)?,
+            word: share_option(&self.word)?,
         })
     }
 }
