@@ -4,7 +4,7 @@ ghost use Rattle.tx_pages.specs.Marks as spec;
 
 use std::alloc::AllocError;
 use std::mem::replace;
-use tx_list::both;
+use tx_list::{both, same_option, share_option};
 use tx_prim::MarkKind;
 use tx_toklist::TokList;
 
@@ -19,26 +19,6 @@ pub struct Marks {
     /// \splitfirstmark and \splitbotmark: those of what was split off last.
     pub split_first: Option<TokList>,
     pub split_bottom: Option<TokList>,
-}
-
-/// A mark once more. Its only error is that no more owners can be counted.
-fn share_mark(mark: &Option<TokList>) -> Result<Option<TokList>, AllocError>
-    ensures { IfOk result (λ shared. shared ≡ mark.now) }
-{
-    match mark {
-        Some(tokens) => Ok(Some(tokens.share()?)),
-        None => Ok(None),
-    }
-}
-
-fn same_mark(one: &Option<TokList>, other: &Option<TokList>) -> bool
-    ensures { IsTrue result ↔ (one.now ≡ other.now) }
-{
-    match (one, other) {
-        (Some(one), Some(other)) => one.same(other),
-        (None, None) => true,
-        _ => false,
-    }
 }
 
 impl Marks {
@@ -60,11 +40,11 @@ impl Marks {
         ensures { IfOk result (λ mark. mark ≡ spec.mark_of kind self.now) }
     {
         match kind {
-            MarkKind::Top => share_mark(&self.top),
-            MarkKind::First => share_mark(&self.first),
-            MarkKind::Bottom => share_mark(&self.bottom),
-            MarkKind::SplitFirst => share_mark(&self.split_first),
-            MarkKind::SplitBottom => share_mark(&self.split_bottom),
+            MarkKind::Top => share_option(&self.top),
+            MarkKind::First => share_option(&self.first),
+            MarkKind::Bottom => share_option(&self.bottom),
+            MarkKind::SplitFirst => share_option(&self.split_first),
+            MarkKind::SplitBottom => share_option(&self.split_bottom),
         }
     }
 
@@ -77,8 +57,8 @@ impl Marks {
     ) -> Result<(), AllocError>
         ensures { OnOk result (self.new ≡ spec.of_page first last self.old) }
     {
-        let before = share_mark(&self.bottom)?;
-        let top = share_mark(&self.bottom)?;
+        let before = share_option(&self.bottom)?;
+        let top = share_option(&self.bottom)?;
         self.top = top;
         self.first = first.or(before);
         if last.is_some() {
@@ -99,11 +79,11 @@ impl Marks {
     pub fn same(&self, other: &Marks) -> bool
         ensures { IsTrue result ↔ (self.now ≡ other.now) }
     {
-        same_mark(&self.top, &other.top)
-            && same_mark(&self.first, &other.first)
-            && same_mark(&self.bottom, &other.bottom)
-            && same_mark(&self.split_first, &other.split_first)
-            && same_mark(&self.split_bottom, &other.split_bottom)
+        same_option(&self.top, &other.top)
+            && same_option(&self.first, &other.first)
+            && same_option(&self.bottom, &other.bottom)
+            && same_option(&self.split_first, &other.split_first)
+            && same_option(&self.split_bottom, &other.split_bottom)
     }
 
     /// The same once more. Its only error is that no more owners can be counted.
@@ -111,12 +91,12 @@ impl Marks {
         ensures { IfOk result (λ shared. shared ≡ self.now) }
     {
         let page = both(
-            share_mark(&self.top),
-            both(share_mark(&self.first), share_mark(&self.bottom)),
+            share_option(&self.top),
+            both(share_option(&self.first), share_option(&self.bottom)),
         );
         let split = both(
-            share_mark(&self.split_first),
-            share_mark(&self.split_bottom),
+            share_option(&self.split_first),
+            share_option(&self.split_bottom),
         );
         let ((top, (first, bottom)), (split_first, split_bottom)) = both(page, split)?;
         Ok(Marks {
