@@ -3,32 +3,9 @@ ghost use Rattle.std.specs.Prelude.{◌≡◌, ◌↔◌, IsTrue};
 ghost use Rattle.tx_expand.specs.Expanding.{reader_of};
 ghost use Rattle.tx_state.specs.Meanings.{meaning_of, state_of};
 
-use crate::parts::{OpenText, Phase};
+use crate::parts::Phase;
 use crate::state::State;
-use tx_char::Token;
-use tx_list::Kept;
-
-/// Whether the same text is being taken, or none.
-fn same_text(one: &Option<OpenText>, other: &Option<OpenText>) -> bool
-    ensures { IsTrue result ↔ (one.now ≡ other.now) }
-{
-    match (one, other) {
-        (Some(text), Some(other_text)) => text.same(other_text),
-        (None, None) => true,
-        _ => false,
-    }
-}
-
-/// Whether both are the same token, or none.
-fn same_token(one: &Option<Token>, other: &Option<Token>) -> bool
-    ensures { IsTrue result ↔ (one.now ≡ other.now) }
-{
-    match (one, other) {
-        (Some(token), Some(other_token)) => token.same(other_token),
-        (None, None) => true,
-        _ => false,
-    }
-}
+use tx_list::same_option;
 
 /// Whether both read the same, with the same expansions and conditionals begun.
 fn same_reader(one: &State, other: &State) -> bool
@@ -44,7 +21,7 @@ fn same_begun(one: &State, other: &State) -> bool
     one.due.same(&other.due)
         && one.files == other.files
         && one.scan.same(&other.scan)
-        && same_text(&one.text, &other.text)
+        && same_option(&one.text, &other.text)
 }
 
 /// Whether the same tokens are kept for later.
@@ -52,7 +29,7 @@ fn same_kept(one: &State, other: &State) -> bool
     ensures { IsTrue result ↔ ((one.now.after_groups ≡ other.now.after_groups) × (one.now.after_assignment ≡ other.now.after_assignment)) }
 {
     one.after_groups.same(&other.after_groups)
-        && same_token(&one.after_assignment, &other.after_assignment)
+        && same_option(&one.after_assignment, &other.after_assignment)
 }
 
 /// Whether the same lists are built, with the same table.
@@ -64,26 +41,14 @@ fn same_lists(one: &State, other: &State) -> bool
         && one.table.same(&other.table)
 }
 
-/// Whether the pages define the same fonts.
-fn same_defined(one: &State, other: &State) -> bool
-    ensures { IsTrue result ↔ (one.now.defined ≡ other.now.defined) }
-{
-    one.defined.same(&other.defined)
-}
-
-/// Whether the same is known of hyphenation.
-fn same_hyphenation(one: &State, other: &State) -> bool
-    ensures { IsTrue result ↔ (one.now.hyphenation ≡ other.now.hyphenation) }
-{
-    one.hyphenation.same(&other.hyphenation)
-}
-
 /// Whether there are the same fonts, of which the pages define the same, and the same word is open, and the same is known of
 /// hyphenation.
 fn same_words(one: &State, other: &State) -> bool
     ensures { IsTrue result ↔ ((one.now.defined ≡ other.now.defined) × ((one.now.words ≡ other.now.words) × (one.now.hyphenation ≡ other.now.hyphenation))) }
 {
-    same_defined(one, other) && one.words.same(&other.words) && same_hyphenation(one, other)
+    one.defined.same(&other.defined)
+        && one.words.same(&other.words)
+        && one.hyphenation.same(&other.hyphenation)
 }
 
 /// Whether two states mean the same, where both are ready or wait for the same.

@@ -2,31 +2,10 @@
 ghost use Rattle.std.specs.Prelude.{◌≡◌, IfOk};
 ghost use Rattle.tx_state.specs.Meanings.{meaning_of};
 
-use crate::parts::{Due, OpenText};
+use crate::parts::Due;
 use crate::state::State;
 use std::alloc::{AllocError, Global};
-use tx_char::Token;
-use tx_list::{Kept, Stack, both};
-
-/// The same text once more, if one is being taken. Its only error is want of memory.
-fn share_text(text: &Option<OpenText>) -> Result<Option<OpenText>, AllocError>
-    ensures { IfOk result (λ shared. shared ≡ text.now) }
-{
-    match text {
-        Some(text) => Ok(Some(text.share()?)),
-        None => Ok(None),
-    }
-}
-
-/// The same token once more, if there is one. Its only error is that no more owners of a name can be counted.
-fn share_token(token: &Option<Token>) -> Result<Option<Token>, AllocError>
-    ensures { IfOk result (λ shared. shared ≡ token.now) }
-{
-    match token {
-        Some(token) => Ok(Some(token.clone()?)),
-        None => Ok(None),
-    }
-}
+use tx_list::{Stack, both, share_option};
 
 /// A copy of what is due. Its only error is want of memory.
 fn share_due(due: &Stack<Due>) -> Result<Stack<Due>, AllocError>
@@ -44,8 +23,8 @@ pub fn share_state(alloc: Global, s: &State) -> Result<State, AllocError>
     let of_words = both(s.expander.share(alloc), s.words.share());
     let of_table = both(s.table.share(), s.hyphenation.share());
     let of_input = both(share_due(&s.due), s.input.share(alloc));
-    let begun = both(share_text(&s.text), s.scan.clone());
-    let tokens = both(s.after_groups.share(), share_token(&s.after_assignment));
+    let begun = both(share_option(&s.text), s.scan.clone());
+    let tokens = both(s.after_groups.share(), share_option(&s.after_assignment));
     let of_bytes = both(s.defined.clone(), s.said.clone());
     let built = both(s.lists.share(), both(tokens, of_bytes));
     let read = both(of_input, begun);
