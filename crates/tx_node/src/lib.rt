@@ -25,6 +25,6 @@ pub use node::{BoxNode, Discretionary, Insertion, Node, Sublist};
 pub use nodes::Nodes;
 pub use plain::{KernKind, Leaders, LeadersKind, Plain, Shared};
 pub use rule::Rule;
-pub use same::{same_box, same_list};
+pub use same::{same_box, same_list, same_rule};
 pub use setting::glue_part;
 pub use sizes::side;

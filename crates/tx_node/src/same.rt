@@ -21,7 +21,7 @@ fn same_side(a: Option<i32>, b: Option<i32>) -> bool
 }
 
 /// Whether two rules have the same sides.
-fn same_rule(a: Rule, b: Rule) -> bool
+pub fn same_rule(a: Rule, b: Rule) -> bool
     ensures { IsTrue result ↔ (a ≡ b) }
 {
     same_side(a.width, b.width) && same_side(a.height, b.height) && same_side(a.depth, b.depth)
