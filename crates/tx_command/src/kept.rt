@@ -1,30 +1,8 @@
 //! What stands before a command can be shared, and compared exactly.
-ghost use Rattle.std.specs.Prelude.{◌≡◌, ◌↔◌, IsTrue};
-
 use crate::types::Head;
 use std::alloc::AllocError;
 use tx_list::Kept;
-use tx_node::Rule;
-
-/// Whether two sides are equal.
-fn same_side(one: Option<i32>, other: Option<i32>) -> bool
-    ensures { IsTrue result ↔ (one ≡ other) }
-{
-    match (one, other) {
-        (None, None) => true,
-        (Some(one), Some(other)) => one == other,
-        (None, Some(_)) | (Some(_), None) => false,
-    }
-}
-
-/// Whether two rules have the same sides.
-fn same_rule(one: Rule, other: Rule) -> bool
-    ensures { IsTrue result ↔ (one ≡ other) }
-{
-    same_side(one.width, other.width)
-        && same_side(one.height, other.height)
-        && same_side(one.depth, other.depth)
-}
+use tx_node::same_rule;
 
 impl Kept for Head {
     fn share(&self) -> Result<Self, AllocError> {
