@@ -30,6 +30,6 @@ pub use factor::factor_behind;
 pub use italic::last_italic;
 pub use open::{OpenWord, Words};
 pub use piece::{Piece, Places, WordParams};
-pub use point::{HyphenPoint, discretionary_hyphen};
+pub use point::{HyphenPoint, discretionary_hyphen, hyphen_lacking};
 pub use space::{interword_glue, space_between};
 pub use typeset::nodes;

@@ -24,7 +24,7 @@ pub(crate) fn hyphen_of(fonts: &Fonts, font: u8) -> Option<u8>
 }
 
 /// The hyphen character, where the font lacks it.
-fn hyphen_lacking(fonts: &Fonts, font: u8) -> Option<u8>
+pub fn hyphen_lacking(fonts: &Fonts, font: u8) -> Option<u8>
     ensures { result ≡ spec.hyphen_lacking fonts.now font }
 {
     match hyphen_of(fonts, font) {
