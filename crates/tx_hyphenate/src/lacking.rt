@@ -2,14 +2,12 @@
 ghost use Rattle.std.specs.Prelude.{◌≡◌, ◌++◌, OnOk};
 ghost use Rattle.std.specs.List.{flat_map};
 ghost use Rattle.tx_node.specs.Nodes.{item_of, list_of};
-ghost use Rattle.tx_word.specs.Points.{hyphen_lacking as lacking_of, hyphen_of as code_of};
 ghost use Rattle.tx_hyphenate.specs.Lacking as spec;
 
 use itoa::Buffer;
 use std::alloc::AllocError;
 use tx_bytes::Bytes;
 use tx_node::Node;
-use tx_prim::FontNumber;
 use tx_tfm::Fonts;
 
 /// Reports a character that a font of this name lacks. Its only error is want of memory.
@@ -37,28 +35,6 @@ pub fn report_lacking(
     match lacking {
         Some(code) => report_missing(report, code, fonts.name(font)),
         None => Ok(()),
-    }
-}
-
-/// The hyphen character of the font of a number, None where its \hyphenchar isn't in 0 to 255.
-fn hyphen_of(fonts: &Fonts, font: u8) -> Option<u8>
-    ensures { result ≡ code_of fonts.now font }
-{
-    let hyphen = fonts.integer(FontNumber::Hyphen, font);
-    if 0 <= hyphen && hyphen < 256 {
-        Some(hyphen as u8)
-    } else {
-        None
-    }
-}
-
-/// The hyphen character, where the font lacks it.
-pub(crate) fn hyphen_lacking(fonts: &Fonts, font: u8) -> Option<u8>
-    ensures { result ≡ lacking_of fonts.now font }
-{
-    match hyphen_of(fonts, font) {
-        Some(hyphen) if !fonts.has_character(font, hyphen) => Some(hyphen),
-        _ => None,
     }
 }
 

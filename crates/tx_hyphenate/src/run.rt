@@ -6,13 +6,13 @@ ghost use Rattle.tx_word.specs.Divisions.{IsPlaced};
 ghost use Rattle.tx_node.specs.Nodes.{list_of};
 ghost use Rattle.tx_hyphenate.specs.Hyphenated as spec;
 
-use crate::lacking::{hyphen_lacking, report_divisions};
+use crate::lacking::report_divisions;
 use crate::made::Made;
 use std::alloc::{AllocError, Global};
 use tx_node::{Node, Nodes};
 use tx_prim::FontNumber;
 use tx_tfm::Fonts;
-use tx_word::append_divided;
+use tx_word::{append_divided, hyphen_lacking};
 
 /// Whether a font has all these characters.
 pub(crate) fn are_there(fonts: &Fonts, font: u8, codes: &[u8]) -> bool
