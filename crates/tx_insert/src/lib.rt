@@ -25,5 +25,5 @@ pub use kind::{Kind, is_glue, kind_of, penalty_at, shrinks_endlessly, stays};
 pub use marks::{first_mark, last_mark};
 pub use pruning::{glue_above, remaining};
 pub use splitting::{divide, split};
-pub use sums::{Sums, no_sums, with_item};
+pub use sums::{Sums, glue_fits, no_sums, with_elastic, with_item};
 pub use trial::{Break, Trial, badness_at, better, no_break, trial_of};

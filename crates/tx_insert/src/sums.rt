@@ -98,8 +98,8 @@ fn with_infinite(sums: &Sums, glue: &Glue) -> Sums
     more
 }
 
-/// With the stretch and the shrink of glue.
-fn with_elastic(sums: &Sums, glue: &Glue) -> Sums
+/// The sums with the stretch and the shrink of glue, each in sp.
+pub fn with_elastic(sums: &Sums, glue: &Glue) -> Sums
     requires { spec.IsSmall sums.now }
     ensures { result ≡ spec.with_elastic sums.now glue.now }
 {
@@ -165,7 +165,8 @@ fn sizes_fit(sums: &Sums) -> bool
     fits(sums.height) && fits(sums.depth)
 }
 
-fn glue_fits(sums: &Sums) -> bool
+/// Whether all stretch and the shrink are dimensions.
+pub fn glue_fits(sums: &Sums) -> bool
     ensures { result ≡ spec.glue_fits sums.now }
 {
     fits(sums.normal)
