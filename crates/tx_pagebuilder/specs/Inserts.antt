@@ -12,7 +12,7 @@ use Rattle.tx_insert.specs.declared.kind.Kind.TheVariants.{Skip}
 use Rattle.tx_insert.specs.declared.sums.Sums.{Sums}
 use Rattle.tx_insert.specs.declared.trial.Break.{Break}
 use Rattle.tx_insert.specs.Kinds.{shrinks_endlessly}
-use Rattle.tx_insert.specs.Sums.{with_stretch, glue_fits}
+use Rattle.tx_insert.specs.Sums.{glue_fits, with_elastic}
 use Rattle.tx_insert.specs.Breaks.{break_of}
 use Rattle.tx_pagebuilder.specs.declared.class.Class.{Class}
 use Rattle.tx_pagebuilder.specs.declared.class.Cut.{Cut}
@@ -70,13 +70,7 @@ inserted class (Ok m) = Ok (record { measures = m; class = class })
 
 -- \skip's stretch and shrink join the page's
 abbrev pub with_skip : Sums → GlueSpec → Sums
-with_skip sums g = record sums {
-  normal = with_stretch sums.normal 0 g;
-  fil = with_stretch sums.fil 1 g;
-  fill = with_stretch sums.fill 2 g;
-  filll = with_stretch sums.filll 3 g;
-  shrink = sums.shrink +ℤ g.shrink;
-}
+with_skip sums g = with_elastic sums g
 
 abbrev pub skipped : Measures → GlueSpec → Result Measures PageError
 skipped m g =

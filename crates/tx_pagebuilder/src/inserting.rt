@@ -2,7 +2,6 @@
 ghost use Rattle.std.specs.Prelude.{◌≡◌, ◌≤◌, ◌<ℤ◌, ◌^◌, ◌+◌, ◌+ℤ◌, ◌*ℤ◌, pos, int_div, int_le, unsigned_abs, IfOk, Ok};
 ghost use Rattle.tx_num.specs.Glue.{IsDimension};
 ghost use Rattle.tx_node.specs.Nodes.{item_of, list_of};
-ghost use Rattle.tx_insert.specs.Sums.{IsSmall, with_stretch, fits, glue_fits};
 ghost use Rattle.tx_pagebuilder.specs.Inserts as spec;
 ghost use Rattle.tx_pagebuilder.specs.Placing.{IsMeasured};
 
@@ -15,8 +14,8 @@ use crate::params::ClassParams;
 use crate::sizes::{
     dimension, integer, minus, narrow, plus, quotient, thousandfold, thousandth, times, wide,
 };
-use tx_insert::{Break, Kind, SplitError, Sums, shrinks_endlessly, vbreak};
-use tx_node::{Change, InsertHead, Node, Plain, glue_part};
+use tx_insert::{Break, Kind, SplitError, glue_fits, shrinks_endlessly, vbreak, with_elastic};
+use tx_node::{InsertHead, Node, Plain};
 use tx_num::Glue;
 
 /// By how much a size in a class's box makes the goal fall, in sp.
@@ -66,42 +65,6 @@ fn penalized(measures: &Measures, penalty: i32) -> Result<Measures, PageError>
     Ok(more)
 }
 
-/// A sum with the stretch of an order of glue, in sp.
-fn with_stretch(sum: i64, order: u8, glue: &Glue) -> i64
-    requires { IsDimension sum }
-    ensures { result ≡ with_stretch sum order glue.now }
-{
-    plus(sum, glue_part(Change::Stretch, order, glue))
-}
-
-/// The sums with \skip's stretch and shrink.
-fn with_skip(sums: &Sums, glue: &Glue) -> Sums
-    requires { IsSmall sums.now }
-    ensures { result ≡ spec.with_skip sums.now glue.now }
-{
-    let mut more = *sums;
-    more.normal = with_stretch(sums.normal, 0, glue);
-    more.fil = with_stretch(sums.fil, 1, glue);
-    more.fill = with_stretch(sums.fill, 2, glue);
-    more.filll = with_stretch(sums.filll, 3, glue);
-    more.shrink = plus(sums.shrink, glue.shrink());
-    more
-}
-
-fn fits(size: i64) -> bool
-    ensures { result ≡ fits size }
-{
-    size.unsigned_abs() < 1 << 30
-}
-
-/// Whether all stretch and shrink are dimensions.
-fn glue_fits(sums: &Sums) -> bool
-    ensures { result ≡ glue_fits sums.now }
-{
-    fits(sums.normal)
-        && (fits(sums.fil) && (fits(sums.fill) && (fits(sums.filll) && fits(sums.shrink))))
-}
-
 /// The measures with \skip's stretch and shrink.
 fn skipped(measures: &Measures, glue: &Glue) -> Result<Measures, PageError>
     requires { IsMeasured measures.now }
@@ -111,7 +74,7 @@ fn skipped(measures: &Measures, glue: &Glue) -> Result<Measures, PageError>
     if shrinks_endlessly(&Kind::Skip(*glue)) {
         return Err(PageError::EndlessShrink);
     }
-    let sums = with_skip(&measures.sums, glue);
+    let sums = with_elastic(&measures.sums, glue);
     if !glue_fits(&sums) {
         return Err(PageError::SizeOutOfRange);
     }
