@@ -17,5 +17,6 @@ mod types;
 mod verdicts;
 
 pub use packing::{hpack, vpack};
+pub use sums::fits;
 pub use tops::vtop;
 pub use types::{Goal, PackError, PackParams, Packed};
