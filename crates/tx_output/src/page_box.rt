@@ -7,7 +7,7 @@ use crate::error::OutputError;
 use std::alloc::Global;
 use tx_bytes::Bytes;
 use tx_node::Nodes;
-use tx_pack::{Goal, PackError, PackParams, Packed, vpack};
+use tx_pack::{Goal, PackError, PackParams, Packed, fits, vpack};
 
 impl From<PackError> for OutputError {
     ghost from_gives = { λ e r. r ≡ spec.of_packing e };
@@ -19,13 +19,6 @@ impl From<PackError> for OutputError {
             PackError::OutOfMemory => OutputError::OutOfMemory,
         }
     }
-}
-
-/// Whether a size is a dimension.
-fn fits(size: i64) -> bool
-    ensures { result ≡ spec.is_dimension size }
-{
-    size.unsigned_abs() < 1 << 30
 }
 
 /// Whether two sizes are dimensions.
