@@ -8,11 +8,12 @@ ghost use Rattle.tx_galley.specs.Contributing as spec;
 ghost use Rattle.tx_galley.specs.Errors.{error_of};
 
 use crate::errors::GalleyError;
-use crate::params::{fits, node_params};
+use crate::params::node_params;
 use std::alloc::Global;
 use tx_box::dimension;
 use tx_eqtb::Eqtb;
 use tx_node::{Node, Nodes};
+use tx_pack::fits;
 use tx_pagebuilder::Built;
 use tx_pages::{Pages, last_item};
 use tx_prim::DimensionParameter;

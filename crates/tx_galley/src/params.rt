@@ -2,7 +2,6 @@
 ghost use Rattle.std.specs.Prelude.{◌≡◌, ◌++◌, IfOk, OnOk};
 ghost use Rattle.tx_eqtb.specs.Table.{number_at};
 ghost use Rattle.tx_node.specs.Nodes.{item_of};
-ghost use Rattle.tx_pack.specs.Sums.{fits};
 ghost use Rattle.tx_seen.specs.declared.place.Place.TheVariants as place;
 ghost use Rattle.tx_galley.specs.Params as spec;
 
@@ -13,13 +12,6 @@ use tx_node::{BoxNode, Direction, Node};
 use tx_pagebuilder::{BoxList, Class, ClassBox, ClassParams, PageParams};
 use tx_prim::{DimensionParameter, GlueParameter, IntegerParameter};
 use tx_seen::Place;
-
-/// Whether a size, in sp, is a dimension.
-pub(crate) fn fits(size: i64) -> bool
-    ensures { result ≡ fits size }
-{
-    size.unsigned_abs() < 1 << 30
-}
 
 /// Whether a number is an integer.
 pub(crate) fn is_integer(number: i64) -> bool

@@ -7,13 +7,12 @@ ghost use Rattle.tx_galley.specs.Splitting as spec;
 
 use crate::errors::GalleyError;
 use crate::firing::put_box;
-use crate::params::fits;
 use std::alloc::Global;
 use tx_box::{dimension, down, glue};
 use tx_eqtb::{BoxContents, Entry, Eqtb};
 use tx_insert::{Split, split};
 use tx_node::{Direction, Nodes};
-use tx_pack::{Goal, PackParams, Packed, vpack};
+use tx_pack::{Goal, PackParams, Packed, fits, vpack};
 use tx_pages::Pages;
 use tx_prim::{DimensionParameter, GlueParameter};
 use tx_seen::{Place, TexError};
