@@ -42,7 +42,7 @@ fn past_discardables(pieces: &[Piece], starts: &[usize], place: usize) -> usize
 }
 
 /// The discretionary at a place, if there is one.
-fn discretionary_at(pieces: &[Piece], place: usize) -> Option<Discretionary>
+pub fn discretionary_at(pieces: &[Piece], place: usize) -> Option<Discretionary>
     ensures { result ≡ discretionary_at pieces.now place }
 {
     match pieces.get(place) {

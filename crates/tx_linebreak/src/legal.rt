@@ -83,7 +83,7 @@ impl Piece {
     }
 
     /// Whether it vanishes behind a break.
-    pub(crate) fn is_discardable(&self) -> bool
+    pub fn is_discardable(&self) -> bool
         ensures { result ≡ is_discardable self.now }
     {
         match self {

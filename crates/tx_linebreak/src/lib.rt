@@ -37,6 +37,7 @@ mod trial;
 mod trials;
 
 pub use answer::{Chosen, Places};
+pub use attempt::discretionary_at;
 pub use choice::{breaks, first_breaks};
 pub use ended::is_ended;
 pub use error::BreakError;
