@@ -3,18 +3,7 @@ ghost use Rattle.std.specs.Prelude.{◌≡◌, ◌≤◌, ◌+◌, suc, length, 
 ghost use Rattle.tx_linebreak.specs.Breaks as breaks;
 ghost use Rattle.tx_linebreak.specs.Lines.{first_place};
 
-use tx_linebreak::{Discretionary, Piece};
-
-/// Whether a piece vanishes behind a break.
-fn is_discardable(piece: &Piece) -> bool
-    ensures { result ≡ breaks.is_discardable piece.now }
-{
-    match piece {
-        Piece::Solid(_) | Piece::Discretionary(_) => false,
-        Piece::Kern(_) | Piece::Glue(_) | Piece::Penalty(_) => true,
-        Piece::MathOn(_) | Piece::MathOff(_) => true,
-    }
-}
+use tx_linebreak::{Discretionary, Piece, discretionary_at};
 
 /// The first place from this one on whose piece doesn't vanish behind a break, but no further than the next break.
 fn past_discardables(pieces: &[Piece], place: usize, end: usize) -> usize
@@ -23,7 +12,7 @@ fn past_discardables(pieces: &[Piece], place: usize, end: usize) -> usize
     ensures { result ≡ min (breaks.past_discardables pieces.now place) end }
 {
     for at in place..end {
-        if !is_discardable(&pieces[at]) {
+        if !pieces[at].is_discardable() {
             return at;
         }
     }
@@ -40,24 +29,6 @@ fn past_discretionary(pieces: &[Piece], place: usize, end: usize, broken: &Discr
     match broken.behind {
         Some(_) => begin,
         None => past_discardables(pieces, begin, end),
-    }
-}
-
-/// The discretionary at a place, if there is one.
-pub(crate) fn discretionary_at(pieces: &[Piece], place: usize) -> Option<Discretionary>
-    ensures { result ≡ breaks.discretionary_at pieces.now place }
-{
-    match pieces.get(place) {
-        Some(Piece::Discretionary(broken)) => Some(*broken),
-        Some(
-            Piece::Solid(_)
-            | Piece::Kern(_)
-            | Piece::Glue(_)
-            | Piece::Penalty(_)
-            | Piece::MathOn(_)
-            | Piece::MathOff(_),
-        ) => None,
-        None => None,
     }
 }
 

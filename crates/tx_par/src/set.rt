@@ -11,7 +11,7 @@ ghost use Rattle.tx_par.specs.Tasks.{IsTask, task_in};
 
 use crate::ending::end;
 use crate::error::ParError;
-use crate::first::{discretionary_at, first_place};
+use crate::first::first_place;
 use crate::line::Line;
 use crate::lines::Lines;
 use crate::params::ParParams;
@@ -21,7 +21,7 @@ use crate::so_far::SoFar;
 use crate::task::Paragraph;
 use std::alloc::{AllocError, Global};
 use tx_bytes::Bytes;
-use tx_linebreak::{BreakError, Chosen, Pieces, Shape, breaks, first_breaks};
+use tx_linebreak::{BreakError, Chosen, Pieces, Shape, breaks, discretionary_at, first_breaks};
 use tx_nest::{ModeList, ModeState};
 use tx_node::Nodes;
 
