@@ -3,11 +3,12 @@
 //!
 //! Proved: lists are the lists that they are said to be, and `same` is exactly equality. Nothing is left to tests.
 //!
-//! Modules in reading order: `toks`, `tok_list`, `parameters`, `body`, `macros`; and `item`, what is fed where not every token
-//! may come.
+//! Modules in reading order: `toks`, `tok_list`, `braces`, `parameters`, `body`, `macros`; and `item`, what is fed where not
+//! every token may come.
 #![tactic(auto)]
 
 mod body;
+mod braces;
 mod item;
 mod macros;
 mod parameters;
@@ -15,6 +16,7 @@ mod tok_list;
 mod toks;
 
 pub use body::{Body, Slot, Slots};
+pub use braces::{begins_group, ends_group};
 pub use item::Item;
 pub use macros::Macro;
 pub use parameters::ParameterText;
