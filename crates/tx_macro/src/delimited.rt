@@ -9,13 +9,13 @@ ghost use Rattle.tx_macro.specs.Stages.{Delimited, step_of};
 
 use crate::borders::agreed;
 use crate::stage::{Kind, Move};
-use crate::tokens::{begins_group, ends_group, is_paragraph};
+use crate::tokens::is_paragraph;
 use crate::undelimited::{level_behind, level_of};
 use std::alloc::{AllocError, Global};
 use tx_char::Token;
 use tx_list::Items;
 use tx_seen::TexError;
-use tx_toklist::Toks;
+use tx_toklist::{Toks, begins_group, ends_group};
 
 /// Takes a token of a delimited argument or of its delimiter. Its only error is that no more groups can be counted.
 pub(crate) fn take(

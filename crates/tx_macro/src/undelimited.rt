@@ -6,10 +6,11 @@ ghost use Rattle.tx_macro.specs.Rests.{IsStep, step_rest};
 ghost use Rattle.tx_macro.specs.Stages.{step_of};
 
 use crate::stage::{Kind, Move};
-use crate::tokens::{begins_group, ends_group, is_paragraph, is_space_token};
+use crate::tokens::{is_paragraph, is_space_token};
 use std::alloc::AllocError;
 use tx_char::Token;
 use tx_seen::TexError;
+use tx_toklist::{begins_group, ends_group};
 
 /// Takes the first token of an undelimited argument, or a space before it.
 pub(crate) fn begin(long: bool, token: &Token) -> Move
