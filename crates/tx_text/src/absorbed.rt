@@ -3,13 +3,12 @@ ghost use Rattle.std.specs.Prelude.{◌≡◌, ◌↔◌, IfOk, IsTrue, OnOk};
 ghost use Rattle.tx_text.specs.Absorbed as spec;
 ghost use Rattle.tx_text.specs.Absorbed.{IsAbsorbed, begun_text, no_text};
 
-use crate::signs::{begins_group, ends_group};
 use crate::stages::TextStage;
 use std::alloc::{AllocError, Global};
 use std::marker::Model;
 use tx_char::Token;
 use tx_seen::{Fed, Seen, TexError, Want};
-use tx_toklist::Toks;
+use tx_toklist::{Toks, begins_group, ends_group};
 
 /// A text in braces that is being taken, with what may stand before it. Contracts see its tokens, and how far it is. After
 /// an error it may only be dropped.

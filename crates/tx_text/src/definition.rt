@@ -4,14 +4,14 @@ ghost use Rattle.tx_toklist.specs.Macros.{IsMacro};
 ghost use Rattle.tx_text.specs.Definitions as spec;
 ghost use Rattle.tx_text.specs.Definitions.{IsTaken, in_body, no_definition, with_sign};
 
-use crate::signs::{begins_group, ends_group, sign_of};
+use crate::signs::sign_of;
 use crate::stages::Stage;
 use std::alloc::{AllocError, Global};
 use std::marker::Model;
 use tx_bytes::Bytes;
 use tx_char::Token;
 use tx_seen::{Fed, Seen, TexError, Want};
-use tx_toklist::{Body, Macro, ParameterText, Toks};
+use tx_toklist::{Body, Macro, ParameterText, Toks, begins_group, ends_group};
 
 /// What \def and its kin read behind the name, of which some is read. Contracts see the parameter text and the body that it
 /// has, and how far it is. After an error it may only be dropped.
