@@ -3,7 +3,6 @@ pub mod IntegerSteps
 pub mod Letters
 pub mod ReadingOn
 pub mod Extending
-pub mod OneMore
 pub mod KeptDigits
 pub mod UnitSpaces
 pub mod Mosts

@@ -1,5 +1,5 @@
 -- Values from a table, as often as a scan needs one.
-use Rattle.std.specs.Prelude.{◌≡◌, ◌<◌, ◌≤◌, ◌+◌, ℕ, zero, suc, ◌++◌, ◌∷◌, [], List, length, map}
+use Rattle.std.specs.Prelude.{◌<◌, ◌≤◌, ◌+◌, ℕ, zero, suc, ◌++◌, ◌∷◌, [], List, length}
 use Rattle.tx_seen.specs.declared.fed.Kind.{Kind}
 use Rattle.tx_seen.specs.declared.fed.Kind.TheVariants.{Quantity}
 use Rattle.tx_seen.specs.declared.fed.Value.{Value}
@@ -8,22 +8,11 @@ use Rattle.tx_seen.specs.declared.fed.Fed.TheVariants as fed
 use Rattle.tx_seen.specs.declared.place.Place.{Place}
 use Rattle.tx_seen.specs.declared.item.Item.{Item}
 use Rattle.tx_seen.specs.declared.item.Item.TheVariants.{Gave}
-use Rattle.tx_seen.specs.Readings.{Reading, More, Need, Done, Wrong, Answers}
+use Rattle.tx_seen.specs.Readings.{Reading, More, Need, Done, Wrong}
 
 -- the value that is needed
 abbrev pub value_for : (Place → Value) → Kind → Value
 value_for at (Quantity place) = at place
-
--- each of these values is the one that reading the items and the values before it needs
-abbrev pub IsSupplied : {A : Type 0} → (Place → Value) → (List Item → Reading A) → List Item → List Value → Type 0
-IsSupplied at reading items [] = Unit {0}
-IsSupplied at reading items (value ∷ values) =
-    (kind : Kind) × ((reading items ≡ Need kind) × ((value ≡ value_for at kind) × IsSupplied at reading (items ++ Gave value ∷ []) values))
-
--- an answer is what reading gives of the items and of the values that it needs behind them
-abbrev pub AnswersSupplied : {S A : Type 0} → (Place → Value) → (List Item → Reading A) → (S → List Item → Type 0) → List Item → S → Fed A → Type 0
-AnswersSupplied at reading HasTaken items scan answer =
-    (values : List Value) × (IsSupplied at reading items values × Answers reading HasTaken (items ++ map Gave values) scan answer)
 
 -- an answer that needs no value
 abbrev pub NeedsNothing : {A : Type 0} → Fed A → Type 0

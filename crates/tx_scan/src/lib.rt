@@ -7,7 +7,7 @@
 //! are final. Only tested: that the grammars are Knuth's, on numbers, keywords and names that his program reads alike.
 //!
 //! Read `scans`, `beginnings` and `lists`, then `integer`, `quantity`, `dimension`, `keyword`, `glue` and `grammars`; `spellings`, `control_name` and
-//! `file_name`; and `supplying`, `giving_back` and `laws`.
+//! `file_name`; and `giving_back` and `laws`.
 #![tactic(auto)]
 
 mod beginnings;
@@ -27,7 +27,6 @@ mod outers;
 mod quantity;
 mod scans;
 mod spellings;
-mod supplying;
 mod units;
 
 pub use beginnings::beginning;
@@ -41,4 +40,3 @@ pub use scans::{
     ListBegun, Measure, NameScan, Order, QuantityScan, Sought, Units,
 };
 pub use spellings::{ControlNameScan, FileNameScan};
-pub use supplying::{Needs, supply};
