@@ -1,3 +1,2 @@
 pub mod Dots
-pub mod Repeating
 pub mod Used
