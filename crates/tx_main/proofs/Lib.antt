@@ -12,5 +12,4 @@ pub mod Collects
 pub mod Assigns
 pub mod Signs
 pub mod Vertical
-pub mod Building
 pub mod MainLoop
