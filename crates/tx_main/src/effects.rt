@@ -34,8 +34,7 @@ use tx_nest::append_item;
 use tx_node::{KernKind, Leaders, Node, Plain, Rule, Shared};
 use tx_num::Glue;
 use tx_prim::{
-    AfterKind, DefinitionKind, Interaction, LeadersKind, Prefix, Primitive, Shorthand, SizeKind,
-    TextUse,
+    AfterKind, DefinitionKind, LeadersKind, Prefix, Primitive, Shorthand, SizeKind, TextUse,
 };
 use tx_seen::{Meaning, Place, TexError};
 use tx_shape::Opener;
@@ -430,16 +429,6 @@ fn begin_leaders(s: &mut State, kind: LeadersKind, rule: Rule) -> Event
     Event::Went
 }
 
-/// \batchmode or its kin: an assignment of which nothing comes.
-fn interact(s: &mut State, kind: Interaction) -> Result<Event, AllocError>
-    requires running { s.old.phase ≡ Phase.Running }
-    requires between { s.old.scan.taken ≡ [] }
-    ensures { IfOk result (λ event. IsStepped (effects.effect (state_of s.old) (Command.Interact kind)) s.old event s.new) }
-{
-    let _nothing = kind;
-    end_assignment(s)
-}
-
 /// The run ends as \end does it.
 pub fn finish(s: &mut State) -> Event
     ensures { IsStepped Ends s.old result s.new }
@@ -518,7 +507,7 @@ pub fn carry_out(alloc: Global, s: &mut State, command: Command) -> Result<Event
         Command::SetFontInteger(kind, font, value) => set_integer(s, kind, font, value),
         Command::Remove(kind) => Ok(remove(s, kind)),
         Command::End => end_run(alloc, s),
-        Command::Interact(kind) => interact(s, kind),
+        Command::Interact(_) => end_assignment(s),
         Command::DefineMacro(defined, kind) => Ok(define_macro(alloc, s, defined, kind)),
         Command::BeginText(purpose) => Ok(begin_text(alloc, s, purpose)),
         Command::DefineFuture(defined) => Ok(define_future(s, defined)),

@@ -6,6 +6,7 @@ ghost use Rattle.tx_machine.specs.Ranges.{IsDate};
 ghost use Rattle.tx_main.specs.Pages as spec;
 
 use std::alloc::AllocError;
+use tx_box::dimension;
 use tx_bytes::Bytes;
 use tx_dvi::FontDefinition;
 use tx_eqtb::Eqtb;
@@ -32,13 +33,6 @@ pub fn integer(table: &Eqtb, parameter: IntegerParameter) -> i32
     ensures { result ≡ spec.integer table.now.table parameter }
 {
     table.number(&Place::Integer(parameter))
-}
-
-/// A dimension parameter, in sp.
-fn dimension(table: &Eqtb, parameter: DimensionParameter) -> i64
-    ensures { result ≡ spec.dimension table.now.table parameter }
-{
-    i64::from(table.number(&Place::Dimension(parameter)))
 }
 
 /// A register of \count.
