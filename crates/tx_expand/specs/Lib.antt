@@ -1,3 +1,4 @@
+pub mod Values
 pub mod Scans
 pub mod Parts
 pub mod Uses

@@ -1,13 +1,14 @@
 //! The expander.
 ghost use Rattle.std.specs.Prelude.{◌≡◌, ◌↔◌, [], IfOk, IsTrue, OnOk};
 ghost use Rattle.tx_expand.specs.Expanding.{reader_of, world_of};
-ghost use Rattle.tx_known.specs.Values.{lent};
+ghost use Rattle.tx_expand.specs.Values.{lent};
 ghost use Rattle.tx_expand.specs.Turns as turns;
 ghost use Rattle.tx_expand.specs.Turns.{file_ended, turn, IsTurned};
 ghost use Rattle.tx_pending.specs.Elements.{Input};
 
 use crate::begun::Begun;
 use crate::kept::{same_begun, share_begun};
+use crate::known::Known;
 use crate::state::Open;
 use crate::types::{Expanded, Wanted};
 use std::alloc::{AllocError, Global};
@@ -15,7 +16,6 @@ use std::collections::VecDeque;
 use std::marker::Model;
 use tx_bytes::Bytes;
 use tx_cond::CondStack;
-use tx_known::Known;
 use tx_pending::{Next, Pending};
 use tx_prim::Mode;
 use tx_seen::{Meaning, Seen, TexError};

@@ -4,7 +4,7 @@ ghost use Rattle.tx_char.specs.declared.tokens.Token.{Token as Any_token};
 ghost use Rattle.tx_cond.specs.Conditionals.{meeting};
 ghost use Rattle.tx_cond.specs.declared.types.Conditional.{Conditional};
 ghost use Rattle.tx_convert.specs.Texts.{as_tokens};
-ghost use Rattle.tx_known.specs.Values.{lent, value_now};
+ghost use Rattle.tx_expand.specs.Values.{lent, value_now};
 ghost use Rattle.tx_eqtb.specs.Table.{tokens_at};
 ghost use Rattle.tx_pending.specs.Elements.{Input};
 ghost use Rattle.tx_prim.specs.declared.modes.Mode.{Mode as Any_mode};
@@ -17,6 +17,7 @@ ghost use Rattle.tx_expand.specs.Turns.{begins, come, decided, ended, expanded, 
 ghost use Rattle.tx_expand.specs.Uses.{comes_to, with_taken};
 
 use crate::begun::Begun;
+use crate::known::Known;
 use crate::part::Part;
 use crate::printing::push_printed;
 use crate::scanning::Scanning;
@@ -29,7 +30,6 @@ use std::collections::VecDeque;
 use tx_char::{ControlName, Token};
 use tx_cond::{Meet, SkipItem, Skipper};
 use tx_convert::{push_font_name, push_job_name};
-use tx_known::Known;
 use tx_pending::Pending;
 use tx_prim::{CondWord, Conversion, Expandable, MarkKind, Mode, Test};
 use tx_scan::{byte, token_of};

@@ -2,11 +2,12 @@
 //! expanded is replaced in its front, without recursion: a list keeps what has begun, the innermost first.
 //!
 //! Proved: each turn answers, and leaves of the input, of what has begun and of the conditionals, exactly what is defined; so
-//! does what comes before the first line of a file, and the error where a file ends. Only tested: that the definitions are
-//! Knuth's, on cases worked out by hand, most of them seen in his program (`proofs/Worked.antt`).
+//! does what comes before the first line of a file, and the error where a file ends; and each quantity that may be asked for is
+//! that of the list that is being built or of the table (TeX: The Program, sections 413 to 424). Only tested: that the definitions
+//! are Knuth's, on cases worked out by hand, most of them seen in his program (`proofs/Worked.antt`).
 //!
-//! Read `types` and `begun`; `part`, `mapping`, `feeding` and `scanning`; `step`, `using` and `printing`; then `state`,
-//! `expanding`, `kept` and `expander`.
+//! Read `known` and `values`, what expansions, tests and scans may ask for; `types` and `begun`; `part`, `mapping`, `feeding` and
+//! `scanning`; `step`, `using` and `printing`; then `state`, `expanding`, `kept` and `expander`.
 #![tactic(auto)]
 
 mod begun;
@@ -14,6 +15,7 @@ mod expander;
 mod expanding;
 mod feeding;
 mod kept;
+mod known;
 mod mapping;
 mod part;
 mod printing;
@@ -22,10 +24,13 @@ mod state;
 mod step;
 mod types;
 mod using;
+mod values;
 
 pub use begun::Begun;
 pub use expander::Expander;
+pub use known::Known;
 pub use printing::escape_of;
 pub use scanning::Scanning;
 pub use types::{Expanded, Made, Printed, Read, Scanned, Wanted};
 pub use using::Using;
+pub use values::may_be;

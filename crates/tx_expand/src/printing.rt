@@ -1,17 +1,17 @@
 //! What is printed of tokens, meanings and marks.
 ghost use Rattle.std.specs.Prelude.{◌≡◌, ◌++◌, OnOk};
 ghost use Rattle.tx_convert.specs.Texts.{as_tokens};
-ghost use Rattle.tx_known.specs.Values.{lent};
+ghost use Rattle.tx_expand.specs.Values.{lent};
 ghost use Rattle.tx_prim.specs.declared.modes.Mode.{Mode as Any_mode};
 ghost use Rattle.tx_expand.specs.Expanding.{escape_of, world_of};
 ghost use Rattle.tx_expand.specs.Turns as turns;
 ghost use Rattle.tx_expand.specs.Turns.{text_of};
 
+use crate::known::Known;
 use crate::types::Printed;
 use std::alloc::{AllocError, Global};
 use tx_convert::{push_mark, push_meaning, push_string};
 use tx_eqtb::Eqtb;
-use tx_known::Known;
 use tx_prim::{Expandable, IntegerParameter, MarkKind};
 use tx_scan::byte;
 use tx_seen::{Meaning, Place, Seen};

@@ -3,7 +3,7 @@ use Rattle.std.proofs.Common.{◌≡◌, ℕ, ℤ, List, [], Option, Result, Ok,
 use Rattle.tx_machine.specs.declared.types.Event.{Event}
 use Rattle.tx_machine.specs.declared.types.Event.TheVariants.{Went}
 use Rattle.tx_pending.specs.Elements.{Input, with_tokens}
-use Rattle.tx_known.specs.Values.{Lent, value_now}
+use Rattle.tx_expand.specs.Values.{Lent, value_now}
 use Rattle.tx_expand.specs.Turns.{put}
 use Rattle.tx_seen.specs.declared.error.TexError.{TexError}
 use Rattle.tx_seen.specs.declared.fed.Want.{Want}

@@ -1,4 +1,4 @@
-use Rattle.tx_known.specs.Values.{lent, value_now}
+use Rattle.tx_expand.specs.Values.{lent, value_now}
 use Rattle.tx_expand.proofs.Turning.{reads-on}
 use Rattle.tx_expand.proofs.expanding.read_by.Goals as goal
 

@@ -1,6 +1,6 @@
 use Rattle.std.proofs.Common.{◌≡◌, rules, to_z, of_z, w64}
 use Rattle.tx_command.specs.declared.scans.Taken.TheVariants as taken
-use Rattle.tx_known.specs.Values.{lent}
+use Rattle.tx_expand.specs.Values.{lent}
 use Rattle.tx_main.proofs.Taking.{taken-by, takes-more, takes-wrong, takes-whole}
 use Rattle.tx_main.proofs.turn.feed_command.Goals as goal
 

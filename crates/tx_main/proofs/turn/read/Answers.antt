@@ -1,6 +1,6 @@
 use Rattle.std.proofs.Common.{◌≡◌, rules, to_z, of_z, w64}
 use Rattle.tx_expand.specs.Expanding.{reader_of}
-use Rattle.tx_known.specs.Values.{lent}
+use Rattle.tx_expand.specs.Values.{lent}
 use Rattle.tx_main.proofs.Turning.{notes, reads-by, turned-known}
 use Rattle.tx_main.proofs.turn.read.Goals as goal
 

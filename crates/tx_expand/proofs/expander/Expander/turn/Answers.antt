@@ -1,7 +1,7 @@
 use Rattle.std.proofs.Common.{rules}
 use Rattle.tx_expand.specs.Expanding.{world_of}
 use Rattle.tx_expand.proofs.Turning.{held-turned, token-turned}
-use Rattle.tx_known.specs.Values.{lent}
+use Rattle.tx_expand.specs.Values.{lent}
 use Rattle.tx_expand.proofs.expander.Expander.turn.Goals as goal
 
 pub returns-in_default : goal.returns-in_default

@@ -1,6 +1,6 @@
 use Rattle.tx_expand.specs.Expanding.{reader_of, world_of}
 use Rattle.tx_expand.proofs.Turning.{taken-otherwise}
-use Rattle.tx_known.specs.Values.{lent}
+use Rattle.tx_expand.specs.Values.{lent}
 use Rattle.tx_expand.proofs.state.Open.expand.Goals as goal
 
 pub returns-in_default : goal.returns-in_default

@@ -2,7 +2,7 @@ use Rattle.std.proofs.Common.{◌≡◌}
 use Rattle.tx_convert.specs.Texts.{as_tokens}
 use Rattle.tx_expand.specs.Expanding.{world_of}
 use Rattle.tx_expand.specs.Turns.{text_of}
-use Rattle.tx_known.specs.Values.{lent}
+use Rattle.tx_expand.specs.Values.{lent}
 use Rattle.tx_expand.proofs.state.Open.print.Goals as goal
 
 pub returns : goal.returns

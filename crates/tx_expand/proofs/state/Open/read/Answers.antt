@@ -1,7 +1,7 @@
 use Rattle.std.proofs.Common.{◌∙◌, sym}
 use Rattle.tx_expand.specs.Expanding.{reader_of, world_of}
 use Rattle.tx_expand.proofs.Turning.{taken-raw}
-use Rattle.tx_known.specs.Values.{lent}
+use Rattle.tx_expand.specs.Values.{lent}
 use Rattle.tx_expand.proofs.state.Open.read.Goals as goal
 
 pub returns-in-Raw : goal.returns-in-Raw

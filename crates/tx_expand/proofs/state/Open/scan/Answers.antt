@@ -3,7 +3,7 @@ use Rattle.tx_seen.specs.Readings.{Done}
 use Rattle.tx_expand.specs.Expanding.{reader_of, world_of}
 use Rattle.tx_expand.specs.Scans.{reading}
 use Rattle.tx_expand.proofs.Turning.{reads-done, whole-at-once}
-use Rattle.tx_known.specs.Values.{lent}
+use Rattle.tx_expand.specs.Values.{lent}
 use Rattle.tx_expand.proofs.state.Open.scan.Goals as goal
 
 pub returns-in-Done : goal.returns-in-Done

@@ -1,6 +1,6 @@
 use Rattle.tx_expand.specs.Expanding.{reader_of, world_of}
 use Rattle.tx_expand.proofs.Turning.{scanned-made}
-use Rattle.tx_known.specs.Values.{lent}
+use Rattle.tx_expand.specs.Values.{lent}
 use Rattle.tx_expand.proofs.state.Open.scan_on.Goals as goal
 
 pub returns-in-Made : goal.returns-in-Made

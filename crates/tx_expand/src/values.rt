@@ -1,6 +1,6 @@
 //! The quantities of the table and the lists, lent together.
 ghost use Rattle.std.specs.Prelude.{◌≡◌, ◌≤◌, ◌≤ℤ◌, pos, IsTrue};
-ghost use Rattle.tx_known.specs.Values as spec;
+ghost use Rattle.tx_expand.specs.Values as spec;
 
 use crate::known::Known;
 use tx_eqtb::Eqtb;
@@ -197,7 +197,7 @@ fn factor_value(factor: Option<SpaceFactor>) -> Value
 }
 
 impl<'a> Quantities for Known<'a> {
-    ghost use Rattle.tx_known.specs.Values.{lent, value_now};
+    ghost use Rattle.tx_expand.specs.Values.{lent, value_now};
 
     ghost value_at = { λ known. value_now (lent known) };
 

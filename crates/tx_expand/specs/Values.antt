@@ -30,7 +30,7 @@ use Rattle.tx_seen.specs.declared.place.Place.{Place}
 use Rattle.tx_seen.specs.declared.place.Place.TheVariants as place
 use Rattle.tx_tfm.specs.declared.state.FontState.{FontState}
 use Rattle.tx_tfm.specs.Fonts.{font_integer, font_parameter, has_parameter}
-use Rattle.tx_known.specs.declared.known.Known.{Known}
+use Rattle.tx_expand.specs.declared.known.Known.{Known}
 
 -- \lastpenalty, \lastkern and \lastskip
 abbrev pub last_value : ItemKind → List Item → Value
