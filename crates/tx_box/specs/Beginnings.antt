@@ -3,7 +3,7 @@ use Rattle.std.specs.Prelude.{pos, []}
 use Rattle.tx_nest.specs.States.{begun}
 use Rattle.tx_prim.specs.declared.modes.Mode.TheVariants.{Vertical}
 use Rattle.tx_box.specs.declared.parts.Lists.{Lists}
-use Rattle.tx_pages.specs.Pages.{first_pages}
+use Rattle.tx_output.specs.Pages.{first_pages}
 
 -- the pages' list alone, empty, no box, and no page
 abbrev pub first_lists : Lists

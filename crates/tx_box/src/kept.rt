@@ -7,7 +7,7 @@ use std::alloc::{AllocError, Global};
 use tx_list::{Kept, Stack, both};
 use tx_nest::Nest;
 use tx_node::same_box;
-use tx_pages::Pages;
+use tx_output::Pages;
 use tx_prim::BoxKind;
 use tx_shape::BoxGoal;
 

@@ -2,7 +2,7 @@
 use tx_list::Stack;
 use tx_nest::Nest;
 use tx_node::{BoxNode, Nodes};
-use tx_pages::Pages;
+use tx_output::Pages;
 use tx_prim::BoxKind;
 use tx_seen::TexError;
 use tx_shape::{BoxContext, BoxGoal};

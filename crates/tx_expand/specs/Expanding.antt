@@ -8,7 +8,7 @@ use Rattle.tx_scan.specs.Integers.{byte_of}
 use Rattle.tx_eqtb.specs.declared.eqtb.Eqtb.{Eqtb}
 use Rattle.tx_eqtb.specs.Table.{number_at, token_meaning, tokens_at}
 use Rattle.tx_expand.specs.Values.{Lent, font_number, value_now}
-use Rattle.tx_pages.specs.Marks.{mark_of}
+use Rattle.tx_output.specs.Marks.{mark_of}
 use Rattle.tx_cond.specs.declared.types.Conditional.{Conditional}
 use Rattle.tx_expand.specs.declared.begun.Begun.{Begun}
 use Rattle.tx_expand.specs.declared.state.Open.{Open}

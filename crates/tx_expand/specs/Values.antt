@@ -12,9 +12,9 @@ use Rattle.tx_node.specs.Items.{Item}
 use Rattle.tx_prim.specs.declared.integer.IntegerParameter.TheVariants.{Mag}
 use Rattle.tx_num.specs.Glue.{zero_glue}
 use Rattle.tx_pagebuilder.specs.Quantities.{shown}
-use Rattle.tx_pages.specs.declared.last.LastItem.{LastItem}
-use Rattle.tx_pages.specs.declared.last.LastItem.TheVariants as last
-use Rattle.tx_pages.specs.declared.pages.Pages.{Pages}
+use Rattle.tx_output.specs.declared.last.LastItem.{LastItem}
+use Rattle.tx_output.specs.declared.last.LastItem.TheVariants as last
+use Rattle.tx_output.specs.declared.pages.Pages.{Pages}
 use Rattle.tx_prim.specs.declared.family.PageQuantity.{PageQuantity}
 use Rattle.tx_prim.specs.declared.family.PageQuantity.TheVariants as page
 use Rattle.tx_prim.specs.declared.family.FontNumber.{FontNumber}

@@ -2,7 +2,7 @@
 
 use tx_eqtb::Eqtb;
 use tx_nest::Nest;
-use tx_pages::Pages;
+use tx_output::Pages;
 use tx_tfm::Fonts;
 
 /// What may be asked for: the table, the lists that are being built, what is kept of pages, how bad the box is that was packed last,

@@ -7,7 +7,7 @@ use tx_eqtb::Eqtb;
 use tx_nest::{Nest, SpaceFactor, is_bare_page, last_kern, last_penalty, last_skip};
 use tx_node::Nodes;
 use tx_num::Glue;
-use tx_pages::{LastItem, Pages};
+use tx_output::{LastItem, Pages};
 use tx_prim::{FontNumber, IntegerParameter, ItemKind, PageQuantity};
 use tx_seen::{FontName, FontSize, Place, Quantities, Value};
 use tx_tfm::Fonts;

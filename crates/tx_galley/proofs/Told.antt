@@ -6,7 +6,7 @@ use Rattle.tx_nest.specs.declared.list.ModeList.{ModeList}
 use Rattle.tx_nest.specs.declared.nest.Nest.{Nest}
 use Rattle.tx_node.specs.Items.{Item}
 use Rattle.tx_pagebuilder.specs.declared.fired.Fired.{Fired}
-use Rattle.tx_pages.specs.declared.pages.Pages.{Pages}
+use Rattle.tx_output.specs.declared.pages.Pages.{Pages}
 use Rattle.tx_seen.specs.declared.error.TexError.{TexError}
 use Rattle.tx_galley.specs.declared.errors.GalleyError.{GalleyError}
 use Rattle.tx_galley.specs.declared.errors.GalleyError.TheVariants.{OutOfMemory}

@@ -2,7 +2,7 @@
 use Rattle.std.specs.Prelude.{ℤ, Bool, Result, Ok, Err, if◌then◌else◌}
 use Rattle.tx_pack.specs.Sums.{fits}
 use Rattle.tx_pagebuilder.specs.Quantities.{assigned}
-use Rattle.tx_pages.specs.declared.pages.Pages.{Pages}
+use Rattle.tx_output.specs.declared.pages.Pages.{Pages}
 use Rattle.tx_prim.specs.declared.family.PageQuantity.{PageQuantity}
 use Rattle.tx_prim.specs.declared.family.PageQuantity.TheVariants.{InsertPenalties}
 use Rattle.tx_seen.specs.declared.error.TexError.{TexError}

@@ -9,8 +9,8 @@ use Rattle.tx_pagebuilder.specs.declared.measures.Built.{Built}
 use Rattle.tx_pagebuilder.specs.declared.measures.Built.TheVariants.{Went, Fires}
 use Rattle.tx_pagebuilder.specs.Contributed.{contributed as page_contributed}
 use Rattle.tx_pagebuilder.specs.Pages.{Grown}
-use Rattle.tx_pages.specs.declared.pages.Pages.{Pages}
-use Rattle.tx_pages.specs.Last.{last_item}
+use Rattle.tx_output.specs.declared.pages.Pages.{Pages}
+use Rattle.tx_output.specs.Last.{last_item}
 use Rattle.tx_prim.specs.declared.dimension.DimensionParameter.TheVariants.{Maxdepth, Vsize}
 use Rattle.tx_seen.specs.declared.error.TexError.{TexError}
 use Rattle.tx_seen.specs.declared.error.TexError.TheVariants.{SizeOutOfRange}

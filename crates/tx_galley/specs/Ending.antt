@@ -15,7 +15,7 @@ use Rattle.tx_num.specs.Glue.{glue_of}
 use Rattle.tx_output.specs.declared.error.OutputError.{OutputError}
 use Rattle.tx_output.specs.Outputs.{finished}
 use Rattle.tx_pagebuilder.specs.Pages.{is_empty, output_ended}
-use Rattle.tx_pages.specs.declared.pages.Pages.{Pages}
+use Rattle.tx_output.specs.declared.pages.Pages.{Pages}
 use Rattle.tx_prim.specs.declared.dimension.DimensionParameter.TheVariants.{Hsize}
 use Rattle.tx_seen.specs.declared.error.TexError.{TexError}
 use Rattle.tx_seen.specs.declared.place.Place.TheVariants.{Dimension}

@@ -8,7 +8,7 @@ use Rattle.tx_node.specs.Items.{Item}
 use Rattle.tx_pagebuilder.specs.declared.measures.Built.{Built}
 use Rattle.tx_pagebuilder.specs.declared.measures.Built.TheVariants.{Went, Fires}
 use Rattle.tx_pagebuilder.specs.Fired.{waiting_items}
-use Rattle.tx_pages.specs.declared.pages.Pages.{Pages}
+use Rattle.tx_output.specs.declared.pages.Pages.{Pages}
 use Rattle.tx_seen.specs.declared.error.TexError.{TexError}
 use Rattle.tx_galley.specs.declared.firing.Next.{Next}
 use Rattle.tx_galley.specs.declared.firing.Next.TheVariants.{Goes}

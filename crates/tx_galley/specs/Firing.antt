@@ -17,9 +17,9 @@ use Rattle.tx_pagebuilder.specs.declared.error.PageError.{PageError}
 use Rattle.tx_pagebuilder.specs.declared.fired.Fired.{Fired}
 use Rattle.tx_pagebuilder.specs.Fired.{fired, page_left}
 use Rattle.tx_pagebuilder.specs.Pages.{shipped}
-use Rattle.tx_pages.specs.declared.last.LastItem.TheVariants.{Other}
-use Rattle.tx_pages.specs.declared.pages.Pages.{Pages}
-use Rattle.tx_pages.specs.Marks.{of_page as marks_of_page}
+use Rattle.tx_output.specs.declared.last.LastItem.TheVariants.{Other}
+use Rattle.tx_output.specs.declared.pages.Pages.{Pages}
+use Rattle.tx_output.specs.Marks.{of_page as marks_of_page}
 use Rattle.tx_prim.specs.declared.integer.IntegerParameter.TheVariants.{Maxdeadcycles, Outputpenalty}
 use Rattle.tx_prim.specs.declared.tokens.TokenParameter.TheVariants.{Output}
 use Rattle.tx_seen.specs.declared.error.TexError.{TexError}

@@ -3,8 +3,8 @@ ghost use Rattle.std.specs.Prelude.{◌≡◌, Ok, Err, IfErr, OnOk, OnErr};
 ghost use Rattle.tx_galley.specs.Assigning as spec;
 
 use crate::params::is_integer;
+use tx_output::Pages;
 use tx_pack::fits;
-use tx_pages::Pages;
 use tx_prim::PageQuantity;
 use tx_seen::TexError;
 

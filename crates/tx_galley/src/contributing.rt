@@ -13,9 +13,9 @@ use std::alloc::Global;
 use tx_box::dimension;
 use tx_eqtb::Eqtb;
 use tx_node::{Node, Nodes};
+use tx_output::{Pages, last_item};
 use tx_pack::fits;
 use tx_pagebuilder::Built;
-use tx_pages::{Pages, last_item};
 use tx_prim::DimensionParameter;
 use tx_seen::TexError;
 

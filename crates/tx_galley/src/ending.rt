@@ -15,7 +15,7 @@ use tx_eqtb::Eqtb;
 use tx_nest::{ModeList, Nest, append_item};
 use tx_node::{BoxHead, BoxNode, Direction, Node, Nodes, Plain, Setting};
 use tx_num::Glue;
-use tx_pages::Pages;
+use tx_output::Pages;
 use tx_prim::DimensionParameter;
 
 /// Puts nodes before those of a list. Its only error is want of memory.

@@ -15,8 +15,8 @@ use std::mem::replace;
 use tx_eqtb::Eqtb;
 use tx_nest::{ModeList, Nest};
 use tx_node::{Node, Nodes, Plain};
+use tx_output::Pages;
 use tx_pagebuilder::{Built, Kern};
-use tx_pages::Pages;
 
 /// A kern that waits for what comes behind it stays on the list, where nothing is left. Its only error is want of memory.
 fn keep_kern(pages: &mut Pages, left: &mut Nodes) -> Result<(), AllocError>

@@ -12,8 +12,8 @@ use tx_box::{dimension, down, glue};
 use tx_eqtb::{BoxContents, Entry, Eqtb};
 use tx_insert::{Split, split};
 use tx_node::{Direction, Nodes};
+use tx_output::Pages;
 use tx_pack::{Goal, PackParams, Packed, fits, vpack};
-use tx_pages::Pages;
 use tx_prim::{DimensionParameter, GlueParameter};
 use tx_seen::{Place, TexError};
 

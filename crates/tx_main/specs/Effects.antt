@@ -96,9 +96,9 @@ use Rattle.tx_galley.specs.Ending.{ending_output as output_ended, is_done, with_
 use Rattle.tx_galley.specs.Assigning.{setting}
 use Rattle.tx_galley.specs.Splitting.{SplitOff, splitting as split_off}
 use Rattle.tx_pack.specs.declared.types.Packed.{Packed}
-use Rattle.tx_pages.specs.declared.last.LastItem.{LastItem}
-use Rattle.tx_pages.specs.declared.last.LastItem.TheVariants as last
-use Rattle.tx_pages.specs.declared.pages.Pages.{Pages}
+use Rattle.tx_output.specs.declared.last.LastItem.{LastItem}
+use Rattle.tx_output.specs.declared.last.LastItem.TheVariants as last
+use Rattle.tx_output.specs.declared.pages.Pages.{Pages}
 use Rattle.tx_pending.specs.Elements.{Step, step}
 use Rattle.tx_pending.specs.declared.next.Next.{Next}
 use Rattle.tx_pending.specs.declared.next.Next.TheVariants.{Marker}

@@ -29,7 +29,7 @@ use tx_list::Stack;
 use tx_machine::Event;
 use tx_nest::{append_item, append_rule, has_last_box, is_bare_page, remove_item, set_prev_depth};
 use tx_node::{BoxNode, Node, Nodes, Rule};
-use tx_pages::LastItem;
+use tx_output::LastItem;
 use tx_prim::{BoxKind, IntegerParameter, ItemKind, UnboxKind};
 use tx_seen::{Place, TexError};
 use tx_state::{Due, State};

@@ -1,1 +1,4 @@
 pub mod Outputs
+pub mod Last
+pub mod Marks
+pub mod Pages

@@ -4,8 +4,8 @@ use Rattle.tx_node.specs.declared.plain.Plain.{Plain}
 use Rattle.tx_node.specs.declared.plain.Plain.TheVariants as small
 use Rattle.tx_node.specs.declared.plain.Shared.{Shared}
 use Rattle.tx_node.specs.declared.plain.Shared.TheVariants as large
-use Rattle.tx_pages.specs.declared.last.LastItem.{LastItem}
-use Rattle.tx_pages.specs.declared.last.LastItem.TheVariants.{Penalty, Kern, Skip, Other}
+use Rattle.tx_output.specs.declared.last.LastItem.{LastItem}
+use Rattle.tx_output.specs.declared.last.LastItem.TheVariants.{Penalty, Kern, Skip, Other}
 
 abbrev pub plain_item : Plain → LastItem
 plain_item (small.Penalty n) = Penalty n

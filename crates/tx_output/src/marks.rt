@@ -1,6 +1,6 @@
 //! The marks of pages and of splits.
 ghost use Rattle.std.specs.Prelude.{◌≡◌, ◌↔◌, IsTrue, IfOk, OnOk};
-ghost use Rattle.tx_pages.specs.Marks as spec;
+ghost use Rattle.tx_output.specs.Marks as spec;
 
 use std::alloc::AllocError;
 use std::mem::replace;

@@ -1,7 +1,7 @@
 //! The last node that was contributed to the page.
 ghost use Rattle.std.specs.Prelude.{◌≡◌, ◌↔◌, IsTrue};
 ghost use Rattle.tx_node.specs.Nodes.{item_of};
-ghost use Rattle.tx_pages.specs.Last as spec;
+ghost use Rattle.tx_output.specs.Last as spec;
 
 use tx_list::Kept;
 use tx_node::{Node, Plain, Shared};

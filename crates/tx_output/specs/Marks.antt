@@ -3,7 +3,7 @@ use Rattle.std.specs.Prelude.{List, Option, Some, None}
 use Rattle.tx_char.specs.declared.tokens.Token.{Token}
 use Rattle.tx_prim.specs.declared.expandable.MarkKind.{MarkKind}
 use Rattle.tx_prim.specs.declared.expandable.MarkKind.TheVariants.{Top, First, Bottom, SplitFirst, SplitBottom}
-use Rattle.tx_pages.specs.declared.marks.Marks.{Marks}
+use Rattle.tx_output.specs.declared.marks.Marks.{Marks}
 
 abbrev pub no_marks : Marks
 no_marks = record { top = None; first = None; bottom = None; split_first = None; split_bottom = None }

@@ -1,12 +1,12 @@
 //! What is kept of pages.
 ghost use Rattle.std.specs.Prelude.{◌≡◌, ◌↔◌, IsTrue, IfOk};
-ghost use Rattle.tx_pages.specs.Pages as spec;
+ghost use Rattle.tx_output.specs.Pages as spec;
 
 use crate::last::{LastItem, same_item};
 use crate::marks::Marks;
+use crate::output::Output;
 use std::alloc::{AllocError, Global};
 use tx_list::both;
-use tx_output::Output;
 use tx_pagebuilder::Page;
 
 /// What is kept of pages: the one that is being built and its last node, the marks, \deadcycles, and the output that has begun.
