@@ -38,22 +38,12 @@ fn range_of(place: &Place) -> Range
     }
 }
 
-/// The greatest number of a range.
-fn greatest(range: Range) -> u64
-    ensures { result ≡ limit range }
-{
-    match range {
-        Range::Integer => 2_147_483_647,
-        Range::Dimen => 1_073_741_823,
-    }
-}
-
 /// A result, if it is within the range.
 fn computed(range: Range, number: i64) -> Result<i32, TexError>
     ensures value { result ≡ spec.computed range number }
     ensures bound { IfOk result (λ n. unsigned_abs n ≤ limit range) }
 {
-    if number.unsigned_abs() <= greatest(range) {
+    if number.unsigned_abs() <= range.limit() {
         Ok(number as i32)
     } else {
         Err(TexError::ArithmeticOverflow)
