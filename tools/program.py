@@ -1,4 +1,4 @@
-"""The program word_cases, for the checks that ask it."""
+"""The program library_cases, for the checks that ask it."""
 import os
 import subprocess
 

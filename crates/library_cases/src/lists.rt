@@ -184,7 +184,8 @@ fn rule_of(sides: &str) -> Option<Rule> {
     })
 }
 
-fn glue_of(text: &str) -> Option<Glue> {
+/// Glue, if the text is `W,S,O,T,P`.
+pub fn glue_of(text: &str) -> Option<Glue> {
     let (width, rest) = text.split_once(',')?;
     let (stretch, rest) = rest.split_once(',')?;
     let (stretch_order, rest) = rest.split_once(',')?;

@@ -1,47 +1,133 @@
 //! Runs the worked cases of the libraries in the files that the words of its command line name, and prints how many there
-//! are in each, or those that come out otherwise: what no document shows, or not at the borders. Each module says what its
-//! cases are given.
+//! are in each, or those that come out otherwise: what no document shows, or not at the borders; or answers the lines of its
+//! standard input, for checks from outside, as tools/check-tfm. Each module says what its cases are given. The font, the
+//! patterns and the exceptions that a case has taken are there for those behind it; `fresh` forgets the patterns and the
+//! exceptions, `keep` keeps them, and `same` says whether they are those that were kept.
 //!
-//! Read `numbers`, `files`, `scripts`, `primitives`, `lists`, `boxes` and `packing`, `paragraphs`, and `outside`.
+//! Read `numbers`, `files`, `scripts`, `primitives`, `lists`, `boxes` and `packing`, `paragraphs`, and `outside`; then `fonts`,
+//! `ligatures`, `words` and `hyphenating`; then `documents` and `edits`, `rows`, `runs` and `sessions`.
 #![tactic(auto)]
 
 mod boxes;
+mod documents;
+mod edits;
 mod files;
+mod fonts;
+mod hyphenating;
+mod ligatures;
 mod lists;
 mod numbers;
 mod outside;
 mod packing;
 mod paragraphs;
 mod primitives;
+mod rows;
+mod runs;
 mod scripts;
+mod sessions;
+mod words;
 
 use std::alloc::{AllocError, Global};
 use std::io;
-use tx_cases::{Answers, first_line, first_word, run_files};
+use tx_cases::{Answers, answered, first_line, first_word, run_files};
+use tx_hyphen::hyphens::Hyphens;
+use tx_machine::CountsTurns;
+use tx_tfm::{Font, Fonts};
 
-/// The program, which keeps nothing from case to case.
+/// What the cases so far have made.
 #[derive(Drop)]
-struct Program;
+struct Desk {
+    font: Option<Font>,
+    fonts: Fonts,
+    hyphens: Hyphens,
+    kept: Hyphens,
+}
 
-impl Answers for Program {
+impl Answers for Desk {
     fn answer(&mut self, rt: &HostRuntime, given: &str) -> io::Result<String> {
-        let mut text = String::new(rt.alloc());
-        write_answer(rt, &mut text, given)?;
-        Ok(text)
+        let (line, lines) = first_line(given);
+        let (word, rest) = first_word(line);
+        match word {
+            "font" => fonts::take(rt, &mut self.font, rest),
+            "folder" => folder(rt, lines),
+            "resume" | "edited" | "replayed" | "run" | "long" => Ok(ran(rt, word, rest, lines)?),
+            _ => Ok(told(rt.alloc(), self, word, rest, lines)?),
+        }
     }
 }
 
-fn write_answer(rt: &HostRuntime, text: &mut String, given: &str) -> io::Result<()> {
-    let (line, lines) = first_line(given);
-    let (word, rest) = first_word(line);
+fn folder(rt: &HostRuntime, lines: &str) -> io::Result<String> {
+    let mut text = String::new(rt.alloc());
+    outside::write_folder(rt, &mut text, lines)?;
+    Ok(text)
+}
+
+/// The answer to a case of what stands above the seam.
+fn ran(rt: &HostRuntime, word: &str, rest: &str, lines: &str) -> Result<String, AllocError> {
     match word {
-        "folder" => outside::write_folder(rt, text, lines),
-        _ => Ok(write_lines(rt.alloc(), text, word, rest, lines)?),
+        "resume" => rows::answer(rt.alloc(), rest),
+        "edited" => sessions::edited(rt.alloc(), rest, lines, rt.steps()),
+        "replayed" => sessions::replayed(rt.alloc(), lines, rt.steps()),
+        _ => runs::answer(rt.alloc(), word, rest, rt.steps()),
     }
 }
 
-/// Writes the answer to a case that may have further lines.
-fn write_lines(
+/// The answer to what needs neither a file nor turns.
+fn told(
+    alloc: Global,
+    desk: &mut Desk,
+    word: &str,
+    rest: &str,
+    lines: &str,
+) -> Result<String, AllocError> {
+    match word {
+        "load" => words::load(alloc, &mut desk.font, &mut desk.fonts, rest),
+        "patterns" | "pattern" | "exception" => {
+            hyphenating::add(alloc, &mut desk.hyphens, word, rest)
+        }
+        "fresh" => {
+            desk.hyphens = Hyphens::new(alloc)?;
+            answered(alloc, "forgotten")
+        }
+        "keep" => {
+            desk.kept = desk.hyphens.share()?;
+            answered(alloc, "kept")
+        }
+        _ => asked(alloc, desk, word, rest, lines),
+    }
+}
+
+/// The answer to what changes nothing.
+fn asked(
+    alloc: Global,
+    desk: &Desk,
+    word: &str,
+    rest: &str,
+    lines: &str,
+) -> Result<String, AllocError> {
+    match word {
+        "compose" => ligatures::answer(alloc, &desk.font, rest),
+        "word" => ligatures::by_codes(alloc, &desk.font, rest),
+        "set" => words::set(alloc, &desk.fonts, rest),
+        "factor" => words::factor(alloc, rest),
+        "places" => hyphenating::places(alloc, &desk.hyphens, rest),
+        "same" => format!(in alloc; "{}", desk.kept.same(&desk.hyphens)),
+        "there" | "width" | "height" | "depth" | "italic" | "successor" | "recipe" | "parameter"
+        | "parameters" | "checksum" | "design" | "command" => {
+            fonts::answer(alloc, &desk.font, word, rest)
+        }
+        _ => written(alloc, word, rest, lines),
+    }
+}
+
+fn written(alloc: Global, word: &str, rest: &str, lines: &str) -> Result<String, AllocError> {
+    let mut text = String::new(alloc);
+    write_answer(alloc, &mut text, word, rest, lines)?;
+    Ok(text)
+}
+
+/// Writes the answer to a case that depends on none before it.
+fn write_answer(
     alloc: Global,
     text: &mut String,
     word: &str,
@@ -50,13 +136,6 @@ fn write_lines(
 ) -> Result<(), AllocError> {
     match word {
         "files" => files::write_play(alloc, text, lines),
-        _ => write_row(alloc, text, word, rest),
-    }
-}
-
-/// Writes the answer to a case of one line.
-fn write_row(alloc: Global, text: &mut String, word: &str, rest: &str) -> Result<(), AllocError> {
-    match word {
         "line" | "lines" => files::write_answer(alloc, text, word, rest),
         "script" | "front" => scripts::write_answer(alloc, text, word, rest),
         "test" | "place" | "standing" => primitives::write_answer(text, word, rest),
@@ -68,5 +147,11 @@ fn write_row(alloc: Global, text: &mut String, word: &str, rest: &str) -> Result
 }
 
 fn main(rt: HostRuntime) -> io::Result<()> {
-    run_files(&rt, &mut Program)
+    let mut desk = Desk {
+        font: None,
+        fonts: Fonts::new(rt.alloc()),
+        hyphens: Hyphens::new(rt.alloc())?,
+        kept: Hyphens::new(rt.alloc())?,
+    };
+    run_files(&rt, &mut desk)
 }

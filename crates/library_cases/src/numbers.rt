@@ -5,7 +5,7 @@ use std::alloc::{AllocError, Global};
 use tx_cases::integers;
 use tx_num::{Overflow, Range, badness, set_at, x_over_n, xn_over_d};
 
-/// `badness T S`, `over X N`, `dimen_over X N`, `times_over X N D` and `set TOTAL EXCESS SUM`.
+/// `badness T S`, `over X N`, `dimen_over X N`, `times_over X N D` and `setting TOTAL EXCESS SUM`.
 pub fn write_answer(
     alloc: Global,
     text: &mut String,
@@ -19,7 +19,7 @@ pub fn write_answer(
         "over" => write_quotient_of(text, numbers, Range::Integer),
         "dimen_over" => write_quotient_of(text, numbers, Range::Dimen),
         "times_over" => write_fraction(text, numbers),
-        "set" => write_setting(text, numbers),
+        "setting" => write_setting(text, numbers),
         _ => text.push_str("malformed"),
     }
 }

@@ -1,10 +1,10 @@
 //! Cases of tx_word.
+use crate::lists::glue_of;
 use std::alloc::{AllocError, Global};
 use std::mem;
 use tx_bytes::Bytes;
 use tx_cases::{answered, first_word, malformed};
 use tx_node::{Character, Discretionary, Node, Plain, Shared};
-use tx_num::{Glue, Range};
 use tx_tfm::{Font, Fonts, NamedFont};
 use tx_word::{Piece, Places, WordError, WordParams, are_pieces, factor_behind, nodes};
 
@@ -71,29 +71,6 @@ fn params_of(spaceskip: &str, xspaceskip: &str) -> Option<WordParams> {
         spaceskip: glue_of(spaceskip)?,
         xspaceskip: glue_of(xspaceskip)?,
     })
-}
-
-fn glue_of(text: &str) -> Option<Glue> {
-    let (width, rest) = text.split_once(',')?;
-    let (stretch, rest) = rest.split_once(',')?;
-    let (stretch_order, rest) = rest.split_once(',')?;
-    let (shrink, shrink_order) = rest.split_once(',')?;
-    let stretch_order: u8 = stretch_order.parse().ok()?;
-    let shrink_order: u8 = shrink_order.parse().ok()?;
-    if stretch_order > 3 || shrink_order > 3 {
-        return None;
-    }
-    let (width, stretch, shrink) = (size_of(width)?, size_of(stretch)?, size_of(shrink)?);
-    Glue::try_new(width, stretch, stretch_order, shrink, shrink_order).ok()
-}
-
-fn size_of(text: &str) -> Option<i64> {
-    let size = text.parse().ok()?;
-    if Range::Dimen.holds(size) {
-        Some(size)
-    } else {
-        None
-    }
 }
 
 /// The pieces of a text, None where it isn't one's.
