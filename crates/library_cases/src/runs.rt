@@ -59,7 +59,7 @@ fn write_bytes(text: &mut String, bytes: &[u8]) -> Result<(), AllocError> {
 }
 
 /// Writes how a run ended.
-fn write_end(text: &mut String, end: &End) -> Result<(), AllocError> {
+pub fn write_end(text: &mut String, end: &End) -> Result<(), AllocError> {
     match end {
         End::End => text.push_str("end"),
         End::Budget => text.push_str("budget"),

@@ -3,6 +3,7 @@
 //! those of the pages that it formats alone.
 use crate::documents::{main_name, put, set_of};
 use crate::edits::edit_of;
+use crate::runs::write_end;
 use line_machine::LineMachine;
 use std::alloc::{AllocError, Global};
 use tx_cases::{bytes_of, first_line, first_word};
@@ -75,8 +76,8 @@ fn append_all(
     append_pages(text, session)?;
     append_bytes(text, session.said())?;
     let size = file_size(session)?;
-    let end = session.end();
-    write!(text, "{end:?} {size} {steps:?}\n")
+    write_end(text, session.end())?;
+    write!(text, " {size} {steps:?}\n")
 }
 
 /// What an edit is answered.
