@@ -114,7 +114,7 @@ impl Kept for OpenFile {
 }
 
 /// How a run ended.
-#[derive(Debug, Drop)]
+#[derive(Drop)]
 pub enum End {
     /// By the end of its text.
     End,
