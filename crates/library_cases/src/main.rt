@@ -112,10 +112,18 @@ fn asked(
         "factor" => words::factor(alloc, rest),
         "places" => hyphenating::places(alloc, &desk.hyphens, rest),
         "same" => format!(in alloc; "{}", desk.kept.same(&desk.hyphens)),
-        "there" | "width" | "height" | "depth" | "italic" | "successor" | "recipe" | "parameter"
-        | "parameters" | "checksum" | "design" | "command" => {
-            fonts::answer(alloc, &desk.font, word, rest)
-        }
+        "there"
+        | "width"
+        | "height"
+        | "depth"
+        | "italic"
+        | "successor"
+        | "recipe"
+        | "parameter"
+        | "parameters"
+        | "checksum"
+        | "design"
+        | "command" => fonts::answer(alloc, &desk.font, word, rest),
         _ => written(alloc, word, rest, lines),
     }
 }
