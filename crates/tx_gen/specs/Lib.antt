@@ -1,0 +1,5 @@
+pub mod Draws
+pub mod Book
+pub mod Font
+pub mod Edits
+pub mod Made
