@@ -1,5 +1,5 @@
 //! The document: letters, words, lines and pages, each put at the end of a text.
-ghost use Rattle.std.specs.Prelude.{◌≡◌, ◌++◌, ◌∷◌, ◌≤◌, [], length, OnOk};
+ghost use Rattle.std.specs.Prelude.{◌≡◌, ◌++◌, ◌∷◌, [], length, OnOk};
 ghost use Rattle.tx_gen.specs.Draws.{next, times};
 ghost use Rattle.tx_gen.specs.Book.{letter, letter_text, word, spaced_word, line, page, opening, begun, book_of, page_starts};
 
@@ -108,7 +108,8 @@ fn append_noted_page(
     ensures starts { OnOk result (starts.new ≡ starts.old ++ length text.old ∷ []) }
 {
     starts.push(text.len() as u64)?;
-    append_page(text, draws)
+    append_page(text, draws)?;
+    Ok(())
 }
 
 /// Puts pages behind the first line, and notes where each begins.

@@ -34,11 +34,7 @@ fn append_edit(text: &mut Bytes, draws: &mut Draws, starts: &[u64]) -> Result<()
 }
 
 /// Puts as many edits at the end as there are pages, which begin at these places.
-pub fn append_edits(
-    text: &mut Bytes,
-    draws: &mut Draws,
-    starts: &[u64],
-) -> Result<(), AllocError>
+pub fn append_edits(text: &mut Bytes, draws: &mut Draws, starts: &[u64]) -> Result<(), AllocError>
     ensures { OnOk result (text.new ≡ text.old ++ (times (length starts.now) (edit_text (slice_index starts.now) (length starts.now)) draws.old).0) }
 {
     for _edit in 0..starts.len() {

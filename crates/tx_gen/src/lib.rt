@@ -4,7 +4,7 @@
 //! Proved: the files are exactly the defined ones; the script is one that is read, of edits each of which puts a letter in
 //! the stead of one that stands in the document. Only tested: that TeX makes so many pages of it.
 //!
-//! Read `draws`, `book`, `font`, `edits`, and then `made`.
+//! Read `draws`, `book`, `font`, `edits`, `made`, and then `making`.
 #![tactic(auto)]
 
 mod book;
@@ -12,5 +12,7 @@ mod draws;
 mod edits;
 mod font;
 pub mod made;
+mod making;
 
-pub use made::{Made, make};
+pub use made::Made;
+pub use making::make;

@@ -1,0 +1,6 @@
+pub mod Steps
+pub mod Times
+pub mod Letters
+pub mod Lengths
+pub mod Starts
+pub mod Scripts
