@@ -62,6 +62,14 @@ is_plain text = nat_le 1 (length text) && nat_le (length text) 10 && list_all is
 abbrev pub plain_number : List ℕ → Option ℕ
 plain_number text = if is_plain text then Some (digits_value 10 text) else None
 
+abbrev pub seed_of : Option ℕ → Option ℕ
+seed_of None = None
+seed_of (Some n) = if nat_le n 4294967295 then Some n else None
+
+-- a seed is a number of 32 bits
+abbrev pub seed_meant : List ℕ → Option ℕ
+seed_meant text = seed_of (plain_number text)
+
 abbrev pub at_most : ℕ → Option ℕ → Option ℕ
 at_most most None = None
 at_most most (Some n) = if is_between 1 most n then Some n else None

@@ -10,9 +10,9 @@ use Rattle.tx_machine.specs.declared.types.Date.{Date}
 use Rattle.tx_machine.specs.declared.types.Limits.{Limits}
 use Rattle.tx_words.specs.declared.given.Given.{Given}
 use Rattle.tx_words.specs.declared.given.Asked.{Asked}
-use Rattle.tx_words.specs.declared.given.Asked.TheVariants.{Run, Help, RunHelp, Version, Nothing}
+use Rattle.tx_words.specs.declared.given.Asked.TheVariants.{Run, Gen, Help, RunHelp, GenHelp, Version, Nothing}
 use Rattle.tx_words.specs.CommandLine.{faults, subcommand}
-use Rattle.tx_words.specs.Values.{date_meant, limit_meant, named, are_distinct, all_named}
+use Rattle.tx_words.specs.Values.{date_meant, seed_meant, limit_meant, named, are_distinct, all_named}
 
 -- the value of --date
 abbrev pub date_given : Option (List ℕ) → Option Date
@@ -68,6 +68,23 @@ abbrev pub run_asked : Option Given → Asked
 run_asked None = Nothing
 run_asked (Some given) = Run given
 
+-- SEED and PAGES, which must be there
+abbrev pub seed_given : Option (List ℕ) → Option ℕ
+seed_given None = None
+seed_given (Some text) = seed_meant text
+
+abbrev pub pages_given : Option (List ℕ) → Option ℕ
+pages_given None = None
+pages_given (Some text) = limit_meant 1000 text
+
+abbrev pub gen_of : Option ℕ → Option ℕ → Asked
+gen_of (Some seed) (Some pages) = Gen seed pages
+gen_of _ _ = Nothing
+
+-- what `gen` is given
+abbrev pub gen_asked : List Row → Asked
+gen_asked rows = gen_of (seed_given (first_of (codes "seed") rows)) (pages_given (first_of (codes "pages") rows))
+
 -- the date and the limits are those of a run, and the files are distinct
 abbrev pub IsWithin : Given → Type 0
 IsWithin given = IsDate given.date × AreLimits given.limits × (are_distinct given.files ≡ true)
@@ -86,19 +103,22 @@ abbrev pub IsRun : Asked → Type 0
 IsRun (Run given) = Unit {0}
 IsRun _ = ⊥
 
--- what a subcommand with its values asks for
-abbrev pub subcommand_asked : Option (List Row) → Asked
-subcommand_asked None = Nothing
-subcommand_asked (Some rows) = run_asked (run_given rows)
+-- what a subcommand with its values asks for; there are `run` and `gen`
+unfoldable pub command_asked : List ℕ → List Row → Asked
+command_asked name rows = if bytes_eq name (codes "gen") then gen_asked rows else run_asked (run_given rows)
+
+abbrev pub subcommand_asked : Option (List ℕ) → Option (List Row) → Asked
+subcommand_asked (Some name) (Some rows) = command_asked name rows
+subcommand_asked _ _ = Nothing
 
 -- the first word is this one
 abbrev pub begins_with : List ℕ → List (List ℕ) → Bool
 begins_with word [] = false
 begins_with word (first ∷ _) = bytes_eq first word
 
--- where `clap` finds that help is asked for, it is that of `run` behind this word
+-- where `clap` finds that help is asked for, it is that of `run` behind this word, and that of `gen` behind that one
 abbrev pub help_shown : List (List ℕ) → Asked
-help_shown words = if begins_with (codes "run") words then RunHelp else Help
+help_shown words = if begins_with (codes "run") words then RunHelp else if begins_with (codes "gen") words then GenHelp else Help
 
 -- where `clap` doesn't take the words, that may be since they ask for help or for the version
 abbrev pub asked_instead : List (List ℕ) → ErrorKind → Asked
@@ -107,7 +127,7 @@ asked_instead words DisplayVersion = Version
 asked_instead words _ = Nothing
 
 abbrev pub asked : List (List ℕ) → Kinds → Option (List ℕ × List Row) → Asked
-asked words [] found = subcommand_asked (option_map (λ named. named.1) found)
+asked words [] found = subcommand_asked (option_map (λ named. named.0) found) (option_map (λ named. named.1) found)
 asked words (kind ∷ _) found = asked_instead words kind
 
 -- what words ask for that are a call by `clap`
@@ -116,7 +136,11 @@ call_meant words = asked words (faults words) (subcommand words)
 
 -- help of a command
 abbrev pub help_of : List ℕ → Asked
-help_of command = if bytes_eq command (codes "run") then RunHelp else if bytes_eq command (codes "help") then Help else Nothing
+help_of command =
+    if bytes_eq command (codes "run") then RunHelp
+    else if bytes_eq command (codes "gen") then GenHelp
+    else if bytes_eq command (codes "help") then Help
+    else Nothing
 
 -- `help`, or `help` and one command
 abbrev pub help_meant : List (List ℕ) → Asked

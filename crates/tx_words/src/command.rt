@@ -1,7 +1,7 @@
 ghost use Rattle.std.specs.Prelude.{◌≡◌, ◌||◌, IfOk, false};
 ghost use Rattle.clap.specs.Words.{app_of, rule_of, with_rule};
 ghost use Rattle.clap.specs.declared.builder.command.Command.TheViews.{out-Command as fields_of};
-ghost use Rattle.tx_words.specs.CommandLine.{option_rule, required_rule, files_rule, run_command, command_line};
+ghost use Rattle.tx_words.specs.CommandLine.{option_rule, required_rule, files_rule, run_command, word_rule, gen_command, run_line, command_line};
 
 use clap::{Arg, ArgAction, Command};
 use std::alloc::{AllocError, Global};
@@ -72,9 +72,38 @@ fn run_command<'a>(alloc: Global) -> Result<Command<'a>, AllocError>
     with_files(alloc, keeping)
 }
 
-/// The command line of `vortex`, for the words behind the program's name.
-pub fn command_line<'a>(alloc: Global) -> Result<Command<'a>, AllocError>
-    ensures { IfOk result (λ all. app_of all ≡ command_line) }
+/// A word that is no option, and must be there.
+fn word<'a>(alloc: Global, name: &'a str) -> Arg<'a>
+    ensures rule { rule_of result ≡ word_rule name.entry.now }
+    ensures local { result.global ≡ false }
+{
+    Arg::new(alloc, name).required(true)
+}
+
+/// The command with such a word more.
+fn with_word<'a>(
+    alloc: Global,
+    command: Command<'a>,
+    name: &'a str,
+) -> Result<Command<'a>, AllocError>
+    ensures app { IfOk result (λ all. app_of all ≡ with_rule (app_of command.entry) (word_rule name.entry.now)) }
+    ensures local { IfOk result (λ all. (fields_of all).has_globals ≡ ((fields_of command.entry).has_globals || false)) }
+{
+    command.arg(word(alloc, name))
+}
+
+/// The command `gen`.
+fn gen_command<'a>(alloc: Global) -> Result<Command<'a>, AllocError>
+    ensures app { IfOk result (λ making. app_of making ≡ gen_command) }
+    ensures local { IfOk result (λ making. (fields_of making).has_globals ≡ false) }
+{
+    let seeded = with_word(alloc, Command::new(alloc, "gen"), "seed")?;
+    with_word(alloc, seeded, "pages")
+}
+
+/// The command line with `run` alone.
+fn run_line<'a>(alloc: Global) -> Result<Command<'a>, AllocError>
+    ensures { IfOk result (λ all. app_of all ≡ run_line) }
 {
     let run = run_command(alloc)?;
     Command::new(alloc, "vortex")
@@ -83,4 +112,13 @@ pub fn command_line<'a>(alloc: Global) -> Result<Command<'a>, AllocError>
         .subcommand_required(true)
         .disable_help_subcommand(true)
         .subcommand(run)
+}
+
+/// The command line of `vortex`, for the words behind the program's name.
+pub fn command_line<'a>(alloc: Global) -> Result<Command<'a>, AllocError>
+    ensures { IfOk result (λ all. app_of all ≡ command_line) }
+{
+    let all = run_line(alloc)?;
+    let making = gen_command(alloc)?;
+    all.subcommand(making)
 }

@@ -64,10 +64,14 @@ pub struct Given {
 pub enum Asked {
     /// A run.
     Run(Given),
+    /// A document of so many pages that is made of a seed.
+    Gen { seed: u32, pages: u32 },
     /// The text that says what the program is, and its commands.
     Help,
     /// The text that says how `run` is called.
     RunHelp,
+    /// The text that says how `gen` is called.
+    GenHelp,
     /// The version.
     Version,
     /// Nothing that there is: the words are refused.

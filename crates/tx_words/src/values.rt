@@ -4,7 +4,7 @@ ghost use Rattle.std.specs.List.{list_all, list_any};
 ghost use Rattle.std.specs.Str.{bytes_eq};
 ghost use Rattle.tx_files.specs.Names.{is_name};
 ghost use Rattle.tx_machine.specs.Ranges.{IsDate};
-ghost use Rattle.tx_words.specs.Values.{is_number, number, checked, date_of, date_meant, before_hyphen, after_hyphen, named, begins_with_zero, is_plain, plain_number, limit_meant, is_first_repeated, are_distinct, all_named};
+ghost use Rattle.tx_words.specs.Values.{is_number, number, checked, date_of, date_meant, before_hyphen, after_hyphen, named, begins_with_zero, is_plain, plain_number, seed_meant, limit_meant, is_first_repeated, are_distinct, all_named};
 
 use crate::given::Names;
 use std::alloc::{AllocError, Global};
@@ -129,6 +129,18 @@ fn read_plain(text: &str) -> Option<u64>
         return None;
     }
     text.parse().ok()
+}
+
+/// A number of 32 bits.
+pub fn read_seed(text: &str) -> Option<u32>
+    ensures { result ≡ seed_meant text.now }
+{
+    let number = read_plain(text)?;
+    if number <= 4_294_967_295 {
+        Some(number as u32)
+    } else {
+        None
+    }
 }
 
 /// A number from 1 on.

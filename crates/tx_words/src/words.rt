@@ -1,13 +1,13 @@
 ghost use Rattle.std.specs.Prelude.{◌≡◌, ◌≤◌, true, map, option_map, IfOk, IfSome, IsErr};
-ghost use Rattle.clap.specs.Words.{rows_of, found_of, subcommand_rows_of, first_of, all_of};
+ghost use Rattle.clap.specs.Words.{rows_of, found_of, subcommand_name_of, subcommand_rows_of, first_of, all_of};
 ghost use Rattle.tx_machine.specs.Ranges.{IsDate, AreLimits};
 ghost use Rattle.clap.specs.declared.error.kind.ErrorKind.TheVariants.{OutOfMemory};
 ghost use Rattle.tx_words.specs.Values.{are_distinct};
-ghost use Rattle.tx_words.specs.Words.{IsWithin, IsAskedWithin, date_given, name_given, limit_given, limits_given, script_given, files_given, given_of, run_given, run_asked, subcommand_asked, begins_with, help_shown, asked_instead, call_meant, help_of, help_meant, words_meant, texts};
+ghost use Rattle.tx_words.specs.Words.{IsWithin, IsAskedWithin, date_given, name_given, limit_given, limits_given, script_given, files_given, given_of, run_given, seed_given, pages_given, gen_of, gen_asked, command_asked, subcommand_asked, begins_with, help_shown, asked_instead, call_meant, help_of, help_meant, words_meant, texts};
 
 use crate::command::command_line;
 use crate::given::{Asked, Given, Names};
-use crate::values::{read_date, read_limit, read_name, read_names};
+use crate::values::{read_date, read_limit, read_name, read_names, read_seed};
 use clap::ArgMatches;
 use clap::error::ErrorKind;
 use std::alloc::{AllocError, Global};
@@ -139,18 +139,63 @@ fn run_given(alloc: Global, found: &ArgMatches<'_>) -> Result<Option<Given>, All
     given_of(date, limits, out, script, files)
 }
 
-/// What a subcommand with its values asks for.
-fn subcommand_asked(alloc: Global, matches: &ArgMatches<'_>) -> Result<Asked, AllocError>
-    ensures asked { IfOk result (λ asked. asked ≡ subcommand_asked (option_map (λ named. named.1) (subcommand_rows_of matches.now))) }
+fn seed_given(text: Option<&str>) -> Option<u32>
+    ensures { result ≡ seed_given (option_map (λ t. t.now) text.entry) }
+{
+    read_seed(text?)
+}
+
+fn pages_given(text: Option<&str>) -> Option<u32>
+    ensures { result ≡ pages_given (option_map (λ t. t.now) text.entry) }
+{
+    read_limit(1000, text?)
+}
+
+/// Both are as they are to be.
+fn gen_of(seed: Option<u32>, pages: Option<u32>) -> Asked
+    ensures asked { result ≡ gen_of seed pages }
+    ensures within { IsAskedWithin result }
+{
+    let (Some(seed), Some(pages)) = (seed, pages) else {
+        return Asked::Nothing;
+    };
+    Asked::Gen { seed, pages }
+}
+
+/// What `gen` is given.
+fn gen_asked(found: &ArgMatches<'_>) -> Asked
+    ensures asked { result ≡ gen_asked (rows_of (found_of found.now)) }
+    ensures within { IsAskedWithin result }
+{
+    let seed = seed_given(value(found, "seed"));
+    let pages = pages_given(value(found, "pages"));
+    gen_of(seed, pages)
+}
+
+/// What a subcommand of this name with its values asks for.
+#[tactic(auto, unfolding(crate::specs::Words::command_asked))]
+fn command_asked(alloc: Global, name: &str, found: &ArgMatches<'_>) -> Result<Asked, AllocError>
+    ensures asked { IfOk result (λ asked. asked ≡ command_asked name.now (rows_of (found_of found.now))) }
     ensures within { IfOk result IsAskedWithin }
 {
-    let Some((_, found)) = matches.subcommand() else {
-        return Ok(Asked::Nothing);
-    };
+    if name == "gen" {
+        return Ok(gen_asked(found));
+    }
     match run_given(alloc, found)? {
         None => Ok(Asked::Nothing),
         Some(given) => Ok(Asked::Run(given)),
     }
+}
+
+/// What a subcommand with its values asks for.
+fn subcommand_asked(alloc: Global, matches: &ArgMatches<'_>) -> Result<Asked, AllocError>
+    ensures asked { IfOk result (λ asked. asked ≡ subcommand_asked (subcommand_name_of matches.now) (option_map (λ named. named.1) (subcommand_rows_of matches.now))) }
+    ensures within { IfOk result IsAskedWithin }
+{
+    let Some((name, found)) = matches.subcommand() else {
+        return Ok(Asked::Nothing);
+    };
+    Ok(command_asked(alloc, name, found)?)
 }
 
 /// Whether the first word is this one.
@@ -170,6 +215,8 @@ fn help_shown(words: &[String]) -> Asked
 {
     if begins_with(words, "run") {
         Asked::RunHelp
+    } else if begins_with(words, "gen") {
+        Asked::GenHelp
     } else {
         Asked::Help
     }
@@ -207,6 +254,8 @@ fn help_of(command: &str) -> Asked
 {
     if command == "run" {
         Asked::RunHelp
+    } else if command == "gen" {
+        Asked::GenHelp
     } else if command == "help" {
         Asked::Help
     } else {
