@@ -18,7 +18,7 @@ use Rattle.tx_words.specs.declared.given.Asked.{Asked}
 use Rattle.vortex_cmd.specs.declared.scripted.Scripted.{Scripted}
 use Rattle.vortex_cmd.specs.Scripts.{Reads, ForScript, Read, Unread}
 use Rattle.tx_words.specs.Words.{script_asked, words_meant}
-use Rattle.vortex_cmd.specs.Outcome.{Outcome, saying, session_outcome, outcome, asked_outcome, most_turns, ForHeld, Leaves}
+use Rattle.vortex_cmd.specs.Outcome.{Outcome, saying, made_pieces, making, session_outcome, outcome, asked_outcome, most_turns, ForHeld, Leaves}
 use Rattle.vortex_cmd.specs.Replay.{Replays, opened, turns_from}
 use Rattle.vortex_cmd.specs.Trouble.{Ends, Does}
 use Rattle.vortex_cmd.proofs.Replayed.{on-err}
@@ -87,6 +87,15 @@ does_saying whole steps = record { ends = record { status_is = refl; output_is =
 pub does_saying_short : (r : Result ℕ Interruption) (trouble : Trouble) → IsErrAnd r (λ e. e ≡ Interrupted trouble) → {text : List ℕ} {status : ℕ} {before after : Option Output} → IsCutShort before (Say text ∷ []) after → (steps : ℕ) → Does r (saying text status) before after steps steps
 does_saying_short r trouble err {text = text} {status = status} {before = before} {after = after} cut steps =
     record { ends = ends_short r trouble (saying text status) before after steps steps err cut; most = omega arith }
+
+-- the files of a document were saved, and how large it is was said
+pub does_making : (seed pages : ℕ) {before after : Option Output} → after ≡ told before (made_pieces seed pages) → (steps : ℕ) → Does (Ok 0) (making seed pages) before after steps steps
+does_making seed pages whole steps = record { ends = record { status_is = refl; output_is = whole; steps_are = omega arith }; most = omega arith }
+
+-- or that met trouble
+pub does_making_short : (seed pages : ℕ) (r : Result ℕ Interruption) (trouble : Trouble) → IsErrAnd r (λ e. e ≡ Interrupted trouble) → {before after : Option Output} → IsCutShort before (made_pieces seed pages) after → (steps : ℕ) → Does r (making seed pages) before after steps steps
+does_making_short seed pages r trouble err {before = before} {after = after} cut steps =
+    record { ends = ends_short r trouble (making seed pages) before after steps steps err cut; most = omega arith }
 
 module _ {S : Type 0} (m : Formatter S) (words : List (List ℕ)) {holds : Option Files} {r : Result ℕ Interruption} {before after : Option Output} {steps steps' : ℕ} where
   -- what is done of what the words ask for is done of the words

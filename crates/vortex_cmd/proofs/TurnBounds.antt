@@ -16,7 +16,7 @@ use Rattle.tx_session.specs.Held.{Held, fresh, rows_of, edited_session}
 use Rattle.tx_session.specs.Report.{work, turns_of_edit}
 use Rattle.tx_session.proofs.Reusing.{work-least}
 use Rattle.tx_words.specs.declared.given.Asked.{Asked}
-use Rattle.tx_words.specs.declared.given.Asked.TheVariants.{Run, Help, RunHelp, Version, Nothing}
+use Rattle.tx_words.specs.declared.given.Asked.TheVariants.{Run, Gen, Help, RunHelp, GenHelp, Version, Nothing}
 use Rattle.vortex_cmd.specs.declared.scripted.Scripted.{Scripted}
 use Rattle.vortex_cmd.specs.declared.scripted.Scripted.TheVariants.{Plays, Refused}
 use Rattle.vortex_cmd.specs.Replay.{Moment, opened, next_moment, turns_from}
@@ -66,7 +66,9 @@ module _ {S : Type 0} (m : Formatter S) (lawful : IsLawful m) where
       let d : Held = document given (with_listed held empty given.files) in
       both_most _ _ _ _ (fresh-most d) (commands-most (opened d) commands)
   turns-most (Run given) (Refused place rule) held = omega arith
+  turns-most (Gen seed pages) scripted held = omega arith
   turns-most Help scripted held = omega arith
   turns-most RunHelp scripted held = omega arith
+  turns-most GenHelp scripted held = omega arith
   turns-most Version scripted held = omega arith
   turns-most Nothing scripted held = omega arith

@@ -51,14 +51,22 @@ refusal_line = codes "words refused\n"
 unfoldable pub script_refusal_line : ℕ → Rule → List ℕ
 script_refusal_line place rule = codes "script refused at " ++ decimal place ++ codes ", rule " ++ decimal (number_of rule) ++ codes "\n"
 
+-- the line of a document that was made: its pages, and the edits of its script, which are as many
+unfoldable pub gen_line : ℕ → List ℕ
+gen_line pages = codes "gen: " ++ decimal pages ++ codes " pages, " ++ decimal pages ++ codes " edits\n"
+
 -- what --version says
 abbrev pub version_line : List ℕ
 version_line = codes "vortex 0.1.0\n"
 
 -- what `help` says: what the program is, its commands, and its statuses
 unfoldable pub help_text : List ℕ
-help_text = codes "vortex: TeX, written as DVI, and kept ready for edits.\n\nUsage: vortex COMMAND\n\n  run             formats a document, and again after each edit of a script\n  help [COMMAND]  says this, or how a command is called\n  -h, --help      says this, and behind a command how that is called\n  -V, --version   says the version\n\nFor example, in the folder examples/edits:\n\n  vortex run --date 2024-5-17-570 --out a --script edits main.tex\n\nStatuses: 0 all is done; 1 all is done, but a run ended by an error or a limit;\n2 the words or the script are refused; 3 a file can't be read; 4 something can't\nbe said or saved; 5 an edit goes past the end of its file; 6 no memory is left.\nWhat went wrong, and what would mend it, is told on standard error.\n"
+help_text = codes "vortex: TeX, written as DVI, and kept ready for edits.\n\nUsage: vortex COMMAND\n\n  run             formats a document, and again after each edit of a script\n  gen             makes a document of many pages, and a script for it\n  help [COMMAND]  says this, or how a command is called\n  -h, --help      says this, and behind a command how that is called\n  -V, --version   says the version\n\nFor example, in the folder examples/edits:\n\n  vortex run --date 2024-5-17-570 --out a --script edits main.tex\n\nStatuses: 0 all is done; 1 all is done, but a run ended by an error or a limit;\n2 the words or the script are refused; 3 a file can't be read; 4 something can't\nbe said or saved; 5 an edit goes past the end of its file; 6 no memory is left.\nWhat went wrong, and what would mend it, is told on standard error.\n"
 
 -- what `help run` says: how `run` is called
 unfoldable pub run_help_text : List ℕ
 run_help_text = codes "Usage: vortex run --date Y-M-D-T --out NAME [OPTIONS] MAIN [FILE..]\n\nFormats MAIN, says how many pages it has and how it ended, carries out the edits\nof a script, and saves the pages as NAME.dvi, if there is one, and the transcript\nas NAME.log. Files are those of the folder in which it is called; a name has 1 to\n255 characters of ASCII and no space.\n\n  --date Y-M-D-T  the date that TeX sees, T in minutes since midnight, 0 to 1439\n  --out NAME      the name of what is saved\n  --script EDITS  a file of edits to make, and of saves between them\n  --budget N      what a page may cost, in steps of TeX, 1 to 1000000000 (1000000)\n  --pages N       a run ends when it has N pages, 1 to 10000 (1000)\n  --keep N        1 to 10000 (10000); it has no effect, all states are kept\n  -h, --help      says this\n\nFor example, in the folder examples/edits:\n\n  vortex run --date 2024-5-17-570 --out a --script edits main.tex\n\nA script that takes 2 bytes out of main.tex behind the first 99, puts 3 others\nthere, and saves what there is then as b.dvi and b.log:\n\n  edit 99 2 3 main.tex\n  100\n  save b\n\nThe statuses are those that vortex --help tells.\n"
+
+-- what `help gen` says: how `gen` is called
+unfoldable pub gen_help_text : List ℕ
+gen_help_text = codes "Usage: vortex gen SEED PAGES\n\nMakes a document of many pages, for runs of any size: book.tex, gen.tfm, the\nmetrics of its font, and gen.vtx, a script with an edit for each page. They are\nsaved in the folder in which it is called, over files of these names. The same\nSEED makes the same files.\n\n  SEED            0 to 4294967295\n  PAGES           1 to 1000\n  -h, --help      says this\n\nFor example:\n\n  vortex gen 1 100\n  vortex run --date 2024-5-17-570 --out a --script gen.vtx book.tex gen.tfm\n\nThe statuses are those that vortex --help tells.\n"

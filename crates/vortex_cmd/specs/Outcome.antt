@@ -12,12 +12,13 @@ use Rattle.tx_script.specs.declared.command.Command.TheVariants.{Edit, Save as S
 use Rattle.tx_session.specs.Held.{Held, fresh}
 use Rattle.tx_words.specs.declared.given.Given.{Given}
 use Rattle.tx_words.specs.declared.given.Asked.{Asked}
-use Rattle.tx_words.specs.declared.given.Asked.TheVariants.{Run, Help, RunHelp, Version, Nothing}
+use Rattle.tx_words.specs.declared.given.Asked.TheVariants.{Run, Gen, Help, RunHelp, GenHelp, Version, Nothing}
 use Rattle.vortex_cmd.specs.declared.scripted.Scripted.{Scripted}
 use Rattle.vortex_cmd.specs.declared.scripted.Scripted.TheVariants.{Plays, Refused}
 use Rattle.tx_words.specs.Words.{words_meant}
-use Rattle.vortex_cmd.specs.Lines.{run_line, help_text, run_help_text, version_line, refusal_line, script_refusal_line}
-use Rattle.vortex_cmd.specs.Pieces.{saved_pieces}
+use Rattle.tx_gen.specs.Made.{generated}
+use Rattle.vortex_cmd.specs.Lines.{run_line, gen_line, help_text, run_help_text, gen_help_text, version_line, refusal_line, script_refusal_line}
+use Rattle.vortex_cmd.specs.Pieces.{saved_pieces, made_files}
 use Rattle.vortex_cmd.specs.Replay.{Moment, opened, moment_after, pieces_from, turns_from, refusal_at, status_after, IsRefused}
 
 -- what a call does: the pieces that it puts out, its status, the turns that it takes, and what it puts out where memory
@@ -31,6 +32,13 @@ pub record Outcome : Type 0 where
 -- a call that runs nothing says one text
 abbrev pub saying : List ℕ → ℕ → Outcome
 saying text status = record { pieces = Say text ∷ []; status = status; turns = 0; refusal = λ made. None }
+
+-- a call that makes a document saves its files, and then says how large it is
+abbrev pub made_pieces : ℕ → ℕ → List Piece
+made_pieces seed pages = made_files (generated seed pages) ++ Say (gen_line pages) ∷ []
+
+abbrev pub making : ℕ → ℕ → Outcome
+making seed pages = record { pieces = made_pieces seed pages; status = 0; turns = 0; refusal = λ made. None }
 
 -- the line of a session's opening, the commands, and what there is at last
 abbrev pub first_piece : Ran → Piece
@@ -70,8 +78,10 @@ scripted_outcome m given (Refused place rule) held = saying (script_refusal_line
 
 abbrev pub asked_outcome : {S : Type 0} → Formatter S → Asked → Scripted → Files → Outcome
 asked_outcome m (Run given) scripted held = scripted_outcome m given scripted held
+asked_outcome m (Gen seed pages) scripted held = making seed pages
 asked_outcome m Help scripted held = saying help_text 0
 asked_outcome m RunHelp scripted held = saying run_help_text 0
+asked_outcome m GenHelp scripted held = saying gen_help_text 0
 asked_outcome m Version scripted held = saying version_line 0
 asked_outcome m Nothing scripted held = saying refusal_line 2
 

@@ -5,12 +5,13 @@
 //! anything but want of memory.
 //!
 //! Read `trouble`, `scripted`, `scripts` and `fetching` (what is read from the source), `lines` (what is said), `outputs`
-//! (what is put out of a run), `tally` and `replay` (the commands of a script), `run`, and then `vortex`. What the words ask
-//! for is read in `tx_words`.
+//! (what is put out of a run), `tally` and `replay` (the commands of a script), `made` (what is put out of a document that
+//! was made), `run`, and then `vortex`. What the words ask for is read in `tx_words`, and documents are made in `tx_gen`.
 #![tactic(auto)]
 
 mod fetching;
 mod lines;
+mod made;
 mod outputs;
 mod replay;
 mod run;

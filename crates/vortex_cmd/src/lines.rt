@@ -1,6 +1,6 @@
 ghost use Rattle.std.specs.Prelude.{◌≡◌, ◌++◌, OnOk, IfOk};
 ghost use Rattle.std.specs.Fmt.{decimal};
-ghost use Rattle.vortex_cmd.specs.Lines.{place_text, end_text, run_line, edit_text, report_text, edit_line, outside_line, memory_line, script_refusal_line, help_text, run_help_text, version_line};
+ghost use Rattle.vortex_cmd.specs.Lines.{place_text, end_text, run_line, edit_text, report_text, edit_line, outside_line, memory_line, script_refusal_line, gen_line, help_text, run_help_text, gen_help_text, version_line};
 
 use std::alloc::{AllocError, Global};
 use tx_bytes::Bytes;
@@ -137,6 +137,19 @@ pub fn script_refusal_line(alloc: Global, place: u64, rule: Rule) -> Result<Byte
     Ok(line)
 }
 
+/// The line of a document that was made, `gen: P pages, P edits` and LF.
+#[tactic(auto, unfolding(crate::specs::Lines::gen_line))]
+pub fn gen_line(alloc: Global, pages: u64) -> Result<Bytes, AllocError>
+    ensures { IfOk result (λ line. line ≡ gen_line pages) }
+{
+    let mut line = Bytes::from_slice(alloc, b"gen: ")?;
+    append_number(alloc, &mut line, pages)?;
+    line.append(b" pages, ")?;
+    append_number(alloc, &mut line, pages)?;
+    line.append(b" edits\n")?;
+    Ok(line)
+}
+
 /// What `--version` says.
 pub fn version_line() -> &'static [u8]
     ensures { result.now ≡ version_line }
@@ -152,6 +165,7 @@ pub fn help_text() -> &'static [u8]
     b"vortex: TeX, written as DVI, and kept ready for edits.\n
 Usage: vortex COMMAND\n
   run             formats a document, and again after each edit of a script
+  gen             makes a document of many pages, and a script for it
   help [COMMAND]  says this, or how a command is called
   -h, --help      says this, and behind a command how that is called
   -V, --version   says the version\n
@@ -188,6 +202,26 @@ there, and saves what there is then as b.dvi and b.log:\n
   edit 99 2 3 main.tex
   100
   save b\n
+The statuses are those that vortex --help tells.
+"
+}
+
+/// What `help gen` says: how `gen` is called.
+#[tactic(auto, unfolding(crate::specs::Lines::gen_help_text))]
+pub fn gen_help_text() -> &'static [u8]
+    ensures { result.now ≡ gen_help_text }
+{
+    b"Usage: vortex gen SEED PAGES\n
+Makes a document of many pages, for runs of any size: book.tex, gen.tfm, the
+metrics of its font, and gen.vtx, a script with an edit for each page. They are
+saved in the folder in which it is called, over files of these names. The same
+SEED makes the same files.\n
+  SEED            0 to 4294967295
+  PAGES           1 to 1000
+  -h, --help      says this\n
+For example:\n
+  vortex gen 1 100
+  vortex run --date 2024-5-17-570 --out a --script gen.vtx book.tex gen.tfm\n
 The statuses are those that vortex --help tells.
 "
 }

@@ -27,7 +27,7 @@ pub fn say<K: Sink>(sink: &mut K, text: &[u8]) -> Result<(), Trouble>
 }
 
 /// Saves a file under a name.
-fn save<K: Sink>(sink: &mut K, name: &[u8], bytes: &[u8]) -> Result<(), Trouble>
+pub fn save<K: Sink>(sink: &mut K, name: &[u8], bytes: &[u8]) -> Result<(), Trouble>
     ensures puts { PutsOut result (K.output sink.old) (Save name.now bytes.now ∷ []) (K.output sink.new) }
     ensures causes { SinkCauses result (K.faults sink.old) (K.faults sink.new) }
 {

@@ -1,7 +1,7 @@
 ghost use Rattle.std.specs.Prelude.{◌≡◌, ◌<◌, ◌≤◌, ◌⊎◌, ℕ, IfOk, OnOk, IsErrOf};
 ghost use Rattle.std.specs.FinMap.{empty};
 ghost use Rattle.tx_machine.specs.Steps.{raised};
-ghost use Rattle.vortex_cmd.specs.Outcome.{saying, session_outcome, run_outcome, asked_outcome, outcome, with_listed, ForHeld};
+ghost use Rattle.vortex_cmd.specs.Outcome.{saying, making, session_outcome, run_outcome, asked_outcome, outcome, with_listed, ForHeld};
 ghost use Rattle.vortex_cmd.specs.Lines.{script_refusal_line};
 ghost use Rattle.vortex_cmd.specs.Replay.{Replays, opened, turns_from, status_after};
 ghost use Rattle.vortex_cmd.specs.Scripts.{ForScript, NamesNoScript, HoldsNoScript};
@@ -10,7 +10,8 @@ ghost use Rattle.tx_words.specs.Words.{IsRun, IsWithin, script_asked, words_mean
 ghost use Rattle.tx_words.specs.declared.given.Asked.TheVariants.{Run, Nothing};
 
 use crate::fetching::fetch_files;
-use crate::lines::{help_text, run_help_text, script_refusal_line, version_line};
+use crate::lines::{gen_help_text, help_text, run_help_text, script_refusal_line, version_line};
+use crate::made::put_made;
 use crate::outputs::{save_session, say, say_run};
 use crate::replay::replay;
 use crate::scripted::Scripted;
@@ -18,6 +19,7 @@ use crate::scripts::fetch_script;
 use crate::trouble::{Interruption, Trouble};
 use std::alloc::Global;
 use tx_files::{FileSet, Name};
+use tx_gen::make;
 use tx_io::{Sink, Source};
 use tx_machine::{End, Machine, Steps};
 use tx_script::{Command, Rule};
@@ -160,6 +162,17 @@ pub fn run_given<M: Machine + Drop, S: Source, K: Sink>(
     }
 }
 
+/// Makes a document of so many pages from a seed, saves its files, says how large it is, and answers the status.
+fn run_gen<K: Sink>(alloc: Global, seed: u32, pages: u32, sink: &mut K) -> Result<u8, Interruption>
+    ensures does { (steps : ℕ) → Does result (making seed pages) (K.output sink.old) (K.output sink.new) steps steps }
+    ensures status { IfOk result (λ status. status ≡ 0) }
+    ensures causes { EditCauses result (K.faults sink.old) (K.faults sink.new) }
+{
+    let made = make(alloc, seed, pages)?;
+    put_made(alloc, &made, pages, sink)?;
+    Ok(0)
+}
+
 /// Does what the words ask, and answers the status.
 pub fn run_words<M: Machine + Drop, S: Source, K: Sink>(
     alloc: Global,
@@ -181,8 +194,10 @@ pub fn run_words<M: Machine + Drop, S: Source, K: Sink>(
 {
     match read_words(alloc, words)? {
         Asked::Run(given) => run_given(alloc, machine, &given, source, sink, steps),
+        Asked::Gen { seed, pages } => run_gen(alloc, seed, pages, sink),
         Asked::Help => say_only(sink, help_text(), 0),
         Asked::RunHelp => say_only(sink, run_help_text(), 0),
+        Asked::GenHelp => say_only(sink, gen_help_text(), 0),
         Asked::Version => say_only(sink, version_line(), 0),
         Asked::Nothing => say_only(sink, b"words refused\n", 2),
     }

@@ -14,12 +14,13 @@ use tx_machine::Steps;
 use tx_main::Tex;
 
 /// All that the program does: reads the words behind its name, fetches the script and the files that they list, makes the
-/// run, says its line, carries out the script's commands, and saves the pages and the transcript as they are then; or says
-/// the help, the version, or that the words or the script are refused. Answers the status.
+/// run, says its line, carries out the script's commands, and saves the pages and the transcript as they are then; or makes
+/// a document, saves it with its font and a script, and says how large it is; or says the help, the version, or that the
+/// words or the script are refused. Answers the status.
 ///
 /// | Status | Comes |
 /// |---|---|
-/// | 0, 1 | all was done, and the last run ended by the end of its text, or otherwise; 0 also after help and version |
+/// | 0, 1 | all was done, and the last run ended by the end of its text, or otherwise; 0 also where nothing is to be run |
 /// | 2 | the words aren't those of a call, or the script isn't one; nothing was run |
 /// | 3 | the source failed; nothing was run or said |
 /// | 4 | the sink failed |

@@ -6,7 +6,7 @@ use Rattle.vortex_cmd.specs.Trouble.{Does}
 use Rattle.tx_words.specs.Words.{script_asked, words_meant, texts}
 use Rattle.tx_words.specs.declared.given.Asked.{Asked}
 use Rattle.vortex_cmd.specs.declared.trouble.Trouble.TheVariants.{Memory}
-use Rattle.tx_words.specs.declared.given.Asked.TheVariants.{Run, Help, RunHelp, Version, Nothing}
+use Rattle.tx_words.specs.declared.given.Asked.TheVariants.{Run, Gen, Help, RunHelp, GenHelp, Version, Nothing}
 use Rattle.vortex_cmd.proofs.Held.{for_any, does_nothing, of_words}
 use Rattle.vortex_cmd.proofs.run.run_words.Goals as goal
 
@@ -24,6 +24,11 @@ returns-in-Run-clause-refused g c =
     IfOk-weaker c.run_given.result _ _
     (λ status refused two. inr (subst (λ (a : Asked). NamesNoScript (g.S.Source.holds c.args.source.now) (script_asked a)) are (refused two))) c.run_given.ensures.refused
 
+pub returns-in-Gen-clause-does : goal.returns-in-Gen-clause-does
+returns-in-Gen-clause-does g c =
+    let are : Gen c.in-Gen.seed c.in-Gen.pages ≡ words_meant (texts c.args.words.now) = search rules in
+    of_words g.M.Machine.formatter (texts c.args.words.now) _ are (Unread (λ scripted. for_any _ (λ held. c.run_gen.ensures.does c.args.steps.now)))
+
 pub returns-in-Help-clause-does : goal.returns-in-Help-clause-does
 returns-in-Help-clause-does g c =
     let are : Help ≡ words_meant (texts c.args.words.now) = search rules in
@@ -37,6 +42,13 @@ returns-in-RunHelp-clause-does g c =
     of_words g.M.Machine.formatter (texts c.args.words.now) _ are
     (Unread (λ scripted. for_any _ (λ held. subst (λ (text : List ℕ). Does c.say_only-in-RunHelp.result (saying text 0) (g.K.Sink.output c.args.sink.now) (g.K.Sink.output c.say_only-in-RunHelp.new.sink) c.args.steps.now c.args.steps.now)
     c.run_help_text.ensures (c.say_only-in-RunHelp.ensures.does c.args.steps.now))))
+
+pub returns-in-GenHelp-clause-does : goal.returns-in-GenHelp-clause-does
+returns-in-GenHelp-clause-does g c =
+    let are : GenHelp ≡ words_meant (texts c.args.words.now) = search rules in
+    of_words g.M.Machine.formatter (texts c.args.words.now) _ are
+    (Unread (λ scripted. for_any _ (λ held. subst (λ (text : List ℕ). Does c.say_only-in-GenHelp.result (saying text 0) (g.K.Sink.output c.args.sink.now) (g.K.Sink.output c.say_only-in-GenHelp.new.sink) c.args.steps.now c.args.steps.now)
+    c.gen_help_text.ensures (c.say_only-in-GenHelp.ensures.does c.args.steps.now))))
 
 pub returns-in-Version-clause-does : goal.returns-in-Version-clause-does
 returns-in-Version-clause-does g c =
