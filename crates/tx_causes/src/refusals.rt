@@ -66,8 +66,8 @@ fn write_kind(
 ) -> Result<(), AllocError> {
     match kind {
         ErrorKind::UnknownArgument => write!(text, "{thing}: no such option here"),
-        ErrorKind::InvalidSubcommand => write!(text, "{thing}: no such command, it is run"),
-        ErrorKind::MissingSubcommand => text.push_str("no command is given, it is run"),
+        ErrorKind::InvalidSubcommand => write!(text, "{thing}: no such command, it is run or gen"),
+        ErrorKind::MissingSubcommand => text.push_str("no command is given, it is run or gen"),
         ErrorKind::ArgumentConflict => write!(text, "{}: given twice", option_of(thing)),
         ErrorKind::InvalidValue => {
             write!(text, "{}: a value is missing behind it", option_of(thing))
@@ -76,28 +76,30 @@ fn write_kind(
     }
 }
 
-/// Whether a text is a number from 1 to the most, in digits alone and without a zero in front.
-fn is_limit(text: &str, most: u64) -> bool {
+/// Whether a text is a number of this range, in digits alone and without a zero in front of others.
+fn is_within(text: &str, least: u64, most: u64) -> bool {
     match text.parse::<u64>() {
         Ok(number) => {
-            !text.starts_with('0') && are_digits(text) && 1 <= number && number <= most
+            let is_plain = text.len() == 1 || !text.starts_with('0');
+            is_plain && are_digits(text) && least <= number && number <= most
         }
         Err(_) => false,
     }
 }
 
-/// Writes what is wrong with the value of an option that is a number, if it is the first where something is.
-fn write_limit(
+/// Writes what is wrong with a value that is a number, if it is the first where something is.
+fn write_number(
     text: &mut String,
-    name: &str,
+    whose: &str,
+    least: u64,
     most: u64,
     value: Option<&str>,
 ) -> Result<(), AllocError> {
     match value {
-        Some(value) if text.is_empty() && !is_limit(value, most) => {
+        Some(value) if text.is_empty() && !is_within(value, least, most) => {
             write!(
                 text,
-                "--{name}: a number from 1 to {most} is wanted, in digits alone and without a zero in front, and not '{value}'"
+                "{whose}: a number from {least} to {most} is wanted, in digits alone and without a zero in front, and not '{value}'"
             )
         }
         _ => Ok(()),
@@ -112,14 +114,20 @@ fn write_option(text: &mut String, whose: &str, value: Option<&str>) -> Result<(
     }
 }
 
+/// Writes what is wrong with the values that `gen` is given first, if something is.
+fn write_gen_cause(text: &mut String, found: &ArgMatches<'_>) -> Result<(), AllocError> {
+    write_number(text, "SEED", 0, 4_294_967_295, found.get_str("seed"))?;
+    write_number(text, "PAGES", 1, 1000, found.get_str("pages"))
+}
+
 /// Writes what is wrong with the values that `run` is given first, if something is.
-fn write_values_cause(text: &mut String, found: &ArgMatches<'_>) -> Result<(), AllocError> {
+fn write_run_cause(text: &mut String, found: &ArgMatches<'_>) -> Result<(), AllocError> {
     if let Some(date) = found.get_str("date") {
         write_date_cause(text, date)?;
     }
-    write_limit(text, "budget", 1_000_000_000, found.get_str("budget"))?;
-    write_limit(text, "pages", 10_000, found.get_str("pages"))?;
-    write_limit(text, "keep", 10_000, found.get_str("keep"))?;
+    write_number(text, "--budget", 1, 1_000_000_000, found.get_str("budget"))?;
+    write_number(text, "--pages", 1, 10_000, found.get_str("pages"))?;
+    write_number(text, "--keep", 1, 10_000, found.get_str("keep"))?;
     write_option(text, "--out", found.get_str("out"))?;
     write_option(text, "--script", found.get_str("script"))?;
     match found.get_raw("file") {
@@ -131,7 +139,11 @@ fn write_values_cause(text: &mut String, found: &ArgMatches<'_>) -> Result<(), A
 /// Writes what is wrong with the words behind `help`.
 fn write_help_cause(text: &mut String, words: &[String]) -> Result<(), AllocError> {
     match words {
-        [command] => write!(text, "{}: no such command, it is run", command.as_str()),
+        [command] => write!(
+            text,
+            "{}: no such command, it is run or gen",
+            command.as_str()
+        ),
         _ => text.push_str("help: it takes one command"),
     }
 }
@@ -148,7 +160,8 @@ fn write_fault(
         _ => match parsed {
             Err(error) => write_parser_cause(alloc, text, error),
             Ok(matches) => match matches.subcommand() {
-                Some((_, found)) => write_values_cause(text, found),
+                Some((name, found)) if name == "gen" => write_gen_cause(text, found),
+                Some((_, found)) => write_run_cause(text, found),
                 None => Ok(()),
             },
         },
@@ -159,6 +172,7 @@ fn write_fault(
 fn help_for(words: &[String]) -> &'static str {
     match words {
         [first, ..] if first.as_str() == "run" => "vortex run --help",
+        [first, ..] if first.as_str() == "gen" => "vortex gen --help",
         _ => "vortex --help",
     }
 }
