@@ -2,7 +2,7 @@
 use std::alloc::{AllocError, Global};
 use std::{fs, io};
 use tx_bytes::Bytes;
-use tx_cases::{bytes_of, write_bytes, write_hexadecimal};
+use tx_cases::{bytes_of, first_word, write_bytes, write_hexadecimal};
 use tx_io::{MemorySink, MemorySource};
 use tx_machine::CountsTurns;
 use vortex_cmd::vortex::vortex;
@@ -12,9 +12,12 @@ use vortex_cmd::vortex::vortex;
 /// - `file NAME`, a file of the source, whose bytes are in the lines behind it: a line that begins with `|` is one of the
 ///   file, and one that begins with `+` stands there without a line feed; `take NAME FILE`, with the bytes of a real file;
 /// - `fails fetch NUMBER`, `fails say NUMBER` and `fails save NUMBER`, calls that fail, by their numbers from 1 on;
-/// - `saved NAME`, a file of the sink that is shown: one whose name ends with `.dvi` in hexadecimal.
+/// - `given NAME`, a file that was saved by then, which the source has from then on, and `then WORDS`, a further call, in
+///   their order;
+/// - `saved NAME`, a file of the sink that is shown: one whose name ends with `.dvi` in hexadecimal; `alike NAME OTHER`, two
+///   of them that are compared.
 ///
-/// The answer is the status, what was said, and the files that are shown.
+/// The answer is the status of each call, what was said, and the files that are shown.
 pub fn outcome(rt: &HostRuntime, words: &str, lines: &str) -> io::Result<String> {
     let failing = failing(rt.alloc(), "fails fetch ", lines)?;
     called(
@@ -49,10 +52,74 @@ fn told(
     sink: &mut MemorySink,
     lines: &str,
 ) -> Result<String, AllocError> {
-    let alloc = rt.alloc();
-    let words = words_of(alloc, words)?;
-    let status = vortex(alloc, words.as_slice(), source, sink, &mut rt.steps());
-    shown(alloc, status, sink, lines)
+    let mut text = String::new(rt.alloc());
+    write_told(rt, &mut text, words, source, sink, lines)?;
+    Ok(text)
+}
+
+fn write_told(
+    rt: &HostRuntime,
+    text: &mut String,
+    words: &str,
+    source: &mut MemorySource,
+    sink: &mut MemorySink,
+    lines: &str,
+) -> Result<(), AllocError> {
+    write_status(rt, text, words, source, sink)?;
+    for line in lines.split('\n') {
+        write_later(rt, text, line, source, sink)?;
+    }
+    write_bytes(text, sink.said())?;
+    write_saved(text, sink, lines)
+}
+
+/// Makes a further call, or gives the source a file of the sink, where a line says so.
+fn write_later(
+    rt: &HostRuntime,
+    text: &mut String,
+    line: &str,
+    source: &mut MemorySource,
+    sink: &mut MemorySink,
+) -> Result<(), AllocError> {
+    if let Some(words) = line.strip_prefix("then ") {
+        write_status(rt, text, words, source, sink)?;
+    } else if let Some(name) = line.strip_prefix("given ") {
+        give(rt.alloc(), name, source, sink)?;
+    }
+    Ok(())
+}
+
+fn give(
+    alloc: Global,
+    name: &str,
+    source: &mut MemorySource,
+    sink: &MemorySink,
+) -> Result<(), AllocError> {
+    match sink.saved(name.as_bytes()) {
+        Some(file) => source.put(alloc, name.as_bytes(), file.as_slice()),
+        None => Ok(()),
+    }
+}
+
+fn write_status(
+    rt: &HostRuntime,
+    text: &mut String,
+    words: &str,
+    source: &mut MemorySource,
+    sink: &mut MemorySink,
+) -> Result<(), AllocError> {
+    let status = status_of(rt, words, source, sink)?;
+    write!(text, "status {status}\n")
+}
+
+fn status_of(
+    rt: &HostRuntime,
+    words: &str,
+    source: &mut MemorySource,
+    sink: &mut MemorySink,
+) -> Result<u8, AllocError> {
+    let words = words_of(rt.alloc(), words)?;
+    Ok(vortex(rt.alloc(), words.as_slice(), source, sink, &mut rt.steps()))
 }
 
 fn words_of(alloc: Global, text: &str) -> Result<Vec<String>, AllocError> {
@@ -143,23 +210,35 @@ fn append(alloc: Global, bytes: &mut Bytes, line: &str) -> Result<(), AllocError
     Ok(())
 }
 
-fn shown(alloc: Global, status: u8, sink: &MemorySink, lines: &str) -> Result<String, AllocError> {
-    let mut text = String::new(alloc);
-    write!(text, "status {status}\n")?;
-    write_bytes(&mut text, sink.said())?;
-    write_saved(&mut text, sink, lines)?;
-    Ok(text)
-}
-
-/// Writes the files that are to be shown.
+/// Writes the files that are to be shown, and those that are to be compared.
 fn write_saved(text: &mut String, sink: &MemorySink, lines: &str) -> Result<(), AllocError> {
     for line in lines.split('\n') {
         if let Some(name) = line.strip_prefix("saved ") {
             text.push_str(name)?;
             write_file(text, name, sink.saved(name.as_bytes()))?;
+        } else if let Some(names) = line.strip_prefix("alike ") {
+            write_alike(text, names, sink)?;
         }
     }
     Ok(())
+}
+
+/// Writes whether two files were saved and are the same.
+fn write_alike(text: &mut String, names: &str, sink: &MemorySink) -> Result<(), AllocError> {
+    let (name, other) = first_word(names);
+    let are = if are_alike(sink.saved(name.as_bytes()), sink.saved(other.as_bytes())) {
+        "are alike"
+    } else {
+        "aren't alike"
+    };
+    write!(text, "{name} and {other} {are}\n")
+}
+
+fn are_alike(file: Option<&Bytes>, other: Option<&Bytes>) -> bool {
+    match (file, other) {
+        (Some(file), Some(other)) => file.same(other),
+        _ => false,
+    }
 }
 
 fn write_file(text: &mut String, name: &str, file: Option<&Bytes>) -> Result<(), AllocError> {
