@@ -11,7 +11,7 @@ use Rattle.tx_script.specs.declared.error.Rule.{Rule}
 use Rattle.tx_script.specs.Text.{bytes_of, elements, text, greatest, IsCommand, IsScript}
 use Rattle.tx_gen.specs.Draws.{next, drawn, joined, with_more, times}
 use Rattle.tx_gen.specs.Book.{letter, page, page_start, page_starts, book_of}
-use Rattle.tx_gen.specs.Edits.{replacing, edit, commands_of, lines_of, edit_text, IsReplacement}
+use Rattle.tx_gen.specs.Edits.{replacing, drawn_edit, commands_of, lines_of, edit_text, IsReplacement}
 use Rattle.tx_gen.proofs.Letters.{letter-is, letter-starts}
 use Rattle.tx_gen.proofs.Lengths.{start-within}
 use Rattle.tx_gen.proofs.Starts.{length-starts, start-at}
@@ -32,11 +32,11 @@ paired state same = λ i. (same i, state)
 
 -- edits by their lines, and the text of edits
 script-lines : (start : ℕ → ℕ) (pages count state : ℕ)
-    → times count (edit_text start pages) state ≡ (text (times count (edit start pages) state).0, (times count (edit start pages) state).1)
+    → times count (edit_text start pages) state ≡ (text (times count (drawn_edit start pages) state).0, (times count (drawn_edit start pages) state).1)
 unfolding times
 script-lines start pages zero state = refl
 script-lines start pages (suc count) state =
-    let front : List Command × ℕ = times count (edit start pages) state in
+    let front : List Command × ℕ = times count (drawn_edit start pages) state in
     let place : ℕ = start (drawn pages front.1) in
     let code : ℕ = letter (next front.1) in
     ap (λ (made : List ℕ × ℕ). with_more made (edit_text start pages)) (script-lines start pages count state)
@@ -73,13 +73,13 @@ all-append P (c ∷ a) b first later = (first.0, all-append P a b first.1 later)
 
 -- what is so of an edit of each page and letter is so of all commands
 all-edits : (P : Command → Type 0) (start : ℕ → ℕ) (pages : ℕ) → ((number state : ℕ) → number < pages → P (Edit (replacing (start number) (letter state)))) → (count state : ℕ) → count ≤ pages
-    → AllByRecursion P (times count (edit start pages) state).0
+    → AllByRecursion P (times count (drawn_edit start pages) state).0
 unfolding times
 all-edits P start pages each zero state few = tt
 all-edits P start pages each (suc count) state few =
-    let front : List Command × ℕ = times count (edit start pages) state in
+    let front : List Command × ℕ = times count (drawn_edit start pages) state in
     let below : drawn pages front.1 < pages = omega arith in
-    all-append P front.0 (edit start pages front.1).0 (all-edits P start pages each count state (omega arith)) (each (drawn pages front.1) (next front.1) below, tt)
+    all-append P front.0 (drawn_edit start pages front.1).0 (all-edits P start pages each count state (omega arith)) (each (drawn pages front.1) (next front.1) below, tt)
 
 -- a document of up to 1000 pages has a script
 pub commands-script : (seed pages : ℕ) → pages ≤ 1000 → IsScript (commands_of seed pages)

@@ -12,12 +12,12 @@ abbrev pub replacing : ℕ → ℕ → FileEdit
 replacing place code = record { name = codes "book.tex"; place = place; removed = 1; put = code ∷ [] }
 
 -- an edit by two draws, which page and which letter; the pages begin at these places
-abbrev pub edit : (ℕ → ℕ) → ℕ → ℕ → List Command × ℕ
-edit start pages state = (Edit (replacing (start (drawn pages state)) (letter (next state))) ∷ [], next (next state))
+abbrev pub drawn_edit : (ℕ → ℕ) → ℕ → ℕ → List Command × ℕ
+drawn_edit start pages state = (Edit (replacing (start (drawn pages state)) (letter (next state))) ∷ [], next (next state))
 
 -- the commands of the script; their draws follow those of the document
 abbrev pub commands_of : ℕ → ℕ → List Command
-commands_of seed pages = (times pages (edit (page_start seed) pages) (times pages page seed).1).0
+commands_of seed pages = (times pages (drawn_edit (page_start seed) pages) (times pages page seed).1).0
 
 -- the lines of such an edit, and an edit by its lines
 abbrev pub lines_of : ℕ → ℕ → List ℕ
