@@ -15,7 +15,7 @@ use Rattle.tx_num.specs.Glue.{GlueSpec}
 use Rattle.tx_seen.specs.declared.place.Place.{Place}
 use Rattle.tx_seen.specs.Readings.{Reading, Done, ending, next}
 use Rattle.tx_scan.specs.declared.scans.IntScan.{IntScan}
-use Rattle.tx_scan.specs.Rests.{IsEnd, IsFedBy, IsGivenBehind, IsGivenBy, IsPassed, IsRead, kept}
+use Rattle.tx_scan.specs.Rests.{IsEnd, IsFedBy, IsGivenBy, IsPassed, IsRead, kept}
 use Rattle.tx_scan.specs.IntegerRests as integers
 use Rattle.tx_scan.specs.declared.scans.GlueScan.{GlueScan}
 use Rattle.tx_scan.specs.GlueRests as glues
@@ -29,9 +29,9 @@ use Rattle.tx_scan.specs.declared.scans.DimenScan.{DimenScan}
 use Rattle.tx_scan.specs.declared.scans.Measure.{Measure}
 use Rattle.tx_scan.specs.DimensionRests as sizes
 use Rattle.tx_assign.specs.declared.types.Purpose.{Purpose}
-use Rattle.tx_assign.specs.Assignments.{behind_number, elastic, sized}
+use Rattle.tx_assign.specs.Assignments.{behind_number, elastic, sized, valued}
 use Rattle.tx_assign.specs.Targets.{change_by_glue}
-use Rattle.tx_assign.specs.Rests.{rest, held, IsAssigning, IsBehind}
+use Rattle.tx_assign.specs.Rests.{rest, held, told, IsAssigning, IsBehind, IsFed, IsGiven}
 use Rattle.tx_assign.proofs.Steps.{to-none}
 
 -- the assignment of glue
@@ -60,23 +60,23 @@ number-need old scan kind operation v wanted s k = λ behind short. rw s (
 pub number-wrong : (old new : AssignScan) (scan : IntScan) (kind : Numbered) (operation : Option Operation) (v : Value) (error : TexError) → old.stage ≡ stage.Number kind operation → integers.IsGiven old.integer v scan (fed.Wrong error) → IsGivenBy rest held old v new (fed.Wrong error)
 number-wrong old new scan kind operation v error s k = λ behind short more. rw s (ap (λ r. next r (behind_number operation kind)) (k behind (rw s at short) more))
 
-pub number-ends : (old new : AssignScan) (scan : IntScan) (kind : Numbered) (operation : Option Operation) (v : Value) (t : Seen) (n m : ℤ) (back : ℕ) (answer : Fed Assignment) → old.stage ≡ stage.Number kind operation → integers.IsGiven old.integer v scan (fed.Done n back) → back ≡ 0 → m ≡ n → ((t : Seen) → IsAssigning 0 (λ more. behind_number operation kind m more) t new answer) → IsGivenBehind rest held old v t new answer
+pub number-ends : (old new : AssignScan) (scan : IntScan) (kind : Numbered) (operation : Option Operation) (v : Value) (t : Seen) (n m : ℤ) (back : ℕ) (answer : Fed (Unit {0})) → old.stage ≡ stage.Number kind operation → integers.IsGiven old.integer v scan (fed.Done n back) → back ≡ 0 → m ≡ n → ((t : Seen) → IsAssigning 0 (λ more. behind_number operation kind m more) t new answer) → IsGiven old v t new answer
 number-ends old new scan kind operation v t n m back answer s k none f later =
     let same : back ≡ integers.held old.integer = (k [] (omega arith)).0 in
     let zero_held : integers.held old.integer ≡ 0 = sym same ∙ none in
     rw s
-    (same-read rest held (integers.held old.integer) (λ more. next (integers.rest old.integer (kept (integers.held old.integer) t) (Gave v) more) (behind_number operation kind)) (λ more. behind_number operation kind n more) (kept (integers.held old.integer) t) new answer
+    (same-read rest held (integers.held old.integer) (λ more. next (integers.rest old.integer (kept (integers.held old.integer) t) (Gave v) more) (behind_number operation kind)) (λ more. behind_number operation kind n more) (kept (integers.held old.integer) t) new (told new answer)
     (λ more. ap (λ r. next r (behind_number operation kind)) ((k (kept (integers.held old.integer) t) (length-kept (integers.held old.integer) t)).1 more) ∙ ap (λ (i : ℕ). behind_number operation kind n (kept i t ++ more)) zero_held)
-    (read-none rest held (integers.held old.integer) (λ more. behind_number operation kind n more) (kept (integers.held old.integer) t) new answer
+    (read-none rest held (integers.held old.integer) (λ more. behind_number operation kind n more) (kept (integers.held old.integer) t) new (told new answer)
     (to-none (λ more. behind_number operation kind n more) t new answer (rw f at (later t)))))
 
-pub number-ends-before : {E : Type 0} (old new : AssignScan) (scan : IntScan) (kind : Numbered) (operation : Option Operation) (v : Value) (t : Seen) (n m : ℤ) (back : ℕ) (answer : Result (Fed Assignment) E) → old.stage ≡ stage.Number kind operation → integers.IsGiven old.integer v scan (fed.Done n back) → (back ≡ 0 → ⊥) → m ≡ n → held old ≤ 1 → IfOk answer (IsBehind (λ more. behind_number operation kind m (Took t ∷ more)) t new) → IfOk answer (IsGivenBehind rest held old v t new)
+pub number-ends-before : {E : Type 0} (old new : AssignScan) (scan : IntScan) (kind : Numbered) (operation : Option Operation) (v : Value) (t : Seen) (n m : ℤ) (back : ℕ) (answer : Result (Fed (Unit {0})) E) → old.stage ≡ stage.Number kind operation → integers.IsGiven old.integer v scan (fed.Done n back) → (back ≡ 0 → ⊥) → m ≡ n → held old ≤ 1 → IfOk answer (IsBehind (λ more. behind_number operation kind m (Took t ∷ more)) t new) → IfOk answer (IsGiven old v t new)
 number-ends-before old new scan kind operation v t n m back (Ok answer) s k some f few later =
     let short : integers.held old.integer ≤ 1 = rw s at few in
     let same : back ≡ integers.held old.integer = (k [] (omega arith)).0 in
     let one : integers.held old.integer ≡ 1 = one-held back (integers.held old.integer) some same short in
     rw (s, one)
-    (same-read rest held 1 (λ more. next (integers.rest old.integer (Took t ∷ []) (Gave v) more) (behind_number operation kind)) (λ more. behind_number operation kind n (Took t ∷ more)) (Took t ∷ []) new answer
+    (same-read rest held 1 (λ more. next (integers.rest old.integer (Took t ∷ []) (Gave v) more) (behind_number operation kind)) (λ more. behind_number operation kind n (Took t ∷ more)) (Took t ∷ []) new (told new answer)
     (λ more. ap (λ r. next r (behind_number operation kind)) ((k (Took t ∷ []) (rw one (omega arith))).1 more))
     (rw f at later))
 number-ends-before old new scan kind operation v t n m back (Err error) s k some f few later = tt
@@ -106,12 +106,18 @@ end-passed reading behind back new (fed.Need kind) k = absurd k
 end-passed reading behind back new (fed.Done value count) k = (k.0, λ more. k.1 (behind ++ more))
 end-passed reading behind back new (fed.Wrong error) k = λ more. k (behind ++ more)
 
-pub size-done : {E : Type 0} (old new : AssignScan) (scan : DimenScan) (purpose : Purpose) (v : Value) (measure : Measure) (back : ℕ) (answer : Result (Fed Assignment) E) → old.stage ≡ stage.Size purpose → IsGivenBy sizes.rest sizes.held old.size v scan (fed.Done measure back) → IfOk answer (IsEnd (λ more. sized purpose old.place measure more) back) → IfOk answer (IsGivenBy rest held old v new)
-size-done old new scan purpose v measure back (Ok answer) s k e = λ behind short.
-    same-passed rest held (λ more. rest old behind (Gave v) more) (λ more. sized purpose old.place measure (behind ++ more)) behind (held old) back new answer
+pub size-done : (old new : AssignScan) (scan : DimenScan) (purpose : Purpose) (v : Value) (measure : Measure) (back : ℕ) (answer : Fed (Unit {0})) → old.stage ≡ stage.Size purpose → IsGivenBy sizes.rest sizes.held old.size v scan (fed.Done measure back) → IsEnd (λ more. sized purpose old.place measure more) back (told new answer) → IsGivenBy rest held old v new (told new answer)
+size-done old new scan purpose v measure back answer s k e = λ behind short.
+    same-passed rest held (λ more. rest old behind (Gave v) more) (λ more. sized purpose old.place measure (behind ++ more)) behind (held old) back new (told new answer)
     (λ more. rw s (ap (λ r. next r (sized purpose old.place)) ((k behind (rw s at short)).1 more))) (rw s (sym (k behind (rw s at short)).0))
-    (end-passed (sized purpose old.place measure) behind back new answer e)
-size-done old new scan purpose v measure back (Err error) s k e = tt
+    (end-passed (sized purpose old.place measure) behind back new (told new answer) e)
+
+-- the value that a number waits for that is assigned
+pub integer-done : (old new : AssignScan) (scan : IntScan) (purpose : Purpose) (v : Value) (n m : ℤ) (back : ℕ) (answer : Fed (Unit {0})) → old.stage ≡ stage.Integer purpose → integers.IsGiven old.integer v scan (fed.Done n back) → m ≡ n → IsEnd (λ more. valued purpose old.place m more) back (told new answer) → IsGivenBy rest held old v new (told new answer)
+integer-done old new scan purpose v n m back answer s k f e = λ behind short.
+    same-passed rest held (λ more. rest old behind (Gave v) more) (λ more. valued purpose old.place n (behind ++ more)) behind (held old) back new (told new answer)
+    (λ more. rw s (ap (λ r. next r (valued purpose old.place)) ((k behind (rw s at short)).1 more))) (rw s (sym (k behind (rw s at short)).0))
+    (end-passed (valued purpose old.place n) behind back new (told new answer) (rw f at e))
 
 -- glue, of whatever is read
 pub glue-more : (old : AssignScan) (scan : GlueScan) (purpose : Purpose) (most : ℕ) (reading : List Item → Reading GlueSpec) (tokens : List Item) (want : Want) → IsRead glues.rest glues.held most reading tokens scan (fed.More want) → IsRead rest held most (λ more. next (reading more) (elastic purpose old.place)) tokens (record old { stage = stage.Glue purpose; glue = scan }) (fed.More want)
@@ -132,16 +138,14 @@ end-read reading other most tokens back new (fed.Done value count) h same k =
     (omega (arith, h, k.0), λ more. same more ∙ (k.1 (ending back tokens ++ more) ∙ ap (λ (n : ℕ). Done value (ending n tokens ++ more)) (sym k.0)))
 end-read reading other most tokens back new (fed.Wrong error) h same k = λ more. same more ∙ k (ending back tokens ++ more)
 
-pub glue-done : {E : Type 0} (new : AssignScan) (scan : GlueScan) (purpose : Purpose) (p : Place) (most : ℕ) (reading : List Item → Reading GlueSpec) (tokens : List Item) (g : GlueSpec) (back : ℕ) (answer : Result (Fed Assignment) E) → IsRead glues.rest glues.held most reading tokens scan (fed.Done g back) → IfOk answer (IsEnd (λ more. elastic purpose p g more) back) → IfOk answer (IsRead rest held most (λ more. next (reading more) (elastic purpose p)) tokens new)
-glue-done new scan purpose p most reading tokens g back (Ok answer) k e =
-    end-read (λ more. next (reading more) (elastic purpose p)) (λ more. elastic purpose p g more) most tokens back new answer k.0 (λ more. ap (λ r. next r (elastic purpose p)) (k.1 more)) e
-glue-done new scan purpose p most reading tokens g back (Err error) k e = tt
+pub glue-done : (new : AssignScan) (scan : GlueScan) (purpose : Purpose) (p : Place) (most : ℕ) (reading : List Item → Reading GlueSpec) (tokens : List Item) (g : GlueSpec) (back : ℕ) (answer : Fed (Unit {0})) → IsRead glues.rest glues.held most reading tokens scan (fed.Done g back) → IsEnd (λ more. elastic purpose p g more) back (told new answer) → IsRead rest held most (λ more. next (reading more) (elastic purpose p)) tokens new (told new answer)
+glue-done new scan purpose p most reading tokens g back answer k e =
+    end-read (λ more. next (reading more) (elastic purpose p)) (λ more. elastic purpose p g more) most tokens back new (told new answer) k.0 (λ more. ap (λ r. next r (elastic purpose p)) (k.1 more)) e
 
-pub glue-ends : {E : Type 0} (new : AssignScan) (old scan : GlueScan) (purpose : Purpose) (p : Place) (t : Seen) (g : GlueSpec) (back : ℕ) (answer : Result (Fed Assignment) E) → IsFedBy glues.rest glues.held old t scan (fed.Done g back) → IfOk answer (IsEnd (λ more. elastic purpose p g more) back) → IfOk answer (λ a. (behind : List Item) → length behind ≤ glues.held old → IsRead rest held (glues.held old + 1) (λ more. next (glues.rest old behind (Took t) more) (elastic purpose p)) (behind ++ Took t ∷ []) new a)
-glue-ends new old scan purpose p t g back (Ok answer) k e = λ behind h.
-    glue-done {E = ⊥} new scan purpose p (glues.held old + 1) (λ more. glues.rest old behind (Took t) more) (behind ++ Took t ∷ []) g back (Ok answer) (k behind h) e
-glue-ends new old scan purpose p t g back (Err error) k e = tt
+pub glue-ends : (new : AssignScan) (old scan : GlueScan) (purpose : Purpose) (p : Place) (t : Seen) (g : GlueSpec) (back : ℕ) (answer : Fed (Unit {0})) → IsFedBy glues.rest glues.held old t scan (fed.Done g back) → IsEnd (λ more. elastic purpose p g more) back (told new answer) → (behind : List Item) → length behind ≤ glues.held old → IsRead rest held (glues.held old + 1) (λ more. next (glues.rest old behind (Took t) more) (elastic purpose p)) (behind ++ Took t ∷ []) new (told new answer)
+glue-ends new old scan purpose p t g back answer k e = λ behind h.
+    glue-done new scan purpose p (glues.held old + 1) (λ more. glues.rest old behind (Took t) more) (behind ++ Took t ∷ []) g back answer (k behind h) e
 
-pub glue-fed : {E : Type 0} (old new : AssignScan) (purpose : Purpose) (t : Seen) (answer : Result (Fed Assignment) E) → old.stage ≡ stage.Glue purpose → IfOk answer (λ a. (behind : List Item) → length behind ≤ glues.held old.glue → IsRead rest held (glues.held old.glue + 1) (λ more. next (glues.rest old.glue behind (Took t) more) (elastic purpose old.place)) (behind ++ Took t ∷ []) new a) → IfOk answer (IsFedBy rest held old t new)
+pub glue-fed : {E : Type 0} (old new : AssignScan) (purpose : Purpose) (t : Seen) (answer : Result (Fed (Unit {0})) E) → old.stage ≡ stage.Glue purpose → IfOk answer (λ a. (behind : List Item) → length behind ≤ glues.held old.glue → IsRead rest held (glues.held old.glue + 1) (λ more. next (glues.rest old.glue behind (Took t) more) (elastic purpose old.place)) (behind ++ Took t ∷ []) new (told new a)) → IfOk answer (IsFed old t new)
 glue-fed old new purpose t (Ok answer) s k = λ behind h. rw s (k behind (rw s at h))
 glue-fed old new purpose t (Err error) s k = tt

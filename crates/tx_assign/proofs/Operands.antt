@@ -103,9 +103,9 @@ by-more old word now operation t want k g =
 pub by-wrong : (new : AssignScan) (word now : KeyScan) (operation : Operation) (p : Place) (t : Seen) (error : TexError) → IsFedBy (rest by) held word t now (fed.Wrong error) → IsAssigning 0 (λ more. by_rest word operation p (Took t) more) t new (fed.Wrong error)
 by-wrong new word now operation p t error k = λ more. ap (λ r. next r (behind_by word.read operation p)) (k [] (omega arith) more)
 
-pub by-ends : (new : AssignScan) (word now : KeyScan) (operation : Operation) (p : Place) (t : Seen) (found : Bool) (back : ℕ) (answer : Fed Assignment) → IsFedBy (rest by) held word t now (fed.Done found back) → found ≡ true → back ≡ 0 → IsAssigning 0 (λ more. value (Compute operation) p more) t new answer → IsAssigning 0 (λ more. by_rest word operation p (Took t) more) t new answer
+pub by-ends : (new : AssignScan) (word now : KeyScan) (operation : Operation) (p : Place) (t : Seen) (found : Bool) (back : ℕ) (answer : Fed (Unit {0})) → IsFedBy (rest by) held word t now (fed.Done found back) → found ≡ true → back ≡ 0 → IsAssigning 0 (λ more. value (Compute operation) p more) t new answer → IsAssigning 0 (λ more. by_rest word operation p (Took t) more) t new answer
 by-ends new word now operation p t found back answer k e none later =
-    same-answer rests.rest rests.held 0 (λ more. by_rest word operation p (Took t) more) (λ more. value (Compute operation) p more) t new answer
+    same-answer rests.rest rests.held 0 (λ more. by_rest word operation p (Took t) more) (λ more. value (Compute operation) p more) t new (rests.told new answer)
     (λ more. ap (λ r. next r (behind_by word.read operation p)) ((k [] (omega arith)).1 more ∙ ap (λ (b : Bool). Done b (ending back (Took t ∷ []) ++ more)) e) ∙ on-true word.read operation p (ending back (Took t ∷ []) ++ more) ∙ ap (λ (n : ℕ). value (Compute operation) p (ending n (Took t ∷ []) ++ more)) none)
     later
 
@@ -113,7 +113,7 @@ one-back : (back : ℕ) (t : Seen) → (back ≡ 0 → ⊥) → ending back (Too
 one-back zero t h = absurd (h refl)
 one-back (suc back) t h = ending-all (suc back) (Took t ∷ []) (omega arith)
 
-pub by-before : {E : Type 0} (new : AssignScan) (word now : KeyScan) (operation : Operation) (p : Place) (t : Seen) (found : Bool) (back : ℕ) (answer : Result (Fed Assignment) E) → IsFedBy (rest by) held word t now (fed.Done found back) → found ≡ true → (back ≡ 0 → ⊥) → IfOk answer (IsBehind (λ more. value (Compute operation) p (Took t ∷ more)) t new) → IfOk answer (IsBehind (λ more. by_rest word operation p (Took t) more) t new)
+pub by-before : {E : Type 0} (new : AssignScan) (word now : KeyScan) (operation : Operation) (p : Place) (t : Seen) (found : Bool) (back : ℕ) (answer : Result (Fed (Unit {0})) E) → IsFedBy (rest by) held word t now (fed.Done found back) → found ≡ true → (back ≡ 0 → ⊥) → IfOk answer (IsBehind (λ more. value (Compute operation) p (Took t ∷ more)) t new) → IfOk answer (IsBehind (λ more. by_rest word operation p (Took t) more) t new)
 by-before new word now operation p t found back (Ok answer) k e some later =
     same-behind {E = ⊥} (λ more. by_rest word operation p (Took t) more) (λ more. value (Compute operation) p (Took t ∷ more)) t new (Ok answer)
     (λ more. ap (λ r. next r (behind_by word.read operation p)) ((k [] (omega arith)).1 more ∙ ap (λ (b : Bool). Done b (ending back (Took t ∷ []) ++ more)) e) ∙ on-true word.read operation p (ending back (Took t ∷ []) ++ more) ∙ ap (λ (xs : List Item). value (Compute operation) p (xs ++ more)) (one-back back t some))
@@ -125,7 +125,7 @@ none-there : (operation : Operation) (p : Place) (read : ℕ) (t : Seen) → rea
 none-there operation p (suc read) t e k more = absurd (omega (arith, e))
 none-there operation p zero t e k more = ap (λ r. next r (operand operation p)) (k more) ∙ rw (no-letter t (Took t ∷ []) (k [])) refl
 
-pub by-none : {E : Type 0} (new : AssignScan) (word now : KeyScan) (operation : Operation) (p : Place) (t : Seen) (found : Bool) (back : ℕ) (answer : Result (Fed Assignment) E) → IsFedBy (rest by) held word t now (fed.Done found back) → IsGone by word t now (fed.Done found back) → found ≡ false → back ≡ 1 → IfOk answer (IsBehind (λ more. value (Compute operation) p (Took t ∷ more)) t new) → IfOk answer (IsBehind (λ more. by_rest word operation p (Took t) more) t new)
+pub by-none : {E : Type 0} (new : AssignScan) (word now : KeyScan) (operation : Operation) (p : Place) (t : Seen) (found : Bool) (back : ℕ) (answer : Result (Fed (Unit {0})) E) → IsFedBy (rest by) held word t now (fed.Done found back) → IsGone by word t now (fed.Done found back) → found ≡ false → back ≡ 1 → IfOk answer (IsBehind (λ more. value (Compute operation) p (Took t ∷ more)) t new) → IfOk answer (IsBehind (λ more. by_rest word operation p (Took t) more) t new)
 by-none new word now operation p t true back answer k g e one later = absurd (cc)
 by-none new word now operation p t false back (Ok answer) k g e one later =
     same-behind {E = ⊥} (λ more. by_rest word operation p (Took t) more) (λ more. value (Compute operation) p (Took t ∷ more)) t new (Ok answer)
@@ -134,10 +134,10 @@ by-none new word now operation p t false back (Ok answer) k g e one later =
 by-none new word now operation p t false back (Err error) k g e one later = tt
 
 -- an optional `by` of which nothing is read
-pub by-begun : (o : Option Operation) (operation : Operation) (old new : AssignScan) (word : KeyScan) (t : Seen) (answer : Fed Assignment) → o ≡ Some operation → word ≡ begun_word → new ≡ record old { stage = stage.By operation word } → answer ≡ fed.More Expanded → IsAssigning 0 (λ more. behind_place o old.place more) t new answer
+pub by-begun : (o : Option Operation) (operation : Operation) (old new : AssignScan) (word : KeyScan) (t : Seen) (answer : Fed (Unit {0})) → o ≡ Some operation → word ≡ begun_word → new ≡ record old { stage = stage.By operation word } → answer ≡ fed.More Expanded → IsAssigning 0 (λ more. behind_place o old.place more) t new answer
 by-begun o operation old new word t answer e w n a = rw (e, n, a, w) (refl, refl, λ item more. refl)
 
-pub by-first : {E : Type 0} (o : Option Operation) (operation : Operation) (p : Place) (word : KeyScan) (t : Seen) (new : AssignScan) (answer : Result (Fed Assignment) E) → o ≡ Some operation → word ≡ begun_word → IfOk answer (IsBehind (λ more. by_rest word operation p (Took t) more) t new) → IfOk answer (IsBehind (λ more. behind_place o p (Took t ∷ more)) t new)
+pub by-first : {E : Type 0} (o : Option Operation) (operation : Operation) (p : Place) (word : KeyScan) (t : Seen) (new : AssignScan) (answer : Result (Fed (Unit {0})) E) → o ≡ Some operation → word ≡ begun_word → IfOk answer (IsBehind (λ more. by_rest word operation p (Took t) more) t new) → IfOk answer (IsBehind (λ more. behind_place o p (Took t ∷ more)) t new)
 by-first o operation p word t new answer e w k = rw e (rw w at k)
 
 -- no value is needed there

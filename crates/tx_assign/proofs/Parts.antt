@@ -25,7 +25,7 @@ use Rattle.tx_assign.specs.declared.scan.AssignStage.TheVariants as stage
 use Rattle.tx_assign.specs.declared.types.Assignment.{Assignment}
 use Rattle.tx_assign.specs.declared.types.Purpose.{Purpose}
 use Rattle.tx_assign.specs.Assignments.{given, let_behind_name, sized, value, valued}
-use Rattle.tx_assign.specs.Rests.{rest, held, IsAssigning, IsBehind}
+use Rattle.tx_assign.specs.Rests.{rest, held, told, IsAssigning, IsBehind}
 use Rattle.tx_assign.proofs.Numbers.{one-kept}
 use Rattle.tx_assign.proofs.Steps.{same-behind}
 
@@ -37,9 +37,9 @@ name-more old scan t want s k =
 pub name-wrong : (new : AssignScan) (scan : NameScan) (t : Seen) (error : TexError) → IsNameFed scan t (fed.Wrong error) → IsAssigning 0 (λ more. next (name (Took t ∷ more)) let_behind_name) t new (fed.Wrong error)
 name-wrong new scan t error k = λ more. ap (λ r. next r let_behind_name) (k [] more)
 
-pub name-done : (old mid new : AssignScan) (scan : NameScan) (t : Seen) (p : Place) (back : ℕ) (answer : Fed Assignment) → IsNameFed scan t (fed.Done p back) → mid ≡ record old { place = p } → new ≡ record mid { stage = stage.LetBehindName } → answer ≡ fed.More Raw → IsAssigning 0 (λ more. next (name (Took t ∷ more)) let_behind_name) t new answer
+pub name-done : (old mid new : AssignScan) (scan : NameScan) (t : Seen) (p : Place) (back : ℕ) (answer : Fed (Unit {0})) → IsNameFed scan t (fed.Done p back) → mid ≡ record old { place = p } → new ≡ record mid { stage = stage.LetBehindName } → answer ≡ fed.More Raw → IsAssigning 0 (λ more. next (name (Took t ∷ more)) let_behind_name) t new answer
 name-done old mid new scan t p back answer k m n a =
-    done-next name_rest held_none rest held 0 0 (λ more. name (Took t ∷ more)) let_behind_name t scan new p back answer (k [])
+    done-next name_rest held_none rest held 0 0 (λ more. name (Took t ∷ more)) let_behind_name t scan new p back (told new answer) (k [])
     (none-back (λ items. IsAssigning 0 (λ more. let_behind_name p (items ++ more)) t new answer) back t (omega (arith, (k []).0))
     (rw (n, m, a) (refl, refl, λ item more. refl)))
 
@@ -51,12 +51,12 @@ equals-more old scan purpose t want k =
 pub equals-wrong : (new : AssignScan) (scan : EqualsScan) (purpose : Purpose) (p : Place) (t : Seen) (error : TexError) → IsEqualsFed scan t (fed.Wrong error) → IsAssigning 0 (λ more. given purpose p (Took t ∷ more)) t new (fed.Wrong error)
 equals-wrong new scan purpose p t error k = λ more. ap (λ r. next r (λ _ rest. value purpose p rest)) (k [] more)
 
-pub equals-ends : (new : AssignScan) (scan : EqualsScan) (purpose : Purpose) (p : Place) (t : Seen) (found : Bool) (back : ℕ) (answer : Fed Assignment) → IsEqualsFed scan t (fed.Done found back) → back ≡ 0 → IsAssigning 0 (λ more. value purpose p more) t new answer → IsAssigning 0 (λ more. given purpose p (Took t ∷ more)) t new answer
+pub equals-ends : (new : AssignScan) (scan : EqualsScan) (purpose : Purpose) (p : Place) (t : Seen) (found : Bool) (back : ℕ) (answer : Fed (Unit {0})) → IsEqualsFed scan t (fed.Done found back) → back ≡ 0 → IsAssigning 0 (λ more. value purpose p more) t new answer → IsAssigning 0 (λ more. given purpose p (Took t ∷ more)) t new answer
 equals-ends new scan purpose p t found back answer k e later =
-    done-next equals_rest held_none rest held 1 0 (λ more. equals (Took t ∷ more)) (λ _ rest. value purpose p rest) t scan new found back answer (k [])
+    done-next equals_rest held_none rest held 1 0 (λ more. equals (Took t ∷ more)) (λ _ rest. value purpose p rest) t scan new found back (told new answer) (k [])
     (none-back (λ items. IsAssigning 0 (λ more. value purpose p (items ++ more)) t new answer) back t e later)
 
-pub equals-ends-before : {E : Type 0} (new : AssignScan) (scan : EqualsScan) (purpose : Purpose) (p : Place) (t : Seen) (found : Bool) (back : ℕ) (answer : Result (Fed Assignment) E) → IsEqualsFed scan t (fed.Done found back) → (back ≡ 0 → ⊥) → IfOk answer (IsBehind (λ more. value purpose p (Took t ∷ more)) t new) → IfOk answer (IsBehind (λ more. given purpose p (Took t ∷ more)) t new)
+pub equals-ends-before : {E : Type 0} (new : AssignScan) (scan : EqualsScan) (purpose : Purpose) (p : Place) (t : Seen) (found : Bool) (back : ℕ) (answer : Result (Fed (Unit {0})) E) → IsEqualsFed scan t (fed.Done found back) → (back ≡ 0 → ⊥) → IfOk answer (IsBehind (λ more. value purpose p (Took t ∷ more)) t new) → IfOk answer (IsBehind (λ more. given purpose p (Took t ∷ more)) t new)
 equals-ends-before new scan purpose p t found back answer k e later =
     same-behind (λ more. given purpose p (Took t ∷ more)) (λ more. value purpose p (Took t ∷ more)) t new answer
     (λ more. ap (λ r. next r (λ _ rest. value purpose p rest)) ((k []).1 more) ∙ ap (λ (items : List Item). value purpose p (items ++ more)) (one-kept back t e)) later

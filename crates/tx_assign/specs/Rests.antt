@@ -7,9 +7,11 @@ use Rattle.tx_seen.specs.declared.item.Item.{Item}
 use Rattle.tx_seen.specs.declared.item.Item.TheVariants.{Took}
 use Rattle.tx_seen.specs.declared.fed.Fed.{Fed}
 use Rattle.tx_seen.specs.declared.fed.Fed.TheVariants as fed
+use Rattle.tx_seen.specs.declared.fed.Value.{Value}
 use Rattle.tx_seen.specs.Readings.{Reading, Wrong, next}
 use Rattle.tx_scan.specs.Grammars.{name}
-use Rattle.tx_scan.specs.Rests.{HasTakenBy, IsAnswer, IsRead}
+use Rattle.tx_scan.specs.Mapped.{mapped}
+use Rattle.tx_scan.specs.Rests.{HasTakenBy, IsAnswer, IsFedBy, IsGivenBehind, IsRead}
 use Rattle.tx_scan.specs.IntegerRests as integers
 use Rattle.tx_scan.specs.Dimensions.{lengths}
 use Rattle.tx_scan.specs.DimensionRests as sizes
@@ -19,6 +21,7 @@ use Rattle.tx_scan.specs.Keywords as words
 use Rattle.tx_prim.specs.declared.family.Operation.{Operation}
 use Rattle.tx_seen.specs.declared.error.TexError.TheVariants.{MissingNumber}
 use Rattle.tx_assign.specs.declared.types.Assigning.{Assigning}
+use Rattle.tx_assign.specs.declared.types.Change.TheVariants.{Text}
 use Rattle.tx_assign.specs.declared.types.Purpose.TheVariants.{Compute}
 use Rattle.tx_assign.specs.declared.types.Assignment.{Assignment}
 use Rattle.tx_assign.specs.declared.scan.AssignScan.{AssignScan}
@@ -83,13 +86,29 @@ HasTaken assigning scan taken = HasTakenBy rest held (assignment assigning) scan
 abbrev pub IsBegun : Assigning → AssignScan → Type 0
 IsBegun assigning scan = (held scan ≡ 0) × ((behind : List Item) (item : Item) (more : List Item) → rest scan behind item more ≡ assignment assigning (item ∷ more))
 
+-- the assignment that a scan has made, once that is whole
+abbrev pub made : AssignScan → Assignment
+made scan = record { place = scan.place; change = scan.change }
+
+-- an answer, with what the scan has made
+abbrev pub told : AssignScan → Fed (Unit {0}) → Fed Assignment
+told scan answer = mapped (λ _. made scan) answer
+
+-- an answer to one more token says what reading on gives
+abbrev pub IsFed : AssignScan → Seen → AssignScan → Fed (Unit {0}) → Type 0
+IsFed old t new answer = IsFedBy rest held old t new (told new answer)
+
+-- an answer to a value says what reading on gives behind the token that was taken last
+abbrev pub IsGiven : AssignScan → Value → Seen → AssignScan → Fed (Unit {0}) → Type 0
+IsGiven old v t new answer = IsGivenBehind rest held old v t new (told new answer)
+
 -- an answer to this token says what reading gives of the items behind it
-abbrev pub IsAssigning : ℕ → (List Item → Reading Assignment) → Seen → AssignScan → Fed Assignment → Type 0
-IsAssigning most reading t scan answer = IsAnswer rest held most reading t scan answer
+abbrev pub IsAssigning : ℕ → (List Item → Reading Assignment) → Seen → AssignScan → Fed (Unit {0}) → Type 0
+IsAssigning most reading t scan answer = IsAnswer rest held most reading t scan (told scan answer)
 
 -- the same where this token may be held or given back
-abbrev pub IsBehind : (List Item → Reading Assignment) → Seen → AssignScan → Fed Assignment → Type 0
-IsBehind reading t new answer = IsRead rest held 1 reading (Took t ∷ []) new answer
+abbrev pub IsBehind : (List Item → Reading Assignment) → Seen → AssignScan → Fed (Unit {0}) → Type 0
+IsBehind reading t new answer = IsRead rest held 1 reading (Took t ∷ []) new (told new answer)
 
 -- where glue needs a value, it reads a size or internal glue
 abbrev pub IsValued : AssignStage → AssignScan → Type 0
@@ -110,12 +129,12 @@ IsValued stage.List scan = Unit {0}
 abbrev pub IsWaiting : AssignScan → Type 0
 IsWaiting scan = IsValued scan.stage scan × (held scan ≤ 1)
 
-abbrev pub WaitsIfNeeded : AssignScan → Fed Assignment → Type 0
+abbrev pub WaitsIfNeeded : {A : Type 0} → AssignScan → Fed A → Type 0
 WaitsIfNeeded scan (fed.More want) = Unit {0}
 WaitsIfNeeded scan (fed.Need kind) = IsWaiting scan
-WaitsIfNeeded scan (fed.Done assignment back) = Unit {0}
+WaitsIfNeeded scan (fed.Done value back) = Unit {0}
 WaitsIfNeeded scan (fed.Wrong error) = Unit {0}
 
 -- the scan of no assignment yet
 abbrev pub no_assignment : AssignScan
-no_assignment = record { stage = stage.LetName; place = Count 0; integer = integers.begun_integer; size = sizes.begun_size lengths; glue = glues.begun_glue false }
+no_assignment = record { stage = stage.LetName; place = Count 0; change = Text; integer = integers.begun_integer; size = sizes.begun_size lengths; glue = glues.begun_glue false }

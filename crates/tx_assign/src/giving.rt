@@ -3,25 +3,25 @@ ghost use Rattle.std.specs.Prelude.{◌≡◌, ◌≤◌, ◌∷◌, ◌++◌, [
 ghost use Rattle.tx_seen.specs.declared.item.Item.{Item};
 ghost use Rattle.tx_seen.specs.declared.item.Item.TheVariants.{Gave, Took};
 ghost use Rattle.tx_seen.specs.Readings.{Answers, last};
-ghost use Rattle.tx_scan.specs.Rests.{IsGivenBehind, IsGivenBy};
+ghost use Rattle.tx_scan.specs.Rests.{IsGivenBy};
 ghost use Rattle.tx_scan.specs.Supplied.{NeedsFewer};
 ghost use Rattle.tx_assign.specs.Assignments.{assignment};
 ghost use Rattle.tx_assign.specs.declared.types.Assigning.{Assigning};
-ghost use Rattle.tx_assign.specs.Rests.{HasTaken, IsWaiting, WaitsIfNeeded, held, more_needed, rest};
+ghost use Rattle.tx_assign.specs.Rests.{HasTaken, IsGiven, IsWaiting, WaitsIfNeeded, held, more_needed, rest, told};
 
 use crate::scan::{AssignScan, AssignStage};
-use crate::types::{Assignment, Purpose};
+use crate::types::Purpose;
 use std::alloc::AllocError;
 use tx_prim::{Numbered, Operation};
 use tx_seen::{Fed, Seen, TexError, Value};
 
 impl AssignScan {
-    /// Takes the value that it needs, where this token was taken last. The answer is what reading gives of all that was taken. Its
-    /// only error is want of memory.
-    pub fn give(&mut self, value: &Value, behind: &Seen) -> Result<Fed<Assignment>, AllocError>
+    /// Takes the value that it needs, where this token was taken last. The answer, with what the scan has made, is what reading
+    /// gives of all that was taken. Its only error is want of memory.
+    pub fn give(&mut self, value: &Value, behind: &Seen) -> Result<Fed<()>, AllocError>
         requires waits { IsWaiting self.old }
-        ensures answer { (assigning : Assigning) → (taken : List Item) → HasTaken assigning self.old taken → last 1 taken ≡ Took behind.now ∷ [] → IfOk result (Answers (assignment assigning) (HasTaken assigning) (taken ++ Gave value.now ∷ []) self.new) }
-        ensures part { IfOk result (IsGivenBehind rest held self.old value.now behind.now self.new) }
+        ensures answer { (assigning : Assigning) → (taken : List Item) → HasTaken assigning self.old taken → last 1 taken ≡ Took behind.now ∷ [] → IfOk result (λ fed. Answers (assignment assigning) (HasTaken assigning) (taken ++ Gave value.now ∷ []) self.new (told self.new fed)) }
+        ensures part { IfOk result (IsGiven self.old value.now behind.now self.new) }
         ensures fewer { IfOk result (NeedsFewer (more_needed self.old) (more_needed self.new)) }
         ensures waits { IfOk result (WaitsIfNeeded self.new) }
     {
@@ -29,9 +29,9 @@ impl AssignScan {
     }
 
     /// What it is behind a value. Its only error is want of memory.
-    fn behind_value(&mut self, value: &Value, behind: &Seen) -> Result<Fed<Assignment>, AllocError>
+    fn behind_value(&mut self, value: &Value, behind: &Seen) -> Result<Fed<()>, AllocError>
         requires waits { IsWaiting self.old }
-        ensures part { IfOk result (IsGivenBehind rest held self.old value.now behind.now self.new) }
+        ensures part { IfOk result (IsGiven self.old value.now behind.now self.new) }
         ensures fewer { IfOk result (NeedsFewer (more_needed self.old) (more_needed self.new)) }
         ensures waits { IfOk result (WaitsIfNeeded self.new) }
     {
@@ -39,7 +39,7 @@ impl AssignScan {
             AssignStage::Number(kind, operation) => {
                 self.give_number(kind, operation, value, behind)
             }
-            AssignStage::Integer(purpose) => self.give_integer(purpose, value),
+            AssignStage::Integer(purpose) => Ok(self.give_integer(purpose, value)),
             AssignStage::LetName | AssignStage::LetBehindName => {
                 Ok(Fed::Wrong(TexError::MissingName))
             }
@@ -62,10 +62,10 @@ impl AssignScan {
         operation: Option<Operation>,
         value: &Value,
         behind: &Seen,
-    ) -> Result<Fed<Assignment>, AllocError>
+    ) -> Result<Fed<()>, AllocError>
         requires stage { self.old.stage ≡ AssignStage.Number kind operation }
         requires few { held self.old ≤ 1 }
-        ensures part { IfOk result (IsGivenBehind rest held self.old value.now behind.now self.new) }
+        ensures part { IfOk result (IsGiven self.old value.now behind.now self.new) }
         ensures fewer { IfOk result (NeedsFewer (more_needed self.old) (more_needed self.new)) }
         ensures waits { IfOk result (WaitsIfNeeded self.new) }
     {
@@ -78,38 +78,34 @@ impl AssignScan {
         }
     }
 
-    /// The value that a number waits for. Its only error is want of memory.
-    fn give_integer(
-        &mut self,
-        purpose: Purpose,
-        value: &Value,
-    ) -> Result<Fed<Assignment>, AllocError>
+    /// The value that a number waits for.
+    fn give_integer(&mut self, purpose: Purpose, value: &Value) -> Fed<()>
         requires stage { self.old.stage ≡ AssignStage.Integer purpose }
         requires few { held self.old ≤ 1 }
-        ensures part { IfOk result (IsGivenBy rest held self.old value.now self.new) }
-        ensures fewer { IfOk result (NeedsFewer (more_needed self.old) (more_needed self.new)) }
-        ensures waits { IfOk result (WaitsIfNeeded self.new) }
+        ensures part { IsGivenBy rest held self.old value.now self.new (told self.new result) }
+        ensures fewer { NeedsFewer (more_needed self.old) (more_needed self.new) result }
+        ensures waits { WaitsIfNeeded self.new result }
     {
         match self.integer.give(value) {
-            Fed::More(want) => Ok(Fed::More(want)),
-            Fed::Need(wanted) => Ok(Fed::Need(wanted)),
+            Fed::More(want) => Fed::More(want),
+            Fed::Need(wanted) => Fed::Need(wanted),
             Fed::Done(number, back) => self.end_integer(purpose, number, back),
-            Fed::Wrong(error) => Ok(Fed::Wrong(error)),
+            Fed::Wrong(error) => Fed::Wrong(error),
         }
     }
 
     /// The value that a size waits for. Its only error is want of memory.
-    fn give_size(&mut self, purpose: Purpose, value: &Value) -> Result<Fed<Assignment>, AllocError>
+    fn give_size(&mut self, purpose: Purpose, value: &Value) -> Result<Fed<()>, AllocError>
         requires stage { self.old.stage ≡ AssignStage.Size purpose }
         requires few { held self.old ≤ 1 }
-        ensures part { IfOk result (IsGivenBy rest held self.old value.now self.new) }
+        ensures part { IfOk result (λ fed. IsGivenBy rest held self.old value.now self.new (told self.new fed)) }
         ensures fewer { IfOk result (NeedsFewer (more_needed self.old) (more_needed self.new)) }
         ensures waits { IfOk result (WaitsIfNeeded self.new) }
     {
         match self.size.give(value)? {
             Fed::More(want) => Ok(Fed::More(want)),
             Fed::Need(wanted) => Ok(Fed::Need(wanted)),
-            Fed::Done(measure, back) => self.end_size(purpose, measure, back),
+            Fed::Done(measure, back) => Ok(self.end_size(purpose, measure, back)),
             Fed::Wrong(error) => Ok(Fed::Wrong(error)),
         }
     }
@@ -120,17 +116,17 @@ impl AssignScan {
         purpose: Purpose,
         value: &Value,
         behind: &Seen,
-    ) -> Result<Fed<Assignment>, AllocError>
+    ) -> Result<Fed<()>, AllocError>
         requires stage { self.old.stage ≡ AssignStage.Glue purpose }
         requires waits { IsWaiting self.old }
-        ensures part { IfOk result (IsGivenBehind rest held self.old value.now behind.now self.new) }
+        ensures part { IfOk result (IsGiven self.old value.now behind.now self.new) }
         ensures fewer { IfOk result (NeedsFewer (more_needed self.old) (more_needed self.new)) }
         ensures waits { IfOk result (WaitsIfNeeded self.new) }
     {
         match self.glue.give(value, behind)? {
             Fed::More(want) => Ok(Fed::More(want)),
             Fed::Need(wanted) => Ok(Fed::Need(wanted)),
-            Fed::Done(glue, back) => self.end_glue(purpose, glue, back),
+            Fed::Done(glue, back) => Ok(self.end_glue(purpose, glue, back)),
             Fed::Wrong(error) => Ok(Fed::Wrong(error)),
         }
     }

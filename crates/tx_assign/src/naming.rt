@@ -9,7 +9,7 @@ ghost use Rattle.tx_assign.specs.Assignments as spec;
 ghost use Rattle.tx_assign.specs.Rests.{IsAssigning, WaitsIfNeeded, more_needed};
 
 use crate::scan::{AssignScan, AssignStage};
-use crate::types::{Assignment, Change};
+use crate::types::Change;
 use std::alloc::AllocError;
 use tx_eqtb::Entry;
 use tx_scan::NameScan;
@@ -18,7 +18,7 @@ use tx_seen::{Fed, Seen, Want};
 // The only error of each of these is that no more owners of a name or a meaning can be counted.
 impl AssignScan {
     /// The scan goes on with this stage, for which the next token is taken as it stands.
-    fn raw(&mut self, stage: AssignStage) -> Fed<Assignment>
+    fn raw(&mut self, stage: AssignStage) -> Fed<()>
         ensures scan { self.new ≡ record self.old { stage = stage } }
         ensures answer { result ≡ Fed.More Want.Raw }
     {
@@ -26,18 +26,8 @@ impl AssignScan {
         Fed::More(Want::Raw)
     }
 
-    /// The place is to mean what a token means.
-    fn let_to(&self, token: &Seen) -> Result<Assignment, AllocError>
-        ensures { IfOk result (λ assignment. assignment ≡ spec.let_to self.now.place token.now) }
-    {
-        Ok(Assignment {
-            place: self.place.clone()?,
-            change: Change::Set(Entry::Means(token.meaning.clone()?)),
-        })
-    }
-
     /// The name that is defined.
-    pub(crate) fn feed_name(&mut self, token: &Seen) -> Result<Fed<Assignment>, AllocError>
+    pub(crate) fn feed_name(&mut self, token: &Seen) -> Result<Fed<()>, AllocError>
         requires { self.old.stage ≡ AssignStage.LetName }
         ensures answer { IfOk result (IsAssigning 0 (λ more. next (name (Took token.now ∷ more)) spec.let_behind_name) token.now self.new) }
         ensures needed { IfOk result (NeedsNoMore (waiting self.old.integer) (more_needed self.new)) }
@@ -56,7 +46,7 @@ impl AssignScan {
     }
 
     /// Spaces, an optional `=`, or the token that the name is to be like.
-    pub(crate) fn feed_behind_name(&mut self, token: &Seen) -> Result<Fed<Assignment>, AllocError>
+    pub(crate) fn feed_behind_name(&mut self, token: &Seen) -> Result<Fed<()>, AllocError>
         ensures answer { IfOk result (IsAssigning 0 (λ more. spec.let_behind_name self.old.place (Took token.now ∷ more)) token.now self.new) }
         ensures needed { IfOk result (NeedsNoMore (waiting self.old.integer) (more_needed self.new)) }
         ensures waits { IfOk result (WaitsIfNeeded self.new) }
@@ -67,12 +57,12 @@ impl AssignScan {
         if token.is_other(b'=') {
             return Ok(self.raw(AssignStage::LetBehindEquals));
         }
-        let assignment = self.let_to(token)?;
-        Ok(Fed::Done(assignment, 0))
+        let meaning = token.meaning.clone()?;
+        Ok(self.end(Change::Set(Entry::Means(meaning)), 0))
     }
 
     /// An optional space behind the `=`, or the token that the name is to be like.
-    pub(crate) fn feed_behind_equals(&mut self, token: &Seen) -> Result<Fed<Assignment>, AllocError>
+    pub(crate) fn feed_behind_equals(&mut self, token: &Seen) -> Result<Fed<()>, AllocError>
         ensures answer { IfOk result (IsAssigning 0 (λ more. spec.let_behind_equals self.old.place (Took token.now ∷ more)) token.now self.new) }
         ensures needed { IfOk result (NeedsNoMore (waiting self.old.integer) (more_needed self.new)) }
         ensures waits { IfOk result (WaitsIfNeeded self.new) }
@@ -80,17 +70,17 @@ impl AssignScan {
         if token.is_space() {
             return Ok(self.raw(AssignStage::LetToken));
         }
-        let assignment = self.let_to(token)?;
-        Ok(Fed::Done(assignment, 0))
+        let meaning = token.meaning.clone()?;
+        Ok(self.end(Change::Set(Entry::Means(meaning)), 0))
     }
 
     /// The token that the name is to be like.
-    pub(crate) fn feed_token(&mut self, token: &Seen) -> Result<Fed<Assignment>, AllocError>
+    pub(crate) fn feed_token(&mut self, token: &Seen) -> Result<Fed<()>, AllocError>
         ensures answer { IfOk result (IsAssigning 0 (λ more. spec.let_token self.old.place (Took token.now ∷ more)) token.now self.new) }
         ensures needed { IfOk result (NeedsNoMore (waiting self.old.integer) (more_needed self.new)) }
         ensures waits { IfOk result (WaitsIfNeeded self.new) }
     {
-        let assignment = self.let_to(token)?;
-        Ok(Fed::Done(assignment, 0))
+        let meaning = token.meaning.clone()?;
+        Ok(self.end(Change::Set(Entry::Means(meaning)), 0))
     }
 }

@@ -1,6 +1,6 @@
 //! How far the scan of an assignment is.
 
-use crate::types::Purpose;
+use crate::types::{Change, Purpose};
 use tx_prim::{Numbered, Operation};
 use tx_scan::{DimenScan, GlueScan, IntScan, KeyScan};
 use tx_seen::Place;
@@ -34,12 +34,14 @@ pub enum AssignStage {
     List,
 }
 
-/// An assignment that is being scanned.
+/// An assignment that is being scanned. What it has made stays in it until that is taken, so that no answer is larger than a token.
 #[derive(Drop)]
 pub struct AssignScan {
     pub(crate) stage: AssignStage,
     /// What is assigned to; until that is read, some place.
     pub(crate) place: Place,
+    /// What becomes of that, once the assignment is whole.
+    pub(crate) change: Change,
     /// The number of a register or a code, and then the value.
     pub(crate) integer: IntScan,
     /// The value, where it is a size.

@@ -4,16 +4,16 @@ ghost use Rattle.tx_seen.specs.declared.item.Item.{Item};
 ghost use Rattle.tx_seen.specs.declared.item.Item.TheVariants.{Took};
 ghost use Rattle.tx_seen.specs.declared.seen.Seen.{Seen};
 ghost use Rattle.tx_seen.specs.Readings.{Answers};
-ghost use Rattle.tx_scan.specs.Rests.{IsFedBy};
 ghost use Rattle.tx_scan.specs.Supplied.{NeedsNoMore};
 ghost use Rattle.tx_scan.specs.IntegerRests.{begun_integer, waiting};
 ghost use Rattle.tx_assign.specs.Assignments.{assignment, arithmetic, behind_place, given, left_side, value};
 ghost use Rattle.tx_assign.specs.declared.types.Assigning.{Assigning};
-ghost use Rattle.tx_assign.specs.Rests.{HasTaken, IsAssigning, IsBegun, IsBehind, WaitsIfNeeded, by_rest, held, more_needed, no_assignment, rest};
+ghost use Rattle.tx_assign.specs.Rests.{HasTaken, IsAssigning, IsBegun, IsBehind, IsFed, WaitsIfNeeded, by_rest, made, more_needed, no_assignment, told};
 
 use crate::scan::{AssignScan, AssignStage};
-use crate::types::{Assigning, Assignment, Purpose, Variable};
+use crate::types::{Assigning, Assignment, Change, Purpose, Variable};
 use std::alloc::{AllocError, Global};
+use std::mem::replace;
 use tx_prim::Operation;
 use tx_scan::{DimenScan, EqualsScan, GlueScan, IntScan, KeyScan};
 use tx_seen::{Fed, Place, Seen, TexError, Want};
@@ -33,6 +33,7 @@ impl AssignScan {
         AssignScan {
             stage: AssignStage::LetName,
             place: unread(),
+            change: Change::Text,
             integer: IntScan::new(alloc),
             size: DimenScan::new(alloc, false, false),
             glue: GlueScan::new(alloc, false),
@@ -71,20 +72,31 @@ impl AssignScan {
         self.integer.restart();
     }
 
-    /// Takes one token, at first and after More. The answer is what reading gives of all that was taken. Its only error is
-    /// want of memory.
-    pub fn feed(&mut self, token: &Seen) -> Result<Fed<Assignment>, AllocError>
-        ensures answer { (assigning : Assigning) → (taken : List Item) → HasTaken assigning self.old taken → IfOk result (Answers (assignment assigning) (HasTaken assigning) (taken ++ Took token.now ∷ []) self.new) }
-        ensures part { IfOk result (IsFedBy rest held self.old token.now self.new) }
+    /// Takes one token, at first and after More. The answer, with what the scan has made, is what reading gives of all that was
+    /// taken. Its only error is want of memory.
+    pub fn feed(&mut self, token: &Seen) -> Result<Fed<()>, AllocError>
+        ensures answer { (assigning : Assigning) → (taken : List Item) → HasTaken assigning self.old taken → IfOk result (λ fed. Answers (assignment assigning) (HasTaken assigning) (taken ++ Took token.now ∷ []) self.new (told self.new fed)) }
+        ensures part { IfOk result (IsFed self.old token.now self.new) }
         ensures needed { IfOk result (NeedsNoMore (more_needed self.old) (more_needed self.new)) }
         ensures waits { IfOk result (WaitsIfNeeded self.new) }
     {
         self.behind(token)
     }
 
+    /// Takes out the assignment that it has made, once its answer was Done.
+    pub fn take(&mut self) -> Assignment
+        ensures taken { result ≡ made self.old }
+        ensures left { self.new ≡ record self.old { place = Place.Count 0; change = Change.Text } }
+    {
+        Assignment {
+            place: replace(&mut self.place, unread()),
+            change: replace(&mut self.change, Change::Text),
+        }
+    }
+
     /// What it is behind one more token. Its only error is want of memory.
-    fn behind(&mut self, token: &Seen) -> Result<Fed<Assignment>, AllocError>
-        ensures part { IfOk result (IsFedBy rest held self.old token.now self.new) }
+    fn behind(&mut self, token: &Seen) -> Result<Fed<()>, AllocError>
+        ensures part { IfOk result (IsFed self.old token.now self.new) }
         ensures needed { IfOk result (NeedsNoMore (more_needed self.old) (more_needed self.new)) }
         ensures waits { IfOk result (WaitsIfNeeded self.new) }
     {
@@ -100,7 +112,7 @@ impl AssignScan {
             AssignStage::Integer(purpose) => self.feed_integer(purpose, token),
             AssignStage::Size(purpose) => self.feed_size(purpose, token),
             AssignStage::Glue(purpose) => self.feed_glue(purpose, token),
-            AssignStage::List => self.feed_list(token),
+            AssignStage::List => Ok(self.feed_list(token)),
         }
     }
 
@@ -111,8 +123,17 @@ impl AssignScan {
         self.place = place;
     }
 
+    /// The assignment is whole: this becomes of its place. So many tokens behind it are given back.
+    pub(crate) fn end(&mut self, change: Change, back: usize) -> Fed<()>
+        ensures scan { self.new ≡ record self.old { change = change } }
+        ensures answer { result ≡ Fed.Done tt back }
+    {
+        drop(replace(&mut self.change, change));
+        Fed::Done((), back)
+    }
+
     /// The scan goes on with this stage, for which the next token is expanded.
-    pub(crate) fn on(&mut self, stage: AssignStage) -> Fed<Assignment>
+    pub(crate) fn on(&mut self, stage: AssignStage) -> Fed<()>
         ensures scan { self.new ≡ record self.old { stage = stage } }
         ensures answer { result ≡ Fed.More Want.Expanded }
     {
@@ -121,7 +142,7 @@ impl AssignScan {
     }
 
     /// What comes behind the place on a left side.
-    pub(crate) fn to_place(&mut self, operation: Option<Operation>) -> Fed<Assignment>
+    pub(crate) fn to_place(&mut self, operation: Option<Operation>) -> Fed<()>
         ensures answer { (t : Seen) → IsAssigning 0 (λ more. behind_place operation self.old.place more) t self.new result }
         ensures needed { NeedsNoMore (waiting self.old.integer) (more_needed self.new) result }
         ensures waits { WaitsIfNeeded self.new result }
@@ -137,7 +158,7 @@ impl AssignScan {
         &mut self,
         operation: Option<Operation>,
         token: &Seen,
-    ) -> Result<Fed<Assignment>, AllocError>
+    ) -> Result<Fed<()>, AllocError>
         ensures answer { IfOk result (IsBehind (λ more. behind_place operation self.old.place (Took token.now ∷ more)) token.now self.new) }
         ensures needed { IfOk result (NeedsNoMore (waiting self.old.integer) (more_needed self.new)) }
         ensures waits { IfOk result (WaitsIfNeeded self.new) }
@@ -149,7 +170,7 @@ impl AssignScan {
     }
 
     /// What comes behind the command on the left side that an operation changes.
-    fn to_side(&mut self, operation: Operation, side: Variable) -> Fed<Assignment>
+    fn to_side(&mut self, operation: Operation, side: Variable) -> Fed<()>
         ensures answer { (t : Seen) → IsAssigning 0 (λ more. left_side (Some operation) side more) t self.new result }
         ensures needed { NeedsNoMore (waiting self.old.integer) (more_needed self.new) result }
         ensures waits { WaitsIfNeeded self.new result }
@@ -167,7 +188,7 @@ impl AssignScan {
     }
 
     /// What \advance and its kin change.
-    fn feed_operand(&mut self, operation: Operation, token: &Seen) -> Fed<Assignment>
+    fn feed_operand(&mut self, operation: Operation, token: &Seen) -> Fed<()>
         ensures answer { IsAssigning 0 (λ more. arithmetic operation (Took token.now ∷ more)) token.now self.new result }
         ensures needed { NeedsNoMore (waiting self.old.integer) (more_needed self.new) result }
         ensures waits { WaitsIfNeeded self.new result }
@@ -186,7 +207,7 @@ impl AssignScan {
     }
 
     /// An optional `=`, or the first token of the value. Its only error is want of memory.
-    fn feed_equals(&mut self, purpose: Purpose, token: &Seen) -> Result<Fed<Assignment>, AllocError>
+    fn feed_equals(&mut self, purpose: Purpose, token: &Seen) -> Result<Fed<()>, AllocError>
         ensures answer { IfOk result (IsBehind (λ more. given purpose self.old.place (Took token.now ∷ more)) token.now self.new) }
         ensures needed { IfOk result (NeedsNoMore (waiting self.old.integer) (more_needed self.new)) }
         ensures waits { IfOk result (WaitsIfNeeded self.new) }
@@ -210,7 +231,7 @@ impl AssignScan {
         operation: Operation,
         word: KeyScan,
         token: &Seen,
-    ) -> Result<Fed<Assignment>, AllocError>
+    ) -> Result<Fed<()>, AllocError>
         ensures answer { IfOk result (IsBehind (λ more. by_rest word operation self.old.place (Took token.now) more) token.now self.new) }
         ensures needed { IfOk result (NeedsNoMore (waiting self.old.integer) (more_needed self.new)) }
         ensures waits { IfOk result (WaitsIfNeeded self.new) }

@@ -4,16 +4,16 @@ ghost use Rattle.tx_seen.specs.declared.item.Item.{Item};
 ghost use Rattle.tx_seen.specs.declared.item.Item.TheVariants.{Took};
 ghost use Rattle.tx_seen.specs.declared.seen.Seen.{Seen};
 ghost use Rattle.tx_seen.specs.Readings.{next};
-ghost use Rattle.tx_scan.specs.Rests.{IsEnd, IsFedBy, IsRead};
+ghost use Rattle.tx_scan.specs.Rests.{IsEnd, IsRead};
 ghost use Rattle.tx_scan.specs.Supplied.{NeedsNoMore};
 ghost use Rattle.tx_scan.specs.IntegerRests as integers;
 ghost use Rattle.tx_scan.specs.DimensionRests as sizes;
 ghost use Rattle.tx_scan.specs.GlueRests as glues;
 ghost use Rattle.tx_assign.specs.Assignments.{behind_number, elastic, number_value, sized, value, valued};
-ghost use Rattle.tx_assign.specs.Rests.{IsAssigning, IsBehind, WaitsIfNeeded, held, more_needed, rest};
+ghost use Rattle.tx_assign.specs.Rests.{IsAssigning, IsBehind, IsFed, WaitsIfNeeded, held, more_needed, rest, told};
 
 use crate::scan::{AssignScan, AssignStage};
-use crate::types::{Assignment, Purpose};
+use crate::types::Purpose;
 use std::alloc::AllocError;
 use tx_num::Glue;
 use tx_prim::{Numbered, Operation};
@@ -23,7 +23,7 @@ use tx_seen::{Fed, Place, Seen, TexError};
 // The only error of each of these is want of memory.
 impl AssignScan {
     /// A value comes next.
-    pub(crate) fn to_value(&mut self, purpose: Purpose) -> Fed<Assignment>
+    pub(crate) fn to_value(&mut self, purpose: Purpose) -> Fed<()>
         ensures answer { (t : Seen) → IsAssigning 0 (λ more. value purpose self.old.place more) t self.new result }
         ensures needed { NeedsNoMore (integers.waiting self.old.integer) (more_needed self.new) result }
         ensures waits { WaitsIfNeeded self.new result }
@@ -36,7 +36,7 @@ impl AssignScan {
     }
 
     /// A number, a size or glue comes next.
-    fn to_number(&mut self, purpose: Purpose) -> Fed<Assignment>
+    fn to_number(&mut self, purpose: Purpose) -> Fed<()>
         ensures answer { (t : Seen) → IsAssigning 0 (λ more. number_value purpose self.old.place more) t self.new result }
         ensures needed { NeedsNoMore (integers.waiting self.old.integer) (more_needed self.new) result }
         ensures waits { WaitsIfNeeded self.new result }
@@ -58,20 +58,20 @@ impl AssignScan {
         &mut self,
         purpose: Purpose,
         token: &Seen,
-    ) -> Result<Fed<Assignment>, AllocError>
+    ) -> Result<Fed<()>, AllocError>
         ensures answer { IfOk result (IsBehind (λ more. value purpose self.old.place (Took token.now ∷ more)) token.now self.new) }
         ensures needed { IfOk result (NeedsNoMore (integers.waiting self.old.integer) (more_needed self.new)) }
         ensures waits { IfOk result (WaitsIfNeeded self.new) }
     {
         if purpose.takes_list(&self.place) {
-            self.feed_list(token)
+            Ok(self.feed_list(token))
         } else {
             self.feed_first(purpose, token)
         }
     }
 
     /// The first token of a number, a size or glue.
-    fn feed_first(&mut self, purpose: Purpose, token: &Seen) -> Result<Fed<Assignment>, AllocError>
+    fn feed_first(&mut self, purpose: Purpose, token: &Seen) -> Result<Fed<()>, AllocError>
         ensures answer { IfOk result (IsBehind (λ more. number_value purpose self.old.place (Took token.now ∷ more)) token.now self.new) }
         ensures needed { IfOk result (NeedsNoMore (integers.waiting self.old.integer) (more_needed self.new)) }
         ensures waits { IfOk result (WaitsIfNeeded self.new) }
@@ -93,7 +93,7 @@ impl AssignScan {
         &mut self,
         purpose: Purpose,
         token: &Seen,
-    ) -> Result<Fed<Assignment>, AllocError>
+    ) -> Result<Fed<()>, AllocError>
         ensures answer { IfOk result (λ answer. (behind : List Item) → IsAssigning (integers.most self.old.integer) (λ more. next (integers.rest self.old.integer behind (Took token.now) more) (valued purpose self.old.place)) token.now self.new answer) }
         ensures needed { IfOk result (NeedsNoMore (integers.waiting self.old.integer) (more_needed self.new)) }
         ensures waits { IfOk result (WaitsIfNeeded self.new) }
@@ -102,26 +102,20 @@ impl AssignScan {
         match self.integer.feed(token)? {
             Fed::More(want) => Ok(Fed::More(want)),
             Fed::Need(kind) => Ok(Fed::Need(kind)),
-            Fed::Done(number, back) => self.end_integer(purpose, number, back),
+            Fed::Done(number, back) => Ok(self.end_integer(purpose, number, back)),
             Fed::Wrong(error) => Ok(Fed::Wrong(error)),
         }
     }
 
     /// The number is whole; so many tokens behind it are given back.
-    pub(crate) fn end_integer(
-        &self,
-        purpose: Purpose,
-        number: i64,
-        back: usize,
-    ) -> Result<Fed<Assignment>, AllocError>
-        ensures { IfOk result (IsEnd (λ more. valued purpose self.now.place number more) back) }
+    pub(crate) fn end_integer(&mut self, purpose: Purpose, number: i64, back: usize) -> Fed<()>
+        ensures { IsEnd (λ more. valued purpose self.old.place number more) back (told self.new result) }
     {
         if !purpose.takes(&self.place, number) {
-            return Ok(Fed::Wrong(TexError::NumberOutOfRange));
+            return Fed::Wrong(TexError::NumberOutOfRange);
         }
         let change = purpose.change_by(&self.place, number);
-        let place = self.place.clone()?;
-        Ok(Fed::Done(Assignment { place, change }, back))
+        self.end(change, back)
     }
 
     /// A size that is given.
@@ -129,7 +123,7 @@ impl AssignScan {
         &mut self,
         purpose: Purpose,
         token: &Seen,
-    ) -> Result<Fed<Assignment>, AllocError>
+    ) -> Result<Fed<()>, AllocError>
         ensures answer { IfOk result (λ answer. (behind : List Item) → IsAssigning (sizes.most self.old.size) (λ more. next (sizes.rest self.old.size behind (Took token.now) more) (sized purpose self.old.place)) token.now self.new answer) }
         ensures needed { IfOk result (NeedsNoMore (sizes.more_needed self.old.size) (more_needed self.new)) }
         ensures waits { IfOk result (WaitsIfNeeded self.new) }
@@ -138,25 +132,19 @@ impl AssignScan {
         match self.size.feed(token)? {
             Fed::More(want) => Ok(Fed::More(want)),
             Fed::Need(kind) => Ok(Fed::Need(kind)),
-            Fed::Done(measure, back) => self.end_size(purpose, measure, back),
+            Fed::Done(measure, back) => Ok(self.end_size(purpose, measure, back)),
             Fed::Wrong(error) => Ok(Fed::Wrong(error)),
         }
     }
 
     /// The size is whole; so many tokens behind it are given back.
-    pub(crate) fn end_size(
-        &self,
-        purpose: Purpose,
-        measure: Measure,
-        back: usize,
-    ) -> Result<Fed<Assignment>, AllocError>
+    pub(crate) fn end_size(&mut self, purpose: Purpose, measure: Measure, back: usize) -> Fed<()>
         requires low { neg_ℤ (pos 1073741823) ≤ℤ measure.size }
         requires high { measure.size ≤ℤ pos 1073741823 }
-        ensures { IfOk result (IsEnd (λ more. sized purpose self.now.place measure more) back) }
+        ensures { IsEnd (λ more. sized purpose self.old.place measure more) back (told self.new result) }
     {
         let change = purpose.change_by_size(measure.size);
-        let place = self.place.clone()?;
-        Ok(Fed::Done(Assignment { place, change }, back))
+        self.end(change, back)
     }
 
     /// Glue that is given.
@@ -164,8 +152,8 @@ impl AssignScan {
         &mut self,
         purpose: Purpose,
         token: &Seen,
-    ) -> Result<Fed<Assignment>, AllocError>
-        ensures answer { IfOk result (λ answer. (behind : List Item) → length behind ≤ glues.held self.old.glue → IsRead rest held (glues.held self.old.glue + 1) (λ more. next (glues.rest self.old.glue behind (Took token.now) more) (elastic purpose self.old.place)) (behind ++ Took token.now ∷ []) self.new answer) }
+    ) -> Result<Fed<()>, AllocError>
+        ensures answer { IfOk result (λ answer. (behind : List Item) → length behind ≤ glues.held self.old.glue → IsRead rest held (glues.held self.old.glue + 1) (λ more. next (glues.rest self.old.glue behind (Took token.now) more) (elastic purpose self.old.place)) (behind ++ Took token.now ∷ []) self.new (told self.new answer)) }
         ensures needed { IfOk result (NeedsNoMore (glues.more_needed self.old.glue) (more_needed self.new)) }
         ensures waits { IfOk result (WaitsIfNeeded self.new) }
     {
@@ -173,23 +161,17 @@ impl AssignScan {
         match self.glue.feed(token)? {
             Fed::More(want) => Ok(Fed::More(want)),
             Fed::Need(kind) => Ok(Fed::Need(kind)),
-            Fed::Done(glue, back) => self.end_glue(purpose, glue, back),
+            Fed::Done(glue, back) => Ok(self.end_glue(purpose, glue, back)),
             Fed::Wrong(error) => Ok(Fed::Wrong(error)),
         }
     }
 
     /// The glue is whole; so many tokens behind it are given back.
-    pub(crate) fn end_glue(
-        &self,
-        purpose: Purpose,
-        glue: Glue,
-        back: usize,
-    ) -> Result<Fed<Assignment>, AllocError>
-        ensures { IfOk result (IsEnd (λ more. elastic purpose self.now.place glue more) back) }
+    pub(crate) fn end_glue(&mut self, purpose: Purpose, glue: Glue, back: usize) -> Fed<()>
+        ensures { IsEnd (λ more. elastic purpose self.old.place glue more) back (told self.new result) }
     {
         let change = purpose.change_by_glue(glue);
-        let place = self.place.clone()?;
-        Ok(Fed::Done(Assignment { place, change }, back))
+        self.end(change, back)
     }
 
     /// The number of a register or a code, or what ends it.
@@ -198,9 +180,9 @@ impl AssignScan {
         kind: Numbered,
         operation: Option<Operation>,
         token: &Seen,
-    ) -> Result<Fed<Assignment>, AllocError>
+    ) -> Result<Fed<()>, AllocError>
         requires { self.old.stage ≡ AssignStage.Number kind operation }
-        ensures part { IfOk result (IsFedBy rest held self.old token.now self.new) }
+        ensures part { IfOk result (IsFed self.old token.now self.new) }
         ensures needed { IfOk result (NeedsNoMore (more_needed self.old) (more_needed self.new)) }
         ensures waits { IfOk result (WaitsIfNeeded self.new) }
     {
@@ -219,7 +201,7 @@ impl AssignScan {
         kind: Numbered,
         operation: Option<Operation>,
         number: i64,
-    ) -> Fed<Assignment>
+    ) -> Fed<()>
         ensures answer { (t : Seen) → IsAssigning 0 (λ more. behind_number operation kind number more) t self.new result }
         ensures needed { NeedsNoMore 0 (more_needed self.new) result }
         ensures waits { WaitsIfNeeded self.new result }
@@ -239,7 +221,7 @@ impl AssignScan {
         operation: Option<Operation>,
         number: i64,
         token: &Seen,
-    ) -> Result<Fed<Assignment>, AllocError>
+    ) -> Result<Fed<()>, AllocError>
         ensures answer { IfOk result (IsBehind (λ more. behind_number operation kind number (Took token.now ∷ more)) token.now self.new) }
         ensures needed { IfOk result (NeedsNoMore 0 (more_needed self.new)) }
         ensures waits { IfOk result (WaitsIfNeeded self.new) }

@@ -33,7 +33,7 @@ returns-in-Operand-clause-part c =
 
 pub returns-in-List-clause-part : goal.returns-in-List-clause-part
 returns-in-List-clause-part c =
-    fed-at 0 (λ more. list_value c.args.self.now.place (Took c.args.token.now ∷ more)) c.args.self.now c.feed_list.new.self c.args.token.now c.feed_list.result (lit≤ tt) (λ behind more. rw c.in-List.is refl) c.feed_list.ensures.answer
+    fed-at {E = ⊥} 0 (λ more. list_value c.args.self.now.place (Took c.args.token.now ∷ more)) c.args.self.now c.feed_list.new.self c.args.token.now (Ok c.feed_list.result) (lit≤ tt) (λ behind more. rw c.in-List.is refl) c.feed_list.ensures.answer
 
 pub returns-in-Equals-clause-part : goal.returns-in-Equals-clause-part
 returns-in-Equals-clause-part c =

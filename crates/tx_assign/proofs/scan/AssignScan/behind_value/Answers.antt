@@ -1,3 +1,4 @@
+use Rattle.std.proofs.Common.{Ok}
 use Rattle.tx_assign.specs.Rests.{held}
 use Rattle.tx_scan.specs.Rests.{kept}
 use Rattle.tx_scan.proofs.Behind.{length-kept}
@@ -11,7 +12,7 @@ returns-in-By-clause-part c =
 
 pub returns-in-Integer-clause-part : goal.returns-in-Integer-clause-part
 returns-in-Integer-clause-part c =
-    given-behind-ok c.args.self.now c.give_integer.new.self c.args.value.now c.args.behind.now c.give_integer.result c.requires.waits.1 c.give_integer.ensures.part
+    given-behind-ok {E = ⊥} c.args.self.now c.give_integer.new.self c.args.value.now c.args.behind.now (Ok c.give_integer.result) c.requires.waits.1 c.give_integer.ensures.part
 
 pub returns-in-Size-clause-part : goal.returns-in-Size-clause-part
 returns-in-Size-clause-part c =
