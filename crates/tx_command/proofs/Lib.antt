@@ -1,6 +1,7 @@
 pub mod Leaves
 pub mod Sides
 pub mod Settling
+pub mod Told
 pub mod Stages
 pub mod RuleSteps
 pub mod NameParts

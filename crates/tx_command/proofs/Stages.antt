@@ -26,7 +26,7 @@ use Rattle.tx_seen.specs.declared.item.Item.TheVariants.{Took, Gave}
 use Rattle.tx_seen.specs.declared.place.Place.{Place}
 use Rattle.tx_seen.specs.declared.seen.Seen.{Seen}
 use Rattle.tx_seen.specs.Readings.{Reading, More, Done, Wrong, ending, next}
-use Rattle.tx_scan.specs.Rests.{IsFedBy, IsGivenBehind, HoldsOne}
+use Rattle.tx_scan.specs.Rests.{IsFedBy, IsGivenBehind, IsRead, HoldsOne}
 use Rattle.tx_scan.specs.Supplied.{NeedsNoMore, NeedsFewer, NeedsNothing}
 use Rattle.tx_scan.specs.declared.scans.DimenScan.{DimenScan}
 use Rattle.tx_scan.specs.declared.scans.Measure.{Measure}
@@ -35,9 +35,8 @@ use Rattle.tx_scan.specs.DimensionRests.{begun_size, rest as dimen_rest, held as
 use Rattle.tx_assign.specs.declared.scan.AssignScan.{AssignScan}
 use Rattle.tx_assign.specs.declared.types.Assigning.{Assigning}
 use Rattle.tx_assign.specs.declared.types.Assigning.TheVariants.{Named}
-use Rattle.tx_assign.specs.declared.types.Assignment.{Assignment}
 use Rattle.tx_assign.specs.Assignments.{assignment}
-use Rattle.tx_assign.specs.Rests.{rest as assign_rest, held as assign_held, more_needed as assign_needed, IsBegun, WaitsIfNeeded as WaitsIfAssigning}
+use Rattle.tx_assign.specs.Rests.{rest as assign_rest, held as assign_held, more_needed as assign_needed, told as told_assigning, IsBegun, IsFed as IsAssigned, IsGiven as IsAssignedBehind, WaitsIfNeeded as WaitsIfAssigning}
 use Rattle.tx_shape.specs.declared.types.Shaped.{Shaped}
 use Rattle.tx_shape.specs.declared.types.Shaping.{Shaping}
 use Rattle.tx_shape.specs.declared.types.Shaping.TheVariants as shape_glue
@@ -51,6 +50,8 @@ use Rattle.tx_command.specs.declared.scans.RulePart.TheVariants as rule
 use Rattle.tx_command.specs.declared.scans.Scans.{Scans}
 use Rattle.tx_command.specs.declared.scans.Stage.{Stage}
 use Rattle.tx_command.specs.declared.scans.Stage.TheVariants as stage
+use Rattle.tx_command.specs.declared.scans.Whole.{Whole}
+use Rattle.tx_command.specs.declared.scans.Whole.TheVariants as whole
 use Rattle.tx_command.specs.declared.types.Command.{Command}
 use Rattle.tx_command.specs.declared.types.Command.TheVariants.{Nothing, Assign, Keep, Sized}
 use Rattle.tx_command.specs.declared.types.Head.{Head}
@@ -60,10 +61,11 @@ use Rattle.tx_command.specs.Commands.{command, command_meant, font_defining, fut
 use Rattle.tx_command.specs.Standing.{standing_in}
 use Rattle.tx_scan.proofs.Answering.{ending-none}
 use Rattle.tx_scan.specs.Mapped.{mapped}
-use Rattle.tx_command.specs.Rests.{command_rest, held, more_needed, second_rest, stage_rest, stage_held, rule_needed, Begins, GoesOn, IsBegunBy, IsOn, IsOnAt, IsRuleFed}
+use Rattle.tx_command.specs.Rests.{command_rest, held, more_needed, second_rest, stage_rest, stage_held, rule_needed, told, whole_command, Begins, GoesOn, IsBegunBy, IsOn, IsOnAt, IsRuleFed}
 use Rattle.tx_command.specs.Rules.{plain_rule}
 use Rattle.tx_scan.proofs.Mappings.{Rest, read-none, fed-first, mapped-read, mapped-fed, same-read, needs-mapped, fewer-mapped}
 use Rattle.tx_scan.proofs.Behind.{mapped-behind, none-needs}
+use Rattle.tx_command.proofs.Told.{goes-mapped, plain-goes, plain-needs, told-assigned, told-needs}
 
 -- how many values are needed
 needs-least : {A : Type 0} (few most new : ℕ) (answer : Fed A) → few ≤ most → NeedsNoMore few new answer → NeedsNoMore most new answer
@@ -119,12 +121,25 @@ part-behind part part_held f s mode head was is old new v t answer at_old at_new
     (λ behind item more. ap (λ s. stage_rest mode head s old behind item more) at_old ∙ old_reads behind item more) (ap (λ s. stage_held s old) at_old ∙ old_holds)
     (λ behind item more. ap (λ s. stage_rest mode head s new behind item more) at_new ∙ new_reads behind item more) (ap (λ s. stage_held s new) at_new ∙ new_holds) k
 
--- how many values an assignment, a size and a rule need
-pub assign-needs : (old new : Scans) (answer : Fed Assignment) → old.stage ≡ stage.Assign → new.stage ≡ stage.Assign → NeedsNoMore (assign_needed old.assignment) (assign_needed new.assignment) answer → NeedsNoMore (more_needed old) (more_needed new) (mapped Assign answer)
-assign-needs old new answer was is k = rw (was, is) (needs-mapped Assign (assign_needed old.assignment) (assign_needed new.assignment) answer k)
+-- the answers of the scan of assignments, which has made the command
+pub assigned-fed : (mode : Mode) (head : Head) (old new : Scans) (made : Command) (t : Seen) (answer : Fed (Unit {0})) → old.stage ≡ stage.Assign → new.stage ≡ stage.Assign → IsAssigned old.assignment t new.assignment answer → IsFedBy (command_rest mode head) held old t new (told new made (mapped (λ _. whole.Assignment) answer))
+assigned-fed mode head old new made t answer was is k =
+    subst (λ (a : Fed Command). IsFedBy (command_rest mode head) held old t new a) (sym (told-assigned new made answer))
+    (part-fed assign_rest assign_held Assign stage.Assign mode head old.assignment new.assignment old new t (told_assigning new.assignment answer) was is
+    (λ behind item more. refl) refl (λ behind item more. refl) refl k)
 
-pub assign-fewer : (old new : Scans) (answer : Fed Assignment) → old.stage ≡ stage.Assign → new.stage ≡ stage.Assign → NeedsFewer (assign_needed old.assignment) (assign_needed new.assignment) answer → NeedsFewer (more_needed old) (more_needed new) (mapped Assign answer)
-assign-fewer old new answer was is k = rw (was, is) (fewer-mapped Assign (assign_needed old.assignment) (assign_needed new.assignment) answer k)
+pub assigned-behind : (mode : Mode) (head : Head) (old new : Scans) (made : Command) (v : Value) (t : Seen) (answer : Fed (Unit {0})) → old.stage ≡ stage.Assign → new.stage ≡ stage.Assign → IsAssignedBehind old.assignment v t new.assignment answer → IsGivenBehind (command_rest mode head) held old v t new (told new made (mapped (λ _. whole.Assignment) answer))
+assigned-behind mode head old new made v t answer was is k =
+    subst (λ (a : Fed Command). IsGivenBehind (command_rest mode head) held old v t new a) (sym (told-assigned new made answer))
+    (part-behind assign_rest assign_held Assign stage.Assign mode head old.assignment new.assignment old new v t (told_assigning new.assignment answer) was is
+    (λ behind item more. refl) refl (λ behind item more. refl) refl k)
+
+-- how many values an assignment, a size and a rule need
+pub assign-needs : {A B : Type 0} (f : A → B) (old new : Scans) (answer : Fed A) → old.stage ≡ stage.Assign → new.stage ≡ stage.Assign → NeedsNoMore (assign_needed old.assignment) (assign_needed new.assignment) answer → NeedsNoMore (more_needed old) (more_needed new) (mapped f answer)
+assign-needs f old new answer was is k = rw (was, is) (needs-mapped f (assign_needed old.assignment) (assign_needed new.assignment) answer k)
+
+pub assign-fewer : {A B : Type 0} (f : A → B) (old new : Scans) (answer : Fed A) → old.stage ≡ stage.Assign → new.stage ≡ stage.Assign → NeedsFewer (assign_needed old.assignment) (assign_needed new.assignment) answer → NeedsFewer (more_needed old) (more_needed new) (mapped f answer)
+assign-fewer f old new answer was is k = rw (was, is) (fewer-mapped f (assign_needed old.assignment) (assign_needed new.assignment) answer k)
 
 pub size-needs : (f : Measure → Command) (kind : SizeUse) (old new : Scans) (answer : Fed Measure) → old.stage ≡ stage.Sized kind → new.stage ≡ stage.Sized kind → NeedsNoMore (dimen_needed old.size) (dimen_needed new.size) answer → NeedsNoMore (more_needed old) (more_needed new) (mapped f answer)
 size-needs f kind old new answer was is k = rw (was, is) (needs-mapped f (dimen_needed old.size) (dimen_needed new.size) answer k)
@@ -144,11 +159,11 @@ led-needs f kind old new answer was is k = rw (was, is) (needs-mapped f (rule_ne
 pub led-fewer : (f : Rule → Command) (kind : LeadersKind) (old new : Scans) (answer : Fed Rule) → old.stage ≡ stage.LeadersRule kind → new.stage ≡ stage.LeadersRule kind → NeedsFewer (rule_needed old.rule) (rule_needed new.rule) answer → NeedsFewer (more_needed old) (more_needed new) (mapped f answer)
 led-fewer f kind old new answer was is k = rw (was, is) (fewer-mapped f (rule_needed old.rule) (rule_needed new.rule) answer k)
 
-pub assign-goes : (new : Scans) (answer : Fed Assignment) → new.stage ≡ stage.Assign → WaitsIfAssigning new.assignment answer → GoesOn new (mapped Assign answer)
-assign-goes new (fed.More want) is k = rw is tt
-assign-goes new (fed.Need kind) is k = rw is (k, k.1)
-assign-goes new (fed.Done a back) is k = tt
-assign-goes new (fed.Wrong error) is k = tt
+pub assign-goes : {A B : Type 0} (f : A → B) (new : Scans) (answer : Fed A) → new.stage ≡ stage.Assign → WaitsIfAssigning new.assignment answer → GoesOn new (mapped f answer)
+assign-goes f new (fed.More want) is k = rw is tt
+assign-goes f new (fed.Need kind) is k = rw is (k, k.1)
+assign-goes f new (fed.Done a back) is k = tt
+assign-goes f new (fed.Wrong error) is k = tt
 
 -- what a box, or what is done with one, takes, and its kin
 pub shape-needs : (old new : Scans) (answer : Fed Shaped) → old.stage ≡ stage.Shape → new.stage ≡ stage.Shape → NeedsNoMore (shape_needed old.shape) (shape_needed new.shape) answer → NeedsNoMore (more_needed old) (more_needed new) (mapped command_of answer)
@@ -196,17 +211,17 @@ load-begun mode head name same t new answer e is k = rw (← e) (record {
 })
 
 -- parts that held nothing
-pub start-fed : {E : Type 0} (mode : Mode) (head : Head) (t : Seen) (old new : Scans) (answer : Result (Fed Command) E) → old.stage ≡ stage.Start → IfOk answer (IsBegunBy mode head 1 (λ more. command mode head (Took t ∷ more)) (Took t ∷ []) new) → IfOk answer (IsFedBy (command_rest mode head) held old t new)
-start-fed mode head t old new (Ok answer) was k = fed-first (command_rest mode head) held old t new answer (rw was refl) (rw was k.reads)
-start-fed mode head t old new (Err e) was k = tt
+pub start-fed : {E : Type 0} (mode : Mode) (head : Head) (t : Seen) (old new : Scans) (made : Command) (answer : Result (Fed Whole) E) → old.stage ≡ stage.Start → IfOk answer (λ a. IsBegunBy mode head 1 (λ more. command mode head (Took t ∷ more)) (Took t ∷ []) new (told new made a)) → IfOk answer (λ a. IsFedBy (command_rest mode head) held old t new (told new made a))
+start-fed mode head t old new made (Ok answer) was k = fed-first (command_rest mode head) held old t new (told new made answer) (rw was refl) (rw was k.reads)
+start-fed mode head t old new made (Err e) was k = tt
 
-pub start-needs : {E : Type 0} (mode : Mode) (head : Head) (t : Seen) (old new : Scans) (answer : Result (Fed Command) E) → old.stage ≡ stage.Start → IfOk answer (IsBegunBy mode head 1 (λ more. command mode head (Took t ∷ more)) (Took t ∷ []) new) → IfOk answer (NeedsNoMore (more_needed old) (more_needed new))
-start-needs mode head t old new (Ok answer) was k = rw was k.needs
-start-needs mode head t old new (Err e) was k = tt
+pub start-needs : {E : Type 0} (mode : Mode) (head : Head) (t : Seen) (old new : Scans) (made : Command) (answer : Result (Fed Whole) E) → old.stage ≡ stage.Start → IfOk answer (λ a. IsBegunBy mode head 1 (λ more. command mode head (Took t ∷ more)) (Took t ∷ []) new (told new made a)) → IfOk answer (NeedsNoMore (more_needed old) (more_needed new))
+start-needs mode head t old new made (Ok answer) was k = rw was (plain-needs new made 1 (more_needed new) answer k.needs)
+start-needs mode head t old new made (Err e) was k = tt
 
-pub start-goes : {E : Type 0} (mode : Mode) (head : Head) (t : Seen) (new : Scans) (answer : Result (Fed Command) E) → IfOk answer (IsBegunBy mode head 1 (λ more. command mode head (Took t ∷ more)) (Took t ∷ []) new) → IfOk answer (GoesOn new)
-start-goes mode head t new (Ok answer) k = k.goes_on
-start-goes mode head t new (Err e) k = tt
+pub start-goes : {E : Type 0} (mode : Mode) (head : Head) (t : Seen) (new : Scans) (made : Command) (answer : Result (Fed Whole) E) → IfOk answer (λ a. IsBegunBy mode head 1 (λ more. command mode head (Took t ∷ more)) (Took t ∷ []) new (told new made a)) → IfOk answer (GoesOn new)
+start-goes mode head t new made (Ok answer) k = plain-goes new new made answer k.goes_on
+start-goes mode head t new made (Err e) k = tt
 
 pub space-fed : (mode : Mode) (head : Head) (t : Seen) (old new : Scans) (answer : Fed Command) → old.stage ≡ stage.Spaces → IsBegunBy mode head 1 (λ more. skipping (Took t ∷ more)) (Took t ∷ []) new answer → IsFedBy (command_rest mode head) held old t new answer
 space-fed mode head t old new answer was k = fed-first (command_rest mode head) held old t new answer (rw was refl) (rw was k.reads)
@@ -289,16 +304,18 @@ leading-glued mode form t new answer u s found k = λ m head.
     (λ more. rw (u, s) (ap (λ f. led_by f more) found)) (k m head)
 
 -- the first token behind a name that is defined
-pub first-assigned : (mode : Mode) (head : Head) (begun : Assigning) (old : AssignScan) (new : Scans) (t : Seen) (answer : Fed Assignment) → new.stage ≡ stage.Assign → IsBegun begun old → assign_needed old ≤ 1 → IsFedBy assign_rest assign_held old t new.assignment answer → NeedsNoMore (assign_needed old) (assign_needed new.assignment) answer → WaitsIfAssigning new.assignment answer → IsBegunBy mode head 1 (λ more. assigning begun (Took t ∷ more)) (Took t ∷ []) new (mapped Assign answer)
-first-assigned mode head begun old new t answer is k few fits needs waits =
+pub first-assigned : (mode : Mode) (head : Head) (begun : Assigning) (old : AssignScan) (new : Scans) (made : Command) (t : Seen) (answer : Fed (Unit {0})) → new.stage ≡ stage.Assign → IsBegun begun old → assign_needed old ≤ 1 → IsAssigned old t new.assignment answer → NeedsNoMore (assign_needed old) (assign_needed new.assignment) answer → WaitsIfAssigning new.assignment answer → IsBegunBy mode head 1 (λ more. assigning begun (Took t ∷ more)) (Took t ∷ []) new (told new made (mapped (λ _. whole.Assignment) answer))
+first-assigned mode head begun old new made t answer is k few fits needs waits =
     let h : length {A = Item} [] ≤ assign_held old = omega arith in
     record {
-      reads = same-read (command_rest mode head) held 1 (λ more. assigning begun (Took t ∷ more)) (λ more. next (assign_rest old [] (Took t) more) (λ a rest. Done (Assign a) rest)) (Took t ∷ []) new (mapped Assign answer)
+      reads = subst (λ (a : Fed Command). IsRead (command_rest mode head) held 1 (λ more. assigning begun (Took t ∷ more)) (Took t ∷ []) new a) (sym (told-assigned new made answer))
+          (same-read (command_rest mode head) held 1 (λ more. assigning begun (Took t ∷ more)) (λ more. next (assign_rest old [] (Took t) more) (λ a rest. Done (Assign a) rest)) (Took t ∷ []) new (mapped Assign (told_assigning new.assignment answer))
           (λ more. ap (λ r. next r (λ a rest. Done (Assign a) rest)) (sym (k.1 [] (Took t) more)))
-          (mapped-read assign_rest assign_held (command_rest mode head) held Assign 1 (λ more. assign_rest old [] (Took t) more) (Took t ∷ []) new.assignment new answer
-          (λ behind item more. ap (λ s. stage_rest mode head s new behind item more) is) (ap (λ s. stage_held s new) is) (rw k.0 at (fits [] h)));
-      needs = rw is (needs-mapped Assign 1 (assign_needed new.assignment) answer (needs-least (assign_needed old) 1 (assign_needed new.assignment) answer few needs));
-      goes_on = assign-goes new answer is waits;
+          (mapped-read assign_rest assign_held (command_rest mode head) held Assign 1 (λ more. assign_rest old [] (Took t) more) (Took t ∷ []) new.assignment new (told_assigning new.assignment answer)
+          (λ behind item more. ap (λ s. stage_rest mode head s new behind item more) is) (ap (λ s. stage_held s new) is) (rw k.0 at (fits [] h))));
+      needs = rw is (told-needs new made 1 (assign_needed new.assignment) (mapped (λ _. whole.Assignment) answer)
+          (needs-mapped (λ _. whole.Assignment) 1 (assign_needed new.assignment) answer (needs-least (assign_needed old) 1 (assign_needed new.assignment) answer few needs)));
+      goes_on = goes-mapped (whole_command new made) new (mapped (λ _. whole.Assignment) answer) (assign-goes (λ _. whole.Assignment) new answer is waits);
     }
 
 pub named-begun : (name same : Place) (kind : Shorthand) (scan : AssignScan) → name ≡ same → IsBegun (Named name kind) scan → IsBegun (Named same kind) scan
@@ -327,9 +344,9 @@ first-prefixed mode head prefixes t new answer e k = rw e (one-token mode (Prefi
 pub first-leading : (mode : Mode) (head : Head) (kind : LeadersKind) (sides : Rule) (t : Seen) (new : Scans) (answer : Fed Command) → head ≡ Leading kind sides → Begins (λ more. leading_command mode (Took t ∷ more)) new answer → IsBegunBy mode head 1 (λ more. command mode head (Took t ∷ more)) (Took t ∷ []) new answer
 first-leading mode head kind sides t new answer e k = rw e (one-token mode (Leading kind sides) (λ more. leading_command mode (Took t ∷ more)) t new answer (k mode (Leading kind sides)))
 
-pub first-defining : {E : Type 0} (mode : Mode) (head : Head) (prefixes : Prefixes) (name : Place) (kind : Shorthand) (t : Seen) (new : Scans) (answer : Result (Fed Command) E) → head ≡ Defining prefixes name kind → ((m : Mode) (h : Head) → IfOk answer (IsBegunBy m h 1 (λ more. assigning (Named name kind) (Took t ∷ more)) (Took t ∷ []) new)) → IfOk answer (IsBegunBy mode head 1 (λ more. command mode head (Took t ∷ more)) (Took t ∷ []) new)
-first-defining mode head prefixes name kind t new (Ok answer) e k = rw e (k mode (Defining prefixes name kind))
-first-defining mode head prefixes name kind t new (Err error) e k = tt
+pub first-defining : {E : Type 0} (mode : Mode) (head : Head) (prefixes : Prefixes) (name : Place) (kind : Shorthand) (t : Seen) (new : Scans) (made : Command) (answer : Result (Fed Whole) E) → head ≡ Defining prefixes name kind → ((m : Mode) (h : Head) (c : Command) → IfOk answer (λ a. IsBegunBy m h 1 (λ more. assigning (Named name kind) (Took t ∷ more)) (Took t ∷ []) new (told new c a))) → IfOk answer (λ a. IsBegunBy mode head 1 (λ more. command mode head (Took t ∷ more)) (Took t ∷ []) new (told new made a))
+first-defining mode head prefixes name kind t new made (Ok answer) e k = rw e (k mode (Defining prefixes name kind) made)
+first-defining mode head prefixes name kind t new made (Err error) e k = tt
 
 pub first-loading : {E : Type 0} (mode : Mode) (head : Head) (prefixes : Prefixes) (name : Place) (t : Seen) (new : Scans) (answer : Result (Fed Command) E) → head ≡ Loading prefixes name → ((m : Mode) (h : Head) → IfOk answer (IsBegunBy m h 1 (λ more. loading name (Took t ∷ more)) (Took t ∷ []) new)) → IfOk answer (IsBegunBy mode head 1 (λ more. command mode head (Took t ∷ more)) (Took t ∷ []) new)
 first-loading mode head prefixes name t new (Ok answer) e k = rw e (k mode (Loading prefixes name))

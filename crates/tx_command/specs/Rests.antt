@@ -10,6 +10,7 @@ use Rattle.tx_seen.specs.declared.fed.Want.{Want}
 use Rattle.tx_seen.specs.declared.item.Item.TheVariants.{Took, Gave}
 use Rattle.tx_seen.specs.declared.seen.Seen.{Seen}
 use Rattle.tx_seen.specs.Readings.{Reading, Done, Wrong, next}
+use Rattle.tx_scan.specs.Mapped.{mapped}
 use Rattle.tx_scan.specs.Rests.{HasTakenBy, IsRead}
 use Rattle.tx_scan.specs.Settled.{WantsNext}
 use Rattle.tx_scan.specs.Supplied.{NeedsNoMore}
@@ -18,10 +19,11 @@ use Rattle.tx_scan.specs.Keywords.{rest as key_rest, held as key_held}
 use Rattle.tx_scan.specs.DimensionRests.{rest as dimen_rest, held as dimen_held, more_needed as dimen_needed}
 use Rattle.tx_shape.specs.Rests.{rest as shape_rest, held as shape_held, needed as shape_needed, IsWaiting as IsWaiting_shape}
 use Rattle.tx_shape.specs.LoadRests.{rest as load_rest, held as load_held, needed as load_needed, IsWaiting as IsWaiting_load}
-use Rattle.tx_assign.specs.Rests.{rest as assign_rest, held as assign_held, more_needed as assign_needed, IsWaiting as IsWaiting_assign}
+use Rattle.tx_assign.specs.Rests.{made as assignment_made, rest as assign_rest, held as assign_held, more_needed as assign_needed, IsWaiting as IsWaiting_assign}
 use Rattle.tx_command.specs.declared.types.Command.{Command}
 use Rattle.tx_command.specs.declared.types.Command.TheVariants.{Assign, Sized, Rule as Rule_command, BeginLeaders}
 use Rattle.tx_command.specs.declared.types.Head.{Head}
+use Rattle.tx_command.specs.declared.types.Head.TheVariants.{Defining as Defining_head}
 use Rattle.tx_command.specs.declared.types.Side.{Side}
 use Rattle.tx_command.specs.declared.scans.RuleScan.{RuleScan}
 use Rattle.tx_command.specs.declared.scans.RulePart.{RulePart}
@@ -29,6 +31,8 @@ use Rattle.tx_command.specs.declared.scans.RulePart.TheVariants as rule
 use Rattle.tx_command.specs.declared.scans.Scans.{Scans}
 use Rattle.tx_command.specs.declared.scans.Stage.{Stage}
 use Rattle.tx_command.specs.declared.scans.Stage.TheVariants as stage
+use Rattle.tx_command.specs.declared.scans.Whole.{Whole}
+use Rattle.tx_command.specs.declared.scans.Whole.TheVariants as whole
 use Rattle.tx_command.specs.Rules.{letters_of, side_if, side_or_end, with_side, rule_sides}
 use Rattle.tx_command.specs.Commands.{command, defining, macro_defining, font_defining, future_defining, future_of, keeping, command_of, leaders_of, load_of, skipping}
 
@@ -159,6 +163,26 @@ NeedsValues stage.Spaces scans = ⊥
 abbrev pub IsWaiting : Scans → Type 0
 IsWaiting scans = NeedsValues scans.stage scans × (held scans ≤ 1)
 
+-- no name is being defined
+abbrev pub IsNoName : Head → Type 0
+IsNoName (Defining_head prefixes name kind) = ⊥
+IsNoName _ = Unit {0}
+
+-- a stage that is neither the first token nor an assignment
+abbrev pub IsPart : Stage → Type 0
+IsPart stage.Start = ⊥
+IsPart stage.Assign = ⊥
+IsPart _ = Unit {0}
+
+-- the command that is whole: the assignment that its scan has made, or the one that was put beside
+abbrev pub whole_command : Scans → Command → Whole → Command
+whole_command scans made whole.Assignment = Assign (assignment_made scans.assignment)
+whole_command scans made whole.Command = made
+
+-- an answer, with that command
+abbrev pub told : Scans → Command → Fed Whole → Fed Command
+told scans made answer = mapped (whole_command scans made) answer
+
 -- a stage that goes on
 abbrev pub IsOnAt : Stage → Scans → Type 0
 IsOnAt (stage.Rule kind) scans = IsUnnamed scans.rule.part
@@ -168,10 +192,10 @@ IsOnAt _ scans = Unit {0}
 abbrev pub IsOn : Scans → Type 0
 IsOn scans = IsOnAt scans.stage scans
 
-abbrev pub GoesOn : Scans → Fed Command → Type 0
+abbrev pub GoesOn : {A : Type 0} → Scans → Fed A → Type 0
 GoesOn new (fed.More want) = IsOn new
 GoesOn new (fed.Need kind) = IsWaiting new
-GoesOn new (fed.Done command back) = Unit {0}
+GoesOn new (fed.Done value back) = Unit {0}
 GoesOn new (fed.Wrong error) = Unit {0}
 
 -- an answer says what reading gives of the items behind these tokens, of which so many may be given back; so many values are

@@ -29,10 +29,10 @@ abbrev pub joined : (Place → Value) → Mode → Head → List Item → Seen �
 joined at mode head taken t = with_values at (command mode head) (taken ++ Took t ∷ [])
 
 -- an answer that ends the command, where no token is given back
-abbrev pub IsEnd : Fed Command → Type 0
+abbrev pub IsEnd : {A : Type 0} → Fed A → Type 0
 IsEnd (fed.More want) = ⊥
 IsEnd (fed.Need kind) = ⊥
-IsEnd (fed.Done c back) = back ≡ 0
+IsEnd (fed.Done value back) = back ≡ 0
 IsEnd (fed.Wrong error) = Unit {0}
 
 -- the answer says what these items are of a command, and those that were taken are they, or give the same tokens back
@@ -43,14 +43,14 @@ IsSettled mode head = settled.IsSettled (command mode head) (HasTakenBy (command
 abbrev pub IsPending : (Place → Value) → Mode → Head → List Item → List Item → Scans → Fed Command → Type 0
 IsPending at mode head = settled.IsPending at (command mode head) (HasTakenBy (command_rest mode head) held (command mode head)) more_needed
 
--- of these items the command isn't whole yet, or it is, and what it didn't need is read again, or it is wrong
-abbrev pub IsTakenAll : Begun → List Item → Input → Begun → Input → Taken → Type 0
-IsTakenAll old items before new after taken.More =
+-- of these items the command isn't whole yet; or it is this one, and what it didn't need is read again; or it is wrong
+abbrev pub IsTakenAll : Begun → List Item → Input → Begun → Input → Command → Taken → Type 0
+IsTakenAll old items before new after made taken.More =
     ((want : Want) × (command old.mode old.head items ≡ More want)) × ((new ≡ record old { taken = items }) × (after ≡ before))
-IsTakenAll old items before new after (taken.Whole c) =
-    (behind : List Item) × ((command old.mode old.head items ≡ Done c behind) × ((new ≡ record old { taken = [] }) × (after ≡ with_tokens before (tokens_of behind))))
-IsTakenAll old items before new after (taken.Wrong e) = command old.mode old.head items ≡ Wrong e
+IsTakenAll old items before new after made taken.Whole =
+    (behind : List Item) × ((command old.mode old.head items ≡ Done made behind) × ((new ≡ record old { taken = [] }) × (after ≡ with_tokens before (tokens_of behind))))
+IsTakenAll old items before new after made (taken.Wrong e) = command old.mode old.head items ≡ Wrong e
 
 -- one more token
-abbrev pub IsTaken : (Place → Value) → Begun → Seen → Input → Begun → Input → Taken → Type 0
-IsTaken at old t before new after taken = IsTakenAll old (joined at old.mode old.head old.taken t) before new after taken
+abbrev pub IsTaken : (Place → Value) → Begun → Seen → Input → Begun → Input → Command → Taken → Type 0
+IsTaken at old t before new after made taken = IsTakenAll old (joined at old.mode old.head old.taken t) before new after made taken

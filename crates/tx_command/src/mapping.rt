@@ -3,24 +3,59 @@ ghost use Rattle.std.specs.Prelude.{◌≡◌};
 ghost use Rattle.tx_scan.specs.DimensionRests.{IsSize};
 ghost use Rattle.tx_scan.specs.Mapped.{mapped};
 ghost use Rattle.tx_command.specs.Commands as commands;
+ghost use Rattle.tx_command.specs.Rests.{told, whole_command};
 
+use crate::scans::{Scans, Whole};
 use crate::types::{Command, SizeUse};
-use tx_assign::Assignment;
+use std::mem::replace;
 use tx_node::Rule;
 use tx_prim::{DefinitionKind, LeadersKind, RuleKind, Shorthand};
 use tx_scan::Measure;
 use tx_seen::{Fed, Place};
 use tx_shape::{BoxContext, BoxRead, FontAsked, Shaped};
 
-/// An assignment.
-pub fn assigned(fed: Fed<Assignment>) -> Fed<Command>
-    ensures { result ≡ mapped Command.Assign fed }
+/// An assignment, which its scan has made.
+pub fn assigned(fed: Fed<()>) -> Fed<Whole>
+    ensures { result ≡ mapped (λ _. Whole.Assignment) fed }
 {
     match fed {
         Fed::More(want) => Fed::More(want),
         Fed::Need(kind) => Fed::Need(kind),
-        Fed::Done(assignment, back) => Fed::Done(Command::Assign(assignment), back),
+        Fed::Done((), back) => Fed::Done(Whole::Assignment, back),
         Fed::Wrong(error) => Fed::Wrong(error),
+    }
+}
+
+/// This command takes the place of the one that stood there.
+fn put(made: &mut Command, command: Command)
+    ensures { made.new ≡ command }
+{
+    drop(replace(made, command));
+}
+
+/// A command that is whole is put beside.
+pub fn put_whole(fed: Fed<Command>, made: &mut Command) -> Fed<Whole>
+    ensures answer { result ≡ mapped (λ _. Whole.Command) fed }
+    ensures made { (scans : Scans) → told scans made.new result ≡ fed }
+{
+    match fed {
+        Fed::More(want) => Fed::More(want),
+        Fed::Need(kind) => Fed::Need(kind),
+        Fed::Done(command, back) => {
+            put(made, command);
+            Fed::Done(Whole::Command, back)
+        }
+        Fed::Wrong(error) => Fed::Wrong(error),
+    }
+}
+
+/// The command that is whole is put beside, wherever it stands.
+pub fn take_whole(whole: Whole, scans: &mut Scans, made: &mut Command)
+    ensures { made.new ≡ whole_command scans.old made.old whole }
+{
+    match whole {
+        Whole::Assignment => put(made, Command::Assign(scans.assignment.take())),
+        Whole::Command => {}
     }
 }
 

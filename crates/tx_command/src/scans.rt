@@ -1,5 +1,5 @@
 //! What a scan of a command still needs, and what taking a token to one gives.
-use crate::types::{Command, Side, SizeUse};
+use crate::types::{Side, SizeUse};
 use tx_assign::AssignScan;
 use tx_node::Rule;
 use tx_prim::{AfterKind, DefinitionKind, LeadersKind, RuleKind, Shorthand};
@@ -74,13 +74,22 @@ pub struct Scans {
     pub loading: LoadScan,
 }
 
+/// Where a command stands that is whole. It is no part of an answer, so that this isn't larger than a token.
+#[derive(Clone, Copy)]
+pub enum Whole {
+    /// In the scan of assignments, which has made it.
+    Assignment,
+    /// Beside the scans.
+    Command,
+}
+
 /// What taking a token to a command gives.
-#[derive(Drop)]
+#[derive(Clone, Copy)]
 pub enum Taken {
     /// The command isn't whole yet.
     More,
-    /// It is.
-    Whole(Command),
+    /// It is, and stands where the caller wants it.
+    Whole,
     /// The tokens are no command.
     Wrong(TexError),
 }

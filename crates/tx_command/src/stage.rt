@@ -6,13 +6,13 @@ ghost use Rattle.tx_scan.specs.Rests.{IsFedBy, IsGivenBehind};
 ghost use Rattle.tx_scan.specs.Supplied.{NeedsNoMore, NeedsFewer};
 ghost use Rattle.tx_assign.specs.Assignments.{assignment};
 ghost use Rattle.tx_command.specs.Commands as commands;
-ghost use Rattle.tx_command.specs.Rests.{command_rest, held, more_needed, Begins, GoesOn, IsBegunBy, IsOn, IsWaiting};
+ghost use Rattle.tx_command.specs.Rests.{command_rest, held, more_needed, told, Begins, GoesOn, IsBegunBy, IsNoName, IsOn, IsPart, IsWaiting};
 
 use crate::mapping::{
-    assigned, defined, font_defined, future_defined, led, loaded, macro_defined, ruled, shaped,
-    sized,
+    assigned, defined, font_defined, future_defined, led, loaded, macro_defined, put_whole, ruled,
+    shaped, sized,
 };
-use crate::scans::{RuleScan, Scans, Stage};
+use crate::scans::{RuleScan, Scans, Stage, Whole};
 use crate::standing::{may_be_prefixed, standing_in};
 use crate::types::{Command, Head, Prefixes, SizeUse};
 use std::alloc::{AllocError, Global};
@@ -129,21 +129,62 @@ impl Scans {
         }
     }
 
-    /// Takes one token, in this mode and behind this head. Its only error is want of memory.
+    /// Takes one token, in this mode and behind this head. A command that is whole stands where the answer says. Its only error is
+    /// want of memory.
     pub(crate) fn feed(
         &mut self,
         mode: Mode,
         head: &Head,
         token: &Seen,
-    ) -> Result<Fed<Command>, AllocError>
+        made: &mut Command,
+    ) -> Result<Fed<Whole>, AllocError>
         requires { IsOn self.old }
+        ensures fed { IfOk result (λ fed. IsFedBy (command_rest mode head.now) held self.old token.now self.new (told self.new made.new fed)) }
+        ensures needs { IfOk result (NeedsNoMore (more_needed self.old) (more_needed self.new)) }
+        ensures on { IfOk result (GoesOn self.new) }
+    {
+        match self.stage {
+            // most tokens
+            Stage::Assign => Ok(assigned(self.assignment.feed(token)?)),
+            Stage::Start => self.feed_first(mode, head, token, made),
+            _ => self.feed_other(mode, head, token, made),
+        }
+    }
+
+    /// A token of any other part, which is put beside where it is whole. Its only error is want of memory.
+    #[inline(never)]
+    fn feed_other(
+        &mut self,
+        mode: Mode,
+        head: &Head,
+        token: &Seen,
+        made: &mut Command,
+    ) -> Result<Fed<Whole>, AllocError>
+        requires part { IsPart self.old.stage }
+        requires on { IsOn self.old }
+        ensures fed { IfOk result (λ fed. IsFedBy (command_rest mode head.now) held self.old token.now self.new (told self.new made.new fed)) }
+        ensures needs { IfOk result (NeedsNoMore (more_needed self.old) (more_needed self.new)) }
+        ensures on { IfOk result (GoesOn self.new) }
+    {
+        let fed = self.feed_part(mode, head, token)?;
+        Ok(put_whole(fed, made))
+    }
+
+    /// A token of such a part. Its only error is want of memory.
+    fn feed_part(
+        &mut self,
+        mode: Mode,
+        head: &Head,
+        token: &Seen,
+    ) -> Result<Fed<Command>, AllocError>
+        requires part { IsPart self.old.stage }
+        requires on { IsOn self.old }
         ensures fed { IfOk result (IsFedBy (command_rest mode head.now) held self.old token.now self.new) }
         ensures needs { IfOk result (NeedsNoMore (more_needed self.old) (more_needed self.new)) }
         ensures on { IfOk result (GoesOn self.new) }
     {
         match self.stage {
-            Stage::Start => self.feed_first(mode, head, token),
-            Stage::Assign => Ok(assigned(self.assignment.feed(token)?)),
+            Stage::Start | Stage::Assign => unreachable!(),
             Stage::Name(kind) => Ok(defined(kind, NameScan::new().feed(token)?)),
             Stage::MacroName(kind) => Ok(macro_defined(kind, NameScan::new().feed(token)?)),
             Stage::FutureName => Ok(future_defined(NameScan::new().feed(token)?)),
@@ -160,23 +201,60 @@ impl Scans {
         }
     }
 
-    /// Takes the value that an assignment or a size needs, where this token was taken last. Its only error is want of memory.
+    /// Takes the value that an assignment or a size needs, where this token was taken last. A command that is whole stands where the
+    /// answer says. Its only error is want of memory.
     #[inline(never)]
-    pub(crate) fn give(&mut self, value: &Value, behind: &Seen) -> Result<Fed<Command>, AllocError>
+    pub(crate) fn give(
+        &mut self,
+        value: &Value,
+        behind: &Seen,
+        made: &mut Command,
+    ) -> Result<Fed<Whole>, AllocError>
         requires { IsWaiting self.old }
-        ensures given { (mode : Mode) (head : Head) → IfOk result (IsGivenBehind (command_rest mode head) held self.old value.now behind.now self.new) }
+        ensures given { (mode : Mode) (head : Head) → IfOk result (λ fed. IsGivenBehind (command_rest mode head) held self.old value.now behind.now self.new (told self.new made.new fed)) }
         ensures needs { IfOk result (NeedsFewer (more_needed self.old) (more_needed self.new)) }
         ensures on { IfOk result (GoesOn self.new) }
     {
         match self.stage {
             Stage::Assign => Ok(assigned(self.assignment.give(value, behind)?)),
+            _ => self.give_other(value, behind, made),
+        }
+    }
+
+    /// The value that any other part needs, which is put beside where it is whole. Its only error is want of memory.
+    #[inline(never)]
+    fn give_other(
+        &mut self,
+        value: &Value,
+        behind: &Seen,
+        made: &mut Command,
+    ) -> Result<Fed<Whole>, AllocError>
+        requires part { IsPart self.old.stage }
+        requires waits { IsWaiting self.old }
+        ensures given { (mode : Mode) (head : Head) → IfOk result (λ fed. IsGivenBehind (command_rest mode head) held self.old value.now behind.now self.new (told self.new made.new fed)) }
+        ensures needs { IfOk result (NeedsFewer (more_needed self.old) (more_needed self.new)) }
+        ensures on { IfOk result (GoesOn self.new) }
+    {
+        let fed = self.give_part(value, behind)?;
+        Ok(put_whole(fed, made))
+    }
+
+    /// The value that such a part needs. Its only error is want of memory.
+    fn give_part(&mut self, value: &Value, behind: &Seen) -> Result<Fed<Command>, AllocError>
+        requires part { IsPart self.old.stage }
+        requires waits { IsWaiting self.old }
+        ensures given { (mode : Mode) (head : Head) → IfOk result (IsGivenBehind (command_rest mode head) held self.old value.now behind.now self.new) }
+        ensures needs { IfOk result (NeedsFewer (more_needed self.old) (more_needed self.new)) }
+        ensures on { IfOk result (GoesOn self.new) }
+    {
+        match self.stage {
             Stage::Sized(size_use) => Ok(sized(size_use, self.size.give(value)?)),
             Stage::Rule(kind) => Ok(ruled(kind, self.rule.give(value, behind)?)),
             Stage::LeadersRule(kind) => Ok(led(kind, self.rule.give(value, behind)?)),
             Stage::Shape => Ok(shaped(self.shape.give(value, behind)?)),
             Stage::Loading => Ok(loaded(self.loading.give(value)?)),
-            Stage::FontName => unreachable!(),
-            Stage::Start | Stage::Name(_) | Stage::MacroName(_) => unreachable!(),
+            Stage::Start | Stage::Assign => unreachable!(),
+            Stage::FontName | Stage::Name(_) | Stage::MacroName(_) => unreachable!(),
             Stage::FutureName | Stage::SecondToken | Stage::KeptToken(_) => unreachable!(),
             Stage::Spaces | Stage::Leaders(_) => unreachable!(),
         }
@@ -189,13 +267,45 @@ impl Scans {
         mode: Mode,
         head: &Head,
         token: &Seen,
+        made: &mut Command,
+    ) -> Result<Fed<Whole>, AllocError>
+        ensures { IfOk result (λ fed. IsBegunBy mode head.now 1 (λ more. commands.command mode head.now (Took token.now ∷ more)) (Took token.now ∷ []) self.new (told self.new made.new fed)) }
+    {
+        match head {
+            Head::Defining(_, name, kind) => self.feed_defining(name, *kind, token),
+            _ => self.feed_head(mode, head, token, made),
+        }
+    }
+
+    /// The same behind any other head: what is whole is put beside. Its only error is want of memory.
+    fn feed_head(
+        &mut self,
+        mode: Mode,
+        head: &Head,
+        token: &Seen,
+        made: &mut Command,
+    ) -> Result<Fed<Whole>, AllocError>
+        requires { IsNoName head.now }
+        ensures { IfOk result (λ fed. IsBegunBy mode head.now 1 (λ more. commands.command mode head.now (Took token.now ∷ more)) (Took token.now ∷ []) self.new (told self.new made.new fed)) }
+    {
+        let fed = self.begin_command(mode, head, token)?;
+        Ok(put_whole(fed, made))
+    }
+
+    /// What the first token begins there. Its only error is want of memory.
+    fn begin_command(
+        &mut self,
+        mode: Mode,
+        head: &Head,
+        token: &Seen,
     ) -> Result<Fed<Command>, AllocError>
+        requires { IsNoName head.now }
         ensures { IfOk result (IsBegunBy mode head.now 1 (λ more. commands.command mode head.now (Took token.now ∷ more)) (Took token.now ∷ []) self.new) }
     {
         match head {
             Head::Fresh => Ok(self.feed_fresh(mode, token)),
             Head::Prefixed(prefixes) => Ok(self.feed_prefixed(*prefixes, token)),
-            Head::Defining(_, name, kind) => self.feed_defining(name, *kind, token),
+            Head::Defining(_, _, _) => unreachable!(),
             Head::Future(_, _) => Ok(self.on(Stage::SecondToken, Want::Raw)),
             Head::Leading(_, _) => Ok(self.feed_leading(mode, token)),
             Head::Loading(_, name) => self.feed_loading(name, token),
@@ -274,8 +384,8 @@ impl Scans {
         name: &Place,
         kind: Shorthand,
         token: &Seen,
-    ) -> Result<Fed<Command>, AllocError>
-        ensures { (mode : Mode) (head : Head) → IfOk result (IsBegunBy mode head 1 (λ more. commands.assigning (Assigning.Named name.now kind) (Took token.now ∷ more)) (Took token.now ∷ []) self.new) }
+    ) -> Result<Fed<Whole>, AllocError>
+        ensures { (mode : Mode) (head : Head) (made : Command) → IfOk result (λ fed. IsBegunBy mode head 1 (λ more. commands.assigning (Assigning.Named name.now kind) (Took token.now ∷ more)) (Took token.now ∷ []) self.new (told self.new made fed)) }
     {
         self.stage = Stage::Assign;
         self.assignment.begin(Assigning::Named(name.clone()?, kind));

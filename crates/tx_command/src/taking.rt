@@ -10,11 +10,12 @@ ghost use Rattle.tx_command.specs.declared.types.Head.{Head};
 ghost use Rattle.tx_command.specs.Commands as commands;
 ghost use Rattle.tx_command.specs.Commands.{leaders_before as leaders_of, prefixes_of};
 ghost use Rattle.tx_seen.specs.Magnified.{magnification_in};
-ghost use Rattle.tx_command.specs.Rests.{command_rest, held, more_needed, GoesOn, IsOn, IsWaiting};
+ghost use Rattle.tx_command.specs.Rests.{command_rest, held, more_needed, told, GoesOn, IsOn, IsWaiting};
 ghost use Rattle.tx_command.specs.Taken.{joined, IsEnd, IsPending, IsSettled, IsTaken};
 
+use crate::mapping::take_whole;
 use crate::naming::is_naming;
-use crate::scans::{Scans, Stage, Taken};
+use crate::scans::{Scans, Stage, Taken, Whole};
 use crate::types::{Command, Head, Prefixes};
 use std::alloc::{AllocError, Global};
 use std::marker::Model;
@@ -190,16 +191,17 @@ impl CommandScan {
         self.mode == other.mode && self.head.same(&other.head) && self.taken.same(&other.taken)
     }
 
-    /// Takes one token more, and the values that the command needs behind it. Behind a whole command, whose last tokens are put
-    /// at the front of the input where they aren't part of it, or a wrong one, the next begins. Its only error is want of
-    /// memory.
+    /// Takes one token more, and the values that the command needs behind it. A whole command is put into `made`. Behind it, whose
+    /// last tokens are put at the front of the input where they aren't part of it, or a wrong one, the next begins. Its only error is
+    /// want of memory.
     pub fn feed<Q: Quantities>(
         &mut self,
         quantities: &Q,
         input: &mut Pending,
         token: Seen,
+        made: &mut Command,
     ) -> Result<Taken, AllocError>
-        ensures { IfOk result (IsTaken (Q.value_at quantities.now) self.old token input.old self.new input.new) }
+        ensures { IfOk result (IsTaken (Q.value_at quantities.now) self.old token input.old self.new input.new made.new) }
     {
         let fed = take(
             self.mode,
@@ -208,6 +210,7 @@ impl CommandScan {
             &mut self.scans,
             quantities,
             token,
+            made,
         );
         match fed {
             Ok(Fed::More(want)) => {
@@ -215,12 +218,13 @@ impl CommandScan {
                 Ok(Taken::More)
             }
             Ok(Fed::Need(_)) => unreachable!(),
-            Ok(Fed::Done(command, back)) => {
+            Ok(Fed::Done(whole, back)) => {
                 let given = give_back(&mut self.taken, input, back);
+                take_whole(whole, &mut self.scans, made);
                 self.want = begun_want(&self.head);
                 restart(&mut self.taken, &mut self.scans);
                 given?;
-                Ok(Taken::Whole(command))
+                Ok(Taken::Whole)
             }
             Ok(Fed::Wrong(error)) => {
                 self.want = begun_want(&self.head);
@@ -258,7 +262,7 @@ fn restart(taken: &mut Items<Item>, scans: &mut Scans)
 }
 
 /// Whether an answer ends the command, and no token is given back.
-fn is_end(fed: &Fed<Command>) -> bool
+fn is_end(fed: &Fed<Whole>) -> bool
     ensures { IsTrue result ↔ IsEnd fed.now }
 {
     match fed {
@@ -277,25 +281,22 @@ fn take<Q: Quantities>(
     scans: &mut Scans,
     quantities: &Q,
     token: Seen,
-) -> Result<Fed<Command>, AllocError>
+    made: &mut Command,
+) -> Result<Fed<Whole>, AllocError>
     requires reads { HasTakenBy (command_rest mode head.now) held (commands.command mode head.now) scans.old taken.old }
     requires on { IsOn scans.old }
     requires few { more_needed scans.old ≤ length taken.old + 1 }
-    ensures settled { IfOk result (IsSettled mode head.now (joined (Q.value_at quantities.now) mode head.now taken.old token) taken.new scans.new) }
+    ensures settled { IfOk result (λ fed. IsSettled mode head.now (joined (Q.value_at quantities.now) mode head.now taken.old token) taken.new scans.new (told scans.new made.new fed)) }
     ensures on { IfOk result (GoesOn scans.new) }
 {
-    let fed = scans.feed(mode, head, &token)?;
+    let fed = scans.feed(mode, head, &token, made)?;
     match fed {
         // most tokens
         Fed::More(want) => {
             taken.push(Item::Took(token))?;
             Ok(Fed::More(want))
         }
-        Fed::Need(kind) => {
-            let behind = token.clone()?;
-            taken.push(Item::Took(token))?;
-            settle(taken, scans, quantities, &behind, Fed::Need(kind))
-        }
+        Fed::Need(kind) => supply(taken, scans, quantities, token, kind, made),
         fed => {
             if is_end(&fed) {
                 return Ok(fed);
@@ -306,25 +307,45 @@ fn take<Q: Quantities>(
     }
 }
 
+/// Takes a token behind which the command needs a value of this kind, and perhaps further ones, and gives them as the table has
+/// them. Its only error is want of memory.
+#[inline(never)]
+fn supply<Q: Quantities>(
+    taken: &mut Items<Item>,
+    scans: &mut Scans,
+    quantities: &Q,
+    token: Seen,
+    kind: Kind,
+    made: &mut Command,
+) -> Result<Fed<Whole>, AllocError>
+    requires { IsWaiting scans.old }
+    ensures settled { (mode : Mode) (head : Head) (items : List Item) → IsPending (Q.value_at quantities.now) mode head items (taken.old ++ Took token ∷ []) scans.old (Fed.Need kind) → IfOk result (λ fed. IsSettled mode head items taken.new scans.new (told scans.new made.new fed)) }
+    ensures on { IfOk result (GoesOn scans.new) }
+{
+    let behind = token.clone()?;
+    taken.push(Item::Took(token))?;
+    settle(taken, scans, quantities, &behind, Fed::Need(kind), made)
+}
+
 /// Gives the values that the command needs behind the token that was taken last, as the table has them, until it needs none. Its
 /// only error is want of memory.
-#[inline(never)]
 fn settle<Q: Quantities>(
     taken: &mut Items<Item>,
     scans: &mut Scans,
     quantities: &Q,
     behind: &Seen,
-    fed: Fed<Command>,
-) -> Result<Fed<Command>, AllocError>
+    fed: Fed<Whole>,
+    made: &mut Command,
+) -> Result<Fed<Whole>, AllocError>
     requires on { GoesOn scans.old fed }
     requires last { last 1 taken.old ≡ Took behind.now ∷ [] }
-    ensures settled { (mode : Mode) (head : Head) (items : List Item) → IsPending (Q.value_at quantities.now) mode head items taken.old scans.old fed → IfOk result (IsSettled mode head items taken.new scans.new) }
+    ensures settled { (mode : Mode) (head : Head) (items : List Item) → IsPending (Q.value_at quantities.now) mode head items taken.old scans.old (told scans.old made.old fed) → IfOk result (λ answer. IsSettled mode head items taken.new scans.new (told scans.new made.new answer)) }
     ensures on { IfOk result (GoesOn scans.new) }
 {
     let mut fed = fed;
     loop {
         match fed {
-            Fed::Need(kind) => fed = give(taken, scans, quantities, behind, &kind)?,
+            Fed::Need(kind) => fed = give(taken, scans, quantities, behind, &kind, made)?,
             settled => return Ok(settled),
         }
     }
@@ -337,9 +358,10 @@ fn give<Q: Quantities>(
     quantities: &Q,
     behind: &Seen,
     kind: &Kind,
-) -> Result<Fed<Command>, AllocError>
+    made: &mut Command,
+) -> Result<Fed<Whole>, AllocError>
     requires { IsWaiting scans.old }
-    ensures given { (mode : Mode) (head : Head) → IfOk result (IsGivenBehind (command_rest mode head) held scans.old (value_for (Q.value_at quantities.now) kind.now) behind.now scans.new) }
+    ensures given { (mode : Mode) (head : Head) → IfOk result (λ fed. IsGivenBehind (command_rest mode head) held scans.old (value_for (Q.value_at quantities.now) kind.now) behind.now scans.new (told scans.new made.new fed)) }
     ensures needs { IfOk result (NeedsFewer (more_needed scans.old) (more_needed scans.new)) }
     ensures on { IfOk result (GoesOn scans.new) }
     ensures taken { OnOk result (taken.new ≡ taken.old ++ Gave (value_for (Q.value_at quantities.now) kind.now) ∷ []) }
@@ -347,7 +369,7 @@ fn give<Q: Quantities>(
     match kind {
         Kind::Quantity(place) => {
             let value = quantities.quantity(place);
-            let fed = scans.give(&value, behind)?;
+            let fed = scans.give(&value, behind, made)?;
             taken.push(Item::Gave(value))?;
             Ok(fed)
         }

@@ -1,27 +1,9 @@
-use Rattle.std.proofs.Common.{ap}
-use Rattle.tx_command.proofs.Stages.{first-fresh, first-prefixed, first-defining, first-future, first-leading, first-loading, first-shaping, first-opening}
+use Rattle.tx_command.proofs.Stages.{first-defining}
+use Rattle.tx_command.proofs.Told.{no-name}
 use Rattle.tx_command.proofs.scans.Scans.feed_first.Goals as goal
 
-pub returns-in-Fresh : goal.returns-in-Fresh
-returns-in-Fresh c = first-fresh c.args.mode c.args.head.now c.args.token.now c.feed_fresh.new.self c.feed_fresh.result c.in-Fresh.is c.feed_fresh.ensures
-
-pub returns-in-Prefixed : goal.returns-in-Prefixed
-returns-in-Prefixed c = first-prefixed c.args.mode c.args.head.now _ c.args.token.now c.feed_prefixed.new.self c.feed_prefixed.result c.in-Prefixed.is c.feed_prefixed.ensures
-
 pub returns-in-Defining : goal.returns-in-Defining
-returns-in-Defining c = first-defining c.args.mode c.args.head.now _ c.in-Defining.name c.in-Defining.kind c.args.token.now c.feed_defining.new.self c.feed_defining.result c.in-Defining.is c.feed_defining.ensures
+returns-in-Defining c = first-defining c.args.mode c.args.head.now _ c.in-Defining.name c.in-Defining.kind c.args.token.now c.feed_defining.new.self c.args.made.now c.feed_defining.result c.in-Defining.is c.feed_defining.ensures
 
-pub returns-in-Leading : goal.returns-in-Leading
-returns-in-Leading c = first-leading c.args.mode c.args.head.now _ _ c.args.token.now c.feed_leading.new.self c.feed_leading.result c.in-Leading.is c.feed_leading.ensures
-
-pub returns-in-Future : goal.returns-in-Future
-returns-in-Future c = rw c.on.ensures.answer (first-future c.args.mode c.args.head.now _ _ c.args.token.now c.on.new.self c.in-Future.is (ap (λ scans. scans.stage) c.on.ensures.scans))
-
-pub returns-in-Loading : goal.returns-in-Loading
-returns-in-Loading c = first-loading c.args.mode c.args.head.now _ c.in-Loading.name c.args.token.now c.feed_loading.new.self c.feed_loading.result c.in-Loading.is c.feed_loading.ensures
-
-pub returns-in-Shaping : goal.returns-in-Shaping
-returns-in-Shaping c = first-shaping c.args.mode c.args.head.now _ _ _ c.args.token.now c.feed_shape.new.self c.feed_shape.result c.in-Shaping.is c.feed_shape.ensures
-
-pub returns-in-Opening : goal.returns-in-Opening
-returns-in-Opening c = first-opening c.args.mode c.args.head.now _ c.args.token.now c.feed_open.new.self c.feed_open.result c.in-Opening.is c.feed_open.ensures
+pub feed_head-requires : goal.feed_head-requires
+feed_head-requires c = no-name c.args.head.now c.in_default.not-Defining

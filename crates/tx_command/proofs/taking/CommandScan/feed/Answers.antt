@@ -1,9 +1,10 @@
-use Rattle.std.proofs.Common.{◌∙◌, List, ap, refl}
+use Rattle.std.proofs.Common.{◌∙◌, List, ap, refl, sym}
 use Rattle.tx_pending.specs.Elements.{with_tokens}
 use Rattle.tx_seen.specs.declared.item.Item.{Item}
-use Rattle.tx_seen.specs.Readings.{last}
+use Rattle.tx_seen.specs.Readings.{Done, last}
 use Rattle.tx_command.specs.Taken.{joined}
 use Rattle.tx_command.specs.Begun.{Begun}
+use Rattle.tx_command.specs.declared.types.Command.{Command}
 use Rattle.tx_char.specs.declared.tokens.Token.{Token}
 use Rattle.tx_command.proofs.taking.CommandScan.feed.Goals as goal
 
@@ -20,7 +21,7 @@ returns-in_ok-given-in-Ok-Done g c =
     let begun : List Item → Begun = λ taken. record { mode = c.self.inside.mode; head = c.self.inside.head; taken = taken } in
     rw (← c.self.view_is) (
       last c.in-Ok-Done.back items,
-      (settled.0, (ap begun c.restart.ensures.taken, c.in_ok-given-in-Ok-Done.ensures ∙ ap (λ (tokens : List Token). with_tokens c.args.input.now tokens) settled.1)),
+      (settled.0 ∙ ap (λ (made : Command). Done made (last c.in-Ok-Done.back items)) (sym c.take_whole.ensures), (ap begun c.restart.ensures.taken, c.in_ok-given-in-Ok-Done.ensures ∙ ap (λ (tokens : List Token). with_tokens c.args.input.now tokens) settled.1)),
     )
 
 pub returns-in-Ok-Wrong : goal.returns-in-Ok-Wrong
