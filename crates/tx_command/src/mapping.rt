@@ -6,8 +6,8 @@ ghost use Rattle.tx_command.specs.Commands as commands;
 ghost use Rattle.tx_command.specs.Rests.{told, whole_command};
 
 use crate::scans::{Scans, Whole};
+use crate::slot::Slot;
 use crate::types::{Command, SizeUse};
-use std::mem::replace;
 use tx_node::Rule;
 use tx_prim::{DefinitionKind, LeadersKind, RuleKind, Shorthand};
 use tx_scan::Measure;
@@ -26,15 +26,8 @@ pub fn assigned(fed: Fed<()>) -> Fed<Whole>
     }
 }
 
-/// This command takes the place of the one that stood there.
-fn put(made: &mut Command, command: Command)
-    ensures { made.new ≡ command }
-{
-    drop(replace(made, command));
-}
-
 /// A command that is whole is put beside.
-pub fn put_whole(fed: Fed<Command>, made: &mut Command) -> Fed<Whole>
+pub fn put_whole(fed: Fed<Command>, made: &mut Slot) -> Fed<Whole>
     ensures answer { result ≡ mapped (λ _. Whole.Command) fed }
     ensures made { (scans : Scans) → told scans made.new result ≡ fed }
 {
@@ -42,7 +35,7 @@ pub fn put_whole(fed: Fed<Command>, made: &mut Command) -> Fed<Whole>
         Fed::More(want) => Fed::More(want),
         Fed::Need(kind) => Fed::Need(kind),
         Fed::Done(command, back) => {
-            put(made, command);
+            made.put(command);
             Fed::Done(Whole::Command, back)
         }
         Fed::Wrong(error) => Fed::Wrong(error),
@@ -50,11 +43,11 @@ pub fn put_whole(fed: Fed<Command>, made: &mut Command) -> Fed<Whole>
 }
 
 /// The command that is whole is put beside, wherever it stands.
-pub fn take_whole(whole: Whole, scans: &mut Scans, made: &mut Command)
+pub fn take_whole(whole: Whole, scans: &mut Scans, made: &mut Slot)
     ensures { made.new ≡ whole_command scans.old made.old whole }
 {
     match whole {
-        Whole::Assignment => put(made, Command::Assign(scans.assignment.take())),
+        Whole::Assignment => made.put(Command::Assign(scans.assignment.take())),
         Whole::Command => {}
     }
 }

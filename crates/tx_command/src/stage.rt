@@ -13,6 +13,7 @@ use crate::mapping::{
     shaped, sized,
 };
 use crate::scans::{RuleScan, Scans, Stage, Whole};
+use crate::slot::Slot;
 use crate::standing::{may_be_prefixed, standing_in};
 use crate::types::{Command, Head, Prefixes, SizeUse};
 use std::alloc::{AllocError, Global};
@@ -136,7 +137,7 @@ impl Scans {
         mode: Mode,
         head: &Head,
         token: &Seen,
-        made: &mut Command,
+        made: &mut Slot,
     ) -> Result<Fed<Whole>, AllocError>
         requires { IsOn self.old }
         ensures fed { IfOk result (λ fed. IsFedBy (command_rest mode head.now) held self.old token.now self.new (told self.new made.new fed)) }
@@ -158,7 +159,7 @@ impl Scans {
         mode: Mode,
         head: &Head,
         token: &Seen,
-        made: &mut Command,
+        made: &mut Slot,
     ) -> Result<Fed<Whole>, AllocError>
         requires part { IsPart self.old.stage }
         requires on { IsOn self.old }
@@ -208,7 +209,7 @@ impl Scans {
         &mut self,
         value: &Value,
         behind: &Seen,
-        made: &mut Command,
+        made: &mut Slot,
     ) -> Result<Fed<Whole>, AllocError>
         requires { IsWaiting self.old }
         ensures given { (mode : Mode) (head : Head) → IfOk result (λ fed. IsGivenBehind (command_rest mode head) held self.old value.now behind.now self.new (told self.new made.new fed)) }
@@ -227,7 +228,7 @@ impl Scans {
         &mut self,
         value: &Value,
         behind: &Seen,
-        made: &mut Command,
+        made: &mut Slot,
     ) -> Result<Fed<Whole>, AllocError>
         requires part { IsPart self.old.stage }
         requires waits { IsWaiting self.old }
@@ -267,7 +268,7 @@ impl Scans {
         mode: Mode,
         head: &Head,
         token: &Seen,
-        made: &mut Command,
+        made: &mut Slot,
     ) -> Result<Fed<Whole>, AllocError>
         ensures { IfOk result (λ fed. IsBegunBy mode head.now 1 (λ more. commands.command mode head.now (Took token.now ∷ more)) (Took token.now ∷ []) self.new (told self.new made.new fed)) }
     {
@@ -283,7 +284,7 @@ impl Scans {
         mode: Mode,
         head: &Head,
         token: &Seen,
-        made: &mut Command,
+        made: &mut Slot,
     ) -> Result<Fed<Whole>, AllocError>
         requires { IsNoName head.now }
         ensures { IfOk result (λ fed. IsBegunBy mode head.now 1 (λ more. commands.command mode head.now (Took token.now ∷ more)) (Took token.now ∷ []) self.new (told self.new made.new fed)) }

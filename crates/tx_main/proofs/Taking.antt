@@ -40,32 +40,39 @@ pub joins-whole : (s : TexState) (t : Seen) (c : Command) (behind : List Item) �
 joins-whole s t c behind is = ap (scanned s (items_with s t)) is
 
 -- the state once a token is taken
-abbrev pub fed_state : State → Begun → Input → State
-fed_state s scan input = record s { input = input; scan = scan }
+abbrev pub fed_state : State → Begun → Input → Command → State
+fed_state s scan input made = record s { input = input; scan = scan; made = made }
 
 -- what was lent is what the state knows
-pub taken-by : (s : State) (known : Lent) (scan : Begun) (input : Input) (t : Seen) (found : Taken) → known ≡ known_of (state_of s) → IsTaken (value_now known) s.scan t s.input scan input found → IsTaken (value_now (known_of (state_of s))) s.scan t s.input scan input found
-taken-by s known scan input t found same k =
-    let Holds : Lent → Type 0 = λ l. IsTaken (value_now l) s.scan t s.input scan input found in
+pub taken-by : (s : State) (known : Lent) (scan : Begun) (input : Input) (made : Command) (t : Seen) (found : Taken) → known ≡ known_of (state_of s) → IsTaken (value_now known) s.scan t s.input scan input made found → IsTaken (value_now (known_of (state_of s))) s.scan t s.input scan input made found
+taken-by s known scan input made t found same k =
+    let Holds : Lent → Type 0 = λ l. IsTaken (value_now l) s.scan t s.input scan input made found in
     subst Holds same k
 
 -- the same, and the magnification that was taken is used
-abbrev pub noted_state : State → Begun → Input → Option ℤ → State
-noted_state s scan input used = record s { input = input; scan = scan; magnification = used }
+abbrev pub noted_state : State → Begun → Input → Command → Option ℤ → State
+noted_state s scan input made used = record s { input = input; scan = scan; made = made; magnification = used }
 
-pub takes-more : (s : State) (scan : Begun) (input : Input) (t : Seen) (found : Option ℕ) (used : Option ℤ) → s.phase ≡ Running → found ≡ magnification_in scan.taken → used ≡ noted s.magnification found → IsTaken (value_now (known_of (state_of s))) s.scan t s.input scan input taken.More → IsStepped (taking (state_of s) t) s Went (noted_state s scan input used)
-takes-more s scan input t found used running is_found is_used k =
+pub takes-more : (s : State) (scan : Begun) (input : Input) (made : Command) (t : Seen) (found : Option ℕ) (used : Option ℤ) → s.phase ≡ Running → found ≡ magnification_in scan.taken → used ≡ noted s.magnification found → IsTaken (value_now (known_of (state_of s))) s.scan t s.input scan input made taken.More → IsStepped (taking (state_of s) t) s Went (noted_state s scan input made used)
+takes-more s scan input made t found used running is_found is_used k =
     rw (is_used, is_found, k.1.0, k.1.1)
     (rw (joins-more (state_of s) t k.0.0 k.0.1) (record { event_is = refl; state_is = rw running refl; said_is = sym (append-nil s.said) }))
 
-pub takes-wrong : (s new : State) (scan : Begun) (input : Input) (t : Seen) (e : TexError) (event : Event) → IsTaken (value_now (known_of (state_of s))) s.scan t s.input scan input (taken.Wrong e) → IsStepped (Fails e) (fed_state s scan input) event new → IsStepped (taking (state_of s) t) s event new
-takes-wrong s new scan input t e event k did =
+pub takes-wrong : (s new : State) (scan : Begun) (input : Input) (made : Command) (t : Seen) (e : TexError) (event : Event) → IsTaken (value_now (known_of (state_of s))) s.scan t s.input scan input made (taken.Wrong e) → IsStepped (Fails e) (fed_state s scan input made) event new → IsStepped (taking (state_of s) t) s event new
+takes-wrong s new scan input made t e event k did =
     rw (joins-wrong (state_of s) t e k) (record { event_is = did.event_is; state_is = did.state_is; said_is = did.said_is })
 
-whole-by : (s new : State) (t : Seen) (c : Command) (behind : List Item) (event : Event) → command s.scan.mode s.scan.head (items_with (state_of s) t) ≡ Done c behind → IsStepped (effect (record (state_of s) { taken = []; reader = put (tokens_of behind) (state_of s).reader }) c) (fed_state s (record s.scan { taken = [] }) (with_tokens s.input (tokens_of behind))) event new → IsStepped (taking (state_of s) t) s event new
-whole-by s new t c behind event is did =
-    rw (joins-whole (state_of s) t c behind is) (record { event_is = did.event_is; state_is = did.state_is; said_is = did.said_is })
+whole-by : (s new : State) (t : Seen) (made : Command) (behind : List Item) (event : Event) → command s.scan.mode s.scan.head (items_with (state_of s) t) ≡ Done made behind → IsStepped (effect (record (state_of s) { taken = []; reader = put (tokens_of behind) (state_of s).reader }) made) (fed_state s (record s.scan { taken = [] }) (with_tokens s.input (tokens_of behind)) made) event new → IsStepped (taking (state_of s) t) s event new
+whole-by s new t made behind event is did =
+    rw (joins-whole (state_of s) t made behind is) (record { event_is = did.event_is; state_is = did.state_is; said_is = did.said_is })
 
-pub takes-whole : {E : Type 0} (s new : State) (scan : Begun) (input : Input) (t : Seen) (c : Command) (answer : Result Event E) → IsTaken (value_now (known_of (state_of s))) s.scan t s.input scan input (taken.Whole c) → IfOk answer (λ event. IsStepped (effect (state_of (fed_state s scan input)) c) (fed_state s scan input) event new) → IfOk answer (λ event. IsStepped (taking (state_of s) t) s event new)
-takes-whole s new scan input t c (Ok event) k did = whole-by s new t c k.0 event k.1.0 (rw (k.1.1.0, k.1.1.1) at did)
-takes-whole s new scan input t c (Err e) k did = tt
+pub takes-whole : {E : Type 0} (s new : State) (scan : Begun) (input : Input) (made : Command) (t : Seen) (answer : Result Event E) → IsTaken (value_now (known_of (state_of s))) s.scan t s.input scan input made taken.Whole → IfOk answer (λ event. IsStepped (effect (state_of (fed_state s scan input made)) made) (fed_state s scan input made) event new) → IfOk answer (λ event. IsStepped (taking (state_of s) t) s event new)
+takes-whole s new scan input made t (Ok event) k did = whole-by s new t made k.0 event k.1.0 (rw (k.1.1.0, k.1.1.1) at did)
+takes-whole s new scan input made t (Err e) k did = tt
+
+-- the command that is whole, whatever stands in its place while it is carried out
+pub carries : {E : Type 0} (s new : State) (slot made : Command) (answer : Result Event E) → made ≡ s.made → IfOk answer (λ event. IsStepped (effect (state_of s) made) (record s { made = slot }) event new) → IfOk answer (λ event. IsStepped (effect (state_of s) s.made) s event new)
+carries s new slot made (Ok event) is did =
+    subst (λ (c : Command). IsStepped (effect (state_of s) c) s event new) is
+    (record { event_is = did.event_is; state_is = did.state_is; said_is = did.said_is })
+carries s new slot made (Err e) is did = tt

@@ -460,8 +460,8 @@ fn open_by(alloc: Global, s: &mut State, opener: Opener) -> Result<Event, AllocE
 }
 
 /// Carries out a command. Its only error is want of memory.
-#[inline(never)]
-pub fn carry_out(alloc: Global, s: &mut State, command: Command) -> Result<Event, AllocError>
+#[inline(always)]
+fn carry_out(alloc: Global, s: &mut State, command: Command) -> Result<Event, AllocError>
     requires running { s.old.phase ≡ Phase.Running }
     requires between { s.old.scan.taken ≡ [] }
     ensures { IfOk result (λ event. IsStepped (effects.effect (state_of s.old) command) s.old event s.new) }
@@ -513,6 +513,17 @@ pub fn carry_out(alloc: Global, s: &mut State, command: Command) -> Result<Event
         Command::DefineFuture(defined) => Ok(define_future(s, defined)),
         Command::Keep(kind, token) => keep(s, kind, token),
     }
+}
+
+/// Carries out the command that is whole. Its only error is want of memory.
+#[inline(never)]
+pub fn carry_made_out(alloc: Global, s: &mut State) -> Result<Event, AllocError>
+    requires running { s.old.phase ≡ Phase.Running }
+    requires between { s.old.scan.taken ≡ [] }
+    ensures { IfOk result (λ event. IsStepped (effects.effect (state_of s.old) s.old.made) s.old event s.new) }
+{
+    let command = s.made.take();
+    carry_out(alloc, s, command)
 }
 
 /// Carries out a command that one token is. Its only error is want of memory.

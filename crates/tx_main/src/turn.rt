@@ -13,7 +13,7 @@ ghost use Rattle.tx_main.specs.Words.{before_token};
 ghost use Rattle.tx_state.specs.Meanings.{IsStepped, meaning_of, state_of};
 
 use crate::boxes::{add_copy, add_list};
-use crate::effects::{ask, carry_out, end_text, fail, relax_name, take_at_once};
+use crate::effects::{ask, carry_made_out, end_text, fail, relax_name, take_at_once};
 use crate::fonts::{load_font, with_file};
 use crate::page::{integer, join_defined, line_end, ship_params};
 use crate::pages::build;
@@ -58,13 +58,14 @@ fn feed_command(alloc: Global, s: &mut State, seen: Seen) -> Result<Event, Alloc
         s.words.fonts(),
         s.words.is_open(),
     );
-    match s.scan.feed(&known, &mut s.input, seen)? {
+    match s.scan.feed(&known, &mut s.input, seen, &mut s.made)? {
+        // most tokens
         Taken::More => {
             note(&mut s.magnification, s.scan.magnification());
             Ok(Event::Went)
         }
         Taken::Wrong(error) => Ok(fail(s, error)),
-        Taken::Whole(command) => carry_out(alloc, s, command),
+        Taken::Whole => carry_made_out(alloc, s),
     }
 }
 

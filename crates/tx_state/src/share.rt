@@ -5,6 +5,7 @@ ghost use Rattle.tx_state.specs.Meanings.{meaning_of};
 use crate::parts::Due;
 use crate::state::State;
 use std::alloc::{AllocError, Global};
+use tx_command::CommandBuffer;
 use tx_list::{Stack, both, share_option};
 
 /// A copy of what is due. Its only error is want of memory.
@@ -23,7 +24,8 @@ pub fn share_state(alloc: Global, s: &State) -> Result<State, AllocError>
     let of_words = both(s.expander.share(alloc), s.words.share());
     let of_table = both(s.table.share(), s.hyphenation.share());
     let of_input = both(share_due(&s.due), s.input.share(alloc));
-    let begun = both(share_option(&s.text), s.scan.clone());
+    let scan = both(s.scan.clone(), CommandBuffer::new(alloc));
+    let begun = both(share_option(&s.text), scan);
     let tokens = both(s.after_groups.share(), share_option(&s.after_assignment));
     let of_bytes = both(s.defined.clone(), s.said.clone());
     let built = both(s.lists.share(), both(tokens, of_bytes));
@@ -31,7 +33,7 @@ pub fn share_state(alloc: Global, s: &State) -> Result<State, AllocError>
     let known = both(of_words, of_table);
     let ((known, read), built) = both(both(known, read), built)?;
     let ((expander, words), (table, hyphenation)) = known;
-    let ((due, input), (text, scan)) = read;
+    let ((due, input), (text, (scan, made))) = read;
     let (lists, ((after_groups, after_assignment), (defined, said))) = built;
     Ok(State {
         phase: s.phase,
@@ -41,6 +43,7 @@ pub fn share_state(alloc: Global, s: &State) -> Result<State, AllocError>
         expander,
         text,
         scan,
+        made,
         lists,
         words,
         hyphenation,

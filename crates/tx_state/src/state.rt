@@ -2,6 +2,7 @@
 ghost use Rattle.std.specs.Prelude.{◌≡◌, [], None, IfOk};
 ghost use Rattle.tx_box.specs.Beginnings.{first_lists};
 ghost use Rattle.tx_pending.specs.Elements.{no_input};
+ghost use Rattle.tx_command.specs.declared.types.Command.TheVariants.{Nothing};
 ghost use Rattle.tx_prim.specs.declared.modes.Mode.TheVariants as mode;
 
 use crate::parts::{Due, KeptToken, OpenText, Phase};
@@ -9,7 +10,7 @@ use std::alloc::{AllocError, Global};
 use tx_box::Lists;
 use tx_bytes::Bytes;
 use tx_char::Token;
-use tx_command::{CommandScan, Head};
+use tx_command::{CommandScan, Head, Slot};
 use tx_eqtb::Eqtb;
 use tx_expand::Expander;
 use tx_hyphenate::Hyphenation;
@@ -31,6 +32,8 @@ pub struct State {
     /// The text that is being taken, if one is.
     pub text: Option<OpenText>,
     pub scan: CommandScan,
+    /// Where a whole command is put before it is carried out. Nothing depends on what stands there between turns.
+    pub made: Slot,
     /// The lists that are being built, with their boxes.
     pub lists: Lists,
     /// The fonts, and the word that is open.
@@ -58,14 +61,12 @@ impl State {
         table: Eqtb,
         hyphenation: Hyphenation,
     ) -> Result<State, AllocError>
-        ensures { IfOk result (λ s. s ≡ record { phase = Phase.Running; due = []; files = 0; input = no_input; expander = expander; text = None; scan = record { mode = mode.Vertical; head = Head.Fresh; taken = [] }; lists = first_lists; words = words; hyphenation = hyphenation; table = table; after_groups = []; after_assignment = None; magnification = None; defined = []; said = [] }) }
+        ensures { IfOk result (λ s. s ≡ record { phase = Phase.Running; due = []; files = 0; input = no_input; expander = expander; text = None; scan = record { mode = mode.Vertical; head = Head.Fresh; taken = [] }; made = Nothing; lists = first_lists; words = words; hyphenation = hyphenation; table = table; after_groups = []; after_assignment = None; magnification = None; defined = []; said = [] }) }
     {
         // (what was given is dropped with the rest, in one way out)
         let given = both(Ok((expander, words)), Ok((table, hyphenation)));
-        let (((expander, words), (table, hyphenation)), scan) = both(
-            given,
-            CommandScan::new(alloc, Mode::Vertical),
-        )?;
+        let begun = both(CommandScan::new(alloc, Mode::Vertical), Slot::new(alloc));
+        let (((expander, words), (table, hyphenation)), (scan, made)) = both(given, begun)?;
         Ok(State {
             phase: Phase::Running,
             due: Stack::new(alloc),
@@ -74,6 +75,7 @@ impl State {
             expander,
             text: None,
             scan,
+            made,
             lists: Lists::new(alloc),
             words,
             hyphenation,
