@@ -166,24 +166,34 @@ assign-goes f new (fed.Done a back) is k = tt
 assign-goes f new (fed.Wrong error) is k = tt
 
 -- what a box, or what is done with one, takes, and its kin
-pub shape-needs : (old new : Scans) (answer : Fed Shaped) → old.stage ≡ stage.Shape → new.stage ≡ stage.Shape → NeedsNoMore (shape_needed old.shape) (shape_needed new.shape) answer → NeedsNoMore (more_needed old) (more_needed new) (mapped command_of answer)
-shape-needs old new answer was is k = rw (was, is) (needs-mapped command_of (shape_needed old.shape) (shape_needed new.shape) answer k)
+pub shape-fed : (mode : Mode) (head : Head) (old new : Scans) (t : Seen) (answer : Fed Shaped) → old.stage ≡ stage.Shape → new.stage ≡ stage.Shape → IsFedBy shape_rest shape_held old.shape t new.shape answer → IsFedBy (command_rest mode head) held old t new (mapped command_of answer)
+shape-fed mode head old new t answer was is k =
+    part-fed shape_rest shape_held command_of stage.Shape mode head old.shape new.shape old new t answer was is
+    (λ behind item more. refl) refl (λ behind item more. refl) refl k
 
-pub shape-fewer : (old new : Scans) (answer : Fed Shaped) → old.stage ≡ stage.Shape → new.stage ≡ stage.Shape → NeedsFewer (shape_needed old.shape) (shape_needed new.shape) answer → NeedsFewer (more_needed old) (more_needed new) (mapped command_of answer)
-shape-fewer old new answer was is k = rw (was, is) (fewer-mapped command_of (shape_needed old.shape) (shape_needed new.shape) answer k)
+pub shape-behind : (mode : Mode) (head : Head) (old new : Scans) (v : Value) (t : Seen) (answer : Fed Shaped) → old.stage ≡ stage.Shape → new.stage ≡ stage.Shape → IsGivenBehind shape_rest shape_held old.shape v t new.shape answer → IsGivenBehind (command_rest mode head) held old v t new (mapped command_of answer)
+shape-behind mode head old new v t answer was is k =
+    part-behind shape_rest shape_held command_of stage.Shape mode head old.shape new.shape old new v t answer was is
+    (λ behind item more. refl) refl (λ behind item more. refl) refl k
 
-pub shape-goes : (new : Scans) (answer : Fed Shaped) → new.stage ≡ stage.Shape → WaitsIfNeeded new.shape answer → GoesOn new (mapped command_of answer)
-shape-goes new (fed.More want) is k = rw is tt
-shape-goes new (fed.Need kind) is k = rw is (k, k.1)
-shape-goes new (fed.Done shaped back) is k = tt
-shape-goes new (fed.Wrong error) is k = tt
+pub shape-needs : {B : Type 0} (f : Shaped → B) (old new : Scans) (answer : Fed Shaped) → old.stage ≡ stage.Shape → new.stage ≡ stage.Shape → NeedsNoMore (shape_needed old.shape) (shape_needed new.shape) answer → NeedsNoMore (more_needed old) (more_needed new) (mapped f answer)
+shape-needs f old new answer was is k = rw (was, is) (needs-mapped f (shape_needed old.shape) (shape_needed new.shape) answer k)
+
+pub shape-fewer : {B : Type 0} (f : Shaped → B) (old new : Scans) (answer : Fed Shaped) → old.stage ≡ stage.Shape → new.stage ≡ stage.Shape → NeedsFewer (shape_needed old.shape) (shape_needed new.shape) answer → NeedsFewer (more_needed old) (more_needed new) (mapped f answer)
+shape-fewer f old new answer was is k = rw (was, is) (fewer-mapped f (shape_needed old.shape) (shape_needed new.shape) answer k)
+
+pub shape-goes : {B : Type 0} (f : Shaped → B) (new : Scans) (answer : Fed Shaped) → new.stage ≡ stage.Shape → WaitsIfNeeded new.shape answer → GoesOn new (mapped f answer)
+shape-goes f new (fed.More want) is k = rw is tt
+shape-goes f new (fed.Need kind) is k = rw is (k, k.1)
+shape-goes f new (fed.Done shaped back) is k = tt
+shape-goes f new (fed.Wrong error) is k = tt
 
 pub shape-begun-by : (reading : List Item → Reading Shaped) (new : Scans) (answer : Fed Shaped) → new.stage ≡ stage.Shape → BeginsShape reading new.shape answer → Begins (λ items. next (reading items) (λ s behind. Done (command_of s) behind)) new (mapped command_of answer)
 shape-begun-by reading new answer is k = λ mode head. record {
   reads = mapped-read shape_rest shape_held (command_rest mode head) held command_of 0 reading [] new.shape new answer
       (λ behind item more. ap (λ s. stage_rest mode head s new behind item more) is) (ap (λ s. stage_held s new) is) k.reads;
   needs = rw is (needs-mapped command_of 0 (shape_needed new.shape) answer (none-needs 0 (shape_needed new.shape) answer k.fewer));
-  goes_on = shape-goes new answer is (none-waits new.shape (shape_needed new.shape) answer k.fewer);
+  goes_on = shape-goes command_of new answer is (none-waits new.shape (shape_needed new.shape) answer k.fewer);
 }
 
 pub shape-begun : (what : Shaping) (new : Scans) (answer : Fed Shaped) → new.stage ≡ stage.Shape → BeginsShape (shape what) new.shape answer → Begins (shaping what) new (mapped command_of answer)

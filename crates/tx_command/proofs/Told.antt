@@ -67,16 +67,18 @@ plain-goes new scans made (fed.Need kind) k = k
 plain-goes new scans made (fed.Done value back) k = tt
 plain-goes new scans made (fed.Wrong error) k = tt
 
--- what is neither the first token nor an assignment
-pub is-part : (s : Stage) → (s ≡ stage.Assign → ⊥) → (s ≡ stage.Start → ⊥) → IsPart s
-is-part stage.Start a b = b refl
-is-part stage.Assign a b = a refl
-is-part _ a b = tt
+-- what is neither the first token, nor an assignment, nor what boxes and their kin take
+pub is-part : (s : Stage) → (s ≡ stage.Assign → ⊥) → (s ≡ stage.Shape → ⊥) → (s ≡ stage.Start → ⊥) → IsPart s
+is-part stage.Start a h b = b refl
+is-part stage.Assign a h b = a refl
+is-part stage.Shape a h b = h refl
+is-part _ a h b = tt
 
-pub waiting-part : (s : Stage) (scans : Scans) → (s ≡ stage.Assign → ⊥) → NeedsValues s scans → IsPart s
-waiting-part stage.Start scans a w = w
-waiting-part stage.Assign scans a w = a refl
-waiting-part _ scans a w = tt
+pub waiting-part : (s : Stage) (scans : Scans) → (s ≡ stage.Assign → ⊥) → (s ≡ stage.Shape → ⊥) → NeedsValues s scans → IsPart s
+waiting-part stage.Start scans a h w = w
+waiting-part stage.Assign scans a h w = a refl
+waiting-part stage.Shape scans a h w = h refl
+waiting-part _ scans a h w = tt
 
 pub no-name : (head : Head) → ((prefixes : Prefixes) (name : Place) (kind : Shorthand) → head ≡ Defining prefixes name kind → ⊥) → IsNoName head
 no-name (Defining prefixes name kind) h = h prefixes name kind refl

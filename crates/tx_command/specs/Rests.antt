@@ -168,10 +168,11 @@ abbrev pub IsNoName : Head → Type 0
 IsNoName (Defining_head prefixes name kind) = ⊥
 IsNoName _ = Unit {0}
 
--- a stage that is neither the first token nor an assignment
+-- a stage that is neither the first token, nor an assignment, nor what boxes and their kin take
 abbrev pub IsPart : Stage → Type 0
 IsPart stage.Start = ⊥
 IsPart stage.Assign = ⊥
+IsPart stage.Shape = ⊥
 IsPart _ = Unit {0}
 
 -- the command that is whole: the assignment that its scan has made, or the one that was put beside

@@ -21,7 +21,7 @@ pub fn assigned(fed: Fed<()>) -> Fed<Whole>
     match fed {
         Fed::More(want) => Fed::More(want),
         Fed::Need(kind) => Fed::Need(kind),
-        Fed::Done((), back) => Fed::Done(Whole::Assignment, back),
+        Fed::Done(_, back) => Fed::Done(Whole::Assignment, back),
         Fed::Wrong(error) => Fed::Wrong(error),
     }
 }
@@ -197,6 +197,22 @@ pub fn shaped(fed: Fed<Shaped>) -> Fed<Command>
         Fed::More(want) => Fed::More(want),
         Fed::Need(kind) => Fed::Need(kind),
         Fed::Done(shaped, back) => Fed::Done(command_of(shaped), back),
+        Fed::Wrong(error) => Fed::Wrong(error),
+    }
+}
+
+/// The same, put beside where it is whole.
+pub fn put_shaped(fed: Fed<Shaped>, made: &mut Slot) -> Fed<Whole>
+    ensures answer { result ≡ mapped (λ _. Whole.Command) fed }
+    ensures made { (scans : Scans) → told scans made.new result ≡ mapped commands.command_of fed }
+{
+    match fed {
+        Fed::More(want) => Fed::More(want),
+        Fed::Need(kind) => Fed::Need(kind),
+        Fed::Done(shaped, back) => {
+            made.put(command_of(shaped));
+            Fed::Done(Whole::Command, back)
+        }
         Fed::Wrong(error) => Fed::Wrong(error),
     }
 }

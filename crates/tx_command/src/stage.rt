@@ -9,8 +9,8 @@ ghost use Rattle.tx_command.specs.Commands as commands;
 ghost use Rattle.tx_command.specs.Rests.{command_rest, held, more_needed, told, Begins, GoesOn, IsBegunBy, IsNoName, IsOn, IsPart, IsWaiting};
 
 use crate::mapping::{
-    assigned, defined, font_defined, future_defined, led, loaded, macro_defined, put_whole, ruled,
-    shaped, sized,
+    assigned, defined, font_defined, future_defined, led, loaded, macro_defined, put_shaped,
+    put_whole, ruled, shaped, sized,
 };
 use crate::scans::{RuleScan, Scans, Stage, Whole};
 use crate::slot::Slot;
@@ -147,9 +147,21 @@ impl Scans {
         match self.stage {
             // most tokens
             Stage::Assign => Ok(assigned(self.assignment.feed(token)?)),
+            Stage::Shape => self.feed_shaped(token, made),
             Stage::Start => self.feed_first(mode, head, token, made),
             _ => self.feed_other(mode, head, token, made),
         }
+    }
+
+    /// A token of what a box, or what is done with one, takes, and its kin. Its only error is want of memory.
+    #[inline(never)]
+    fn feed_shaped(&mut self, token: &Seen, made: &mut Slot) -> Result<Fed<Whole>, AllocError>
+        requires { self.old.stage ≡ Stage.Shape }
+        ensures fed { (mode : Mode) (head : Head) → IfOk result (λ fed. IsFedBy (command_rest mode head) held self.old token.now self.new (told self.new made.new fed)) }
+        ensures needs { IfOk result (NeedsNoMore (more_needed self.old) (more_needed self.new)) }
+        ensures on { IfOk result (GoesOn self.new) }
+    {
+        Ok(put_shaped(self.shape.feed(token)?, made))
     }
 
     /// A token of any other part, which is put beside where it is whole. Its only error is want of memory.
@@ -185,7 +197,7 @@ impl Scans {
         ensures on { IfOk result (GoesOn self.new) }
     {
         match self.stage {
-            Stage::Start | Stage::Assign => unreachable!(),
+            Stage::Start | Stage::Assign | Stage::Shape => unreachable!(),
             Stage::Name(kind) => Ok(defined(kind, NameScan::new().feed(token)?)),
             Stage::MacroName(kind) => Ok(macro_defined(kind, NameScan::new().feed(token)?)),
             Stage::FutureName => Ok(future_defined(NameScan::new().feed(token)?)),
@@ -197,7 +209,6 @@ impl Scans {
             Stage::Rule(kind) => Ok(ruled(kind, self.rule.feed(token)?)),
             Stage::Leaders(kind) => Ok(self.feed_leaders(kind, token)),
             Stage::LeadersRule(kind) => Ok(led(kind, self.rule.feed(token)?)),
-            Stage::Shape => Ok(shaped(self.shape.feed(token)?)),
             Stage::Spaces => Ok(self.feed_space(token)),
         }
     }
@@ -218,6 +229,7 @@ impl Scans {
     {
         match self.stage {
             Stage::Assign => Ok(assigned(self.assignment.give(value, behind)?)),
+            Stage::Shape => Ok(put_shaped(self.shape.give(value, behind)?, made)),
             _ => self.give_other(value, behind, made),
         }
     }
@@ -252,9 +264,8 @@ impl Scans {
             Stage::Sized(size_use) => Ok(sized(size_use, self.size.give(value)?)),
             Stage::Rule(kind) => Ok(ruled(kind, self.rule.give(value, behind)?)),
             Stage::LeadersRule(kind) => Ok(led(kind, self.rule.give(value, behind)?)),
-            Stage::Shape => Ok(shaped(self.shape.give(value, behind)?)),
             Stage::Loading => Ok(loaded(self.loading.give(value)?)),
-            Stage::Start | Stage::Assign => unreachable!(),
+            Stage::Start | Stage::Assign | Stage::Shape => unreachable!(),
             Stage::FontName | Stage::Name(_) | Stage::MacroName(_) => unreachable!(),
             Stage::FutureName | Stage::SecondToken | Stage::KeptToken(_) => unreachable!(),
             Stage::Spaces | Stage::Leaders(_) => unreachable!(),

@@ -30,4 +30,7 @@ pub returns-in-Start-clause-on : goal.returns-in-Start-clause-on
 returns-in-Start-clause-on c = start-goes c.args.mode c.args.head.now c.args.token.now c.feed_first.new.self c.feed_first.new.made c.feed_first.result c.feed_first.ensures
 
 pub feed_other-requires-clause-part : goal.feed_other-requires-clause-part
-feed_other-requires-clause-part c = is-part c.args.self.now.stage c.in_default.not-Assign c.in_default.not-Start
+feed_other-requires-clause-part c = is-part c.args.self.now.stage c.in_default.not-Assign c.in_default.not-Shape c.in_default.not-Start
+
+pub returns-in-Shape-clause-fed : goal.returns-in-Shape-clause-fed
+returns-in-Shape-clause-fed c = c.feed_shaped.ensures.fed c.args.mode c.args.head.now

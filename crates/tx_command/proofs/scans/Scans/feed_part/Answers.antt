@@ -4,11 +4,10 @@ use Rattle.tx_scan.specs.DimensionRests.{rest as dimen_rest, held as dimen_held,
 use Rattle.tx_scan.specs.GrammarRests.{held_none, name_rest}
 use Rattle.tx_command.specs.declared.scans.Stage.TheVariants as stage
 use Rattle.tx_command.specs.declared.types.Command.TheVariants.{BeginLeaders, Define, DefineFont, DefineFuture, DefineMacro, Sized, Rule}
-use Rattle.tx_shape.specs.Rests.{rest as shape_rest, held as shape_held}
 use Rattle.tx_shape.specs.LoadRests.{rest as load_rest, held as load_held}
-use Rattle.tx_command.specs.Commands.{command_of, load_of}
+use Rattle.tx_command.specs.Commands.{load_of}
 use Rattle.tx_command.specs.Rests.{rule_rest, rule_held}
-use Rattle.tx_command.proofs.Stages.{part-fed, part-needs, part-goes, size-needs, size-goes, rule-needs, rule-goes, led-needs, led-goes, leaders-fed, leaders-needs, shape-needs, shape-goes, load-needs, load-goes, space-fed, end-goes, end-needs, kept-fed, second-fed}
+use Rattle.tx_command.proofs.Stages.{part-fed, part-needs, part-goes, size-needs, size-goes, rule-needs, rule-goes, led-needs, led-goes, leaders-fed, leaders-needs, load-needs, load-goes, space-fed, end-goes, end-needs, kept-fed, second-fed}
 use Rattle.tx_scan.proofs.Mosts.{most-size}
 use Rattle.tx_scan.proofs.Behind.{fed-one}
 use Rattle.tx_command.proofs.scans.Scans.feed_part.Goals as goal
@@ -124,18 +123,6 @@ returns-in-KeptToken-clause-needs c = end-needs _ _ _ _ c.feed_kept.result c.fee
 
 pub returns-in-KeptToken-clause-on : goal.returns-in-KeptToken-clause-on
 returns-in-KeptToken-clause-on c = end-goes c.args.self.now _ _ c.feed_kept.result c.feed_kept.ensures
-
-pub returns-in_ok-feed-in-Shape-clause-fed : goal.returns-in_ok-feed-in-Shape-clause-fed
-returns-in_ok-feed-in-Shape-clause-fed c =
-    rw c.shaped.ensures
-    (part-fed shape_rest shape_held command_of stage.Shape c.args.mode c.args.head.now c.args.self.now.shape c.feed-in-Shape.new.self c.args.self.now _ c.args.token.now c.in_ok-feed-in-Shape.field-0 c.in-Shape.is c.in-Shape.is
-    (λ behind item more. refl) refl (λ behind item more. refl) refl c.in_ok-feed-in-Shape.ensures.fed)
-
-pub returns-in_ok-feed-in-Shape-clause-needs : goal.returns-in_ok-feed-in-Shape-clause-needs
-returns-in_ok-feed-in-Shape-clause-needs c = rw c.shaped.ensures (shape-needs c.args.self.now _ c.in_ok-feed-in-Shape.field-0 c.in-Shape.is c.in-Shape.is c.in_ok-feed-in-Shape.ensures.needs)
-
-pub returns-in_ok-feed-in-Shape-clause-on : goal.returns-in_ok-feed-in-Shape-clause-on
-returns-in_ok-feed-in-Shape-clause-on c = rw c.shaped.ensures (shape-goes _ c.in_ok-feed-in-Shape.field-0 c.in-Shape.is c.in_ok-feed-in-Shape.ensures.waits)
 
 pub returns-in_ok-feed-in-FontName-clause-fed : goal.returns-in_ok-feed-in-FontName-clause-fed
 returns-in_ok-feed-in-FontName-clause-fed c =

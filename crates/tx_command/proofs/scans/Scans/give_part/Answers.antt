@@ -2,12 +2,11 @@ use Rattle.std.proofs.Common.{◌≤◌, refl}
 use Rattle.tx_scan.specs.DimensionRests.{rest as dimen_rest, held as dimen_held}
 use Rattle.tx_command.specs.declared.scans.Stage.TheVariants as stage
 use Rattle.tx_command.specs.declared.types.Command.TheVariants.{BeginLeaders, Sized, Rule}
-use Rattle.tx_shape.specs.Rests.{rest as shape_rest, held as shape_held}
 use Rattle.tx_shape.specs.LoadRests.{rest as load_rest, held as load_held}
-use Rattle.tx_command.specs.Commands.{command_of, load_of}
+use Rattle.tx_command.specs.Commands.{load_of}
 use Rattle.tx_command.specs.Rests.{rule_rest, rule_held}
 use Rattle.tx_scan.proofs.Behind.{given-behind, given-one}
-use Rattle.tx_command.proofs.Stages.{part-behind, size-fewer, size-goes, rule-fewer, rule-goes, led-fewer, led-goes, shape-fewer, shape-goes, load-fewer, load-goes}
+use Rattle.tx_command.proofs.Stages.{part-behind, size-fewer, size-goes, rule-fewer, rule-goes, led-fewer, led-goes, load-fewer, load-goes}
 use Rattle.tx_command.proofs.scans.Scans.give_part.Goals as goal
 
 pub returns-in_ok-give-in-Sized-clause-given : goal.returns-in_ok-give-in-Sized-clause-given
@@ -51,18 +50,6 @@ returns-in_ok-give-in-LeadersRule-clause-needs c = rw c.led.ensures (led-fewer (
 
 pub returns-in_ok-give-in-LeadersRule-clause-on : goal.returns-in_ok-give-in-LeadersRule-clause-on
 returns-in_ok-give-in-LeadersRule-clause-on c = rw c.led.ensures (led-goes (λ rule. BeginLeaders c.in-LeadersRule.kind rule) c.in-LeadersRule.kind _ c.in_ok-give-in-LeadersRule.field-0 c.in-LeadersRule.is c.in_ok-give-in-LeadersRule.ensures.on)
-
-pub returns-in_ok-give-in-Shape-clause-given : goal.returns-in_ok-give-in-Shape-clause-given
-returns-in_ok-give-in-Shape-clause-given c = λ mode head.
-    rw c.shaped.ensures
-    (part-behind shape_rest shape_held command_of stage.Shape mode head c.args.self.now.shape c.give-in-Shape.new.self c.args.self.now _ c.args.value.now c.args.behind.now c.in_ok-give-in-Shape.field-0 c.in-Shape.is c.in-Shape.is
-    (λ behind item more. refl) refl (λ behind item more. refl) refl c.in_ok-give-in-Shape.ensures.given)
-
-pub returns-in_ok-give-in-Shape-clause-needs : goal.returns-in_ok-give-in-Shape-clause-needs
-returns-in_ok-give-in-Shape-clause-needs c = rw c.shaped.ensures (shape-fewer c.args.self.now _ c.in_ok-give-in-Shape.field-0 c.in-Shape.is c.in-Shape.is c.in_ok-give-in-Shape.ensures.needs)
-
-pub returns-in_ok-give-in-Shape-clause-on : goal.returns-in_ok-give-in-Shape-clause-on
-returns-in_ok-give-in-Shape-clause-on c = rw c.shaped.ensures (shape-goes _ c.in_ok-give-in-Shape.field-0 c.in-Shape.is c.in_ok-give-in-Shape.ensures.waits)
 
 pub returns-in_ok-give-in-Loading-clause-given : goal.returns-in_ok-give-in-Loading-clause-given
 returns-in_ok-give-in-Loading-clause-given c = λ mode head.
