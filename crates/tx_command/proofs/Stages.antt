@@ -1,5 +1,6 @@
 -- Each part of a command reads on as its scan.
-use Rattle.std.proofs.Common.{◌≡◌, ◌≤◌, ◌||◌, ℕ, ℤ, true, false, cond, Some, List, [], ◌∷◌, ◌++◌, length, Result, Ok, Err, IfOk, refl, ap, sym, subst, ◌∙◌, arith}
+use Rattle.std.proofs.Common.{◌≡◌, ◌≤◌, ◌||◌, ℕ, ℤ, true, false, cond, Option, Some, None, List, [], ◌∷◌, ◌++◌, length, unwrap_or, Result, Ok, Err, IfOk, refl, ap, sym, subst, ◌∙◌, arith}
+use Rattle.std.specs.Prelude.{IfSome}
 use Rattle.tx_node.specs.declared.rule.Rule.{Rule}
 use Rattle.tx_prim.specs.declared.family.AfterKind.{AfterKind}
 use Rattle.tx_shape.specs.declared.types.Opener.{Opener}
@@ -7,7 +8,11 @@ use Rattle.tx_prim.specs.declared.family.DefinitionKind.{DefinitionKind}
 use Rattle.tx_prim.specs.declared.family.GlueForm.{GlueForm}
 use Rattle.tx_prim.specs.declared.family.LeadersKind.{LeadersKind}
 use Rattle.tx_prim.specs.declared.family.RuleKind.{RuleKind}
+use Rattle.tx_prim.specs.declared.primitive.Primitive.{Primitive}
+use Rattle.tx_prim.specs.declared.primitive.Primitive.TheVariants as primitive
 use Rattle.tx_prim.specs.declared.primitive.Primitive.TheVariants.{Rule as Rule_primitive}
+use Rattle.tx_seen.specs.declared.meaning.Meaning.{Meaning}
+use Rattle.tx_seen.specs.declared.meaning.Meaning.TheVariants as meant
 use Rattle.tx_seen.specs.declared.meaning.Meaning.TheVariants.{Command as Command_meaning}
 use Rattle.tx_prim.specs.declared.family.Shorthand.{Shorthand}
 use Rattle.tx_command.specs.declared.types.SizeUse.{SizeUse}
@@ -24,6 +29,7 @@ use Rattle.tx_seen.specs.declared.fed.Want.TheVariants.{Raw, Expanded}
 use Rattle.tx_seen.specs.declared.item.Item.{Item}
 use Rattle.tx_seen.specs.declared.item.Item.TheVariants.{Took, Gave}
 use Rattle.tx_seen.specs.declared.place.Place.{Place}
+use Rattle.tx_seen.specs.declared.place.Place.TheVariants as place
 use Rattle.tx_seen.specs.declared.seen.Seen.{Seen}
 use Rattle.tx_seen.specs.Readings.{Reading, More, Done, Wrong, ending, next}
 use Rattle.tx_scan.specs.Rests.{IsFedBy, IsGivenBehind, IsRead, HoldsOne}
@@ -34,7 +40,11 @@ use Rattle.tx_scan.specs.Dimensions.{lengths}
 use Rattle.tx_scan.specs.DimensionRests.{begun_size, rest as dimen_rest, held as dimen_held, more_needed as dimen_needed}
 use Rattle.tx_assign.specs.declared.scan.AssignScan.{AssignScan}
 use Rattle.tx_assign.specs.declared.types.Assigning.{Assigning}
+use Rattle.tx_assign.specs.declared.types.Assigning.TheVariants as assign_begun
 use Rattle.tx_assign.specs.declared.types.Assigning.TheVariants.{Named}
+use Rattle.tx_assign.specs.declared.types.Variable.{Variable}
+use Rattle.tx_assign.specs.declared.types.Variable.TheVariants.{Numbered, Standing}
+use Rattle.tx_assign.specs.Beginnings.{primitive_variable, variable_of}
 use Rattle.tx_assign.specs.Assignments.{assignment}
 use Rattle.tx_assign.specs.Rests.{rest as assign_rest, held as assign_held, more_needed as assign_needed, told as told_assigning, IsBegun, IsFed as IsAssigned, IsGiven as IsAssignedBehind, WaitsIfNeeded as WaitsIfAssigning}
 use Rattle.tx_shape.specs.declared.types.Shaped.{Shaped}
@@ -57,11 +67,11 @@ use Rattle.tx_command.specs.declared.types.Command.TheVariants.{Nothing, Assign,
 use Rattle.tx_command.specs.declared.types.Head.{Head}
 use Rattle.tx_command.specs.declared.types.Head.TheVariants.{Fresh, Prefixed, Defining, Future, Leading, Loading, Shaping as Shaping_head, Opening}
 use Rattle.tx_command.specs.declared.types.Prefixes.{Prefixes}
-use Rattle.tx_command.specs.Commands.{command, command_meant, font_defining, future_defining, load_of, loading, future_of, future_second, keeping, macro_defining, fresh_command, standing_command, may_be_prefixed, prefixed_command, assigning, defining, leaders_of, leaders_rule, leading_command, leading_glue, led_by, repeated, ruling, sizing, skipping, command_of, shaping}
+use Rattle.tx_command.specs.Commands.{command, command_meant, family_command, font_defining, future_defining, load_of, loading, future_of, future_second, keeping, macro_defining, fresh_command, standing_command, may_be_prefixed, prefixed_command, assigning, defining, leaders_of, leaders_rule, leading_command, leading_glue, led_by, repeated, ruling, sizing, skipping, command_of, shaping}
 use Rattle.tx_command.specs.Standing.{standing_in}
 use Rattle.tx_scan.proofs.Answering.{ending-none}
 use Rattle.tx_scan.specs.Mapped.{mapped}
-use Rattle.tx_command.specs.Rests.{command_rest, held, more_needed, second_rest, stage_rest, stage_held, rule_needed, told, whole_command, Begins, GoesOn, IsBegunBy, IsOn, IsOnAt, IsRuleFed}
+use Rattle.tx_command.specs.Rests.{command_rest, held, more_needed, second_rest, stage_rest, stage_held, rule_needed, told, whole_command, Begins, BeginsVariable, GoesOn, IsBegunBy, IsOn, IsOnAt, IsRuleFed}
 use Rattle.tx_command.specs.Rules.{plain_rule}
 use Rattle.tx_scan.proofs.Mappings.{Rest, read-none, fed-first, mapped-read, mapped-fed, same-read, needs-mapped, fewer-mapped}
 use Rattle.tx_scan.proofs.Behind.{mapped-behind, none-needs}
@@ -347,6 +357,41 @@ prefixed-stands prefixes t new answer s h k = λ mode head.
 
 pub first-fresh : (mode : Mode) (head : Head) (t : Seen) (new : Scans) (answer : Fed Command) → head ≡ Fresh → ((around : Mode) (before : Head) → IsBegunBy around before 1 (λ more. fresh_command mode (Took t ∷ more)) (Took t ∷ []) new answer) → IsBegunBy mode head 1 (λ more. command mode head (Took t ∷ more)) (Took t ∷ []) new answer
 first-fresh mode head t new answer e k = rw e (k mode Fresh)
+
+-- what gives a variable a value
+some-alike : (v w : Variable) → Some v ≡ Some w → v ≡ w
+some-alike v w e = ap (λ (o : Option Variable). unwrap_or o v) e
+
+primitive-meant : (p : Primitive) (v : Variable) (more : List Item) → primitive_variable p ≡ Some v → family_command p more ≡ assigning (assign_begun.Variable v) more
+primitive-meant (primitive.Numbered kind) v more e = ap (λ (w : Variable). assigning (assign_begun.Variable w) more) (some-alike (Numbered kind) v e)
+primitive-meant (primitive.Integer parameter) v more e = ap (λ (w : Variable). assigning (assign_begun.Variable w) more) (some-alike (Standing (place.Integer parameter)) v e)
+primitive-meant (primitive.Dimension parameter) v more e = ap (λ (w : Variable). assigning (assign_begun.Variable w) more) (some-alike (Standing (place.Dimension parameter)) v e)
+primitive-meant (primitive.Glue parameter) v more e = ap (λ (w : Variable). assigning (assign_begun.Variable w) more) (some-alike (Standing (place.Glue parameter)) v e)
+primitive-meant (primitive.Tokens parameter) v more e = ap (λ (w : Variable). assigning (assign_begun.Variable w) more) (some-alike (Standing (place.Tokens parameter)) v e)
+primitive-meant _ v more e = absurd (cc)
+
+variable-meant : (m : Meaning) (v : Variable) (more : List Item) → variable_of m ≡ Some v → command_meant m more ≡ assigning (assign_begun.Variable v) more
+variable-meant (meant.Command p) v more e = primitive-meant p v more e
+variable-meant (meant.CountRegister number) v more e = ap (λ (w : Variable). assigning (assign_begun.Variable w) more) (some-alike (Standing (place.Count number)) v e)
+variable-meant (meant.DimenRegister number) v more e = ap (λ (w : Variable). assigning (assign_begun.Variable w) more) (some-alike (Standing (place.Dimen number)) v e)
+variable-meant (meant.SkipRegister number) v more e = ap (λ (w : Variable). assigning (assign_begun.Variable w) more) (some-alike (Standing (place.Skip number)) v e)
+variable-meant (meant.MuskipRegister number) v more e = ap (λ (w : Variable). assigning (assign_begun.Variable w) more) (some-alike (Standing (place.Muskip number)) v e)
+variable-meant (meant.ToksRegister number) v more e = ap (λ (w : Variable). assigning (assign_begun.Variable w) more) (some-alike (Standing (place.Toks number)) v e)
+variable-meant _ v more e = absurd (cc)
+
+pub variable-in : (mode : Mode) (m : Meaning) (found : Option Variable) → standing_in mode m ≡ Stands → found ≡ variable_of m → IfSome found (λ v. BeginsVariable mode m v)
+variable-in mode m (Some v) s e = record { stands = s; is = sym e }
+variable-in mode m None s e = tt
+
+pub variable-begun : (v : Variable) (new : Scans) → new.stage ≡ stage.Assign → IsBegun (assign_begun.Variable v) new.assignment → assign_needed new.assignment ≤ 1 → Begins (assigning (assign_begun.Variable v)) new (fed.More Expanded)
+variable-begun (Numbered kind) new is k few = assign-begun (assign_begun.Variable (Numbered kind)) Expanded new refl is k few
+variable-begun (Standing p) new is k few = assign-begun (assign_begun.Variable (Standing p)) Expanded new refl is k few
+
+pub first-variable : (mode : Mode) (head : Head) (t : Seen) (v : Variable) (new : Scans) (want : Want) → head ≡ Fresh → BeginsVariable mode t.meaning v → Begins (assigning (assign_begun.Variable v)) new (fed.More want) → IsBegunBy mode head 1 (λ more. command mode head (Took t ∷ more)) (Took t ∷ []) new (fed.More want)
+first-variable mode head t v new want e found k =
+    first-fresh mode head t new (fed.More want) e
+    (fresh-stands mode t new (fed.More want) found.stands (λ m h.
+    alike m h 0 (λ more. command_meant t.meaning more) (assigning (assign_begun.Variable v)) [] new (fed.More want) (λ more. variable-meant t.meaning v more found.is) (k m h)))
 
 pub first-prefixed : (mode : Mode) (head : Head) (prefixes : Prefixes) (t : Seen) (new : Scans) (answer : Fed Command) → head ≡ Prefixed prefixes → Begins (λ more. prefixed_command prefixes (Took t ∷ more)) new answer → IsBegunBy mode head 1 (λ more. command mode head (Took t ∷ more)) (Took t ∷ []) new answer
 first-prefixed mode head prefixes t new answer e k = rw e (one-token mode (Prefixed prefixes) (λ more. prefixed_command prefixes (Took t ∷ more)) t new answer (k mode (Prefixed prefixes)))

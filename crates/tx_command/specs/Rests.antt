@@ -1,13 +1,15 @@
 -- What reading on gives, by what a scan still needs: a scan that is fed token by token means the rest of what it reads.
-use Rattle.std.specs.Prelude.{◌≤◌, ◌<◌, ◌+◌, ℕ, List, [], ◌∷◌, ◌++◌, length}
+use Rattle.std.specs.Prelude.{◌≡◌, ◌≤◌, ◌<◌, ◌+◌, ℕ, List, [], ◌∷◌, ◌++◌, length, Some}
 use Rattle.tx_node.specs.declared.rule.Rule.{Rule}
 use Rattle.tx_prim.specs.declared.modes.Mode.{Mode}
+use Rattle.tx_prim.specs.declared.modes.Standing.TheVariants.{Stands}
 use Rattle.tx_seen.specs.declared.fed.Fed.{Fed}
 use Rattle.tx_seen.specs.declared.fed.Fed.TheVariants as fed
 use Rattle.tx_seen.specs.declared.item.Item.{Item}
 use Rattle.tx_seen.specs.declared.error.TexError.TheVariants.{NotAllowed}
 use Rattle.tx_seen.specs.declared.fed.Want.{Want}
 use Rattle.tx_seen.specs.declared.item.Item.TheVariants.{Took, Gave}
+use Rattle.tx_seen.specs.declared.meaning.Meaning.{Meaning}
 use Rattle.tx_seen.specs.declared.seen.Seen.{Seen}
 use Rattle.tx_seen.specs.Readings.{Reading, Done, Wrong, next}
 use Rattle.tx_scan.specs.Mapped.{mapped}
@@ -19,6 +21,8 @@ use Rattle.tx_scan.specs.Keywords.{rest as key_rest, held as key_held}
 use Rattle.tx_scan.specs.DimensionRests.{rest as dimen_rest, held as dimen_held, more_needed as dimen_needed}
 use Rattle.tx_shape.specs.Rests.{rest as shape_rest, held as shape_held, needed as shape_needed, IsWaiting as IsWaiting_shape}
 use Rattle.tx_shape.specs.LoadRests.{rest as load_rest, held as load_held, needed as load_needed, IsWaiting as IsWaiting_load}
+use Rattle.tx_assign.specs.Beginnings.{variable_of}
+use Rattle.tx_assign.specs.declared.types.Variable.{Variable}
 use Rattle.tx_assign.specs.Rests.{made as assignment_made, rest as assign_rest, held as assign_held, more_needed as assign_needed, IsWaiting as IsWaiting_assign}
 use Rattle.tx_command.specs.declared.types.Command.{Command}
 use Rattle.tx_command.specs.declared.types.Command.TheVariants.{Assign, Sized, Rule as Rule_command, BeginLeaders}
@@ -34,6 +38,7 @@ use Rattle.tx_command.specs.declared.scans.Stage.TheVariants as stage
 use Rattle.tx_command.specs.declared.scans.Whole.{Whole}
 use Rattle.tx_command.specs.declared.scans.Whole.TheVariants as whole
 use Rattle.tx_command.specs.Rules.{letters_of, side_if, side_or_end, with_side, rule_sides}
+use Rattle.tx_command.specs.Standing.{standing_in}
 use Rattle.tx_command.specs.Commands.{command, defining, macro_defining, font_defining, future_defining, future_of, keeping, command_of, leaders_of, load_of, skipping}
 
 -- the rest of a rule by the part that comes next
@@ -209,6 +214,11 @@ pub record IsBegunBy (mode : Mode) (head : Head) (count : ℕ) (reading : List I
 -- the same of the first token of a command, behind which this is read, whatever stands before it
 abbrev pub Begins : (List Item → Reading Command) → Scans → Fed Command → Type 0
 Begins reading new answer = (mode : Mode) (head : Head) → IsBegunBy mode head 0 reading [] new answer
+
+-- what means this stands in the mode, and gives this variable a value
+pub record BeginsVariable (mode : Mode) (meant : Meaning) (variable : Variable) : Type 0 where
+  pub stands : standing_in mode meant ≡ Stands
+  pub is : variable_of meant ≡ Some variable
 
 -- the scans of a command, in this mode and behind this head, that has taken these items and wants its next token so
 pub record IsAt (mode : Mode) (head : Head) (taken : List Item) (want : Want) (scans : Scans) : Type 0 where

@@ -1,12 +1,12 @@
 //! The parts of a command, token by token (TeX: The Program, part 46 on).
-ghost use Rattle.std.specs.Prelude.{◌≡◌, ◌∷◌, [], IfOk};
+ghost use Rattle.std.specs.Prelude.{◌≡◌, ◌∷◌, [], IfOk, IfSome};
 ghost use Rattle.tx_seen.specs.declared.item.Item.TheVariants.{Took};
 ghost use Rattle.tx_seen.specs.Readings.{More};
 ghost use Rattle.tx_scan.specs.Rests.{IsFedBy, IsGivenBehind};
 ghost use Rattle.tx_scan.specs.Supplied.{NeedsNoMore, NeedsFewer};
 ghost use Rattle.tx_assign.specs.Assignments.{assignment};
 ghost use Rattle.tx_command.specs.Commands as commands;
-ghost use Rattle.tx_command.specs.Rests.{command_rest, held, more_needed, told, Begins, GoesOn, IsBegunBy, IsNoName, IsOn, IsPart, IsWaiting};
+ghost use Rattle.tx_command.specs.Rests.{command_rest, held, more_needed, told, Begins, BeginsVariable, GoesOn, IsBegunBy, IsNoName, IsOn, IsPart, IsWaiting};
 
 use crate::mapping::{
     assigned, defined, font_defined, future_defined, led, loaded, macro_defined, put_shaped,
@@ -102,6 +102,17 @@ fn leading_glue(mode: Mode, meaning: &Meaning) -> Option<GlueForm>
         Meaning::Command(Primitive::VerticalGlue(form)) if vertical => Some(*form),
         // of all others alike
         _ => None,
+    }
+}
+
+/// The variable that a token with this meaning gives a value in a mode, if it does.
+fn variable_in(mode: Mode, meaning: &Meaning) -> Option<Variable>
+    ensures { IfSome result (λ variable. BeginsVariable mode meaning.now variable) }
+{
+    match standing_in(mode, meaning) {
+        Standing::Stands => Variable::of_meaning(meaning),
+        Standing::BeginsParagraph | Standing::EndsParagraph => None,
+        Standing::EndsRun | Standing::Refused => None,
     }
 }
 
@@ -284,12 +295,41 @@ impl Scans {
         ensures { IfOk result (λ fed. IsBegunBy mode head.now 1 (λ more. commands.command mode head.now (Took token.now ∷ more)) (Took token.now ∷ []) self.new (told self.new made.new fed)) }
     {
         match head {
+            Head::Fresh => self.feed_unprefixed(mode, head, token, made),
             Head::Defining(_, name, kind) => self.feed_defining(name, *kind, token),
             _ => self.feed_head(mode, head, token, made),
         }
     }
 
-    /// The same behind any other head: what is whole is put beside. Its only error is want of memory.
+    /// The same where nothing stands before it. What gives a variable a value is told first, past all other commands. Its only error is
+    /// want of memory.
+    fn feed_unprefixed(
+        &mut self,
+        mode: Mode,
+        head: &Head,
+        token: &Seen,
+        made: &mut Slot,
+    ) -> Result<Fed<Whole>, AllocError>
+        requires { head.now ≡ Head.Fresh }
+        ensures { IfOk result (λ fed. IsBegunBy mode head.now 1 (λ more. commands.command mode head.now (Took token.now ∷ more)) (Took token.now ∷ []) self.new (told self.new made.new fed)) }
+    {
+        match variable_in(mode, &token.meaning) {
+            Some(variable) => Ok(Fed::More(self.start_variable(variable))),
+            None => self.feed_head(mode, head, token, made),
+        }
+    }
+
+    /// What gives a variable a value, and how its next token is wanted.
+    fn start_variable(&mut self, variable: Variable) -> Want
+        ensures { Begins (commands.assigning (Assigning.Variable variable)) self.new (Fed.More result) }
+    {
+        self.assignment.begin(Assigning::Variable(variable));
+        self.stage = Stage::Assign;
+        Want::Expanded
+    }
+
+    /// The same behind any other head but a name that is being defined: what is whole is put beside. Its only error is want of memory.
+    #[inline(never)]
     fn feed_head(
         &mut self,
         mode: Mode,
@@ -550,7 +590,7 @@ impl Scans {
     fn begin_variable(&mut self, variable: Variable) -> Fed<Command>
         ensures { Begins (commands.assigning (Assigning.Variable variable)) self.new result }
     {
-        self.begin_assignment(Assigning::Variable(variable), Want::Expanded)
+        Fed::More(self.start_variable(variable))
     }
 
     /// An assignment, whose next token is wanted so.
