@@ -14,6 +14,7 @@ use tx_seen::{Fed, Seen, TexError};
 
 impl AssignScan {
     /// What is skipped before a list of tokens, or what that begins with.
+    #[inline(never)]
     pub(crate) fn feed_list(&mut self, token: &Seen) -> Fed<()>
         ensures answer { IsAssigning 0 (λ more. list_value self.old.place (Took token.now ∷ more)) token.now self.new result }
         ensures needed { NeedsNoMore (waiting self.old.integer) (more_needed self.new) result }

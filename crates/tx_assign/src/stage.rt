@@ -124,6 +124,7 @@ impl AssignScan {
     }
 
     /// The assignment is whole: this becomes of its place. So many tokens behind it are given back.
+    #[inline(never)]
     pub(crate) fn end(&mut self, change: Change, back: usize) -> Fed<()>
         ensures scan { self.new ≡ record self.old { change = change } }
         ensures answer { result ≡ Fed.Done tt back }
@@ -188,6 +189,7 @@ impl AssignScan {
     }
 
     /// What \advance and its kin change.
+    #[inline(never)]
     fn feed_operand(&mut self, operation: Operation, token: &Seen) -> Fed<()>
         ensures answer { IsAssigning 0 (λ more. arithmetic operation (Took token.now ∷ more)) token.now self.new result }
         ensures needed { NeedsNoMore (waiting self.old.integer) (more_needed self.new) result }
@@ -226,6 +228,7 @@ impl AssignScan {
     }
 
     /// An optional `by`, of which this is read, or the first token of the value. Its only error is want of memory.
+    #[inline(never)]
     fn feed_by(
         &mut self,
         operation: Operation,

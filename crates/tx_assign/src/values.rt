@@ -119,6 +119,7 @@ impl AssignScan {
     }
 
     /// A size that is given.
+    #[inline(never)]
     pub(crate) fn feed_size(
         &mut self,
         purpose: Purpose,
@@ -148,6 +149,7 @@ impl AssignScan {
     }
 
     /// Glue that is given.
+    #[inline(never)]
     pub(crate) fn feed_glue(
         &mut self,
         purpose: Purpose,

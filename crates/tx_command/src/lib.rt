@@ -6,7 +6,8 @@
 //! worked out by hand and on documents that Knuth's TeX reads alike.
 //!
 //! Read `types`; `standing`, what may stand where; `scans` and `rule`, what is being read; `slot`, where a whole command is put;
-//! `mapping` and `stage`, what one token makes of it; `naming`, whether a file's name is being read; `taking`, whole commands; `at_once`, those that are one token; last `clones` and `kept`.
+//! `mapping` and `stage`, what one token makes of it; `naming`, whether a file's name is being read; `taking`, whole commands;
+//! `at_once`, those that are one token; last `clones` and `kept`.
 #![tactic(auto)]
 
 mod at_once;

@@ -43,6 +43,7 @@ pub fn put_whole(fed: Fed<Command>, made: &mut Slot) -> Fed<Whole>
 }
 
 /// The command that is whole is put beside, wherever it stands.
+#[inline(never)]
 pub fn take_whole(whole: Whole, scans: &mut Scans, made: &mut Slot)
     ensures { made.new ≡ whole_command scans.old made.old whole }
 {

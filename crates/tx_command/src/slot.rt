@@ -21,6 +21,7 @@ impl Model for Slot {
 }
 
 /// This command takes the place of the one that stood there.
+#[inline(never)]
 fn put_into(place: &mut Command, command: Command)
     ensures { place.new ≡ command }
 {

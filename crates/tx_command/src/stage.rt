@@ -224,8 +224,8 @@ impl Scans {
         }
     }
 
-    /// Takes the value that an assignment or a size needs, where this token was taken last. A command that is whole stands where the
-    /// answer says. Its only error is want of memory.
+    /// Takes the value that an assignment or a size needs, where this token was taken last. A command that is whole stands where
+    /// the answer says. Its only error is want of memory.
     #[inline(never)]
     pub(crate) fn give(
         &mut self,
@@ -301,8 +301,8 @@ impl Scans {
         }
     }
 
-    /// The same where nothing stands before it. What gives a variable a value is told first, past all other commands. Its only error is
-    /// want of memory.
+    /// The same where nothing stands before it. What gives a variable a value is told first, past all other commands. Its only
+    /// error is want of memory.
     fn feed_unprefixed(
         &mut self,
         mode: Mode,
@@ -328,7 +328,7 @@ impl Scans {
         Want::Expanded
     }
 
-    /// The same behind any other head but a name that is being defined: what is whole is put beside. Its only error is want of memory.
+    /// The same where no name is being defined: what is whole is put beside. Its only error is want of memory.
     #[inline(never)]
     fn feed_head(
         &mut self,

@@ -193,8 +193,8 @@ impl CommandScan {
     }
 
     /// Takes one token more, and the values that the command needs behind it. A whole command is put into `made`. Behind it, whose
-    /// last tokens are put at the front of the input where they aren't part of it, or a wrong one, the next begins. Its only error is
-    /// want of memory.
+    /// last tokens are put at the front of the input where they aren't part of it, or a wrong one, the next begins. Its only error
+    /// is want of memory.
     pub fn feed<Q: Quantities>(
         &mut self,
         quantities: &Q,
