@@ -188,6 +188,7 @@ fn heed(alloc: Global, s: &mut State, answer: Expanded) -> Result<Event, AllocEr
 }
 
 /// Takes one turn of the expander, and what it answers. Its only error is want of memory.
+#[inline(always)]
 fn read(alloc: Global, s: &mut State) -> Result<Event, AllocError>
     requires { s.old.phase ≡ Phase.Running }
     ensures { IfOk result (λ event. IsStepped (turns.reads (state_of s.old)) s.old event s.new) }
@@ -321,17 +322,27 @@ fn work(alloc: Global, s: &mut State, due: Due) -> Result<Event, AllocError>
     }
 }
 
+/// Does the work that comes first, or reads. It is large, and stays out of the turns that have none.
+#[inline(never)]
+fn take_due(alloc: Global, s: &mut State) -> Result<Event, AllocError>
+    requires { s.old.phase ≡ Phase.Running }
+    ensures { IfOk result (λ event. IsStepped (turns.goes_on (state_of s.old) s.old.due) s.old event s.new) }
+{
+    match s.due.pop() {
+        Some(due) => work(alloc, s, due),
+        None => read(alloc, s),
+    }
+}
+
 /// Does the work that comes first, or reads.
 fn go_on(alloc: Global, s: &mut State) -> Result<Event, AllocError>
     requires { s.old.phase ≡ Phase.Running }
     ensures { IfOk result (λ event. IsStepped (turns.goes_on (state_of s.old) s.old.due) s.old event s.new) }
 {
     if s.due.is_empty() {
-        return read(alloc, s);
-    }
-    match s.due.pop() {
-        Some(due) => work(alloc, s, due),
-        None => read(alloc, s),
+        read(alloc, s)
+    } else {
+        take_due(alloc, s)
     }
 }
 
