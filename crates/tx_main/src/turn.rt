@@ -1,6 +1,6 @@
 //! One turn: due work, the ask for a line, or one token and its expansion (TeX: The Program, sections 1030, 343, 360 and 366).
 ghost use Rattle.tx_seen.specs.Magnified.{noted};
-ghost use Rattle.std.specs.Prelude.{◌≡◌, true, is_some, Ok, IfOk, OnOk};
+ghost use Rattle.std.specs.Prelude.{◌≡◌, ◌≢◌, [], true, is_some, Ok, IfOk, OnOk};
 ghost use Rattle.tx_machine.specs.Machine.{Ready};
 ghost use Rattle.tx_prim.specs.declared.integer.IntegerParameter.TheVariants.{Mag};
 ghost use Rattle.tx_ship.specs.Pages.{IsMag};
@@ -188,7 +188,6 @@ fn heed(alloc: Global, s: &mut State, answer: Expanded) -> Result<Event, AllocEr
 }
 
 /// Takes one turn of the expander, and what it answers. Its only error is want of memory.
-#[inline(always)]
 fn read(alloc: Global, s: &mut State) -> Result<Event, AllocError>
     requires { s.old.phase ≡ Phase.Running }
     ensures { IfOk result (λ event. IsStepped (turns.reads (state_of s.old)) s.old event s.new) }
@@ -322,15 +321,16 @@ fn work(alloc: Global, s: &mut State, due: Due) -> Result<Event, AllocError>
     }
 }
 
-/// Does the work that comes first, or reads. It is large, and stays out of the turns that have none.
+/// Does the work that comes first. It is large, and stays out of the turns that have none.
 #[inline(never)]
 fn take_due(alloc: Global, s: &mut State) -> Result<Event, AllocError>
-    requires { s.old.phase ≡ Phase.Running }
+    requires running { s.old.phase ≡ Phase.Running }
+    requires due { s.old.due ≢ [] }
     ensures { IfOk result (λ event. IsStepped (turns.goes_on (state_of s.old) s.old.due) s.old event s.new) }
 {
     match s.due.pop() {
         Some(due) => work(alloc, s, due),
-        None => read(alloc, s),
+        None => unreachable!(),
     }
 }
 
@@ -340,10 +340,9 @@ fn go_on(alloc: Global, s: &mut State) -> Result<Event, AllocError>
     ensures { IfOk result (λ event. IsStepped (turns.goes_on (state_of s.old) s.old.due) s.old event s.new) }
 {
     if s.due.is_empty() {
-        read(alloc, s)
-    } else {
-        take_due(alloc, s)
+        return read(alloc, s);
     }
+    take_due(alloc, s)
 }
 
 /// Takes one turn. Its only error is want of memory.
