@@ -527,6 +527,7 @@ pub fn carry_made_out(alloc: Global, s: &mut State) -> Result<Event, AllocError>
 }
 
 /// Carries out a command that one token is. Its only error is want of memory.
+#[inline(never)]
 pub fn take_at_once(alloc: Global, s: &mut State, found: AtOnce) -> Result<Event, AllocError>
     requires running { s.old.phase ≡ Phase.Running }
     requires between { s.old.scan.taken ≡ [] }

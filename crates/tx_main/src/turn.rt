@@ -169,13 +169,15 @@ fn close(s: &mut State) -> Event
     }
 }
 
-/// Does what the expander's answer asks for. Its only error is want of memory.
-fn heed(alloc: Global, s: &mut State, answer: Expanded) -> Result<Event, AllocError>
-    requires { s.old.phase ≡ Phase.Running }
+/// Does what an answer of the expander that is no token asks for. Its only error is want of memory.
+#[inline(never)]
+fn heed_other(alloc: Global, s: &mut State, answer: Expanded) -> Result<Event, AllocError>
+    requires running { s.old.phase ≡ Phase.Running }
+    requires other { (t : Seen) → answer ≡ Expanded.Got t → ⊥ }
     ensures { IfOk result (λ event. IsStepped (turns.answered (state_of s.old) answer) s.old event s.new) }
 {
     match answer {
-        Expanded::Got(seen) => take(alloc, s, seen),
+        Expanded::Got(_) => unreachable!(),
         Expanded::Text(tokens) => put_text(s, tokens),
         Expanded::Went => Ok(Event::Went),
         Expanded::Marked => Ok(fail(s, TexError::UnbalancedOutput)),
@@ -184,6 +186,18 @@ fn heed(alloc: Global, s: &mut State, answer: Expanded) -> Result<Event, AllocEr
         Expanded::Used(true) => Ok(close(s)),
         Expanded::Asks(name) => Ok(ask(s, AskKind::Open, Ask::Open(name))),
         Expanded::Wrong(error) => Ok(fail(s, error)),
+    }
+}
+
+/// Does what the expander's answer asks for. Its only error is want of memory.
+fn heed(alloc: Global, s: &mut State, answer: Expanded) -> Result<Event, AllocError>
+    requires { s.old.phase ≡ Phase.Running }
+    ensures { IfOk result (λ event. IsStepped (turns.answered (state_of s.old) answer) s.old event s.new) }
+{
+    match answer {
+        // most turns
+        Expanded::Got(seen) => take(alloc, s, seen),
+        answer => heed_other(alloc, s, answer),
     }
 }
 
