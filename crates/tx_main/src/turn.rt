@@ -169,17 +169,17 @@ fn close(s: &mut State) -> Event
     }
 }
 
-/// Does what an answer of the expander that is no token asks for. Its only error is want of memory.
+/// Does what an answer of the expander asks for that neither is a token nor only goes on. Its only error is want of memory.
 #[inline(never)]
 fn heed_other(alloc: Global, s: &mut State, answer: Expanded) -> Result<Event, AllocError>
     requires running { s.old.phase ≡ Phase.Running }
-    requires other { (t : Seen) → answer ≡ Expanded.Got t → ⊥ }
+    requires no_token { (t : Seen) → answer ≡ Expanded.Got t → ⊥ }
+    requires asks { answer ≡ Expanded.Went → ⊥ }
     ensures { IfOk result (λ event. IsStepped (turns.answered (state_of s.old) answer) s.old event s.new) }
 {
     match answer {
-        Expanded::Got(_) => unreachable!(),
+        Expanded::Got(_) | Expanded::Went => unreachable!(),
         Expanded::Text(tokens) => put_text(s, tokens),
-        Expanded::Went => Ok(Event::Went),
         Expanded::Marked => Ok(fail(s, TexError::UnbalancedOutput)),
         Expanded::Relaxes(name) => relax_name(s, name),
         Expanded::Used(false) => Ok(ask(s, AskKind::Line, Ask::Line)),
@@ -197,6 +197,7 @@ fn heed(alloc: Global, s: &mut State, answer: Expanded) -> Result<Event, AllocEr
     match answer {
         // most turns
         Expanded::Got(seen) => take(alloc, s, seen),
+        Expanded::Went => Ok(Event::Went),
         answer => heed_other(alloc, s, answer),
     }
 }
