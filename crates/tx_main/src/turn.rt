@@ -178,7 +178,8 @@ fn heed_other(alloc: Global, s: &mut State, answer: Expanded) -> Result<Event, A
     ensures { IfOk result (λ event. IsStepped (turns.answered (state_of s.old) answer) s.old event s.new) }
 {
     match answer {
-        Expanded::Got(_) | Expanded::Went => unreachable!(),
+        Expanded::Got(_) => unreachable!(),
+        Expanded::Went => unreachable!(),
         Expanded::Text(tokens) => put_text(s, tokens),
         Expanded::Marked => Ok(fail(s, TexError::UnbalancedOutput)),
         Expanded::Relaxes(name) => relax_name(s, name),
