@@ -460,7 +460,7 @@ fn open_by(alloc: Global, s: &mut State, opener: Opener) -> Result<Event, AllocE
 }
 
 /// Carries out a command. Its only error is want of memory.
-#[inline(always)]
+#[inline(never)]
 fn carry_out(alloc: Global, s: &mut State, command: Command) -> Result<Event, AllocError>
     requires running { s.old.phase ≡ Phase.Running }
     requires between { s.old.scan.taken ≡ [] }
@@ -523,7 +523,11 @@ pub fn carry_made_out(alloc: Global, s: &mut State) -> Result<Event, AllocError>
     ensures { IfOk result (λ event. IsStepped (effects.effect (state_of s.old) s.old.made) s.old event s.new) }
 {
     let command = s.made.take();
-    carry_out(alloc, s, command)
+    match command {
+        // most commands
+        Command::Assign(assignment) => assign(alloc, s, assignment),
+        command => carry_out(alloc, s, command),
+    }
 }
 
 /// Carries out a command that one token is. Its only error is want of memory.
