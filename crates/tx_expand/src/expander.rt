@@ -18,7 +18,7 @@ use tx_bytes::Bytes;
 use tx_cond::CondStack;
 use tx_pending::{Next, Pending};
 use tx_prim::Mode;
-use tx_seen::{Meaning, Seen, TexError};
+use tx_seen::{Seen, TexError};
 
 /// What has begun and hasn't ended, between the input and the one who carries commands out. Contracts see the expansions and
 /// the conditionals, the innermost first each, and the main file's name.
@@ -141,17 +141,12 @@ impl Expander {
                 if self.open.passes(&seen.meaning) {
                     return Ok(Expanded::Got(seen));
                 }
-                match &seen.meaning {
-                    Meaning::Macro(made) if self.open.expands(wanted, made) => {
-                        self.open.use_macro(alloc, input, made)
-                    }
-                    _ => self.open.read(alloc, input, known, mode, wanted, seen),
-                }
+                self.open.read_other(alloc, input, known, mode, wanted, seen)
             }
             Next::Held(token) => {
                 let meaning = known.table.meaning(&token)?;
                 let seen = Seen { token, meaning }.held();
-                self.open.read(alloc, input, known, mode, wanted, seen)
+                self.open.read_other(alloc, input, known, mode, wanted, seen)
             }
             Next::Marker => Ok(Expanded::Marked),
             Next::Used { close } => Ok(Expanded::Used(close)),

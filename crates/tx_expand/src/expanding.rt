@@ -752,6 +752,28 @@ impl Open {
         }
     }
 
+    /// A token is read that isn't the caller's however it wants it. It is large, and stays out of the turns of all others. Its only
+    /// error is want of memory.
+    #[inline(never)]
+    pub(crate) fn read_other(
+        &mut self,
+        alloc: Global,
+        input: &mut Pending,
+        known: &Known,
+        mode: Mode,
+        wanted: Wanted,
+        token: Seen,
+    ) -> Result<Expanded, AllocError>
+        ensures { IfOk result (IsTurned (token_read (world_of (lent known.now) mode) wanted token (reader_of self.old input.old)) (reader_of self.new input.new)) }
+    {
+        match &token.meaning {
+            Meaning::Macro(made) if self.expands(wanted, made) => {
+                self.use_macro(alloc, input, made)
+            }
+            _ => self.read(alloc, input, known, mode, wanted, token),
+        }
+    }
+
     /// Whether the first line of a file is awaited.
     pub(crate) fn is_opening(&self) -> bool
         ensures { result ≡ turns.is_opening self.now.begun.items }
