@@ -141,12 +141,14 @@ impl Expander {
                 if self.open.passes(&seen.meaning) {
                     return Ok(Expanded::Got(seen));
                 }
-                self.open.read_other(alloc, input, known, mode, wanted, seen)
+                self.open
+                    .read_other(alloc, input, known, mode, wanted, seen)
             }
             Next::Held(token) => {
                 let meaning = known.table.meaning(&token)?;
                 let seen = Seen { token, meaning }.held();
-                self.open.read_other(alloc, input, known, mode, wanted, seen)
+                self.open
+                    .read_other(alloc, input, known, mode, wanted, seen)
             }
             Next::Marker => Ok(Expanded::Marked),
             Next::Used { close } => Ok(Expanded::Used(close)),
