@@ -5,27 +5,27 @@
 //! them, and the tokens that it didn't need stand before the input again. Only tested: that the grammars are TeX's, on commands
 //! worked out by hand and on documents that Knuth's TeX reads alike.
 //!
-//! Read `types`; `standing`, what may stand where; `scans` and `rule`, what is being read; `slot`, where a whole command is put;
+//! Read `types`; `standing`, what may stand where; `scans` and `rule`, what is being read; `buffer`, where a whole command is put;
 //! `mapping` and `stage`, what one token makes of it; `naming`, whether a file's name is being read; `taking`, whole commands;
 //! `at_once`, those that are one token; last `clones` and `kept`.
 #![tactic(auto)]
 
 mod at_once;
+mod buffer;
 mod clones;
 mod kept;
 mod mapping;
 mod naming;
 mod rule;
 mod scans;
-mod slot;
 mod stage;
 mod standing;
 mod taking;
 mod types;
 
 pub use at_once::AtOnce;
+pub use buffer::CommandBuffer;
 pub use scans::Taken;
-pub use slot::Slot;
 pub use taking::CommandScan;
 pub use tx_shape::{AskedSize, BoxContext, BoxGoal};
 pub use types::{Command, Head, Prefixes, SizeUse};

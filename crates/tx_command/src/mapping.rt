@@ -5,8 +5,8 @@ ghost use Rattle.tx_scan.specs.Mapped.{mapped};
 ghost use Rattle.tx_command.specs.Commands as commands;
 ghost use Rattle.tx_command.specs.Rests.{told, whole_command};
 
+use crate::buffer::CommandBuffer;
 use crate::scans::{Scans, Whole};
-use crate::slot::Slot;
 use crate::types::{Command, SizeUse};
 use tx_node::Rule;
 use tx_prim::{DefinitionKind, LeadersKind, RuleKind, Shorthand};
@@ -27,7 +27,7 @@ pub fn assigned(fed: Fed<()>) -> Fed<Whole>
 }
 
 /// A command that is whole is put beside.
-pub fn put_whole(fed: Fed<Command>, made: &mut Slot) -> Fed<Whole>
+pub fn put_whole(fed: Fed<Command>, made: &mut CommandBuffer) -> Fed<Whole>
     ensures answer { result ≡ mapped (λ _. Whole.Command) fed }
     ensures made { (scans : Scans) → told scans made.new result ≡ fed }
 {
@@ -44,7 +44,7 @@ pub fn put_whole(fed: Fed<Command>, made: &mut Slot) -> Fed<Whole>
 
 /// The command that is whole is put beside, wherever it stands.
 #[inline(never)]
-pub fn take_whole(whole: Whole, scans: &mut Scans, made: &mut Slot)
+pub fn take_whole(whole: Whole, scans: &mut Scans, made: &mut CommandBuffer)
     ensures { made.new ≡ whole_command scans.old made.old whole }
 {
     match whole {
@@ -203,7 +203,7 @@ pub fn shaped(fed: Fed<Shaped>) -> Fed<Command>
 }
 
 /// The same, put beside where it is whole.
-pub fn put_shaped(fed: Fed<Shaped>, made: &mut Slot) -> Fed<Whole>
+pub fn put_shaped(fed: Fed<Shaped>, made: &mut CommandBuffer) -> Fed<Whole>
     ensures answer { result ≡ mapped (λ _. Whole.Command) fed }
     ensures made { (scans : Scans) → told scans made.new result ≡ mapped commands.command_of fed }
 {

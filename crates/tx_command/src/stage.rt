@@ -8,12 +8,12 @@ ghost use Rattle.tx_assign.specs.Assignments.{assignment};
 ghost use Rattle.tx_command.specs.Commands as commands;
 ghost use Rattle.tx_command.specs.Rests.{command_rest, held, more_needed, told, Begins, BeginsVariable, GoesOn, IsBegunBy, IsNoName, IsOn, IsPart, IsWaiting};
 
+use crate::buffer::CommandBuffer;
 use crate::mapping::{
     assigned, defined, font_defined, future_defined, led, loaded, macro_defined, put_shaped,
     put_whole, ruled, shaped, sized,
 };
 use crate::scans::{RuleScan, Scans, Stage, Whole};
-use crate::slot::Slot;
 use crate::standing::{may_be_prefixed, standing_in};
 use crate::types::{Command, Head, Prefixes, SizeUse};
 use std::alloc::{AllocError, Global};
@@ -148,7 +148,7 @@ impl Scans {
         mode: Mode,
         head: &Head,
         token: &Seen,
-        made: &mut Slot,
+        made: &mut CommandBuffer,
     ) -> Result<Fed<Whole>, AllocError>
         requires { IsOn self.old }
         ensures fed { IfOk result (λ fed. IsFedBy (command_rest mode head.now) held self.old token.now self.new (told self.new made.new fed)) }
@@ -166,7 +166,11 @@ impl Scans {
 
     /// A token of what a box, or what is done with one, takes, and its kin. Its only error is want of memory.
     #[inline(never)]
-    fn feed_shaped(&mut self, token: &Seen, made: &mut Slot) -> Result<Fed<Whole>, AllocError>
+    fn feed_shaped(
+        &mut self,
+        token: &Seen,
+        made: &mut CommandBuffer,
+    ) -> Result<Fed<Whole>, AllocError>
         requires { self.old.stage ≡ Stage.Shape }
         ensures fed { (mode : Mode) (head : Head) → IfOk result (λ fed. IsFedBy (command_rest mode head) held self.old token.now self.new (told self.new made.new fed)) }
         ensures needs { IfOk result (NeedsNoMore (more_needed self.old) (more_needed self.new)) }
@@ -182,7 +186,7 @@ impl Scans {
         mode: Mode,
         head: &Head,
         token: &Seen,
-        made: &mut Slot,
+        made: &mut CommandBuffer,
     ) -> Result<Fed<Whole>, AllocError>
         requires part { IsPart self.old.stage }
         requires on { IsOn self.old }
@@ -231,7 +235,7 @@ impl Scans {
         &mut self,
         value: &Value,
         behind: &Seen,
-        made: &mut Slot,
+        made: &mut CommandBuffer,
     ) -> Result<Fed<Whole>, AllocError>
         requires { IsWaiting self.old }
         ensures given { (mode : Mode) (head : Head) → IfOk result (λ fed. IsGivenBehind (command_rest mode head) held self.old value.now behind.now self.new (told self.new made.new fed)) }
@@ -251,7 +255,7 @@ impl Scans {
         &mut self,
         value: &Value,
         behind: &Seen,
-        made: &mut Slot,
+        made: &mut CommandBuffer,
     ) -> Result<Fed<Whole>, AllocError>
         requires part { IsPart self.old.stage }
         requires waits { IsWaiting self.old }
@@ -290,7 +294,7 @@ impl Scans {
         mode: Mode,
         head: &Head,
         token: &Seen,
-        made: &mut Slot,
+        made: &mut CommandBuffer,
     ) -> Result<Fed<Whole>, AllocError>
         ensures { IfOk result (λ fed. IsBegunBy mode head.now 1 (λ more. commands.command mode head.now (Took token.now ∷ more)) (Took token.now ∷ []) self.new (told self.new made.new fed)) }
     {
@@ -308,7 +312,7 @@ impl Scans {
         mode: Mode,
         head: &Head,
         token: &Seen,
-        made: &mut Slot,
+        made: &mut CommandBuffer,
     ) -> Result<Fed<Whole>, AllocError>
         requires { head.now ≡ Head.Fresh }
         ensures { IfOk result (λ fed. IsBegunBy mode head.now 1 (λ more. commands.command mode head.now (Took token.now ∷ more)) (Took token.now ∷ []) self.new (told self.new made.new fed)) }
@@ -335,7 +339,7 @@ impl Scans {
         mode: Mode,
         head: &Head,
         token: &Seen,
-        made: &mut Slot,
+        made: &mut CommandBuffer,
     ) -> Result<Fed<Whole>, AllocError>
         requires { IsNoName head.now }
         ensures { IfOk result (λ fed. IsBegunBy mode head.now 1 (λ more. commands.command mode head.now (Took token.now ∷ more)) (Took token.now ∷ []) self.new (told self.new made.new fed)) }

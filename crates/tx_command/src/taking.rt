@@ -13,10 +13,10 @@ ghost use Rattle.tx_seen.specs.Magnified.{magnification_in};
 ghost use Rattle.tx_command.specs.Rests.{command_rest, held, more_needed, told, GoesOn, IsOn, IsWaiting};
 ghost use Rattle.tx_command.specs.Taken.{joined, IsEnd, IsPending, IsSettled, IsTaken};
 
+use crate::buffer::CommandBuffer;
 use crate::mapping::take_whole;
 use crate::naming::is_naming;
 use crate::scans::{Scans, Stage, Taken, Whole};
-use crate::slot::Slot;
 use crate::types::{Head, Prefixes};
 use std::alloc::{AllocError, Global};
 use std::marker::Model;
@@ -200,7 +200,7 @@ impl CommandScan {
         quantities: &Q,
         input: &mut Pending,
         token: Seen,
-        made: &mut Slot,
+        made: &mut CommandBuffer,
     ) -> Result<Taken, AllocError>
         ensures { IfOk result (IsTaken (Q.value_at quantities.now) self.old token input.old self.new input.new made.new) }
     {
@@ -282,7 +282,7 @@ fn take<Q: Quantities>(
     scans: &mut Scans,
     quantities: &Q,
     token: Seen,
-    made: &mut Slot,
+    made: &mut CommandBuffer,
 ) -> Result<Fed<Whole>, AllocError>
     requires reads { HasTakenBy (command_rest mode head.now) held (commands.command mode head.now) scans.old taken.old }
     requires on { IsOn scans.old }
@@ -317,7 +317,7 @@ fn supply<Q: Quantities>(
     quantities: &Q,
     token: Seen,
     kind: Kind,
-    made: &mut Slot,
+    made: &mut CommandBuffer,
 ) -> Result<Fed<Whole>, AllocError>
     requires { IsWaiting scans.old }
     ensures settled { (mode : Mode) (head : Head) (items : List Item) → IsPending (Q.value_at quantities.now) mode head items (taken.old ++ Took token ∷ []) scans.old (Fed.Need kind) → IfOk result (λ fed. IsSettled mode head items taken.new scans.new (told scans.new made.new fed)) }
@@ -336,7 +336,7 @@ fn settle<Q: Quantities>(
     quantities: &Q,
     behind: &Seen,
     fed: Fed<Whole>,
-    made: &mut Slot,
+    made: &mut CommandBuffer,
 ) -> Result<Fed<Whole>, AllocError>
     requires on { GoesOn scans.old fed }
     requires last { last 1 taken.old ≡ Took behind.now ∷ [] }
@@ -359,7 +359,7 @@ fn give<Q: Quantities>(
     quantities: &Q,
     behind: &Seen,
     kind: &Kind,
-    made: &mut Slot,
+    made: &mut CommandBuffer,
 ) -> Result<Fed<Whole>, AllocError>
     requires { IsWaiting scans.old }
     ensures given { (mode : Mode) (head : Head) → IfOk result (λ fed. IsGivenBehind (command_rest mode head) held scans.old (value_for (Q.value_at quantities.now) kind.now) behind.now scans.new (told scans.new made.new fed)) }

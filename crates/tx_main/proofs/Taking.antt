@@ -71,8 +71,8 @@ takes-whole s new scan input made t (Ok event) k did = whole-by s new t made k.0
 takes-whole s new scan input made t (Err e) k did = tt
 
 -- the command that is whole, whatever stands in its place while it is carried out
-pub carries : {E : Type 0} (s new : State) (slot made : Command) (answer : Result Event E) → made ≡ s.made → IfOk answer (λ event. IsStepped (effect (state_of s) made) (record s { made = slot }) event new) → IfOk answer (λ event. IsStepped (effect (state_of s) s.made) s event new)
-carries s new slot made (Ok event) is did =
+pub carries : {E : Type 0} (s new : State) (other made : Command) (answer : Result Event E) → made ≡ s.made → IfOk answer (λ event. IsStepped (effect (state_of s) made) (record s { made = other }) event new) → IfOk answer (λ event. IsStepped (effect (state_of s) s.made) s event new)
+carries s new other made (Ok event) is did =
     subst (λ (c : Command). IsStepped (effect (state_of s) c) s event new) is
     (record { event_is = did.event_is; state_is = did.state_is; said_is = did.said_is })
-carries s new slot made (Err e) is did = tt
+carries s new other made (Err e) is did = tt

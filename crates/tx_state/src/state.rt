@@ -10,7 +10,7 @@ use std::alloc::{AllocError, Global};
 use tx_box::Lists;
 use tx_bytes::Bytes;
 use tx_char::Token;
-use tx_command::{CommandScan, Head, Slot};
+use tx_command::{CommandBuffer, CommandScan, Head};
 use tx_eqtb::Eqtb;
 use tx_expand::Expander;
 use tx_hyphenate::Hyphenation;
@@ -33,7 +33,7 @@ pub struct State {
     pub text: Option<OpenText>,
     pub scan: CommandScan,
     /// Where a whole command is put before it is carried out. Nothing depends on what stands there between turns.
-    pub made: Slot,
+    pub made: CommandBuffer,
     /// The lists that are being built, with their boxes.
     pub lists: Lists,
     /// The fonts, and the word that is open.
@@ -65,7 +65,10 @@ impl State {
     {
         // (what was given is dropped with the rest, in one way out)
         let given = both(Ok((expander, words)), Ok((table, hyphenation)));
-        let begun = both(CommandScan::new(alloc, Mode::Vertical), Slot::new(alloc));
+        let begun = both(
+            CommandScan::new(alloc, Mode::Vertical),
+            CommandBuffer::new(alloc),
+        );
         let (((expander, words), (table, hyphenation)), (scan, made)) = both(given, begun)?;
         Ok(State {
             phase: Phase::Running,

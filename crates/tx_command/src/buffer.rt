@@ -6,13 +6,13 @@ use std::alloc::{AllocError, Global};
 use std::marker::Model;
 use std::mem::replace;
 
-/// A place for a whole command, which stays where it is: a token moves none. Contracts see the command.
+/// Where a whole command is put until it is carried out, so that no token moves one. Contracts see the command.
 #[derive(Drop)]
-pub struct Slot {
+pub struct CommandBuffer {
     command: Box<Command>,
 }
 
-impl Model for Slot {
+impl Model for CommandBuffer {
     ghost use Rattle.tx_command.specs.declared.types.Command.{Command};
 
     ghost Value = { Command };
@@ -36,12 +36,12 @@ fn take_from(place: &mut Command) -> Command
     replace(place, Command::Nothing)
 }
 
-impl Slot {
-    /// A place in which nothing stands. Its only error is want of memory.
-    pub fn new(alloc: Global) -> Result<Slot, AllocError>
-        ensures { IfOk result (λ slot. slot ≡ Command.Nothing) }
+impl CommandBuffer {
+    /// A buffer in which nothing stands. Its only error is want of memory.
+    pub fn new(alloc: Global) -> Result<CommandBuffer, AllocError>
+        ensures { IfOk result (λ buffer. buffer ≡ Command.Nothing) }
     {
-        Ok(Slot {
+        Ok(CommandBuffer {
             command: Box::new(alloc, Command::Nothing)?,
         })
     }
