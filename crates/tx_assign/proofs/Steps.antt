@@ -26,6 +26,8 @@ use Rattle.tx_scan.proofs.Answering.{answer-part, ending-all, fed-answers, fed-p
 use Rattle.tx_scan.proofs.Behind.{behind-answers, given-behind, read-one}
 use Rattle.tx_scan.proofs.Mappings.{same-read}
 use Rattle.tx_assign.specs.declared.scan.AssignScan.{AssignScan}
+use Rattle.tx_assign.specs.declared.scan.AssignStage.{AssignStage}
+use Rattle.tx_assign.specs.declared.scan.AssignStage.TheVariants as stage
 use Rattle.tx_assign.specs.declared.types.Assigning.{Assigning}
 use Rattle.tx_assign.specs.declared.types.Assignment.{Assignment}
 use Rattle.tx_assign.specs.declared.types.Purpose.{Purpose}
@@ -34,7 +36,7 @@ use Rattle.tx_assign.specs.declared.types.Variable.TheVariants.{Standing}
 use Rattle.tx_assign.specs.Beginnings.{variable_of, is_changeable}
 use Rattle.tx_assign.specs.Targets.{takes_glue, takes_list, takes_size}
 use Rattle.tx_assign.specs.Assignments.{arithmetic, assignment, behind_number, behind_place, elastic, left_side, list_value, number_value, sized, value, valued}
-use Rattle.tx_assign.specs.Rests.{rest, held, made, told, HasTaken, IsAssigning, IsBehind, IsFed, IsGiven}
+use Rattle.tx_assign.specs.Rests.{rest, held, made, told, HasTaken, IsAssigning, IsBehind, IsFed, IsGiven, IsSeldom}
 
 -- what a stage reads of a token is what reading on gives
 pub fed-at : {E : Type 0} (few : ℕ) (reading : List Item → Reading Assignment) (old new : AssignScan) (t : Seen) (answer : Result (Fed (Unit {0})) E) → few ≤ 1 → ((behind more : List Item) → rest old behind (Took t) more ≡ reading more) → IfOk answer (IsAssigning few reading t new) → IfOk answer (IsFed old t new)
@@ -142,3 +144,10 @@ took-answers assigning old new taken t (Err e) h k = tt
 pub gave-answers : {E : Type 0} (assigning : Assigning) (old new : AssignScan) (taken : List Item) (v : Value) (t : Seen) (answer : Result (Fed (Unit {0})) E) → HasTaken assigning old taken → held old ≤ 1 → last 1 taken ≡ Took t ∷ [] → IfOk answer (IsGiven old v t new) → IfOk answer (λ fed. Answers (assignment assigning) (HasTaken assigning) (taken ++ Gave v ∷ []) new (told new fed))
 gave-answers assigning old new taken v t (Ok answer) h few l k = behind-answers rest held (assignment assigning) old new taken v t (told new answer) h few l k
 gave-answers assigning old new taken v t (Err e) h few l k = tt
+
+-- a stage that few tokens meet
+pub seldom : (s : AssignStage) → ((kind : Numbered) (operation : Option Operation) → s ≡ stage.Number kind operation → ⊥) → ((purpose : Purpose) → s ≡ stage.Equals purpose → ⊥) → ((purpose : Purpose) → s ≡ stage.Integer purpose → ⊥) → IsSeldom s
+seldom (stage.Number kind operation) n e i = n kind operation refl
+seldom (stage.Equals purpose) n e i = e purpose refl
+seldom (stage.Integer purpose) n e i = i purpose refl
+seldom _ n e i = tt

@@ -110,6 +110,13 @@ IsAssigning most reading t scan answer = IsAnswer rest held most reading t scan 
 abbrev pub IsBehind : (List Item → Reading Assignment) → Seen → AssignScan → Fed (Unit {0}) → Type 0
 IsBehind reading t new answer = IsRead rest held 1 reading (Took t ∷ []) new (told new answer)
 
+-- a stage that few tokens meet: no number comes there, nor the `=` before one
+abbrev pub IsSeldom : AssignStage → Type 0
+IsSeldom (stage.Number kind operation) = ⊥
+IsSeldom (stage.Equals purpose) = ⊥
+IsSeldom (stage.Integer purpose) = ⊥
+IsSeldom _ = Unit {0}
+
 -- where glue needs a value, it reads a size or internal glue
 abbrev pub IsValued : AssignStage → AssignScan → Type 0
 IsValued stage.LetName scan = Unit {0}

@@ -8,7 +8,7 @@ ghost use Rattle.tx_scan.specs.Supplied.{NeedsNoMore};
 ghost use Rattle.tx_scan.specs.IntegerRests.{begun_integer, waiting};
 ghost use Rattle.tx_assign.specs.Assignments.{assignment, arithmetic, behind_place, given, left_side, value};
 ghost use Rattle.tx_assign.specs.declared.types.Assigning.{Assigning};
-ghost use Rattle.tx_assign.specs.Rests.{HasTaken, IsAssigning, IsBegun, IsBehind, IsFed, WaitsIfNeeded, by_rest, made, more_needed, no_assignment, told};
+ghost use Rattle.tx_assign.specs.Rests.{HasTaken, IsAssigning, IsBegun, IsBehind, IsFed, IsSeldom, WaitsIfNeeded, by_rest, made, more_needed, no_assignment, told};
 
 use crate::scan::{AssignScan, AssignStage};
 use crate::types::{Assigning, Assignment, Change, Purpose, Variable};
@@ -101,18 +101,34 @@ impl AssignScan {
         ensures waits { IfOk result (WaitsIfNeeded self.new) }
     {
         match self.stage {
+            // most tokens
+            AssignStage::Number(kind, operation) => self.feed_number(kind, operation, token),
+            AssignStage::Equals(purpose) => self.feed_equals(purpose, token),
+            AssignStage::Integer(purpose) => self.feed_integer(purpose, token),
+            _ => self.behind_other(token),
+        }
+    }
+
+    /// The same at all other stages. Its only error is want of memory.
+    #[inline(never)]
+    fn behind_other(&mut self, token: &Seen) -> Result<Fed<()>, AllocError>
+        requires { IsSeldom self.old.stage }
+        ensures part { IfOk result (IsFed self.old token.now self.new) }
+        ensures needed { IfOk result (NeedsNoMore (more_needed self.old) (more_needed self.new)) }
+        ensures waits { IfOk result (WaitsIfNeeded self.new) }
+    {
+        match self.stage {
             AssignStage::LetName => self.feed_name(token),
             AssignStage::LetBehindName => self.feed_behind_name(token),
             AssignStage::LetBehindEquals => self.feed_behind_equals(token),
             AssignStage::LetToken => self.feed_token(token),
             AssignStage::Operand(operation) => Ok(self.feed_operand(operation, token)),
-            AssignStage::Number(kind, operation) => self.feed_number(kind, operation, token),
-            AssignStage::Equals(purpose) => self.feed_equals(purpose, token),
             AssignStage::By(operation, word) => self.feed_by(operation, word, token),
-            AssignStage::Integer(purpose) => self.feed_integer(purpose, token),
             AssignStage::Size(purpose) => self.feed_size(purpose, token),
             AssignStage::Glue(purpose) => self.feed_glue(purpose, token),
             AssignStage::List => Ok(self.feed_list(token)),
+            AssignStage::Number(_, _) => unreachable!(),
+            AssignStage::Equals(_) | AssignStage::Integer(_) => unreachable!(),
         }
     }
 
@@ -189,7 +205,6 @@ impl AssignScan {
     }
 
     /// What \advance and its kin change.
-    #[inline(never)]
     fn feed_operand(&mut self, operation: Operation, token: &Seen) -> Fed<()>
         ensures answer { IsAssigning 0 (λ more. arithmetic operation (Took token.now ∷ more)) token.now self.new result }
         ensures needed { NeedsNoMore (waiting self.old.integer) (more_needed self.new) result }
