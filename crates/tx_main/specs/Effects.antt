@@ -40,6 +40,7 @@ use Rattle.tx_prim.specs.declared.integer.IntegerParameter.TheVariants.{Defaulth
 use Rattle.tx_prim.specs.declared.family.TextUse.{TextUse}
 use Rattle.tx_prim.specs.declared.family.TextUse.TheVariants as purposes
 use Rattle.tx_prim.specs.declared.primitive.Primitive.TheVariants.{NullFont, Relax}
+use Rattle.tx_prim.specs.declared.family.UnboxKind.{UnboxKind}
 use Rattle.tx_prim.specs.declared.family.Prefix.{Prefix as APrefix}
 use Rattle.tx_prim.specs.declared.family.Prefix.TheVariants.{Global, Long, Outer}
 use Rattle.tx_prim.specs.declared.family.SizeKind.TheVariants.{Kern}
@@ -68,6 +69,8 @@ use Rattle.tx_convert.specs.Messages.{printed}
 use Rattle.tx_command.specs.declared.types.Command.{Command}
 use Rattle.tx_shape.specs.Loading.{size_asked}
 use Rattle.tx_command.specs.declared.types.Command.TheVariants.{Nothing, Space, ControlSpace, Character, ItalicCorrection, Indent, InsertPar, EndParagraph, DiscretionaryHyphen, SetFactor, SetPrevGraf, BeginShape, Open, SetDeadCycles, SetPage, SplitBox, DefineFont, LoadFont, SetFontDimen, SetFontInteger, BeginGroup, EndGroup, BeginSemiSimple, EndSemiSimple, Prefix, Define, Assign, Sized, Rule, BeginBox, UseBox, CopyBox, LastBox, Unbox, Penalize, Remove, Skip, BeginLeaders, SetDepth, End, Interact, DefineMacro, BeginText, DefineFuture, Keep}
+use Rattle.tx_shape.specs.declared.types.AskedSize.{AskedSize}
+use Rattle.tx_shape.specs.declared.types.BoxGoal.{BoxGoal}
 use Rattle.tx_shape.specs.declared.types.BoxContext.{BoxContext}
 use Rattle.tx_shape.specs.declared.types.BoxContext.TheVariants.{Adjust, Append, Register, Ship}
 use Rattle.tx_command.specs.declared.types.Head.{Head}
@@ -629,6 +632,57 @@ moving_box s n context = carried (settled context s) (using (target_of s context
 abbrev pub moving_last : TexState → BoxContext → Outcome
 moving_last s context = carried (settled context s) (taking_last (target_of s context) s.lists s.table)
 
+-- a box begins, in which \everyhbox's or \everyvbox's tokens are read first (section 1083)
+abbrev pub opening_box : TexState → BoxKind → BoxGoal → BoxContext → Outcome
+opening_box s box goal context =
+    carried (settled context (with_every_in context box s)) (beginning (record { kind = box; goal = goal; target = target_of s context }) s.lists s.table)
+
+-- \box, behind which the page builder is exercised unless the register is void; \copy (section 1079)
+abbrev pub using_box : TexState → ℕ → BoxContext → Outcome
+using_box s n context = built_if (is_some (box_at s.table.table (Box n))) context (moving_box s n context)
+
+abbrev pub copying_box : TexState → ℕ → BoxContext → Outcome
+copying_box s n context = carried (settled context s) (copying (target_of s context) n s.lists s.table)
+
+-- \lastbox, behind which it is exercised if there is one (section 1080)
+abbrev pub taking_box : TexState → BoxContext → Outcome
+taking_box s context = built_if (is_some (last_box s.lists.nest.innermost.nodes)) context (moving_last s context)
+
+-- \vsplit, behind which it is exercised unless the register is void (section 1082)
+abbrev pub splitting_off : TexState → ℕ → ℤ → BoxContext → Outcome
+splitting_off s n size context = built_if (is_some (box_at s.table.table (Box n))) context (splitting_box s n size context)
+
+-- \unhbox and its kin (section 1110)
+abbrev pub unboxing_so : TexState → UnboxKind → ℕ → Outcome
+unboxing_so s kind n = carried s (unboxing kind n s.lists s.table)
+
+-- a text of \discretionary begins behind its begin-group token (section 1117)
+abbrev pub beginning_break : TexState → BreakText → Outcome
+beginning_break s text = carried (record s { head = Fresh }) (begun_break text s.lists s.table)
+
+-- \deadcycles (section 1246)
+abbrev pub setting_dead_cycles : TexState → ℤ → Outcome
+setting_dead_cycles s n = leaves (assigned (with_pages s (record s.lists.pages { dead_cycles = n })))
+
+-- \indent and \noindent, with what a paragraph begins with where one does
+abbrev pub indenting_so : TexState → Indentation → Outcome
+indenting_so s how = beginning_paragraph (is_pages s.mode) (indenting how (with_every_par (begins_paragraph s.lists.nest.innermost.state) s))
+
+-- \par, behind which the page builder is exercised
+abbrev pub ending_paragraph : TexState → Outcome
+ending_paragraph s = built (paragraph_ended s (paragraph.ending (hyphenating s) s.lists s.table))
+
+-- \font and the name that it defines, which means \nullfont until the font is found (section 1257)
+abbrev pub defining_font : TexState → Place → Outcome
+defining_font s defined =
+    naming s (Loading (prefixes_of s.head) defined) (carried_out s.table (meant (Command_meaning NullFont) defined) (prefixes_of s.head).global)
+
+-- \font with all that belongs to it
+abbrev pub asking_font : TexState → Place → List ℕ → AskedSize → Outcome
+asking_font s defined name asked =
+    finding s (record { defined = defined; global = (prefixes_of s.head).global; name = name; size = size_asked asked; file = None })
+    (found s.words.fonts name (size_asked asked))
+
 -- the effect of each command
 abbrev pub effect : TexState → Command → Outcome
 effect s Nothing = leaves s
@@ -636,9 +690,9 @@ effect s Space = spacing s (factor_now s)
 effect s ControlSpace = control_spacing s (factor_now s)
 effect s (Character code) = collecting s code (factor_now s)
 effect s ItalicCorrection = correcting s (factor_now s)
-effect s (Indent how) = beginning_paragraph (is_pages s.mode) (indenting how (with_every_par (begins_paragraph s.lists.nest.innermost.state) s))
+effect s (Indent how) = indenting_so s how
 effect s InsertPar = leaves (inserting_par s)
-effect s EndParagraph = built (paragraph_ended s (paragraph.ending (hyphenating s) s.lists s.table))
+effect s EndParagraph = ending_paragraph s
 effect s DiscretionaryHyphen = breaking s (factor_now s)
 effect s BeginGroup = opening s kind.Simple s
 effect s EndGroup = ending s (kind_of s.table)
@@ -651,13 +705,12 @@ effect s (Sized (Item Kern) size) = adding s (plain (small.Kern Explicit size))
 effect s (Sized Shape size) = shape_sized s size s.head
 effect s (Rule kind rule) = ruling s rule
 effect s (Penalize n) = built (adding s (plain (small.Penalty n)))
-effect s (BeginBox box goal context) =
-    carried (settled context (with_every_in context box s)) (beginning (record { kind = box; goal = goal; target = target_of s context }) s.lists s.table)
-effect s (UseBox n context) = built_if (is_some (box_at s.table.table (Box n))) context (moving_box s n context)
-effect s (CopyBox n context) = carried (settled context s) (copying (target_of s context) n s.lists s.table)
-effect s (LastBox context) = built_if (is_some (last_box s.lists.nest.innermost.nodes)) context (moving_last s context)
-effect s (SplitBox n size context) = built_if (is_some (box_at s.table.table (Box n))) context (splitting_box s n size context)
-effect s (Unbox kind n) = carried s (unboxing kind n s.lists s.table)
+effect s (BeginBox box goal context) = opening_box s box goal context
+effect s (UseBox n context) = using_box s n context
+effect s (CopyBox n context) = copying_box s n context
+effect s (LastBox context) = taking_box s context
+effect s (SplitBox n size context) = splitting_off s n size context
+effect s (Unbox kind n) = unboxing_so s kind n
 effect s (Remove kind) = removing s kind
 effect s (Skip g) = skipping s g (leaders_before s.head)
 effect s (BeginLeaders kind rule) = leaves (record s { head = Leading kind rule })
@@ -665,13 +718,13 @@ effect s (SetDepth depth) = setting_depth s depth
 effect s (SetFactor number) = setting_factor_of s number (factor_now s)
 effect s (SetPrevGraf number) = setting_graf s (graf_of number)
 effect s (BeginShape lines) = shaping s (prefixes_of s.head) (sizes_of lines) []
-effect s (Open (opener.Break text)) = carried (record s { head = Fresh }) (begun_break text s.lists s.table)
+effect s (Open (opener.Break text)) = beginning_break s text
 effect s (Open (opener.Insert class)) = beginning_list s (kind.Insert class)
 effect s (Open opener.Output) = beginning_list s kind.Output
-effect s (SetDeadCycles n) = leaves (assigned (with_pages s (record s.lists.pages { dead_cycles = n })))
+effect s (SetDeadCycles n) = setting_dead_cycles s n
 effect s (SetPage quantity v) = paged_so s (setting quantity v s.lists.pages)
-effect s (DefineFont defined) = naming s (Loading (prefixes_of s.head) defined) (carried_out s.table (meant (Command_meaning NullFont) defined) (prefixes_of s.head).global)
-effect s (LoadFont defined name asked) = finding s (record { defined = defined; global = (prefixes_of s.head).global; name = name; size = size_asked asked; file = None }) (found s.words.fonts name (size_asked asked))
+effect s (DefineFont defined) = defining_font s defined
+effect s (LoadFont defined name asked) = asking_font s defined name asked
 effect s (SetFontDimen font n size) = setting_fonts s (with_font_parameter s.words.fonts (number_of s font) n size)
 effect s (SetFontInteger kind font n) = setting_fonts s (with_font_integer kind s.words.fonts (number_of s font) n)
 effect s End = ending_run s (is_done s.lists.nest s.lists.pages)

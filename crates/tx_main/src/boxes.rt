@@ -5,7 +5,6 @@ ghost use Rattle.tx_box.specs.Building.{reported};
 ghost use Rattle.tx_box.specs.Effects.{told};
 ghost use Rattle.tx_eqtb.specs.Stack.{kind_of};
 ghost use Rattle.tx_node.specs.Nodes.{item_of};
-ghost use Rattle.tx_command.specs.declared.types.Command.{Command};
 ghost use Rattle.tx_state.specs.declared.parts.Phase.{Phase};
 ghost use Rattle.tx_main.specs.Effects as effects;
 ghost use Rattle.tx_state.specs.Meanings.{IsStepped, state_of};
@@ -178,7 +177,7 @@ pub fn open_box(
     context: BoxContext,
 ) -> Result<Event, AllocError>
     requires running { s.old.phase ≡ Phase.Running }
-    ensures { IfOk result (λ event. IsStepped (effects.effect (state_of s.old) (Command.BeginBox kind goal context)) s.old event s.new) }
+    ensures { IfOk result (λ event. IsStepped (effects.opening_box (state_of s.old) kind goal context) s.old event s.new) }
 {
     let target = target_of(s, context);
     read_every_in(s, context, kind)?;
@@ -212,7 +211,7 @@ pub fn use_box(
     context: BoxContext,
 ) -> Result<Event, AllocError>
     requires running { s.old.phase ≡ Phase.Running }
-    ensures { IfOk result (λ event. IsStepped (effects.effect (state_of s.old) (Command.UseBox number context)) s.old event s.new) }
+    ensures { IfOk result (λ event. IsStepped (effects.using_box (state_of s.old) number context) s.old event s.new) }
 {
     let found = s.table.boxed(&Place::Box(number)).is_some();
     let event = move_box(alloc, s, number, context)?;
@@ -227,7 +226,7 @@ pub fn copy_box(
     context: BoxContext,
 ) -> Result<Event, AllocError>
     requires running { s.old.phase ≡ Phase.Running }
-    ensures { IfOk result (λ event. IsStepped (effects.effect (state_of s.old) (Command.CopyBox number context)) s.old event s.new) }
+    ensures { IfOk result (λ event. IsStepped (effects.copying_box (state_of s.old) number context) s.old event s.new) }
 {
     let target = target_of(s, context);
     settle(s, context)?;
@@ -249,7 +248,7 @@ fn move_last(alloc: Global, s: &mut State, context: BoxContext) -> Result<Event,
 /// \lastbox: the box at the list's end, behind which the page builder is exercised if there is one.
 pub fn take_box(alloc: Global, s: &mut State, context: BoxContext) -> Result<Event, AllocError>
     requires running { s.old.phase ≡ Phase.Running }
-    ensures { IfOk result (λ event. IsStepped (effects.effect (state_of s.old) (Command.LastBox context)) s.old event s.new) }
+    ensures { IfOk result (λ event. IsStepped (effects.taking_box (state_of s.old) context) s.old event s.new) }
 {
     let found = has_last_box(&s.lists.nest.innermost().nodes);
     let event = move_last(alloc, s, context)?;
@@ -259,7 +258,7 @@ pub fn take_box(alloc: Global, s: &mut State, context: BoxContext) -> Result<Eve
 /// \unhbox and its kin.
 pub fn unbox(s: &mut State, kind: UnboxKind, number: u8) -> Result<Event, AllocError>
     requires { s.old.phase ≡ Phase.Running }
-    ensures { IfOk result (λ event. IsStepped (effects.effect (state_of s.old) (Command.Unbox kind number)) s.old event s.new) }
+    ensures { IfOk result (λ event. IsStepped (effects.unboxing_so (state_of s.old) kind number) s.old event s.new) }
 {
     let done = tx_box::unbox(&mut s.lists, &mut s.table, kind, number)?;
     carry(s, done)

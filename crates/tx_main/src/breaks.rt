@@ -1,7 +1,6 @@
 //! The texts of \discretionary begin and end (TeX: The Program, sections 1117 to 1121).
 ghost use Rattle.std.specs.Prelude.{◌≡◌, [], Some, IfOk};
 ghost use Rattle.tx_eqtb.specs.Stack.{kind_of};
-ghost use Rattle.tx_command.specs.declared.types.Command.{Command};
 ghost use Rattle.tx_main.specs.Effects as effects;
 ghost use Rattle.tx_state.specs.declared.parts.Phase.{Phase};
 ghost use Rattle.tx_state.specs.Meanings.{IsStepped, state_of};
@@ -21,7 +20,7 @@ use tx_state::State;
 pub fn begin_break(alloc: Global, s: &mut State, text: BreakText) -> Result<Event, AllocError>
     requires running { s.old.phase ≡ Phase.Running }
     requires between { s.old.scan.taken ≡ [] }
-    ensures { IfOk result (λ event. IsStepped (effects.effect (state_of s.old) (Command.Open (Opener.Break text))) s.old event s.new) }
+    ensures { IfOk result (λ event. IsStepped (effects.beginning_break (state_of s.old) text) s.old event s.new) }
 {
     s.scan.begin_fresh();
     let done = tx_box::begin_break(alloc, &mut s.lists, &mut s.table, text)?;

@@ -1,5 +1,6 @@
 //! What each command does, once it is whole (TeX: The Program, parts 45 to 49).
 ghost use Rattle.std.specs.Prelude.{◌≡◌, ◌≢◌, ◌++◌, ◌||◌, [], Some, Ok, Err, IfOk, IfErr, OnOk};
+ghost use Rattle.tx_node.specs.Items.{shared};
 ghost use Rattle.tx_node.specs.Nodes.{item_of};
 ghost use Rattle.tx_assign.specs.Changes.{carried_out};
 ghost use Rattle.tx_command.specs.AtOnce.{whole};
@@ -7,7 +8,7 @@ ghost use Rattle.tx_main.specs.Effects as effects;
 ghost use Rattle.tx_machine.specs.Machine.{kind_of};
 ghost use Rattle.tx_state.specs.Outcomes.{Asks, Fails, Ends, leaves};
 ghost use Rattle.tx_state.specs.Meanings.{IsStepped, meaning_of, state_of};
-ghost use Rattle.tx_state.specs.Texts.{is_global as global_kind};
+ghost use Rattle.tx_state.specs.Texts.{definition_text, is_global as global_kind};
 
 use crate::boxes::{
     add, add_rule, copy_box, open_box, remove, set_depth, take_box, unbox, use_box,
@@ -202,7 +203,7 @@ fn keep(s: &mut State, kind: AfterKind, token: Token) -> Result<Event, AllocErro
 /// \def or its kin and the name that it defines: its text begins.
 fn define_macro(alloc: Global, s: &mut State, defined: Place, kind: DefinitionKind) -> Event
     requires { s.old.phase ≡ Phase.Running }
-    ensures { IsStepped (effects.effect (state_of s.old) (Command.DefineMacro defined kind)) s.old result s.new }
+    ensures { IsStepped (leaves (record (state_of s.old) { text = Some (definition_text defined kind) })) s.old result s.new }
 {
     open_text(s, OpenText::definition(alloc, defined, kind));
     Event::Went
@@ -211,7 +212,7 @@ fn define_macro(alloc: Global, s: &mut State, defined: Place, kind: DefinitionKi
 /// \message or its kin: its text begins, unless it comes too late.
 fn begin_text(alloc: Global, s: &mut State, purpose: TextUse) -> Event
     requires { s.old.phase ≡ Phase.Running }
-    ensures { IsStepped (effects.effect (state_of s.old) (Command.BeginText purpose)) s.old result s.new }
+    ensures { IsStepped (effects.beginning_text (state_of s.old) purpose) s.old result s.new }
 {
     if is_late(s, purpose) {
         return fail(s, TexError::BadHyphenation);
@@ -302,7 +303,7 @@ fn add_special(alloc: Global, s: &mut State, tokens: &Toks) -> Result<Event, All
 /// Appends a mark with these tokens. Its only error is want of memory.
 fn add_mark(alloc: Global, s: &mut State, tokens: Toks) -> Result<Event, AllocError>
     requires { s.old.phase ≡ Phase.Running }
-    ensures { IfOk result (λ event. IsStepped (effects.using_text (state_of s.old) TextUse.Mark tokens) s.old event s.new) }
+    ensures { IfOk result (λ event. IsStepped (effects.adding (state_of s.old) (shared (Shared.Mark tokens))) s.old event s.new) }
 {
     let tokens = TokList::from_toks(alloc, tokens)?;
     let node = Node::from_shared(alloc, Shared::Mark(tokens))?;

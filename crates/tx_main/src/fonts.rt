@@ -1,7 +1,7 @@
 //! Fonts that are named, loaded and changed (TeX: The Program, sections 1253 and 1256 to 1260).
 ghost use Rattle.std.specs.Prelude.{◌≡◌, ◌<◌, ◌≤◌, ◌++◌, [], Some, None, codes, length, nat_lt, IfOk};
+ghost use Rattle.tx_tfm.specs.Fonts.{with_font_integer, with_font_parameter};
 ghost use Rattle.tx_tfm.specs.Rules.{first_broken};
-ghost use Rattle.tx_command.specs.declared.types.Command.{Command};
 ghost use Rattle.tx_state.specs.declared.parts.Phase.{Phase};
 ghost use Rattle.tx_main.specs.Effects as effects;
 ghost use Rattle.tx_state.specs.Meanings.{IsStepped, state_of};
@@ -38,7 +38,7 @@ fn meant(meaning: Meaning, place: Place) -> Assignment
 pub fn define_font(s: &mut State, defined: Place) -> Result<Event, AllocError>
     requires running { s.old.phase ≡ Phase.Running }
     requires between { s.old.scan.taken ≡ [] }
-    ensures { IfOk result (λ event. IsStepped (effects.effect (state_of s.old) (Command.DefineFont defined)) s.old event s.new) }
+    ensures { IfOk result (λ event. IsStepped (effects.defining_font (state_of s.old) defined) s.old event s.new) }
 {
     let prefixes = s.scan.prefixes();
     let null = meant(Meaning::Command(Primitive::NullFont), defined.clone()?);
@@ -119,7 +119,7 @@ pub fn find_font(
 ) -> Result<Event, AllocError>
     requires running { s.old.phase ≡ Phase.Running }
     requires between { s.old.scan.taken ≡ [] }
-    ensures { IfOk result (λ event. IsStepped (effects.effect (state_of s.old) (Command.LoadFont defined name asked)) s.old event s.new) }
+    ensures { IfOk result (λ event. IsStepped (effects.asking_font (state_of s.old) defined name asked) s.old event s.new) }
 {
     let size = asked.size();
     let global = s.scan.prefixes().global;
@@ -255,7 +255,7 @@ fn number_of(s: &State, font: FontName) -> u8
 /// An assignment to a \fontdimen.
 pub fn set_dimension(s: &mut State, font: FontName, n: u16, size: i32) -> Result<Event, AllocError>
     requires { s.old.phase ≡ Phase.Running }
-    ensures { IfOk result (λ event. IsStepped (effects.effect (state_of s.old) (Command.SetFontDimen font n size)) s.old event s.new) }
+    ensures { IfOk result (λ event. IsStepped (effects.setting_fonts (state_of s.old) (with_font_parameter s.old.words.fonts (effects.number_of (state_of s.old) font) n size)) s.old event s.new) }
 {
     let number = number_of(s, font);
     s.words.set_parameter(number, n, size)?;
@@ -270,7 +270,7 @@ pub fn set_integer(
     value: i32,
 ) -> Result<Event, AllocError>
     requires { s.old.phase ≡ Phase.Running }
-    ensures { IfOk result (λ event. IsStepped (effects.effect (state_of s.old) (Command.SetFontInteger kind font value)) s.old event s.new) }
+    ensures { IfOk result (λ event. IsStepped (effects.setting_fonts (state_of s.old) (with_font_integer kind s.old.words.fonts (effects.number_of (state_of s.old) font) value)) s.old event s.new) }
 {
     let number = number_of(s, font);
     s.words.set_integer(kind, number, value)?;

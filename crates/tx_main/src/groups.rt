@@ -3,7 +3,6 @@ ghost use Rattle.std.specs.Prelude.{◌≡◌, [], Some, IfOk, OnOk};
 ghost use Rattle.tx_eqtb.specs.declared.groups.GroupKind.{GroupKind};
 ghost use Rattle.tx_eqtb.specs.Stack.{kind_of};
 ghost use Rattle.tx_pending.specs.Elements.{with_tokens};
-ghost use Rattle.tx_command.specs.declared.types.Command.{Command};
 ghost use Rattle.tx_state.specs.declared.parts.Phase.{Phase};
 ghost use Rattle.tx_main.specs.Effects as effects;
 ghost use Rattle.tx_state.specs.Outcomes.{leaves};
@@ -101,7 +100,7 @@ fn end_across(alloc: Global, s: &mut State) -> Result<Event, AllocError>
 pub fn end_group(alloc: Global, s: &mut State) -> Result<Event, AllocError>
     requires running { s.old.phase ≡ Phase.Running }
     requires between { s.old.scan.taken ≡ [] }
-    ensures { IfOk result (λ event. IsStepped (effects.effect (state_of s.old) Command.EndGroup) s.old event s.new) }
+    ensures { IfOk result (λ event. IsStepped (effects.ending (state_of s.old) (kind_of s.old.table)) s.old event s.new) }
 {
     match s.table.kind() {
         Some(GroupKind::Simple) => close_group(s, GroupKind::Simple),
@@ -118,7 +117,7 @@ pub fn end_group(alloc: Global, s: &mut State) -> Result<Event, AllocError>
 /// \endgroup.
 pub fn end_semi_simple(s: &mut State) -> Result<Event, AllocError>
     requires running { s.old.phase ≡ Phase.Running }
-    ensures { IfOk result (λ event. IsStepped (effects.effect (state_of s.old) Command.EndSemiSimple) s.old event s.new) }
+    ensures { IfOk result (λ event. IsStepped (effects.ending_semi_simple (state_of s.old) (kind_of s.old.table)) s.old event s.new) }
 {
     match s.table.kind() {
         Some(GroupKind::SemiSimple) => close_group(s, GroupKind::SemiSimple),

@@ -1,5 +1,5 @@
 //! The texts of \patterns and \hyphenation (TeX: The Program, sections 934 to 940 and 960 to 963).
-ghost use Rattle.std.specs.Prelude.{◌≡◌, ◌∷◌, ◌++◌, [], Some, option_map, IfOk, OnOk};
+ghost use Rattle.std.specs.Prelude.{◌≡◌, ◌∷◌, ◌++◌, [], true, false, Some, option_map, IfOk, OnOk};
 ghost use Rattle.tx_eqtb.specs.Table.{token_meaning};
 ghost use Rattle.tx_main.specs.Effects as effects;
 ghost use Rattle.tx_main.specs.Hyphens as spec;
@@ -113,7 +113,7 @@ fn add_exceptions(alloc: Global, s: &mut State, words: &[Bytes]) -> Result<Event
 /// The text of \patterns that is whole. Its only further error is want of memory.
 pub fn use_patterns(alloc: Global, s: &mut State, tokens: &Toks) -> Result<Event, AllocError>
     requires { s.old.phase ≡ Phase.Running }
-    ensures { IfOk result (λ event. IsStepped (effects.using_text (state_of s.old) TextUse.Patterns tokens.now) s.old event s.new) }
+    ensures { IfOk result (λ event. IsStepped (effects.patterning (state_of s.old) (spec.words_of s.old.table.table false tokens.now)) s.old event s.new) }
 {
     match words_of(alloc, &s.table, false, tokens.as_slice())? {
         Some(texts) => add_patterns(alloc, s, texts.as_slice()),
@@ -124,7 +124,7 @@ pub fn use_patterns(alloc: Global, s: &mut State, tokens: &Toks) -> Result<Event
 /// The text of \hyphenation that is whole. Its only further error is want of memory.
 pub fn use_exceptions(alloc: Global, s: &mut State, tokens: &Toks) -> Result<Event, AllocError>
     requires { s.old.phase ≡ Phase.Running }
-    ensures { IfOk result (λ event. IsStepped (effects.using_text (state_of s.old) TextUse.Hyphenation tokens.now) s.old event s.new) }
+    ensures { IfOk result (λ event. IsStepped (effects.excepting (state_of s.old) (spec.words_of s.old.table.table true tokens.now)) s.old event s.new) }
 {
     match words_of(alloc, &s.table, true, tokens.as_slice())? {
         Some(words) => add_exceptions(alloc, s, words.as_slice()),

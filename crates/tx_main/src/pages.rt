@@ -2,10 +2,11 @@
 //! (TeX: The Program, sections 994 to 1054 and 1097 to 1100).
 ghost use Rattle.std.specs.Prelude.{◌≡◌, ◌≢◌, [], IsTrue, Some, Ok, Err, IfOk, OnOk};
 ghost use Rattle.tx_eqtb.specs.Stack.{kind_of};
+ghost use Rattle.tx_galley.specs.Assigning.{setting};
 ghost use Rattle.tx_galley.specs.declared.errors.GalleyError.TheVariants.{OutOfMemory};
+ghost use Rattle.tx_galley.specs.Ending.{is_done as is_run_done};
 ghost use Rattle.tx_galley.specs.Errors.{error_of};
 ghost use Rattle.tx_box.specs.Inserts.{left_vertical};
-ghost use Rattle.tx_command.specs.declared.types.Command.{Command};
 ghost use Rattle.tx_state.specs.declared.parts.Phase.{Phase};
 ghost use Rattle.tx_state.specs.Meanings.{IsStepped, state_of};
 ghost use Rattle.tx_machine.specs.declared.types.Event.{Event};
@@ -282,7 +283,7 @@ pub fn finish_output(alloc: Global, s: &mut State, said: Bytes) -> Result<Event,
 /// An assignment to \deadcycles. Its only error is want of memory.
 pub fn set_dead_cycles(s: &mut State, number: i32) -> Result<Event, AllocError>
     requires { s.old.phase ≡ Phase.Running }
-    ensures { IfOk result (λ event. IsStepped (effects.effect (state_of s.old) (Command.SetDeadCycles number)) s.old event s.new) }
+    ensures { IfOk result (λ event. IsStepped (effects.setting_dead_cycles (state_of s.old) number) s.old event s.new) }
 {
     s.lists.pages.dead_cycles = number;
     end_assignment(s)
@@ -291,7 +292,7 @@ pub fn set_dead_cycles(s: &mut State, number: i32) -> Result<Event, AllocError>
 /// An assignment to a quantity of the page. Its only further error is want of memory.
 pub fn set_page(s: &mut State, quantity: PageQuantity, value: i32) -> Result<Event, AllocError>
     requires { s.old.phase ≡ Phase.Running }
-    ensures { IfOk result (λ event. IsStepped (effects.effect (state_of s.old) (Command.SetPage quantity value)) s.old event s.new) }
+    ensures { IfOk result (λ event. IsStepped (effects.paged_so (state_of s.old) (setting quantity value s.old.lists.pages)) s.old event s.new) }
 {
     match set_quantity(&mut s.lists.pages, quantity, value) {
         Ok(()) => end_assignment(s),
@@ -328,7 +329,7 @@ pub fn split(
     context: BoxContext,
 ) -> Result<Event, AllocError>
     requires running { s.old.phase ≡ Phase.Running }
-    ensures { IfOk result (λ event. IsStepped (effects.effect (state_of s.old) (Command.SplitBox number size context)) s.old event s.new) }
+    ensures { IfOk result (λ event. IsStepped (effects.splitting_off (state_of s.old) number size context) s.old event s.new) }
 {
     let found = s.table.boxed(&Place::Box(number)).is_some();
     let event = split_off(alloc, s, number, size, context)?;
@@ -364,7 +365,7 @@ fn place_split(
 /// \end: the run ends, or a page is to be fired before. Its only error is want of memory.
 pub fn end_run(alloc: Global, s: &mut State) -> Result<Event, AllocError>
     requires { s.old.phase ≡ Phase.Running }
-    ensures { IfOk result (λ event. IsStepped (effects.effect (state_of s.old) Command.End) s.old event s.new) }
+    ensures { IfOk result (λ event. IsStepped (effects.ending_run (state_of s.old) (is_run_done s.old.lists.nest s.old.lists.pages)) s.old event s.new) }
 {
     if is_done(&s.lists.nest, &s.lists.pages) {
         return Ok(finish(s));

@@ -1,13 +1,13 @@
 //! How paragraphs begin and end (TeX: The Program, sections 1090 to 1100).
 ghost use Rattle.std.specs.Prelude.{◌≡◌, ◌≢◌, ◌∷◌, ◌++◌, [], Some, IfOk, OnOk};
 ghost use Rattle.tx_eqtb.specs.Stack.{kind_of};
-ghost use Rattle.tx_command.specs.declared.types.Command.{Command};
-ghost use Rattle.tx_command.specs.declared.types.SizeUse.{SizeUse};
+ghost use Rattle.tx_command.specs.Commands.{prefixes_of};
 ghost use Rattle.tx_main.specs.Effects as effects;
+ghost use Rattle.tx_nest.specs.Grafs.{graf_of as graf_for};
 ghost use Rattle.tx_par.specs.declared.error.ParError.TheVariants.{OutOfMemory};
 ghost use Rattle.tx_paragraph.specs.Beginning as beginning;
 ghost use Rattle.tx_paragraph.specs.Ending.{par_error};
-ghost use Rattle.tx_state.specs.Outcomes.{Fails};
+ghost use Rattle.tx_state.specs.Outcomes.{Fails, leaves};
 ghost use Rattle.tx_state.specs.declared.parts.Phase.{Phase};
 ghost use Rattle.tx_state.specs.Meanings.{IsStepped, state_of};
 
@@ -56,7 +56,7 @@ fn read_every_par(s: &mut State, begins: bool) -> Result<(), AllocError>
 /// memory.
 pub fn indent(alloc: Global, s: &mut State, how: Indentation) -> Result<Event, AllocError>
     requires { s.old.phase ≡ Phase.Running }
-    ensures { IfOk result (λ event. IsStepped (effects.effect (state_of s.old) (Command.Indent how)) s.old event s.new) }
+    ensures { IfOk result (λ event. IsStepped (effects.indenting_so (state_of s.old) how) s.old event s.new) }
 {
     let begins = begins_paragraph(s);
     let on_pages = is_pages(s.scan.mode());
@@ -69,7 +69,7 @@ pub fn indent(alloc: Global, s: &mut State, how: Indentation) -> Result<Event, A
 /// A command ends a paragraph before it: \par is read first. Its only error is want of memory.
 pub fn insert_par(alloc: Global, s: &mut State) -> Result<Event, AllocError>
     requires { s.old.phase ≡ Phase.Running }
-    ensures { IfOk result (λ event. IsStepped (effects.effect (state_of s.old) Command.InsertPar) s.old event s.new) }
+    ensures { IfOk result (λ event. IsStepped (leaves (effects.inserting_par (state_of s.old))) s.old event s.new) }
 {
     let par = ControlName::from_slice(alloc, b"par")?;
     s.input.give_back(Token::Name(par))?;
@@ -79,7 +79,7 @@ pub fn insert_par(alloc: Global, s: &mut State) -> Result<Event, AllocError>
 /// An assignment to \prevgraf. Its only error is want of memory.
 pub fn set_graf(s: &mut State, number: i32) -> Result<Event, AllocError>
     requires { s.old.phase ≡ Phase.Running }
-    ensures { IfOk result (λ event. IsStepped (effects.effect (state_of s.old) (Command.SetPrevGraf number)) s.old event s.new) }
+    ensures { IfOk result (λ event. IsStepped (effects.setting_graf (state_of s.old) (graf_for number)) s.old event s.new) }
 {
     match graf_of(number) {
         Some(graf) => {
@@ -128,7 +128,7 @@ fn shape(
 pub fn begin_shape(alloc: Global, s: &mut State, lines: i32) -> Result<Event, AllocError>
     requires running { s.old.phase ≡ Phase.Running }
     requires between { s.old.scan.taken ≡ [] }
-    ensures { IfOk result (λ event. IsStepped (effects.effect (state_of s.old) (Command.BeginShape lines)) s.old event s.new) }
+    ensures { IfOk result (λ event. IsStepped (effects.shaping (state_of s.old) (prefixes_of s.old.scan.head) (effects.sizes_of lines) []) s.old event s.new) }
 {
     let prefixes = s.scan.prefixes();
     shape(alloc, s, prefixes, sizes_of(lines), Items::new(alloc))
@@ -147,7 +147,7 @@ fn with_size(sizes: Items<i32>, size: i32) -> Result<Items<i32>, AllocError>
 pub fn add_size(alloc: Global, s: &mut State, size: i32) -> Result<Event, AllocError>
     requires running { s.old.phase ≡ Phase.Running }
     requires between { s.old.scan.taken ≡ [] }
-    ensures { IfOk result (λ event. IsStepped (effects.effect (state_of s.old) (Command.Sized SizeUse.Shape size)) s.old event s.new) }
+    ensures { IfOk result (λ event. IsStepped (effects.shape_sized (state_of s.old) size s.old.scan.head) s.old event s.new) }
 {
     match s.scan.take_head() {
         Head::Shaping(prefixes, left, sizes) => {
@@ -176,7 +176,7 @@ fn fail_by(s: &mut State, error: ParError) -> Result<Event, AllocError>
 /// \par. Its only further error is want of memory.
 pub fn end_paragraph(alloc: Global, s: &mut State) -> Result<Event, AllocError>
     requires { s.old.phase ≡ Phase.Running }
-    ensures { IfOk result (λ event. IsStepped (effects.effect (state_of s.old) Command.EndParagraph) s.old event s.new) }
+    ensures { IfOk result (λ event. IsStepped (effects.ending_paragraph (state_of s.old)) s.old event s.new) }
 {
     match tx_paragraph::end_paragraph(
         alloc,

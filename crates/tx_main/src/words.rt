@@ -1,6 +1,5 @@
 //! Characters, words, spaces and italic corrections in a list (TeX: The Program, sections 1030 to 1045, 1113 and 1243).
 ghost use Rattle.std.specs.Prelude.{◌≡◌, ◌≤◌, ◌++◌, Some, IfOk, OnOk};
-ghost use Rattle.tx_command.specs.declared.types.Command.{Command};
 ghost use Rattle.tx_state.specs.declared.parts.Phase.{Phase};
 ghost use Rattle.tx_hyphenate.specs.Lacking.{lacking_report};
 ghost use Rattle.tx_main.specs.Effects as effects;
@@ -161,7 +160,7 @@ fn collect(alloc: Global, s: &mut State, factor: SpaceFactor, code: u8) -> Resul
 #[inline(always)]
 pub fn set_character(alloc: Global, s: &mut State, code: u8) -> Result<Event, AllocError>
     requires { s.old.phase ≡ Phase.Running }
-    ensures { IfOk result (λ event. IsStepped (effects.effect (state_of s.old) (Command.Character code)) s.old event s.new) }
+    ensures { IfOk result (λ event. IsStepped (spec.collecting (state_of s.old) code (spec.factor_now (state_of s.old))) s.old event s.new) }
 {
     match factor_now(s) {
         Some(factor) => collect(alloc, s, factor, code),
@@ -186,7 +185,7 @@ fn space_at(s: &mut State, factor: SpaceFactor) -> Result<Event, AllocError>
 #[inline(never)]
 pub fn space(s: &mut State) -> Result<Event, AllocError>
     requires { s.old.phase ≡ Phase.Running }
-    ensures { IfOk result (λ event. IsStepped (effects.effect (state_of s.old) Command.Space) s.old event s.new) }
+    ensures { IfOk result (λ event. IsStepped (spec.spacing (state_of s.old) (spec.factor_now (state_of s.old))) s.old event s.new) }
 {
     match factor_now(s) {
         Some(factor) => space_at(s, factor),
@@ -197,7 +196,7 @@ pub fn space(s: &mut State) -> Result<Event, AllocError>
 /// `\ `.
 pub fn control_space(s: &mut State) -> Result<Event, AllocError>
     requires { s.old.phase ≡ Phase.Running }
-    ensures { IfOk result (λ event. IsStepped (effects.effect (state_of s.old) Command.ControlSpace) s.old event s.new) }
+    ensures { IfOk result (λ event. IsStepped (spec.control_spacing (state_of s.old) (spec.factor_now (state_of s.old))) s.old event s.new) }
 {
     match factor_now(s) {
         Some(_) => space_at(s, SpaceFactor::plain()),
@@ -219,7 +218,7 @@ fn add_italic(s: &mut State) -> Result<Event, AllocError>
 /// `\/`.
 pub fn correct_italic(s: &mut State) -> Result<Event, AllocError>
     requires { s.old.phase ≡ Phase.Running }
-    ensures { IfOk result (λ event. IsStepped (effects.effect (state_of s.old) Command.ItalicCorrection) s.old event s.new) }
+    ensures { IfOk result (λ event. IsStepped (spec.correcting (state_of s.old) (spec.factor_now (state_of s.old))) s.old event s.new) }
 {
     match factor_now(s) {
         Some(_) => add_italic(s),
@@ -249,7 +248,7 @@ fn add_break(alloc: Global, s: &mut State) -> Result<Event, AllocError>
 /// `\-`.
 pub fn break_word(alloc: Global, s: &mut State) -> Result<Event, AllocError>
     requires { s.old.phase ≡ Phase.Running }
-    ensures { IfOk result (λ event. IsStepped (effects.effect (state_of s.old) Command.DiscretionaryHyphen) s.old event s.new) }
+    ensures { IfOk result (λ event. IsStepped (spec.breaking (state_of s.old) (spec.factor_now (state_of s.old))) s.old event s.new) }
 {
     match factor_now(s) {
         Some(_) => add_break(alloc, s),
@@ -274,7 +273,7 @@ fn set_factor_to(s: &mut State, number: i32) -> Result<Event, AllocError>
 /// An assignment to \spacefactor, which only horizontal lists have.
 pub fn set_factor(s: &mut State, number: i32) -> Result<Event, AllocError>
     requires { s.old.phase ≡ Phase.Running }
-    ensures { IfOk result (λ event. IsStepped (effects.effect (state_of s.old) (Command.SetFactor number)) s.old event s.new) }
+    ensures { IfOk result (λ event. IsStepped (effects.setting_factor_of (state_of s.old) number (spec.factor_now (state_of s.old))) s.old event s.new) }
 {
     if factor_now(s).is_some() {
         set_factor_to(s, number)
