@@ -10,8 +10,9 @@ use Rattle.tx_machine.specs.declared.types.Event.{Event}
 use Rattle.tx_state.specs.declared.state.State.{State}
 use Rattle.tx_state.specs.Meanings.{IsStepped, state_of}
 use Rattle.tx_state.specs.State.{TexState}
-use Rattle.tx_main.specs.Effects.{assigning, assigning_now}
-use Rattle.tx_main.proofs.Carrying.{outcome-by}
+use Rattle.tx_state.specs.Ended.{assigning}
+use Rattle.tx_main.specs.Effects.{assigning_now}
+use Rattle.tx_state.proofs.Outcomes.{outcome-by}
 
 -- no text is to be taken first
 assigns-now : (s : TexState) (a : Assignment) (change : Change) → (change ≡ Text → ⊥) → assigning_now s a change ≡ assigning s (carried_out s.table a (prefixes_of s.head).global)

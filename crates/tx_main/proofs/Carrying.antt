@@ -21,10 +21,12 @@ use Rattle.tx_seen.specs.declared.place.Place.TheVariants.{Tokens}
 use Rattle.tx_shape.specs.declared.types.BoxContext.{BoxContext}
 use Rattle.tx_shape.specs.declared.types.BoxContext.TheVariants.{Adjust, Append, Register, Ship}
 use Rattle.tx_state.specs.declared.state.State.{State}
-use Rattle.tx_main.specs.Effects.{boxed, carried, closing, packing_box, settled, target_of, telling, with_after, with_every, with_every_in}
+use Rattle.tx_main.specs.Effects.{boxed, carried, closing, packing_box, settled, target_of, telling, with_every, with_every_in}
+use Rattle.tx_state.specs.Ended.{with_after}
 use Rattle.tx_state.specs.Meanings.{IsStepped, state_of}
 use Rattle.tx_state.specs.Outcomes.{Outcome, Leaves, Asks, Ships, Fails, FailsTelling, Ends}
 use Rattle.tx_state.specs.State.{TexState}
+use Rattle.tx_state.proofs.Outcomes.{outcome-by}
 
 -- other lists and another table in a state
 abbrev pub with_parts : State → Lists → Eqtb → State
@@ -38,12 +40,6 @@ carried-forgets s lists table (Err error) = refl
 boxed-forgets : (s : TexState) (lists : Lists) (table : Eqtb) (e : Result Ended TexError) → boxed (record s { lists = lists; table = table }) e ≡ boxed s e
 boxed-forgets s lists table (Ok ended) = refl
 boxed-forgets s lists table (Err error) = refl
-
--- the same outcome after a state that has said the same
-pub outcome-by : {E : Type 0} (one other : Outcome) (before between new : State) (answer : Result Event E) → one ≡ other → between.said ≡ before.said → IfOk answer (λ event. IsStepped one between event new) → IfOk answer (λ event. IsStepped other before event new)
-outcome-by one other before between new (Ok event) same said did =
-    record { event_is = rw (sym same) did.event_is; state_is = rw (sym same) did.state_is; said_is = rw (sym same, sym said) did.said_is }
-outcome-by one other before between new (Err e) same said did = tt
 
 -- what a command answered is carried over to the state before it, which differs in nothing else
 pub carries : {E : Type 0} (base : TexState) (before between new : State) (lists : Lists) (table : Eqtb) (e : Effect) (done : Done) (answer : Result Event E) → state_of between ≡ base → between.said ≡ before.said → e ≡ told done lists table → IfOk answer (λ event. IsStepped (carried (state_of (with_parts between lists table)) (told done lists table)) (with_parts between lists table) event new) → IfOk answer (λ event. IsStepped (carried base e) before event new)

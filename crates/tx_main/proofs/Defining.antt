@@ -12,7 +12,8 @@ use Rattle.tx_seen.specs.declared.place.Place.{Place}
 use Rattle.tx_text.specs.Definitions.{Defining as Defined_text}
 use Rattle.tx_toklist.specs.Macros.{Definition}
 use Rattle.tx_state.specs.declared.state.State.{State}
-use Rattle.tx_main.specs.Effects.{assigning, defining, macro_of}
+use Rattle.tx_state.specs.Ended.{assigning}
+use Rattle.tx_main.specs.Effects.{defining, macro_of}
 use Rattle.tx_state.specs.Meanings.{IsStepped, state_of}
 use Rattle.tx_state.specs.Texts.{is_global}
 

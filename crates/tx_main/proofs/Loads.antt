@@ -14,8 +14,9 @@ use Rattle.tx_state.specs.declared.state.State.{State}
 use Rattle.tx_state.specs.Meanings.{IsStepped, state_of}
 use Rattle.tx_state.specs.Outcomes.{Outcome, Fails, leaves}
 use Rattle.tx_state.specs.State.{TexState}
-use Rattle.tx_main.specs.Effects.{assigned, assigning, can_load, identifier_of, loading, loading_as, loading_from, meant, naming_font, setting_fonts}
-use Rattle.tx_main.proofs.Carrying.{outcome-by}
+use Rattle.tx_state.specs.Ended.{assigned, assigning}
+use Rattle.tx_main.specs.Effects.{can_load, identifier_of, loading, loading_as, loading_from, meant, naming_font, setting_fonts}
+use Rattle.tx_state.proofs.Outcomes.{outcome-by}
 
 -- the request, once its file is read
 abbrev pub read_request : FontRequest → Option (List ℕ) → FontRequest

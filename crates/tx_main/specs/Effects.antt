@@ -9,7 +9,7 @@ use Rattle.tx_node.specs.declared.plain.LeadersKind.{LeadersKind as ItemLeaders}
 use Rattle.tx_node.specs.declared.plain.LeadersKind.TheVariants as item_leaders
 use Rattle.tx_node.specs.declared.rule.Rule.{Rule as ARule}
 use Rattle.tx_num.specs.Glue.{GlueSpec}
-use Rattle.tx_node.specs.Items.{Item as Node_item, plain, shared}
+use Rattle.tx_node.specs.Items.{plain, shared}
 use Rattle.tx_nest.specs.declared.list.ModeList.{ModeList}
 use Rattle.tx_nest.specs.Appended.{rule_appended}
 use Rattle.tx_nest.specs.Changed as list
@@ -89,8 +89,8 @@ use Rattle.tx_box.specs.Building.{Ended, beginning, ending as ending_list, every
 use Rattle.tx_box.specs.declared.parts.OpenBox.{OpenBox}
 use Rattle.tx_box.specs.Effects.{Effect, Left}
 use Rattle.tx_box.specs.Inserts.{VerticalLeft, beginning_vertical, ending_insert as insert_ended, insert_params, left_vertical}
-use Rattle.tx_box.specs.Placing.{placed, with_list}
-use Rattle.tx_box.specs.Sources.{appended, copying, taking_last, unboxing, using}
+use Rattle.tx_box.specs.Placing.{placed}
+use Rattle.tx_box.specs.Sources.{copying, taking_last, unboxing, using}
 use Rattle.tx_par.specs.declared.error.ParError.{ParError}
 use Rattle.tx_paragraph.specs.Beginning.{begins_paragraph, indented}
 use Rattle.tx_paragraph.specs.Ending as paragraph
@@ -110,7 +110,7 @@ use Rattle.tx_state.specs.declared.parts.Due.{Due}
 use Rattle.tx_state.specs.declared.parts.Due.TheVariants.{Boxes, LoadFont as LoadFont_due}
 use Rattle.tx_state.specs.declared.parts.FontRequest.{FontRequest}
 use Rattle.tx_main.specs.Building.{built, built_if, built_in, exercised, exercising, is_pages}
-use Rattle.tx_main.specs.Pages.{integer}
+use Rattle.tx_state.specs.Ended.{adding, assigned, assigning, integer, naming, with_top_list}
 use Rattle.tx_state.specs.State.{TexState}
 use Rattle.tx_hyphen.specs.Rules.{Rules}
 use Rattle.tx_hyphenate.specs.declared.known.Hyphenation.{Hyphenation}
@@ -130,24 +130,6 @@ with_prefix prefixes Outer = record prefixes { outer = true }
 abbrev pub prefixing : TexState → APrefix → Outcome
 prefixing s prefix = leaves (record s { head = Prefixed (with_prefix (prefixes_of s.head) prefix) })
 
--- the table changes, if the assignment can be carried out; behind the name that \chardef or its kin defines its value is to follow
-abbrev pub naming : TexState → Head → Result Eqtb TexError → Outcome
-naming s head (Err e) = Fails e
-naming s head (Ok table) = leaves (record s { table = table; head = head })
-
--- an assignment is done: what \afterassignment keeps is read next (TeX: The Program, section 1269)
-abbrev pub with_after : TexState → Option Token → TexState
-with_after s None = s
-with_after s (Some t) = record s { after_assignment = None; reader = put (t ∷ []) s.reader }
-
-abbrev pub assigned : TexState → TexState
-assigned s = with_after (record s { head = Fresh; taken = [] }) s.after_assignment
-
--- the table changes, if the assignment can be carried out
-abbrev pub assigning : TexState → Result Eqtb TexError → Outcome
-assigning s (Err e) = Fails e
-assigning s (Ok table) = leaves (assigned (record s { table = table }))
-
 -- the list of tokens that is to stand at a place is taken first
 abbrev pub in_list : TexState → Place → TexState
 in_list s place = record s { text = Some (list_text place) }
@@ -159,17 +141,6 @@ assigning_now s a (Set entry) = assigning s (carried_out s.table a (prefixes_of 
 assigning_now s a (Compute operation n) = assigning s (carried_out s.table a (prefixes_of s.head).global)
 assigning_now s a (Add g) = assigning s (carried_out s.table a (prefixes_of s.head).global)
 assigning_now s a (Copy other) = assigning s (carried_out s.table a (prefixes_of s.head).global)
-
--- the list that is being built changes
-abbrev pub with_top_list : TexState → ModeList → TexState
-with_top_list s new = record s { lists = with_list s.lists new }
-
--- more items at its end that change nothing else of it
-abbrev pub with_items : TexState → List Node_item → TexState
-with_items s items = record s { lists = appended s.lists items }
-
-abbrev pub adding : TexState → Node_item → Outcome
-adding s item = leaves (with_items s (item ∷ []))
 
 -- a rule
 abbrev pub ruling : TexState → ARule → Outcome

@@ -5,17 +5,17 @@ use Rattle.tx_dvi.specs.Page.{Page}
 use Rattle.tx_machine.specs.declared.types.Date.{Date}
 use Rattle.tx_node.specs.Items.{PackedBox}
 use Rattle.tx_prim.specs.declared.integer.Moment.{Moment}
-use Rattle.tx_prim.specs.declared.integer.IntegerParameter.{IntegerParameter}
 use Rattle.tx_prim.specs.declared.integer.IntegerParameter.TheVariants.{Endlinechar, Mag, Year, Month, Day, Time}
 use Rattle.tx_prim.specs.declared.dimension.DimensionParameter.{DimensionParameter}
 use Rattle.tx_prim.specs.declared.dimension.DimensionParameter.TheVariants.{Hoffset, Voffset}
-use Rattle.tx_seen.specs.declared.place.Place.TheVariants.{Count, Integer, Dimension}
+use Rattle.tx_seen.specs.declared.place.Place.TheVariants.{Count, Dimension}
 use Rattle.tx_eqtb.specs.declared.table.Table.{Table}
 use Rattle.tx_eqtb.specs.Table.{number_at}
 use Rattle.tx_ship.specs.declared.error.ShipError.{ShipError}
 use Rattle.tx_ship.specs.declared.params.ShipParams.{ShipParams}
 use Rattle.tx_ship.specs.Pages as ship
 use Rattle.tx_tfm.specs.declared.state.FontState.{FontState}
+use Rattle.tx_state.specs.Ended.{integer}
 
 -- when a run began, as the date parameters say it
 abbrev pub moment_of : Date → Moment
@@ -23,9 +23,6 @@ moment_of date = record { year = pos date.year; month = pos date.month; day = po
 
 abbrev pub count : Table → ℕ → ℤ
 count table n = number_at table (Count n)
-
-abbrev pub integer : Table → IntegerParameter → ℤ
-integer table parameter = number_at table (Integer parameter)
 
 abbrev pub dimension : Table → DimensionParameter → ℤ
 dimension table parameter = number_at table (Dimension parameter)

@@ -26,7 +26,7 @@ use Rattle.tx_box.specs.declared.parts.Work.TheVariants.{Build, Copy, CopyList, 
 use Rattle.tx_box.specs.DueWork.{work_cost}
 use Rattle.tx_node.specs.Items.{PackedBox}
 use Rattle.tx_box.specs.Placing.{placed}
-use Rattle.tx_expand.specs.Values.{Lent, value_now}
+use Rattle.tx_expand.specs.Values.{Lent, value_now, may_be}
 use Rattle.tx_ship.specs.declared.error.ShipError.{ShipError}
 use Rattle.tx_expand.specs.declared.types.Expanded.{Expanded as Answer}
 use Rattle.tx_expand.specs.declared.types.Expanded.TheVariants as answer
@@ -38,12 +38,12 @@ use Rattle.tx_pending.specs.Elements.{with_line}
 use Rattle.tx_prim.specs.declared.integer.IntegerParameter.TheVariants.{Mag}
 use Rattle.tx_scan.specs.Settled.{tokens_of}
 use Rattle.tx_scan.specs.Supplied.{with_values}
-use Rattle.tx_main.specs.Pages.{defined_by, integer, line_end, page_of}
+use Rattle.tx_main.specs.Pages.{defined_by, line_end, page_of}
+use Rattle.tx_state.specs.Ended.{integer, with_items}
 use Rattle.tx_main.specs.Words.{before_token}
-use Rattle.tx_expand.specs.Values.{may_be}
 use Rattle.tx_seen.specs.Magnified.{magnification_in, noted}
 use Rattle.tx_command.specs.Commands.{command, is_naming}
-use Rattle.tx_main.specs.Effects.{carried, effect, ending_text, loading, relaxing, with_items, with_pages}
+use Rattle.tx_main.specs.Effects.{carried, effect, ending_text, loading, relaxing, with_pages}
 use Rattle.tx_main.specs.Building.{built_in, exercising}
 use Rattle.tx_seen.specs.Readings.{Reading, More, Need, Done, Wrong}
 use Rattle.tx_state.specs.Outcomes.{Outcome, Asks, Ships, Fails, Ends, leaves, stepped}

@@ -1,19 +1,16 @@
 //! The effects of the commands of boxes and lists: a part of the state is handed down to the crate that carries them out, and what
 //! this answers is taken over (TeX: The Program, part 47).
-ghost use Rattle.std.specs.Prelude.{◌≡◌, ◌∷◌, ◌++◌, [], Some, IfOk, OnOk};
+ghost use Rattle.std.specs.Prelude.{◌≡◌, ◌++◌, Some, IfOk, OnOk};
 ghost use Rattle.tx_box.specs.Building.{reported};
 ghost use Rattle.tx_box.specs.Effects.{told};
 ghost use Rattle.tx_eqtb.specs.Stack.{kind_of};
-ghost use Rattle.tx_node.specs.Nodes.{item_of};
 ghost use Rattle.tx_state.specs.declared.parts.Phase.{Phase};
 ghost use Rattle.tx_main.specs.Effects as effects;
 ghost use Rattle.tx_state.specs.Meanings.{IsStepped, state_of};
 ghost use Rattle.tx_state.specs.Outcomes.{Leaves};
 ghost use Rattle.tx_main.specs.Turns as turns;
 
-use crate::effects::{end_assignment, fail, finish_assignment};
 use crate::groups::leave_group;
-use crate::page::integer;
 use crate::pages::{build_if, build_in, context_of};
 use std::alloc::{AllocError, Global};
 use tx_assign::is_global;
@@ -26,21 +23,12 @@ use tx_command::{BoxContext, BoxGoal};
 use tx_eqtb::GroupKind;
 use tx_list::Stack;
 use tx_machine::Event;
-use tx_nest::{append_item, append_rule, has_last_box, is_bare_page, remove_item, set_prev_depth};
-use tx_node::{BoxNode, Node, Nodes, Rule};
+use tx_nest::{append_rule, has_last_box, is_bare_page, remove_item, set_prev_depth};
+use tx_node::{BoxNode, Nodes, Rule};
 use tx_output::LastItem;
 use tx_prim::{BoxKind, IntegerParameter, ItemKind, UnboxKind};
 use tx_seen::{Place, TexError};
-use tx_state::{Due, State};
-
-/// Appends an item that changes nothing else of the list.
-pub fn add(s: &mut State, node: Node) -> Result<Event, AllocError>
-    requires { s.old.phase ≡ Phase.Running }
-    ensures { IfOk result (λ event. IsStepped (effects.adding (state_of s.old) (item_of node)) s.old event s.new) }
-{
-    append_item(s.lists.nest.top(), node)?;
-    Ok(Event::Went)
-}
+use tx_state::{Due, State, end_assignment, fail, finish_assignment, integer};
 
 /// Appends a rule.
 pub fn add_rule(alloc: Global, s: &mut State, rule: Rule) -> Result<Event, AllocError>

@@ -1,18 +1,14 @@
 //! What each command does, once it is whole (TeX: The Program, parts 45 to 49).
-ghost use Rattle.std.specs.Prelude.{◌≡◌, ◌≢◌, ◌++◌, ◌||◌, [], Some, Ok, Err, IfOk, IfErr, OnOk};
+ghost use Rattle.std.specs.Prelude.{◌≡◌, ◌++◌, ◌||◌, [], Some, IfOk, OnOk};
 ghost use Rattle.tx_node.specs.Items.{shared};
-ghost use Rattle.tx_node.specs.Nodes.{item_of};
-ghost use Rattle.tx_assign.specs.Changes.{carried_out};
 ghost use Rattle.tx_command.specs.AtOnce.{whole};
 ghost use Rattle.tx_main.specs.Effects as effects;
-ghost use Rattle.tx_machine.specs.Machine.{kind_of};
-ghost use Rattle.tx_state.specs.Outcomes.{Asks, Fails, Ends, leaves};
-ghost use Rattle.tx_state.specs.Meanings.{IsStepped, meaning_of, state_of};
+ghost use Rattle.tx_state.specs.Ended.{adding};
+ghost use Rattle.tx_state.specs.Outcomes.{leaves};
+ghost use Rattle.tx_state.specs.Meanings.{IsStepped, state_of};
 ghost use Rattle.tx_state.specs.Texts.{definition_text, is_global as global_kind};
 
-use crate::boxes::{
-    add, add_rule, copy_box, open_box, remove, set_depth, take_box, unbox, use_box,
-};
+use crate::boxes::{add_rule, copy_box, open_box, remove, set_depth, take_box, unbox, use_box};
 use crate::breaks::begin_break;
 use crate::fonts::{define_font, find_font, set_dimension, set_integer};
 use crate::groups::{end_group, end_semi_simple, open};
@@ -30,7 +26,7 @@ use tx_command::{AtOnce, Command, Head, Prefixes, SizeUse};
 use tx_convert::text_of;
 use tx_eqtb::{Entry, GroupKind};
 use tx_expand::escape_of;
-use tx_machine::{Ask, AskKind, Event, Stop};
+use tx_machine::Event;
 use tx_nest::append_item;
 use tx_node::{KernKind, Leaders, Node, Plain, Rule, Shared};
 use tx_num::Glue;
@@ -39,27 +35,11 @@ use tx_prim::{
 };
 use tx_seen::{Meaning, Place, TexError};
 use tx_shape::Opener;
-use tx_state::{KeptToken, OpenText, Phase, State, is_global};
+use tx_state::{
+    KeptToken, OpenText, Phase, State, add, assign_so, end_assignment, fail, is_global,
+};
 use tx_text::{DefinitionScan, TextScan};
 use tx_toklist::{TokList, Toks};
-
-/// The run ends by an error.
-pub fn fail(s: &mut State, error: TexError) -> Event
-    ensures { IsStepped (Fails error) s.old result s.new }
-{
-    s.phase = Phase::Halted;
-    Event::Stopped(Stop::Error(error.number()))
-}
-
-/// The turn ends with an ask.
-#[inline(never)]
-pub fn ask(s: &mut State, kind: AskKind, ask: Ask) -> Event
-    requires { kind ≡ kind_of ask }
-    ensures { IsStepped (Asks ask (state_of s.old)) s.old result s.new }
-{
-    s.phase = Phase::Waiting(kind);
-    Event::Asks(ask)
-}
 
 /// The prefixes with one more.
 fn with_prefix(prefixes: Prefixes, prefix: Prefix) -> Prefixes
@@ -104,39 +84,6 @@ fn define(s: &mut State, defined: Place, kind: Shorthand) -> Result<Event, Alloc
             s.scan.begin_behind(Head::Defining(prefixes, defined, kind));
             Ok(Event::Went)
         }
-        Carried::Refused(error) => Ok(fail(s, error)),
-    }
-}
-
-/// An assignment is done: what \afterassignment keeps is read next. Its only error is want of memory.
-pub fn finish_assignment(s: &mut State) -> Result<(), AllocError>
-    ensures state { OnOk result (state_of s.new ≡ effects.assigned (state_of s.old)) }
-    ensures phase { OnOk result (s.new.phase ≡ s.old.phase) }
-    ensures said { OnOk result (s.new.said ≡ s.old.said) }
-{
-    if let Some(token) = mem::replace(&mut s.after_assignment, None) {
-        s.input.give_back(token)?;
-    }
-    s.scan.begin_fresh();
-    Ok(())
-}
-
-/// The same, and nothing else. Its only error is want of memory.
-pub fn end_assignment(s: &mut State) -> Result<Event, AllocError>
-    requires { s.old.phase ≡ Phase.Running }
-    ensures { IfOk result (λ event. IsStepped (leaves (effects.assigned (state_of s.old))) s.old event s.new) }
-{
-    finish_assignment(s)?;
-    Ok(Event::Went)
-}
-
-/// An assignment, global by its prefixes or not. Its only further error is want of memory.
-pub fn assign_so(s: &mut State, assignment: Assignment, global: bool) -> Result<Event, AllocError>
-    requires { s.old.phase ≡ Phase.Running }
-    ensures { IfOk result (λ event. IsStepped (effects.assigning (state_of s.old) (carried_out s.old.table assignment global)) s.old event s.new) }
-{
-    match tx_assign::carry_out(&mut s.table, assignment, global)? {
-        Carried::Done => end_assignment(s),
         Carried::Refused(error) => Ok(fail(s, error)),
     }
 }
@@ -303,7 +250,7 @@ fn add_special(alloc: Global, s: &mut State, tokens: &Toks) -> Result<Event, All
 /// Appends a mark with these tokens. Its only error is want of memory.
 fn add_mark(alloc: Global, s: &mut State, tokens: Toks) -> Result<Event, AllocError>
     requires { s.old.phase ≡ Phase.Running }
-    ensures { IfOk result (λ event. IsStepped (effects.adding (state_of s.old) (shared (Shared.Mark tokens))) s.old event s.new) }
+    ensures { IfOk result (λ event. IsStepped (adding (state_of s.old) (shared (Shared.Mark tokens))) s.old event s.new) }
 {
     let tokens = TokList::from_toks(alloc, tokens)?;
     let node = Node::from_shared(alloc, Shared::Mark(tokens))?;
@@ -428,14 +375,6 @@ fn begin_leaders(s: &mut State, kind: LeadersKind, rule: Rule) -> Event
 {
     s.scan.begin_behind(Head::Leading(kind, rule));
     Event::Went
-}
-
-/// The run ends as \end does it.
-pub fn finish(s: &mut State) -> Event
-    ensures { IsStepped Ends s.old result s.new }
-{
-    s.phase = Phase::Halted;
-    Event::Stopped(Stop::End)
 }
 
 /// A penalty, behind which the page builder is exercised.

@@ -6,8 +6,6 @@ ghost use Rattle.tx_state.specs.declared.parts.Phase.{Phase};
 ghost use Rattle.tx_main.specs.Effects as effects;
 ghost use Rattle.tx_state.specs.Meanings.{IsStepped, state_of};
 
-use crate::effects::{ask, assign_so, end_assignment, fail};
-use crate::page::integer;
 use crate::words::current_font;
 use std::alloc::{AllocError, Global};
 use std::mem;
@@ -18,7 +16,7 @@ use tx_eqtb::Entry;
 use tx_machine::{Ask, AskKind, Event};
 use tx_prim::{FontNumber, IntegerParameter, Primitive};
 use tx_seen::{FontName, Meaning, Place, TexError};
-use tx_state::{Due, FontRequest, State};
+use tx_state::{Due, FontRequest, State, ask, assign_so, end_assignment, fail, integer};
 use tx_tfm::{Font, FontError, Fonts, NamedFont};
 
 /// The longest name of a file, in bytes.

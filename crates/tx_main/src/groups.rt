@@ -10,7 +10,6 @@ ghost use Rattle.tx_state.specs.Meanings.{IsStepped, state_of};
 
 use crate::boxes::end_box;
 use crate::breaks::end_break;
-use crate::effects::fail;
 use crate::paragraphs::{end_insert, end_output, end_vertical};
 use std::alloc::{AllocError, Global};
 use tx_bytes::Bytes;
@@ -20,7 +19,7 @@ use tx_list::Stack;
 use tx_machine::Event;
 use tx_pending::Pending;
 use tx_seen::TexError;
-use tx_state::{KeptToken, State};
+use tx_state::{KeptToken, State, fail};
 
 /// Opens a group of this kind.
 pub fn open(s: &mut State, kind: GroupKind) -> Result<Event, AllocError>

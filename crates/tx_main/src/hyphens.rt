@@ -5,7 +5,6 @@ ghost use Rattle.tx_main.specs.Effects as effects;
 ghost use Rattle.tx_main.specs.Hyphens as spec;
 ghost use Rattle.tx_state.specs.Meanings.{IsStepped, state_of};
 
-use crate::effects::{end_assignment, fail};
 use std::alloc::{AllocError, Global};
 use std::mem::replace;
 use tx_bytes::Bytes;
@@ -16,7 +15,7 @@ use tx_machine::Event;
 use tx_paragraph::lower_codes;
 use tx_prim::TextUse;
 use tx_seen::{Meaning, TexError};
-use tx_state::{Phase, State};
+use tx_state::{Phase, State, end_assignment, fail};
 use tx_toklist::Toks;
 
 /// What a token is in such a text.

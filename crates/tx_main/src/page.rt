@@ -1,7 +1,6 @@
 //! What shipping and reading take from the table (TeX: The Program, sections 638 to 644 and 362).
-ghost use Rattle.std.specs.Prelude.{◌≡◌, ◌++◌, map, IsTrue, IfOk, OnOk};
+ghost use Rattle.std.specs.Prelude.{◌≡◌, ◌++◌, map, IfOk, OnOk};
 ghost use Rattle.tx_dvi.specs.declared.font.FontDefinition.{FontDefinition};
-ghost use Rattle.tx_ship.specs.Pages.{IsMag};
 ghost use Rattle.tx_machine.specs.Ranges.{IsDate};
 ghost use Rattle.tx_main.specs.Pages as spec;
 
@@ -14,6 +13,7 @@ use tx_machine::Date;
 use tx_prim::{DimensionParameter, IntegerParameter, Moment};
 use tx_seen::Place;
 use tx_ship::ShipParams;
+use tx_state::integer;
 
 /// When a run began, as the date parameters say it.
 pub fn moment_of(date: &Date) -> Moment
@@ -26,13 +26,6 @@ pub fn moment_of(date: &Date) -> Moment
         day: date.day as i32,
         time: date.minutes as i32,
     }
-}
-
-/// An integer parameter.
-pub fn integer(table: &Eqtb, parameter: IntegerParameter) -> i32
-    ensures { result ≡ spec.integer table.now.table parameter }
-{
-    table.number(&Place::Integer(parameter))
 }
 
 /// A register of \count.

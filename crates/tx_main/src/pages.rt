@@ -1,6 +1,6 @@
 //! The effects of pages: the page builder is exercised, \output begins and ends, \insert, \vsplit, \end, and what is assigned to pages
 //! (TeX: The Program, sections 994 to 1054 and 1097 to 1100).
-ghost use Rattle.std.specs.Prelude.{◌≡◌, ◌≢◌, [], IsTrue, Some, Ok, Err, IfOk, OnOk};
+ghost use Rattle.std.specs.Prelude.{◌≡◌, ◌≢◌, [], IsTrue, Some, Err, IfOk, OnOk};
 ghost use Rattle.tx_eqtb.specs.Stack.{kind_of};
 ghost use Rattle.tx_galley.specs.Assigning.{setting};
 ghost use Rattle.tx_galley.specs.declared.errors.GalleyError.TheVariants.{OutOfMemory};
@@ -11,17 +11,14 @@ ghost use Rattle.tx_state.specs.declared.parts.Phase.{Phase};
 ghost use Rattle.tx_state.specs.Meanings.{IsStepped, state_of};
 ghost use Rattle.tx_machine.specs.declared.types.Event.{Event};
 ghost use Rattle.tx_state.specs.Outcomes.{Fails, Outcome};
-ghost use Rattle.tx_state.specs.State.{TexState};
 ghost use Rattle.tx_main.specs.Building as building;
 ghost use Rattle.tx_main.specs.Effects as effects;
 
 use crate::boxes::{carry, finish_box, settle, target_of};
-use crate::effects::{end_assignment, fail, finish};
 use crate::groups::leave_group;
 use std::alloc::{AllocError, Global};
 use tx_box::{
-    Done, Ended, InsertParams, Lists, OpenBox, Target, Work, begin_vertical, end_insert,
-    end_vertical, insert_params, place,
+    Ended, OpenBox, Target, Work, begin_vertical, end_insert, end_vertical, insert_params, place,
 };
 use tx_bytes::Bytes;
 use tx_command::Head;
@@ -31,13 +28,12 @@ use tx_galley::{
 };
 use tx_list::Stack;
 use tx_machine::Event;
-use tx_node::{BoxNode, Nodes};
 use tx_pack::Packed;
 use tx_pending::Next as Pending_next;
 use tx_prim::{Mode, PageQuantity};
 use tx_seen::{Place, TexError};
 use tx_shape::{BoxContext, Opener};
-use tx_state::{Due, State};
+use tx_state::{Due, State, end_assignment, fail, finish};
 
 /// The run ends by the error of a page, if that isn't want of memory.
 fn fail_by(s: &mut State, error: GalleyError) -> Result<Event, AllocError>

@@ -12,7 +12,6 @@ ghost use Rattle.tx_state.specs.declared.parts.Phase.{Phase};
 ghost use Rattle.tx_state.specs.Meanings.{IsStepped, state_of};
 
 use crate::boxes::{end_box, take_over};
-use crate::effects::{assign_so, end_assignment, fail};
 use crate::pages::{build, build_behind, finish_insert, finish_output, is_pages};
 use std::alloc::{AllocError, Global};
 use tx_assign::{Assignment, Change};
@@ -26,7 +25,7 @@ use tx_par::ParError;
 use tx_paragraph::close_paragraph;
 use tx_prim::{Indentation, TokenParameter};
 use tx_seen::{Place, TexError};
-use tx_state::State;
+use tx_state::{State, assign_so, end_assignment, fail};
 
 /// Whether a paragraph begins in the list that is being built.
 fn begins_paragraph(s: &State) -> bool

@@ -4,18 +4,18 @@ ghost use Rattle.std.specs.Prelude.{◌≡◌, ◌≢◌, [], true, is_some, Ok,
 ghost use Rattle.tx_machine.specs.Machine.{Ready};
 ghost use Rattle.tx_prim.specs.declared.integer.IntegerParameter.TheVariants.{Mag};
 ghost use Rattle.tx_ship.specs.Pages.{IsMag};
-ghost use Rattle.tx_main.specs.Pages.{integer as magnification_in, page_of};
+ghost use Rattle.tx_state.specs.Ended.{integer as magnification_in};
+ghost use Rattle.tx_main.specs.Pages.{page_of};
 ghost use Rattle.tx_state.specs.State.{Runs, mode_of};
-ghost use Rattle.tx_state.specs.Outcomes.{Asks};
 ghost use Rattle.tx_state.specs.Texts.{IsTextAnswered};
 ghost use Rattle.tx_main.specs.Turns as turns;
 ghost use Rattle.tx_main.specs.Words.{before_token};
 ghost use Rattle.tx_state.specs.Meanings.{IsStepped, meaning_of, state_of};
 
 use crate::boxes::{add_copy, add_list};
-use crate::effects::{ask, carry_made_out, end_text, fail, relax_name, take_at_once};
+use crate::effects::{carry_made_out, end_text, relax_name, take_at_once};
 use crate::fonts::{load_font, with_file};
-use crate::page::{integer, join_defined, line_end, ship_params};
+use crate::page::{join_defined, line_end, ship_params};
 use crate::pages::build;
 use crate::words::settle_word;
 use std::alloc::{AllocError, Global};
@@ -31,7 +31,7 @@ use tx_node::BoxNode;
 use tx_prim::IntegerParameter;
 use tx_seen::{Fed, Seen, TexError, Want};
 use tx_ship::{ShipError, body};
-use tx_state::{Due, OpenText, Phase, State};
+use tx_state::{Due, OpenText, Phase, State, ask, fail, integer};
 use tx_toklist::Toks;
 
 /// The magnification is used from now on, where it was taken.

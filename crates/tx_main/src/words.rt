@@ -10,8 +10,6 @@ ghost use Rattle.tx_word.specs.Factors.{factor_behind as factor_behind_code};
 ghost use Rattle.tx_word.specs.Italics.{last_italic as italic_of_last};
 ghost use Rattle.tx_state.specs.Meanings.{IsStepped, state_of};
 
-use crate::boxes::add;
-use crate::effects::{end_assignment, fail};
 use std::alloc::{AllocError, Global};
 use tx_eqtb::Eqtb;
 use tx_hyphenate::{report_lacking, report_missing};
@@ -21,7 +19,7 @@ use tx_node::{KernKind, Node, Plain};
 use tx_prim::{CharacterCode, GlueParameter};
 use tx_scan::byte;
 use tx_seen::{Place, Seen, TexError};
-use tx_state::State;
+use tx_state::{State, add, end_assignment, fail};
 use tx_word::{
     HyphenPoint, WordParams, discretionary_hyphen, factor_behind, last_italic, space_between,
 };

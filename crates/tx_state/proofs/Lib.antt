@@ -1,1 +1,2 @@
 pub mod Texting
+pub mod Outcomes

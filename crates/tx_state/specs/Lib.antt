@@ -1,5 +1,6 @@
 pub mod State
 pub mod Outcomes
+pub mod Ended
 pub mod Texts
 pub mod Meanings
 pub mod Codes

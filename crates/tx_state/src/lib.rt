@@ -1,11 +1,12 @@
-//! TeX's state: its parts, copies of it that go on by themselves, and whether two mean the same.
+//! TeX's state: its parts, copies of it that go on by themselves, whether two mean the same, and how a turn ends.
 //!
-//! Proved: a copy means what the state does, `same_state` is exactly equality of meanings, and what the text that is being taken
-//! makes of one more token; in `specs/` also what comes of a turn.
+//! Proved: a copy means what the state does, `same_state` is exactly equality of meanings, what the text that is being taken
+//! makes of one more token, and that what ends a turn is the defined outcome; in `specs/` also what comes of a turn.
 //!
-//! Read `parts`, `text` and `state`; last `kept`, `share` and `same`.
+//! Read `parts`, `text`, `state` and `ending`; last `kept`, `share` and `same`.
 #![tactic(auto)]
 
+mod ending;
 mod kept;
 mod parts;
 mod same;
@@ -13,6 +14,7 @@ mod share;
 mod state;
 mod text;
 
+pub use ending::{add, ask, assign_so, end_assignment, fail, finish, finish_assignment, integer};
 pub use parts::{Due, FontRequest, KeptToken, OpenText, Phase};
 pub use same::same_state;
 pub use share::share_state;

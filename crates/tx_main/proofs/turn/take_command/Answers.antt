@@ -3,7 +3,7 @@ use Rattle.tx_main.specs.Turns.{taking}
 use Rattle.tx_main.specs.Words.{before_token}
 use Rattle.tx_state.specs.Meanings.{state_of}
 use Rattle.tx_state.specs.State.{TexState}
-use Rattle.tx_main.proofs.Carrying.{outcome-by}
+use Rattle.tx_state.proofs.Outcomes.{outcome-by}
 use Rattle.tx_main.proofs.turn.take_command.Goals as goal
 
 pub returns : goal.returns

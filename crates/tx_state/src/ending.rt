@@ -1,0 +1,95 @@
+//! How a turn ends: it fails, asks, ends the run, ends an assignment, or appends an item.
+ghost use Rattle.std.specs.Prelude.{◌≡◌, IfOk, OnOk};
+ghost use Rattle.tx_assign.specs.Changes.{carried_out};
+ghost use Rattle.tx_machine.specs.Machine.{kind_of};
+ghost use Rattle.tx_node.specs.Nodes.{item_of};
+ghost use Rattle.tx_state.specs.Ended as spec;
+ghost use Rattle.tx_state.specs.Meanings.{IsStepped, state_of};
+ghost use Rattle.tx_state.specs.Outcomes.{Asks, Fails, Ends, leaves};
+
+use crate::parts::Phase;
+use crate::state::State;
+use std::alloc::AllocError;
+use std::mem;
+use tx_assign::{Assignment, Carried};
+use tx_eqtb::Eqtb;
+use tx_machine::{Ask, AskKind, Event, Stop};
+use tx_nest::append_item;
+use tx_node::Node;
+use tx_prim::IntegerParameter;
+use tx_seen::{Place, TexError};
+
+/// The run ends by an error.
+pub fn fail(s: &mut State, error: TexError) -> Event
+    ensures { IsStepped (Fails error) s.old result s.new }
+{
+    s.phase = Phase::Halted;
+    Event::Stopped(Stop::Error(error.number()))
+}
+
+/// The turn ends with an ask.
+#[inline(never)]
+pub fn ask(s: &mut State, kind: AskKind, ask: Ask) -> Event
+    requires { kind ≡ kind_of ask }
+    ensures { IsStepped (Asks ask (state_of s.old)) s.old result s.new }
+{
+    s.phase = Phase::Waiting(kind);
+    Event::Asks(ask)
+}
+
+/// The run ends as \end does it.
+pub fn finish(s: &mut State) -> Event
+    ensures { IsStepped Ends s.old result s.new }
+{
+    s.phase = Phase::Halted;
+    Event::Stopped(Stop::End)
+}
+
+/// An assignment is done: what \afterassignment keeps is read next. Its only error is want of memory.
+pub fn finish_assignment(s: &mut State) -> Result<(), AllocError>
+    ensures state { OnOk result (state_of s.new ≡ spec.assigned (state_of s.old)) }
+    ensures phase { OnOk result (s.new.phase ≡ s.old.phase) }
+    ensures said { OnOk result (s.new.said ≡ s.old.said) }
+{
+    if let Some(token) = mem::replace(&mut s.after_assignment, None) {
+        s.input.give_back(token)?;
+    }
+    s.scan.begin_fresh();
+    Ok(())
+}
+
+/// The same, and nothing else. Its only error is want of memory.
+pub fn end_assignment(s: &mut State) -> Result<Event, AllocError>
+    requires { s.old.phase ≡ Phase.Running }
+    ensures { IfOk result (λ event. IsStepped (leaves (spec.assigned (state_of s.old))) s.old event s.new) }
+{
+    finish_assignment(s)?;
+    Ok(Event::Went)
+}
+
+/// An assignment, global by its prefixes or not. Its only further error is want of memory.
+pub fn assign_so(s: &mut State, assignment: Assignment, global: bool) -> Result<Event, AllocError>
+    requires { s.old.phase ≡ Phase.Running }
+    ensures { IfOk result (λ event. IsStepped (spec.assigning (state_of s.old) (carried_out s.old.table assignment global)) s.old event s.new) }
+{
+    match tx_assign::carry_out(&mut s.table, assignment, global)? {
+        Carried::Done => end_assignment(s),
+        Carried::Refused(error) => Ok(fail(s, error)),
+    }
+}
+
+/// Appends an item that changes nothing else of the list.
+pub fn add(s: &mut State, node: Node) -> Result<Event, AllocError>
+    requires { s.old.phase ≡ Phase.Running }
+    ensures { IfOk result (λ event. IsStepped (spec.adding (state_of s.old) (item_of node)) s.old event s.new) }
+{
+    append_item(s.lists.nest.top(), node)?;
+    Ok(Event::Went)
+}
+
+/// An integer parameter.
+pub fn integer(table: &Eqtb, parameter: IntegerParameter) -> i32
+    ensures { result ≡ spec.integer table.now.table parameter }
+{
+    table.number(&Place::Integer(parameter))
+}
