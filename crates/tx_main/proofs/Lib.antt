@@ -5,11 +5,7 @@ pub mod TextTurns
 pub mod Closing
 pub mod Turning
 pub mod Carrying
-pub mod Defining
 pub mod AtOnce
-pub mod Loads
-pub mod Collects
 pub mod Assigns
-pub mod Signs
 pub mod Vertical
 pub mod MainLoop

@@ -56,9 +56,9 @@ use Rattle.tx_state.specs.State.{Meaning as TexMeaning, TexState, Runs, meaning_
 use Rattle.tx_main.specs.Effects.{effect}
 use Rattle.tx_main.specs.MainLoop.{AwaitsToken, GoesOn, HasGone, HasRun, IsLetterNext, IsLooping, IsSpaceNext, lettered, spaced}
 use Rattle.tx_main.specs.Turns.{due_cost, goes_on, known_of, outcome, taken_by, taking, tex, turned, wanted_by}
-use Rattle.tx_main.specs.Words.{before_token, collecting, collecting_into, current_font, factor_now, factored, gluing, in_paragraph, space_code, spacing, with_more, word_ended, word_params}
+use Rattle.tx_lettering.specs.Words.{before_token, collecting, collecting_into, current_font, factor_now, factored, gluing, in_paragraph, space_code, spacing, with_more, word_ended, word_params}
 use Rattle.tx_main.proofs.AtOnce.{takes-at-once}
-use Rattle.tx_main.proofs.Collects.{collected_by}
+use Rattle.tx_lettering.proofs.Collects.{collected_by}
 
 -- a character that is set means itself, goes on with a word, and is a command by itself
 meaning-set : (table : Table) (code : ℕ) (kind : Cat) → is_set kind ≡ true → token_meaning table (token.Character code kind) ≡ meaning.Character code kind

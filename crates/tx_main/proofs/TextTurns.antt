@@ -12,7 +12,7 @@ use Rattle.tx_state.specs.declared.parts.OpenText.{OpenText}
 use Rattle.tx_state.specs.declared.parts.OpenText.TheVariants as texts
 use Rattle.tx_state.specs.declared.parts.Phase.TheVariants.{Running}
 use Rattle.tx_state.specs.declared.state.State.{State}
-use Rattle.tx_main.specs.Effects.{ending_text}
+use Rattle.tx_lettering.specs.Texts.{ending_text}
 use Rattle.tx_state.specs.Meanings.{IsStepped, state_of}
 use Rattle.tx_state.specs.Outcomes.{Fails, leaves}
 use Rattle.tx_state.specs.State.{TexState}

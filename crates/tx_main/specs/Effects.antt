@@ -1,5 +1,5 @@
 -- What each command does, once it is whole (TeX: The Program, parts 45 to 49): a line for each family.
-use Rattle.std.specs.Prelude.{ℕ, ◌-◌, ◌*◌, ℤ, pos, int_lt, unsigned_abs, Bool, true, false, ◌||◌, ◌&&◌, ◌==◌, nat_lt, nat_le, List, [], ◌∷◌, ◌++◌, length, map, Option, Some, None, is_some, Result, Ok, Err, codes, if◌then◌else◌}
+use Rattle.std.specs.Prelude.{ℕ, ◌-◌, ◌*◌, ℤ, pos, int_lt, unsigned_abs, Bool, true, false, ◌&&◌, ◌==◌, nat_lt, List, [], ◌∷◌, ◌++◌, length, Option, Some, None, is_some, Result, Ok, Err, codes, if◌then◌else◌}
 use Rattle.tx_char.specs.declared.tokens.Token.{Token}
 use Rattle.tx_char.specs.declared.tokens.Token.TheVariants as token
 use Rattle.tx_node.specs.declared.plain.KernKind.TheVariants.{Explicit}
@@ -14,73 +14,50 @@ use Rattle.tx_nest.specs.declared.list.ModeList.{ModeList}
 use Rattle.tx_nest.specs.Appended.{rule_appended}
 use Rattle.tx_nest.specs.Changed as list
 use Rattle.tx_nest.specs.Lasts.{last_box}
-use Rattle.tx_nest.specs.Factors.{factor_of}
 use Rattle.tx_nest.specs.Grafs.{graf_of, with_graf}
 use Rattle.tx_nest.specs.States.{mode_of}
 use Rattle.tx_eqtb.specs.declared.eqtb.Eqtb.{Eqtb}
 use Rattle.tx_eqtb.specs.declared.groups.GroupKind.{GroupKind}
 use Rattle.tx_eqtb.specs.declared.groups.GroupKind.TheVariants as kind
-use Rattle.tx_eqtb.specs.declared.entry.Entry.TheVariants.{Means, Shape as Shape_entry}
+use Rattle.tx_eqtb.specs.declared.entry.Entry.TheVariants.{Shape as Shape_entry}
 use Rattle.tx_eqtb.specs.Table.{box_at, tokens_at}
-use Rattle.tx_eqtb.specs.Stack.{opened, closed, kind_of, assigned as table_assigned}
-use Rattle.tx_expand.specs.Expanding.{escape_of}
+use Rattle.tx_eqtb.specs.Stack.{opened, closed, kind_of}
 use Rattle.tx_expand.specs.Turns.{put}
 use Rattle.tx_prim.specs.declared.family.AfterKind.{AfterKind}
 use Rattle.tx_prim.specs.declared.family.AfterKind.TheVariants as after
 use Rattle.tx_prim.specs.declared.family.BoxKind.{BoxKind}
 use Rattle.tx_prim.specs.declared.family.BreakText.{BreakText}
 use Rattle.tx_prim.specs.declared.family.BreakText.TheVariants as break
-use Rattle.tx_prim.specs.declared.family.DefinitionKind.{DefinitionKind}
 use Rattle.tx_prim.specs.declared.family.Indentation.{Indentation}
 use Rattle.tx_prim.specs.declared.family.ItemKind.{ItemKind}
 use Rattle.tx_prim.specs.declared.family.ItemKind.TheVariants as item
 use Rattle.tx_prim.specs.declared.family.LeadersKind.{LeadersKind}
 use Rattle.tx_prim.specs.declared.family.LeadersKind.TheVariants as leaders
-use Rattle.tx_prim.specs.declared.integer.IntegerParameter.TheVariants.{Defaulthyphenchar, Defaultskewchar, Globaldefs}
-use Rattle.tx_prim.specs.declared.family.TextUse.{TextUse}
-use Rattle.tx_prim.specs.declared.family.TextUse.TheVariants as purposes
-use Rattle.tx_prim.specs.declared.primitive.Primitive.TheVariants.{NullFont, Relax}
+use Rattle.tx_prim.specs.declared.integer.IntegerParameter.TheVariants.{Globaldefs}
 use Rattle.tx_prim.specs.declared.family.UnboxKind.{UnboxKind}
 use Rattle.tx_prim.specs.declared.family.Prefix.{Prefix as APrefix}
 use Rattle.tx_prim.specs.declared.family.Prefix.TheVariants.{Global, Long, Outer}
 use Rattle.tx_prim.specs.declared.family.SizeKind.TheVariants.{Kern}
 use Rattle.tx_prim.specs.declared.tokens.TokenParameter.TheVariants.{Everypar}
 use Rattle.tx_seen.specs.declared.error.TexError.{TexError}
-use Rattle.tx_seen.specs.declared.error.TexError.TheVariants.{BadFont, BadHyphenation, MissingBox, ExtraGroupEnd, TooManyGroups, ErrorMessage, NotAllowed, NumberOutOfRange, UnbalancedOutput}
-use Rattle.tx_seen.specs.declared.place.FontName.{FontName}
-use Rattle.tx_seen.specs.declared.place.FontName.TheVariants.{Current, Number}
-use Rattle.tx_seen.specs.declared.meaning.Meaning.{Meaning}
-use Rattle.tx_seen.specs.declared.meaning.Meaning.TheVariants.{Font, Macro, Command as Command_meaning}
-use Rattle.tx_seen.specs.declared.place.Place.{Place}
-use Rattle.tx_seen.specs.declared.place.Place.TheVariants.{Active, Box, Name, ParShape, Tokens}
+use Rattle.tx_seen.specs.declared.error.TexError.TheVariants.{MissingBox, ExtraGroupEnd, TooManyGroups, NumberOutOfRange, UnbalancedOutput}
+use Rattle.tx_seen.specs.declared.place.Place.TheVariants.{Box, ParShape, Tokens}
 use Rattle.tx_assign.specs.declared.types.Assignment.{Assignment}
 use Rattle.tx_assign.specs.declared.types.Change.{Change}
 use Rattle.tx_assign.specs.declared.types.Change.TheVariants.{Set, Compute, Add, Copy, Text}
-use Rattle.tx_assign.specs.Changes.{carried_out, is_global as globally, relaxed, with_text}
-use Rattle.tx_tfm.specs.declared.named.NamedFont.{NamedFont}
-use Rattle.tx_tfm.specs.declared.state.FontState.{FontState}
-use Rattle.tx_tfm.specs.Fonts.{found, loaded_state, with_font_identifier, with_font_integer, with_font_parameter}
-use Rattle.tx_tfm.specs.Metrics.{metrics_of}
-use Rattle.tx_tfm.specs.Rules.{first_broken}
-use Rattle.tx_machine.specs.declared.types.Ask.TheVariants.{Whole}
-use Rattle.tx_text.specs.Definitions.{Defining as Defined_text}
-use Rattle.tx_toklist.specs.Macros.{Definition}
-use Rattle.tx_convert.specs.Messages.{printed}
+use Rattle.tx_assign.specs.Changes.{carried_out, is_global as globally, relaxed}
+use Rattle.tx_tfm.specs.Fonts.{with_font_integer, with_font_parameter}
 use Rattle.tx_command.specs.declared.types.Command.{Command}
-use Rattle.tx_shape.specs.Loading.{size_asked}
 use Rattle.tx_command.specs.declared.types.Command.TheVariants.{Nothing, Space, ControlSpace, Character, ItalicCorrection, Indent, InsertPar, EndParagraph, DiscretionaryHyphen, SetFactor, SetPrevGraf, BeginShape, Open, SetDeadCycles, SetPage, SplitBox, DefineFont, LoadFont, SetFontDimen, SetFontInteger, BeginGroup, EndGroup, BeginSemiSimple, EndSemiSimple, Prefix, Define, Assign, Sized, Rule, BeginBox, UseBox, CopyBox, LastBox, Unbox, Penalize, Remove, Skip, BeginLeaders, SetDepth, End, Interact, DefineMacro, BeginText, DefineFuture, Keep}
-use Rattle.tx_shape.specs.declared.types.AskedSize.{AskedSize}
 use Rattle.tx_shape.specs.declared.types.BoxGoal.{BoxGoal}
 use Rattle.tx_shape.specs.declared.types.BoxContext.{BoxContext}
 use Rattle.tx_shape.specs.declared.types.BoxContext.TheVariants.{Adjust, Append, Register, Ship}
 use Rattle.tx_command.specs.declared.types.Head.{Head}
-use Rattle.tx_command.specs.declared.types.Head.TheVariants.{Fresh, Prefixed, Defining, Future, Leading, Loading, Shaping, Opening}
+use Rattle.tx_command.specs.declared.types.Head.TheVariants.{Fresh, Prefixed, Defining, Future, Leading, Shaping, Opening}
 use Rattle.tx_command.specs.declared.types.SizeUse.TheVariants.{Item, Shape}
 use Rattle.tx_command.specs.declared.types.Prefixes.{Prefixes}
 use Rattle.tx_command.specs.Commands.{leaders_before, prefixes_of}
 use Rattle.tx_state.specs.declared.parts.KeptToken.{KeptToken}
-use Rattle.tx_state.specs.declared.parts.OpenText.{OpenText}
-use Rattle.tx_state.specs.declared.parts.OpenText.TheVariants as texts
 use Rattle.tx_box.specs.declared.parts.Target.{Target}
 use Rattle.tx_box.specs.declared.parts.Work.{Work}
 use Rattle.tx_box.specs.declared.parts.Lists.{Lists}
@@ -94,7 +71,7 @@ use Rattle.tx_box.specs.Sources.{copying, taking_last, unboxing, using}
 use Rattle.tx_par.specs.declared.error.ParError.{ParError}
 use Rattle.tx_paragraph.specs.Beginning.{begins_paragraph, indented}
 use Rattle.tx_paragraph.specs.Ending as paragraph
-use Rattle.tx_paragraph.specs.Hyphens.{Hyphenating, lower_codes}
+use Rattle.tx_paragraph.specs.Hyphens.{Hyphenating}
 use Rattle.tx_galley.specs.Ending.{ending_output as output_ended, is_done, with_end}
 use Rattle.tx_galley.specs.Assigning.{setting}
 use Rattle.tx_galley.specs.Splitting.{SplitOff, splitting as split_off}
@@ -107,19 +84,15 @@ use Rattle.tx_pending.specs.declared.next.Next.{Next}
 use Rattle.tx_pending.specs.declared.next.Next.TheVariants.{Marker}
 use Rattle.tx_shape.specs.declared.types.Opener.TheVariants as opener
 use Rattle.tx_state.specs.declared.parts.Due.{Due}
-use Rattle.tx_state.specs.declared.parts.Due.TheVariants.{Boxes, LoadFont as LoadFont_due}
-use Rattle.tx_state.specs.declared.parts.FontRequest.{FontRequest}
+use Rattle.tx_state.specs.declared.parts.Due.TheVariants.{Boxes}
 use Rattle.tx_main.specs.Building.{built, built_if, built_in, exercised, exercising, is_pages}
 use Rattle.tx_state.specs.Ended.{adding, assigned, assigning, integer, naming, with_top_list}
 use Rattle.tx_state.specs.State.{TexState}
-use Rattle.tx_hyphen.specs.Rules.{Rules}
-use Rattle.tx_hyphenate.specs.declared.known.Hyphenation.{Hyphenation}
-use Rattle.tx_hyphenate.specs.Texts.{with_exceptions, with_patterns}
-use Rattle.tx_main.specs.Hyphens.{words_of}
-use Rattle.tx_main.specs.Letters.{code_for, token_for}
-use Rattle.tx_state.specs.Texts.{absorbed_text, definition_text, is_global, list_text}
+use Rattle.tx_state.specs.Texts.{definition_text}
 use Rattle.tx_state.specs.Outcomes.{Outcome, Asks, Leaves, Ships, Fails, FailsTelling, Ends, leaves}
-use Rattle.tx_main.specs.Words.{breaking, collecting, control_spacing, correcting, current_font, factor_now, spacing, with_list_factor}
+use Rattle.tx_lettering.specs.Words.{breaking, collecting, control_spacing, correcting, factor_now, setting_factor_of, spacing}
+use Rattle.tx_lettering.specs.Fonts.{asking_font, defining_font, number_of, setting_fonts}
+use Rattle.tx_lettering.specs.Texts.{beginning_text, in_list}
 
 -- one more prefix
 abbrev pub with_prefix : Prefixes → APrefix → Prefixes
@@ -129,10 +102,6 @@ with_prefix prefixes Outer = record prefixes { outer = true }
 
 abbrev pub prefixing : TexState → APrefix → Outcome
 prefixing s prefix = leaves (record s { head = Prefixed (with_prefix (prefixes_of s.head) prefix) })
-
--- the list of tokens that is to stand at a place is taken first
-abbrev pub in_list : TexState → Place → TexState
-in_list s place = record s { text = Some (list_text place) }
 
 -- an assignment, by its change
 abbrev pub assigning_now : TexState → Assignment → Change → Outcome
@@ -224,77 +193,6 @@ keeping_after s after.Assignment t = record s { after_assignment = Some t }
 keeping_after s after.Group t =
     if length s.table.groups == 0 then s
     else record s { after_groups = record { groups = length s.table.groups; token = t } ∷ s.after_groups }
-
--- the macro of a definition that is whole
-abbrev pub macro_of : Prefixes → Defined_text → Definition
-macro_of prefixes d = record { parameters = d.parameters; signs = d.signs; body = d.body; long = prefixes.long; outer = prefixes.outer }
-
-abbrev pub defining : TexState → Place → DefinitionKind → Defined_text → Outcome
-defining s defined kind d =
-    assigning s (carried_out s.table (record { place = defined; change = Set (Means (Macro (macro_of (prefixes_of s.head) d))) }) ((prefixes_of s.head).global || is_global kind))
-
--- a list of tokens that is whole stands at its place
-abbrev pub listing : TexState → Place → List Token → Outcome
-listing s place tokens = assigning s (carried_out s.table (with_text place tokens) (prefixes_of s.head).global)
-
--- the line of a message
-unfoldable pub message : List ℕ → List ℕ
-message text = codes "message " ++ (text ++ 10 ∷ [])
-
-abbrev pub printing : TexState → List Token → Outcome
-printing s tokens = Leaves s (message (printed (escape_of s.table) s.table.table.categories s.words.fonts tokens))
-
--- a text is read next, with other letters
-abbrev pub lettering : TexState → Bool → List Token → Outcome
-lettering s upper tokens = leaves (record s { reader = put (map (token_for s.table.table (code_for upper)) tokens) s.reader })
-
--- a \special has the bytes that its text has when it is read
-abbrev pub marking : TexState → List Token → Outcome
-marking s tokens = adding s (shared (large.Special (printed (escape_of s.table) s.table.table.categories s.words.fonts tokens)))
-
--- \patterns and \hyphenation: what is known of hyphenation grows, whatever groups are open (sections 934 and 1252)
-abbrev pub learned : {E : Type 0} → TexState → Result Rules E → Outcome
-learned s (Err e) = Fails BadHyphenation
-learned s (Ok rules) = leaves (assigned (record s { hyphenation = record s.hyphenation { hyphens = rules } }))
-
-abbrev pub patterning : TexState → Option (List (List ℕ)) → Outcome
-patterning s None = Fails BadHyphenation
-patterning s (Some texts) = learned s (with_patterns (lower_codes s.table.table) s.hyphenation.hyphens texts)
-
-abbrev pub excepting : TexState → Option (List (List ℕ)) → Outcome
-excepting s None = Fails BadHyphenation
-excepting s (Some words) = learned s (with_exceptions (lower_codes s.table.table) s.hyphenation.hyphens words)
-
--- what becomes of a text in braces
-abbrev pub using_text : TexState → TextUse → List Token → Outcome
-using_text s purposes.Message tokens = printing s tokens
-using_text s purposes.ErrorMessage tokens = Fails ErrorMessage
-using_text s purposes.UpperCase tokens = lettering s true tokens
-using_text s purposes.LowerCase tokens = lettering s false tokens
-using_text s purposes.Special tokens = marking s tokens
-using_text s purposes.Patterns tokens = patterning s (words_of s.table.table false tokens)
-using_text s purposes.Hyphenation tokens = excepting s (words_of s.table.table true tokens)
-using_text s purposes.Mark tokens = adding s (shared (large.Mark tokens))
-
--- a text in braces begins; no pattern can be added any more once a paragraph began its second pass (section 960)
-abbrev pub is_late : Hyphenation → TextUse → Bool
-is_late known purposes.Patterns = known.used
-is_late known _ = false
-
-abbrev pub beginning_text : TexState → TextUse → Outcome
-beginning_text s purpose =
-    if is_late s.hyphenation purpose then Fails BadHyphenation else leaves (record s { text = Some (absorbed_text purpose) })
-
--- what becomes of the text that is whole
-abbrev pub ending_text : TexState → Option OpenText → Outcome
-ending_text s None = leaves s
-ending_text s (Some (texts.Definition defined kind d)) = defining (record s { text = None }) defined kind d
-ending_text s (Some (texts.Absorbed purpose a)) = using_text (record s { text = None }) purpose a.tokens
-ending_text s (Some (texts.List place a)) = listing (record s { text = None }) place a.tokens
-
--- the name that \csname has made means \relax from now on, in the innermost group (section 372)
-abbrev pub relaxing : TexState → List ℕ → TexState
-relaxing s name = record s { table = table_assigned s.table (Name name) (Means (Command_meaning Relax)) }
 
 -- a command of boxes: the lists and the table are those that it leaves, work that it leaves is due, and the next command stands in
 -- the mode of the list that is being built then
@@ -487,79 +385,6 @@ abbrev pub skipping : TexState → GlueSpec → Option (LeadersKind × ARule) �
 skipping s g None = adding s (plain (small.Glue g))
 skipping s g (Some (kind, rule)) = adding (record s { head = Fresh }) (shared (large.Leaders (record { kind = spread kind; glue = g; rule = rule })))
 
--- \spacefactor, which may stand in horizontal modes alone (section 1243)
-abbrev pub setting_factor : TexState → Option ℕ → Outcome
-setting_factor s None = Fails NumberOutOfRange
-setting_factor s (Some factor) = leaves (assigned (with_list_factor s factor))
-
--- behind a prefix it may stand in another mode only to be refused
-abbrev pub setting_factor_of : TexState → ℤ → Option ℕ → Outcome
-setting_factor_of s number None = Fails NotAllowed
-setting_factor_of s number (Some old) = setting_factor s (factor_of number)
-
--- \fontdimen, \hyphenchar and \skewchar change the fonts, in all groups (section 1253)
-abbrev pub setting_fonts : TexState → List FontState → Outcome
-setting_fonts s fonts = leaves (assigned (record s { words = record s.words { fonts = fonts } }))
-
-abbrev pub number_of : TexState → FontName → ℕ
-number_of s Current = current_font s.table.table
-number_of s (Number n) = n
-
--- a name has a meaning from now on
-abbrev pub meant : Meaning → Place → Assignment
-meant meaning place = record { place = place; change = Set (Means meaning) }
-
--- how the identifier of a font is printed that \font gives this name: as the name, but `FONT` where that has no letters, and
--- before an active character (section 1257)
-abbrev pub identifier_of : Place → List ℕ
-identifier_of (Name []) = codes "FONT"
-identifier_of (Name (code ∷ name)) = code ∷ name
-identifier_of (Active code) = codes "FONT" ++ code ∷ []
-identifier_of other = []
-
--- the name of a \font is the identifier of the font of a number from now on, in all groups (section 1257)
-abbrev pub identifying : TexState → Place → ℕ → TexState
-identifying s defined n = record s { words = record s.words { fonts = with_font_identifier s.words.fonts n (identifier_of defined) } }
-
--- it means that font too
-abbrev pub naming_font : TexState → Place → Bool → ℕ → Outcome
-naming_font s defined global n = assigning (identifying s defined n) (carried_out s.table (meant (Font n) defined) global)
-
--- the file of a font
-abbrev pub font_file : List ℕ → List ℕ
-font_file name = name ++ codes ".tfm"
-
--- \font gives the font that has the name and the size, or else asks for its file (sections 1257 to 1260)
-abbrev pub finding : TexState → FontRequest → Option ℕ → Outcome
-finding s request (Some n) = naming_font s request.defined request.global n
-finding s request None = Asks (Whole (font_file request.name)) (record s { due = LoadFont_due request ∷ s.due })
-
--- a font more, with the hyphen and the skew character of the table (section 576)
-abbrev pub font_of_file : FontRequest → List ℕ → NamedFont
-font_of_file request bytes = record { name = request.name; font = metrics_of bytes request.size }
-
-abbrev pub with_font : TexState → NamedFont → TexState
-with_font s f = record s {
-  words = record s.words { fonts = s.words.fonts ++ loaded_state f (integer s.table.table Defaulthyphenchar) (integer s.table.table Defaultskewchar) ∷ [] };
-}
-
--- whether one more can be loaded: 255 at most, and a name has 255 bytes at most
-abbrev pub can_load : TexState → List ℕ → Bool
-can_load s name = nat_lt (length s.words.fonts) 256 && nat_le (length name) 255
-
--- the font of a file, if its bytes are those of one (section 560)
-abbrev pub loading_as : TexState → FontRequest → List ℕ → Option ℕ → Outcome
-loading_as s request bytes (Some rule) = Fails BadFont
-loading_as s request bytes None = naming_font (with_font s (font_of_file request bytes)) request.defined request.global (length s.words.fonts)
-
-abbrev pub loading_from : TexState → FontRequest → List ℕ → Outcome
-loading_from s request bytes = if can_load s request.name then loading_as s request bytes (first_broken bytes request.size) else Fails BadFont
-
--- what comes of the reply, which may be that there is no such file
-abbrev pub loading : TexState → FontRequest → Option (List ℕ) → Outcome
-loading s request None = Fails BadFont
-loading s request (Some bytes) = loading_from s request bytes
-
 -- what is kept of pages changes
 abbrev pub with_pages : TexState → Pages → TexState
 with_pages s pages = record s { lists = record s.lists { pages = pages } }
@@ -642,17 +467,6 @@ indenting_so s how = beginning_paragraph (is_pages s.mode) (indenting how (with_
 -- \par, behind which the page builder is exercised
 abbrev pub ending_paragraph : TexState → Outcome
 ending_paragraph s = built (paragraph_ended s (paragraph.ending (hyphenating s) s.lists s.table))
-
--- \font and the name that it defines, which means \nullfont until the font is found (section 1257)
-abbrev pub defining_font : TexState → Place → Outcome
-defining_font s defined =
-    naming s (Loading (prefixes_of s.head) defined) (carried_out s.table (meant (Command_meaning NullFont) defined) (prefixes_of s.head).global)
-
--- \font with all that belongs to it
-abbrev pub asking_font : TexState → Place → List ℕ → AskedSize → Outcome
-asking_font s defined name asked =
-    finding s (record { defined = defined; global = (prefixes_of s.head).global; name = name; size = size_asked asked; file = None })
-    (found s.words.fonts name (size_asked asked))
 
 -- the effect of each command
 abbrev pub effect : TexState → Command → Outcome

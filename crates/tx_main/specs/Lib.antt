@@ -1,8 +1,5 @@
 pub mod Pages
 pub mod Beginning
-pub mod Letters
-pub mod Hyphens
-pub mod Words
 pub mod Building
 pub mod Effects
 pub mod Turns

@@ -23,7 +23,7 @@ use Rattle.tx_state.specs.declared.state.State.{State}
 use Rattle.tx_state.specs.Meanings.{meaning_of, state_of}
 use Rattle.tx_state.specs.State.{TexState}
 use Rattle.tx_main.specs.Turns.{tex}
-use Rattle.tx_main.specs.Words.{current_font, space_code, with_list_factor, with_more, word_ended, word_params}
+use Rattle.tx_lettering.specs.Words.{current_font, space_code, with_list_factor, with_more, word_ended, word_params}
 
 -- a token is read next, for a command of which nothing is taken, nothing stands before it and no expansion has begun; if it is a
 -- character, it is to be set in a horizontal list

@@ -40,10 +40,12 @@ use Rattle.tx_scan.specs.Settled.{tokens_of}
 use Rattle.tx_scan.specs.Supplied.{with_values}
 use Rattle.tx_main.specs.Pages.{defined_by, line_end, page_of}
 use Rattle.tx_state.specs.Ended.{integer, with_items}
-use Rattle.tx_main.specs.Words.{before_token}
+use Rattle.tx_lettering.specs.Words.{before_token}
 use Rattle.tx_seen.specs.Magnified.{magnification_in, noted}
 use Rattle.tx_command.specs.Commands.{command, is_naming}
-use Rattle.tx_main.specs.Effects.{carried, effect, ending_text, loading, relaxing, with_pages}
+use Rattle.tx_main.specs.Effects.{carried, effect, with_pages}
+use Rattle.tx_lettering.specs.Texts.{ending_text, relaxing}
+use Rattle.tx_lettering.specs.Fonts.{loading}
 use Rattle.tx_main.specs.Building.{built_in, exercising}
 use Rattle.tx_seen.specs.Readings.{Reading, More, Need, Done, Wrong}
 use Rattle.tx_state.specs.Outcomes.{Outcome, Asks, Ships, Fails, Ends, leaves, stepped}

@@ -1,5 +1,5 @@
 //! TeX behind the seam.
-ghost use Rattle.std.specs.Prelude.{◌≡◌, ◌∷◌, [], List, ℕ, IfOk};
+ghost use Rattle.std.specs.Prelude.{◌≡◌, ◌∷◌, [], IfOk};
 ghost use Rattle.tx_machine.specs.Ranges.{IsDate};
 ghost use Rattle.tx_state.specs.declared.parts.Due.TheVariants.{OpenMain};
 ghost use Rattle.tx_state.specs.declared.parts.Phase.{Phase};

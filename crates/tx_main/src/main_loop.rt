@@ -10,12 +10,12 @@ ghost use Rattle.tx_tfm.specs.Fonts.{has_character};
 ghost use Rattle.tx_word.specs.Collecting.{font_of};
 ghost use Rattle.tx_main.specs.MainLoop.{AwaitsToken, GoesOn, HasRun, IsLooping, lettered, spaced};
 ghost use Rattle.tx_main.specs.Turns.{tex};
-ghost use Rattle.tx_main.specs.Words.{factor_now as factor_of_list, with_more};
+ghost use Rattle.tx_lettering.specs.Words.{factor_now as factor_of_list, with_more};
 ghost use Rattle.tx_state.specs.Meanings.{meaning_of, state_of};
 ghost use Rattle.tx_state.specs.State.{mode_of};
 
-use crate::words::{current_font, end_word, factor_now, pass_factor, word_params};
 use std::alloc::{AllocError, Global};
+use tx_lettering::{current_font, end_word, factor_now, pass_factor, word_params};
 use tx_lex::{PlainToken, ReadState};
 use tx_machine::Steps;
 use tx_nest::{SpaceFactor, append_item};

@@ -1,6 +1,6 @@
 use Rattle.std.proofs.Common.{ap}
 use Rattle.tx_main.specs.Turns.{taking}
-use Rattle.tx_main.specs.Words.{before_token}
+use Rattle.tx_lettering.specs.Words.{before_token}
 use Rattle.tx_state.specs.Meanings.{state_of}
 use Rattle.tx_state.specs.State.{TexState}
 use Rattle.tx_state.proofs.Outcomes.{outcome-by}

@@ -1,0 +1,4 @@
+pub mod Defining
+pub mod Loads
+pub mod Collects
+pub mod Signs

@@ -1,0 +1,276 @@
+//! Fonts that are named, loaded and changed (TeX: The Program, sections 1253 and 1256 to 1260).
+ghost use Rattle.std.specs.Prelude.{◌≡◌, ◌<◌, ◌≤◌, ◌++◌, [], Some, None, codes, length, nat_lt, IfOk};
+ghost use Rattle.tx_tfm.specs.Fonts.{with_font_integer, with_font_parameter};
+ghost use Rattle.tx_tfm.specs.Rules.{first_broken};
+ghost use Rattle.tx_state.specs.declared.parts.Phase.{Phase};
+ghost use Rattle.tx_lettering.specs.Fonts as spec;
+ghost use Rattle.tx_state.specs.Meanings.{IsStepped, state_of};
+
+use crate::words::current_font;
+use std::alloc::{AllocError, Global};
+use std::mem;
+use tx_assign::{Assignment, Carried, Change};
+use tx_bytes::Bytes;
+use tx_command::{AskedSize, Head};
+use tx_eqtb::Entry;
+use tx_machine::{Ask, AskKind, Event};
+use tx_prim::{FontNumber, IntegerParameter, Primitive};
+use tx_seen::{FontName, Meaning, Place, TexError};
+use tx_state::{Due, FontRequest, State, ask, assign_so, end_assignment, fail, integer};
+use tx_tfm::{Font, FontError, Fonts, NamedFont};
+
+/// The longest name of a file, in bytes.
+const LONGEST_NAME: usize = 255;
+
+/// A name has a meaning from now on.
+fn meant(meaning: Meaning, place: Place) -> Assignment
+    ensures { result ≡ spec.meant meaning place }
+{
+    Assignment {
+        place,
+        change: Change::Set(Entry::Means(meaning)),
+    }
+}
+
+/// \font and the name that it defines, which means \nullfont until the font is found.
+pub fn define_font(s: &mut State, defined: Place) -> Result<Event, AllocError>
+    requires running { s.old.phase ≡ Phase.Running }
+    requires between { s.old.scan.taken ≡ [] }
+    ensures { IfOk result (λ event. IsStepped (spec.defining_font (state_of s.old) defined) s.old event s.new) }
+{
+    let prefixes = s.scan.prefixes();
+    let null = meant(Meaning::Command(Primitive::NullFont), defined.clone()?);
+    match tx_assign::carry_out(&mut s.table, null, prefixes.global)? {
+        Carried::Done => {
+            s.scan.begin_behind(Head::Loading(prefixes, defined));
+            Ok(Event::Went)
+        }
+        Carried::Refused(error) => Ok(fail(s, error)),
+    }
+}
+
+/// `FONT` with this behind it. Its only error is want of memory.
+fn font_and(alloc: Global, behind: &[u8]) -> Result<Bytes, AllocError>
+    ensures { IfOk result (λ text. text ≡ codes "FONT" ++ behind.now) }
+{
+    let mut text = Bytes::from_slice(alloc, b"FONT")?;
+    text.append(behind)?;
+    Ok(text)
+}
+
+/// How the identifier of a font is printed that \font gives this name. Its only error is want of memory.
+fn identifier_of(alloc: Global, defined: &Place) -> Result<Bytes, AllocError>
+    ensures { IfOk result (λ text. text ≡ spec.identifier_of defined.now) }
+{
+    match defined {
+        Place::Name(name) => match name.as_slice() {
+            [] => font_and(alloc, &[]),
+            name => Bytes::from_slice(alloc, name),
+        },
+        Place::Active(code) => font_and(alloc, &[*code]),
+        _ => Ok(Bytes::new(alloc)),
+    }
+}
+
+/// The name of \font means the font of a number, and is its identifier. Its only further error is want of memory.
+fn name_font(
+    alloc: Global,
+    s: &mut State,
+    defined: Place,
+    global: bool,
+    number: u8,
+) -> Result<Event, AllocError>
+    requires { s.old.phase ≡ Phase.Running }
+    ensures { IfOk result (λ event. IsStepped (spec.naming_font (state_of s.old) defined global number) s.old event s.new) }
+{
+    let identifier = identifier_of(alloc, &defined)?;
+    s.words.set_identifier(number, identifier)?;
+    assign_so(s, meant(Meaning::Font(number), defined), global)
+}
+
+/// The name of a font's file. Its only error is want of memory.
+fn font_file(name: &Bytes) -> Result<Bytes, AllocError>
+    ensures { IfOk result (λ file. file ≡ spec.font_file name.now) }
+{
+    let mut file = name.clone()?;
+    file.append(b".tfm")?;
+    Ok(file)
+}
+
+/// The file of a font that isn't loaded is asked for. Its only error is want of memory.
+fn ask_font(s: &mut State, request: FontRequest) -> Result<Event, AllocError>
+    requires { s.old.phase ≡ Phase.Running }
+    ensures { IfOk result (λ event. IsStepped (spec.finding (state_of s.old) request None) s.old event s.new) }
+{
+    let file = font_file(&request.name)?;
+    s.due.push(Due::LoadFont(request))?;
+    Ok(ask(s, AskKind::Whole, Ask::Whole(file)))
+}
+
+/// \font with all that belongs to it: the font that has the name and the size, or else its file is asked for.
+pub fn find_font(
+    alloc: Global,
+    s: &mut State,
+    defined: Place,
+    name: Bytes,
+    asked: AskedSize,
+) -> Result<Event, AllocError>
+    requires running { s.old.phase ≡ Phase.Running }
+    requires between { s.old.scan.taken ≡ [] }
+    ensures { IfOk result (λ event. IsStepped (spec.asking_font (state_of s.old) defined name asked) s.old event s.new) }
+{
+    let size = asked.size();
+    let global = s.scan.prefixes().global;
+    match s.words.fonts().find(name.as_slice(), size) {
+        Some(number) => name_font(alloc, s, defined, global, number),
+        None => ask_font(
+            s,
+            FontRequest {
+                defined,
+                global,
+                name,
+                size,
+                file: None,
+            },
+        ),
+    }
+}
+
+/// A request with the bytes of its file.
+pub fn with_file(request: FontRequest, bytes: Bytes) -> FontRequest
+    ensures { result ≡ record request { file = Some bytes } }
+{
+    FontRequest {
+        defined: request.defined,
+        global: request.global,
+        name: request.name,
+        size: request.size,
+        file: Some(bytes),
+    }
+}
+
+/// A font more, whose number its name means. Its only further error is want of memory.
+fn add_font(
+    alloc: Global,
+    s: &mut State,
+    defined: Place,
+    global: bool,
+    font: NamedFont,
+) -> Result<Event, AllocError>
+    requires running { s.old.phase ≡ Phase.Running }
+    requires room { length s.old.words.fonts < 256 }
+    requires named { length font.name ≤ 255 }
+    ensures { IfOk result (λ event. IsStepped (spec.naming_font (spec.with_font (state_of s.old) font) defined global (length s.old.words.fonts)) s.old event s.new) }
+{
+    let hyphen = integer(&s.table, IntegerParameter::Defaulthyphenchar);
+    let skew = integer(&s.table, IntegerParameter::Defaultskewchar);
+    let number = s.words.push(alloc, font, hyphen, skew)?;
+    name_font(alloc, s, defined, global, number)
+}
+
+/// The font of these bytes is loaded, if they are those of one. Its only further error is want of memory.
+fn read_font(
+    alloc: Global,
+    s: &mut State,
+    request: FontRequest,
+    bytes: &Bytes,
+) -> Result<Event, AllocError>
+    requires running { s.old.phase ≡ Phase.Running }
+    requires room { length s.old.words.fonts < 256 }
+    requires named { length request.name ≤ 255 }
+    ensures { IfOk result (λ event. IsStepped (spec.loading_as (state_of s.old) request bytes.now (first_broken bytes.now request.size)) s.old event s.new) }
+{
+    match Font::read(alloc, bytes.as_slice(), request.size) {
+        Ok(font) => {
+            let name = request.name;
+            add_font(
+                alloc,
+                s,
+                request.defined,
+                request.global,
+                NamedFont { name, font },
+            )
+        }
+        Err(FontError::BadFont { .. }) => Ok(fail(s, TexError::BadFont)),
+        Err(FontError::OutOfMemory(_)) => Err(AllocError),
+    }
+}
+
+/// Whether one more font can be loaded.
+fn has_room(fonts: &Fonts) -> bool
+    ensures { result ≡ nat_lt (length fonts.now) 256 }
+{
+    fonts.are_fonts();
+    !fonts.is_full()
+}
+
+/// Whether one more font of this name can be loaded.
+fn can_load(s: &State, name: &Bytes) -> bool
+    ensures { result ≡ spec.can_load (state_of s.now) name.now }
+{
+    has_room(s.words.fonts()) && name.len() <= LONGEST_NAME
+}
+
+/// The font of these bytes is loaded, if one more can be and they are those of one. Its only further error is want of memory.
+fn load_from(
+    alloc: Global,
+    s: &mut State,
+    request: FontRequest,
+    bytes: &Bytes,
+) -> Result<Event, AllocError>
+    requires { s.old.phase ≡ Phase.Running }
+    ensures { IfOk result (λ event. IsStepped (spec.loading_from (state_of s.old) request bytes.now) s.old event s.new) }
+{
+    if can_load(s, &request.name) {
+        read_font(alloc, s, request, bytes)
+    } else {
+        Ok(fail(s, TexError::BadFont))
+    }
+}
+
+/// The font that \font wants is loaded, if its file was found and is one.
+pub fn load_font(alloc: Global, s: &mut State, request: FontRequest) -> Result<Event, AllocError>
+    requires { s.old.phase ≡ Phase.Running }
+    ensures { IfOk result (λ event. IsStepped (spec.loading (state_of s.old) request request.file) s.old event s.new) }
+{
+    let mut request = request;
+    match mem::replace(&mut request.file, None) {
+        Some(bytes) => load_from(alloc, s, request, &bytes),
+        None => Ok(fail(s, TexError::BadFont)),
+    }
+}
+
+/// The number of a font that a command names.
+fn number_of(s: &State, font: FontName) -> u8
+    ensures { result ≡ spec.number_of (state_of s.now) font }
+{
+    match font {
+        FontName::Current => current_font(&s.table),
+        FontName::Number(number) => number,
+    }
+}
+
+/// An assignment to a \fontdimen.
+pub fn set_dimension(s: &mut State, font: FontName, n: u16, size: i32) -> Result<Event, AllocError>
+    requires { s.old.phase ≡ Phase.Running }
+    ensures { IfOk result (λ event. IsStepped (spec.setting_fonts (state_of s.old) (with_font_parameter s.old.words.fonts (spec.number_of (state_of s.old) font) n size)) s.old event s.new) }
+{
+    let number = number_of(s, font);
+    s.words.set_parameter(number, n, size)?;
+    end_assignment(s)
+}
+
+/// An assignment to a \hyphenchar or \skewchar.
+pub fn set_integer(
+    s: &mut State,
+    kind: FontNumber,
+    font: FontName,
+    value: i32,
+) -> Result<Event, AllocError>
+    requires { s.old.phase ≡ Phase.Running }
+    ensures { IfOk result (λ event. IsStepped (spec.setting_fonts (state_of s.old) (with_font_integer kind s.old.words.fonts (spec.number_of (state_of s.old) font) value)) s.old event s.new) }
+{
+    let number = number_of(s, font);
+    s.words.set_integer(kind, number, value)?;
+    end_assignment(s)
+}

@@ -1,0 +1,223 @@
+//! Texts that are read whole begin and end: definitions, lists of tokens, and what \message and its kin absorb (TeX: The Program,
+//! sections 1218, 1226, 1279 and 1288).
+ghost use Rattle.std.specs.Prelude.{◌≡◌, ◌++◌, ◌||◌, Some, IfOk, OnOk};
+ghost use Rattle.tx_node.specs.Items.{shared};
+ghost use Rattle.tx_lettering.specs.Texts as spec;
+ghost use Rattle.tx_state.specs.Ended.{adding};
+ghost use Rattle.tx_state.specs.Outcomes.{leaves};
+ghost use Rattle.tx_state.specs.Meanings.{IsStepped, state_of};
+ghost use Rattle.tx_state.specs.Texts.{definition_text, is_global as global_kind};
+
+use crate::hyphens::{is_late, use_exceptions, use_patterns};
+use crate::letters::{code_for, with_letters};
+use std::alloc::{AllocError, Global};
+use std::mem;
+use tx_assign::{Assignment, Change, with_text};
+use tx_bytes::Bytes;
+use tx_char::ControlName;
+use tx_command::Prefixes;
+use tx_convert::text_of;
+use tx_eqtb::Entry;
+use tx_expand::escape_of;
+use tx_machine::Event;
+use tx_node::{Node, Shared};
+use tx_prim::{DefinitionKind, Primitive, TextUse};
+use tx_seen::{Meaning, Place, TexError};
+use tx_state::{OpenText, Phase, State, add, assign_so, fail, is_global};
+use tx_text::{DefinitionScan, TextScan};
+use tx_toklist::{TokList, Toks};
+
+/// This text is taken from now on.
+fn open_text(s: &mut State, text: OpenText)
+    ensures { s.new ≡ record s.old { text = Some text } }
+{
+    // (what stood there is dropped by a call)
+    drop(mem::replace(&mut s.text, Some(text)));
+}
+
+/// The list of tokens that is to stand at this place begins.
+pub fn begin_list(alloc: Global, s: &mut State, place: Place) -> Event
+    requires { s.old.phase ≡ Phase.Running }
+    ensures { IsStepped (leaves (spec.in_list (state_of s.old) place)) s.old result s.new }
+{
+    open_text(s, OpenText::list(alloc, place));
+    Event::Went
+}
+
+/// \def or its kin and the name that it defines: its text begins.
+pub fn define_macro(alloc: Global, s: &mut State, defined: Place, kind: DefinitionKind) -> Event
+    requires { s.old.phase ≡ Phase.Running }
+    ensures { IsStepped (leaves (record (state_of s.old) { text = Some (definition_text defined kind) })) s.old result s.new }
+{
+    open_text(s, OpenText::definition(alloc, defined, kind));
+    Event::Went
+}
+
+/// \message or its kin: its text begins, unless it comes too late.
+pub fn begin_text(alloc: Global, s: &mut State, purpose: TextUse) -> Event
+    requires { s.old.phase ≡ Phase.Running }
+    ensures { IsStepped (spec.beginning_text (state_of s.old) purpose) s.old result s.new }
+{
+    if is_late(s, purpose) {
+        return fail(s, TexError::BadHyphenation);
+    }
+    open_text(s, OpenText::absorbed(alloc, purpose));
+    Event::Went
+}
+
+/// Whether a definition is global, by its prefixes or its kind.
+fn defines_globally(prefixes: Prefixes, kind: DefinitionKind) -> bool
+    ensures { result ≡ (prefixes.global || global_kind kind) }
+{
+    prefixes.global || is_global(kind)
+}
+
+/// The place means the macro of a definition that is whole. Its only further error is want of memory.
+fn end_definition(
+    alloc: Global,
+    s: &mut State,
+    defined: Place,
+    kind: DefinitionKind,
+    scan: DefinitionScan,
+) -> Result<Event, AllocError>
+    requires { s.old.phase ≡ Phase.Running }
+    ensures { IfOk result (λ event. IsStepped (spec.defining (state_of s.old) defined kind scan) s.old event s.new) }
+{
+    let prefixes = s.scan.prefixes();
+    let global = defines_globally(prefixes, kind);
+    let made = scan.into_macro(alloc, prefixes.long, prefixes.outer)?;
+    let assignment = Assignment {
+        place: defined,
+        change: Change::Set(Entry::Means(Meaning::Macro(made))),
+    };
+    assign_so(s, assignment, global)
+}
+
+/// The list of tokens that is whole stands at this place. Its only further error is want of memory.
+fn end_list(alloc: Global, s: &mut State, place: Place, scan: TextScan) -> Result<Event, AllocError>
+    requires { s.old.phase ≡ Phase.Running }
+    ensures { IfOk result (λ event. IsStepped (spec.listing (state_of s.old) place scan.tokens) s.old event s.new) }
+{
+    let global = s.scan.prefixes().global;
+    assign_so(s, with_text(alloc, place, scan.into_tokens())?, global)
+}
+
+/// Puts the line of a message into the transcript. Its only error is want of memory.
+#[tactic(auto, unfolding(crate::specs::Texts::message))]
+fn report_message(said: &mut Bytes, text: &[u8]) -> Result<(), AllocError>
+    ensures { OnOk result (said.new ≡ said.old ++ spec.message text.now) }
+{
+    said.append(b"message ")?;
+    said.append(text)?;
+    said.append(b"\n")
+}
+
+/// Prints the text of \message. Its only error is want of memory.
+fn print_message(alloc: Global, s: &mut State, tokens: &Toks) -> Result<Event, AllocError>
+    requires { s.old.phase ≡ Phase.Running }
+    ensures { IfOk result (λ event. IsStepped (spec.printing (state_of s.old) tokens.now) s.old event s.new) }
+{
+    let text = text_of(
+        alloc,
+        tokens.as_slice(),
+        escape_of(&s.table),
+        s.table.categories(),
+        s.words.fonts(),
+    )?;
+    report_message(&mut s.said, text.as_slice())?;
+    Ok(Event::Went)
+}
+
+/// Appends a \special with these bytes. Its only error is want of memory.
+fn add_special(alloc: Global, s: &mut State, tokens: &Toks) -> Result<Event, AllocError>
+    requires { s.old.phase ≡ Phase.Running }
+    ensures { IfOk result (λ event. IsStepped (spec.marking (state_of s.old) tokens.now) s.old event s.new) }
+{
+    let text = text_of(
+        alloc,
+        tokens.as_slice(),
+        escape_of(&s.table),
+        s.table.categories(),
+        s.words.fonts(),
+    )?;
+    let node = Node::from_shared(alloc, Shared::Special(text))?;
+    add(s, node)
+}
+
+/// Appends a mark with these tokens. Its only error is want of memory.
+fn add_mark(alloc: Global, s: &mut State, tokens: Toks) -> Result<Event, AllocError>
+    requires { s.old.phase ≡ Phase.Running }
+    ensures { IfOk result (λ event. IsStepped (adding (state_of s.old) (shared (Shared.Mark tokens))) s.old event s.new) }
+{
+    let tokens = TokList::from_toks(alloc, tokens)?;
+    let node = Node::from_shared(alloc, Shared::Mark(tokens))?;
+    add(s, node)
+}
+
+/// The text of \uppercase or \lowercase is read next, with other letters. Its only error is want of memory.
+fn change_letters(
+    alloc: Global,
+    s: &mut State,
+    upper: bool,
+    tokens: Toks,
+) -> Result<Event, AllocError>
+    requires { s.old.phase ≡ Phase.Running }
+    ensures { IfOk result (λ event. IsStepped (spec.lettering (state_of s.old) upper tokens) s.old event s.new) }
+{
+    let changed = with_letters(alloc, &s.table, code_for(upper), tokens)?;
+    s.input
+        .push_list(TokList::from_toks(alloc, changed)?, false)?;
+    Ok(Event::Went)
+}
+
+/// What becomes of a text in braces that is whole. Its only further error is want of memory.
+fn use_text(
+    alloc: Global,
+    s: &mut State,
+    purpose: TextUse,
+    scan: TextScan,
+) -> Result<Event, AllocError>
+    requires { s.old.phase ≡ Phase.Running }
+    ensures { IfOk result (λ event. IsStepped (spec.using_text (state_of s.old) purpose scan.tokens) s.old event s.new) }
+{
+    let tokens = scan.into_tokens();
+    match purpose {
+        TextUse::Message => print_message(alloc, s, &tokens),
+        TextUse::ErrorMessage => Ok(fail(s, TexError::ErrorMessage)),
+        TextUse::UpperCase => change_letters(alloc, s, true, tokens),
+        TextUse::LowerCase => change_letters(alloc, s, false, tokens),
+        TextUse::Special => add_special(alloc, s, &tokens),
+        TextUse::Patterns => use_patterns(alloc, s, &tokens),
+        TextUse::Hyphenation => use_exceptions(alloc, s, &tokens),
+        TextUse::Mark => add_mark(alloc, s, tokens),
+    }
+}
+
+/// What becomes of the text that is whole. Its only further error is want of memory.
+pub fn end_text(alloc: Global, s: &mut State) -> Result<Event, AllocError>
+    requires { s.old.phase ≡ Phase.Running }
+    ensures { IfOk result (λ event. IsStepped (spec.ending_text (state_of s.old) s.old.text) s.old event s.new) }
+{
+    match mem::replace(&mut s.text, None) {
+        None => Ok(Event::Went),
+        Some(OpenText::Definition(defined, kind, scan)) => {
+            end_definition(alloc, s, defined, kind, scan)
+        }
+        Some(OpenText::Absorbed(purpose, scan)) => use_text(alloc, s, purpose, scan),
+        Some(OpenText::List(place, scan)) => end_list(alloc, s, place, scan),
+    }
+}
+
+/// The name that \csname has made means \relax from now on, locally (TeX: The Program, section 372). Its only error is want of
+/// memory.
+#[inline(never)]
+pub fn relax_name(s: &mut State, name: ControlName) -> Result<Event, AllocError>
+    requires { s.old.phase ≡ Phase.Running }
+    ensures { IfOk result (λ event. IsStepped (leaves (spec.relaxing (state_of s.old) name)) s.old event s.new) }
+{
+    s.table.assign(
+        Place::Name(name),
+        Entry::Means(Meaning::Command(Primitive::Relax)),
+    )?;
+    Ok(Event::Went)
+}
