@@ -1,11 +1,7 @@
-pub mod Keeping
-pub mod Ships
 pub mod Taking
 pub mod TextTurns
 pub mod Closing
 pub mod Turning
-pub mod Carrying
 pub mod AtOnce
 pub mod Assigns
-pub mod Vertical
 pub mod MainLoop

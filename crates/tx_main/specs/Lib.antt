@@ -1,6 +1,5 @@
 pub mod Pages
 pub mod Beginning
-pub mod Building
 pub mod Effects
 pub mod Turns
 pub mod MainLoop

@@ -1,12 +1,11 @@
 -- One turn of TeX: due work, the ask for a line, or one token and its expansion (TeX: The Program, sections 1030, 343, 360 and 366).
-use Rattle.std.specs.Prelude.{ℕ, suc, ℤ, pos, true, false, List, [], ◌∷◌, ◌++◌, Option, None, Some, is_some, Result, Ok, Err, if◌then◌else◌}
+use Rattle.std.specs.Prelude.{ℕ, suc, true, false, List, [], ◌∷◌, ◌++◌, Option, None, Some, is_some, Result, Ok, Err, if◌then◌else◌}
 use Rattle.tx_char.specs.declared.tokens.Token.{Token}
 use Rattle.tx_seen.specs.declared.item.Item.{Item}
 use Rattle.tx_seen.specs.declared.item.Item.TheVariants.{Took}
 use Rattle.tx_seen.specs.declared.seen.Seen.{Seen}
 use Rattle.tx_seen.specs.declared.fed.Want.{Want}
 use Rattle.tx_seen.specs.declared.fed.Want.TheVariants.{Expanded}
-use Rattle.tx_dvi.specs.Page.{Page}
 use Rattle.tx_lex.specs.Line.{seen_line}
 use Rattle.tx_machine.specs.declared.types.AskKind.{AskKind}
 use Rattle.tx_machine.specs.declared.types.AskKind.TheVariants.{Open as Opening, Line as ReadingOn, Close as Closing, Whole as Taking_whole}
@@ -15,19 +14,13 @@ use Rattle.tx_machine.specs.declared.types.Reply.{Reply}
 use Rattle.tx_machine.specs.declared.types.Reply.TheVariants.{Found, Absent, Line as ReplyLine, Ended, Whole as ReplyWhole, Closed}
 use Rattle.tx_machine.specs.Machine.{Formatter, Stepped}
 use Rattle.tx_seen.specs.declared.error.TexError.{TexError}
-use Rattle.tx_seen.specs.declared.error.TexError.TheVariants.{SizeOutOfRange, FileAbsent, BadMagnification, NoEnd, UnbalancedOutput}
+use Rattle.tx_seen.specs.declared.error.TexError.TheVariants.{FileAbsent, NoEnd, UnbalancedOutput}
 use Rattle.tx_state.specs.declared.parts.Due.{Due}
 use Rattle.tx_state.specs.declared.parts.Due.TheVariants.{OpenMain, FileAbsent as Due_file_absent, FileEnded, MainClosed, LoadFont, Boxes}
 use Rattle.tx_state.specs.declared.parts.OpenText.{OpenText}
 use Rattle.tx_command.specs.declared.types.Command.{Command}
-use Rattle.tx_box.specs.declared.parts.Target.{Target}
-use Rattle.tx_box.specs.declared.parts.Work.{Work}
-use Rattle.tx_box.specs.declared.parts.Work.TheVariants.{Build, Copy, CopyList, Ship, ShipPage}
 use Rattle.tx_box.specs.DueWork.{work_cost}
-use Rattle.tx_node.specs.Items.{PackedBox}
-use Rattle.tx_box.specs.Placing.{placed}
-use Rattle.tx_expand.specs.Values.{Lent, value_now, may_be}
-use Rattle.tx_ship.specs.declared.error.ShipError.{ShipError}
+use Rattle.tx_expand.specs.Values.{Lent, value_now}
 use Rattle.tx_expand.specs.declared.types.Expanded.{Expanded as Answer}
 use Rattle.tx_expand.specs.declared.types.Expanded.TheVariants as answer
 use Rattle.tx_expand.specs.declared.types.Wanted.{Wanted}
@@ -35,25 +28,23 @@ use Rattle.tx_expand.specs.Expanding.{reader as reader_with, world_of}
 use Rattle.tx_expand.specs.Reader.{Turn, Goes, Fails as Turn_fails}
 use Rattle.tx_expand.specs.Turns.{file_ended, is_opening, magnification_taken, opened, put, turn}
 use Rattle.tx_pending.specs.Elements.{with_line}
-use Rattle.tx_prim.specs.declared.integer.IntegerParameter.TheVariants.{Mag}
 use Rattle.tx_scan.specs.Settled.{tokens_of}
 use Rattle.tx_scan.specs.Supplied.{with_values}
-use Rattle.tx_main.specs.Pages.{defined_by, line_end, page_of}
-use Rattle.tx_state.specs.Ended.{integer, with_items}
+use Rattle.tx_main.specs.Pages.{line_end}
 use Rattle.tx_lettering.specs.Words.{before_token}
 use Rattle.tx_seen.specs.Magnified.{magnification_in, noted}
 use Rattle.tx_command.specs.Commands.{command, is_naming}
-use Rattle.tx_main.specs.Effects.{carried, effect, with_pages}
+use Rattle.tx_main.specs.Effects.{effect}
 use Rattle.tx_lettering.specs.Texts.{ending_text, relaxing}
 use Rattle.tx_lettering.specs.Fonts.{loading}
-use Rattle.tx_main.specs.Building.{built_in, exercising}
 use Rattle.tx_seen.specs.Readings.{Reading, More, Need, Done, Wrong}
-use Rattle.tx_state.specs.Outcomes.{Outcome, Asks, Ships, Fails, Ends, leaves, stepped}
+use Rattle.tx_state.specs.Outcomes.{Outcome, Asks, Fails, Ends, leaves, stepped}
 use Rattle.tx_machine.specs.Same.{same_by}
 use Rattle.tx_state.specs.Codes.{meaning_code}
 use Rattle.tx_state.specs.Texts.{is_whole, text_wanted, with_given, with_token}
 use Rattle.tx_state.specs.State.{TexState, Meaning, Runs, Waits, Stops, mode_of}
 use Rattle.tx_main.specs.Beginning.{first_state}
+use Rattle.tx_boxing.specs.Shipped.{works_boxes}
 
 -- what scans, expansions and tests may ask for
 abbrev pub known_of : TexState → Lent
@@ -128,31 +119,6 @@ turned s (Turn_fails error) = Fails error
 
 abbrev pub reads : TexState → Outcome
 reads s = turned s (turn (world_of (known_of s) s.mode) (wanted_by s s.text) s.reader)
-
--- a page of a box, with the magnification
-abbrev pub ships_with : TexState → ℤ → Result Page ShipError → Outcome
-ships_with s mag (Err e) = Fails SizeOutOfRange
-ships_with s mag (Ok page) = Ships page (record s { magnification = Some mag; defined = defined_by s.defined page })
-
--- shipping a box: the magnification has to be one, and that of the first page
-abbrev pub ships : TexState → ℤ → Result Page ShipError → Outcome
-ships s mag page = if may_be s.magnification mag then ships_with s mag page else Fails BadMagnification
-
--- a page that is shipped ends what dead cycles there were (section 638)
-abbrev pub ships_box : TexState → PackedBox → Outcome
-ships_box s box =
-    ships (with_pages s (record s.lists.pages { dead_cycles = pos 0 })) (integer s.table.table Mag) (page_of s.words.fonts s.defined s.table.table box)
-
-abbrev pub copies : TexState → PackedBox → Target → Outcome
-copies s box target = carried s (placed target s.lists s.table (Some box))
-
--- copies go where they are to go, and a box that is to be shipped is
-abbrev pub works_boxes : TexState → Work → Outcome
-works_boxes s (Copy box target) = built_in target.context (copies s box target)
-works_boxes s (CopyList list) = leaves (with_items s list)
-works_boxes s (Ship box) = ships_box s box
-works_boxes s (ShipPage box) = ships_box (record s { due = Boxes Build ∷ s.due }) box
-works_boxes s Build = exercising s []
 
 -- the next piece of due work
 abbrev pub works : TexState → Due → Outcome

@@ -4,13 +4,13 @@ ghost use Rattle.tx_command.specs.AtOnce.{whole};
 ghost use Rattle.tx_main.specs.Effects as effects;
 ghost use Rattle.tx_state.specs.Meanings.{IsStepped, state_of};
 
-use crate::boxes::{add_rule, copy_box, open_box, remove, set_depth, take_box, unbox, use_box};
-use crate::breaks::begin_break;
-use crate::groups::{end_group, end_semi_simple, open};
-use crate::pages::{begin_vertical_list, build_here, end_run, set_dead_cycles, set_page, split};
-use crate::paragraphs::{add_size, begin_shape, end_paragraph, indent, insert_par, set_graf};
 use std::alloc::{AllocError, Global};
 use tx_assign::{Assignment, Carried, Change, relaxed};
+use tx_boxing::{
+    add_rule, add_size, begin_break, begin_shape, begin_vertical_list, build_here, copy_box,
+    end_group, end_paragraph, end_run, end_semi_simple, indent, insert_par, open, open_box, remove,
+    set_dead_cycles, set_depth, set_graf, set_page, split, take_box, unbox, use_box,
+};
 use tx_char::Token;
 use tx_command::{AtOnce, Command, Head, Prefixes, SizeUse};
 use tx_eqtb::GroupKind;
@@ -248,7 +248,7 @@ fn carry_out(alloc: Global, s: &mut State, command: Command) -> Result<Event, Al
 
 /// Carries out the command that is whole. Its only error is want of memory.
 #[inline(never)]
-pub fn carry_made_out(alloc: Global, s: &mut State) -> Result<Event, AllocError>
+pub(crate) fn carry_made_out(alloc: Global, s: &mut State) -> Result<Event, AllocError>
     requires running { s.old.phase ≡ Phase.Running }
     requires between { s.old.scan.taken ≡ [] }
     ensures { IfOk result (λ event. IsStepped (effects.effect (state_of s.old) s.old.made) s.old event s.new) }
@@ -263,7 +263,7 @@ pub fn carry_made_out(alloc: Global, s: &mut State) -> Result<Event, AllocError>
 
 /// Carries out a command that one token is. Its only error is want of memory.
 #[inline(never)]
-pub fn take_at_once(alloc: Global, s: &mut State, found: AtOnce) -> Result<Event, AllocError>
+pub(crate) fn take_at_once(alloc: Global, s: &mut State, found: AtOnce) -> Result<Event, AllocError>
     requires running { s.old.phase ≡ Phase.Running }
     requires between { s.old.scan.taken ≡ [] }
     ensures { IfOk result (λ event. IsStepped (effects.effect (state_of s.old) (whole found)) s.old event s.new) }

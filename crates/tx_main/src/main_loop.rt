@@ -169,7 +169,12 @@ fn run_plain(
 
 /// Takes turns of characters and spaces of a line, at most so many, and counts them; none where something else comes first. Its only
 /// error is want of memory.
-pub fn run_on(alloc: Global, s: &mut State, most: u64, steps: &mut Steps) -> Result<u64, AllocError>
+pub(crate) fn run_on(
+    alloc: Global,
+    s: &mut State,
+    most: u64,
+    steps: &mut Steps,
+) -> Result<u64, AllocError>
     requires { mode_of (meaning_of s.old) ≡ Ready }
     ensures most { IfOk result (λ count. count ≤ most) }
     ensures turns { IfOk result (λ count. ArePlain tex count (meaning_of s.old) (meaning_of s.new)) }

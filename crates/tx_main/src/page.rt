@@ -1,22 +1,15 @@
-//! What shipping and reading take from the table (TeX: The Program, sections 638 to 644 and 362).
-ghost use Rattle.std.specs.Prelude.{◌≡◌, ◌++◌, map, IfOk, OnOk};
-ghost use Rattle.tx_dvi.specs.declared.font.FontDefinition.{FontDefinition};
+//! When a run began, and what reading a line takes from the table (TeX: The Program, sections 241 and 362).
+ghost use Rattle.std.specs.Prelude.{◌≡◌};
 ghost use Rattle.tx_machine.specs.Ranges.{IsDate};
 ghost use Rattle.tx_main.specs.Pages as spec;
 
-use std::alloc::AllocError;
-use tx_box::dimension;
-use tx_bytes::Bytes;
-use tx_dvi::FontDefinition;
 use tx_eqtb::Eqtb;
 use tx_machine::Date;
-use tx_prim::{DimensionParameter, IntegerParameter, Moment};
-use tx_seen::Place;
-use tx_ship::ShipParams;
+use tx_prim::{IntegerParameter, Moment};
 use tx_state::integer;
 
 /// When a run began, as the date parameters say it.
-pub fn moment_of(date: &Date) -> Moment
+pub(crate) fn moment_of(date: &Date) -> Moment
     requires { IsDate date.now }
     ensures { result ≡ spec.moment_of date.now }
 {
@@ -28,61 +21,8 @@ pub fn moment_of(date: &Date) -> Moment
     }
 }
 
-/// A register of \count.
-fn count(table: &Eqtb, number: u8) -> i32
-    ensures { result ≡ spec.count table.now.table number }
-{
-    table.number(&Place::Count(number))
-}
-
-/// \count0 to \count9.
-fn counts(table: &Eqtb) -> [i32; 10]
-    ensures { result ≡ spec.counts table.now.table }
-{
-    [
-        count(table, 0),
-        count(table, 1),
-        count(table, 2),
-        count(table, 3),
-        count(table, 4),
-        count(table, 5),
-        count(table, 6),
-        count(table, 7),
-        count(table, 8),
-        count(table, 9),
-    ]
-}
-
-/// What a page takes from the table, and the numbers of the fonts that earlier pages define. Its only error is want of memory.
-pub fn ship_params(table: &Eqtb, defined: &Bytes) -> Result<ShipParams, AllocError>
-    ensures { IfOk result (λ params. params ≡ spec.ship_params table.now.table defined.now) }
-{
-    let defined = defined.clone()?;
-    Ok(ShipParams {
-        defined,
-        counts: counts(table),
-        hoffset: dimension(table, DimensionParameter::Hoffset),
-        voffset: dimension(table, DimensionParameter::Voffset),
-        mag: i64::from(integer(table, IntegerParameter::Mag)),
-        year: integer(table, IntegerParameter::Year),
-        month: integer(table, IntegerParameter::Month),
-        day: integer(table, IntegerParameter::Day),
-        time: integer(table, IntegerParameter::Time),
-    })
-}
-
-/// The fonts that a page defines join those that earlier pages define. Its only error is want of memory.
-pub fn join_defined(defined: &mut Bytes, fonts: &[FontDefinition]) -> Result<(), AllocError>
-    ensures { OnOk result (defined.new ≡ defined.old ++ map (λ (f : FontDefinition). f.number) fonts.now) }
-{
-    for font in fonts {
-        defined.push(font.number)?;
-    }
-    Ok(())
-}
-
 /// The character at the end of each line that is read: \endlinechar, if it is a character's code.
-pub fn line_end(table: &Eqtb) -> Option<u8>
+pub(crate) fn line_end(table: &Eqtb) -> Option<u8>
     ensures { result ≡ spec.line_end table.now.table }
 {
     let code = integer(table, IntegerParameter::Endlinechar);

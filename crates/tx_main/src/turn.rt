@@ -1,36 +1,26 @@
 //! One turn: due work, the ask for a line, or one token and its expansion (TeX: The Program, sections 1030, 343, 360 and 366).
 ghost use Rattle.tx_seen.specs.Magnified.{noted};
-ghost use Rattle.std.specs.Prelude.{◌≡◌, ◌≢◌, [], true, is_some, Ok, IfOk, OnOk};
+ghost use Rattle.std.specs.Prelude.{◌≡◌, ◌≢◌, [], true, is_some, IfOk, OnOk};
 ghost use Rattle.tx_machine.specs.Machine.{Ready};
-ghost use Rattle.tx_prim.specs.declared.integer.IntegerParameter.TheVariants.{Mag};
-ghost use Rattle.tx_ship.specs.Pages.{IsMag};
-ghost use Rattle.tx_state.specs.Ended.{integer as magnification_in};
-ghost use Rattle.tx_main.specs.Pages.{page_of};
 ghost use Rattle.tx_state.specs.State.{Runs, mode_of};
 ghost use Rattle.tx_state.specs.Texts.{IsTextAnswered};
 ghost use Rattle.tx_main.specs.Turns as turns;
 ghost use Rattle.tx_lettering.specs.Words.{before_token};
 ghost use Rattle.tx_state.specs.Meanings.{IsStepped, meaning_of, state_of};
 
-use crate::boxes::{add_copy, add_list};
 use crate::effects::{carry_made_out, take_at_once};
-use crate::page::{join_defined, line_end, ship_params};
-use crate::pages::build;
+use crate::page::line_end;
 use std::alloc::{AllocError, Global};
-use tx_box::Work;
+use tx_boxing::work_boxes;
 use tx_bytes::Bytes;
 use tx_command::Taken;
-use tx_dvi::PageBody;
-use tx_expand::{Expanded, Known, Wanted, may_be};
+use tx_expand::{Expanded, Known, Wanted};
 use tx_lettering::{end_text, load_font, relax_name, settle_word, with_file};
 use tx_lex::line_text;
 use tx_list::Stack;
 use tx_machine::{Ask, AskKind, Event, Reply};
-use tx_node::BoxNode;
-use tx_prim::IntegerParameter;
 use tx_seen::{Fed, Seen, TexError, Want};
-use tx_ship::{ShipError, body};
-use tx_state::{Due, OpenText, Phase, State, ask, fail, integer};
+use tx_state::{Due, OpenText, Phase, State, ask, fail};
 use tx_toklist::Toks;
 
 /// The magnification is used from now on, where it was taken.
@@ -223,49 +213,6 @@ fn read(alloc: Global, s: &mut State) -> Result<Event, AllocError>
     heed(alloc, s, answer)
 }
 
-/// A page goes out, with the magnification. Its only error is want of memory.
-fn send(s: &mut State, magnification: i32, page: PageBody) -> Result<Event, AllocError>
-    requires { s.old.phase ≡ Phase.Running }
-    ensures { IfOk result (λ event. IsStepped (turns.ships_with (state_of s.old) magnification (Ok page)) s.old event s.new) }
-{
-    join_defined(&mut s.defined, page.fonts())?;
-    s.magnification = Some(magnification);
-    Ok(Event::Shipped(page))
-}
-
-/// Ships a box with the magnification.
-fn ship_with(
-    alloc: Global,
-    s: &mut State,
-    magnification: i32,
-    shipped: &BoxNode,
-) -> Result<Event, AllocError>
-    requires running { s.old.phase ≡ Phase.Running }
-    requires fits { IsMag magnification }
-    requires own { magnification ≡ magnification_in s.old.table.table Mag }
-    ensures { IfOk result (λ event. IsStepped (turns.ships_with (state_of s.old) magnification (page_of s.old.words.fonts s.old.defined s.old.table.table shipped.now)) s.old event s.new) }
-{
-    let params = ship_params(&s.table, &s.defined)?;
-    match body(alloc, shipped, s.words.fonts(), &params) {
-        Ok(page) => send(s, magnification, page),
-        Err(ShipError::OutOfMemory) => Err(AllocError),
-        Err(_) => Ok(fail(s, TexError::SizeOutOfRange)),
-    }
-}
-
-/// Ships a box: the magnification has to be one, and that of the first page.
-fn ship_box(alloc: Global, s: &mut State, shipped: &BoxNode) -> Result<Event, AllocError>
-    requires { s.old.phase ≡ Phase.Running }
-    ensures { IfOk result (λ event. IsStepped (turns.ships_box (state_of s.old) shipped.now) s.old event s.new) }
-{
-    s.lists.pages.dead_cycles = 0;
-    let magnification = integer(&s.table, IntegerParameter::Mag);
-    if !may_be(s.magnification, magnification) {
-        return Ok(fail(s, TexError::BadMagnification));
-    }
-    ship_with(alloc, s, magnification, shipped)
-}
-
 /// What a piece of work costs.
 fn piece_cost(piece: &Due) -> u64
     ensures { result ≡ turns.piece_cost piece.now }
@@ -288,35 +235,12 @@ fn due_cost(due: &Stack<Due>) -> u64
 }
 
 /// What the next turn costs: shipping and copying, the nodes that are shipped or copied; all else 1.
-pub fn cost(s: &State) -> u64
+pub(crate) fn cost(s: &State) -> u64
     ensures { result ≡ turns.cost (meaning_of s.now) }
 {
     match s.phase {
         Phase::Running => due_cost(&s.due),
         _ => 1,
-    }
-}
-
-/// Ships the box of a page that fired, behind which the page builder goes on.
-fn ship_page(alloc: Global, s: &mut State, shipped: &BoxNode) -> Result<Event, AllocError>
-    requires { s.old.phase ≡ Phase.Running }
-    ensures { IfOk result (λ event. IsStepped (turns.works_boxes (state_of s.old) (Work.ShipPage shipped.now)) s.old event s.new) }
-{
-    s.due.push(Due::Boxes(Work::Build))?;
-    ship_box(alloc, s, shipped)
-}
-
-/// Copies boxes, or ships one.
-fn work_boxes(alloc: Global, s: &mut State, work: Work) -> Result<Event, AllocError>
-    requires { s.old.phase ≡ Phase.Running }
-    ensures { IfOk result (λ event. IsStepped (turns.works_boxes (state_of s.old) work) s.old event s.new) }
-{
-    match work {
-        Work::Copy(copied, target) => add_copy(alloc, s, target, copied),
-        Work::CopyList(list) => add_list(s, list),
-        Work::Ship(shipped) => ship_box(alloc, s, &shipped),
-        Work::ShipPage(shipped) => ship_page(alloc, s, &shipped),
-        Work::Build => build(alloc, s),
     }
 }
 
@@ -361,7 +285,7 @@ fn go_on(alloc: Global, s: &mut State) -> Result<Event, AllocError>
 }
 
 /// Takes one turn. Its only error is want of memory.
-pub fn turn(alloc: Global, s: &mut State) -> Result<Event, AllocError>
+pub(crate) fn turn(alloc: Global, s: &mut State) -> Result<Event, AllocError>
     requires { mode_of (meaning_of s.old) ≡ Ready }
     ensures { IfOk result (λ event. IsStepped (turns.outcome (meaning_of s.old)) s.old event s.new) }
 {
@@ -466,7 +390,7 @@ fn hear(alloc: Global, s: &mut State, kind: AskKind, reply: &Reply) -> Result<()
 }
 
 /// Takes a reply. Its only error is want of memory.
-pub fn answer(alloc: Global, s: &mut State, reply: &Reply) -> Result<(), AllocError>
+pub(crate) fn answer(alloc: Global, s: &mut State, reply: &Reply) -> Result<(), AllocError>
     ensures meaning { OnOk result (meaning_of s.new ≡ turns.takes (meaning_of s.old) reply.now) }
     ensures said { OnOk result (s.new.said ≡ s.old.said) }
 {

@@ -1,0 +1,4 @@
+pub mod Keeping
+pub mod Ships
+pub mod Carrying
+pub mod Vertical

@@ -1,0 +1,14 @@
+use Rattle.std.proofs.Common.{◌≡◌, [], length}
+use Rattle.tx_pending.specs.Elements.{with_tokens}
+use Rattle.tx_boxing.specs.Groups.{kept_tokens, left_after}
+use Rattle.tx_boxing.proofs.groups.release_kept.Given as goal
+
+-- the tokens that are kept still stand before those that are in front again
+abbrev pub invariant-loop-token : goal.invariant-loop-token
+invariant-loop-token l = record {
+  left : left_after l.groups l.after_groups ≡ left_after l.groups l.initial.after_groups;
+  input : with_tokens l.input (kept_tokens l.groups l.after_groups []) ≡ with_tokens l.initial.input (kept_tokens l.groups l.initial.after_groups []);
+}
+
+abbrev pub decreases-loop-token : goal.decreases-loop-token
+decreases-loop-token l = length l.after_groups

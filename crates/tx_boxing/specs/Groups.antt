@@ -1,0 +1,38 @@
+-- Groups begin and end, and what \aftergroup keeps is read behind them (TeX: The Program, sections 269 to 284 and 326).
+use Rattle.std.specs.Prelude.{ℕ, ◌==◌, nat_lt, List, [], ◌∷◌, length, Option, Some, None, if◌then◌else◌}
+use Rattle.tx_char.specs.declared.tokens.Token.{Token}
+use Rattle.tx_eqtb.specs.declared.groups.GroupKind.{GroupKind}
+use Rattle.tx_eqtb.specs.Stack.{opened, closed}
+use Rattle.tx_expand.specs.Turns.{put}
+use Rattle.tx_seen.specs.declared.error.TexError.TheVariants.{TooManyGroups}
+use Rattle.tx_state.specs.declared.parts.KeptToken.{KeptToken}
+use Rattle.tx_state.specs.State.{TexState}
+use Rattle.tx_state.specs.Outcomes.{Outcome, Fails, leaves}
+
+-- a group, if fewer than 255 are open
+abbrev pub opening : TexState → GroupKind → TexState → Outcome
+opening s kind inside =
+    if nat_lt (length s.table.groups) 255 then leaves (record inside { table = opened s.table kind }) else Fails TooManyGroups
+
+-- what \aftergroup keeps for the end of the innermost of so many groups, the last of those that are left
+abbrev pub kept_for : List KeptToken → ℕ → Option Token
+kept_for [] groups = None
+kept_for (kept ∷ more) groups = if kept.groups == groups then Some kept.token else None
+
+-- all of it, the first first, before these tokens; and what is left behind it
+abbrev pub kept_tokens : ℕ → List KeptToken → List Token → List Token
+kept_tokens groups [] tokens = tokens
+kept_tokens groups (kept ∷ more) tokens = if kept.groups == groups then kept_tokens groups more (kept.token ∷ tokens) else tokens
+
+abbrev pub left_after : ℕ → List KeptToken → List KeptToken
+left_after groups [] = []
+left_after groups (kept ∷ more) = if kept.groups == groups then left_after groups more else kept ∷ more
+
+-- closing the innermost group brings back what it changed, and what \aftergroup keeps for it is read next (section 326)
+abbrev pub closing : TexState → TexState
+closing s =
+    record s {
+      table = closed s.table;
+      after_groups = left_after (length s.table.groups) s.after_groups;
+      reader = put (kept_tokens (length s.table.groups) s.after_groups []) s.reader;
+    }

@@ -1,0 +1,353 @@
+//! The effects of the commands of boxes and lists: a part of the state is handed down to the crate that carries them out, and what
+//! this answers is taken over (TeX: The Program, part 47).
+ghost use Rattle.std.specs.Prelude.{◌≡◌, ◌++◌, Some, IfOk, OnOk};
+ghost use Rattle.tx_box.specs.Building.{reported};
+ghost use Rattle.tx_box.specs.Effects.{told};
+ghost use Rattle.tx_eqtb.specs.Stack.{kind_of};
+ghost use Rattle.tx_state.specs.declared.parts.Phase.{Phase};
+ghost use Rattle.tx_boxing.specs.Boxes as spec;
+ghost use Rattle.tx_state.specs.Meanings.{IsStepped, state_of};
+ghost use Rattle.tx_state.specs.Outcomes.{Leaves};
+ghost use Rattle.tx_boxing.specs.Shipped as shipped;
+
+use crate::groups::leave_group;
+use crate::pages::{build_if, build_in, context_of};
+use std::alloc::{AllocError, Global};
+use tx_assign::is_global;
+use tx_box::{
+    Done, Ended, OpenBox, Target, Work, begin_box, copy_list, copy_register, every_in,
+    greatest_depth, place_copy, take_last, use_register,
+};
+use tx_bytes::Bytes;
+use tx_command::{BoxContext, BoxGoal};
+use tx_eqtb::GroupKind;
+use tx_list::Stack;
+use tx_machine::Event;
+use tx_nest::{append_rule, has_last_box, is_bare_page, remove_item, set_prev_depth};
+use tx_node::{BoxNode, Nodes, Rule};
+use tx_output::LastItem;
+use tx_prim::{BoxKind, IntegerParameter, ItemKind, UnboxKind};
+use tx_seen::{Place, TexError};
+use tx_state::{Due, State, end_assignment, fail, finish_assignment, integer};
+
+/// Appends a rule.
+pub fn add_rule(alloc: Global, s: &mut State, rule: Rule) -> Result<Event, AllocError>
+    requires { s.old.phase ≡ Phase.Running }
+    ensures { IfOk result (λ event. IsStepped (spec.ruling (state_of s.old) rule) s.old event s.new) }
+{
+    append_rule(alloc, s.lists.nest.top(), rule)?;
+    Ok(Event::Went)
+}
+
+/// Whether \unskip would take glue that has gone to the page.
+fn takes_of_page(s: &State, kind: ItemKind) -> bool
+    ensures { result ≡ spec.takes_of_page kind (state_of s.now) }
+{
+    match kind {
+        ItemKind::Skip => {
+            is_bare_page(s.lists.nest.innermost())
+                && matches!(s.lists.pages.last, LastItem::Skip(_))
+        }
+        ItemKind::Penalty | ItemKind::Kern => false,
+    }
+}
+
+/// \unpenalty and its kin.
+pub fn remove(s: &mut State, kind: ItemKind) -> Event
+    requires { s.old.phase ≡ Phase.Running }
+    ensures { IsStepped (spec.removing (state_of s.old) kind) s.old result s.new }
+{
+    if takes_of_page(s, kind) {
+        return fail(s, TexError::MissingBox);
+    }
+    if remove_item(s.lists.nest.top(), kind) {
+        Event::Went
+    } else {
+        fail(s, TexError::MissingBox)
+    }
+}
+
+/// An assignment to \prevdepth, in sp.
+pub fn set_depth(s: &mut State, depth: i32) -> Result<Event, AllocError>
+    requires { s.old.phase ≡ Phase.Running }
+    ensures { IfOk result (λ event. IsStepped (spec.setting_depth (state_of s.old) depth) s.old event s.new) }
+{
+    set_prev_depth(s.lists.nest.top(), depth);
+    end_assignment(s)
+}
+
+/// Work that a command of boxes left comes first. Its only error is want of memory.
+fn push_work(due: &mut Stack<Due>, work: Option<Work>) -> Result<(), AllocError>
+    ensures { OnOk result (due.new ≡ spec.with_work work due.old) }
+{
+    match work {
+        Some(work) => due.push(Due::Boxes(work)),
+        None => Ok(()),
+    }
+}
+
+/// What a command of boxes left is taken over: work that is due, the mode of the list that is being built now, and these bytes for
+/// the transcript. Its only error is want of memory.
+pub(crate) fn take_over(
+    s: &mut State,
+    work: Option<Work>,
+    report: &[u8],
+) -> Result<Event, AllocError>
+    requires { s.old.phase ≡ Phase.Running }
+    ensures { IfOk result (λ event. IsStepped (Leaves (spec.carrying (state_of s.old) (record { lists = s.old.lists; table = s.old.table; due = work })) report.now) s.old event s.new) }
+{
+    push_work(&mut s.due, work)?;
+    s.scan.enter(s.lists.nest.innermost().mode());
+    s.said.append(report)?;
+    Ok(Event::Went)
+}
+
+/// What a command of boxes answered is taken over.
+pub(crate) fn carry(s: &mut State, done: Done) -> Result<Event, AllocError>
+    requires { s.old.phase ≡ Phase.Running }
+    ensures { IfOk result (λ event. IsStepped (spec.carried (state_of s.old) (told done s.old.lists s.old.table)) s.old event s.new) }
+{
+    match done {
+        Done::Whole => take_over(s, None, b""),
+        Done::Due(work) => take_over(s, Some(work), b""),
+        Done::Wrong(error) => Ok(fail(s, error)),
+    }
+}
+
+/// What becomes of a box.
+pub(crate) fn target_of(s: &State, context: BoxContext) -> Target
+    ensures { result ≡ spec.target_of (state_of s.now) context }
+{
+    let globaldefs = integer(&s.table, IntegerParameter::Globaldefs);
+    Target {
+        context,
+        global: is_global(globaldefs, s.scan.prefixes().global),
+    }
+}
+
+/// \setbox is an assignment that is done as soon as its box begins or is found. Its only error is want of memory.
+pub(crate) fn settle(s: &mut State, context: BoxContext) -> Result<(), AllocError>
+    ensures state { OnOk result (state_of s.new ≡ spec.settled context (state_of s.old)) }
+    ensures phase { OnOk result (s.new.phase ≡ s.old.phase) }
+    ensures said { OnOk result (s.new.said ≡ s.old.said) }
+{
+    match context {
+        BoxContext::Register(_) => finish_assignment(s),
+        BoxContext::Append(_) | BoxContext::Ship | BoxContext::Adjust => Ok(()),
+    }
+}
+
+/// The tokens of \everyhbox or \everyvbox are read next. Its only error is want of memory.
+fn read_every(s: &mut State, kind: BoxKind) -> Result<(), AllocError>
+    ensures state { OnOk result (state_of s.new ≡ spec.with_every kind (state_of s.old)) }
+    ensures phase { OnOk result (s.new.phase ≡ s.old.phase) }
+    ensures said { OnOk result (s.new.said ≡ s.old.said) }
+{
+    let every = s.table.tokens(&Place::Tokens(every_in(kind)))?;
+    s.input.push_list(every, false)?;
+    Ok(())
+}
+
+/// The same, unless the list is that of a \vadjust.
+fn read_every_in(s: &mut State, context: BoxContext, kind: BoxKind) -> Result<(), AllocError>
+    ensures state { OnOk result (state_of s.new ≡ spec.with_every_in context kind (state_of s.old)) }
+    ensures phase { OnOk result (s.new.phase ≡ s.old.phase) }
+    ensures said { OnOk result (s.new.said ≡ s.old.said) }
+{
+    match context {
+        BoxContext::Append(_) | BoxContext::Register(_) | BoxContext::Ship => read_every(s, kind),
+        BoxContext::Adjust => Ok(()),
+    }
+}
+
+/// A box begins, in which the tokens of \everyhbox or \everyvbox are read first.
+pub fn open_box(
+    alloc: Global,
+    s: &mut State,
+    kind: BoxKind,
+    goal: BoxGoal,
+    context: BoxContext,
+) -> Result<Event, AllocError>
+    requires running { s.old.phase ≡ Phase.Running }
+    ensures { IfOk result (λ event. IsStepped (spec.opening_box (state_of s.old) kind goal context) s.old event s.new) }
+{
+    let target = target_of(s, context);
+    read_every_in(s, context, kind)?;
+    settle(s, context)?;
+    let open = OpenBox { kind, goal, target };
+    let done = begin_box(alloc, &mut s.lists, &mut s.table, open)?;
+    carry(s, done)
+}
+
+/// The box of a register goes where it is to go.
+fn move_box(
+    alloc: Global,
+    s: &mut State,
+    number: u8,
+    context: BoxContext,
+) -> Result<Event, AllocError>
+    requires running { s.old.phase ≡ Phase.Running }
+    ensures { IfOk result (λ event. IsStepped (spec.moving_box (state_of s.old) number context) s.old event s.new) }
+{
+    let target = target_of(s, context);
+    settle(s, context)?;
+    let done = use_register(alloc, &mut s.lists, &mut s.table, target, number)?;
+    carry(s, done)
+}
+
+/// \box: the box of a register, behind which the page builder is exercised unless it is void.
+pub fn use_box(
+    alloc: Global,
+    s: &mut State,
+    number: u8,
+    context: BoxContext,
+) -> Result<Event, AllocError>
+    requires running { s.old.phase ≡ Phase.Running }
+    ensures { IfOk result (λ event. IsStepped (spec.using_box (state_of s.old) number context) s.old event s.new) }
+{
+    let found = s.table.boxed(&Place::Box(number)).is_some();
+    let event = move_box(alloc, s, number, context)?;
+    build_if(alloc, s, found, context, event)
+}
+
+/// \copy: the box of a register, which keeps it.
+pub fn copy_box(
+    alloc: Global,
+    s: &mut State,
+    number: u8,
+    context: BoxContext,
+) -> Result<Event, AllocError>
+    requires running { s.old.phase ≡ Phase.Running }
+    ensures { IfOk result (λ event. IsStepped (spec.copying_box (state_of s.old) number context) s.old event s.new) }
+{
+    let target = target_of(s, context);
+    settle(s, context)?;
+    let done = copy_register(alloc, &mut s.lists, &mut s.table, target, number)?;
+    carry(s, done)
+}
+
+/// The box at the list's end goes where it is to go.
+fn move_last(alloc: Global, s: &mut State, context: BoxContext) -> Result<Event, AllocError>
+    requires running { s.old.phase ≡ Phase.Running }
+    ensures { IfOk result (λ event. IsStepped (spec.moving_last (state_of s.old) context) s.old event s.new) }
+{
+    let target = target_of(s, context);
+    settle(s, context)?;
+    let done = take_last(alloc, &mut s.lists, &mut s.table, target)?;
+    carry(s, done)
+}
+
+/// \lastbox: the box at the list's end, behind which the page builder is exercised if there is one.
+pub fn take_box(alloc: Global, s: &mut State, context: BoxContext) -> Result<Event, AllocError>
+    requires running { s.old.phase ≡ Phase.Running }
+    ensures { IfOk result (λ event. IsStepped (spec.taking_box (state_of s.old) context) s.old event s.new) }
+{
+    let found = has_last_box(&s.lists.nest.innermost().nodes);
+    let event = move_last(alloc, s, context)?;
+    build_if(alloc, s, found, context, event)
+}
+
+/// \unhbox and its kin.
+pub fn unbox(s: &mut State, kind: UnboxKind, number: u8) -> Result<Event, AllocError>
+    requires { s.old.phase ≡ Phase.Running }
+    ensures { IfOk result (λ event. IsStepped (spec.unboxing_so (state_of s.old) kind number) s.old event s.new) }
+{
+    let done = tx_box::unbox(&mut s.lists, &mut s.table, kind, number)?;
+    carry(s, done)
+}
+
+/// Lines of the transcript, and a line behind them. Its only error is want of memory.
+fn joined(said: Bytes, report: &Bytes) -> Result<Bytes, AllocError>
+    ensures { IfOk result (λ joined. joined ≡ said ++ report.now) }
+{
+    let mut said = said;
+    said.append(report.as_slice())?;
+    Ok(said)
+}
+
+/// What the end of a box left is taken over, with these lines of the transcript.
+fn take_ended(s: &mut State, done: Done, lines: &[u8]) -> Result<Event, AllocError>
+    requires { s.old.phase ≡ Phase.Running }
+    ensures { IfOk result (λ event. IsStepped (spec.boxed (state_of s.old) (reported lines.now (told done s.old.lists s.old.table))) s.old event s.new) }
+{
+    match done {
+        Done::Whole => take_over(s, None, lines),
+        Done::Due(work) => take_over(s, Some(work), lines),
+        Done::Wrong(error) => Ok(fail(s, error)),
+    }
+}
+
+/// A box's end is taken over, and the transcript's line of it, behind those that come with it.
+pub(crate) fn finish_box(s: &mut State, said: Bytes, ended: Ended) -> Result<Event, AllocError>
+    requires { s.old.phase ≡ Phase.Running }
+    ensures { IfOk result (λ event. IsStepped (spec.telling said (spec.boxed (state_of s.old) (reported ended.report (told ended.done s.old.lists s.old.table)))) s.old event s.new) }
+{
+    let Ended { done, report } = ended;
+    let lines = joined(said, &report)?;
+    take_ended(s, done, lines.as_slice())
+}
+
+/// The list of a box, whose group of this kind ends, is packed and goes where it is to go, behind these lines of the transcript.
+fn pack_box(alloc: Global, s: &mut State, kind: GroupKind, said: Bytes) -> Result<Event, AllocError>
+    requires running { s.old.phase ≡ Phase.Running }
+    requires kind { kind_of s.old.table ≡ Some kind }
+    ensures { IfOk result (λ event. IsStepped (spec.telling said (spec.packing_box (state_of s.old))) s.old event s.new) }
+{
+    let most = greatest_depth(&s.table);
+    leave_group(s, kind)?;
+    let ended = tx_box::end_box(alloc, &mut s.lists, &mut s.table, most)?;
+    finish_box(s, said, ended)
+}
+
+/// The end of a box, whose group is of this kind, behind these lines of the transcript.
+pub(crate) fn end_box(
+    alloc: Global,
+    s: &mut State,
+    kind: GroupKind,
+    said: Bytes,
+) -> Result<Event, AllocError>
+    requires running { s.old.phase ≡ Phase.Running }
+    requires kind { kind_of s.old.table ≡ Some kind }
+    ensures { IfOk result (λ event. IsStepped (spec.telling said (spec.ending_box (state_of s.old))) s.old event s.new) }
+{
+    let context = context_of(&s.lists.boxes);
+    let event = pack_box(alloc, s, kind, said)?;
+    build_in(alloc, s, context, event)
+}
+
+/// A copy goes where it is to go.
+fn put_copy(
+    alloc: Global,
+    s: &mut State,
+    target: Target,
+    copied: BoxNode,
+) -> Result<Event, AllocError>
+    requires { s.old.phase ≡ Phase.Running }
+    ensures { IfOk result (λ event. IsStepped (shipped.copies (state_of s.old) copied target) s.old event s.new) }
+{
+    let done = place_copy(alloc, &mut s.lists, &mut s.table, target, copied)?;
+    carry(s, done)
+}
+
+/// A copy goes where it is to go, behind which the page builder is exercised.
+pub(crate) fn add_copy(
+    alloc: Global,
+    s: &mut State,
+    target: Target,
+    copied: BoxNode,
+) -> Result<Event, AllocError>
+    requires { s.old.phase ≡ Phase.Running }
+    ensures { IfOk result (λ event. IsStepped (shipped.works_boxes (state_of s.old) (Work.Copy copied target)) s.old event s.new) }
+{
+    let event = put_copy(alloc, s, target, copied)?;
+    build_in(alloc, s, target.context, event)
+}
+
+/// A copied list stands at the end of the one that is being built.
+pub(crate) fn add_list(s: &mut State, list: Nodes) -> Result<Event, AllocError>
+    requires { s.old.phase ≡ Phase.Running }
+    ensures { IfOk result (λ event. IsStepped (shipped.works_boxes (state_of s.old) (Work.CopyList list)) s.old event s.new) }
+{
+    copy_list(&mut s.lists, list)?;
+    Ok(Event::Went)
+}

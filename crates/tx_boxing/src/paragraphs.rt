@@ -1,0 +1,253 @@
+//! How paragraphs begin and end (TeX: The Program, sections 1090 to 1100).
+ghost use Rattle.std.specs.Prelude.{◌≡◌, ◌≢◌, ◌∷◌, ◌++◌, [], Some, IfOk, OnOk};
+ghost use Rattle.tx_eqtb.specs.Stack.{kind_of};
+ghost use Rattle.tx_command.specs.Commands.{prefixes_of};
+ghost use Rattle.tx_boxing.specs.Paragraphs as spec;
+ghost use Rattle.tx_nest.specs.Grafs.{graf_of as graf_for};
+ghost use Rattle.tx_par.specs.declared.error.ParError.TheVariants.{OutOfMemory};
+ghost use Rattle.tx_paragraph.specs.Beginning as beginning;
+ghost use Rattle.tx_paragraph.specs.Ending.{par_error};
+ghost use Rattle.tx_state.specs.Outcomes.{Fails, leaves};
+ghost use Rattle.tx_state.specs.declared.parts.Phase.{Phase};
+ghost use Rattle.tx_state.specs.Meanings.{IsStepped, state_of};
+
+use crate::boxes::{end_box, take_over};
+use crate::pages::{build, build_behind, finish_insert, finish_output, is_pages};
+use std::alloc::{AllocError, Global};
+use tx_assign::{Assignment, Change};
+use tx_char::{ControlName, Token};
+use tx_command::{Head, Prefixes};
+use tx_eqtb::{Entry, GroupKind, ParShape};
+use tx_list::Items;
+use tx_machine::Event;
+use tx_nest::{ModeState, graf_of, set_prev_graf};
+use tx_par::ParError;
+use tx_paragraph::close_paragraph;
+use tx_prim::{Indentation, TokenParameter};
+use tx_seen::{Place, TexError};
+use tx_state::{State, assign_so, end_assignment, fail};
+
+/// Whether a paragraph begins in the list that is being built.
+fn begins_paragraph(s: &State) -> bool
+    ensures { result ≡ beginning.begins_paragraph s.now.lists.nest.innermost.state }
+{
+    match s.lists.nest.innermost().state {
+        ModeState::Vertical(_) | ModeState::InternalVertical(_) => true,
+        ModeState::Horizontal(_) | ModeState::RestrictedHorizontal(_) => false,
+        ModeState::Math | ModeState::DisplayMath => false,
+    }
+}
+
+/// The tokens of \everypar are read first, if a paragraph begins. Its only error is want of memory.
+fn read_every_par(s: &mut State, begins: bool) -> Result<(), AllocError>
+    ensures state { OnOk result (state_of s.new ≡ spec.with_every_par begins (state_of s.old)) }
+    ensures phase { OnOk result (s.new.phase ≡ s.old.phase) }
+    ensures said { OnOk result (s.new.said ≡ s.old.said) }
+{
+    if begins {
+        let every = s.table.tokens(&Place::Tokens(TokenParameter::Everypar))?;
+        s.input.push_list(every, false)?;
+    }
+    Ok(())
+}
+
+/// \indent and \noindent, and what begins a paragraph, of which the page builder then has the \parskip. Its only error is want of
+/// memory.
+pub fn indent(alloc: Global, s: &mut State, how: Indentation) -> Result<Event, AllocError>
+    requires { s.old.phase ≡ Phase.Running }
+    ensures { IfOk result (λ event. IsStepped (spec.indenting_so (state_of s.old) how) s.old event s.new) }
+{
+    let begins = begins_paragraph(s);
+    let on_pages = is_pages(s.scan.mode());
+    read_every_par(s, begins)?;
+    tx_paragraph::indent(alloc, &mut s.lists, &s.table, how)?;
+    let event = take_over(s, None, b"")?;
+    if on_pages { build(alloc, s) } else { Ok(event) }
+}
+
+/// A command ends a paragraph before it: \par is read first. Its only error is want of memory.
+pub fn insert_par(alloc: Global, s: &mut State) -> Result<Event, AllocError>
+    requires { s.old.phase ≡ Phase.Running }
+    ensures { IfOk result (λ event. IsStepped (leaves (spec.inserting_par (state_of s.old))) s.old event s.new) }
+{
+    let par = ControlName::from_slice(alloc, b"par")?;
+    s.input.give_back(Token::Name(par))?;
+    Ok(Event::Went)
+}
+
+/// An assignment to \prevgraf. Its only error is want of memory.
+pub fn set_graf(s: &mut State, number: i32) -> Result<Event, AllocError>
+    requires { s.old.phase ≡ Phase.Running }
+    ensures { IfOk result (λ event. IsStepped (spec.setting_graf (state_of s.old) (graf_for number)) s.old event s.new) }
+{
+    match graf_of(number) {
+        Some(graf) => {
+            set_prev_graf(s.lists.nest.top(), graf);
+            end_assignment(s)
+        }
+        None => Ok(fail(s, TexError::NumberOutOfRange)),
+    }
+}
+
+/// How many sizes follow \parshape for so many lines.
+fn sizes_of(lines: i32) -> u32
+    ensures { result ≡ spec.sizes_of lines }
+{
+    if lines > 0 {
+        lines.unsigned_abs() * 2
+    } else {
+        0
+    }
+}
+
+/// These sizes of \parshape are read, behind its prefixes, and so many are to follow; once none is, it is assigned. Its only error
+/// is want of memory.
+fn shape(
+    alloc: Global,
+    s: &mut State,
+    prefixes: Prefixes,
+    left: u32,
+    sizes: Items<i32>,
+) -> Result<Event, AllocError>
+    requires running { s.old.phase ≡ Phase.Running }
+    requires between { s.old.scan.taken ≡ [] }
+    ensures { IfOk result (λ event. IsStepped (spec.shaping (state_of s.old) prefixes left sizes) s.old event s.new) }
+{
+    if left > 0 {
+        s.scan.begin_behind(Head::Shaping(prefixes, left, sizes));
+        return Ok(Event::Went);
+    }
+    let shape = ParShape::new(alloc, sizes)?;
+    let change = Change::Set(Entry::Shape(shape));
+    let place = Place::ParShape;
+    assign_so(s, Assignment { place, change }, prefixes.global)
+}
+
+/// \parshape and how many lines it is to have. Its only error is want of memory.
+pub fn begin_shape(alloc: Global, s: &mut State, lines: i32) -> Result<Event, AllocError>
+    requires running { s.old.phase ≡ Phase.Running }
+    requires between { s.old.scan.taken ≡ [] }
+    ensures { IfOk result (λ event. IsStepped (spec.shaping (state_of s.old) (prefixes_of s.old.scan.head) (spec.sizes_of lines) []) s.old event s.new) }
+{
+    let prefixes = s.scan.prefixes();
+    shape(alloc, s, prefixes, sizes_of(lines), Items::new(alloc))
+}
+
+/// These sizes, and one more. Its only error is want of memory.
+fn with_size(sizes: Items<i32>, size: i32) -> Result<Items<i32>, AllocError>
+    ensures { IfOk result (λ more. more ≡ sizes ++ size ∷ []) }
+{
+    let mut sizes = sizes;
+    sizes.push(size)?;
+    Ok(sizes)
+}
+
+/// One more size of \parshape, in sp. Its only error is want of memory.
+pub fn add_size(alloc: Global, s: &mut State, size: i32) -> Result<Event, AllocError>
+    requires running { s.old.phase ≡ Phase.Running }
+    requires between { s.old.scan.taken ≡ [] }
+    ensures { IfOk result (λ event. IsStepped (spec.shape_sized (state_of s.old) size s.old.scan.head) s.old event s.new) }
+{
+    match s.scan.take_head() {
+        Head::Shaping(prefixes, left, sizes) => {
+            let sizes = with_size(sizes, size)?;
+            shape(alloc, s, prefixes, left.saturating_sub(1), sizes)
+        }
+        Head::Fresh | Head::Prefixed(_) | Head::Defining(_, _, _) => Ok(Event::Went),
+        Head::Future(_, _) | Head::Leading(_, _) | Head::Loading(_, _) => Ok(Event::Went),
+        Head::Opening(_) => Ok(Event::Went),
+    }
+}
+
+/// The run ends by the error of a paragraph's lines, if that isn't want of memory.
+fn fail_by(s: &mut State, error: ParError) -> Result<Event, AllocError>
+    ensures failed { IfOk result (λ event. IsStepped (Fails (par_error error)) s.old event s.new) }
+    ensures memory { IfOk result (λ _. error ≢ OutOfMemory) }
+{
+    match error {
+        ParError::SizeOutOfRange => Ok(fail(s, TexError::SizeOutOfRange)),
+        ParError::TooDeep => Ok(fail(s, TexError::TooDeep)),
+        ParError::EndlessShrink => Ok(fail(s, TexError::InfiniteShrink)),
+        ParError::OutOfMemory => Err(AllocError),
+    }
+}
+
+/// \par. Its only further error is want of memory.
+pub fn end_paragraph(alloc: Global, s: &mut State) -> Result<Event, AllocError>
+    requires { s.old.phase ≡ Phase.Running }
+    ensures { IfOk result (λ event. IsStepped (spec.ending_paragraph (state_of s.old)) s.old event s.new) }
+{
+    match tx_paragraph::end_paragraph(
+        alloc,
+        s.words.fonts(),
+        &mut s.hyphenation,
+        &mut s.lists,
+        &mut s.table,
+    ) {
+        Ok(report) => {
+            let event = take_over(s, None, report.as_slice())?;
+            build_behind(alloc, s, event)
+        }
+        Err(error) => fail_by(s, error),
+    }
+}
+
+/// The end of a vertical box, whose group is of this kind: the paragraph that is open in it ends first. Its only further error is
+/// want of memory.
+pub(crate) fn end_vertical(
+    alloc: Global,
+    s: &mut State,
+    kind: GroupKind,
+) -> Result<Event, AllocError>
+    requires running { s.old.phase ≡ Phase.Running }
+    requires kind { kind_of s.old.table ≡ Some kind }
+    ensures { IfOk result (λ event. IsStepped (spec.ending_vertical (state_of s.old)) s.old event s.new) }
+{
+    match close_paragraph(
+        alloc,
+        s.words.fonts(),
+        &mut s.hyphenation,
+        &mut s.lists,
+        &mut s.table,
+    ) {
+        Ok(report) => end_box(alloc, s, kind, report),
+        Err(error) => fail_by(s, error),
+    }
+}
+
+/// The end of the list of an \insert of this class: the paragraph that is open in it ends first. Its only further error is want of
+/// memory.
+pub(crate) fn end_insert(alloc: Global, s: &mut State, class: u8) -> Result<Event, AllocError>
+    requires running { s.old.phase ≡ Phase.Running }
+    requires kind { kind_of s.old.table ≡ Some (GroupKind.Insert class) }
+    ensures { IfOk result (λ event. IsStepped (spec.inserting (state_of s.old) class) s.old event s.new) }
+{
+    match close_paragraph(
+        alloc,
+        s.words.fonts(),
+        &mut s.hyphenation,
+        &mut s.lists,
+        &mut s.table,
+    ) {
+        Ok(report) => finish_insert(alloc, s, class, report),
+        Err(error) => fail_by(s, error),
+    }
+}
+
+/// The end of \output: the paragraph that is open in its list ends first. Its only further error is want of memory.
+pub(crate) fn end_output(alloc: Global, s: &mut State) -> Result<Event, AllocError>
+    requires running { s.old.phase ≡ Phase.Running }
+    requires kind { kind_of s.old.table ≡ Some GroupKind.Output }
+    ensures { IfOk result (λ event. IsStepped (spec.outputting (state_of s.old)) s.old event s.new) }
+{
+    match close_paragraph(
+        alloc,
+        s.words.fonts(),
+        &mut s.hyphenation,
+        &mut s.lists,
+        &mut s.table,
+    ) {
+        Ok(report) => finish_output(alloc, s, report),
+        Err(error) => fail_by(s, error),
+    }
+}
