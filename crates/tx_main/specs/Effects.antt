@@ -1,4 +1,4 @@
--- What each command does, once it is whole (TeX: The Program, parts 45 to 49): a line for each family.
+-- What each command does, once it is whole (TeX: The Program, parts 45 to 49): a line for each.
 use Rattle.std.specs.Prelude.{true, ◌==◌, [], ◌∷◌, length, Option, Some, None, if◌then◌else◌}
 use Rattle.tx_char.specs.declared.tokens.Token.{Token}
 use Rattle.tx_node.specs.declared.plain.KernKind.TheVariants.{Explicit}
