@@ -232,7 +232,8 @@ fn take_marker(alloc: Global, s: &mut State) -> Result<bool, AllocError>
     }
 }
 
-/// The list of \output, whose group has ended, leaves the lists, and the page builder goes on, behind these lines of the transcript.
+/// The list of \output, whose group has ended, leaves the lists, and the page builder goes on, behind these lines of the
+/// transcript.
 fn go_on_behind_output(alloc: Global, s: &mut State, said: &[u8]) -> Result<Event, AllocError>
     requires { s.old.phase ≡ Phase.Running }
     ensures { IfOk result (λ event. IsStepped (telling said.now (spec.ending_output_in (state_of s.old) (left_vertical s.old.lists))) s.old event s.new) }
@@ -317,8 +318,8 @@ fn split_off(
     }
 }
 
-/// \vsplit of a register to so many sp, behind which the page builder is exercised if the register isn't void. Its only error is want
-/// of memory.
+/// \vsplit of a register to so many sp, behind which the page builder is exercised if the register isn't void. Its only error is
+/// want of memory.
 pub fn split(
     alloc: Global,
     s: &mut State,

@@ -107,8 +107,8 @@ pub fn pass_factor(s: &mut State, factor: SpaceFactor, code: u8)
     set_space_factor(s.lists.nest.top(), SpaceFactor::new(behind));
 }
 
-/// A character joins the open word, or ends it where the font lacks it, and the answer is the number of that font. Its only error is
-/// want of memory.
+/// A character joins the open word, or ends it where the font lacks it, and the answer is the number of that font. Its only error
+/// is want of memory.
 fn gather(
     alloc: Global,
     s: &mut State,

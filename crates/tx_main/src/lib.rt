@@ -1,8 +1,8 @@
 //! TeX as a machine: a state, and turns that each do one piece of due work, ask for a line, or take one token.
 //!
 //! Proved: each turn is the defined step. Only tested: that the effects and the reading are TeX's, on documents that Knuth's TeX
-//! reads alike. The state is tx_state's, and how commands are taken off tokens tx_command's; what most of them do is tx_lettering's,
-//! for characters, words, fonts and texts, and tx_boxing's, for boxes, groups, pages and paragraphs.
+//! reads alike. The state is tx_state's, and how commands are taken off tokens tx_command's; what most of them do stands in
+//! tx_lettering, for characters, words, fonts and texts, and in tx_boxing, for boxes, groups, pages and paragraphs.
 //!
 //! Read `effects`, `page`, `turn`, `main_loop` and `machine`.
 #![tactic(auto)]

@@ -144,7 +144,8 @@ fn go_on(alloc: Global, s: &mut State, font: u8) -> Result<bool, AllocError>
     }
 }
 
-/// Takes turns of characters and spaces, at most so many, counts them, and answers how many there were. Its only error is want of memory.
+/// Takes turns of characters and spaces, at most so many, counts them, and answers how many there were. Its only error is want of
+/// memory.
 fn run_plain(
     alloc: Global,
     s: &mut State,
@@ -167,8 +168,8 @@ fn run_plain(
     Ok(most)
 }
 
-/// Takes turns of characters and spaces of a line, at most so many, and counts them; none where something else comes first. Its only
-/// error is want of memory.
+/// Takes turns of characters and spaces of a line, at most so many, and counts them; none where something else comes first. Its
+/// only error is want of memory.
 pub(crate) fn run_on(
     alloc: Global,
     s: &mut State,
