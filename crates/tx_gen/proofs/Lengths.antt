@@ -2,7 +2,7 @@
 use Rattle.std.proofs.Common.{◌≡◌, ℕ, zero, suc, ◌+◌, ◌*◌, ◌<◌, ◌≤◌, List, ◌++◌, length, arith, length-append}
 use Rattle.std.specs.Prelude.{codes}
 use Rattle.tx_gen.specs.Draws.{next, drawn, times}
-use Rattle.tx_gen.specs.Book.{letter_text, word, spaced_word, line, page, opening, begun, page_start}
+use Rattle.tx_gen.specs.Book.{letter_text, word, spaced_word, line, page, opening, page_start}
 
 length-times : (making : ℕ → List ℕ × ℕ) (most : ℕ) → ((state : ℕ) → length (making state).0 ≤ most) → (count state : ℕ) → length (times count making state).0 ≤ count * most
 unfolding times

@@ -1,6 +1,6 @@
 -- A document of any number of pages, which is made by draws: words of two letters, in lines and pages.
 use Rattle.std.specs.Prelude.{ℕ, zero, suc, ◌+◌, List, [], ◌∷◌, ◌++◌, length, codes}
-use Rattle.tx_gen.specs.Draws.{next, drawn, joined, with_more, times}
+use Rattle.tx_gen.specs.Draws.{next, drawn, with_more, times}
 
 -- a letter, a (97) or b
 abbrev pub letter : ℕ → ℕ
