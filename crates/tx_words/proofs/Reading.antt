@@ -1,5 +1,5 @@
 -- What `clap` says of the words, as what they ask for.
-use Rattle.std.proofs.Common.{◌≡◌, ◌⊎◌, true, false, List, ℕ, [], Option, Result, Ok, Err, refl, sym, ap, ◌∙◌, subst, inl, inr, option_map}
+use Rattle.std.proofs.Common.{◌≡◌, ◌⊎◌, true, false, List, ℕ, [], Option, Some, None, Result, Ok, Err, refl, sym, ap, ◌∙◌, subst, inl, inr, option_map}
 use Rattle.std.specs.Prelude.{IfOk, IsErr}
 use Rattle.std.specs.Box.{box_value}
 use Rattle.std.specs.declared.alloc.AllocError.{AllocError}

@@ -8,9 +8,9 @@ use Rattle.tx_words.proofs.command.gen_command.Goals as goal
 pub returns-clause-app : goal.returns-clause-app
 returns-clause-app c =
     let one = c.in_ok-seeded.ensures.app ∙ ap (λ (a : App). with_rule a (word_rule (codes "seed"))) c.new.ensures.app in
-    IfOk-weaker c.with_word.result _ _ (λ making all. all ∙ ap (λ (a : App). with_rule a (word_rule (codes "pages"))) one) c.with_word.ensures.app
+    IfOk-weaker c.with_word-2.result _ _ (λ making all. all ∙ ap (λ (a : App). with_rule a (word_rule (codes "pages"))) one) c.with_word-2.ensures.app
 
 pub returns-clause-local : goal.returns-clause-local
 returns-clause-local c =
     let one = c.in_ok-seeded.ensures.local ∙ ap (λ a. a || false) c.new.ensures.local in
-    IfOk-weaker c.with_word.result _ _ (λ making all. all ∙ ap (λ a. a || false) one) c.with_word.ensures.local
+    IfOk-weaker c.with_word-2.result _ _ (λ making all. all ∙ ap (λ a. a || false) one) c.with_word-2.ensures.local
