@@ -81,7 +81,7 @@ scanned-made w t r new outer after made is k rest =
     rw (first.1.1, joins.1.1.1.1, around) goes
 
 -- skipped text, if the innermost expansion is that
-is-skipping : (bs : List Begun) → is_skipping bs ≡ true → (depth : ℕ) × ((outer : List Begun) × (bs ≡ begun.Skipping depth ∷ outer))
+pub is-skipping : (bs : List Begun) → is_skipping bs ≡ true → (depth : ℕ) × ((outer : List Begun) × (bs ≡ begun.Skipping depth ∷ outer))
 is-skipping [] is = absurd (cc)
 is-skipping (begun.Use u ∷ outer) is = absurd (cc)
 is-skipping (begun.After ∷ outer) is = absurd (cc)

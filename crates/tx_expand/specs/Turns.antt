@@ -231,6 +231,19 @@ abbrev pub is_skipping : List Begun → Bool
 is_skipping [] = false
 is_skipping (b ∷ outer) = skips b
 
+-- whether an expansion is the use of a macro, and whether the innermost one is
+abbrev pub matches : Begun → Bool
+matches (begun.Use u) = true
+matches other = false
+
+abbrev pub is_matching : List Begun → Bool
+is_matching [] = false
+is_matching (b ∷ outer) = matches b
+
+-- whether the innermost expansion takes characters as they stand, one after the other: an argument does, and skipped text
+abbrev pub takes_characters : List Begun → Bool
+takes_characters begun = is_matching begun || is_skipping begun
+
 -- the magnification, where the innermost one took it last
 abbrev pub magnification_by : Begun → Option ℕ
 magnification_by (begun.Scanning scan) = magnification_in scan.taken

@@ -1,6 +1,7 @@
 //! The expander.
 ghost use Rattle.std.specs.Prelude.{◌≡◌, ◌↔◌, [], IfOk, IsTrue, OnOk};
 ghost use Rattle.tx_expand.specs.Expanding.{reader_of, world_of};
+ghost use Rattle.tx_expand.specs.Taken.{HasTakenIn, character};
 ghost use Rattle.tx_expand.specs.Values.{lent};
 ghost use Rattle.tx_expand.specs.Turns as turns;
 ghost use Rattle.tx_expand.specs.Turns.{file_ended, turn, IsTurned};
@@ -15,6 +16,7 @@ use std::alloc::{AllocError, Global};
 use std::collections::VecDeque;
 use std::marker::Model;
 use tx_bytes::Bytes;
+use tx_char::Cat;
 use tx_cond::CondStack;
 use tx_pending::{Next, Pending};
 use tx_prim::Mode;
@@ -117,6 +119,24 @@ impl Expander {
         ensures { result ≡ turns.is_opening self.now.begun.items }
     {
         self.open.is_opening()
+    }
+
+    /// Whether the innermost expansion takes characters as they stand, one after the other: it is the use of a macro, or text that
+    /// is skipped.
+    #[inline(always)]
+    pub fn takes_characters(&self) -> bool
+        ensures { result ≡ turns.takes_characters self.now.begun.items }
+    {
+        self.open.takes_characters()
+    }
+
+    /// A character of this category, which means itself, joins the argument that is taken, if that goes on with it, or the text
+    /// that is skipped; answers whether it did, as a turn does. Else nothing changes. Its only error is want of memory.
+    #[inline(always)]
+    pub fn take_character(&mut self, code: u8, category: Cat) -> Result<bool, AllocError>
+        ensures { IfOk result (λ taken. HasTakenIn self.old (character code category) taken self.new) }
+    {
+        self.open.take_character(code, category)
     }
 
     /// Takes what comes next off the input, and does all that follows before another token is needed. Its only error is want

@@ -11,7 +11,7 @@ ghost use Rattle.tx_prim.specs.declared.modes.Mode.{Mode as Any_mode};
 ghost use Rattle.tx_expand.specs.declared.types.Wanted.{Wanted as Any_wanted};
 ghost use Rattle.tx_expand.specs.Expanding.{reader, reader_of, world_of};
 ghost use Rattle.tx_expand.specs.Reader.{World};
-ghost use Rattle.tx_expand.specs.Taken.{IsPassedBegun, IsPassedFirst, IsReadBegun, IsReadFirst};
+ghost use Rattle.tx_expand.specs.Taken.{HasTakenIn, HasUseJoined, IsJoinedBegun, IsJoinedFirst, IsPassedBegun, IsPassedFirst, IsReadBegun, IsReadFirst, character};
 ghost use Rattle.tx_expand.specs.Turns as turns;
 ghost use Rattle.tx_expand.specs.Turns.{begins, come, decided, ended, expanded, expands, given_by, given_to, listed, met_word, reads, released, replaced, text_of, token_read, use_on, uses, IsTurned};
 ghost use Rattle.tx_expand.specs.Uses.{comes_to, with_taken};
@@ -27,7 +27,7 @@ use crate::types::{Expanded, Made, Printed, Read, Scanned, Wanted};
 use crate::using::Using;
 use std::alloc::{AllocError, Global};
 use std::collections::VecDeque;
-use tx_char::{ControlName, Token};
+use tx_char::{Cat, ControlName, Token};
 use tx_cond::{Meet, SkipItem, Skipper};
 use tx_convert::{push_font_name, push_job_name};
 use tx_pending::Pending;
@@ -99,6 +99,13 @@ fn is_skipping(begun: &VecDeque<Begun>) -> bool
     matches!(begun.front(), Some(Begun::Skipping(_)))
 }
 
+/// Whether the innermost expansion is the use of a macro.
+fn is_matching(begun: &VecDeque<Begun>) -> bool
+    ensures { result ≡ turns.is_matching begun.now.items }
+{
+    matches!(begun.front(), Some(Begun::Use(_)))
+}
+
 /// Whether the innermost expansion is an \expandafter that waits for the token that it holds back.
 fn is_waiting(begun: &VecDeque<Begun>) -> bool
     ensures { result ≡ turns.is_waiting begun.now.items }
@@ -162,6 +169,39 @@ fn feed_skipper(begun: &mut VecDeque<Begun>, item: SkipItem) -> Result<Fed<CondW
     ensures { IfOk result (IsPassedFirst begun.old.items item begun.new.items) }
 {
     skip_by(&mut begun[0], item)
+}
+
+/// A token joins the use of a macro, if an argument goes on with it; else nothing changes. Its only error is want of memory.
+#[inline(always)]
+fn join_by(begun: &mut Begun, token: &Token) -> Result<bool, AllocError>
+    requires { turns.matches begun.old ≡ true }
+    ensures { IfOk result (λ joined. IsJoinedBegun begun.old token.now joined begun.new) }
+{
+    match begun {
+        Begun::Use(using) => using.join(token),
+        _ => unreachable!(),
+    }
+}
+
+/// A token joins the use of a macro that is the innermost expansion, where that stands, if an argument goes on with it; else
+/// nothing changes. Its only error is want of memory.
+#[inline(always)]
+fn join_first(begun: &mut VecDeque<Begun>, token: &Token) -> Result<bool, AllocError>
+    requires { turns.is_matching begun.old.items ≡ true }
+    ensures { IfOk result (λ joined. IsJoinedFirst begun.old.items token.now joined begun.new.items) }
+{
+    join_by(&mut begun[0], token)
+}
+
+/// The same, whatever the innermost expansion is: where it is no use of a macro nothing changes. Its only error is want of memory.
+#[inline(always)]
+fn join_use(begun: &mut VecDeque<Begun>, token: &Token) -> Result<bool, AllocError>
+    ensures { IfOk result (λ joined. HasUseJoined begun.old.items token.now joined begun.new.items) }
+{
+    if !is_matching(begun) {
+        return Ok(false);
+    }
+    join_first(begun, token)
 }
 
 impl Open {
@@ -463,6 +503,23 @@ impl Open {
     ) -> Result<Expanded, AllocError>
         ensures { (any : Any_mode) → IfOk result (IsTurned (given_to (world_of (lent known.now) any) token (reader_of self.old input.old) self.old.begun.items) (reader_of self.new input.new)) }
     {
+        let joined = join_use(&mut self.begun, &token.token)?;
+        if joined {
+            return Ok(Expanded::Went);
+        }
+        self.take_other(alloc, input, known, token)
+    }
+
+    /// The same, of a token with which no argument goes on. Its only error is want of memory.
+    fn take_other(
+        &mut self,
+        alloc: Global,
+        input: &mut Pending,
+        known: &Known,
+        token: Seen,
+    ) -> Result<Expanded, AllocError>
+        ensures { (any : Any_mode) → IfOk result (IsTurned (given_to (world_of (lent known.now) any) token (reader_of self.old input.old) self.old.begun.items) (reader_of self.new input.new)) }
+    {
         if is_scanning(&self.begun) {
             return self.scan_on(alloc, input, known, token);
         }
@@ -477,6 +534,26 @@ impl Open {
             Some(begun) => self.take_by(alloc, input, known, begun, token),
             None => Ok(Expanded::Got(token)),
         }
+    }
+
+    /// Whether the innermost expansion takes characters as they stand, one after the other.
+    #[inline(always)]
+    pub(crate) fn takes_characters(&self) -> bool
+        ensures { result ≡ turns.takes_characters self.now.begun.items }
+    {
+        is_matching(&self.begun) || is_skipping(&self.begun)
+    }
+
+    /// A character joins the argument that is taken, if that goes on with it, or the text that is skipped, whichever the innermost
+    /// expansion does; answers whether it did. Else nothing changes. Its only error is want of memory.
+    #[inline(always)]
+    pub(crate) fn take_character(&mut self, code: u8, category: Cat) -> Result<bool, AllocError>
+        ensures { IfOk result (λ taken. HasTakenIn self.old (character code category) taken self.new) }
+    {
+        if is_skipping(&self.begun) {
+            return Ok(true);
+        }
+        join_use(&mut self.begun, &Token::Character(code, category))
     }
 
     /// An expansion that neither reads nor skips takes a token. Its only error is want of memory.

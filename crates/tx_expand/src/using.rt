@@ -1,7 +1,7 @@
 //! The use of a macro that takes arguments.
 ghost use Rattle.std.specs.Prelude.{◌≡◌, ◌≢◌, ◌↔◌, [], IfOk, IsTrue};
 ghost use Rattle.tx_toklist.specs.Macros.{no_parameters};
-ghost use Rattle.tx_expand.specs.Steps.{IsUsed};
+ghost use Rattle.tx_expand.specs.Steps.{HasJoined, IsUsed};
 
 use crate::step::Step;
 use std::alloc::{AllocError, Global};
@@ -38,6 +38,15 @@ impl Using {
     {
         let matcher = Box::new(alloc, Matcher::new(alloc, &made)?)?;
         Ok(Using { made, matcher })
+    }
+
+    /// Takes the next token where it stands, if an argument goes on with it, and answers whether it does; else nothing changes. Its
+    /// only error is want of memory.
+    #[inline(always)]
+    pub(crate) fn join(&mut self, token: &Token) -> Result<bool, AllocError>
+        ensures { IfOk result (λ joined. HasJoined self.old token.now joined self.new) }
+    {
+        self.matcher.join(token)
     }
 
     /// Takes the next token. Its only error is want of memory.

@@ -38,6 +38,11 @@ abbrev pub more_taken : Matching → Item → Matching
 more_taken m (item.Token token) = record { definition = m.definition; taken = m.taken ++ token ∷ []; goes_on = m.goes_on }
 more_taken m _ = m
 
+-- a token joins the use, which goes on with it; or nothing changes
+abbrev pub HasJoined : Matching → Token → Bool → Matching → Type 0
+HasJoined m t true new = (use_of m.definition (m.taken ++ t ∷ []) ≡ Open) × (new ≡ more_taken m (item.Token t))
+HasJoined m t false new = new ≡ m
+
 -- a use that waits for nothing is over
 abbrev pub goes_on : Awaited → Bool
 goes_on Over = false

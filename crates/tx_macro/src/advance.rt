@@ -1,5 +1,5 @@
 //! What the next token makes of a use.
-ghost use Rattle.std.specs.Prelude.{◌≡◌, ◌≢◌, ◌≤◌, ◌<◌, ◌∷◌, ◌++◌, [], true, List, IfOk, OnOk, IsTrue, length, drop};
+ghost use Rattle.std.specs.Prelude.{◌≡◌, ◌≢◌, ◌≤◌, ◌<◌, ◌∷◌, ◌++◌, [], true, List, None, IfOk, IfSome, OnErr, OnOk, IsTrue, length, drop};
 ghost use Rattle.tx_char.specs.declared.tokens.Token.{Token};
 ghost use Rattle.tx_toklist.specs.Macros.{is_delimiter, no_parameters};
 ghost use Rattle.tx_macro.specs.Matchers.{HasGathered, goes_on};
@@ -92,6 +92,41 @@ fn advance_within(
         &token,
     )?;
     follow(alloc, made, gathered, step, token)
+}
+
+/// Takes a token with which an argument goes on, and answers as what it does; else nothing changes. Its only error is want of
+/// memory, after which nothing has changed either.
+#[inline(always)]
+pub(crate) fn join_within(
+    made: &Macro,
+    gathered: &mut Gathered,
+    kind: Kind,
+    token: &Token,
+) -> Result<Option<Kind>, AllocError>
+    requires stage { IsStage made.now (stage_of (Awaited.Argument kind) gathered.old) }
+    requires within { gathered.old.from ≤ length gathered.old.taken }
+    ensures rest { IfOk result (λ on. IfSome on (λ next. (more : List Token) → use_rest made.now (stage_of (Awaited.Argument kind) gathered.old) (token.now ∷ more) ≡ use_rest made.now (stage_of (Awaited.Argument next) gathered.new) more)) }
+    ensures stage { IfOk result (λ on. IfSome on (λ next. IsStage made.now (stage_of (Awaited.Argument next) gathered.new))) }
+    ensures taken { IfOk result (λ on. IfSome on (λ next. gathered.new.taken ≡ gathered.old.taken ++ token.now ∷ [])) }
+    ensures within { IfOk result (λ on. IfSome on (λ next. gathered.new.from ≤ length gathered.new.taken)) }
+    ensures none { IfOk result (λ on. on ≡ None → gathered.new ≡ gathered.old) }
+    ensures err { OnErr result (gathered.new ≡ gathered.old) }
+{
+    let delimiter = made.delimiters()[gathered.arguments.len()].as_slice();
+    let step = take(
+        made.is_long(),
+        delimiter,
+        gathered.borders.as_slice(),
+        kind,
+        token,
+    )?;
+    match step {
+        Move::On(next) => {
+            gathered.taken.push(token.clone()?)?;
+            Ok(Some(next))
+        }
+        _ => Ok(None),
+    }
 }
 
 /// What a token makes of the argument of a parameter with this delimiter. Its only error is that no more groups can be

@@ -1,13 +1,14 @@
 //! The matcher.
 ghost use Rattle.std.specs.Prelude.{◌≡◌, ◌≢◌, ◌↔◌, [], true, IfOk, IsTrue};
 ghost use Rattle.tx_toklist.specs.Macros.{no_parameters};
-ghost use Rattle.tx_macro.specs.Matchers.{answer, more_taken};
+ghost use Rattle.tx_macro.specs.Matchers.{answer, more_taken, HasJoined};
 
-use crate::advance::{advance, first};
+use crate::advance::{advance, first, join_within};
 use crate::stage::{Advance, Awaited, Gathered};
 use std::alloc::{AllocError, Global};
 use std::marker::Model;
 use std::mem;
+use tx_char::Token;
 use tx_seen::{Fed, TexError, Want};
 use tx_toklist::{Item, Lists, Macro};
 
@@ -66,6 +67,25 @@ impl Matcher {
             }
             Advance::Fits(arguments) => Ok(Fed::Done(arguments, 0)),
             Advance::Fails(error) => Ok(Fed::Wrong(error)),
+        }
+    }
+
+    /// Takes the next token, if the argument that is being taken goes on with it, and answers whether it does; else nothing changes,
+    /// and the token is one for `feed`. Its only error is want of memory.
+    #[inline(always)]
+    pub fn join(&mut self, token: &Token) -> Result<bool, AllocError>
+        requires { self.old.goes_on ≡ true }
+        ensures { IfOk result (λ joined. HasJoined self.old token.now joined self.new) }
+    {
+        let Awaited::Argument(kind) = self.awaited else {
+            return Ok(false);
+        };
+        match join_within(&self.made, &mut self.gathered, kind, token)? {
+            Some(next) => {
+                self.awaited = Awaited::Argument(next);
+                Ok(true)
+            }
+            None => Ok(false),
         }
     }
 

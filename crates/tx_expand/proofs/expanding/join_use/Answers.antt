@@ -1,0 +1,8 @@
+use Rattle.std.proofs.Common.{◌∙◌, sym}
+use Rattle.tx_expand.proofs.Joining.{joined-first}
+use Rattle.tx_expand.proofs.expanding.join_use.Goals as goal
+
+pub returns : goal.returns
+returns c =
+    joined-first c.args.begun.now.items c.join_first.new.begun.items c.args.token.now c.join_first.result
+    (sym c.is_matching.ensures ∙ c.if-not-is_matching.false) c.join_first.ensures
