@@ -18,7 +18,15 @@ is_set Letter = true
 is_set Other = true
 is_set kind = false
 
--- the token, and the state in which what is behind it is read
+-- its character code and category; the token, and the state in which what is behind it is read
+abbrev pub code_of : PlainToken → ℕ
+code_of (Set code) = code
+code_of Blank = 32
+
+abbrev pub category_of : List Cat → PlainToken → Cat
+category_of codes (Set code) = category codes code
+category_of codes Blank = Space
+
 abbrev pub plain_token : List Cat → PlainToken → Token
 plain_token codes (Set code) = Character code (category codes code)
 plain_token codes Blank = space

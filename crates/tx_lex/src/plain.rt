@@ -1,10 +1,45 @@
 //! Characters that are tokens as they stand in a line.
 ghost use Rattle.std.specs.Prelude.{◌≡◌, ◌∷◌, ◌++◌, drop, IfSome};
 ghost use Rattle.std.specs.Option.{option_to_list};
-ghost use Rattle.tx_lex.specs.Plain.{Begins, IsPlain};
+ghost use Rattle.tx_lex.specs.Plain.{Begins, IsPlain, category_of, code_of, state_behind};
 
 use crate::types::{PlainToken, ReadState};
 use tx_char::{Cat, Codes};
+
+impl PlainToken {
+    /// Its character code.
+    #[inline(always)]
+    pub fn code(self) -> u8
+        ensures { result ≡ code_of self }
+    {
+        match self {
+            PlainToken::Set(code) => code,
+            PlainToken::Blank => b' ',
+        }
+    }
+
+    /// Its category.
+    #[inline(always)]
+    pub fn category(self, codes: &Codes) -> Cat
+        ensures { result ≡ category_of codes.now self }
+    {
+        match self {
+            PlainToken::Set(code) => codes.get(code),
+            PlainToken::Blank => Cat::Space,
+        }
+    }
+
+    /// The state in which what is behind it is read.
+    #[inline(always)]
+    pub fn state_behind(self) -> ReadState
+        ensures { result ≡ state_behind self }
+    {
+        match self {
+            PlainToken::Set(_) => ReadState::M,
+            PlainToken::Blank => ReadState::S,
+        }
+    }
+}
 
 /// The first byte of a line, before which a character may stand that is not its own.
 #[inline(always)]

@@ -5,3 +5,4 @@ pub mod Turning
 pub mod AtOnce
 pub mod Assigns
 pub mod MainLoop
+pub mod Characters

@@ -1,4 +1,4 @@
--- Turns of the main loop.
+-- Turns of the main loop, and turns at one go.
 use Rattle.std.proofs.Common.{◌≡◌, ◌+◌, ◌≤◌, ◌||◌, append-nil, ℕ, Bool, true, false, List, [], ◌∷◌, Some, None, if◌then◌else◌, refl, ap, sym, subst, ◌∙◌, suc, add-one}
 use Rattle.tx_char.specs.declared.category.Cat.{Cat}
 use Rattle.tx_char.specs.declared.category.Cat.TheVariants.{Letter, Other, Space}
@@ -54,19 +54,22 @@ use Rattle.tx_state.specs.Meanings.{meaning_of, state_of}
 use Rattle.tx_state.specs.Outcomes.{Outcome, leaves, stepped}
 use Rattle.tx_state.specs.State.{Meaning as TexMeaning, TexState, Runs, meaning_in}
 use Rattle.tx_main.specs.Effects.{effect}
-use Rattle.tx_main.specs.MainLoop.{AwaitsToken, GoesOn, HasGone, HasRun, IsLetterNext, IsLooping, IsSpaceNext, lettered, spaced}
+use Rattle.tx_main.specs.declared.going.Going.{Going}
+use Rattle.tx_main.specs.declared.going.Going.TheVariants.{Letters}
+use Rattle.tx_main.specs.Going.{GoesOn, HasGone, HasRun, IsGoing}
+use Rattle.tx_main.specs.MainLoop.{AwaitsToken, IsLetterNext, IsLooping, IsSpaceNext, lettered, spaced}
 use Rattle.tx_main.specs.Turns.{due_cost, goes_on, known_of, outcome, taken_by, taking, tex, turned, wanted_by}
 use Rattle.tx_lettering.specs.Words.{before_token, collecting, collecting_into, current_font, factor_now, factored, gluing, in_paragraph, space_code, spacing, with_more, word_ended, word_params}
 use Rattle.tx_main.proofs.AtOnce.{takes-at-once}
 use Rattle.tx_lettering.proofs.Collects.{collected_by}
 
 -- a character that is set means itself, goes on with a word, and is a command by itself
-meaning-set : (table : Table) (code : ℕ) (kind : Cat) → is_set kind ≡ true → token_meaning table (token.Character code kind) ≡ meaning.Character code kind
+pub meaning-set : (table : Table) (code : ℕ) (kind : Cat) → is_set kind ≡ true → token_meaning table (token.Character code kind) ≡ meaning.Character code kind
 meaning-set table code Letter set = refl
 meaning-set table code Other set = refl
 meaning-set table code _ set = cc
 
-abbrev seen : ℕ → Cat → Seen
+abbrev pub seen : ℕ → Cat → Seen
 seen code kind = record { token = token.Character code kind; meaning = meaning.Character code kind }
 
 continues-set : (code : ℕ) (kind : Cat) → is_set kind ≡ true → continues_word (seen code kind) ≡ true
@@ -95,7 +98,7 @@ same-either true x = refl
 same-either false x = refl
 
 -- a reader that has begun nothing, with this input
-abbrev idle : Reader → Input → Reader
+abbrev pub idle : Reader → Input → Reader
 idle r input = reader [] input r.conditionals r.job
 
 -- a turn of it gives a character that means itself
@@ -107,18 +110,23 @@ turn-character w wanted r left code kind means comes =
     ∙ same-either (is_expanding wanted.want) (Goes (answer.Got (seen code kind)) (idle r left))
 
 -- the state behind it, before it takes effect
-abbrev behind : TexState → Input → TexState
+abbrev pub behind : TexState → Input → TexState
 behind s left = record s { reader = idle s.reader left }
 
 awaits-behind : (s : TexState) (left : Input) → AwaitsToken s → AwaitsToken (behind s left)
 awaits-behind s left awaits = record { due = awaits.due; text = awaits.text; begun = refl; head = awaits.head; taken = awaits.taken; horizontal = awaits.horizontal }
 
+pub reads-plain : (s : TexState) (left : Input) (code : ℕ) (kind : Cat) → s.due ≡ [] → s.reader.begun ≡ [] → token_meaning s.table.table (token.Character code kind) ≡ meaning.Character code kind → step s.table.table.categories s.reader.input ≡ record { next = front.Token (token.Character code kind); left = left }
+    → outcome (Runs s) ≡ taken_by (behind s left) (seen code kind) s.text
+reads-plain s left code kind due begun means comes =
+    ap (goes_on s) due
+    ∙ ap (λ (opened : List Begun). turned s (turn (world_of (known_of s) s.mode) (wanted_by s s.text) (reader opened s.reader.input s.reader.conditionals s.reader.job))) begun
+    ∙ ap (turned s) (turn-character (world_of (known_of s) s.mode) (wanted_by s s.text) s.reader left code kind means comes)
+
 reads-character : (s : TexState) (left : Input) (code : ℕ) (kind : Cat) → AwaitsToken s → token_meaning s.table.table (token.Character code kind) ≡ meaning.Character code kind → step s.table.table.categories s.reader.input ≡ record { next = front.Token (token.Character code kind); left = left }
     → outcome (Runs s) ≡ taken_by (behind s left) (seen code kind) None
 reads-character s left code kind awaits means comes =
-    ap (goes_on s) awaits.due
-    ∙ ap (λ (begun : List Begun). turned s (turn (world_of (known_of s) s.mode) (wanted_by s s.text) (reader begun s.reader.input s.reader.conditionals s.reader.job))) awaits.begun
-    ∙ ap (turned s) (turn-character (world_of (known_of s) s.mode) (wanted_by s s.text) s.reader left code kind means comes)
+    reads-plain s left code kind awaits.due awaits.begun means comes
     ∙ ap (taken_by (behind s left) (seen code kind)) awaits.text
 
 -- it is a command by itself
@@ -187,10 +195,10 @@ space-goes s font factor glue awaits is_font has_factor next =
     ∙ space-behind s glue awaits.begun
 
 -- a turn that leaves a state and tells nothing is plain
-plain-turn : (s next : TexState) → AwaitsToken s → outcome (Runs s) ≡ leaves next → IsPlain tex (Runs s) (Runs next)
+plain-turn : (s next : TexState) → s.due ≡ [] → outcome (Runs s) ≡ leaves next → IsPlain tex (Runs s) (Runs next)
 unfolding tex
-plain-turn s next awaits goes = record {
-  costs = ap due_cost awaits.due;
+plain-turn s next due goes = record {
+  costs = ap due_cost due;
   went = ap (λ (o : Outcome). (stepped o).event) goes;
   silent = ap (λ (o : Outcome). (stepped o).said) goes;
   next = ap (λ (o : Outcome). (stepped o).next) goes;
@@ -199,47 +207,55 @@ plain-turn s next awaits goes = record {
 runs-as : (s : State) → s.phase ≡ Running → meaning_of s ≡ Runs (state_of s)
 runs-as s running = ap (λ (p : Phase). meaning_in p (state_of s)) running
 
--- the main loop went on by a turn that leaves this state
-gone : (s new : State) (next : TexState) (font : ℕ) → IsLooping s font → outcome (Runs (state_of s)) ≡ leaves next → AwaitsToken next → current_font s.table.table ≡ current_font next.table.table → state_of new ≡ next → new.phase ≡ s.phase → new.said ≡ s.said → HasGone font s new
-gone s new next font looping goes awaits same_font is phase said =
-    let from : meaning_of s ≡ Runs (state_of s) = runs-as s looping.running in
-    let to : meaning_of new ≡ Runs next = runs-as new (phase ∙ looping.running) ∙ ap Runs is in
-    let went : IsPlain tex (Runs (state_of s)) (Runs next) = plain-turn (state_of s) next looping.awaits goes in
+-- turns at one go went on by one that leaves this state
+pub gone : (s new : State) (next : TexState) (going : Going) → s.phase ≡ Running → s.due ≡ [] → outcome (Runs (state_of s)) ≡ leaves next → state_of new ≡ next → new.phase ≡ s.phase → new.said ≡ s.said → IsGoing going new → HasGone going s new
+gone s new next going running due goes is phase said still =
+    let from : meaning_of s ≡ Runs (state_of s) = runs-as s running in
+    let to : meaning_of new ≡ Runs next = runs-as new (phase ∙ running) ∙ ap Runs is in
+    let went : IsPlain tex (Runs (state_of s)) (Runs next) = plain-turn (state_of s) next due goes in
     record {
       turn = subst (λ (m : TexMeaning). IsPlain tex m (meaning_of new)) (sym from) (subst (λ (m : TexMeaning). IsPlain tex (Runs (state_of s)) m) (sym to) went);
       said = said;
-      looping = record {
-        running = phase ∙ looping.running;
-        awaits = subst (λ (t : TexState). AwaitsToken t) (sym is) awaits;
-        font_is = looping.font_is ∙ same_font ∙ ap (λ (t : TexState). current_font t.table.table) (sym is);
-      };
+      goes = still;
     }
 
-pub letter-gone : (s new : State) (font factor code : ℕ) → IsLooping s font → factor_now (state_of s) ≡ Some factor → IsLetterNext (state_of s) font code → state_of new ≡ lettered (state_of s) font factor code → new.phase ≡ s.phase → new.said ≡ s.said → HasGone font s new
-letter-gone s new font factor code looping has_factor next is phase said =
-    let awaits : AwaitsToken (lettered (state_of s) font factor code) = record { due = looping.awaits.due; text = looping.awaits.text; begun = looping.awaits.begun; head = looping.awaits.head; taken = looping.awaits.taken; horizontal = looping.awaits.horizontal } in
-    gone s new (lettered (state_of s) font factor code) font looping (letter-goes (state_of s) font factor code looping.awaits looping.font_is has_factor next) awaits refl is phase said
+-- the main loop goes on from there
+loops-on : (s new : State) (next : TexState) (font : ℕ) → IsLooping s font → AwaitsToken next → current_font s.table.table ≡ current_font next.table.table → state_of new ≡ next → new.phase ≡ s.phase → IsLooping new font
+loops-on s new next font looping awaits same_font is phase = record {
+  running = phase ∙ looping.running;
+  awaits = subst (λ (t : TexState). AwaitsToken t) (sym is) awaits;
+  font_is = looping.font_is ∙ same_font ∙ ap (λ (t : TexState). current_font t.table.table) (sym is);
+}
 
-pub space-gone : (s new : State) (font factor : ℕ) (glue : GlueSpec) → IsLooping s font → factor_now (state_of s) ≡ Some factor → IsSpaceNext (state_of s) font factor glue → state_of new ≡ spaced (state_of s) glue → new.phase ≡ s.phase → new.said ≡ s.said → HasGone font s new
+pub letter-gone : (s new : State) (font factor code : ℕ) → IsLooping s font → factor_now (state_of s) ≡ Some factor → IsLetterNext (state_of s) font code → state_of new ≡ lettered (state_of s) font factor code → new.phase ≡ s.phase → new.said ≡ s.said → HasGone (Letters font) s new
+letter-gone s new font factor code looping has_factor next is phase said =
+    let after : TexState = lettered (state_of s) font factor code in
+    let awaits : AwaitsToken after = record { due = looping.awaits.due; text = looping.awaits.text; begun = looping.awaits.begun; head = looping.awaits.head; taken = looping.awaits.taken; horizontal = looping.awaits.horizontal } in
+    gone s new after (Letters font) looping.running looping.awaits.due (letter-goes (state_of s) font factor code looping.awaits looping.font_is has_factor next) is phase said
+    (loops-on s new after font looping awaits refl is phase)
+
+pub space-gone : (s new : State) (font factor : ℕ) (glue : GlueSpec) → IsLooping s font → factor_now (state_of s) ≡ Some factor → IsSpaceNext (state_of s) font factor glue → state_of new ≡ spaced (state_of s) glue → new.phase ≡ s.phase → new.said ≡ s.said → HasGone (Letters font) s new
 space-gone s new font factor glue looping has_factor next is phase said =
-    let awaits : AwaitsToken (spaced (state_of s) glue) = record { due = looping.awaits.due; text = looping.awaits.text; begun = looping.awaits.begun; head = looping.awaits.head; taken = looping.awaits.taken; horizontal = looping.awaits.horizontal } in
-    gone s new (spaced (state_of s) glue) font looping (space-goes (state_of s) font factor glue looping.awaits looping.font_is has_factor next) awaits refl is phase said
+    let after : TexState = spaced (state_of s) glue in
+    let awaits : AwaitsToken after = record { due = looping.awaits.due; text = looping.awaits.text; begun = looping.awaits.begun; head = looping.awaits.head; taken = looping.awaits.taken; horizontal = looping.awaits.horizontal } in
+    gone s new after (Letters font) looping.running looping.awaits.due (space-goes (state_of s) font factor glue looping.awaits looping.font_is has_factor next) is phase said
+    (loops-on s new after font looping awaits refl is phase)
 
 -- what it answers
-pub goes-true : (went : Bool) (font : ℕ) (s new : State) → went ≡ true → GoesOn went font s new → HasGone font s new
-goes-true true font s new is goes = goes
-goes-true false font s new is goes = absurd (cc is)
+pub goes-true : (went : Bool) (going : Going) (s new : State) → went ≡ true → GoesOn went going s new → HasGone going s new
+goes-true true going s new is goes = goes
+goes-true false going s new is goes = absurd (cc is)
 
-pub goes-false : (went : Bool) (font : ℕ) (s new : State) → went ≡ false → GoesOn went font s new → new ≡ s
-goes-false true font s new is goes = absurd (cc is)
-goes-false false font s new is goes = goes
+pub goes-false : (went : Bool) (going : Going) (s new : State) → went ≡ false → GoesOn went going s new → (meaning_of new ≡ meaning_of s) × (new.said ≡ s.said)
+goes-false true going s new is goes = absurd (cc is)
+goes-false false going s new is goes = goes
 
 -- by no turn, by one more, and by as many as were counted
 pub run-none : (s : State) (counted : ℕ) → HasRun 0 s s counted counted
 run-none s counted = record { turns = refl; said = refl; steps = sym (raised-zero counted) }
 
-pub run-more : (count : ℕ) (s mid new : State) (font before counted after : ℕ) → HasRun count s mid before counted → HasGone font mid new → after ≡ raised counted 1 → HasRun (count + 1) s new before after
-run-more count s mid new font before counted after run last ticked =
+pub run-more : (count : ℕ) (s mid new : State) (going : Going) (before counted after : ℕ) → HasRun count s mid before counted → HasGone going mid new → after ≡ raised counted 1 → HasRun (count + 1) s new before after
+run-more count s mid new going before counted after run last ticked =
     let turns : ArePlain tex (suc count) (meaning_of s) (meaning_of new) = (meaning_of mid, (run.turns, last.turn)) in
     record {
       turns = subst (λ (n : ℕ). ArePlain tex n (meaning_of s) (meaning_of new)) (sym (add-one count)) turns;
@@ -247,8 +263,12 @@ run-more count s mid new font before counted after run last ticked =
       steps = ticked ∙ ap (λ (n : ℕ). raised n 1) run.steps ∙ raised-raised before count 1;
     }
 
-pub run-still : (count : ℕ) (s mid new : State) (before after : ℕ) → HasRun count s mid before after → new ≡ mid → HasRun count s new before after
-run-still count s mid new before after run is = subst (λ (t : State). HasRun count s t before after) (sym is) run
+pub run-still : (count : ℕ) (s mid new : State) (before after : ℕ) → HasRun count s mid before after → (meaning_of new ≡ meaning_of mid) × (new.said ≡ mid.said) → HasRun count s new before after
+run-still count s mid new before after run is = record {
+  turns = subst (λ (m : TexMeaning). ArePlain tex count (meaning_of s) m) (sym is.0) run.turns;
+  said = is.1 ∙ run.said;
+  steps = run.steps;
+}
 
 pub run-passed : (count most : ℕ) (s new : State) (before after : ℕ) → HasRun count s new before after → count ≤ most → HasPassed tex most (meaning_of s) before after
 run-passed count most s new before after run within = record { count = count; to = meaning_of new; within = within; turns = run.turns; steps = run.steps }

@@ -57,7 +57,7 @@ no-need : (text : OpenText) (whole : Bool) (kind : Kind) → is_whole text ≡ w
 no-need text true kind is k = omega (arith, answer-by text true (fed.Need kind) is k)
 no-need text false kind is k = omega (arith, answer-by text false (fed.Need kind) is k)
 
-goes-on : (s : TexState) (text : OpenText) → is_whole text ≡ false → texting s (Ok text) ≡ leaves (record s { text = Some text })
+pub goes-on : (s : TexState) (text : OpenText) → is_whole text ≡ false → texting s (Ok text) ≡ leaves (record s { text = Some text })
 goes-on s text is = ap (λ (w : Bool). cond w (ending_text s (Some text)) (leaves (record s { text = Some text }))) is
 
 takes-effect : (s : TexState) (text : OpenText) → is_whole text ≡ true → texting s (Ok text) ≡ ending_text s (Some text)

@@ -1,13 +1,11 @@
 -- The main loop (TeX: The Program, sections 1034 to 1041): characters that are set follow one another in a line and join the open
 -- word, and spaces between them end it, without anything in between.
-use Rattle.std.specs.Prelude.{◌≡◌, ℕ, Bool, true, false, [], ◌∷◌, Some, None}
+use Rattle.std.specs.Prelude.{◌≡◌, ℕ, true, false, [], ◌∷◌, Some, None}
 use Rattle.tx_lex.specs.declared.types.PlainToken.{PlainToken}
 use Rattle.tx_lex.specs.declared.types.PlainToken.TheVariants.{Set, Blank}
 use Rattle.tx_lex.specs.Plain.{state_behind}
 use Rattle.tx_command.specs.declared.types.Head.TheVariants.{Fresh}
 use Rattle.tx_command.specs.Commands.{is_begun}
-use Rattle.tx_machine.specs.Plain.{ArePlain, IsPlain}
-use Rattle.tx_machine.specs.Steps.{raised}
 use Rattle.tx_node.specs.declared.plain.Plain.TheVariants.{Glue}
 use Rattle.tx_node.specs.Items.{plain}
 use Rattle.tx_num.specs.Glue.{GlueSpec}
@@ -20,9 +18,8 @@ use Rattle.tx_word.specs.Factors.{factor_behind}
 use Rattle.tx_word.specs.Spaces.{space_between}
 use Rattle.tx_state.specs.declared.parts.Phase.TheVariants.{Running}
 use Rattle.tx_state.specs.declared.state.State.{State}
-use Rattle.tx_state.specs.Meanings.{meaning_of, state_of}
+use Rattle.tx_state.specs.Meanings.{state_of}
 use Rattle.tx_state.specs.State.{TexState}
-use Rattle.tx_main.specs.Turns.{tex}
 use Rattle.tx_lettering.specs.Words.{current_font, space_code, with_list_factor, with_more, word_ended, word_params}
 
 -- a token is read next, for a command of which nothing is taken, nothing stands before it and no expansion has begun; if it is a
@@ -63,20 +60,3 @@ pub record IsLooping (s : State) (font : ℕ) : Type 0 where
   pub running : s.phase ≡ Running
   pub awaits : AwaitsToken (state_of s)
   pub font_is : font ≡ current_font s.table.table
-
--- it went on by one turn
-pub record HasGone (font : ℕ) (before after : State) : Type 0 where
-  pub turn : IsPlain tex (meaning_of before) (meaning_of after)
-  pub said : after.said ≡ before.said
-  pub looping : IsLooping after font
-
--- whether it did; else all is as it was
-abbrev pub GoesOn : Bool → ℕ → State → State → Type 0
-GoesOn true font before after = HasGone font before after
-GoesOn false font before after = after ≡ before
-
--- it went on by so many turns, which were counted
-pub record HasRun (count : ℕ) (before after : State) (counted_before counted : ℕ) : Type 0 where
-  pub turns : ArePlain tex count (meaning_of before) (meaning_of after)
-  pub said : after.said ≡ before.said
-  pub steps : counted ≡ raised counted_before count

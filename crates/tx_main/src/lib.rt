@@ -4,10 +4,11 @@
 //! reads alike. The state is tx_state's, and how commands are taken off tokens tx_command's; what most of them do stands in
 //! tx_lettering, for characters, words, fonts and texts, and in tx_boxing, for boxes, groups, pages and paragraphs.
 //!
-//! Read `effects`, `page`, `turn`, `main_loop` and `machine`.
+//! Read `effects`, `page`, `turn`, `going`, `main_loop` and `machine`.
 #![tactic(auto)]
 
 mod effects;
+mod going;
 mod machine;
 mod main_loop;
 mod page;

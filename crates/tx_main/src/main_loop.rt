@@ -1,6 +1,7 @@
-//! The main loop: characters that follow one another join the open word, and spaces between them end it, many turns at one go
-//! (TeX: The Program, sections 1034 to 1041).
-ghost use Rattle.std.specs.Prelude.{◌≡◌, ◌≤◌, ◌∷◌, [], true, Some, IsTrue, IfOk, OnOk, OnErr};
+//! Many turns at one go. The main loop: characters that follow one another join the open word, and spaces between them end it (TeX:
+//! The Program, sections 1034 to 1041). So characters join a text that is open, within its braces (sections 473 and 477), an
+//! argument (section 392), or text that is skipped (section 494), as long as nothing of these ends.
+ghost use Rattle.std.specs.Prelude.{◌≡◌, ◌≤◌, ◌∷◌, [], true, Some, IsTrue, IfOk, IfSome, OnOk, OnErr};
 ghost use Rattle.tx_machine.specs.Machine.{Ready};
 ghost use Rattle.tx_machine.specs.Plain.{ArePlain, HasPassed};
 ghost use Rattle.tx_machine.specs.Steps.{raised};
@@ -8,13 +9,17 @@ ghost use Rattle.tx_node.specs.Items.{plain};
 ghost use Rattle.tx_pending.specs.Plain.{IsNext};
 ghost use Rattle.tx_tfm.specs.Fonts.{has_character};
 ghost use Rattle.tx_word.specs.Collecting.{font_of};
-ghost use Rattle.tx_main.specs.MainLoop.{AwaitsToken, GoesOn, HasRun, IsLooping, lettered, spaced};
+ghost use Rattle.tx_main.specs.Going.{GoesOn, HasRun, IsGoing};
+ghost use Rattle.tx_main.specs.MainLoop.{AwaitsToken, IsLooping, lettered, spaced};
 ghost use Rattle.tx_main.specs.Turns.{tex};
 ghost use Rattle.tx_lettering.specs.Words.{factor_now as factor_of_list, with_more};
 ghost use Rattle.tx_state.specs.Meanings.{meaning_of, state_of};
 ghost use Rattle.tx_state.specs.State.{mode_of};
+ghost use Rattle.tx_state.specs.Texts.{HasJoinedSome};
 
+use crate::going::Going;
 use std::alloc::{AllocError, Global};
+use tx_char::Token;
 use tx_lettering::{current_font, end_word, factor_now, pass_factor, word_params};
 use tx_lex::{PlainToken, ReadState};
 use tx_machine::Steps;
@@ -22,7 +27,7 @@ use tx_nest::{SpaceFactor, append_item};
 use tx_node::{Node, Plain};
 use tx_num::Glue;
 use tx_prim::ModeTest;
-use tx_state::{Phase, State};
+use tx_state::{OpenText, Phase, State};
 use tx_word::space_between;
 
 /// Whether a token is read next, for a command of which nothing is taken, in a horizontal list.
@@ -69,7 +74,7 @@ fn set_letter(
     requires looping { IsLooping s.old font }
     requires factor { factor_of_list (state_of s.old) ≡ Some factor }
     requires comes { IsNext s.old.table.table.categories s.old.input (PlainToken.Set code) }
-    ensures { IfOk result (λ went. GoesOn went font s.old s.new) }
+    ensures { IfOk result (λ went. GoesOn went (Going.Letters font) s.old s.new) }
 {
     if !s.words.has_next(font, code) {
         return Ok(false);
@@ -109,7 +114,7 @@ fn set_space(
     requires looping { IsLooping s.old font }
     requires factor { factor_of_list (state_of s.old) ≡ Some factor }
     requires comes { IsNext s.old.table.table.categories s.old.input PlainToken.Blank }
-    ensures { IfOk result (λ went. GoesOn went font s.old s.new) }
+    ensures { IfOk result (λ went. GoesOn went (Going.Letters font) s.old s.new) }
 {
     let params = word_params(&s.table);
     let Some(glue) = space_between(s.words.fonts(), &params, font, factor.get()) else {
@@ -124,7 +129,7 @@ fn set_space(
 fn set_next(alloc: Global, s: &mut State, font: u8, factor: SpaceFactor) -> Result<bool, AllocError>
     requires looping { IsLooping s.old font }
     requires factor { factor_of_list (state_of s.old) ≡ Some factor }
-    ensures { IfOk result (λ went. GoesOn went font s.old s.new) }
+    ensures { IfOk result (λ went. GoesOn went (Going.Letters font) s.old s.new) }
 {
     match s.input.first_plain(s.table.categories()) {
         Some(PlainToken::Set(code)) => set_letter(alloc, s, font, factor, code),
@@ -134,9 +139,9 @@ fn set_next(alloc: Global, s: &mut State, font: u8, factor: SpaceFactor) -> Resu
 }
 
 /// The same in any list: in one without a space factor nothing changes.
-fn go_on(alloc: Global, s: &mut State, font: u8) -> Result<bool, AllocError>
+fn set_on(alloc: Global, s: &mut State, font: u8) -> Result<bool, AllocError>
     requires { IsLooping s.old font }
-    ensures { IfOk result (λ went. GoesOn went font s.old s.new) }
+    ensures { IfOk result (λ went. GoesOn went (Going.Letters font) s.old s.new) }
 {
     match factor_now(s) {
         Some(factor) => set_next(alloc, s, font, factor),
@@ -144,22 +149,104 @@ fn go_on(alloc: Global, s: &mut State, font: u8) -> Result<bool, AllocError>
     }
 }
 
-/// Takes turns of characters and spaces, at most so many, counts them, and answers how many there were. Its only error is want of
-/// memory.
+/// A token that is no brace, and stands for no #, joins a text, if one is open and it is within that's braces; answers whether it
+/// did. Else nothing changes. Its only error is want of memory.
+#[inline(always)]
+fn join_text(text: &mut Option<OpenText>, token: Token) -> Result<bool, AllocError>
+    ensures { IfOk result (λ joined. HasJoinedSome text.old token joined text.new) }
+{
+    match text {
+        Some(text) => text.join(token),
+        None => Ok(false),
+    }
+}
+
+/// Takes a turn of the character that comes next, if the open text goes on with it as it stands, and answers whether that is so; else
+/// nothing changes. Its only error is want of memory.
+#[inline(always)]
+fn text_goes_on(s: &mut State, first: PlainToken) -> Result<bool, AllocError>
+    requires going { IsGoing Going.Text s.old }
+    requires comes { IsNext s.old.table.table.categories s.old.input first }
+    ensures { IfOk result (λ went. GoesOn went Going.Text s.old s.new) }
+{
+    let code = first.code();
+    let category = first.category(s.table.categories());
+    let joined = join_text(&mut s.text, Token::Character(code, category))?;
+    if !joined {
+        return Ok(false);
+    }
+    s.input.pass_first(first.state_behind());
+    Ok(true)
+}
+
+/// Takes a turn of the character that comes next, if an argument or skipped text goes on with it, and answers whether that is so; else
+/// nothing changes. Its only error is want of memory.
+#[inline(always)]
+fn taking_goes_on(s: &mut State, first: PlainToken) -> Result<bool, AllocError>
+    requires going { IsGoing Going.Within s.old }
+    requires comes { IsNext s.old.table.table.categories s.old.input first }
+    ensures { IfOk result (λ went. GoesOn went Going.Within s.old s.new) }
+{
+    let code = first.code();
+    let category = first.category(s.table.categories());
+    let taken = s.expander.take_character(code, category)?;
+    if !taken {
+        return Ok(false);
+    }
+    s.input.pass_first(first.state_behind());
+    Ok(true)
+}
+
+/// Takes a turn of what comes next, if it is a character with which the open text goes on, and answers whether that is so; else nothing
+/// changes. Its only error is want of memory.
+fn read_text(s: &mut State) -> Result<bool, AllocError>
+    requires { IsGoing Going.Text s.old }
+    ensures { IfOk result (λ went. GoesOn went Going.Text s.old s.new) }
+{
+    match s.input.first_plain(s.table.categories()) {
+        Some(first) => text_goes_on(s, first),
+        None => Ok(false),
+    }
+}
+
+/// The same of an argument or skipped text.
+fn read_within(s: &mut State) -> Result<bool, AllocError>
+    requires { IsGoing Going.Within s.old }
+    ensures { IfOk result (λ went. GoesOn went Going.Within s.old s.new) }
+{
+    match s.input.first_plain(s.table.categories()) {
+        Some(first) => taking_goes_on(s, first),
+        None => Ok(false),
+    }
+}
+
+/// The same of any of them.
+fn go_on(alloc: Global, s: &mut State, going: Going) -> Result<bool, AllocError>
+    requires { IsGoing going s.old }
+    ensures { IfOk result (λ went. GoesOn went going s.old s.new) }
+{
+    match going {
+        Going::Letters(font) => set_on(alloc, s, font),
+        Going::Text => read_text(s),
+        Going::Within => read_within(s),
+    }
+}
+
+/// Takes turns of characters, at most so many, counts them, and answers how many there were. Its only error is want of memory.
 fn run_plain(
     alloc: Global,
     s: &mut State,
-    font: u8,
+    going: Going,
     most: u64,
     steps: &mut Steps,
 ) -> Result<u64, AllocError>
-    requires { IsLooping s.old font }
+    requires { IsGoing going s.old }
     ensures most { IfOk result (λ count. count ≤ most) }
     ensures run { IfOk result (λ count. HasRun count s.old s.new steps.old steps.new) }
     ensures bound { OnErr result (HasPassed tex most (meaning_of s.old) steps.old steps.new) }
 {
     for count in 0..most {
-        let went = go_on(alloc, s, font)?;
+        let went = go_on(alloc, s, going)?;
         if !went {
             return Ok(count);
         }
@@ -168,8 +255,27 @@ fn run_plain(
     Ok(most)
 }
 
-/// Takes turns of characters and spaces of a line, at most so many, and counts them; none where something else comes first. Its
-/// only error is want of memory.
+/// What characters become that turns may be taken of at one go, if any is read next.
+fn going_of(s: &State) -> Option<Going>
+    ensures { IfSome result (λ going. IsGoing going s.now) }
+{
+    if !matches!(s.phase, Phase::Running) || !s.due.is_empty() {
+        return None;
+    }
+    if s.expander.takes_characters() {
+        return Some(Going::Within);
+    }
+    if s.text.is_some() && s.expander.is_idle() {
+        return Some(Going::Text);
+    }
+    if awaits_token(s) {
+        return Some(Going::Letters(current_font(&s.table)));
+    }
+    None
+}
+
+/// Takes turns of characters of a line, at most so many, and counts them; none where something else comes first. Its only error is
+/// want of memory.
 pub(crate) fn run_on(
     alloc: Global,
     s: &mut State,
@@ -183,9 +289,8 @@ pub(crate) fn run_on(
     ensures said { OnOk result (s.new.said ≡ s.old.said) }
     ensures bound { OnErr result (HasPassed tex most (meaning_of s.old) steps.old steps.new) }
 {
-    if !matches!(s.phase, Phase::Running) || !awaits_token(s) {
-        return Ok(0);
+    match going_of(s) {
+        Some(going) => run_plain(alloc, s, going, most, steps),
+        None => Ok(0),
     }
-    let font = current_font(&s.table);
-    run_plain(alloc, s, font, most, steps)
 }

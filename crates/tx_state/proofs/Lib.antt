@@ -1,2 +1,3 @@
 pub mod Texting
 pub mod Outcomes
+pub mod Ordinary

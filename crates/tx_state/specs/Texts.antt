@@ -129,3 +129,23 @@ IsFedSome (Ok text) fed new = (fed ≡ text_answer text) × (new ≡ Some text)
 abbrev pub IsTextAnswered : Option OpenText → Seen → Fed (Unit {0}) → Option OpenText → Type 0
 IsTextAnswered None t fed new = (fed ≡ More Raw) × (new ≡ None)
 IsTextAnswered (Some text) t fed new = IsFedSome (with_token text t) fed new
+
+-- whether a text is within its braces, so that what is no brace and stands for no # joins it as it stands, and what it is then
+abbrev pub is_within : OpenText → Bool
+is_within (texts.Definition defined kind d) = definition.is_within d.stage
+is_within (texts.Absorbed purpose a) = absorbed.is_within a.stage
+is_within (texts.List place a) = absorbed.is_within a.stage
+
+abbrev pub with_ordinary : OpenText → Token → OpenText
+with_ordinary (texts.Definition defined kind d) t = texts.Definition defined kind (definition.in_body d t d.stage)
+with_ordinary (texts.Absorbed purpose a) t = texts.Absorbed purpose (absorbed.with_one a t a.stage)
+with_ordinary (texts.List place a) t = texts.List place (absorbed.with_one a t a.stage)
+
+abbrev pub HasJoined : OpenText → Token → Bool → OpenText → Type 0
+HasJoined text t true new = (is_within text ≡ true) × (new ≡ with_ordinary text t)
+HasJoined text t false new = new ≡ text
+
+-- the same where one may be open
+abbrev pub HasJoinedSome : Option OpenText → Token → Bool → Option OpenText → Type 0
+HasJoinedSome old t true new = (text : OpenText) × ((old ≡ Some text) × ((is_within text ≡ true) × (new ≡ Some (with_ordinary text t))))
+HasJoinedSome old t false new = new ≡ old

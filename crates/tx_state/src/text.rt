@@ -5,6 +5,7 @@ ghost use Rattle.tx_state.specs.Texts.{IsTextFed};
 
 use crate::parts::OpenText;
 use std::alloc::{AllocError, Global};
+use tx_char::Token;
 use tx_expand::Wanted;
 use tx_prim::{DefinitionKind, TextUse};
 use tx_seen::{Fed, Place, Seen};
@@ -113,6 +114,19 @@ impl OpenText {
             OpenText::Definition(_, _, scan) => scan.feed(alloc, seen),
             OpenText::Absorbed(_, scan) => scan.feed(seen),
             OpenText::List(_, scan) => scan.feed(seen),
+        }
+    }
+
+    /// A token that is no brace, and stands for no #, joins the text, if that is within its braces; answers whether it did. Else
+    /// nothing changes. Its only error is want of memory.
+    #[inline(always)]
+    pub fn join(&mut self, token: Token) -> Result<bool, AllocError>
+        ensures { IfOk result (λ joined. spec.HasJoined self.old token joined self.new) }
+    {
+        match self {
+            OpenText::Definition(_, _, scan) => scan.join(token),
+            OpenText::Absorbed(_, scan) => scan.join(token),
+            OpenText::List(_, scan) => scan.join(token),
         }
     }
 

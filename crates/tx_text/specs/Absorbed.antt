@@ -1,6 +1,6 @@
 -- Balanced texts, as \toks, \uppercase, \message and their kin take them (The TeXbook, chapter 24; TeX: The Program, sections
 -- 403, 473 and 477).
-use Rattle.std.specs.Prelude.{◌≡◌, ◌||◌, ℕ, zero, suc, Bool, false, List, [], ◌∷◌, ◌++◌, Result, Ok, Err, if◌then◌else◌}
+use Rattle.std.specs.Prelude.{◌≡◌, ◌||◌, ℕ, zero, suc, Bool, true, false, List, [], ◌∷◌, ◌++◌, Result, Ok, Err, if◌then◌else◌}
 use Rattle.tx_char.specs.declared.tokens.Token.{Token}
 use Rattle.tx_toklist.specs.Macros.{is_begin, is_end}
 use Rattle.tx_seen.specs.declared.error.TexError.{TexError}
@@ -80,3 +80,12 @@ text_answer a stage = More (text_wanted a stage)
 abbrev pub IsAbsorbed : Result Absorbing TexError → Fed (Unit {0}) → Absorbing → Type 0
 IsAbsorbed (Err error) fed new = fed ≡ Wrong error
 IsAbsorbed (Ok a) fed new = (fed ≡ text_answer a a.stage) × (new ≡ a)
+
+-- whether a text has begun and hasn't ended: what is no brace joins it there as it stands
+abbrev pub is_within : TextStage → Bool
+is_within (Inside groups) = true
+is_within _ = false
+
+abbrev pub HasJoined : Absorbing → Token → Bool → Absorbing → Type 0
+HasJoined a t true new = (is_within a.stage ≡ true) × (new ≡ with_one a t a.stage)
+HasJoined a t false new = new ≡ a

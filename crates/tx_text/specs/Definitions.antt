@@ -123,6 +123,15 @@ abbrev pub IsTaken : Result Defining TexError → Fed (Unit {0}) → Defining �
 IsTaken (Err error) fed new = fed ≡ Wrong error
 IsTaken (Ok d) fed new = (fed ≡ answer d d.stage) × (new ≡ d)
 
+-- whether a body is read, not behind a parameter character: what is no brace and stands for no # joins it there as it stands
+abbrev pub is_within : Stage → Bool
+is_within (Body groups) = true
+is_within _ = false
+
+abbrev pub HasJoined : Defining → Token → Bool → Defining → Type 0
+HasJoined d t true new = (is_within d.stage ≡ true) × (new ≡ in_body d t d.stage)
+HasJoined d t false new = new ≡ d
+
 -- no group is in a parameter text that is being read
 abbrev pub is_braceless : Token → Bool
 is_braceless t = not (is_begin t) && not (is_end t)

@@ -1,7 +1,7 @@
 //! A balanced text.
 ghost use Rattle.std.specs.Prelude.{◌≡◌, ◌↔◌, IfOk, IsTrue, OnOk};
 ghost use Rattle.tx_text.specs.Absorbed as spec;
-ghost use Rattle.tx_text.specs.Absorbed.{IsAbsorbed, begun_text, no_text};
+ghost use Rattle.tx_text.specs.Absorbed.{HasJoined, IsAbsorbed, begun_text, no_text};
 
 use crate::stages::TextStage;
 use std::alloc::{AllocError, Global};
@@ -138,6 +138,21 @@ impl TextScan {
             self.stage = TextStage::Inside(groups);
         }
         self.tokens.push(token)
+    }
+
+    /// A token that is no brace joins the text, if that has begun and hasn't ended; answers whether it did. Else nothing changes.
+    /// Its only error is want of memory.
+    #[inline(always)]
+    pub fn join(&mut self, token: Token) -> Result<bool, AllocError>
+        ensures { IfOk result (λ joined. HasJoined self.old token joined self.new) }
+    {
+        match self.stage {
+            TextStage::Inside(_) => {
+                self.tokens.push(token)?;
+                Ok(true)
+            }
+            TextStage::Filler | TextStage::Ended => Ok(false),
+        }
     }
 
     /// Puts tokens in that \the gives, none of which is looked at. Its only error is want of memory.

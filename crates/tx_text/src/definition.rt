@@ -2,7 +2,7 @@
 ghost use Rattle.std.specs.Prelude.{◌≡◌, ◌↔◌, ◌<◌, false, length, IfOk, IsTrue, OnOk};
 ghost use Rattle.tx_toklist.specs.Macros.{IsMacro};
 ghost use Rattle.tx_text.specs.Definitions as spec;
-ghost use Rattle.tx_text.specs.Definitions.{IsTaken, in_body, no_definition, with_sign};
+ghost use Rattle.tx_text.specs.Definitions.{HasJoined, IsTaken, in_body, no_definition, with_sign};
 
 use crate::signs::sign_of;
 use crate::stages::Stage;
@@ -211,6 +211,22 @@ impl DefinitionScan {
                 Ok(self.answer())
             }
             _ => Ok(Fed::Wrong(TexError::BadParameter)),
+        }
+    }
+
+    /// A token that is no brace, and stands for no #, joins the body, if that is read and no # stands before; answers whether it did.
+    /// Else nothing changes. Its only error is want of memory.
+    #[inline(always)]
+    pub fn join(&mut self, token: Token) -> Result<bool, AllocError>
+        ensures { IfOk result (λ joined. HasJoined self.old token joined self.new) }
+    {
+        match self.stage {
+            Stage::Body(_) => {
+                self.body.push_token(token)?;
+                Ok(true)
+            }
+            Stage::Heading | Stage::Numbering(_) => Ok(false),
+            Stage::Naming(_) | Stage::Whole => Ok(false),
         }
     }
 

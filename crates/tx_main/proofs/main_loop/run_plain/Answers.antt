@@ -1,7 +1,7 @@
 use Rattle.std.proofs.Common.{◌≡◌, ℕ, Result, Ok, Err, OnErr, arith, subst}
 use Rattle.tx_machine.specs.Plain.{HasPassed}
 use Rattle.tx_state.specs.Meanings.{meaning_of}
-use Rattle.tx_main.specs.MainLoop.{HasGone, HasRun}
+use Rattle.tx_main.specs.Going.{HasGone, HasRun}
 use Rattle.tx_main.specs.Turns.{tex}
 use Rattle.tx_main.proofs.MainLoop.{goes-false, goes-true, run-more, run-none, run-passed, run-still}
 use Rattle.tx_main.proofs.main_loop.run_plain.Goals as goal
@@ -11,20 +11,20 @@ on-err (Ok value) p = tt
 on-err (Err e) p = p
 
 pub loop-count-init : goal.loop-count-init
-loop-count-init c = record { run = run-none c.args.s.now c.args.steps.now; looping = c.requires }
+loop-count-init c = record { run = run-none c.args.s.now c.args.steps.now; goes = c.requires }
 
 pub loop-count-preserved : goal.loop-count-preserved
 loop-count-preserved c =
-    let last : HasGone c.args.font c.loop-count.s c.go_on.new.s = goes-true c.in_ok-went.went c.args.font c.loop-count.s c.go_on.new.s c.if-not-went.false c.in_ok-went.ensures in
+    let last : HasGone c.args.going c.loop-count.s c.go_on.new.s = goes-true c.in_ok-went.went c.args.going c.loop-count.s c.go_on.new.s c.if-not-went.false c.in_ok-went.ensures in
     record {
-      run = run-more c.loop-count.count c.args.s.now c.loop-count.s c.go_on.new.s c.args.font c.args.steps.now c.loop-count.steps c.tick.new.self c.loop-count.invariant.run last c.tick.ensures;
-      looping = last.looping;
+      run = run-more c.loop-count.count c.args.s.now c.loop-count.s c.go_on.new.s c.args.going c.args.steps.now c.loop-count.steps c.tick.new.self c.loop-count.invariant.run last c.tick.ensures;
+      goes = last.goes;
     }
 
 pub returns-then-not-went-clause-run : goal.returns-then-not-went-clause-run
 returns-then-not-went-clause-run c =
     run-still c.loop-count.count c.args.s.now c.loop-count.s c.go_on.new.s c.args.steps.now c.loop-count.steps c.loop-count.invariant.run
-    (goes-false c.in_ok-went.went c.args.font c.loop-count.s c.go_on.new.s c.if-not-went.true c.in_ok-went.ensures)
+    (goes-false c.in_ok-went.went c.args.going c.loop-count.s c.go_on.new.s c.if-not-went.true c.in_ok-went.ensures)
 
 pub returns-in_err-went-clause-bound : goal.returns-in_err-went-clause-bound
 returns-in_err-went-clause-bound c =

@@ -1,0 +1,47 @@
+-- Turns at one go: of characters of a line that are tokens as they stand, as long as nothing else is to be done for them than to
+-- keep them, or to pass them.
+use Rattle.std.specs.Prelude.{◌≡◌, ℕ, Bool, true, false, []}
+use Rattle.tx_machine.specs.Plain.{ArePlain, IsPlain}
+use Rattle.tx_machine.specs.Steps.{raised}
+use Rattle.tx_state.specs.declared.parts.Phase.TheVariants.{Running}
+use Rattle.tx_state.specs.declared.state.State.{State}
+use Rattle.tx_state.specs.Meanings.{meaning_of}
+use Rattle.tx_main.specs.declared.going.Going.{Going}
+use Rattle.tx_main.specs.declared.going.Going.TheVariants.{Letters, Text, Within}
+use Rattle.tx_main.specs.MainLoop.{IsLooping}
+use Rattle.tx_main.specs.Turns.{tex}
+
+-- a token is read next
+pub record IsReading (s : State) : Type 0 where
+  pub running : s.phase ≡ Running
+  pub due : s.due ≡ []
+
+-- it is the caller's, since no expansion has begun
+pub record IsIdle (s : State) : Type 0 where
+  pub running : s.phase ≡ Running
+  pub due : s.due ≡ []
+  pub begun : s.expander.begun.items ≡ []
+
+-- where turns are taken at one go: in the main loop; where a text may be open that takes the token (sections 473 and 477); or where
+-- an expansion may take it, such as an argument (sections 391 to 394) or skipped text (section 494)
+abbrev pub IsGoing : Going → State → Type 0
+IsGoing (Letters font) s = IsLooping s font
+IsGoing Text s = IsIdle s
+IsGoing Within s = IsReading s
+
+-- they went on by one turn
+pub record HasGone (going : Going) (before after : State) : Type 0 where
+  pub turn : IsPlain tex (meaning_of before) (meaning_of after)
+  pub said : after.said ≡ before.said
+  pub goes : IsGoing going after
+
+-- whether they did; else all is as it was
+abbrev pub GoesOn : Bool → Going → State → State → Type 0
+GoesOn true going before after = HasGone going before after
+GoesOn false going before after = (meaning_of after ≡ meaning_of before) × (after.said ≡ before.said)
+
+-- they went on by so many turns, which were counted
+pub record HasRun (count : ℕ) (before after : State) (counted_before counted : ℕ) : Type 0 where
+  pub turns : ArePlain tex count (meaning_of before) (meaning_of after)
+  pub said : after.said ≡ before.said
+  pub steps : counted ≡ raised counted_before count
