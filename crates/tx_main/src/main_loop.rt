@@ -149,8 +149,8 @@ fn set_on(alloc: Global, s: &mut State, font: u8) -> Result<bool, AllocError>
     }
 }
 
-/// A token that is no brace, and stands for no #, joins a text, if one is open and it is within that's braces; answers whether it
-/// did. Else nothing changes. Its only error is want of memory.
+/// A token that is no brace, and stands for no #, joins the text that is open, if one is, within its braces; answers whether it did.
+/// Else nothing changes. Its only error is want of memory.
 #[inline(always)]
 fn join_text(text: &mut Option<OpenText>, token: Token) -> Result<bool, AllocError>
     ensures { IfOk result (λ joined. HasJoinedSome text.old token joined text.new) }
@@ -161,8 +161,8 @@ fn join_text(text: &mut Option<OpenText>, token: Token) -> Result<bool, AllocErr
     }
 }
 
-/// Takes a turn of the character that comes next, if the open text goes on with it as it stands, and answers whether that is so; else
-/// nothing changes. Its only error is want of memory.
+/// Takes a turn of the character that comes next, if the open text goes on with it as it stands, and answers whether that is so;
+/// else nothing changes. Its only error is want of memory.
 #[inline(always)]
 fn text_goes_on(s: &mut State, first: PlainToken) -> Result<bool, AllocError>
     requires going { IsGoing Going.Text s.old }
@@ -179,8 +179,8 @@ fn text_goes_on(s: &mut State, first: PlainToken) -> Result<bool, AllocError>
     Ok(true)
 }
 
-/// Takes a turn of the character that comes next, if an argument or skipped text goes on with it, and answers whether that is so; else
-/// nothing changes. Its only error is want of memory.
+/// Takes a turn of the character that comes next, if an argument or skipped text goes on with it, and answers whether that is so;
+/// else nothing changes. Its only error is want of memory.
 #[inline(always)]
 fn taking_goes_on(s: &mut State, first: PlainToken) -> Result<bool, AllocError>
     requires going { IsGoing Going.Within s.old }
@@ -197,8 +197,8 @@ fn taking_goes_on(s: &mut State, first: PlainToken) -> Result<bool, AllocError>
     Ok(true)
 }
 
-/// Takes a turn of what comes next, if it is a character with which the open text goes on, and answers whether that is so; else nothing
-/// changes. Its only error is want of memory.
+/// Takes a turn of what comes next, if it is a character with which the open text goes on, and answers whether that is so; else
+/// nothing changes. Its only error is want of memory.
 fn read_text(s: &mut State) -> Result<bool, AllocError>
     requires { IsGoing Going.Text s.old }
     ensures { IfOk result (λ went. GoesOn went Going.Text s.old s.new) }
