@@ -70,8 +70,8 @@ impl Matcher {
         }
     }
 
-    /// Takes the next token, if the argument that is being taken goes on with it, and answers whether it does; else nothing changes,
-    /// and the token is one for `feed`. Its only error is want of memory.
+    /// Takes the next token, if the argument that is being taken goes on with it, and answers whether it does; else nothing
+    /// changes, and the token is one for `feed`. Its only error is want of memory.
     #[inline(always)]
     pub fn join(&mut self, token: &Token) -> Result<bool, AllocError>
         requires { self.old.goes_on ≡ true }

@@ -149,8 +149,8 @@ fn set_on(alloc: Global, s: &mut State, font: u8) -> Result<bool, AllocError>
     }
 }
 
-/// A token that is no brace, and stands for no #, joins the text that is open, if one is, within its braces; answers whether it did.
-/// Else nothing changes. Its only error is want of memory.
+/// A token that is no brace, and stands for no #, joins the text that is open, if one is, within its braces; answers whether it
+/// did. Else nothing changes. Its only error is want of memory.
 #[inline(always)]
 fn join_text(text: &mut Option<OpenText>, token: Token) -> Result<bool, AllocError>
     ensures { IfOk result (λ joined. HasJoinedSome text.old token joined text.new) }

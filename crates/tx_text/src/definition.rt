@@ -214,8 +214,8 @@ impl DefinitionScan {
         }
     }
 
-    /// A token that is no brace, and stands for no #, joins the body, if that is read and no # stands before; answers whether it did.
-    /// Else nothing changes. Its only error is want of memory.
+    /// A token that is no brace, and stands for no #, joins the body, if that is read and no # stands before; answers whether it
+    /// did. Else nothing changes. Its only error is want of memory.
     #[inline(always)]
     pub fn join(&mut self, token: Token) -> Result<bool, AllocError>
         ensures { IfOk result (λ joined. HasJoined self.old token joined self.new) }
