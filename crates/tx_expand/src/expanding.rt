@@ -511,6 +511,7 @@ impl Open {
     }
 
     /// The same, of a token with which no argument goes on. Its only error is want of memory.
+    #[inline(never)]
     fn take_other(
         &mut self,
         alloc: Global,

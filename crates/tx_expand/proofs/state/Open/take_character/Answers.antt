@@ -6,4 +6,4 @@ pub returns-then-is_skipping : goal.returns-then-is_skipping
 returns-then-is_skipping c = skip-taken c.args.self.now c.args.code c.args.category (sym c.is_skipping.ensures ∙ c.if-is_skipping.true)
 
 pub returns : goal.returns
-returns c = use-taken c.args.self.now c.self.new c.args.code c.args.category c.join_use.result refl refl c.join_use.ensures
+returns c = use-taken c.args.self.now (record c.args.self.now { begun = c.join_use.new.begun }) c.args.code c.args.category c.join_use.result refl refl c.join_use.ensures
