@@ -1,11 +1,11 @@
 -- What takes a token where it stands: the use of a macro, and skipped text.
-use Rattle.std.proofs.Common.{◌≡◌, ℕ, zero, suc, Bool, true, false, None, List, [], ◌∷◌, refl, ap, sym, ◌∙◌, Result, Ok, Err, IfOk}
+use Rattle.std.proofs.Common.{◌≡◌, ℕ, zero, suc, Bool, true, false, None, List, [], ◌∷◌, refl, ap, subst, sym, ◌∙◌, Result, Ok, Err, IfOk}
 use Rattle.tx_char.specs.declared.category.Cat.{Cat}
 use Rattle.tx_char.specs.declared.tokens.Token.{Token}
 use Rattle.tx_char.specs.declared.tokens.Token.TheVariants.{Character}
 use Rattle.tx_cond.specs.declared.types.Conditional.{Conditional}
 use Rattle.tx_cond.specs.declared.types.SkipItem.TheVariants.{Other}
-use Rattle.tx_cond.specs.Skipping.{Inside, Passing, passing}
+use Rattle.tx_cond.specs.Skipping.{Inside, passing}
 use Rattle.tx_macro.specs.Matching as macro
 use Rattle.tx_pending.specs.Elements.{Input}
 use Rattle.tx_seen.specs.declared.seen.Seen.{Seen}
@@ -60,7 +60,7 @@ joined-turned w t r new true is k =
     ap (given_to w t r) k.was
     ∙ ap (use_on (with_taken k.usage t.token) (with_begun k.outer r)) k.open_still
     ∙ ap (λ (bs : List Begun). Goes answer.Went (with_begun bs r)) (sym k.is) in
-    rw goes (refl, refl)
+    subst (λ (turn : Turn). IsTurned turn (with_begun new r) answer.Went) (sym goes) (refl, refl)
 joined-turned w t r new false is k = absurd (cc)
 
 -- where none has, all is as it was
