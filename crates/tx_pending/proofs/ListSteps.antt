@@ -1,7 +1,7 @@
 -- Reading a list.
 use Rattle.std.proofs.Common.{◌≡◌, ◌≢◌, ℕ, ◌+◌, ◌-◌, ◌≤◌, ◌<◌, Bool, true, false, List, [], ◌∷◌, length, take, drop, refl, ap, sym, ◌∙◌, arith, leb, leb-true, le-leb, IsTrue, ◌↔◌, Option, Some, None, get_or, slice_get, subst, zero, suc, add-one}
 use Rattle.std.proofs.Math.Seq.{drop-cons}
-use Rattle.std.proofs.lemmas.List.{length-drop, length-take-le, take_rest}
+use Rattle.std.proofs.lemmas.List.{drop-drop, drop-take, length-drop, length-take-le, take_rest}
 use Rattle.tx_char.specs.declared.tokens.Token.{Token}
 use Rattle.tx_lex.specs.declared.types.ReadState.{ReadState}
 use Rattle.tx_pending.specs.declared.source.Source.{Source}
@@ -16,6 +16,22 @@ left-cons tokens read end t less within is =
     let n : end - read ≡ suc (end - (read + 1)) = omega arith in
     let e : drop read tokens ≡ t ∷ drop (read + 1) tokens = drop-cons tokens read t (omega arith) ∙ ap (λ x. x ∷ drop (suc read) tokens) (sym is) ∙ ap (λ k. t ∷ drop k tokens) (sym (add-one read)) in
     ap (λ k. take k (drop read tokens)) n ∙ ap (take (suc (end - (read + 1)))) e
+
+-- those behind the first, if one is left
+pub left-passed : (tokens : List Token) (read end : ℕ) → read < end → take (end - (read + 1)) (drop (read + 1) tokens) ≡ drop 1 (take (end - read) (drop read tokens))
+left-passed tokens read end less =
+    let n : end - read ≡ 1 + (end - (read + 1)) = omega arith in
+    ap (take (end - (read + 1))) (sym (drop-drop 1 read tokens)) ∙ sym (drop-take 1 (end - (read + 1)) (drop read tokens)) ∙ ap (λ k. drop 1 (take k (drop read tokens))) (sym n)
+
+pub none-passed : (tokens : List Token) (read end : ℕ) → end ≤ read → take (end - read) (drop read tokens) ≡ drop 1 (take (end - read) (drop read tokens))
+none-passed tokens read end over =
+    let n : end - read ≡ 0 = omega arith in
+    ap (λ k. take k (drop read tokens)) n ∙ ap (λ k. drop 1 (take k (drop read tokens))) (sym n)
+
+-- a list whose first token this is
+pub first-is : (left : List Token) (t : Token) → Some t ≡ slice_get left 0 → left ≡ t ∷ drop 1 left
+first-is [] t is = absurd (cc is)
+first-is (u ∷ left) t is = let same : t ≡ u = cc in ap (λ (x : Token). x ∷ left) (sym same)
 
 -- a list of which something is left, but no token, is marked
 pub marked-of : (left : List Token) (marked : Bool) → list_elements left marked ≢ [] → left ≡ [] → marked ≡ true

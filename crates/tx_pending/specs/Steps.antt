@@ -1,15 +1,15 @@
 -- A step of reading one source.
-use Rattle.std.specs.Prelude.{◌≡◌, ℕ, true, false, List, [], ◌∷◌, ◌++◌}
+use Rattle.std.specs.Prelude.{◌≡◌, true, false, List, [], ◌∷◌, ◌++◌, drop}
 use Rattle.tx_char.specs.declared.category.Cat.{Cat}
+use Rattle.tx_char.specs.declared.tokens.Token.{Token as Any_token}
 use Rattle.tx_lex.specs.declared.types.PlainToken.{PlainToken}
-use Rattle.tx_lex.specs.declared.types.ReadState.{ReadState}
-use Rattle.tx_lex.specs.Plain.{Begins}
+use Rattle.tx_lex.specs.Plain.{Begins, IsSet, plain_token}
 use Rattle.tx_lex.specs.Reading.{Read, Nothing, Refused, reading}
 use Rattle.tx_pending.specs.declared.given.Given.{Given}
 use Rattle.tx_pending.specs.declared.given.Given.TheVariants.{Token, Held, Marker, Used, E1}
 use Rattle.tx_pending.specs.declared.next.Next.TheVariants.{Token as Next_token, Held as Next_held, Marker as Next_marker, Used as Next_used, E1 as Next_E1}
 use Rattle.tx_pending.specs.Tails.{ListTail, LineTail}
-use Rattle.tx_pending.specs.Elements.{Element, Input, Step, Unread, step_of}
+use Rattle.tx_pending.specs.Elements.{Element, Given as Element_given, Held as Element_held, Input, Mark, Step, Unread, step_of}
 
 -- a list gives its first token, or its marker where no token is left
 abbrev pub IsListStep : ListTail → Given → ListTail → Type 0
@@ -27,13 +27,26 @@ IsLineStep codes from Marker to = ⊥
 IsLineStep codes from Used to = (reading codes from.state from.unread ≡ Nothing) × (to ≡ from)
 IsLineStep codes from E1 to = (reading codes from.state from.unread ≡ Refused) × (to ≡ from)
 
--- these elements begin with a line that begins with a token as it stands
-pub record BeginsLine (codes : List Cat) (elements : List Element) (plain : PlainToken) : Type 0 where
-  pub unread : List ℕ
-  pub state : ReadState
+-- a token that a line would give as it stands, and a list that begins with it
+abbrev pub IsPlainly : List Cat → Any_token → PlainToken → Type 0
+IsPlainly codes token plain = (IsSet codes plain) × (token ≡ plain_token codes plain)
+
+abbrev pub BeginsList : List Cat → List Any_token → PlainToken → Type 0
+BeginsList codes tokens plain = (IsSet codes plain) × (tokens ≡ plain_token codes plain ∷ drop 1 tokens)
+
+-- an element is such a token, or a line that begins with one
+abbrev pub BeginsAs : List Cat → Element → PlainToken → Type 0
+BeginsAs codes (Element_given token) plain = IsPlainly codes token plain
+BeginsAs codes (Element_held token) plain = ⊥
+BeginsAs codes Mark plain = ⊥
+BeginsAs codes (Unread unread state) plain = Begins codes state unread plain
+
+-- these elements begin with one
+pub record BeginsPlain (codes : List Cat) (elements : List Element) (plain : PlainToken) : Type 0 where
+  pub element : Element
   pub behind : List Element
-  pub line : elements ≡ Unread unread state ∷ behind
-  pub first : Begins codes state unread plain
+  pub is : elements ≡ element ∷ behind
+  pub first : BeginsAs codes element plain
 
 -- what comes next where a source gives this and leaves these elements, before those behind it
 abbrev pub given_step : Input → List Element → List Element → Given → Step

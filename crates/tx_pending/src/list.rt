@@ -1,13 +1,15 @@
 //! A list of tokens that is being read.
-ghost use Rattle.std.specs.Prelude.{◌≡◌, ◌≢◌, ◌↔◌, ◌<◌, ◌-◌, [], drop, false, length, slice_get, take, Some, IsTrue, IfOk};
+ghost use Rattle.std.specs.Prelude.{◌≡◌, ◌≢◌, ◌↔◌, ◌<◌, ◌-◌, [], drop, false, length, slice_get, take, Some, IsTrue, IfOk, IfSome};
 ghost use Rattle.std.specs.Option.{option_copied};
 ghost use Rattle.tx_pending.specs.Elements.{Given as Element_given, list_elements};
-ghost use Rattle.tx_pending.specs.Steps.{IsListStep};
+ghost use Rattle.tx_char.specs.declared.tokens.Token.TheVariants.{Character};
+ghost use Rattle.tx_pending.specs.Steps.{BeginsList, IsListStep, IsPlainly};
 
 use crate::given::Given;
 use std::alloc::AllocError;
 use std::marker::Model;
-use tx_char::Token;
+use tx_char::{Cat, Codes, Token};
+use tx_lex::PlainToken;
 use tx_toklist::TokList;
 
 /// A shared list, of which a part is read, and how far that has come. Contracts see the tokens that are left, and whether a
@@ -72,6 +74,27 @@ impl ListReading {
         Ok(Given::Token(token))
     }
 
+    /// The first token that is left, where a line would give it as it stands; it isn't taken.
+    #[inline(always)]
+    pub fn first_plain(&self, codes: &Codes) -> Option<PlainToken>
+        ensures { IfSome result (BeginsList codes.now self.now.left) }
+    {
+        match self.get(0) {
+            Some(token) => plain_of(token, codes),
+            None => None,
+        }
+    }
+
+    /// Passes the first token that is left, if one is.
+    #[inline(always)]
+    pub fn pass(&mut self)
+        ensures { self.new ≡ record { left = drop 1 self.old.left; marked = self.old.marked } }
+    {
+        if self.read < self.end {
+            self.read += 1;
+        }
+    }
+
     /// Whether neither a token nor a marker is left.
     pub fn is_spent(&self) -> bool
         ensures { IsTrue result ↔ (list_elements self.now.left self.now.marked ≡ []) }
@@ -128,5 +151,28 @@ impl ListReading {
             end: self.end,
             marked: self.marked,
         })
+    }
+}
+
+/// What a character token is in a line, where this would give it as it stands.
+#[inline(always)]
+fn plain_character(code: u8, category: Cat, codes: &Codes) -> Option<PlainToken>
+    ensures { IfSome result (IsPlainly codes.now (Character code category)) }
+{
+    match category {
+        Cat::Letter | Cat::Other if codes.get(code) == category => Some(PlainToken::Set(code)),
+        Cat::Space if code == b' ' => Some(PlainToken::Blank),
+        _ => None,
+    }
+}
+
+/// The same of any token.
+#[inline(always)]
+fn plain_of(token: &Token, codes: &Codes) -> Option<PlainToken>
+    ensures { IfSome result (IsPlainly codes.now token.now) }
+{
+    match token {
+        Token::Character(code, category) => plain_character(*code, *category, codes),
+        Token::Name(_) | Token::FrozenRelax | Token::FontIdentifier(_) => None,
     }
 }

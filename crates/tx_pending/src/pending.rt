@@ -4,7 +4,7 @@ ghost use Rattle.tx_toklist.specs.Bodies.{argument, filled, filled_from};
 ghost use Rattle.tx_pending.specs.Elements.{Given as Element_given, no_input, step, with_close, with_held, with_line, with_list, with_token, with_tokens};
 ghost use Rattle.tx_pending.specs.Plain.{IsNext, behind_first, passed};
 ghost use Rattle.tx_pending.specs.Sources.{IsReady, elements_of, stack_elements};
-ghost use Rattle.tx_pending.specs.Steps.{BeginsLine, Takes};
+ghost use Rattle.tx_pending.specs.Steps.{BeginsPlain, Takes};
 
 use crate::given::Given;
 use crate::line::LineReading;
@@ -130,8 +130,8 @@ impl Pending {
         }
     }
 
-    /// What comes next, where it is a token as it stands in the line at the front; it isn't taken. A source of which nothing is
-    /// left may hide the line.
+    /// What comes next, where it is a token as it stands in the line or the list at the front; it isn't taken. A source of which
+    /// nothing is left may hide it.
     #[inline(always)]
     pub fn first_plain(&self, codes: &Codes) -> Option<PlainToken>
         ensures { IfSome result (IsNext codes.now self.now) }
@@ -139,7 +139,8 @@ impl Pending {
         first_plain(&self.stack, codes)
     }
 
-    /// Takes the first character of the line at the front, which goes on in this state; where no line is there all stays.
+    /// Takes the first character of the line at the front, which goes on in this state, or the first token there; a token that
+    /// \noexpand holds, and a marker, stay.
     #[inline(always)]
     pub fn pass_first(&mut self, state: ReadState)
         ensures { self.new ≡ behind_first state self.old }
@@ -258,10 +259,10 @@ fn take(stack: &mut Vec<Source>, alloc: Global, codes: &Codes) -> Result<Given, 
     Ok(given)
 }
 
-/// What comes next, where the innermost source is a line that goes on with a token as it stands.
+/// What comes next, where the innermost source is a line or a list that goes on with a token as it stands.
 #[inline(always)]
 fn first_plain(stack: &[Source], codes: &Codes) -> Option<PlainToken>
-    ensures { IfSome result (BeginsLine codes.now (stack_elements stack.now)) }
+    ensures { IfSome result (BeginsPlain codes.now (stack_elements stack.now)) }
 {
     if stack.is_empty() {
         return None;
@@ -269,7 +270,7 @@ fn first_plain(stack: &[Source], codes: &Codes) -> Option<PlainToken>
     stack[stack.len() - 1].first_plain(codes)
 }
 
-/// Passes the first character of the innermost source, if it is a line, which goes on in this state.
+/// Passes the first character of the innermost source, if it is a line, which goes on in this state, or its first token.
 #[inline(always)]
 fn pass_first(stack: &mut Vec<Source>, state: ReadState)
     requires { IsReady stack.old.items }

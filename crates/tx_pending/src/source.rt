@@ -3,7 +3,7 @@ ghost use Rattle.std.specs.Prelude.{◌≡◌, ◌≢◌, ◌↔◌, ◌<◌, []
 ghost use Rattle.tx_pending.specs.Elements.{Given as Element_given, Held as Element_held, Unread, list_elements};
 ghost use Rattle.tx_pending.specs.Plain.{passed};
 ghost use Rattle.tx_pending.specs.Sources.{elements_of};
-ghost use Rattle.tx_pending.specs.Steps.{BeginsLine, Gives};
+ghost use Rattle.tx_pending.specs.Steps.{BeginsPlain, Gives};
 
 use crate::given::Given;
 use crate::line::LineReading;
@@ -48,27 +48,29 @@ impl Source {
         }
     }
 
-    /// The token with which it goes on, where it is a line and the token one character as it stands.
+    /// The token with which it goes on, where it is a line and the token one character as it stands, or a list and the token one that
+    /// a line would give so.
     #[inline(always)]
     pub fn first_plain(&self, codes: &Codes) -> Option<PlainToken>
-        ensures { IfSome result (BeginsLine codes.now (elements_of self.now)) }
+        ensures { IfSome result (BeginsPlain codes.now (elements_of self.now)) }
     {
         match self {
             Source::Line(line) => line.first_plain(codes),
-            Source::List(_) => None,
+            Source::List(list) => list.first_plain(codes),
             Source::Token(_) | Source::Held(_) => None,
         }
     }
 
-    /// Passes the first character, if it is a line, which goes on in this state.
+    /// Passes the first character, if it is a line, which goes on in this state, or the first token.
     #[inline(always)]
     pub fn pass_first(&mut self, state: ReadState)
         ensures { elements_of self.new ≡ passed state (elements_of self.old) }
     {
         match self {
             Source::Line(line) => line.pass_first(state),
-            Source::List(_) => {}
-            Source::Token(_) | Source::Held(_) => {}
+            Source::List(list) => list.pass(),
+            Source::Token(token) => *token = None,
+            Source::Held(_) => {}
         }
     }
 

@@ -4,18 +4,17 @@ use Rattle.tx_lex.specs.declared.types.PlainToken.{PlainToken}
 use Rattle.tx_pending.specs.declared.source.Source.{Source}
 use Rattle.tx_pending.specs.Elements.{Element}
 use Rattle.tx_pending.specs.Sources.{elements_of, stack_elements}
-use Rattle.tx_pending.specs.Steps.{BeginsLine}
+use Rattle.tx_pending.specs.Steps.{BeginsPlain}
 use Rattle.tx_pending.proofs.StackSteps.{stack_elements-top, stack-split}
 use Rattle.tx_pending.proofs.pending.first_plain.Goals as goal
 
 -- what the innermost source begins with, the whole begins with
-top-begins : (codes : List Cat) (stack : List Source) (i : ℕ) (top : Source) (found : Option PlainToken) → length stack ≡ i + 1 → top ≡ get_or stack i top → IfSome found (BeginsLine codes (elements_of top)) → IfSome found (BeginsLine codes (stack_elements stack))
+top-begins : (codes : List Cat) (stack : List Source) (i : ℕ) (top : Source) (found : Option PlainToken) → length stack ≡ i + 1 → top ≡ get_or stack i top → IfSome found (BeginsPlain codes (elements_of top)) → IfSome found (BeginsPlain codes (stack_elements stack))
 top-begins codes stack i top None long is begins = tt
 top-begins codes stack i top (Some plain) long is begins = record {
-  unread = begins.unread;
-  state = begins.state;
+  element = begins.element;
   behind = begins.behind ++ stack_elements (take i stack);
-  line = ap stack_elements (stack-split stack i top long is) ∙ stack_elements-top (take i stack) top ∙ ap (λ (xs : List Element). xs ++ stack_elements (take i stack)) begins.line;
+  is = ap stack_elements (stack-split stack i top long is) ∙ stack_elements-top (take i stack) top ∙ ap (λ (xs : List Element). xs ++ stack_elements (take i stack)) begins.is;
   first = begins.first;
 }
 
