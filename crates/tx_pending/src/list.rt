@@ -160,8 +160,18 @@ fn plain_character(code: u8, category: Cat, codes: &Codes) -> Option<PlainToken>
     ensures { IfSome result (IsPlainly codes.now (Character code category)) }
 {
     match category {
-        Cat::Letter | Cat::Other if codes.get(code) == category => Some(PlainToken::Set(code)),
-        Cat::Space if code == b' ' => Some(PlainToken::Blank),
+        Cat::Letter | Cat::Other => {
+            if codes.get(code) != category {
+                return None;
+            }
+            Some(PlainToken::Set(code))
+        }
+        Cat::Space => {
+            if code != b' ' {
+                return None;
+            }
+            Some(PlainToken::Blank)
+        }
         _ => None,
     }
 }
