@@ -141,14 +141,6 @@ answer-more self it m taken t d k is goes =
 pub argument-open : (m : Definition) (g g' : Gathered) (a b : Awaited) (t : Token) → HasGathered m g a → ((more : List Token) → use_rest m (stage_of a g) (t ∷ more) ≡ use_rest m (stage_of b g') more) → IsStage m (stage_of b g') → use_of m (g.taken ++ t ∷ []) ≡ Open
 argument-open m g g' a b t held steps is = held.rest (t ∷ []) ∙ steps [] ∙ use-open m (stage_of b g') is
 
--- what it has gathered then
-pub argument-gathered : (m : Definition) (g g' : Gathered) (a b : Awaited) (t : Token) → HasGathered m g a → ((more : List Token) → use_rest m (stage_of a g) (t ∷ more) ≡ use_rest m (stage_of b g') more) → IsStage m (stage_of b g') → g'.taken ≡ g.taken ++ t ∷ [] → g'.from ≤ length g'.taken → HasGathered m g' b
-argument-gathered m g g' a b t held steps is taken within = record {
-  stage_is = is;
-  within = within;
-  rest = λ more. ap (λ (x : List Token). use_of m (x ++ more)) taken ∙ ap (use_of m) (append_assoc g.taken (t ∷ []) more) ∙ held.rest (t ∷ more) ∙ steps more;
-}
-
 pub empty-is : (xs ys : List Token) → xs ≡ ys → true ≡ (length xs == 0) → ys ≡ []
 empty-is [] ys same h = sym same
 empty-is (x ∷ xs) ys same h =
