@@ -1,4 +1,4 @@
-use Rattle.std.proofs.Common.{◌≡◌, List, ap, ◌∙◌, arith, drop}
+use Rattle.std.proofs.Common.{List, ap, ◌∙◌, arith, drop}
 use Rattle.tx_char.specs.declared.tokens.Token.{Token}
 use Rattle.tx_pending.specs.Tails.{ListTail}
 use Rattle.tx_pending.proofs.ListSteps.{left-passed, none-passed}

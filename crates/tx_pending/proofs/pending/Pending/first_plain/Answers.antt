@@ -2,7 +2,6 @@ use Rattle.std.proofs.Common.{◌≡◌, Option, Some, None, IfSome, List, ◌�
 use Rattle.tx_char.specs.declared.category.Cat.{Cat}
 use Rattle.tx_char.specs.declared.tokens.Token.{Token as Any_token}
 use Rattle.tx_lex.specs.declared.types.PlainToken.{PlainToken}
-use Rattle.tx_lex.specs.declared.types.PlainToken.TheVariants.{Set, Blank}
 use Rattle.tx_lex.specs.Plain.{IsSet, plain_token, state_behind}
 use Rattle.tx_pending.specs.declared.next.Next.TheVariants.{Token}
 use Rattle.tx_pending.specs.Elements.{Element, Given, Held, Input, Mark, Step, Unread, line_step, step_of}
