@@ -1,4 +1,4 @@
--- Turns at one go: of characters of a line that are tokens as they stand, as long as nothing else is to be done for them than to
+-- Turns at one go: of characters of a line or a list that are tokens as they stand, as long as nothing else is to be done for them than to
 -- keep them, or to pass them.
 use Rattle.std.specs.Prelude.{◌≡◌, ℕ, Bool, true, false, []}
 use Rattle.tx_machine.specs.Plain.{ArePlain, IsPlain}

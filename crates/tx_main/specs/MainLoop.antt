@@ -37,7 +37,7 @@ pub record IsLetterNext (s : TexState) (font code : ℕ) : Type 0 where
   pub comes : IsNext s.table.table.categories s.reader.input (Set code)
   pub has : has_character s.words.fonts (font_of s.words.word font) code ≡ true
 
--- the line at the front goes on behind its first character
+-- the character at the front is passed
 abbrev pub behind_plain : TexState → PlainToken → TexState
 behind_plain s first = record s { reader = record s.reader { input = behind_first (state_behind first) s.reader.input } }
 

@@ -276,7 +276,7 @@ fn going_of(s: &State) -> Option<Going>
     None
 }
 
-/// Takes turns of characters of a line, at most so many, and counts them; none where something else comes first. Its only error is
+/// Takes turns of characters of a line or a list, at most so many, and counts them; none where something else comes first. Its only error is
 /// want of memory.
 pub(crate) fn run_on(
     alloc: Global,
