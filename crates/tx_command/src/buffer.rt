@@ -13,9 +13,12 @@ pub struct CommandBuffer {
 }
 
 impl Model for CommandBuffer {
+    ghost use Rattle.tx_command.specs.contracts.types.Command as whole;
     ghost use Rattle.tx_command.specs.declared.types.Command.{Command};
 
     ghost Value = { Command };
+
+    ghost coded = { whole.the_row.coded };
 
     ghost view = { λ s. s.command.value };
 }
