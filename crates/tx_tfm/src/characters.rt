@@ -45,18 +45,31 @@ fn kept(place: Option<usize>) -> Option<u16>
 impl Metrics {
     ghost use Rattle.tx_tfm.specs.Characters.{AreSaid, IsSaid};
 
-    /// What a font says of a character.
+    /// What a font says of a character, whose word of the file is read once.
+    #[tactic(auto, unfolding(crate::specs::LigKern::character_start))]
     fn character(&self, code: u8) -> CharacterMetrics
         requires { self.now.size < 2 ^ 27 }
         ensures { IsSaid self.now code result }
     {
+        use super::scaling::scale;
+
+        let (file, lengths) = (&self.file, &self.file.lengths);
+        let info = file.info(usize::from(code));
+        let width = file.word(lengths.widths_at() + info.width_index());
+        let height = file.word(lengths.heights_at() + info.height_index());
+        let depth = file.word(lengths.depths_at() + info.depth_index());
+        let italic = file.word(lengths.italics_at() + info.italic_index());
         CharacterMetrics {
-            width: self.width(code) as i32,
-            height: self.height(code) as i32,
-            depth: self.depth(code) as i32,
-            italic: self.italic(code) as i32,
-            is_there: self.file.is_there(usize::from(code)),
-            start: kept(self.file.start_of(Some(code))),
+            width: scale(self.size, width) as i32,
+            height: scale(self.size, height) as i32,
+            depth: scale(self.size, depth) as i32,
+            italic: scale(self.size, italic) as i32,
+            is_there: file.is_listed(usize::from(code)) && 0 < info.width_index(),
+            start: if info.tag() == 1 {
+                kept(file.start_of(Some(code)))
+            } else {
+                None
+            },
         }
     }
 

@@ -94,6 +94,10 @@ impl Tfm {
             if command.a == 128 {
                 break;
             }
+            // Past the end of the file the same command comes again and again.
+            if self.bytes.len() <= 4 * (self.lengths.commands_at() + place) {
+                break;
+            }
             place += usize::from(command.a) + 1;
             left -= 1;
         }

@@ -433,7 +433,7 @@ impl Tfm {
         Ok(true)
     }
 
-    /// Composing each pair of this left piece ends soon. Most pieces meet no command, and are passed over.
+    /// Composing each pair of this left piece ends soon. Most pieces meet no command or aren't there, and are passed over.
     #[tactic(auto, unfolding(crate::specs::Rules::all_pairs_end_after), using(crate::proofs::Every::every_steps))]
     fn all_pairs_end_after(
         &self,
@@ -446,6 +446,9 @@ impl Tfm {
         ensures { IfOk result (λ ends. ends ≡ all_pairs_end_after self.now left) }
     {
         if table.meets_none(left) {
+            return Ok(true);
+        }
+        if !self.is_piece(piece(left)) {
             return Ok(true);
         }
         for k in 0..257 {
