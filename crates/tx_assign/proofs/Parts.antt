@@ -22,7 +22,6 @@ use Rattle.tx_scan.specs.DimensionRests as sizes
 use Rattle.tx_scan.proofs.Composing.{more-next, need-next, done-next, none-back}
 use Rattle.tx_assign.specs.declared.scan.AssignScan.{AssignScan}
 use Rattle.tx_assign.specs.declared.scan.AssignStage.TheVariants as stage
-use Rattle.tx_assign.specs.declared.types.Assignment.{Assignment}
 use Rattle.tx_assign.specs.declared.types.Purpose.{Purpose}
 use Rattle.tx_assign.specs.Assignments.{given, let_behind_name, sized, value, valued}
 use Rattle.tx_assign.specs.Rests.{rest, held, told, IsAssigning, IsBehind}
