@@ -1,7 +1,7 @@
 use Rattle.std.proofs.Common.{List, ap, ◌∙◌, arith, drop}
 use Rattle.tx_char.specs.declared.tokens.Token.{Token}
 use Rattle.tx_pending.specs.Tails.{ListTail}
-use Rattle.tx_pending.proofs.ListSteps.{left-passed, none-passed}
+use Rattle.tx_pending.proofs.ListSteps.{left-passed}
 use Rattle.tx_pending.proofs.list.ListReading.pass.Goals as goal
 
 pub returns-then-self : goal.returns-then-self
