@@ -1,5 +1,5 @@
 //! The matcher.
-ghost use Rattle.std.specs.Prelude.{◌≡◌, ◌≢◌, ◌↔◌, [], true, IfOk, IsTrue};
+ghost use Rattle.std.specs.Prelude.{◌≡◌, ◌≢◌, ◌↔◌, [], true, IfOk, IsTrue, OnErr};
 ghost use Rattle.tx_toklist.specs.Macros.{no_parameters};
 ghost use Rattle.tx_macro.specs.Matchers.{answer, more_taken, HasJoined};
 
@@ -71,11 +71,12 @@ impl Matcher {
     }
 
     /// Takes the next token, if the argument that is being taken goes on with it, and answers whether it does; else nothing
-    /// changes, and the token is one for `feed`. Its only error is want of memory.
+    /// changes, and the token is one for `feed`. Its only error is want of memory, after which nothing has changed either.
     #[inline(always)]
     pub fn join(&mut self, token: &Token) -> Result<bool, AllocError>
         requires { self.old.goes_on ≡ true }
-        ensures { IfOk result (λ joined. HasJoined self.old token.now joined self.new) }
+        ensures joined { IfOk result (λ joined. HasJoined self.old token.now joined self.new) }
+        ensures err { OnErr result (self.new ≡ self.old) }
     {
         let Awaited::Argument(kind) = self.awaited else {
             return Ok(false);

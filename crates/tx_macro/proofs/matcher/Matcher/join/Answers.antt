@@ -10,8 +10,8 @@ use Rattle.tx_macro.specs.Stages.{stage_of}
 use Rattle.tx_macro.proofs.Uses.{argument-open}
 use Rattle.tx_macro.proofs.matcher.Matcher.join.Goals as goal
 
-pub returns-in-Some : goal.returns-in-Some
-returns-in-Some c =
+pub returns-in-Some-clause-joined : goal.returns-in-Some-clause-joined
+returns-in-Some-clause-joined c =
     let m = c.self.inside.made in
     let g = c.self.inside.gathered in
     let g' = c.join_within.new.gathered in
