@@ -1,20 +1,17 @@
 -- What takes a token where it stands: the use of a macro, and skipped text.
-use Rattle.std.proofs.Common.{◌≡◌, ℕ, zero, suc, Bool, true, false, None, List, [], ◌∷◌, refl, ap, subst, sym, ◌∙◌, Result, Ok, Err, IfOk}
+use Rattle.std.proofs.Common.{◌≡◌, ℕ, zero, suc, Bool, true, false, List, [], ◌∷◌, refl, ap, subst, sym, ◌∙◌, Result, Ok, Err, IfOk}
 use Rattle.tx_char.specs.declared.category.Cat.{Cat}
 use Rattle.tx_char.specs.declared.tokens.Token.{Token}
 use Rattle.tx_char.specs.declared.tokens.Token.TheVariants.{Character}
 use Rattle.tx_cond.specs.declared.types.Conditional.{Conditional}
 use Rattle.tx_cond.specs.declared.types.SkipItem.TheVariants.{Other}
 use Rattle.tx_cond.specs.Skipping.{Inside, passing}
-use Rattle.tx_macro.specs.Matching as macro
-use Rattle.tx_pending.specs.Elements.{Input}
 use Rattle.tx_seen.specs.declared.seen.Seen.{Seen}
 use Rattle.tx_expand.specs.declared.begun.Begun.{Begun}
 use Rattle.tx_expand.specs.declared.begun.Begun.TheVariants as begun
 use Rattle.tx_expand.specs.declared.state.Open.{Open}
 use Rattle.tx_expand.specs.declared.types.Expanded.TheVariants as answer
-use Rattle.tx_expand.specs.declared.types.Wanted.{Wanted}
-use Rattle.tx_expand.specs.Expanding.{reader, reader_of}
+use Rattle.tx_expand.specs.Expanding.{reader}
 use Rattle.tx_expand.specs.Reader.{Goes, Reader, Turn, World}
 use Rattle.tx_expand.specs.Steps.{HasJoined}
 use Rattle.tx_expand.specs.Taken.{HasTakenIn, HasUseJoined, IsJoinedBegun, IsJoinedFirst, IsTakenIn, IsUseJoined, character}

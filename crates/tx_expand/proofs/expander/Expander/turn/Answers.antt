@@ -4,8 +4,8 @@ use Rattle.tx_expand.proofs.Turning.{held-turned, token-turned}
 use Rattle.tx_expand.specs.Values.{lent}
 use Rattle.tx_expand.proofs.expander.Expander.turn.Goals as goal
 
-pub returns-in_ok-meaning-in-Token : goal.returns-in_ok-meaning-in-Token
-returns-in_ok-meaning-in-Token c =
+pub returns-else-passes : goal.returns-else-passes
+returns-else-passes c =
     rw (token-turned (world_of (lent c.args.known.now) c.args.mode) c.args.wanted c.args.self.now c.args.input.now c.next.new.self c.categories.result.now c.in_ok-token.field-0 c.in-Token.token c.in_ok-meaning-in-Token.meaning (search rules) c.categories.ensures c.in_ok-token.ensures.next c.in_ok-token.ensures.left c.in-Token.is c.in_ok-meaning-in-Token.ensures)
     (rw c.self.view_is at c.read_other.ensures)
 
