@@ -218,7 +218,7 @@ impl CommandScan {
                 self.want = want;
                 Ok(Taken::More)
             }
-            Ok(Fed::Need(_)) => unreachable!(),
+            Ok(Fed::Need(_kind)) => unreachable!(),
             Ok(Fed::Done(whole, back)) => {
                 let given = give_back(&mut self.taken, input, back);
                 take_whole(whole, &mut self.scans, made);
