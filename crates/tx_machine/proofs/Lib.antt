@@ -1,5 +1,6 @@
 pub mod Stretch
 pub mod Going
+mod Heeding
 pub mod Passing
 pub mod Running
 pub mod PageCounts

@@ -2,13 +2,13 @@
 use Rattle.std.proofs.Common.{◌≡◌, ℕ, zero, suc, ◌+◌, ◌-◌, ◌<◌, ◌≤◌, List, [], ◌++◌, None, refl, sym, ap, ◌∙◌, arith}
 use Rattle.tx_bytes.specs.Files.{Files}
 use Rattle.tx_files.specs.Reads.{Reads, noting}
-use Rattle.tx_machine.specs.Counts.{Passes}
+use Rattle.tx_machine.specs.Counts.{HasCounted, Passes}
 use Rattle.tx_machine.specs.Machine.{Formatter, IsLawful, Ready, mode_after}
-use Rattle.tx_machine.specs.Plain.{ArePlain, IsPlain, HasPassed}
+use Rattle.tx_machine.specs.Plain.{ArePlain, IsPlain}
 use Rattle.tx_machine.specs.Steps.{raised}
 use Rattle.tx_machine.specs.Turn.{Place, Progress, one_turn, joined, stretch}
 use Rattle.tx_machine.proofs.Stretch.{one_turn-plain, stretch-on}
-use Rattle.tx_machine.proofs.Going.{Going, raised-raised, raised-le}
+use Rattle.tx_machine.proofs.Going.{Going, going-bound, raised-raised}
 
 -- plain turns leave the machine ready
 pub ready-plain : {S : Type 0} (m : Formatter S) → IsLawful m → (count : ℕ) (from to : S) → ArePlain m count from to → m.mode from ≡ Ready → m.mode to ≡ Ready
@@ -74,11 +74,12 @@ module _ {S : Type 0} {m : Formatter S} {files : Files} {begun here : Place S} {
   pub passed-fits : {passed : ℕ} {next : Place S} → Passes m here passed next → turns + passed ≤ begun.left
   passed-fits passes = omega (arith, so_far.within, passes.left_is)
 
-  -- where memory was wanted among them, no more turns were counted than the stretch has
-  pub passed-bound : {now' : ℕ} → HasPassed m here.left here.state now now' → now' ≤ raised before (stretch m files begun).turns
-  passed-bound passed =
-      let next : Place S = record { state = passed.to; opens = here.opens; left = here.left - passed.count } in
-      let all : stretch m files here ≡ behind passed.count (stretch m files next) = stretch-passed m files lawful passed.count {from = here} {to = next} (record { turns = passed.turns; opens_are = refl; left_is = omega (arith, passed.within) }) in
-      let first : (stretch m files here).turns ≡ passed.count + (stretch m files next).turns = ap (λ t. t.turns) all in
-      let total : (stretch m files begun).turns ≡ turns + (stretch m files here).turns = so_far.total in
-      rw (passed.steps ∙ ap (λ n. raised n passed.count) so_far.counted ∙ raised-raised before turns passed.count) (raised-le before _ _ (omega arith))
+  -- behind them, where the count is theirs
+  pub going-behind : {passed : ℕ} {next : Place S} → Passes m here passed next → Going m files begun next told (turns + passed) at_first seen before (raised now passed)
+  going-behind passes = going-passed passes refl refl
+
+  -- where memory was wanted among turns, no more were counted than the stretch has
+  pub counted-bound : {now' : ℕ} → HasCounted m files here now now' → now' ≤ raised before (stretch m files begun).turns
+  counted-bound k =
+      let most : raised (raised now k.passed) (one_turn m files k.mid).turns ≤ raised before (stretch m files begun).turns = going-bound lawful (going-behind k.passes) refl in
+      omega (arith, k.counted)

@@ -38,10 +38,10 @@ fits-reply_to files opens (Whole name) = elim (content files name) as (λ c. fit
 
 module _ {S : Type 0} (m : Formatter S) (files : Files) where
   -- a turn that the budget refuses, and one that it allows
-  abbrev refused : Place S → Progress S
+  abbrev pub refused : Place S → Progress S
   refused p = record { close = Some Spent; said = []; turns = 0; log = []; place = p }
 
-  abbrev allowed : Place S → Progress S
+  abbrev pub allowed : Place S → Progress S
   allowed p = after_event m files p.opens (p.left - m.cost p.state) (m.step p.state).next (m.step p.state).said (m.step p.state).event
 
   data IsTurn (p : Place S) : Type 0 where
@@ -55,6 +55,18 @@ module _ {S : Type 0} (m : Formatter S) (files : Files) where
       by : (b : Bool) → nat_lt p.left (m.cost p.state) ≡ b → IsTurn p
       by true h = Refused (ltb-true _ _ h) (ap (λ b. cond b (refused p) (allowed p)) h)
       by false h = Allowed (ltb-false _ _ h) (ap (λ b. cond b (refused p) (allowed p)) h)
+
+  pub one_turn-refused : (p : Place S) → p.left < m.cost p.state → one_turn m files p ≡ refused p
+  one_turn-refused p over = elim (is_turn p) [
+    | Refused h e ↦ e
+    | Allowed h e ↦ absurd (omega (arith, over))
+  ]
+
+  pub one_turn-allowed : (p : Place S) → m.cost p.state ≤ p.left → one_turn m files p ≡ allowed p
+  one_turn-allowed p fits = elim (is_turn p) [
+    | Refused h e ↦ absurd (omega (arith, fits))
+    | Allowed h e ↦ e
+  ]
 
   -- a plain turn takes 1 of the budget and leads to its next state; it says nothing and sees nothing of files
   pub one_turn-plain : (p : Place S) {to : S} → IsPlain m p.state to → 1 ≤ p.left
@@ -70,7 +82,7 @@ module _ {S : Type 0} (m : Formatter S) (files : Files) where
   left-after_event opens left next said (Shipped body) = refl
   left-after_event opens left next said (Stopped stop) = refl
 
-  turns-after_event : (opens : List OpenFile) (left : ℕ) (next : S) (said : List ℕ) (event : Event) → (after_event m files opens left next said event).turns ≡ 1
+  pub turns-after_event : (opens : List OpenFile) (left : ℕ) (next : S) (said : List ℕ) (event : Event) → (after_event m files opens left next said event).turns ≡ 1
   turns-after_event opens left next said Went = refl
   turns-after_event opens left next said (Asks ask) = refl
   turns-after_event opens left next said (Shipped body) = refl

@@ -42,6 +42,10 @@ after_event m files opens left next said (Shipped body) =
 after_event m files opens left next said (Stopped stop) =
     record { close = Some (Halt stop); said = said; turns = 1; log = []; place = record { state = next; opens = opens; left = left } }
 
+-- what comes of this event, of which the transcript has got its bytes
+abbrev pub came : {S : Type 0} → Formatter S → Files → Place S → Event → Progress S
+came m files place event = after_event m files place.opens place.left place.state [] event
+
 -- one turn, if the budget allows it
 unfoldable pub one_turn : {S : Type 0} → Formatter S → Files → Place S → Progress S
 one_turn m files place =

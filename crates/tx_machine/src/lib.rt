@@ -21,4 +21,6 @@ pub use lists::{Opens, Pages, Pieces};
 pub use machine::Machine;
 pub use run::fresh_run;
 pub use steps::{CountsTurns, Steps};
-pub use types::{Ask, AskKind, Close, Date, End, Event, Limits, OpenFile, Ran, Reply, Stop};
+pub use types::{
+    Ask, AskKind, Close, Date, End, Event, Limits, OpenFile, Passed, Ran, Reply, Stop,
+};

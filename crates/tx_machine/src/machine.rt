@@ -1,12 +1,12 @@
 ghost use Rattle.std.specs.Prelude.{◌≡◌, ◌≤◌, ◌↔◌, ℕ, List, [], ◌++◌, true, IsTrue, IfOk, OnOk, OnErr};
 ghost use Rattle.tx_machine.specs.declared.types.AskKind.{AskKind};
 ghost use Rattle.tx_machine.specs.Machine.{Formatter, IsLawful, Ready, Awaits, fits};
-ghost use Rattle.tx_machine.specs.Plain.{ArePlain, HasPassed};
+ghost use Rattle.tx_machine.specs.Plain.{HasPassed, HasRunOn, turns_of};
 ghost use Rattle.tx_machine.specs.Ranges.{IsDate};
 ghost use Rattle.tx_machine.specs.Steps.{raised};
 
 use crate::steps::Steps;
-use crate::types::{Date, Event, Reply};
+use crate::types::{Date, Event, Passed, Reply};
 use std::alloc::{AllocError, Global};
 use tx_bytes::Bytes;
 use tx_files::Name;
@@ -53,20 +53,19 @@ pub trait Machine {
         ensures pending { OnOk result (pending s.new ≡ pending s.old ++ (formatter.step (meaning s.old)).said) }
         ensures steps { steps.new ≡ raised steps.old 1 };
 
-    /// Takes turns at one go, at most so many, each of which costs 1 and is nothing that the outside has to know, and
-    /// counts them (as TeX's main loop does with characters; TeX: The Program, section 1034). A machine may take none.
+    /// Takes turns at one go, at most so many, and counts them: each costs 1, and all but the last are nothing that the outside
+    /// has to know (as TeX's main loop does with characters; TeX: The Program, section 1034). A machine may take none.
     fn run_on(
         &self,
         alloc: Global,
         s: &mut Self::State,
         most: u64,
         steps: &mut Steps,
-    ) -> Result<u64, AllocError>
+    ) -> Result<Passed, AllocError>
         requires { formatter.mode (meaning s.old) ≡ Ready }
-        ensures most { IfOk result (λ count. count ≤ most) }
-        ensures turns { IfOk result (λ count. ArePlain formatter count (meaning s.old) (meaning s.new)) }
-        ensures steps { IfOk result (λ count. steps.new ≡ raised steps.old count) }
-        ensures pending { OnOk result (pending s.new ≡ pending s.old) }
+        ensures most { IfOk result (λ passed. turns_of passed ≤ most) }
+        ensures turns { IfOk result (λ passed. HasRunOn formatter passed (meaning s.old) (meaning s.new) (pending s.old) (pending s.new)) }
+        ensures steps { IfOk result (λ passed. steps.new ≡ raised steps.old (turns_of passed)) }
         ensures bound { OnErr result (HasPassed formatter most (meaning s.old) steps.old steps.new) };
 
     /// Takes the reply to what the state asked.

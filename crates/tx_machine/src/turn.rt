@@ -1,23 +1,76 @@
-ghost use Rattle.std.specs.Prelude.{◌≡◌, ◌≤◌, ◌++◌, [], Some, IfOk, OnOk, OnErr};
+ghost use Rattle.std.specs.Prelude.{◌≡◌, ◌≤◌, [], IfOk, OnOk, OnErr};
 ghost use Rattle.tx_files.specs.Reads.{noting};
 ghost use Rattle.tx_machine.specs.Machine.{Ready};
-ghost use Rattle.tx_machine.specs.Counts.{Made, Passes, Closes, closing_turns};
-ghost use Rattle.tx_machine.specs.Plain.{HasPassed};
+ghost use Rattle.tx_machine.specs.Counts.{AreTaken, Closes, HasCounted, IsAwaiting, IsHeeded, Made, closing_turns};
 ghost use Rattle.tx_machine.specs.Steps.{raised};
-ghost use Rattle.tx_machine.specs.Turn.{one_turn, stretch, place_of};
+ghost use Rattle.tx_machine.specs.Turn.{came, one_turn, place_of, stretch};
 
 use crate::machine::Machine;
 use crate::opens::reply;
 use crate::spot::{Closed, Spot};
 use crate::steps::Steps;
-use crate::types::{Close, Event};
+use crate::types::{Close, Event, Passed};
 use std::alloc::{AllocError, Global};
 use tx_bytes::Bytes;
 use tx_files::{FileSet, Seen};
 
+/// What turns at one go came to, with one behind them.
+#[derive(Drop)]
+struct Taken {
+    /// How many were taken at one go.
+    passed: u64,
+    /// What the one behind them ends, if it ends anything.
+    close: Option<Close>,
+}
+
+/// Does what the event of a turn asks for: answers what the machine asks, and notes what the answer shows of files.
+#[inline(never)]
+fn heed_other<M: Machine>(
+    alloc: Global,
+    machine: &M,
+    files: &FileSet,
+    spot: &mut Spot<M::State>,
+    seen: &mut Seen,
+    event: Event,
+) -> Result<Option<Close>, AllocError>
+    requires { IsAwaiting M.formatter (M.meaning spot.old.state) event }
+    ensures heeded { IfOk result (λ close. IsHeeded (came M.formatter files.now (place_of M.meaning spot.old) event) close (place_of M.meaning spot.new) seen.old seen.new) }
+    ensures pending { OnOk result (M.pending spot.new.state ≡ M.pending spot.old.state) }
+{
+    match event {
+        Event::Went => Ok(None),
+        Event::Asks(ask) => {
+            let answer = reply(alloc, files, &mut spot.opens, seen, ask)?;
+            machine.answer(alloc, &mut spot.state, &answer)?;
+            Ok(None)
+        }
+        Event::Shipped(body) => Ok(Some(Close::Page(body))),
+        Event::Stopped(stop) => Ok(Some(Close::Halt(stop))),
+    }
+}
+
+/// The same: most turns ask for nothing.
+#[inline(always)]
+fn heed<M: Machine>(
+    alloc: Global,
+    machine: &M,
+    files: &FileSet,
+    spot: &mut Spot<M::State>,
+    seen: &mut Seen,
+    event: Event,
+) -> Result<Option<Close>, AllocError>
+    requires { IsAwaiting M.formatter (M.meaning spot.old.state) event }
+    ensures heeded { IfOk result (λ close. IsHeeded (came M.formatter files.now (place_of M.meaning spot.old) event) close (place_of M.meaning spot.new) seen.old seen.new) }
+    ensures pending { OnOk result (M.pending spot.new.state ≡ M.pending spot.old.state) }
+{
+    match event {
+        Event::Went => Ok(None),
+        event => heed_other(alloc, machine, files, spot, seen, event),
+    }
+}
+
 /// Takes one turn, if the budget allows it, answers what the machine asks in it, and notes what the answer shows of files.
-#[tactic(auto, unfolding(crate::specs::Turn::one_turn))]
-pub fn take_turn<M: Machine>(
+fn take_turn<M: Machine>(
     alloc: Global,
     machine: &M,
     files: &FileSet,
@@ -36,34 +89,42 @@ pub fn take_turn<M: Machine>(
     }
     let event = machine.turn(alloc, &mut spot.state, steps)?;
     spot.left -= cost;
-    match event {
-        Event::Went => Ok(None),
-        Event::Asks(ask) => {
-            let answer = reply(alloc, files, &mut spot.opens, seen, ask)?;
-            machine.answer(alloc, &mut spot.state, &answer)?;
-            Ok(None)
-        }
-        Event::Shipped(body) => Ok(Some(Close::Page(body))),
-        Event::Stopped(stop) => Ok(Some(Close::Halt(stop))),
-    }
+    heed(alloc, machine, files, spot, seen, event)
 }
 
-/// Lets the machine take turns at one go, as many as the budget allows at most, and answers how many it took.
-fn run_on_within<M: Machine>(
+/// Lets the machine take turns at one go, as many as the budget allows at most, and takes one behind them, unless the machine has
+/// taken that too.
+fn take_turns<M: Machine>(
     alloc: Global,
     machine: &M,
+    files: &FileSet,
     spot: &mut Spot<M::State>,
+    seen: &mut Seen,
     steps: &mut Steps,
-) -> Result<u64, AllocError>
+) -> Result<Taken, AllocError>
     requires { M.formatter.mode (M.meaning spot.old.state) ≡ Ready }
-    ensures passes { IfOk result (λ passed. Passes M.formatter (place_of M.meaning spot.old) passed (place_of M.meaning spot.new)) }
-    ensures pending { OnOk result (M.pending spot.new.state ≡ M.pending spot.old.state) }
-    ensures steps { IfOk result (λ passed. steps.new ≡ raised steps.old passed) }
-    ensures bound { OnErr result (HasPassed M.formatter spot.old.left (M.meaning spot.old.state) steps.old steps.new) }
+    ensures taken { IfOk result (λ taken. AreTaken M.formatter files.now (place_of M.meaning spot.old) taken (place_of M.meaning spot.new) (M.pending spot.old.state) (M.pending spot.new.state) seen.old seen.new steps.old steps.new) }
+    ensures bound { OnErr result (HasCounted M.formatter files.now (place_of M.meaning spot.old) steps.old steps.new) }
 {
-    let passed = machine.run_on(alloc, &mut spot.state, spot.left, steps)?;
-    spot.left -= passed;
-    Ok(passed)
+    let Passed { turns, last } = machine.run_on(alloc, &mut spot.state, spot.left, steps)?;
+    spot.left -= turns;
+    match last {
+        Some(event) => {
+            spot.left -= 1;
+            let close = heed(alloc, machine, files, spot, seen, event)?;
+            Ok(Taken {
+                passed: turns,
+                close,
+            })
+        }
+        None => {
+            let close = take_turn(alloc, machine, files, spot, seen, steps)?;
+            Ok(Taken {
+                passed: turns,
+                close,
+            })
+        }
+    }
 }
 
 /// How many turns a close took.
@@ -95,9 +156,8 @@ pub fn format_page<M: Machine>(
 {
     let mut turns = 0;
     loop {
-        let passed = run_on_within(alloc, machine, spot, steps)?;
+        let Taken { passed, close } = take_turns(alloc, machine, files, spot, seen, steps)?;
         turns += passed;
-        let close = take_turn(alloc, machine, files, spot, seen, steps)?;
         if let Some(close) = close {
             turns += closing_turns(&close);
             let piece = machine.take_said(alloc, &mut spot.state);

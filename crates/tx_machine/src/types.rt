@@ -85,6 +85,15 @@ pub enum Event {
     Stopped(Stop),
 }
 
+/// Turns that were taken at one go.
+#[derive(Drop)]
+pub struct Passed {
+    /// How many of them, each of which costs 1 and is nothing that the outside has to know.
+    pub turns: u64,
+    /// What came of one more behind them, which costs 1 too, if one more was taken.
+    pub last: Option<Event>,
+}
+
 /// What ends the turns of a page: the page, the machine's stop, or a turn that the budget doesn't allow.
 #[derive(Drop)]
 pub enum Close {
