@@ -1,2 +1,1 @@
-mod SameDate
 mod Spaces

@@ -4,13 +4,13 @@ ghost use Rattle.line_machine.specs.State.{Meaning, meaning_of};
 ghost use Rattle.line_machine.specs.Turns.{line_machine};
 ghost use Rattle.line_machine.specs.Lawful.{line-machine-lawful};
 
-use crate::state::{Phase, State};
+use crate::state::{Phase, State, same_date};
 use crate::turn::{self, date_parameters, hear, pass_spaces};
 use std::alloc::{AllocError, Global};
 use std::mem;
 use tx_bytes::Bytes;
 use tx_files::Name;
-use tx_machine::{Date, Event, Machine, Reply, Steps};
+use tx_machine::{Date, Event, Machine, Passed, Reply, Steps};
 
 /// The machine of which each line is a page. It asks for the main file to be opened and for its lines; spaces at a line's
 /// beginning are passed over, a turn each; a line that has bytes behind them and before its LF is a page with these as its body,
@@ -57,8 +57,9 @@ impl Machine for LineMachine {
         s: &mut State,
         most: u64,
         steps: &mut Steps,
-    ) -> Result<u64, AllocError> {
-        pass_spaces(alloc, s, most, steps)
+    ) -> Result<Passed, AllocError> {
+        let turns = pass_spaces(alloc, s, most, steps)?;
+        Ok(Passed { turns, last: None })
     }
 
     #[tactic(auto, unfolding(crate::specs::Turns::line_machine))]
@@ -73,7 +74,7 @@ impl Machine for LineMachine {
     }
 
     fn same(&self, a: &State, b: &State) -> bool {
-        a.date == b.date && a.phase.same(&b.phase)
+        same_date(&a.date, &b.date) && a.phase.same(&b.phase)
     }
 
     fn share(&self, _alloc: Global, s: &State) -> Result<State, AllocError> {

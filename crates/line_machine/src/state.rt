@@ -31,6 +31,13 @@ pub struct State {
     pub(crate) said: Bytes,
 }
 
+/// Whether two dates are the same.
+pub(crate) fn same_date(a: &DateParameters, b: &DateParameters) -> bool
+    ensures { IsTrue result ↔ (a.now ≡ b.now) }
+{
+    a.year == b.year && a.month == b.month && a.day == b.day && a.time == b.time
+}
+
 impl Phase {
     /// Whether both are the same phase.
     pub fn same(&self, other: &Phase) -> bool
