@@ -1,5 +1,5 @@
 -- Turns of characters that join a text, an argument, or text that is skipped.
-use Rattle.std.proofs.Common.{◌≡◌, ℕ, Bool, true, false, List, [], Option, None, Some, refl, ap, sym, ◌∙◌}
+use Rattle.std.proofs.Common.{◌≡◌, ℕ, Bool, true, false, List, [], Option, Some, refl, ap, sym, ◌∙◌}
 use Rattle.tx_char.specs.declared.category.Cat.{Cat}
 use Rattle.tx_char.specs.declared.category.Cat.TheVariants.{Letter, Other}
 use Rattle.tx_char.specs.declared.tokens.Token.{Token}
@@ -48,7 +48,7 @@ plain-ordinary : (codes : List Cat) (first : PlainToken) → IsSet codes first �
 plain-ordinary codes (Set code) set = set-ordinary (category codes code) set
 plain-ordinary codes Blank set = refl
 
-plain-means : (table : Table) (first : PlainToken) → IsSet table.categories first → token_meaning table (Character (code_of first) (category_of table.categories first)) ≡ meaning.Character (code_of first) (category_of table.categories first)
+pub plain-means : (table : Table) (first : PlainToken) → IsSet table.categories first → token_meaning table (Character (code_of first) (category_of table.categories first)) ≡ meaning.Character (code_of first) (category_of table.categories first)
 plain-means table (Set code) set = meaning-set table code (category table.categories code) set
 plain-means table Blank set = refl
 
@@ -57,7 +57,7 @@ plain-is codes (Set code) = refl
 plain-is codes Blank = refl
 
 -- such a one comes next
-comes-next : (codes : List Cat) (input : Input) (first : PlainToken) → IsNext codes input first → step codes input ≡ record { next = front.Token (Character (code_of first) (category_of codes first)); left = behind_first (state_behind first) input }
+pub comes-next : (codes : List Cat) (input : Input) (first : PlainToken) → IsNext codes input first → step codes input ≡ record { next = front.Token (Character (code_of first) (category_of codes first)); left = behind_first (state_behind first) input }
 comes-next codes input first comes =
     let after : Token → Step = λ t. record { next = front.Token t; left = behind_first (state_behind first) input } in
     comes.next ∙ ap after (plain-is codes first)

@@ -6,3 +6,4 @@ pub mod AtOnce
 pub mod Assigns
 pub mod MainLoop
 pub mod Characters
+mod Commanding

@@ -195,7 +195,7 @@ space-goes s font factor glue awaits is_font has_factor next =
     ∙ space-behind s glue awaits.begun
 
 -- a turn that leaves a state and tells nothing is plain
-plain-turn : (s next : TexState) → s.due ≡ [] → outcome (Runs s) ≡ leaves next → IsPlain tex (Runs s) (Runs next)
+pub plain-turn : (s next : TexState) → s.due ≡ [] → outcome (Runs s) ≡ leaves next → IsPlain tex (Runs s) (Runs next)
 unfolding tex
 plain-turn s next due goes = record {
   costs = ap due_cost due;
@@ -204,7 +204,7 @@ plain-turn s next due goes = record {
   next = ap (λ (o : Outcome). (stepped o).next) goes;
 }
 
-runs-as : (s : State) → s.phase ≡ Running → meaning_of s ≡ Runs (state_of s)
+pub runs-as : (s : State) → s.phase ≡ Running → meaning_of s ≡ Runs (state_of s)
 runs-as s running = ap (λ (p : Phase). meaning_in p (state_of s)) running
 
 -- turns at one go went on by one that leaves this state

@@ -1,7 +1,6 @@
 -- What comes of a token by what the open command answers.
-use Rattle.std.proofs.Common.{◌≡◌, ℕ, ℤ, List, [], Option, Result, Ok, Err, IfOk, refl, ap, sym, subst, append-nil}
+use Rattle.std.proofs.Common.{◌≡◌, ℕ, ℤ, List, [], Option, Result, Ok, Err, IfOk, refl, ap, subst}
 use Rattle.tx_machine.specs.declared.types.Event.{Event}
-use Rattle.tx_machine.specs.declared.types.Event.TheVariants.{Went}
 use Rattle.tx_pending.specs.Elements.{Input, with_tokens}
 use Rattle.tx_expand.specs.Values.{Lent, value_now}
 use Rattle.tx_expand.specs.Turns.{put}
@@ -11,7 +10,6 @@ use Rattle.tx_seen.specs.declared.item.Item.{Item}
 use Rattle.tx_seen.specs.declared.seen.Seen.{Seen}
 use Rattle.tx_seen.specs.Magnified.{magnification_in, noted}
 use Rattle.tx_seen.specs.Readings.{More, Done, Wrong}
-use Rattle.tx_state.specs.declared.parts.Phase.TheVariants.{Running}
 use Rattle.tx_command.specs.declared.scans.Taken.{Taken}
 use Rattle.tx_command.specs.declared.scans.Taken.TheVariants as taken
 use Rattle.tx_state.specs.declared.state.State.{State}
@@ -19,6 +17,7 @@ use Rattle.tx_command.specs.declared.types.Command.{Command}
 use Rattle.tx_command.specs.Begun.{Begun}
 use Rattle.tx_command.specs.Commands.{command}
 use Rattle.tx_main.specs.Effects.{effect}
+use Rattle.tx_main.specs.Going.{HasJoined}
 use Rattle.tx_state.specs.Outcomes.{Fails, leaves}
 use Rattle.tx_state.specs.State.{TexState}
 use Rattle.tx_state.specs.Meanings.{IsStepped, state_of}
@@ -53,10 +52,19 @@ taken-by s known scan input made t found same k =
 abbrev pub noted_state : State → Begun → Input → Command → Option ℤ → State
 noted_state s scan input made used = record s { input = input; scan = scan; made = made; magnification = used }
 
-pub takes-more : (s : State) (scan : Begun) (input : Input) (made : Command) (t : Seen) (found : Option ℕ) (used : Option ℤ) → s.phase ≡ Running → found ≡ magnification_in scan.taken → used ≡ noted s.magnification found → IsTaken (value_now (known_of (state_of s))) s.scan t s.input scan input made taken.More → IsStepped (taking (state_of s) t) s Went (noted_state s scan input made used)
-takes-more s scan input made t found used running is_found is_used k =
-    rw (is_used, is_found, k.1.0, k.1.1)
-    (rw (joins-more (state_of s) t k.0.0 k.0.1) (record { event_is = refl; state_is = rw running refl; said_is = sym (append-nil s.said) }))
+pub joins-on : (s : State) (scan : Begun) (input : Input) (made : Command) (t : Seen) (found : Option ℕ) (used : Option ℤ) → found ≡ magnification_in scan.taken → used ≡ noted s.magnification found → IsTaken (value_now (known_of (state_of s))) s.scan t s.input scan input made taken.More → HasJoined t s (noted_state s scan input made used)
+joins-on s scan input made t found used is_found is_used k =
+    let items : List Item = items_with (state_of s) t in
+    record {
+      next = record (state_of s) { taken = items; magnification = noted s.magnification (magnification_in items) };
+      goes = joins-more (state_of s) t k.0.0 k.0.1;
+      state = rw (is_used, is_found, k.1.0, k.1.1) refl;
+      phase = refl;
+      said = refl;
+      due = refl;
+      text = refl;
+      begun = refl;
+    }
 
 pub takes-wrong : (s new : State) (scan : Begun) (input : Input) (made : Command) (t : Seen) (e : TexError) (event : Event) → IsTaken (value_now (known_of (state_of s))) s.scan t s.input scan input made (taken.Wrong e) → IsStepped (Fails e) (fed_state s scan input made) event new → IsStepped (taking (state_of s) t) s event new
 takes-wrong s new scan input made t e event k did =

@@ -1,15 +1,22 @@
 -- Turns at one go: of characters of a line or a list that are tokens as they stand, as long as nothing else is to be done for them than to
 -- keep them, or to pass them.
-use Rattle.std.specs.Prelude.{◌≡◌, ℕ, Bool, true, false, []}
-use Rattle.tx_machine.specs.Plain.{ArePlain, IsPlain}
+use Rattle.std.specs.Prelude.{◌≡◌, ℕ, Bool, true, false, [], Option, Some, None}
+use Rattle.tx_command.specs.Commands.{is_begun}
+use Rattle.tx_lex.specs.declared.types.PlainToken.{PlainToken}
+use Rattle.tx_machine.specs.declared.types.Event.{Event}
+use Rattle.tx_machine.specs.Plain.{ArePlain, IsPlain, IsTaken}
 use Rattle.tx_machine.specs.Steps.{raised}
+use Rattle.tx_pending.specs.Plain.{IsNext}
+use Rattle.tx_seen.specs.declared.seen.Seen.{Seen}
 use Rattle.tx_state.specs.declared.parts.Phase.TheVariants.{Running}
 use Rattle.tx_state.specs.declared.state.State.{State}
-use Rattle.tx_state.specs.Meanings.{meaning_of}
+use Rattle.tx_state.specs.Meanings.{IsStepped, meaning_of, state_of}
+use Rattle.tx_state.specs.Outcomes.{leaves}
+use Rattle.tx_state.specs.State.{TexState}
 use Rattle.tx_main.specs.declared.going.Going.{Going}
 use Rattle.tx_main.specs.declared.going.Going.TheVariants.{Letters, Text, Within}
 use Rattle.tx_main.specs.MainLoop.{IsLooping}
-use Rattle.tx_main.specs.Turns.{tex}
+use Rattle.tx_main.specs.Turns.{taking, tex}
 
 -- a token is read next
 pub record IsReading (s : State) : Type 0 where
@@ -45,3 +52,42 @@ pub record HasRun (count : ℕ) (before after : State) (counted_before counted :
   pub turns : ArePlain tex count (meaning_of before) (meaning_of after)
   pub said : after.said ≡ before.said
   pub steps : counted ≡ raised counted_before count
+
+-- what is read next is the open command's: no text is open, and no expansion has begun
+pub record IsCommanding (s : State) : Type 0 where
+  pub running : s.phase ≡ Running
+  pub due : s.due ≡ []
+  pub text : s.text ≡ None
+  pub begun : s.expander.begun.items ≡ []
+
+-- a character comes next, and the open command is begun
+pub record IsNextOf (s : State) (first : PlainToken) : Type 0 where
+  pub begun : is_begun s.scan.taken ≡ true
+  pub comes : IsNext s.table.table.categories s.input first
+
+-- a token has joined the open command, which goes on
+pub record HasJoined (seen : Seen) (before after : State) : Type 0 where
+  pub next : TexState
+  pub goes : taking (state_of before) seen ≡ leaves next
+  pub state : state_of after ≡ next
+  pub phase : after.phase ≡ before.phase
+  pub said : after.said ≡ before.said
+  pub due : after.due ≡ before.due
+  pub text : after.text ≡ before.text
+  pub begun : after.expander ≡ before.expander
+
+-- so it has, or this is what has come of it
+abbrev pub IsFed : Seen → Option Event → State → State → Type 0
+IsFed seen None before after = HasJoined seen before after
+IsFed seen (Some event) before after = IsStepped (taking (state_of before) seen) before event after
+
+-- a turn of the open command, which goes on
+pub record HasGoneOn (before after : State) : Type 0 where
+  pub turn : IsPlain tex (meaning_of before) (meaning_of after)
+  pub said : after.said ≡ before.said
+  pub commanding : IsCommanding after
+
+-- so it has, or this is what has come of it
+abbrev pub HasTurned : Option Event → State → State → Type 0
+HasTurned None before after = HasGoneOn before after
+HasTurned (Some event) before after = IsTaken tex event (meaning_of before) (meaning_of after) before.said after.said

@@ -19,7 +19,7 @@ use tx_expand::Expander;
 use tx_files::Name;
 use tx_hyphenate::Hyphenation;
 use tx_list::{Stack, both};
-use tx_machine::{Date, Event, Machine, Reply, Steps};
+use tx_machine::{Date, Event, Machine, Passed, Reply, Steps};
 use tx_state::{Due, State, same_state, share_state};
 use tx_tfm::Fonts;
 use tx_word::Words;
@@ -91,7 +91,7 @@ impl Machine for Tex {
         s: &mut State,
         most: u64,
         steps: &mut Steps,
-    ) -> Result<u64, AllocError> {
+    ) -> Result<Passed, AllocError> {
         main_loop::run_on(alloc, s, most, steps)
     }
 

@@ -1,15 +1,16 @@
 //! Many turns at one go. The main loop: characters that follow one another join the open word, and spaces between them end it (TeX:
 //! The Program, sections 1034 to 1041). So characters join a text that is open, within its braces (sections 473 and 477), an
-//! argument (section 392), or text that is skipped (section 494), as long as nothing of these ends.
+//! argument (section 392), or text that is skipped (section 494), as long as nothing of these ends; and a command that is begun, such as
+//! the number of an assignment, up to the one behind which it is whole.
 ghost use Rattle.std.specs.Prelude.{◌≡◌, ◌≤◌, ◌∷◌, [], true, Some, IsTrue, IfOk, IfSome, OnOk, OnErr};
 ghost use Rattle.tx_machine.specs.Machine.{Ready};
-ghost use Rattle.tx_machine.specs.Plain.{ArePlain, HasPassed};
+ghost use Rattle.tx_machine.specs.Plain.{HasPassed, HasRunOn, turns_of};
 ghost use Rattle.tx_machine.specs.Steps.{raised};
 ghost use Rattle.tx_node.specs.Items.{plain};
 ghost use Rattle.tx_pending.specs.Plain.{IsNext};
 ghost use Rattle.tx_tfm.specs.Fonts.{has_character};
 ghost use Rattle.tx_word.specs.Collecting.{font_of};
-ghost use Rattle.tx_main.specs.Going.{GoesOn, HasRun, IsGoing};
+ghost use Rattle.tx_main.specs.Going.{GoesOn, HasRun, HasTurned, IsCommanding, IsGoing, IsNextOf};
 ghost use Rattle.tx_main.specs.MainLoop.{AwaitsToken, IsLooping, lettered, spaced};
 ghost use Rattle.tx_main.specs.Turns.{tex};
 ghost use Rattle.tx_lettering.specs.Words.{factor_now as factor_of_list, with_more};
@@ -18,15 +19,17 @@ ghost use Rattle.tx_state.specs.State.{mode_of};
 ghost use Rattle.tx_state.specs.Texts.{HasJoinedSome};
 
 use crate::going::Going;
+use crate::turn::feed_on;
 use std::alloc::{AllocError, Global};
 use tx_char::Token;
 use tx_lettering::{current_font, end_word, factor_now, pass_factor, word_params};
 use tx_lex::{PlainToken, ReadState};
-use tx_machine::Steps;
+use tx_machine::{Event, Passed, Steps};
 use tx_nest::{SpaceFactor, append_item};
 use tx_node::{Node, Plain};
 use tx_num::Glue;
 use tx_prim::ModeTest;
+use tx_seen::{Meaning, Seen};
 use tx_state::{OpenText, Phase, State};
 use tx_word::space_between;
 
@@ -276,6 +279,81 @@ fn going_of(s: &State) -> Option<Going>
     None
 }
 
+/// Whether what is read next joins the open command, if that is begun.
+fn is_commanding(s: &State) -> bool
+    ensures { IsTrue result → IsCommanding s.now }
+{
+    if !matches!(s.phase, Phase::Running) || !s.due.is_empty() || s.text.is_some() {
+        return false;
+    }
+    s.expander.is_idle()
+}
+
+/// The character that comes next, if the open command is begun: it joins that.
+fn next_of_command(s: &State) -> Option<PlainToken>
+    ensures { IfSome result (IsNextOf s.now) }
+{
+    if !s.scan.is_begun() {
+        return None;
+    }
+    s.input.first_plain(s.table.categories())
+}
+
+/// Takes the turn of the character that comes next, which joins the open command. Answers what comes of it if the command is whole
+/// then, or wrong, and nothing if it goes on. Its only error is want of memory.
+#[inline(always)]
+fn feed_next(alloc: Global, s: &mut State, first: PlainToken) -> Result<Option<Event>, AllocError>
+    requires commanding { IsCommanding s.old }
+    requires comes { IsNextOf s.old first }
+    ensures { IfOk result (λ event. HasTurned event s.old s.new) }
+{
+    let code = first.code();
+    let category = first.category(s.table.categories());
+    s.input.pass_first(first.state_behind());
+    let seen = Seen {
+        token: Token::Character(code, category),
+        meaning: Meaning::Character(code, category),
+    };
+    feed_on(alloc, s, seen)
+}
+
+/// Takes turns of characters that join the open command, at most so many, up to one behind which it is whole or wrong, and counts
+/// them. Its only error is want of memory.
+#[inline(never)]
+fn run_command(
+    alloc: Global,
+    s: &mut State,
+    most: u64,
+    steps: &mut Steps,
+) -> Result<Passed, AllocError>
+    requires { IsCommanding s.old }
+    ensures most { IfOk result (λ passed. turns_of passed ≤ most) }
+    ensures turns { IfOk result (λ passed. HasRunOn tex passed (meaning_of s.old) (meaning_of s.new) s.old.said s.new.said) }
+    ensures steps { IfOk result (λ passed. steps.new ≡ raised steps.old (turns_of passed)) }
+    ensures bound { OnErr result (HasPassed tex most (meaning_of s.old) steps.old steps.new) }
+{
+    for count in 0..most {
+        let Some(first) = next_of_command(s) else {
+            return Ok(Passed {
+                turns: count,
+                last: None,
+            });
+        };
+        let event = feed_next(alloc, s, first)?;
+        steps.tick();
+        if event.is_some() {
+            return Ok(Passed {
+                turns: count,
+                last: event,
+            });
+        }
+    }
+    Ok(Passed {
+        turns: most,
+        last: None,
+    })
+}
+
 /// Takes turns of characters of a line or a list, at most so many, and counts them; none where something else comes first. Its only error is
 /// want of memory.
 pub(crate) fn run_on(
@@ -283,16 +361,19 @@ pub(crate) fn run_on(
     s: &mut State,
     most: u64,
     steps: &mut Steps,
-) -> Result<u64, AllocError>
+) -> Result<Passed, AllocError>
     requires { mode_of (meaning_of s.old) ≡ Ready }
-    ensures most { IfOk result (λ count. count ≤ most) }
-    ensures turns { IfOk result (λ count. ArePlain tex count (meaning_of s.old) (meaning_of s.new)) }
-    ensures steps { IfOk result (λ count. steps.new ≡ raised steps.old count) }
-    ensures said { OnOk result (s.new.said ≡ s.old.said) }
+    ensures most { IfOk result (λ passed. turns_of passed ≤ most) }
+    ensures turns { IfOk result (λ passed. HasRunOn tex passed (meaning_of s.old) (meaning_of s.new) s.old.said s.new.said) }
+    ensures steps { IfOk result (λ passed. steps.new ≡ raised steps.old (turns_of passed)) }
     ensures bound { OnErr result (HasPassed tex most (meaning_of s.old) steps.old steps.new) }
 {
-    match going_of(s) {
-        Some(going) => run_plain(alloc, s, going, most, steps),
-        None => Ok(0),
+    if s.scan.is_begun() && is_commanding(s) {
+        return run_command(alloc, s, most, steps);
     }
+    let turns = match going_of(s) {
+        Some(going) => run_plain(alloc, s, going, most, steps)?,
+        None => 0,
+    };
+    Ok(Passed { turns, last: None })
 }

@@ -4,6 +4,7 @@ ghost use Rattle.std.specs.Prelude.{◌≡◌, ◌≢◌, [], true, is_some, IfO
 ghost use Rattle.tx_machine.specs.Machine.{Ready};
 ghost use Rattle.tx_state.specs.State.{Runs, mode_of};
 ghost use Rattle.tx_state.specs.Texts.{IsTextAnswered};
+ghost use Rattle.tx_main.specs.Going.{IsFed};
 ghost use Rattle.tx_main.specs.Turns as turns;
 ghost use Rattle.tx_lettering.specs.Words.{before_token};
 ghost use Rattle.tx_state.specs.Meanings.{IsStepped, meaning_of, state_of};
@@ -32,11 +33,12 @@ fn note(used: &mut Option<i32>, taken: Option<u16>)
     }
 }
 
-/// A token joins the open command, which is read by its grammar.
-#[inline(never)]
-fn feed_command(alloc: Global, s: &mut State, seen: Seen) -> Result<Event, AllocError>
+/// A token joins the open command, which is read by its grammar. Answers what comes of it if the command is whole then, or wrong,
+/// and nothing if it goes on. Its only error is want of memory.
+#[inline(always)]
+pub(crate) fn feed_on(alloc: Global, s: &mut State, seen: Seen) -> Result<Option<Event>, AllocError>
     requires { s.old.phase ≡ Phase.Running }
-    ensures { IfOk result (λ event. IsStepped (turns.taking (state_of s.old) seen) s.old event s.new) }
+    ensures { IfOk result (λ event. IsFed seen event s.old s.new) }
 {
     let known = Known::new(
         &s.table,
@@ -51,10 +53,26 @@ fn feed_command(alloc: Global, s: &mut State, seen: Seen) -> Result<Event, Alloc
         // most tokens
         Taken::More => {
             note(&mut s.magnification, s.scan.magnification());
-            Ok(Event::Went)
+            Ok(None)
         }
-        Taken::Wrong(error) => Ok(fail(s, error)),
-        Taken::Whole => carry_made_out(alloc, s),
+        Taken::Wrong(error) => Ok(Some(fail(s, error))),
+        Taken::Whole => {
+            let event = carry_made_out(alloc, s)?;
+            Ok(Some(event))
+        }
+    }
+}
+
+/// Takes the turn of a token that joins the open command.
+#[inline(never)]
+fn feed_command(alloc: Global, s: &mut State, seen: Seen) -> Result<Event, AllocError>
+    requires { s.old.phase ≡ Phase.Running }
+    ensures { IfOk result (λ event. IsStepped (turns.taking (state_of s.old) seen) s.old event s.new) }
+{
+    let ended = feed_on(alloc, s, seen)?;
+    match ended {
+        Some(event) => Ok(event),
+        None => Ok(Event::Went),
     }
 }
 

@@ -1,23 +1,8 @@
-use Rattle.std.proofs.Common.{◌≡◌, rules, to_z, of_z, w64}
-use Rattle.tx_command.specs.declared.scans.Taken.TheVariants as taken
-use Rattle.tx_expand.specs.Values.{lent}
-use Rattle.tx_main.proofs.Taking.{taken-by, takes-more, takes-wrong, takes-whole}
+use Rattle.tx_main.proofs.Commanding.{fed-goes, fed-steps}
 use Rattle.tx_main.proofs.turn.feed_command.Goals as goal
 
-pub returns-in-More : goal.returns-in-More
-returns-in-More c =
-    let same : to_z w64 (of_z w64 c.args.s.now.lists.badness) ≡ c.args.s.now.lists.badness = search rules in
-    takes-more c.args.s.now c.feed.new.self c.feed.new.input c.feed.new.made c.args.seen c.magnification.result c.note.new.used c.requires c.magnification.ensures c.note.ensures
-    (taken-by c.args.s.now (lent c.new-known.result) c.feed.new.self c.feed.new.input c.feed.new.made c.args.seen taken.More (rw (same, c.fonts.ensures, c.is_open.ensures) at c.new-known.ensures) (rw c.in-More.is at c.in_ok-feed.ensures))
+pub returns-in-Some : goal.returns-in-Some
+returns-in-Some c = fed-steps c.args.s.now c.feed_on.new.s c.args.seen c.in_ok-ended.ended c.in-Some.event c.in-Some.is c.in_ok-ended.ensures
 
-pub returns-in-Wrong : goal.returns-in-Wrong
-returns-in-Wrong c =
-    let same : to_z w64 (of_z w64 c.args.s.now.lists.badness) ≡ c.args.s.now.lists.badness = search rules in
-    takes-wrong c.args.s.now c.fail.new.s c.feed.new.self c.feed.new.input c.feed.new.made c.args.seen c.in-Wrong.error c.fail.result
-    (taken-by c.args.s.now (lent c.new-known.result) c.feed.new.self c.feed.new.input c.feed.new.made c.args.seen (taken.Wrong c.in-Wrong.error) (rw (same, c.fonts.ensures, c.is_open.ensures) at c.new-known.ensures) (rw c.in-Wrong.is at c.in_ok-feed.ensures)) c.fail.ensures
-
-pub returns-in-Whole : goal.returns-in-Whole
-returns-in-Whole c =
-    let same : to_z w64 (of_z w64 c.args.s.now.lists.badness) ≡ c.args.s.now.lists.badness = search rules in
-    takes-whole c.args.s.now c.carry_made_out.new.s c.feed.new.self c.feed.new.input c.feed.new.made c.args.seen c.carry_made_out.result
-    (taken-by c.args.s.now (lent c.new-known.result) c.feed.new.self c.feed.new.input c.feed.new.made c.args.seen taken.Whole (rw (same, c.fonts.ensures, c.is_open.ensures) at c.new-known.ensures) (rw c.in-Whole.is at c.in_ok-feed.ensures)) c.carry_made_out.ensures
+pub returns-in-None : goal.returns-in-None
+returns-in-None c = fed-goes c.args.s.now c.feed_on.new.s c.args.seen c.in_ok-ended.ended c.requires c.in-None.is c.in_ok-ended.ensures
