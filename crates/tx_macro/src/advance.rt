@@ -131,6 +131,7 @@ pub(crate) fn join_within(
 
 /// What a token makes of the argument of a parameter with this delimiter. Its only error is that no more groups can be
 /// counted.
+#[inline(always)]
 fn take(
     long: bool,
     delimiter: &[Token],

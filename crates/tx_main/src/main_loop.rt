@@ -202,7 +202,7 @@ fn taking_goes_on(s: &mut State, first: PlainToken) -> Result<bool, AllocError>
 
 /// Takes a turn of what comes next, if it is a character with which the open text goes on, and answers whether that is so; else
 /// nothing changes. Its only error is want of memory.
-#[inline(never)]
+#[inline(always)]
 fn read_text(s: &mut State) -> Result<bool, AllocError>
     requires { IsGoing Going.Text s.old }
     ensures { IfOk result (λ went. GoesOn went Going.Text s.old s.new) }
@@ -214,7 +214,7 @@ fn read_text(s: &mut State) -> Result<bool, AllocError>
 }
 
 /// The same of an argument or skipped text.
-#[inline(never)]
+#[inline(always)]
 fn read_within(s: &mut State) -> Result<bool, AllocError>
     requires { IsGoing Going.Within s.old }
     ensures { IfOk result (λ went. GoesOn went Going.Within s.old s.new) }
