@@ -2,6 +2,7 @@
 ghost use Rattle.std.specs.Prelude.{◌≡◌, ◌<◌, ◌^◌, vec_len, IfSome, IfOk};
 
 use super::metrics::Metrics;
+use super::scaling::scale;
 use std::alloc::{AllocError, Global};
 
 /// What a font says of a character, with its sizes in sp.
@@ -51,8 +52,6 @@ impl Metrics {
         requires { self.now.size < 2 ^ 27 }
         ensures { IsSaid self.now code result }
     {
-        use super::scaling::scale;
-
         let (file, lengths) = (&self.file, &self.file.lengths);
         let info = file.info(usize::from(code));
         let width = file.word(lengths.widths_at() + info.width_index());

@@ -1,6 +1,6 @@
 //! What a font answers, at the size at which it is used.
 ghost use Rattle.std.specs.Prelude.{◌≡◌, ◌<◌, ◌≤◌, ◌^◌, unsigned_abs};
-ghost use Rattle.tx_tfm.specs.Metrics.{scaled_at, width_of, height_of, depth_of, italic_of, successor_of, recipe_of, slant_of, parameter_of, parameter_count_of, kern_of};
+ghost use Rattle.tx_tfm.specs.Metrics.{scaled_at, successor_of, recipe_of, slant_of, parameter_of, parameter_count_of, kern_of};
 
 use super::file::{Tfm, Word};
 use super::scaling::scale;
@@ -20,42 +20,6 @@ impl Metrics {
         ensures bound { unsigned_abs result < 2 ^ 31 }
     {
         scale(self.size, self.file.word(place))
-    }
-
-    pub fn width(&self, code: u8) -> i64
-        requires { self.now.size < 2 ^ 27 }
-        ensures value { result ≡ width_of self.now code }
-        ensures bound { unsigned_abs result < 2 ^ 31 }
-    {
-        let info = self.file.info(usize::from(code));
-        self.scaled_at(self.file.lengths.widths_at() + info.width_index())
-    }
-
-    pub fn height(&self, code: u8) -> i64
-        requires { self.now.size < 2 ^ 27 }
-        ensures value { result ≡ height_of self.now code }
-        ensures bound { unsigned_abs result < 2 ^ 31 }
-    {
-        let info = self.file.info(usize::from(code));
-        self.scaled_at(self.file.lengths.heights_at() + info.height_index())
-    }
-
-    pub fn depth(&self, code: u8) -> i64
-        requires { self.now.size < 2 ^ 27 }
-        ensures value { result ≡ depth_of self.now code }
-        ensures bound { unsigned_abs result < 2 ^ 31 }
-    {
-        let info = self.file.info(usize::from(code));
-        self.scaled_at(self.file.lengths.depths_at() + info.depth_index())
-    }
-
-    pub fn italic(&self, code: u8) -> i64
-        requires { self.now.size < 2 ^ 27 }
-        ensures value { result ≡ italic_of self.now code }
-        ensures bound { unsigned_abs result < 2 ^ 31 }
-    {
-        let info = self.file.info(usize::from(code));
-        self.scaled_at(self.file.lengths.italics_at() + info.italic_index())
     }
 
     pub fn successor(&self, code: u8) -> Option<u8>
