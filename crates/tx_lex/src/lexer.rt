@@ -7,6 +7,7 @@ ghost use Rattle.tx_lex.specs.Rules.{IsReading};
 ghost use Rattle.tx_lex.specs.Reading.{IsWithin, end_reading, meant, reading};
 
 use crate::characters::first_kept;
+use crate::known::KnownNames;
 use crate::names::read_name;
 use crate::types::{Lexed, ReadState};
 use std::alloc::{AllocError, Global};
@@ -15,21 +16,28 @@ use tx_char::{Cat, Codes, ControlName, Token};
 /// Reads the unread rest of a line up to its first token, in this state. `LineDone` comes exactly where nothing but
 /// dropped characters was left, `E1` exactly where a character of category Invalid is read. Its only error is want of
 /// memory.
-pub fn lex(alloc: Global, rest: &[u8], state: ReadState, codes: &Codes) -> Result<Lexed, AllocError>
+pub fn lex<K: KnownNames>(
+    alloc: Global,
+    rest: &[u8],
+    state: ReadState,
+    codes: &Codes,
+    known: &K,
+) -> Result<Lexed, AllocError>
     ensures reading { IfOk result (λ lexed. meant rest.now lexed ≡ reading codes.now state rest.now) }
     ensures rules { IfOk result (λ lexed. IsReading codes.now state rest.now (meant rest.now lexed)) }
     ensures within { IfOk result (λ lexed. IsWithin rest.now lexed) }
 {
-    lex_on(alloc, None, rest, state, codes)
+    lex_on(alloc, None, rest, state, codes, known)
 }
 
 /// Does the same for a line of which an answer has left a character in front of the bytes that aren't used.
-pub fn lex_on(
+pub fn lex_on<K: KnownNames>(
     alloc: Global,
     front: Option<u8>,
     rest: &[u8],
     state: ReadState,
     codes: &Codes,
+    known: &K,
 ) -> Result<Lexed, AllocError>
     ensures reading { IfOk result (λ lexed. meant rest.now lexed ≡ reading codes.now state (option_to_list front ++ rest.now)) }
     ensures within { IfOk result (λ lexed. IsWithin rest.now lexed) }
@@ -39,7 +47,7 @@ pub fn lex_on(
     };
     let category = codes.get(found.code);
     match category {
-        Cat::Escape => read_name(alloc, codes, rest, found.next, state),
+        Cat::Escape => read_name(alloc, codes, known, rest, found.next, state),
         Cat::EndOfLine => line_end(alloc, rest, state),
         Cat::Space => Ok(character(b' ', Cat::Space, found.next, ReadState::S)),
         Cat::Comment => Ok(Lexed::LineDone),

@@ -4,10 +4,11 @@
 //! Proved: the token, rest and state are exactly the defined ones, and follow the rules of reading, which allow no other.
 //! Only tested: that the rules are Knuth's.
 //!
-//! Read `line`, `types`, `notation`, `characters`, `names`, `lexer`, `plain`, then `rules`.
+//! Read `line`, `types`, `notation`, `characters`, `known`, `names`, `lexer`, `plain`, then `rules`.
 #![tactic(auto)]
 
 mod characters;
+mod known;
 mod lexer;
 mod line;
 mod names;
@@ -16,6 +17,7 @@ mod plain;
 mod rules;
 mod types;
 
+pub use known::KnownNames;
 pub use lexer::{lex, lex_on};
 pub use line::line_text;
 pub use plain::first_plain;

@@ -6,6 +6,7 @@ ghost use Rattle.tx_lex.specs.Characters.{characters};
 ghost use Rattle.tx_lex.specs.Reading.{IsWithin, is_letter, meant, name_reading, state_after, word_reading};
 
 use crate::characters::character_at;
+use crate::known::{KnownNames, name_of};
 use crate::types::{Lexed, ReadState};
 use std::alloc::{AllocError, Global};
 use tx_bytes::Bytes;
@@ -14,9 +15,10 @@ use tx_char::{Cat, Codes, ControlName, Token};
 /// Reads the name that an escape character begins, behind which the bytes from this place on are unread. Its only
 /// error is want of memory.
 #[inline(never)]
-pub(crate) fn read_name(
+pub(crate) fn read_name<K: KnownNames>(
     alloc: Global,
     codes: &Codes,
+    known: &K,
     line: &[u8],
     place: usize,
     state: ReadState,
@@ -30,15 +32,21 @@ pub(crate) fn read_name(
     };
     let category = codes.get(first.code);
     if is_letter_category(category) {
-        return read_word(alloc, codes, line, place);
+        return read_word(alloc, codes, known, line, place);
     }
-    let name = ControlName::from_slice(alloc, &[first.code])?;
+    let name = name_of(alloc, known, &[first.code])?;
     Ok(named(name, first.next, None, state_behind(category)))
 }
 
 /// Reads the name of letters that begins at this place: as many as there are. A name that stands in the line as it is read
 /// is taken from there whole. Its only error is want of memory.
-fn read_word(alloc: Global, codes: &Codes, line: &[u8], begin: usize) -> Result<Lexed, AllocError>
+fn read_word<K: KnownNames>(
+    alloc: Global,
+    codes: &Codes,
+    known: &K,
+    line: &[u8],
+    begin: usize,
+) -> Result<Lexed, AllocError>
     requires { begin ≤ length line.now }
     ensures reading { IfOk result (λ lexed. meant line.now lexed ≡ word_reading codes.now (characters codes.now (drop begin line.now))) }
     ensures within { IfOk result (λ lexed. IsWithin line.now lexed) }
@@ -49,12 +57,12 @@ fn read_word(alloc: Global, codes: &Codes, line: &[u8], begin: usize) -> Result<
             return read_spelled_word(alloc, codes, line, begin);
         }
         if !is_letter_category(codes.get(found.code)) {
-            let name = ControlName::from_slice(alloc, &line[begin..place])?;
+            let name = name_of(alloc, known, &line[begin..place])?;
             return Ok(word(name, place, None));
         }
         place = found.next;
     }
-    let name = ControlName::from_slice(alloc, &line[begin..])?;
+    let name = name_of(alloc, known, &line[begin..])?;
     Ok(word(name, line.len(), None))
 }
 

@@ -4,12 +4,12 @@ use Rattle.tx_lex.proofs.Words.{standing-begins, standing-on, standing-end}
 use Rattle.tx_lex.proofs.names.read_word.Goals as goal
 
 pub loop-found-init : goal.loop-found-init
-loop-found-init c = standing-begins c.requires
+loop-found-init g c = standing-begins c.requires
 
 pub loop-found-preserved : goal.loop-found-preserved
-loop-found-preserved c =
+loop-found-preserved g c =
     standing-on c.loop-found.invariant c.in-Some.ensures.read (ap is_letter (sym c.get.ensures.value) ∙ sym c.if-not-is_letter_category.ensures)
     c.if-found-place.false (c.in-Some.ensures.plain c.if-found-place.false)
 
 pub returns-clause-reading : goal.returns-clause-reading
-returns-clause-reading c = rw (c.word-2.ensures, c.in_ok-name-2.ensures) (standing-end c.loop-found.invariant c.in_default.ensures.read)
+returns-clause-reading g c = rw (c.word-2.ensures, c.in_ok-name-2.ensures) (standing-end c.loop-found.invariant c.in_default.ensures.read)
