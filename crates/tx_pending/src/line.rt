@@ -11,7 +11,7 @@ use std::marker::Model;
 use std::rc::Rc;
 use tx_bytes::Bytes;
 use tx_char::Codes;
-use tx_lex::{Lexed, PlainToken, ReadState, first_plain, lex_on};
+use tx_lex::{KnownNames, Lexed, PlainToken, ReadState, first_plain, lex_on};
 
 /// A shared line, and how much of it is read. Contracts see its unread rest and the state in which that is read.
 #[derive(Drop)]
@@ -49,11 +49,16 @@ impl LineReading {
     }
 
     /// The next token of the line, if one is left. Its only error is want of memory.
-    pub fn next(&mut self, alloc: Global, codes: &Codes) -> Result<Given, AllocError>
+    pub fn next<K: KnownNames>(
+        &mut self,
+        alloc: Global,
+        codes: &Codes,
+        known: &K,
+    ) -> Result<Given, AllocError>
         ensures { IfOk result (λ next. IsLineStep codes.now self.old next self.new) }
     {
         let rest = &self.line.as_ref().as_slice()[self.used..];
-        match lex_on(alloc, self.front, rest, self.state, codes)? {
+        match lex_on(alloc, self.front, rest, self.state, codes, known)? {
             Lexed::Token {
                 token,
                 used,

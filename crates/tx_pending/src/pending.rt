@@ -16,7 +16,7 @@ use std::alloc::{AllocError, Global};
 use std::marker::Model;
 use tx_bytes::Bytes;
 use tx_char::{Codes, Token};
-use tx_lex::{PlainToken, ReadState};
+use tx_lex::{KnownNames, PlainToken, ReadState};
 use tx_toklist::{Macro, Slot, TokList};
 
 /// What is read before another line is asked for. Contracts see one list of tokens, markers and lines, and whether
@@ -109,14 +109,20 @@ impl Pending {
 
     /// Takes what comes next. `Marker` comes exactly where a marker is at the front; `Used` exactly where a line of which
     /// nothing but dropped characters is left is at the front, which is taken away, or nothing is pending; `E1` exactly
-    /// where the line at the front has a character of category Invalid next. Its only error is want of memory.
+    /// where the line at the front has a character of category Invalid next. A name that is known takes no memory. Its only
+    /// error is want of memory.
     #[inline(always)]
-    pub fn next(&mut self, alloc: Global, codes: &Codes) -> Result<Next, AllocError>
+    pub fn next<K: KnownNames>(
+        &mut self,
+        alloc: Global,
+        codes: &Codes,
+        known: &K,
+    ) -> Result<Next, AllocError>
         ensures next { IfOk result (λ next. next ≡ (step codes.now self.old).next) }
         ensures left { OnOk result (self.new ≡ (step codes.now self.old).left) }
     {
         drop_spent(&mut self.stack);
-        let given = take(&mut self.stack, alloc, codes)?;
+        let given = take(&mut self.stack, alloc, codes, known)?;
         match given {
             Given::Token(token) => Ok(Next::Token(token)),
             Given::Held(token) => Ok(Next::Held(token)),
@@ -244,7 +250,12 @@ fn put_argument(
 }
 
 /// Takes what comes next. Its only error is want of memory.
-fn take(stack: &mut Vec<Source>, alloc: Global, codes: &Codes) -> Result<Given, AllocError>
+fn take<K: KnownNames>(
+    stack: &mut Vec<Source>,
+    alloc: Global,
+    codes: &Codes,
+    known: &K,
+) -> Result<Given, AllocError>
     requires { IsReady stack.old.items }
     ensures { IfOk result (λ given. Takes codes.now (stack_elements stack.old.items) given (stack_elements stack.new.items)) }
 {
@@ -252,7 +263,7 @@ fn take(stack: &mut Vec<Source>, alloc: Global, codes: &Codes) -> Result<Given, 
         return Ok(Given::Used);
     }
     let top = stack.len() - 1;
-    let given = stack[top].next(alloc, codes)?;
+    let given = stack[top].next(alloc, codes, known)?;
     if given.is_used() {
         stack.truncate(top);
     }

@@ -10,7 +10,7 @@ use crate::line::LineReading;
 use crate::list::ListReading;
 use std::alloc::{AllocError, Global};
 use tx_char::{Codes, Token};
-use tx_lex::{PlainToken, ReadState};
+use tx_lex::{KnownNames, PlainToken, ReadState};
 
 /// What is being read.
 #[derive(Drop)]
@@ -36,13 +36,18 @@ impl Source {
     }
 
     /// Reads its first element, if it is not spent. Its only error is want of memory.
-    pub fn next(&mut self, alloc: Global, codes: &Codes) -> Result<Given, AllocError>
+    pub fn next<K: KnownNames>(
+        &mut self,
+        alloc: Global,
+        codes: &Codes,
+        known: &K,
+    ) -> Result<Given, AllocError>
         requires { elements_of self.old ≢ [] }
         ensures { IfOk result (λ given. Gives codes.now (elements_of self.old) given (elements_of self.new)) }
     {
         match self {
             Source::List(list) => list.next(),
-            Source::Line(line) => line.next(alloc, codes),
+            Source::Line(line) => line.next(alloc, codes, known),
             Source::Token(token) => Ok(Given::Token(read_again(token))),
             Source::Held(token) => Ok(Given::Held(read_again(token))),
         }

@@ -7,7 +7,7 @@ use Rattle.tx_pending.proofs.pending.take.Goals as goal
 use Rattle.tx_pending.proofs.pending.take.Goals.{then-is_used, else-is_used}
 
 pub returns : goal.returns
-returns c =
+returns g c =
     let stack = c.args.stack.now.items in
     let P : List Source → Type 0 = λ left. Takes c.args.codes.now (stack_elements stack) c.in_ok-given.given (stack_elements left) in
     let some : c.args.stack.now.len ≢ 0 = false-eqb c.args.stack.now.len 0 (sym (sym c.is_empty.ensures ∙ c.if-is_empty.false)) in
