@@ -1,6 +1,6 @@
 //! One bucket: names in their order, each with its value.
 ghost use Rattle.std.specs.Prelude.{◌≡◌, ◌↔◌, IsTrue, IfOk, IfErr, OnOk, OnErr};
-ghost use Rattle.std.specs.Option.{option_copied};
+ghost use Rattle.std.specs.Option.{option_copied, option_map};
 ghost use Rattle.std.specs.Ordering.{nat_cmp};
 ghost use Rattle.std.specs.Cmp.Lexicographic.{slice_cmp};
 ghost use Rattle.std.specs.FinMap.{empty, get, insert, remove};
@@ -51,6 +51,13 @@ impl<T: Kept> Bucket<T> {
         ensures { option_copied result ≡ get self.now name.now }
     {
         value_of(self.entries.as_slice(), name)
+    }
+
+    /// The name of these letters as it stands here, lent; None exactly where it has no value.
+    pub fn find(&self, letters: &[u8]) -> Option<&ControlName>
+        ensures { option_copied result ≡ option_map (λ value. letters.now) (get self.now letters.now) }
+    {
+        name_of(self.entries.as_slice(), letters)
     }
 
     /// Gives a name a value, in the place of the one that it has. After want of memory nothing has changed.
@@ -107,6 +114,25 @@ fn value_of<'a, T>(entries: &'a [(ControlName, T)], name: &ControlName) -> Optio
     for entry in entries {
         if entry.0.same(name) {
             return Some(&entry.1);
+        }
+    }
+    None
+}
+
+/// Whether a name has these letters.
+fn has_letters(name: &ControlName, letters: &[u8]) -> bool
+    ensures { IsTrue result ↔ (name.now ≡ letters.now) }
+{
+    name.as_slice() == letters
+}
+
+/// The name of the first entry with these letters, lent.
+fn name_of<'a, T>(entries: &'a [(ControlName, T)], letters: &[u8]) -> Option<&'a ControlName>
+    ensures { option_copied result ≡ option_map (λ value. letters.now) (find (slice_cmp nat_cmp) letters.now entries.now) }
+{
+    for entry in entries {
+        if has_letters(&entry.0, letters) {
+            return Some(&entry.0);
         }
     }
     None

@@ -1,6 +1,6 @@
 //! The map: a name's bytes say on which shelf it stands, and in which bucket there.
 ghost use Rattle.std.specs.Prelude.{◌≡◌, ◌↔◌, ◌<◌, IsTrue, IfOk, OnOk, OnErr};
-ghost use Rattle.std.specs.Option.{option_copied};
+ghost use Rattle.std.specs.Option.{option_copied, option_map};
 ghost use Rattle.std.specs.FinMap.{empty, get, insert, remove};
 ghost use Rattle.tx_name.specs.Buckets.{bucket_of};
 
@@ -53,6 +53,14 @@ impl<T: Kept> NameMap<T> {
     {
         let spot = spot_of(name.as_slice());
         self.shelves[spot.shelf].get(spot.bucket, name)
+    }
+
+    /// The name of these letters as the map has it, lent; None exactly where it has no value.
+    pub fn find(&self, letters: &[u8]) -> Option<&ControlName>
+        ensures { option_copied result ≡ option_map (λ value. letters.now) (get self.now letters.now) }
+    {
+        let spot = spot_of(letters);
+        self.shelves[spot.shelf].find(spot.bucket, letters)
     }
 
     /// Gives a name a value, in the place of the one that it has. After want of memory, its only error, the map may only be

@@ -1,6 +1,6 @@
 //! A shelf: buckets of names, of which each name has its own.
 ghost use Rattle.std.specs.Prelude.{◌≡◌, ◌↔◌, ◌<◌, IsTrue, IfOk, OnOk, OnErr};
-ghost use Rattle.std.specs.Option.{option_copied};
+ghost use Rattle.std.specs.Option.{option_copied, option_map};
 ghost use Rattle.std.specs.FinMap.{empty, get, insert, remove};
 ghost use Rattle.tx_name.specs.Buckets.{bucket_of};
 
@@ -54,6 +54,15 @@ impl<T: Kept> Shelf<T> {
         ensures { option_copied result ≡ get self.now name.now }
     {
         self.buckets[at].get(name)
+    }
+
+    /// The name of these letters as it stands in the bucket of this number, lent; None exactly where it has no value.
+    pub fn find(&self, at: usize, letters: &[u8]) -> Option<&ControlName>
+        requires own { at ≡ bucket_of letters.now }
+        requires within { at < 32 }
+        ensures { option_copied result ≡ option_map (λ value. letters.now) (get self.now letters.now) }
+    {
+        self.buckets[at].find(letters)
     }
 
     /// Gives a name a value, in the place of the one that it has, in the bucket of this number. After want of memory nothing
