@@ -9,7 +9,7 @@
 //!
 //! Read `entry`, what stands at a place; `cells`, `contents`, `boxes`, `shape` and `table`; `seldom` and `parts`, in which the
 //! table is shared; `reading` and `writing`; `initex`, the table at the beginning; `groups` and `nesting`; and then `eqtb` with
-//! `stack` and `values`. Places and meanings are tx_seen's.
+//! `stack`, `values` and `known`. Places and meanings are tx_seen's.
 #![tactic(auto)]
 
 mod boxes;
@@ -20,6 +20,7 @@ mod eqtb;
 mod error;
 mod groups;
 mod initex;
+mod known;
 mod nesting;
 mod parts;
 mod reading;
