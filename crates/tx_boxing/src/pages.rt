@@ -225,7 +225,7 @@ fn take_marker(alloc: Global, s: &mut State) -> Result<bool, AllocError>
     ensures phase { OnOk result (s.new.phase ≡ s.old.phase) }
     ensures said { OnOk result (s.new.said ≡ s.old.said) }
 {
-    match s.input.next(alloc, s.table.categories())? {
+    match s.input.next(alloc, s.table.categories(), &s.table)? {
         Pending_next::Marker => Ok(true),
         Pending_next::Token(_) | Pending_next::Held(_) => Ok(false),
         Pending_next::Used { .. } | Pending_next::E1 => Ok(false),

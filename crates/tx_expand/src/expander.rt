@@ -154,7 +154,7 @@ impl Expander {
         if self.open.is_opening() {
             return Ok(Expanded::Used(false));
         }
-        match input.next(alloc, known.table.categories())? {
+        match input.next(alloc, known.table.categories(), known.table)? {
             Next::Token(token) => {
                 let meaning = known.table.meaning(&token)?;
                 let seen = Seen { token, meaning };
