@@ -1,0 +1,11 @@
+pub mod Preambles
+pub mod Grammar
+pub mod Columns
+pub mod Rows
+pub mod Entries
+pub mod Grouping
+pub mod Widths
+pub mod Extents
+pub mod Prototypes
+pub mod RowBoxes
+pub mod Aligned
