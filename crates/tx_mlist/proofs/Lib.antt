@@ -1,0 +1,4 @@
+pub mod Equal
+pub mod Measures
+pub mod Lists
+mod Worked

@@ -1,0 +1,28 @@
+-- Lists by their last items.
+use Rattle.std.proofs.Common.{◌≡◌, ◌∙◌, ◌-◌, ◌++◌, ◌∷◌, [], List, length, refl, ap, sym}
+use Rattle.std.specs.Prelude.{slice_get, option_map}
+use Rattle.std.proofs.lemmas.List.{length-map}
+use Rattle.std.proofs.lemmas.Option.{slice_get-map}
+use Rattle.tx_mlist.specs.declared.noad.Noad.{Noad}
+use Rattle.tx_mlist.specs.Building.{with_last}
+use Rattle.tx_mlist.specs.Items.{MathItem}
+use Rattle.tx_mlist.specs.Noads.{math_of, mlist_of}
+
+-- the last noad is the last item
+pub last_is : (noads : List Noad) (list : List MathItem) → mlist_of noads ≡ list → option_map math_of (slice_get noads (length noads - 1)) ≡ slice_get list (length list - 1)
+last_is noads list is =
+    sym (slice_get-map math_of noads (length noads - 1))
+    ∙ ap (λ n. slice_get (mlist_of noads) (n - 1)) (sym (length-map noads math_of))
+    ∙ ap (λ l. slice_get l (length l - 1)) is
+
+-- what becomes of the last item becomes of that which was put at the end
+with_last_put : (change : MathItem → MathItem) (list : List MathItem) (item : MathItem) → with_last change (list ++ item ∷ []) ≡ list ++ change item ∷ []
+with_last_put change [] item = refl
+with_last_put change (a ∷ []) item = refl
+with_last_put change (a ∷ b ∷ rest) item = ap (λ more. a ∷ more) (with_last_put change (b ∷ rest) item)
+
+pub changed_last : (change : MathItem → MathItem) (whole list : List MathItem) (item : MathItem) → whole ≡ list ++ item ∷ [] → with_last change whole ≡ list ++ change item ∷ []
+changed_last change whole list item is = ap (with_last change) is ∙ with_last_put change list item
+
+pub changed_none : (change : MathItem → MathItem) (whole : List MathItem) → whole ≡ [] → with_last change whole ≡ []
+changed_none change whole is = ap (with_last change) is

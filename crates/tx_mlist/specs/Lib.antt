@@ -1,0 +1,6 @@
+pub mod Items
+pub mod Codes
+pub mod Counts
+pub mod Noads
+pub mod Falls
+pub mod Building
