@@ -1,0 +1,7 @@
+pub mod First
+pub mod Lists
+pub mod Chosen
+pub mod Loops
+pub mod Telling
+mod Worked
+pub mod Widths

@@ -1,0 +1,42 @@
+use Rattle.std.proofs.Common.{◌≡◌, ◌+◌, ◌*◌, ◌++◌, drop, Ok}
+use Rattle.tx_math.specs.Converting.{entries_in, pieces_in}
+use Rattle.tx_math.specs.Formula.{inward, pieces_of}
+use Rattle.tx_math.specs.Setters.{math_in}
+use Rattle.tx_math.proofs.Telling.{behind_pieces}
+use Rattle.tx_math.proofs.setter.Setter.+set.Given as goal
+
+-- levels that are left, and below each the way from a list to its parts
+abbrev pub invariant-pieces_of-loop-at : goal.invariant-pieces_of-loop-at
+invariant-pieces_of-loop-at l =
+    behind_pieces (pieces_in l.pieces) (pieces_of (inward l.levels (math_in l.self)) (math_in l.self) (entries_in (drop l.at l.entries)) l.report)
+    ≡ pieces_of (inward l.levels (math_in l.self)) (math_in l.self) (entries_in l.entries) l.initial.report
+
+abbrev pub decreases-list_in : goal.decreases-list_in
+decreases-list_in l = 16 * l.levels
+
+abbrev pub decreases-pieces_of : goal.decreases-pieces_of
+decreases-pieces_of l = 16 * l.levels + 10
+
+abbrev pub decreases-piece_of : goal.decreases-piece_of
+decreases-piece_of l = 16 * l.levels + 9
+
+abbrev pub decreases-fraction_items : goal.decreases-fraction_items
+decreases-fraction_items l = 16 * l.levels + 8
+
+abbrev pub decreases-atom_list : goal.decreases-atom_list
+decreases-atom_list l = 16 * l.levels + 8
+
+abbrev pub decreases-limits_list : goal.decreases-limits_list
+decreases-limits_list l = 16 * l.levels + 7
+
+abbrev pub decreases-scripted_operator : goal.decreases-scripted_operator
+decreases-scripted_operator l = 16 * l.levels + 7
+
+abbrev pub decreases-with_scripts : goal.decreases-with_scripts
+decreases-with_scripts l = 16 * l.levels + 6
+
+abbrev pub decreases-nucleus_of : goal.decreases-nucleus_of
+decreases-nucleus_of l = 16 * l.levels + 6
+
+abbrev pub decreases-part_list : goal.decreases-part_list
+decreases-part_list l = 16 * l.levels + 5

@@ -1,0 +1,17 @@
+pub mod Styles
+pub mod Parameters
+pub mod Outcomes
+pub mod Boxes
+pub mod Mu
+pub mod Characters
+pub mod Scripts
+pub mod Lines
+pub mod Operators
+pub mod Fractions
+pub mod Entries
+pub mod Composing
+pub mod Classes
+pub mod Spacing
+pub mod Formula
+pub mod Setters
+pub mod Converting

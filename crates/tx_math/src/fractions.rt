@@ -1,0 +1,329 @@
+//! Fractions.
+ghost use Rattle.std.specs.Prelude.{◌≡◌, ◌≢◌, ◌≤◌, ◌+◌, ◌^◌, unsigned_abs, IfOk, IfErr, Ok, Err};
+ghost use Rattle.tx_node.specs.Nodes.{item_of};
+ghost use Rattle.tx_math.specs.Fractions as spec;
+ghost use Rattle.tx_math.specs.Setters.{AreNear, IsNear, IsSetter, math_in};
+ghost use Rattle.tx_math.specs.declared.error.MathError.TheVariants.{OutOfMemory};
+
+use crate::boxes::{boxed, empty_box, framed, kern, line, shifted, stored, triple};
+use crate::error::MathError;
+use crate::parameters::half;
+use crate::scripts::gap;
+use crate::setter::Setter;
+use crate::shifts::Shifts;
+use std::alloc::Global;
+use tx_bytes::Bytes;
+use tx_node::{BoxNode, Node, Nodes};
+
+/// Both moved by so many sp, if that is something.
+fn moved_by(by: i64, shifts: Shifts) -> Shifts
+    requires by { unsigned_abs by ≤ 2 ^ 38 }
+    requires shifts { (unsigned_abs shifts.up ≤ 2 ^ 34) × (unsigned_abs shifts.down ≤ 2 ^ 34) }
+    ensures value { result ≡ spec.moved_by by shifts }
+    ensures near { AreNear result }
+{
+    if 0 < by {
+        Shifts {
+            up: shifts.up + by,
+            down: shifts.down + by,
+        }
+    } else {
+        shifts
+    }
+}
+
+/// How far a line of this thickness is from what stands above and below it at least, in sp.
+fn clearance(style: u8, thickness: i64) -> i64
+    requires { unsigned_abs thickness ≤ 2 ^ 31 }
+    ensures value { result ≡ spec.clearance style thickness }
+    ensures bound { unsigned_abs result ≤ 2 ^ 33 }
+{
+    if style < 2 { 3 * thickness } else { thickness }
+}
+
+/// A size that grows by what is lacking, in sp.
+fn grown(size: i64, lacking: i64) -> i64
+    requires size { unsigned_abs size ≤ 2 ^ 34 }
+    requires lacking { unsigned_abs lacking ≤ 2 ^ 37 }
+    ensures value { result ≡ spec.grown size lacking }
+    ensures near { IsNear result }
+{
+    size + lacking.max(0)
+}
+
+/// What stands in the box of a fraction without a line.
+fn lineless_list(
+    alloc: Global,
+    shifts: Shifts,
+    upper: BoxNode,
+    lower: BoxNode,
+) -> Result<Nodes, MathError>
+    requires { AreNear shifts }
+    ensures made { IfOk result (λ list. spec.lineless_list shifts upper lower ≡ Ok list) }
+    ensures error { IfErr result (λ e. e ≢ OutOfMemory → spec.lineless_list shifts upper lower ≡ Err e) }
+{
+    let space = stored(gap(shifts, &upper, &lower))?;
+    let upper = boxed(alloc, upper)?;
+    let lower = boxed(alloc, lower)?;
+    Ok(triple(alloc, upper, kern(space), lower)?)
+}
+
+impl Setter<'_> {
+    /// How thick the line of a fraction is, in sp.
+    pub fn thickness_of(&self, style: u8, told: Option<i32>) -> i64
+        ensures value { result ≡ spec.thickness_of (math_in self.now) style told }
+        ensures bound { unsigned_abs result ≤ 2 ^ 31 }
+    {
+        match told {
+            Some(thickness) => i64::from(thickness),
+            None => self.extension_in(style, 8),
+        }
+    }
+
+    /// The numerator and the denominator, the narrower of which is centred, and what is told of that.
+    pub fn even_boxes(
+        &self,
+        alloc: Global,
+        upper: BoxNode,
+        lower: BoxNode,
+        report: &mut Bytes,
+    ) -> Result<(BoxNode, BoxNode), MathError>
+        requires { IsSetter self.now }
+        ensures made { IfOk result (λ boxes. spec.even_boxes (math_in self.now) upper lower report.old ≡ Ok (boxes, report.new)) }
+        ensures error { IfErr result (λ e. e ≢ OutOfMemory → spec.even_boxes (math_in self.now) upper lower report.old ≡ Err e) }
+    {
+        if upper.width() < lower.width() {
+            let wide = self.reboxed(alloc, lower.width(), upper, report)?;
+            Ok((wide, lower))
+        } else {
+            let wide = self.reboxed(alloc, upper.width(), lower, report)?;
+            Ok((upper, wide))
+        }
+    }
+
+    /// How far the numerator is raised at first, in sp.
+    fn first_raise(&self, style: u8, thickness: i64) -> i64
+        ensures value { result ≡ spec.first_raise (math_in self.now) style thickness }
+        ensures bound { unsigned_abs result ≤ 2 ^ 31 }
+    {
+        if style < 2 {
+            self.symbol_in(style, 8)
+        } else if thickness == 0 {
+            self.symbol_in(style, 10)
+        } else {
+            self.symbol_in(style, 9)
+        }
+    }
+
+    /// How far the denominator is lowered at first, in sp.
+    fn first_lowering(&self, style: u8) -> i64
+        ensures value { result ≡ spec.first_lowering (math_in self.now) style }
+        ensures bound { unsigned_abs result ≤ 2 ^ 31 }
+    {
+        if style < 2 {
+            self.symbol_in(style, 11)
+        } else {
+            self.symbol_in(style, 12)
+        }
+    }
+
+    /// How far both are apart without a line at least, in sp.
+    fn apart(&self, style: u8) -> i64
+        ensures value { result ≡ spec.apart (math_in self.now) style }
+        ensures bound { unsigned_abs result ≤ 2 ^ 34 }
+    {
+        if style < 2 {
+            7 * self.extension_in(style, 8)
+        } else {
+            3 * self.extension_in(style, 8)
+        }
+    }
+
+    /// The space above the line, in sp.
+    fn space_above(&self, style: u8, thickness: i64, upper: &BoxNode, up: i64) -> i64
+        requires thickness { unsigned_abs thickness ≤ 2 ^ 31 }
+        requires up { unsigned_abs up ≤ 2 ^ 40 }
+        ensures value { result ≡ spec.space_above (math_in self.now) style thickness upper.now up }
+        ensures bound { unsigned_abs result ≤ unsigned_abs up + 2 ^ 34 }
+    {
+        let bottom = up - i64::from(upper.depth());
+        let edge = self.symbol_in(style, 22) + half(thickness);
+        bottom - edge
+    }
+
+    /// The space below the line, in sp.
+    fn space_below(&self, style: u8, thickness: i64, lower: &BoxNode, down: i64) -> i64
+        requires thickness { unsigned_abs thickness ≤ 2 ^ 31 }
+        requires down { unsigned_abs down ≤ 2 ^ 40 }
+        ensures value { result ≡ spec.space_below (math_in self.now) style thickness lower.now down }
+        ensures bound { unsigned_abs result ≤ unsigned_abs down + 2 ^ 34 }
+    {
+        let edge = self.symbol_in(style, 22) - half(thickness);
+        let top = i64::from(lower.height()) - down;
+        edge - top
+    }
+
+    /// How far both are moved without a line.
+    fn lineless_shifts(&self, style: u8, upper: &BoxNode, lower: &BoxNode, shifts: Shifts) -> Shifts
+        requires { (unsigned_abs shifts.up ≤ 2 ^ 34) × (unsigned_abs shifts.down ≤ 2 ^ 34) }
+        ensures value { result ≡ spec.lineless_shifts (math_in self.now) style upper.now lower.now shifts }
+        ensures near { AreNear result }
+    {
+        moved_by(half(self.apart(style) - gap(shifts, upper, lower)), shifts)
+    }
+
+    /// How far both are moved with a line of this thickness.
+    fn lined_shifts(
+        &self,
+        style: u8,
+        thickness: i64,
+        upper: &BoxNode,
+        lower: &BoxNode,
+        shifts: Shifts,
+    ) -> Shifts
+        requires thickness { unsigned_abs thickness ≤ 2 ^ 31 }
+        requires shifts { (unsigned_abs shifts.up ≤ 2 ^ 34) × (unsigned_abs shifts.down ≤ 2 ^ 34) }
+        ensures value { result ≡ spec.lined_shifts (math_in self.now) style thickness upper.now lower.now shifts }
+        ensures near { AreNear result }
+    {
+        let clear = clearance(style, thickness);
+        let above = clear - self.space_above(style, thickness, upper, shifts.up);
+        let below = clear - self.space_below(style, thickness, lower, shifts.down);
+        Shifts {
+            up: grown(shifts.up, above),
+            down: grown(shifts.down, below),
+        }
+    }
+
+    /// How far the numerator is raised and the denominator lowered.
+    fn fraction_shifts(&self, style: u8, thickness: i64, upper: &BoxNode, lower: &BoxNode) -> Shifts
+        requires { unsigned_abs thickness ≤ 2 ^ 31 }
+        ensures value { result ≡ spec.fraction_shifts (math_in self.now) style thickness upper.now lower.now }
+        ensures near { AreNear result }
+    {
+        let shifts = Shifts {
+            up: self.first_raise(style, thickness),
+            down: self.first_lowering(style),
+        };
+        if thickness == 0 {
+            self.lineless_shifts(style, upper, lower, shifts)
+        } else {
+            self.lined_shifts(style, thickness, upper, lower, shifts)
+        }
+    }
+
+    /// What stands in the box of a fraction with a line of this thickness.
+    fn lined_list(
+        &self,
+        alloc: Global,
+        style: u8,
+        thickness: i64,
+        shifts: Shifts,
+        upper: BoxNode,
+        lower: BoxNode,
+    ) -> Result<Nodes, MathError>
+        requires thickness { unsigned_abs thickness ≤ 2 ^ 31 }
+        requires near { AreNear shifts }
+        ensures made { IfOk result (λ list. spec.lined_list (math_in self.now) style thickness shifts upper lower ≡ Ok list) }
+        ensures error { IfErr result (λ e. e ≢ OutOfMemory → spec.lined_list (math_in self.now) style thickness shifts upper lower ≡ Err e) }
+    {
+        let rule = stored(thickness)?;
+        let below = stored(self.space_below(style, thickness, &lower, shifts.down))?;
+        let above = stored(self.space_above(style, thickness, &upper, shifts.up))?;
+        let upper = boxed(alloc, upper)?;
+        let mut list = triple(alloc, upper, kern(above), line(alloc, rule)?)?;
+        list.push(kern(below))?;
+        list.push(boxed(alloc, lower)?)?;
+        Ok(list)
+    }
+
+    /// What stands in the box of a fraction.
+    fn fraction_list(
+        &self,
+        alloc: Global,
+        style: u8,
+        thickness: i64,
+        shifts: Shifts,
+        upper: BoxNode,
+        lower: BoxNode,
+    ) -> Result<Nodes, MathError>
+        requires thickness { unsigned_abs thickness ≤ 2 ^ 31 }
+        requires near { AreNear shifts }
+        ensures made { IfOk result (λ list. spec.fraction_list (math_in self.now) style thickness shifts upper lower ≡ Ok list) }
+        ensures error { IfErr result (λ e. e ≢ OutOfMemory → spec.fraction_list (math_in self.now) style thickness shifts upper lower ≡ Err e) }
+    {
+        if thickness == 0 {
+            lineless_list(alloc, shifts, upper, lower)
+        } else {
+            self.lined_list(alloc, style, thickness, shifts, upper, lower)
+        }
+    }
+
+    /// The box of a fraction, without what stands on both sides.
+    fn fraction_box(
+        &self,
+        alloc: Global,
+        style: u8,
+        thickness: i64,
+        shifts: Shifts,
+        upper: BoxNode,
+        lower: BoxNode,
+    ) -> Result<BoxNode, MathError>
+        requires thickness { unsigned_abs thickness ≤ 2 ^ 31 }
+        requires near { AreNear shifts }
+        ensures made { IfOk result (λ made. spec.fraction_box (math_in self.now) style thickness shifts upper lower ≡ Ok made) }
+        ensures error { IfErr result (λ e. e ≢ OutOfMemory → spec.fraction_box (math_in self.now) style thickness shifts upper lower ≡ Err e) }
+    {
+        let width = i64::from(upper.width());
+        let height = shifts.up + i64::from(upper.height());
+        let depth = i64::from(lower.depth()) + shifts.down;
+        let list = self.fraction_list(alloc, style, thickness, shifts, upper, lower)?;
+        framed(alloc, width, height, depth, list)
+    }
+
+    /// What stands beside a fraction.
+    fn null_delimiter(&self, alloc: Global, style: u8) -> Result<Node, MathError>
+        ensures made { IfOk result (λ node. spec.null_delimiter (math_in self.now) style ≡ Ok (item_of node)) }
+        ensures error { IfErr result (λ e. e ≢ OutOfMemory → spec.null_delimiter (math_in self.now) style ≡ Err e) }
+    {
+        let inner = empty_box(alloc, self.params.null_delimiter_space)?;
+        shifted(alloc, -self.symbol_in(style, 22), inner)
+    }
+
+    /// The box of a fraction with what stands on both sides.
+    fn between_delimiters(
+        &self,
+        alloc: Global,
+        style: u8,
+        inner: BoxNode,
+    ) -> Result<BoxNode, MathError>
+        requires { IsSetter self.now }
+        ensures made { IfOk result (λ made. spec.between_delimiters (math_in self.now) style inner ≡ Ok made) }
+        ensures error { IfErr result (λ e. e ≢ OutOfMemory → spec.between_delimiters (math_in self.now) style inner ≡ Err e) }
+    {
+        let before = self.null_delimiter(alloc, style)?;
+        let behind = before.clone()?;
+        let list = triple(alloc, before, boxed(alloc, inner)?, behind)?;
+        self.hbox(alloc, list)
+    }
+
+    /// A fraction with a line of this thickness, of a numerator and a denominator of one width.
+    #[tactic(auto, unfolding(crate::specs::Fractions::fraction_of))]
+    pub fn fraction_of(
+        &self,
+        alloc: Global,
+        style: u8,
+        thickness: i64,
+        upper: BoxNode,
+        lower: BoxNode,
+    ) -> Result<BoxNode, MathError>
+        requires setter { IsSetter self.now }
+        requires thickness { unsigned_abs thickness ≤ 2 ^ 31 }
+        ensures made { IfOk result (λ made. spec.fraction_of (math_in self.now) style thickness upper lower ≡ Ok made) }
+        ensures error { IfErr result (λ e. e ≢ OutOfMemory → spec.fraction_of (math_in self.now) style thickness upper lower ≡ Err e) }
+    {
+        let shifts = self.fraction_shifts(style, thickness, &upper, &lower);
+        let inner = self.fraction_box(alloc, style, thickness, shifts, upper, lower)?;
+        self.between_delimiters(alloc, style, inner)
+    }
+}

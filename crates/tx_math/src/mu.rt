@@ -1,0 +1,70 @@
+//! Sizes in mu.
+ghost use Rattle.std.specs.Prelude.{◌≡◌, ◌≤◌, ◌^◌, unsigned_abs};
+ghost use Rattle.tx_num.specs.Glue.{IsDimension};
+ghost use Rattle.tx_math.specs.Mu as spec;
+ghost use Rattle.tx_math.specs.Setters.{math_in};
+
+use crate::boxes::{holds, stored};
+use crate::error::MathError;
+use crate::setter::Setter;
+use tx_num::Glue;
+
+/// A size in mu as one in sp, where 1mu is so many sp.
+fn times_mu(unit: i64, size: i64) -> i64
+    requires unit { unsigned_abs unit ≤ 2 ^ 31 }
+    requires size { unsigned_abs size ≤ 2 ^ 31 }
+    ensures { result ≡ spec.times_mu unit size }
+{
+    unit.div_euclid(65_536) * size + size * unit.rem_euclid(65_536) / 65_536
+}
+
+/// The same of a stretch or shrink, unless it is infinite.
+fn elastic_in_points(unit: i64, size: i64, order: u8) -> i64
+    requires unit { unsigned_abs unit ≤ 2 ^ 31 }
+    requires size { unsigned_abs size ≤ 2 ^ 31 }
+    ensures { result ≡ spec.elastic_in_points unit size order }
+{
+    if order == 0 {
+        times_mu(unit, size)
+    } else {
+        size
+    }
+}
+
+impl Setter<'_> {
+    /// How many sp 1mu is in a style.
+    fn mu(&self, style: u8) -> i64
+        ensures value { result ≡ spec.mu (math_in self.now) style }
+        ensures bound { unsigned_abs result ≤ 2 ^ 31 }
+    {
+        self.symbol_in(style, 6) / 18
+    }
+
+    /// Glue that is told in mu. `SizeOutOfRange` exactly where a size of it is no dimension.
+    pub fn math_glue(&self, style: u8, glue: &Glue) -> Result<Glue, MathError>
+        ensures { result ≡ spec.math_glue (math_in self.now) style glue.now }
+    {
+        let unit = self.mu(style);
+        let width = times_mu(unit, glue.width());
+        let stretch = elastic_in_points(unit, glue.stretch(), glue.stretch_order());
+        let shrink = elastic_in_points(unit, glue.shrink(), glue.shrink_order());
+        if holds(width) && holds(stretch) && holds(shrink) {
+            Ok(Glue::new(
+                width,
+                stretch,
+                glue.stretch_order(),
+                shrink,
+                glue.shrink_order(),
+            ))
+        } else {
+            Err(MathError::SizeOutOfRange)
+        }
+    }
+
+    /// A kern that is told in mu, in sp. `SizeOutOfRange` exactly where this is no dimension.
+    pub fn math_kern(&self, style: u8, size: i32) -> Result<i32, MathError>
+        ensures { result ≡ spec.math_kern (math_in self.now) style size }
+    {
+        stored(times_mu(self.mu(style), i64::from(size)))
+    }
+}

@@ -1,0 +1,18 @@
+//! Errors of packing, as those of a formula.
+ghost use Rattle.std.specs.Prelude.{◌≡◌};
+ghost use Rattle.tx_math.specs.Boxes.{of_packing};
+
+use crate::error::MathError;
+use tx_pack::PackError;
+
+impl From<PackError> for MathError {
+    ghost from_gives = { λ e r. r ≡ of_packing e };
+
+    fn from(error: PackError) -> Self {
+        match error {
+            PackError::SizeOutOfRange => MathError::SizeOutOfRange,
+            PackError::TooDeep => MathError::TooDeep,
+            PackError::OutOfMemory => MathError::OutOfMemory,
+        }
+    }
+}
