@@ -1,7 +1,7 @@
 -- Each primitive is the first of all that has its name.
 use Rattle.std.proofs.Common.{◌≡◌, ℕ, List, [], ◌∷◌, Some, IfSome, cond, true, false, refl}
 use Rattle.tx_prim.specs.declared.primitive.Primitive.{Primitive}
-use Rattle.tx_prim.specs.declared.primitive.Primitive.TheVariants.{Relax, EndCsName, Par, BeginGroup, EndGroup, Prefix, Let, Shorthand, Arithmetic, Numbered, Integer, Dimension, Glue, Tokens, Sized, Rule, Box, Shipout, End, IgnoreSpaces, Interaction, Definition, Text, After, FutureLet, BoxFrom, SetBox, Shift, Unbox, HorizontalGlue, VerticalGlue, Penalty, Remove, Last, Badness, PrevDepth, Leaders, NullFont, LoadFont, FontDimen, FontInteger, Char, SpaceFactor as Factor, ItalicCorrection, ControlSpace, Indent, DiscretionaryHyphen, PrevGraf, ParShape, Adjust, Discretionary, Insert, DeadCycles, Page}
+use Rattle.tx_prim.specs.declared.primitive.Primitive.TheVariants.{Relax, EndCsName, Par, BeginGroup, EndGroup, Prefix, Let, Shorthand, Arithmetic, Numbered, Integer, Dimension, Glue, Tokens, Sized, Rule, Box, Shipout, End, IgnoreSpaces, Interaction, Definition, Text, After, FutureLet, BoxFrom, SetBox, Shift, Unbox, HorizontalGlue, VerticalGlue, Penalty, Remove, Last, Badness, PrevDepth, Leaders, NullFont, LoadFont, FontDimen, FontInteger, Char, SpaceFactor as Factor, ItalicCorrection, ControlSpace, Indent, DiscretionaryHyphen, PrevGraf, ParShape, Adjust, Discretionary, Insert, DeadCycles, Page, Align, AlignWord}
 use Rattle.tx_prim.specs.declared.family.Prefix.TheVariants.{Global, Long, Outer}
 use Rattle.tx_prim.specs.declared.family.Interaction.TheVariants.{Batch, Nonstop, Scroll, Errorstop}
 use Rattle.tx_prim.specs.declared.family.Operation.TheVariants.{Advance, Multiply, Divide}
@@ -23,6 +23,7 @@ use Rattle.tx_prim.specs.declared.family.Indentation.TheVariants.{Indented, Flus
 use Rattle.tx_prim.specs.declared.family.DefinitionKind.TheVariants as definition
 use Rattle.tx_prim.specs.declared.family.TextUse.TheVariants as text
 use Rattle.tx_prim.specs.declared.family.PageQuantity.TheVariants as page
+use Rattle.tx_prim.specs.declared.family.AlignWord.TheVariants as align
 use Rattle.tx_prim.specs.declared.family.AfterKind.TheVariants as after
 use Rattle.tx_prim.specs.declared.integer.IntegerParameter.{IntegerParameter}
 use Rattle.tx_prim.specs.declared.integer.IntegerParameter.TheVariants.{Pretolerance, Tolerance, Hbadness, Vbadness, Linepenalty, Hyphenpenalty, Exhyphenpenalty, Binoppenalty, Relpenalty, Clubpenalty, Widowpenalty, Displaywidowpenalty, Brokenpenalty, Predisplaypenalty, Postdisplaypenalty, Interlinepenalty, Floatingpenalty, Outputpenalty, Doublehyphendemerits, Finalhyphendemerits, Adjdemerits, Looseness, Pausing, Holdinginserts, Tracingonline, Tracingmacros, Tracingstats, Tracingparagraphs, Tracingpages, Tracingoutput, Tracinglostchars, Tracingcommands, Tracingrestores, Language, Uchyph, Lefthyphenmin, Righthyphenmin, Globaldefs, Defaulthyphenchar, Defaultskewchar, Escapechar, Endlinechar, Newlinechar, Maxdeadcycles, Hangafter, Fam, Mag, Delimiterfactor, Time, Day, Month, Year, Showboxbreadth, Showboxdepth, Errorcontextlines}
@@ -280,6 +281,12 @@ found (Page page.FilllStretch) = refl
 found (Page page.Shrink) = refl
 found (Page page.Depth) = refl
 found (Page page.InsertPenalties) = refl
+found Align = refl
+found (AlignWord align.Cr) = refl
+found (AlignWord align.CrCr) = refl
+found (AlignWord align.Span) = refl
+found (AlignWord align.Omit) = refl
+found (AlignWord align.NoAlign) = refl
 found (Integer p) = integer-found p
 found (Dimension p) = dimension-found p
 found (Tokens p) = token-found p

@@ -270,6 +270,32 @@ pub enum PageQuantity {
     InsertPenalties,
 }
 
+/// A word of alignments (The TeXbook, chapter 22).
+#[derive(Clone, Copy, PartialEq, Eq)]
+pub enum AlignWord {
+    /// \cr and \crcr: a row ends.
+    Cr,
+    CrCr,
+    /// \span: an entry goes on in the next column.
+    Span,
+    /// \omit: an entry stands without what its column has for all.
+    Omit,
+    /// \noalign: material between rows.
+    NoAlign,
+}
+
+/// What ends an entry of an alignment (TeX: The Program, section 789).
+#[derive(Clone, Copy, PartialEq, Eq)]
+pub enum EntryEnd {
+    /// A character of category AlignmentTab.
+    Tab,
+    /// \span.
+    Span,
+    /// \cr and \crcr.
+    Cr,
+    CrCr,
+}
+
 /// An integer that each font has (The TeXbook, chapter 24).
 #[derive(Clone, Copy, PartialEq, Eq)]
 pub enum FontNumber {

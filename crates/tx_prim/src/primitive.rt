@@ -5,9 +5,9 @@ ghost use Rattle.tx_prim.specs.Table.{all, modes_of, name_of, named};
 
 use crate::dimension::DimensionParameter;
 use crate::family::{
-    AfterKind, BoxKind, BoxSide, BoxSource, CharacterCode, DefinitionKind, FontNumber, GlueForm,
-    Indentation, Interaction, ItemKind, LeadersKind, Numbered, Operation, PageQuantity, Prefix,
-    RuleKind, ShiftKind, Shorthand, SizeKind, TextUse, UnboxKind,
+    AfterKind, AlignWord, BoxKind, BoxSide, BoxSource, CharacterCode, DefinitionKind, FontNumber,
+    GlueForm, Indentation, Interaction, ItemKind, LeadersKind, Numbered, Operation, PageQuantity,
+    Prefix, RuleKind, ShiftKind, Shorthand, SizeKind, TextUse, UnboxKind,
 };
 use crate::glue::GlueParameter;
 use crate::integer::IntegerParameter;
@@ -122,10 +122,14 @@ pub enum Primitive {
     DeadCycles,
     /// What can be read of the page that is being built, as \pagegoal.
     Page(PageQuantity),
+    /// \halign.
+    Align,
+    /// A word of alignments, as \cr.
+    AlignWord(AlignWord),
 }
 
 /// All primitives, in the order of their table.
-const ALL: [Primitive; 226] = [
+const ALL: [Primitive; 232] = [
     Primitive::Relax,
     Primitive::EndCsName,
     Primitive::BeginGroup,
@@ -249,6 +253,12 @@ const ALL: [Primitive; 226] = [
     Primitive::Page(PageQuantity::Shrink),
     Primitive::Page(PageQuantity::Depth),
     Primitive::Page(PageQuantity::InsertPenalties),
+    Primitive::Align,
+    Primitive::AlignWord(AlignWord::Cr),
+    Primitive::AlignWord(AlignWord::CrCr),
+    Primitive::AlignWord(AlignWord::Span),
+    Primitive::AlignWord(AlignWord::Omit),
+    Primitive::AlignWord(AlignWord::NoAlign),
     Primitive::Integer(IntegerParameter::Pretolerance),
     Primitive::Integer(IntegerParameter::Tolerance),
     Primitive::Integer(IntegerParameter::Hbadness),
@@ -492,6 +502,12 @@ impl Primitive {
             Primitive::Page(PageQuantity::Shrink) => b"pageshrink",
             Primitive::Page(PageQuantity::Depth) => b"pagedepth",
             Primitive::Page(PageQuantity::InsertPenalties) => b"insertpenalties",
+            Primitive::Align => b"halign",
+            Primitive::AlignWord(AlignWord::Cr) => b"cr",
+            Primitive::AlignWord(AlignWord::CrCr) => b"crcr",
+            Primitive::AlignWord(AlignWord::Span) => b"span",
+            Primitive::AlignWord(AlignWord::Omit) => b"omit",
+            Primitive::AlignWord(AlignWord::NoAlign) => b"noalign",
             Primitive::Integer(parameter) => parameter.name(),
             Primitive::Dimension(parameter) => parameter.name(),
             Primitive::Tokens(parameter) => parameter.name(),
@@ -526,7 +542,8 @@ impl Primitive {
             }
             Primitive::Unbox(UnboxKind::Vertical | UnboxKind::VerticalCopy) => Modes::InVertical,
             Primitive::HorizontalGlue(_) => Modes::NotVertical,
-            Primitive::VerticalGlue(_) => Modes::InVertical,
+            Primitive::VerticalGlue(_) | Primitive::Align => Modes::InVertical,
+            Primitive::AlignWord(_) => Modes::All,
             Primitive::Rule(RuleKind::Horizontal) => Modes::InVertical,
             Primitive::Rule(RuleKind::Vertical) => Modes::NotVertical,
             Primitive::NullFont | Primitive::LoadFont => Modes::All,
