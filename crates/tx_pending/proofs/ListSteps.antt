@@ -5,8 +5,9 @@ use Rattle.std.proofs.lemmas.List.{drop-drop, drop-take, length-drop, length-tak
 use Rattle.tx_char.specs.declared.tokens.Token.{Token}
 use Rattle.tx_lex.specs.declared.types.ReadState.{ReadState}
 use Rattle.tx_pending.specs.declared.source.Source.{Source}
-use Rattle.tx_pending.specs.declared.source.Source.TheVariants.{List as Source_list, Line as Source_line, Held as Source_held}
-use Rattle.tx_pending.specs.Elements.{Element, Held, Unread, list_elements}
+use Rattle.tx_pending.specs.declared.source.Source.TheVariants.{List as Source_list, Line as Source_line, Held as Source_held, PartEnd as Source_part}
+use Rattle.tx_pending.specs.declared.next.ColumnPart.{ColumnPart}
+use Rattle.tx_pending.specs.Elements.{Element, Held, PartEnd, Unread, begins_entry, list_elements}
 use Rattle.tx_pending.specs.Sources.{elements_of}
 use Rattle.tx_pending.specs.Tails.{ListTail, LineTail}
 
@@ -79,18 +80,37 @@ list-no-held [] false i token h = cc
 list-no-held (t ∷ left) marked zero token h = cc
 list-no-held (t ∷ left) marked (suc i) token h = list-no-held left marked i token h
 
+list-no-part : (left : List Token) (marked : Bool) (i : ℕ) (part : ColumnPart) → Some (PartEnd part) ≡ slice_get (list_elements left marked) i → ⊥
+list-no-part [] true zero part h = cc
+list-no-part [] true (suc i) part h = cc
+list-no-part [] false i part h = cc
+list-no-part (t ∷ left) marked zero part h = cc
+list-no-part (t ∷ left) marked (suc i) part h = list-no-part left marked i part h
+
+-- no list begins with the end of a part
+list-no-entry : (left : List Token) (marked : Bool) → begins_entry (list_elements left marked) ≡ false
+list-no-entry [] true = refl
+list-no-entry [] false = refl
+list-no-entry (t ∷ left) marked = refl
+
 only : (e : Element) (i : ℕ) → i < length (e ∷ []) → slice_get (e ∷ []) i ≡ Some e
 only e zero l = refl
 only e (suc i) l = absurd (omega arith)
 
--- no element of a list is a line, or a token that is held
+-- no element of a list is a line, a token that is held, or the end of a part
 pub no-line : (s : Source) (l : ListTail) (i : ℕ) (line : LineTail) → s ≡ Source_list l → Some (Unread line.unread line.state) ≡ slice_get (elements_of s) i → ⊥
 no-line s l i line e h = list-no-line l.left l.marked i line.unread line.state (h ∙ ap (λ t. slice_get (elements_of t) i) e)
 
 pub no-held : (s : Source) (l : ListTail) (i : ℕ) (token : Token) → s ≡ Source_list l → Some (Held token) ≡ slice_get (elements_of s) i → ⊥
 no-held s l i token e h = list-no-held l.left l.marked i token (h ∙ ap (λ t. slice_get (elements_of t) i) e)
 
--- no line is an element of a list, and no token that is held
+pub no-part : (s : Source) (l : ListTail) (i : ℕ) (part : ColumnPart) → s ≡ Source_list l → Some (PartEnd part) ≡ slice_get (elements_of s) i → ⊥
+no-part s l i part e h = list-no-part l.left l.marked i part (h ∙ ap (λ t. slice_get (elements_of t) i) e)
+
+pub no-entry : (s : Source) (l : ListTail) → s ≡ Source_list l → begins_entry (elements_of s) ≡ false
+no-entry s l e = ap (λ t. begins_entry (elements_of t)) e ∙ list-no-entry l.left l.marked
+
+-- no line is an element of a list, and no token that is held, and no end of a part
 pub line-not-in : (l : ListTail) (i : ℕ) (s : Source) (line : LineTail) (j : ℕ) → s ≡ Source_line line → j < length (elements_of s) → slice_get (list_elements l.left l.marked) i ≡ slice_get (elements_of s) j → ⊥
 line-not-in l i s line j e =
     let P : Source → Type 0 = λ t. j < length (elements_of t) → slice_get (list_elements l.left l.marked) i ≡ slice_get (elements_of t) j → ⊥ in
@@ -104,6 +124,15 @@ pub held-not-in : (l : ListTail) (i : ℕ) (s : Source) (held : Option Token) (j
 held-not-in l i s held j e =
     let P : Source → Type 0 = λ t. j < length (elements_of t) → slice_get (list_elements l.left l.marked) i ≡ slice_get (elements_of t) j → ⊥ in
     subst P (sym e) (by-held l i held j)
+
+by-part : (l : ListTail) (i : ℕ) (part : Option ColumnPart) (j : ℕ) → j < length (elements_of (Source_part part)) → slice_get (list_elements l.left l.marked) i ≡ slice_get (elements_of (Source_part part)) j → ⊥
+by-part l i None j m h = absurd (omega arith)
+by-part l i (Some part) j m h = list-no-part l.left l.marked i part (sym (h ∙ only (PartEnd part) j m))
+
+pub part-not-in : (l : ListTail) (i : ℕ) (s : Source) (part : Option ColumnPart) (j : ℕ) → s ≡ Source_part part → j < length (elements_of s) → slice_get (list_elements l.left l.marked) i ≡ slice_get (elements_of s) j → ⊥
+part-not-in l i s part j e =
+    let P : Source → Type 0 = λ t. j < length (elements_of t) → slice_get (list_elements l.left l.marked) i ≡ slice_get (elements_of t) j → ⊥ in
+    subst P (sym e) (by-part l i part j)
 
 -- a text that begins with this character
 pub begins : (text rest : List ℕ) (code : ℕ) (b : Bool) → 1 ≤ length text → get_or text 0 0 ≡ code → (IsTrue b ↔ (take (length text - 1) (drop 1 text) ≡ rest)) → IsTrue b ↔ (code ∷ rest ≡ text)

@@ -1,34 +1,78 @@
 -- Pending input as one list (TeX: The Program, part 22 and sections 343 to 362).
-use Rattle.std.specs.Prelude.{ℕ, Bool, true, false, List, [], ◌∷◌, ◌++◌, map, if◌then◌else◌}
+use Rattle.std.specs.Prelude.{ℕ, Bool, true, false, List, [], ◌∷◌, ◌++◌, map, ℤ, pos, ◌+ℤ◌, ◌-ℤ◌, if◌then◌else◌}
 use Rattle.tx_char.specs.declared.category.Cat.{Cat}
 use Rattle.tx_char.specs.declared.tokens.Token.{Token}
+use Rattle.tx_toklist.specs.Macros.{is_begin, is_end}
 use Rattle.tx_lex.specs.declared.types.ReadState.{ReadState}
 use Rattle.tx_lex.specs.declared.types.ReadState.TheVariants.{N}
 use Rattle.tx_lex.specs.Reading.{Reading, Read, Nothing, Refused, reading}
+use Rattle.tx_pending.specs.declared.next.ColumnPart.{ColumnPart}
+use Rattle.tx_pending.specs.declared.next.ColumnPart.TheVariants.{U, V}
 use Rattle.tx_pending.specs.declared.next.Next.{Next}
-use Rattle.tx_pending.specs.declared.next.Next.TheVariants.{Token as Next_token, Held as Next_held, Marker, Used, E1}
+use Rattle.tx_pending.specs.declared.next.Next.TheVariants.{Token as Next_token, Held as Next_held, Marker, PartEnd as Next_part, Used, E1}
 
--- an element of the pending input: a token; a token that \noexpand holds (TeX: The Program, sections 358 and 369); a marker;
--- or a line with its unread rest and its reading state
+-- an element of the pending input: a token; a token that \noexpand holds (TeX: The Program, sections 358 and 369); a marker; the
+-- end of the u- or the v-part of an alignment's column (sections 307 and 324); or a line with its unread rest and its reading state
 pub data Element : Type 0 where
   Given : Token → Element
   Held : Token → Element
   Mark : Element
+  PartEnd : ColumnPart → Element
   Unread : List ℕ → ReadState → Element
 
--- all that is pending, and whether \endinput came since a line was used up
+-- all that is pending; whether \endinput came since a line was used up; and at which level of braces it is read, by which alignments
+-- tell where an entry ends (TeX: The Program, section 309)
 pub record Input : Type 0 where
   pub elements : List Element
   pub closing : Bool
+  pub level : ℤ
 
 -- what comes next, and what is pending behind it
 pub record Step : Type 0 where
   pub next : Next
   pub left : Input
 
+-- where no alignment is read (TeX: The Program, section 331)
+abbrev pub outside : ℤ
+outside = pos 1000000
+
 -- nothing is pending
 abbrev pub no_input : Input
-no_input = record { elements = []; closing = false }
+no_input = record { elements = []; closing = false; level = outside }
+
+-- the level behind a token that is read: a begin-group token raises it, and an end-group token lowers it (TeX: The Program, sections
+-- 347 and 357)
+abbrev pub level_behind : ℤ → Token → ℤ
+level_behind level token = if is_begin token then level +ℤ pos 1 else if is_end token then level -ℤ pos 1 else level
+
+-- the level as if a token hadn't been read (TeX: The Program, section 325)
+abbrev pub level_before : ℤ → Token → ℤ
+level_before level token = if is_begin token then level -ℤ pos 1 else if is_end token then level +ℤ pos 1 else level
+
+abbrev pub with_level : Input → ℤ → Input
+with_level input level = record { elements = input.elements; closing = input.closing; level = level }
+
+-- a token that was read stands in what is put in, or is none: the level is as if it hadn't been read (TeX: The Program, sections
+-- 394 and 442)
+abbrev pub unread : Input → Token → Input
+unread input token = with_level input (level_before input.level token)
+
+-- the level at the end of a part of a column: behind the u-part the entry begins (TeX: The Program, section 324)
+abbrev pub level_at : ColumnPart → ℤ → ℤ
+level_at U level = pos 0
+level_at V level = level
+
+-- whether the u-part of a column is read to its end; its entry begins there, at level 0 (TeX: The Program, section 324)
+abbrev pub begins_entry : List Element → Bool
+begins_entry (PartEnd U ∷ behind) = true
+begins_entry other = false
+
+abbrev pub behind_part : List Element → List Element
+behind_part (PartEnd U ∷ behind) = behind
+behind_part other = other
+
+abbrev pub entered : Input → Input
+entered input = record { elements = behind_part input.elements; closing = input.closing; level = if begins_entry input.elements then pos 0 else input.level }
 
 -- the elements of a list of tokens, and a marker behind them if it is to be marked
 abbrev pub list_elements : List Token → Bool → List Element
@@ -36,41 +80,60 @@ list_elements tokens marked = map Given tokens ++ (if marked then Mark ∷ [] el
 
 -- a list is put at the front
 abbrev pub with_list : Input → List Token → Bool → Input
-with_list input tokens marked = record { elements = list_elements tokens marked ++ input.elements; closing = input.closing }
+with_list input tokens marked = record { elements = list_elements tokens marked ++ input.elements; closing = input.closing; level = input.level }
 
--- a token that is given back is put at the front, to be read again (TeX: The Program, section 325)
+-- the u- or the v-part of a column ends at the front: what it has is put there next
+abbrev pub with_part_end : Input → ColumnPart → Input
+with_part_end input part = record { elements = PartEnd part ∷ input.elements; closing = input.closing; level = input.level }
+
+-- a token that was read is put at the front, to be read again; a u-part that is read to its end is left before (TeX: The Program,
+-- section 325)
 abbrev pub with_token : Input → Token → Input
-with_token input token = record { elements = Given token ∷ input.elements; closing = input.closing }
+with_token input token =
+    let left : Input = entered input in
+    record { elements = Given token ∷ left.elements; closing = left.closing; level = level_before left.level token }
 
 -- so is a token that \noexpand holds
 abbrev pub with_held : Input → Token → Input
-with_held input token = record { elements = Held token ∷ input.elements; closing = input.closing }
+with_held input token =
+    let left : Input = entered input in
+    record { elements = Held token ∷ left.elements; closing = left.closing; level = level_before left.level token }
 
--- several are put at the front in their order
+-- several that were read are given back, the last one first
+abbrev pub given_back : Input → List Token → Input
+given_back input [] = input
+given_back input (token ∷ tokens) = with_token (given_back input tokens) token
+
+-- several that weren't read are put at the front in their order
 abbrev pub with_tokens : Input → List Token → Input
-with_tokens input tokens = record { elements = map Given tokens ++ input.elements; closing = input.closing }
+with_tokens input tokens = record { elements = map Given tokens ++ input.elements; closing = input.closing; level = input.level }
+
+-- so are those that a macro's use comes to; a u-part that is read to its end is left before (TeX: The Program, section 390)
+abbrev pub with_use : Input → List Token → Input
+with_use input tokens = with_tokens (entered input) tokens
 
 -- a new line is put at the front; it is read from the state at a line's start on
 abbrev pub with_line : Input → List ℕ → Input
-with_line input line = record { elements = Unread line N ∷ input.elements; closing = input.closing }
+with_line input line = record { elements = Unread line N ∷ input.elements; closing = input.closing; level = input.level }
 
 -- \endinput: the file is to be closed when the line is used up
 abbrev pub with_close : Input → Input
-with_close input = record { elements = input.elements; closing = true }
+with_close input = record { elements = input.elements; closing = true; level = input.level }
 
 -- what the line at the front gives by its reading: its first token; or it is used up and taken away, and \endinput is
 -- forgotten; or it has an invalid character, and all stays
 abbrev pub line_step : Input → List Element → Reading → Step
-line_step input behind (Read token unread state) = record { next = Next_token token; left = record { elements = Unread unread state ∷ behind; closing = input.closing } }
-line_step input behind Nothing = record { next = Used input.closing; left = record { elements = behind; closing = false } }
+line_step input behind (Read token unread state) = record { next = Next_token token; left = record { elements = Unread unread state ∷ behind; closing = input.closing; level = level_behind input.level token } }
+line_step input behind Nothing = record { next = Used input.closing; left = record { elements = behind; closing = false; level = input.level } }
 line_step input behind Refused = record { next = E1; left = input }
 
--- what comes next where these elements are pending
+-- what comes next where these elements are pending; at the end of a u-part the entry begins, at level 0
 abbrev pub step_of : List Cat → Input → List Element → Step
-step_of codes input [] = record { next = Used input.closing; left = no_input }
-step_of codes input (Given token ∷ behind) = record { next = Next_token token; left = record { elements = behind; closing = input.closing } }
-step_of codes input (Held token ∷ behind) = record { next = Next_held token; left = record { elements = behind; closing = input.closing } }
-step_of codes input (Mark ∷ behind) = record { next = Marker; left = record { elements = behind; closing = input.closing } }
+step_of codes input [] = record { next = Used input.closing; left = record { elements = []; closing = false; level = input.level } }
+step_of codes input (Given token ∷ behind) = record { next = Next_token token; left = record { elements = behind; closing = input.closing; level = level_behind input.level token } }
+step_of codes input (Held token ∷ behind) = record { next = Next_held token; left = record { elements = behind; closing = input.closing; level = level_behind input.level token } }
+step_of codes input (Mark ∷ behind) = record { next = Marker; left = record { elements = behind; closing = input.closing; level = input.level } }
+step_of codes input (PartEnd part ∷ behind) = record { next = Next_part part; left = record { elements = behind; closing = input.closing; level = level_at part input.level } }
 step_of codes input (Unread unread state ∷ behind) = line_step input behind (reading codes state unread)
 
 -- what comes next

@@ -6,7 +6,7 @@ use Rattle.tx_lex.specs.declared.types.PlainToken.{PlainToken}
 use Rattle.tx_lex.specs.declared.types.ReadState.{ReadState}
 use Rattle.tx_lex.specs.Plain.{IsSet, plain_token, state_behind}
 use Rattle.tx_pending.specs.declared.next.Next.TheVariants.{Token as Next_token}
-use Rattle.tx_pending.specs.Elements.{Element, Given, Held, Input, Mark, Step, Unread, step}
+use Rattle.tx_pending.specs.Elements.{Element, Given, Held, Input, Mark, PartEnd, Step, Unread, step}
 
 -- a token at the front is passed, or the line there goes on behind its first character, in this state
 abbrev pub passed : ReadState → List Element → List Element
@@ -14,10 +14,11 @@ passed now [] = []
 passed now (Given token ∷ behind) = behind
 passed now (Held token ∷ behind) = Held token ∷ behind
 passed now (Mark ∷ behind) = Mark ∷ behind
+passed now (PartEnd part ∷ behind) = PartEnd part ∷ behind
 passed now (Unread unread state ∷ behind) = Unread (drop 1 unread) now ∷ behind
 
 abbrev pub behind_first : ReadState → Input → Input
-behind_first now input = record { elements = passed now input.elements; closing = input.closing }
+behind_first now input = record { elements = passed now input.elements; closing = input.closing; level = input.level }
 
 -- this token comes next, and is passed
 abbrev pub plain_step : List Cat → Input → PlainToken → Step

@@ -1,9 +1,9 @@
 -- What the sources on the stack are: each stands for elements of the pending input.
 use Rattle.std.specs.Prelude.{◌≡◌, ◌≢◌, ◌-◌, ◌≤◌, ◌<◌, drop, take, slice_index_or, List, [], ◌∷◌, ◌++◌, fold, length, slice_get, Some, None, IfSome}
 use Rattle.tx_pending.specs.declared.source.Source.{Source}
-use Rattle.tx_pending.specs.declared.source.Source.TheVariants.{List as Source_list, Line as Source_line, Token as Source_token, Held as Source_held}
+use Rattle.tx_pending.specs.declared.source.Source.TheVariants.{List as Source_list, Line as Source_line, Token as Source_token, Held as Source_held, PartEnd as Source_part}
 use Rattle.tx_pending.specs.declared.same.Place.{Place}
-use Rattle.tx_pending.specs.Elements.{Element, Given, Held, Unread, list_elements}
+use Rattle.tx_pending.specs.Elements.{Element, Given, Held, PartEnd, Unread, list_elements}
 
 -- the elements that a source stands for
 abbrev pub elements_of : Source → List Element
@@ -13,6 +13,8 @@ elements_of (Source_token (Some token)) = Given token ∷ []
 elements_of (Source_token None) = []
 elements_of (Source_held (Some token)) = Held token ∷ []
 elements_of (Source_held None) = []
+elements_of (Source_part (Some part)) = PartEnd part ∷ []
+elements_of (Source_part None) = []
 
 -- a source before others
 abbrev pub before : List Element → Source → List Element

@@ -6,16 +6,17 @@ use Rattle.tx_lex.specs.declared.types.PlainToken.{PlainToken}
 use Rattle.tx_lex.specs.Plain.{Begins, IsSet, plain_token}
 use Rattle.tx_lex.specs.Reading.{Read, Nothing, Refused, reading}
 use Rattle.tx_pending.specs.declared.given.Given.{Given}
-use Rattle.tx_pending.specs.declared.given.Given.TheVariants.{Token, Held, Marker, Used, E1}
-use Rattle.tx_pending.specs.declared.next.Next.TheVariants.{Token as Next_token, Held as Next_held, Marker as Next_marker, Used as Next_used, E1 as Next_E1}
+use Rattle.tx_pending.specs.declared.given.Given.TheVariants.{Token, Held, Marker, PartEnd, Used, E1}
+use Rattle.tx_pending.specs.declared.next.Next.TheVariants.{Token as Next_token, Held as Next_held, Marker as Next_marker, PartEnd as Next_part, Used as Next_used, E1 as Next_E1}
 use Rattle.tx_pending.specs.Tails.{ListTail, LineTail}
-use Rattle.tx_pending.specs.Elements.{Element, Given as Element_given, Held as Element_held, Input, Mark, Step, Unread, step_of}
+use Rattle.tx_pending.specs.Elements.{Element, Given as Element_given, Held as Element_held, Input, Mark, PartEnd as Element_part, Step, Unread, level_at, level_behind, step_of}
 
 -- a list gives its first token, or its marker where no token is left
 abbrev pub IsListStep : ListTail → Given → ListTail → Type 0
 IsListStep from (Token token) to = from ≡ record { left = token ∷ to.left; marked = to.marked }
 IsListStep from (Held token) to = ⊥
 IsListStep from Marker to = (from ≡ record { left = []; marked = true }) × (to ≡ record { left = []; marked = false })
+IsListStep from (PartEnd part) to = ⊥
 IsListStep from Used to = ⊥
 IsListStep from E1 to = ⊥
 
@@ -24,6 +25,7 @@ abbrev pub IsLineStep : List Cat → LineTail → Given → LineTail → Type 0
 IsLineStep codes from (Token token) to = reading codes from.state from.unread ≡ Read token to.unread to.state
 IsLineStep codes from (Held token) to = ⊥
 IsLineStep codes from Marker to = ⊥
+IsLineStep codes from (PartEnd part) to = ⊥
 IsLineStep codes from Used to = (reading codes from.state from.unread ≡ Nothing) × (to ≡ from)
 IsLineStep codes from E1 to = (reading codes from.state from.unread ≡ Refused) × (to ≡ from)
 
@@ -39,6 +41,7 @@ abbrev pub BeginsAs : List Cat → Element → PlainToken → Type 0
 BeginsAs codes (Element_given token) plain = IsPlainly codes token plain
 BeginsAs codes (Element_held token) plain = ⊥
 BeginsAs codes Mark plain = ⊥
+BeginsAs codes (Element_part part) plain = ⊥
 BeginsAs codes (Unread unread state) plain = Begins codes state unread plain
 
 -- these elements begin with one
@@ -50,10 +53,11 @@ pub record BeginsPlain (codes : List Cat) (elements : List Element) (plain : Pla
 
 -- what comes next where a source gives this and leaves these elements, before those behind it
 abbrev pub given_step : Input → List Element → List Element → Given → Step
-given_step input left behind (Token token) = record { next = Next_token token; left = record { elements = left ++ behind; closing = input.closing } }
-given_step input left behind (Held token) = record { next = Next_held token; left = record { elements = left ++ behind; closing = input.closing } }
-given_step input left behind Marker = record { next = Next_marker; left = record { elements = left ++ behind; closing = input.closing } }
-given_step input left behind Used = record { next = Next_used input.closing; left = record { elements = behind; closing = false } }
+given_step input left behind (Token token) = record { next = Next_token token; left = record { elements = left ++ behind; closing = input.closing; level = level_behind input.level token } }
+given_step input left behind (Held token) = record { next = Next_held token; left = record { elements = left ++ behind; closing = input.closing; level = level_behind input.level token } }
+given_step input left behind Marker = record { next = Next_marker; left = record { elements = left ++ behind; closing = input.closing; level = input.level } }
+given_step input left behind (PartEnd part) = record { next = Next_part part; left = record { elements = left ++ behind; closing = input.closing; level = level_at part input.level } }
+given_step input left behind Used = record { next = Next_used input.closing; left = record { elements = behind; closing = false; level = input.level } }
 given_step input left behind E1 = record { next = Next_E1; left = input }
 
 -- a source of these elements gives this and leaves those, whatever is behind it
@@ -63,10 +67,11 @@ pub record Gives (codes : List Cat) (from : List Element) (given : Given) (to : 
 
 -- what comes next where all that is pending gives this and leaves these elements
 abbrev pub taken_step : Input → List Element → Given → Step
-taken_step input left (Token token) = record { next = Next_token token; left = record { elements = left; closing = input.closing } }
-taken_step input left (Held token) = record { next = Next_held token; left = record { elements = left; closing = input.closing } }
-taken_step input left Marker = record { next = Next_marker; left = record { elements = left; closing = input.closing } }
-taken_step input left Used = record { next = Next_used input.closing; left = record { elements = left; closing = false } }
+taken_step input left (Token token) = record { next = Next_token token; left = record { elements = left; closing = input.closing; level = level_behind input.level token } }
+taken_step input left (Held token) = record { next = Next_held token; left = record { elements = left; closing = input.closing; level = level_behind input.level token } }
+taken_step input left Marker = record { next = Next_marker; left = record { elements = left; closing = input.closing; level = input.level } }
+taken_step input left (PartEnd part) = record { next = Next_part part; left = record { elements = left; closing = input.closing; level = level_at part input.level } }
+taken_step input left Used = record { next = Next_used input.closing; left = record { elements = left; closing = false; level = input.level } }
 taken_step input left E1 = record { next = Next_E1; left = input }
 
 -- all that is pending gives this and leaves that

@@ -2,6 +2,7 @@
 ghost use Rattle.std.specs.Prelude.{◌≡◌, ◌↔◌, IsTrue};
 ghost use Rattle.tx_pending.specs.declared.given.Given.TheVariants.{Used};
 
+use crate::next::ColumnPart;
 use tx_char::Token;
 
 /// What reading a list or a line gives.
@@ -13,6 +14,8 @@ pub enum Given {
     Held(Token),
     /// The end of a list that was to be marked.
     Marker,
+    /// The end of this part of an alignment's column.
+    PartEnd(ColumnPart),
     /// Nothing: it is a line, which is used up.
     Used,
     /// Error 1: a character of category Invalid was read.

@@ -5,10 +5,11 @@
 //! Proved: each call is its definition on one flat list, however the lists are cut. Only tested: that the definition is
 //! TeX's, on input worked out by hand.
 //!
-//! Modules in reading order: `next`, `given`, `list`, `line`, `source`, `same`, `pending`.
+//! Modules in reading order: `next`, `given`, `list`, `line`, `source`, `same`, `level`, `pending`.
 #![tactic(auto)]
 
 mod given;
+mod level;
 mod line;
 mod list;
 mod next;
@@ -16,5 +17,5 @@ mod pending;
 mod same;
 mod source;
 
-pub use next::Next;
+pub use next::{ColumnPart, Next};
 pub use pending::Pending;

@@ -1,6 +1,15 @@
 //! What reading the pending input answers.
 use tx_char::Token;
 
+/// What every entry of an alignment's column has before its own text, and behind it (The TeXbook, chapter 22).
+#[derive(Clone, Copy, PartialEq, Eq)]
+pub enum ColumnPart {
+    /// The u-part.
+    U,
+    /// The v-part.
+    V,
+}
+
 /// What comes next.
 #[derive(Drop)]
 pub enum Next {
@@ -10,6 +19,8 @@ pub enum Next {
     Held(Token),
     /// The end of a list that was to be marked.
     Marker,
+    /// The end of this part of an alignment's column.
+    PartEnd(ColumnPart),
     /// The line is used up, or there is none; whether \endinput came since the last such answer.
     Used { close: bool },
     /// Error 1: a character of category Invalid was read.

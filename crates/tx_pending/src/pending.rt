@@ -1,15 +1,17 @@
 //! The pending input.
 ghost use Rattle.std.specs.Prelude.{◌≡◌, ◌↔◌, ◌++◌, ◌-◌, drop, map, take, IsTrue, IfOk, IfSome, OnOk, OnErr};
+ghost use Rattle.tx_pending.specs.Elements as spec;
 ghost use Rattle.tx_toklist.specs.Bodies.{argument, filled, filled_from};
-ghost use Rattle.tx_pending.specs.Elements.{Given as Element_given, no_input, step, with_close, with_held, with_line, with_list, with_token, with_tokens};
+ghost use Rattle.tx_pending.specs.Elements.{Given as Element_given, begins_entry, behind_part, entered, no_input, step, with_close, with_held, with_level, with_line, with_list, with_part_end, with_token, with_use};
 ghost use Rattle.tx_pending.specs.Plain.{IsNext, behind_first, passed};
 ghost use Rattle.tx_pending.specs.Sources.{IsReady, elements_of, stack_elements};
 ghost use Rattle.tx_pending.specs.Steps.{BeginsPlain, Takes};
 
 use crate::given::Given;
+use crate::level::{level_before, level_behind};
 use crate::line::LineReading;
 use crate::list::ListReading;
-use crate::next::Next;
+use crate::next::{ColumnPart, Next};
 use crate::same::same_elements;
 use crate::source::Source;
 use std::alloc::{AllocError, Global};
@@ -19,13 +21,14 @@ use tx_char::{Codes, Token};
 use tx_lex::{KnownNames, PlainToken, ReadState};
 use tx_toklist::{Macro, Slot, TokList};
 
-/// What is read before another line is asked for. Contracts see one list of tokens, markers and lines, and whether
-/// \endinput came since a line was used up.
+/// What is read before another line is asked for. Contracts see one list of tokens, markers and lines, whether \endinput
+/// came since a line was used up, and the level of braces.
 #[derive(Drop)]
 pub struct Pending {
     /// The innermost source stands last.
     stack: Vec<Source>,
     closing: bool,
+    level: i64,
 }
 
 impl Model for Pending {
@@ -35,7 +38,7 @@ impl Model for Pending {
 
     ghost use Rattle.tx_pending.specs.Sources.{stack_elements};
 
-    ghost view = { λ p. record { elements = stack_elements p.stack.items; closing = p.closing } };
+    ghost view = { λ p. record { elements = stack_elements p.stack.items; closing = p.closing; level = p.level } };
 }
 
 impl Pending {
@@ -46,6 +49,7 @@ impl Pending {
         Pending {
             stack: Vec::new(alloc),
             closing: false,
+            level: 1_000_000,
         }
     }
 
@@ -62,31 +66,87 @@ impl Pending {
         )
     }
 
-    /// Puts the body of a macro at the front, with these arguments in place of its parameters. No token is copied: it takes
-    /// as much as parameters are named in the body. Its only error is want of memory, after which the input may only be
-    /// dropped.
-    pub fn push_use(&mut self, made: &Macro, arguments: &[TokList]) -> Result<(), AllocError>
-        ensures { OnOk result (self.new ≡ with_tokens self.old (filled made.now.body arguments.now)) }
+    /// Puts the end of a part of an alignment's column at the front: what the part has is put there next. After want of memory
+    /// nothing has changed.
+    pub fn push_part_end(&mut self, part: ColumnPart) -> Result<(), AllocError>
+        ensures ok { OnOk result (self.new ≡ with_part_end self.old part) }
+        ensures err { OnErr result (self.new ≡ self.old) }
     {
         drop_spent(&mut self.stack);
+        put(&mut self.stack, Source::PartEnd(Some(part)))
+    }
+
+    /// Leaves a u-part that is read to its end, if one is: its entry begins, at level 0.
+    #[inline(always)]
+    fn enter(&mut self)
+        ensures { self.new ≡ entered self.old }
+    {
+        drop_spent(&mut self.stack);
+        if take_entry(&mut self.stack) {
+            self.level = 0;
+        }
+    }
+
+    /// Puts the body of a macro at the front, with these arguments in place of its parameters; a u-part that is read to its
+    /// end is left before. No token is copied: it takes as much as parameters are named in the body. Its only error is want of
+    /// memory, after which the input may only be dropped.
+    pub fn push_use(&mut self, made: &Macro, arguments: &[TokList]) -> Result<(), AllocError>
+        ensures { OnOk result (self.new ≡ with_use self.old (filled made.now.body arguments.now)) }
+    {
+        self.enter();
         put_filled(&mut self.stack, made.tokens(), made.slots(), arguments)
     }
 
-    /// Puts a token that was read at the front, to be read again. After want of memory nothing has changed.
+    /// Puts a token that was read at the front, to be read again; a u-part that is read to its end is left before. After want
+    /// of memory nothing else has changed.
     pub fn give_back(&mut self, token: Token) -> Result<(), AllocError>
         ensures ok { OnOk result (self.new ≡ with_token self.old token) }
-        ensures err { OnErr result (self.new ≡ self.old) }
+        ensures err { OnErr result (self.new ≡ entered self.old) }
     {
-        put(&mut self.stack, Source::Token(Some(token)))
+        self.enter();
+        let level = level_before(self.level, &token)?;
+        put(&mut self.stack, Source::Token(Some(token)))?;
+        self.level = level;
+        Ok(())
     }
 
     /// Puts a token at the front that \noexpand holds: it is the next that is read, and is an ordinary one again where it is
-    /// given back (TeX: The Program, sections 358 and 369). After want of memory nothing has changed.
+    /// given back (TeX: The Program, sections 358 and 369); a u-part that is read to its end is left before. After want of
+    /// memory nothing else has changed.
     pub fn push_held(&mut self, token: Token) -> Result<(), AllocError>
         ensures ok { OnOk result (self.new ≡ with_held self.old token) }
+        ensures err { OnErr result (self.new ≡ entered self.old) }
+    {
+        self.enter();
+        let level = level_before(self.level, &token)?;
+        put(&mut self.stack, Source::Held(Some(token)))?;
+        self.level = level;
+        Ok(())
+    }
+
+    /// At which level of braces it is read.
+    #[inline(always)]
+    pub fn level(&self) -> i64
+        ensures { result ≡ self.now.level }
+    {
+        self.level
+    }
+
+    /// From now on it is read at this level.
+    pub fn set_level(&mut self, level: i64)
+        ensures { self.new ≡ with_level self.old level }
+    {
+        self.level = level;
+    }
+
+    /// The level becomes as if this token hadn't been read: it stands in what is put in, or is none (TeX: The Program, sections
+    /// 394 and 442). Its only error is that it can't be counted, and then nothing has changed.
+    pub fn unread(&mut self, token: &Token) -> Result<(), AllocError>
+        ensures ok { OnOk result (self.new ≡ spec.unread self.old token.now) }
         ensures err { OnErr result (self.new ≡ self.old) }
     {
-        put(&mut self.stack, Source::Held(Some(token)))
+        self.level = level_before(self.level, token)?;
+        Ok(())
     }
 
     /// Puts a new line at the front, which is read from the state at a line's start on. After want of memory nothing has
@@ -107,7 +167,7 @@ impl Pending {
         self.closing = true;
     }
 
-    /// Takes what comes next. `Marker` comes exactly where a marker is at the front; `Used` exactly where a line of which
+    /// Takes what comes next. `Marker` and `PartEnd` come exactly where such is at the front; `Used` exactly where a line of which
     /// nothing but dropped characters is left is at the front, which is taken away, or nothing is pending; `E1` exactly
     /// where the line at the front has a character of category Invalid next. A name that is known takes no memory. Its only
     /// error is want of memory.
@@ -124,9 +184,20 @@ impl Pending {
         drop_spent(&mut self.stack);
         let given = take(&mut self.stack, alloc, codes, known)?;
         match given {
-            Given::Token(token) => Ok(Next::Token(token)),
-            Given::Held(token) => Ok(Next::Held(token)),
+            Given::Token(token) => {
+                self.level = level_behind(self.level, &token)?;
+                Ok(Next::Token(token))
+            }
+            Given::Held(token) => {
+                self.level = level_behind(self.level, &token)?;
+                Ok(Next::Held(token))
+            }
             Given::Marker => Ok(Next::Marker),
+            Given::PartEnd(ColumnPart::U) => {
+                self.level = 0;
+                Ok(Next::PartEnd(ColumnPart::U))
+            }
+            Given::PartEnd(ColumnPart::V) => Ok(Next::PartEnd(ColumnPart::V)),
             Given::Used => {
                 let close = self.closing;
                 self.closing = false;
@@ -155,11 +226,13 @@ impl Pending {
         pass_first(&mut self.stack, state);
     }
 
-    /// Whether the same is pending, however the lists are cut, and \endinput came in both or in none.
+    /// Whether the same is pending, however the lists are cut, at the same level, and \endinput came in both or in none.
     pub fn same(&self, other: &Pending) -> bool
         ensures { IsTrue result ↔ (self.now ≡ other.now) }
     {
-        self.closing == other.closing && same_elements(&self.stack, &other.stack)
+        self.closing == other.closing
+            && self.level == other.level
+            && same_elements(&self.stack, &other.stack)
     }
 
     /// The same pending input for another owner, in which no token and no byte is copied. Its only error is want of
@@ -170,6 +243,7 @@ impl Pending {
         Ok(Pending {
             stack: shared(alloc, &self.stack)?,
             closing: self.closing,
+            level: self.level,
         })
     }
 }
@@ -186,6 +260,32 @@ fn drop_spent(stack: &mut Vec<Source>)
         }
         stack.pop();
     }
+}
+
+/// Whether the innermost source is the end of a u-part.
+#[inline(always)]
+fn ends_part(stack: &[Source]) -> bool
+    requires { IsReady stack.now }
+    ensures { result ≡ begins_entry (stack_elements stack.now) }
+{
+    if stack.is_empty() {
+        return false;
+    }
+    stack[stack.len() - 1].begins_entry()
+}
+
+/// Takes the end of a u-part off the stack, if it is the innermost source; whether it is.
+#[inline(always)]
+fn take_entry(stack: &mut Vec<Source>) -> bool
+    requires { IsReady stack.old.items }
+    ensures begins { result ≡ begins_entry (stack_elements stack.old.items) }
+    ensures left { stack_elements stack.new.items ≡ behind_part (stack_elements stack.old.items) }
+{
+    if ends_part(stack) {
+        stack.pop();
+        return true;
+    }
+    false
 }
 
 /// Puts a source on the stack. After want of memory nothing has changed.

@@ -1,6 +1,6 @@
 //! The sources of pending input.
 ghost use Rattle.std.specs.Prelude.{◌≡◌, ◌≢◌, ◌↔◌, ◌<◌, [], None, Some, length, slice_get, IsTrue, IfOk, IfSome};
-ghost use Rattle.tx_pending.specs.Elements.{Given as Element_given, Held as Element_held, Unread, list_elements};
+ghost use Rattle.tx_pending.specs.Elements.{Given as Element_given, Held as Element_held, PartEnd as Element_part, Unread, begins_entry, list_elements};
 ghost use Rattle.tx_pending.specs.Plain.{passed};
 ghost use Rattle.tx_pending.specs.Sources.{elements_of};
 ghost use Rattle.tx_pending.specs.Steps.{BeginsPlain, Gives};
@@ -8,6 +8,7 @@ ghost use Rattle.tx_pending.specs.Steps.{BeginsPlain, Gives};
 use crate::given::Given;
 use crate::line::LineReading;
 use crate::list::ListReading;
+use crate::next::ColumnPart;
 use std::alloc::{AllocError, Global};
 use tx_char::{Codes, Token};
 use tx_lex::{KnownNames, PlainToken, ReadState};
@@ -21,6 +22,8 @@ pub enum Source {
     Token(Option<Token>),
     /// A token that \noexpand holds, until it is read again.
     Held(Option<Token>),
+    /// The end of a part of an alignment's column, which is read at once.
+    PartEnd(Option<ColumnPart>),
 }
 
 impl Source {
@@ -32,6 +35,7 @@ impl Source {
             Source::List(list) => list.is_spent(),
             Source::Line(_) => false,
             Source::Token(token) | Source::Held(token) => token.is_none(),
+            Source::PartEnd(part) => part.is_none(),
         }
     }
 
@@ -50,6 +54,7 @@ impl Source {
             Source::Line(line) => line.next(alloc, codes, known),
             Source::Token(token) => Ok(Given::Token(read_again(token))),
             Source::Held(token) => Ok(Given::Held(read_again(token))),
+            Source::PartEnd(part) => Ok(Given::PartEnd(read_end(part))),
         }
     }
 
@@ -62,7 +67,7 @@ impl Source {
         match self {
             Source::Line(line) => line.first_plain(codes),
             Source::List(list) => list.first_plain(codes),
-            Source::Token(_) | Source::Held(_) => None,
+            Source::Token(_) | Source::Held(_) | Source::PartEnd(_) => None,
         }
     }
 
@@ -76,6 +81,7 @@ impl Source {
             Source::List(list) => list.pass(),
             Source::Token(token) => *token = None,
             Source::Held(_) => {}
+            Source::PartEnd(_) => {}
         }
     }
 
@@ -88,6 +94,8 @@ impl Source {
             Source::Line(_) => 1,
             Source::Token(Some(_)) | Source::Held(Some(_)) => 1,
             Source::Token(None) | Source::Held(None) => 0,
+            Source::PartEnd(Some(_)) => 1,
+            Source::PartEnd(None) => 0,
         }
     }
 
@@ -102,7 +110,8 @@ impl Source {
             Source::Line(line) => other.has_line(other_place, line),
             Source::Token(Some(token)) => other.has_token(other_place, token),
             Source::Held(Some(token)) => other.has_held(other_place, token),
-            Source::Token(None) | Source::Held(None) => false,
+            Source::PartEnd(Some(part)) => other.has_part_end(other_place, *part),
+            Source::Token(None) | Source::Held(None) | Source::PartEnd(None) => false,
         }
     }
 
@@ -117,6 +126,7 @@ impl Source {
             Source::Token(Some(token)) => list.has_token(list_place, token),
             Source::Line(..) => false,
             Source::Held(_) => false,
+            Source::PartEnd(_) => false,
             Source::Token(None) => false,
         }
     }
@@ -129,7 +139,7 @@ impl Source {
         match self {
             Source::Line(own) => line.same(own),
             Source::List(_) => false,
-            Source::Token(_) | Source::Held(_) => false,
+            Source::Token(_) | Source::Held(_) | Source::PartEnd(_) => false,
         }
     }
 
@@ -141,7 +151,8 @@ impl Source {
         match self {
             Source::List(list) => list.has_token(place, token),
             Source::Token(Some(own)) => token.same(own),
-            Source::Line(_) | Source::Token(None) | Source::Held(_) => false,
+            Source::Line(_) | Source::Token(None) => false,
+            Source::Held(_) | Source::PartEnd(_) => false,
         }
     }
 
@@ -153,7 +164,34 @@ impl Source {
         match self {
             Source::Held(Some(own)) => token.same(own),
             Source::List(_) => false,
-            Source::Line(_) | Source::Token(_) | Source::Held(None) => false,
+            Source::Line(_) | Source::Token(_) => false,
+            Source::Held(None) | Source::PartEnd(_) => false,
+        }
+    }
+
+    /// Whether the element at this place is the end of this part of a column.
+    fn has_part_end(&self, place: usize, part: ColumnPart) -> bool
+        requires { place < length (elements_of self.now) }
+        ensures { IsTrue result ↔ (Some (Element_part part) ≡ slice_get (elements_of self.now) place) }
+    {
+        match self {
+            Source::PartEnd(Some(own)) => *own == part,
+            Source::List(_) => false,
+            Source::Line(_) | Source::Token(_) => false,
+            Source::Held(_) | Source::PartEnd(None) => false,
+        }
+    }
+
+    /// Whether it is the end of a u-part.
+    #[inline(always)]
+    pub fn begins_entry(&self) -> bool
+        ensures { result ≡ begins_entry (elements_of self.now) }
+    {
+        match self {
+            Source::PartEnd(Some(part)) => matches!(part, ColumnPart::U),
+            Source::List(_) => false,
+            Source::Line(_) | Source::Token(_) => false,
+            Source::Held(_) | Source::PartEnd(None) => false,
         }
     }
 
@@ -167,6 +205,7 @@ impl Source {
             Source::Line(line) => Ok(Source::Line(line.share()?)),
             Source::Token(token) => Ok(Source::Token(token.clone()?)),
             Source::Held(token) => Ok(Source::Held(token.clone()?)),
+            Source::PartEnd(part) => Ok(Source::PartEnd(*part)),
         }
     }
 }
@@ -179,6 +218,18 @@ fn read_again(token: &mut Option<Token>) -> Token
 {
     match token.take() {
         Some(token) => token,
+        None => unreachable!(),
+    }
+}
+
+/// Reads the end of a part of a column.
+fn read_end(part: &mut Option<ColumnPart>) -> ColumnPart
+    requires { part.old ≢ None }
+    ensures given { IfSome part.old (λ p. result ≡ p) }
+    ensures spent { part.new ≡ None }
+{
+    match part.take() {
+        Some(part) => part,
         None => unreachable!(),
     }
 }

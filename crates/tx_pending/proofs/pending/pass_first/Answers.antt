@@ -1,11 +1,10 @@
-use Rattle.std.proofs.Common.{◌≡◌, ◌≢◌, ◌+◌, ◌-◌, arith, false-eqb, ℕ, Option, Some, IfSome, List, [], ◌∷◌, ◌++◌, get_or, length, set, slice_get, take, refl, ap, subst, sym, ◌∙◌}
-use Rattle.std.proofs.lemmas.Option.{slice_get_read}
+use Rattle.std.proofs.Common.{◌≡◌, ◌≢◌, ◌+◌, ◌-◌, arith, false-eqb, ℕ, List, [], ◌∷◌, ◌++◌, get_or, length, set, take, refl, ap, sym, ◌∙◌}
 use Rattle.tx_lex.specs.declared.types.ReadState.{ReadState}
 use Rattle.tx_pending.specs.declared.source.Source.{Source}
-use Rattle.tx_pending.specs.Elements.{Element, Given, Held, Mark, Unread}
+use Rattle.tx_pending.specs.Elements.{Element, Given, Held, Mark, PartEnd, Unread}
 use Rattle.tx_pending.specs.Plain.{passed}
-use Rattle.tx_pending.specs.Sources.{IsReady, elements_of, stack_elements}
-use Rattle.tx_pending.proofs.StackSteps.{stack_elements-top, stack-set, stack-split}
+use Rattle.tx_pending.specs.Sources.{elements_of, stack_elements}
+use Rattle.tx_pending.proofs.StackSteps.{ready-top, stack_elements-top, stack-set, stack-split}
 use Rattle.tx_pending.proofs.pending.pass_first.Goals as goal
 
 -- what stands behind the first element doesn't matter
@@ -14,6 +13,7 @@ passed-front now [] ys some = absurd (some refl)
 passed-front now (Given t ∷ xs) ys some = refl
 passed-front now (Held t ∷ xs) ys some = refl
 passed-front now (Mark ∷ xs) ys some = refl
+passed-front now (PartEnd part ∷ xs) ys some = refl
 passed-front now (Unread unread state ∷ xs) ys some = refl
 
 -- what the innermost source passes, the whole passes
@@ -23,14 +23,6 @@ passes-top now stack i from to long is some passes =
     ap stack_elements (stack-set stack i to long) ∙ stack_elements-top (take i stack) to ∙ ap (λ (xs : List Element). xs ++ below) passes
     ∙ passed-front now (elements_of from) below some
     ∙ ap (passed now) (sym (ap stack_elements (stack-split stack i from long is) ∙ stack_elements-top (take i stack) from))
-
--- something is left of the innermost source
-ready-top : (stack : List Source) (i : ℕ) (top : Source) → length stack ≡ i + 1 → top ≡ get_or stack i top → IsReady stack → elements_of top ≢ []
-ready-top stack i top long is ready =
-    let last : length stack - 1 ≡ i = omega arith in
-    let there : slice_get stack (length stack - 1) ≡ Some top = ap (slice_get stack) last ∙ slice_get_read stack (length stack) i top refl (omega arith) is in
-    let P : Option Source → Type 0 = λ found. IfSome found (λ t. elements_of t ≢ []) in
-    subst P there ready
 
 pub returns : goal.returns
 returns c =
