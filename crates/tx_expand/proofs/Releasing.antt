@@ -6,14 +6,15 @@ use Rattle.tx_cond.specs.declared.types.Conditional.{Conditional}
 use Rattle.tx_expand.specs.declared.begun.Begun.{Begun}
 use Rattle.tx_expand.specs.declared.begun.Begun.TheVariants as begun
 use Rattle.tx_expand.specs.Expanding.{reader}
-use Rattle.tx_expand.specs.Turns.{held_back, released}
+use Rattle.tx_expand.specs.Turns.{held_back, released, without_once}
 
 -- none is held back
-pub none-held : (bs : List Begun) (input : Input) (conditionals : List Conditional) (job : List ℕ) → held_back bs ≡ None → released (reader bs input conditionals job) ≡ reader bs input conditionals job
+pub none-held : (bs : List Begun) (input : Input) (conditionals : List Conditional) (job : List ℕ) → held_back bs ≡ None → released (reader bs input conditionals job) ≡ reader (without_once bs) input conditionals job
 none-held [] input conditionals job is = refl
 none-held (begun.Use u ∷ outer) input conditionals job is = refl
 none-held (begun.After ∷ outer) input conditionals job is = refl
 none-held (begun.Before t ∷ outer) input conditionals job is = absurd (cc)
+none-held (begun.Once ∷ outer) input conditionals job is = refl
 none-held (begun.Hold ∷ outer) input conditionals job is = refl
 none-held (begun.Print what ∷ outer) input conditionals job is = refl
 none-held (begun.Scanning scan ∷ outer) input conditionals job is = refl
@@ -25,6 +26,7 @@ is-held : (bs : List Begun) (t : Token) → held_back bs ≡ Some t → (outer :
 is-held [] t is = absurd (cc)
 is-held (begun.Use u ∷ outer) t is = absurd (cc)
 is-held (begun.After ∷ outer) t is = absurd (cc)
+is-held (begun.Once ∷ outer) t is = absurd (cc)
 is-held (begun.Before u ∷ outer) t is = let same : u ≡ t = cc in (outer, ap (λ (x : Token). begun.Before x ∷ outer) same)
 is-held (begun.Hold ∷ outer) t is = absurd (cc)
 is-held (begun.Print what ∷ outer) t is = absurd (cc)

@@ -1,7 +1,8 @@
 -- What a turn comes to by what was read.
-use Rattle.std.proofs.Common.{◌≡◌, ◌<◌, ◌+◌, ◌-◌, ℕ, zero, suc, Bool, true, false, None, List, [], ◌∷◌, ◌++◌, drop, refl, ap, sym, ◌∙◌, add-one, drop-cons, get_or, length, Result, Ok, Err, IfOk}
+use Rattle.std.proofs.Common.{◌≡◌, ◌≢◌, ◌<◌, ◌+◌, ◌-◌, ℕ, zero, suc, Bool, true, false, None, List, [], ◌∷◌, ◌++◌, drop, refl, ap, sym, ◌∙◌, add-one, drop-cons, get_or, length, Result, Ok, Err, IfOk}
 use Rattle.tx_char.specs.declared.category.Cat.{Cat}
 use Rattle.tx_char.specs.declared.tokens.Token.{Token}
+use Rattle.tx_pending.specs.declared.next.ColumnPart.{ColumnPart}
 use Rattle.tx_pending.specs.declared.next.Next.{Next}
 use Rattle.tx_pending.specs.declared.next.Next.TheVariants as front
 use Rattle.tx_pending.specs.Elements.{Input, step}
@@ -35,9 +36,9 @@ use Rattle.tx_expand.specs.Reader.{World, Reader, Fails}
 use Rattle.tx_scan.specs.Settled.{tokens_of}
 use Rattle.tx_expand.specs.Scans.{Scan, reading}
 use Rattle.tx_expand.specs.Taken.{IsPassedFirst, IsRead, IsReadBegun, IsReadFirst}
-use Rattle.tx_expand.specs.Turns.{come, expanded, finds, given_to, is_finding, is_scanning, is_skipping, joined, met_word, put, read_on, reads, refused, front_read, is_opening, skips_on, token_read, turn, wanted_by, with_begun, IsTurned}
+use Rattle.tx_expand.specs.Turns.{come, ended, ends_part, entry_end_at, expanded, finds, frozen, given_to, is_finding, is_scanning, is_skipping, joined, met, met_word, part_ended, put_back, read_on, reads, refused, front_read, is_opening, skips_on, token_read, turn, wanted_by, with_begun, with_end, IsTurned}
 
-pub reads-done : (w : World) (what : Scanned) (items : List Item) (r : Reader) (m : Made) (back : List Item) → reading what items ≡ Done m back → reads w what items r ≡ come w m (put (tokens_of back) r)
+pub reads-done : (w : World) (what : Scanned) (items : List Item) (r : Reader) (m : Made) (back : List Item) → reading what items ≡ Done m back → reads w what items r ≡ come w m (put_back (tokens_of back) r)
 reads-done w what items r m back is = ap (λ (read : Reading Made). read_on w (record { what = what; taken = items }) r read) is
 
 drop-none : (n : ℕ) (items : List Item) → items ≡ [] → drop n items ≡ []
@@ -58,6 +59,7 @@ is-scanning [] is = absurd (cc)
 is-scanning (begun.Use u ∷ outer) is = absurd (cc)
 is-scanning (begun.After ∷ outer) is = absurd (cc)
 is-scanning (begun.Before t ∷ outer) is = absurd (cc)
+is-scanning (begun.Once ∷ outer) is = absurd (cc)
 is-scanning (begun.Hold ∷ outer) is = absurd (cc)
 is-scanning (begun.Print what ∷ outer) is = absurd (cc)
 is-scanning (begun.Scanning scan ∷ outer) is = (scan, (outer, refl))
@@ -77,7 +79,7 @@ scanned-made w t r new outer after made is k rest =
     let items : List Item = joined w.value scan t in
     let joins = k scan first.1.0 first.1.1 in
     let around : outer ≡ first.1.0 = rest ∙ ap (λ (bs : List Begun). drop 1 bs) joins.1.0 in
-    let goes : reads w scan.what items (with_begun first.1.0 r) ≡ come w made (put (tokens_of joins.1.1.0) (with_begun first.1.0 r)) = reads-done w scan.what items (with_begun first.1.0 r) made joins.1.1.0 joins.1.1.1.0 in
+    let goes : reads w scan.what items (with_begun first.1.0 r) ≡ come w made (put_back (tokens_of joins.1.1.0) (with_begun first.1.0 r)) = reads-done w scan.what items (with_begun first.1.0 r) made joins.1.1.0 joins.1.1.1.0 in
     rw (first.1.1, joins.1.1.1.1, around) goes
 
 -- skipped text, if the innermost expansion is that
@@ -86,6 +88,7 @@ is-skipping [] is = absurd (cc)
 is-skipping (begun.Use u ∷ outer) is = absurd (cc)
 is-skipping (begun.After ∷ outer) is = absurd (cc)
 is-skipping (begun.Before t ∷ outer) is = absurd (cc)
+is-skipping (begun.Once ∷ outer) is = absurd (cc)
 is-skipping (begun.Hold ∷ outer) is = absurd (cc)
 is-skipping (begun.Print what ∷ outer) is = absurd (cc)
 is-skipping (begun.Scanning scan ∷ outer) is = absurd (cc)
@@ -156,15 +159,51 @@ front-turned : (w : World) (wanted : Wanted) (e : Open) (input behind : Input) (
 front-turned w wanted e input behind codes given closed same next left =
     rw (closed, next, left, same) refl
 
-pub token-turned : (w : World) (wanted : Wanted) (e : Open) (input behind : Input) (codes : List Cat) (given : Next) (t : Token) (m : Meaning) → is_opening e.begun.items ≡ false → codes ≡ w.codes → given ≡ (step codes input).next → behind ≡ (step codes input).left → given ≡ front.Token t → m ≡ w.meaning t → turn w wanted (reader_of e input) ≡ token_read w wanted (record { token = t; meaning = m }) (reader_of e behind)
+pub token-turned : (w : World) (wanted : Wanted) (e : Open) (input behind : Input) (codes : List Cat) (given : Next) (t : Token) (m : Meaning) → is_opening e.begun.items ≡ false → codes ≡ w.codes → given ≡ (step codes input).next → behind ≡ (step codes input).left → given ≡ front.Token t → m ≡ w.meaning t → turn w wanted (reader_of e input) ≡ met w wanted (record { token = t; meaning = m }) (reader_of e behind)
 token-turned w wanted e input behind codes given t m closed same next left is means =
     front-turned w wanted e input behind codes given closed same next left
     ∙ (ap (λ (n : Next). front_read w wanted (reader_of e behind) n) is
-    ∙ ap (λ (x : Meaning). token_read w wanted (record { token = t; meaning = x }) (reader_of e behind)) (sym means))
+    ∙ ap (λ (x : Meaning). met w wanted (record { token = t; meaning = x }) (reader_of e behind)) (sym means))
 
-pub held-turned : (w : World) (wanted : Wanted) (e : Open) (input behind : Input) (codes : List Cat) (given : Next) (t : Token) (m : Meaning) (seen : Seen) → is_opening e.begun.items ≡ false → codes ≡ w.codes → given ≡ (step codes input).next → behind ≡ (step codes input).left → given ≡ front.Held t → m ≡ w.meaning t → seen ≡ held (record { token = t; meaning = m }) → turn w wanted (reader_of e input) ≡ token_read w wanted seen (reader_of e behind)
+pub held-turned : (w : World) (wanted : Wanted) (e : Open) (input behind : Input) (codes : List Cat) (given : Next) (t : Token) (m : Meaning) (seen : Seen) → is_opening e.begun.items ≡ false → codes ≡ w.codes → given ≡ (step codes input).next → behind ≡ (step codes input).left → given ≡ front.Held t → m ≡ w.meaning t → seen ≡ held (record { token = t; meaning = m }) → turn w wanted (reader_of e input) ≡ met w wanted seen (reader_of e behind)
 held-turned w wanted e input behind codes given t m seen closed same next left is means held_is =
     front-turned w wanted e input behind codes given closed same next left
     ∙ (ap (λ (n : Next). front_read w wanted (reader_of e behind) n) is
-    ∙ (ap (λ (x : Meaning). token_read w wanted (held (record { token = t; meaning = x })) (reader_of e behind)) (sym means)
-    ∙ ap (λ (x : Seen). token_read w wanted x (reader_of e behind)) (sym held_is)))
+    ∙ (ap (λ (x : Meaning). met w wanted (held (record { token = t; meaning = x })) (reader_of e behind)) (sym means)
+    ∙ ap (λ (x : Seen). met w wanted x (reader_of e behind)) (sym held_is)))
+
+-- the end of a part of a column comes next
+pub part-turned : (w : World) (wanted : Wanted) (e : Open) (input behind : Input) (codes : List Cat) (given : Next) (part : ColumnPart) → is_opening e.begun.items ≡ false → codes ≡ w.codes → given ≡ (step codes input).next → behind ≡ (step codes input).left → given ≡ front.PartEnd part → turn w wanted (reader_of e input) ≡ front_read w wanted (reader_of e behind) (front.PartEnd part)
+part-turned w wanted e input behind codes given part closed same next left is =
+    front-turned w wanted e input behind codes given closed same next left
+    ∙ ap (λ (n : Next). front_read w wanted (reader_of e behind) n) is
+
+-- a token that ends no entry is read
+pub none-ended : (w : World) (wanted : Wanted) (t : Seen) (r : Reader) → entry_end_at r.input.level t.meaning ≡ None → met w wanted t r ≡ token_read w wanted t r
+none-ended w wanted t r none = rw none refl
+
+-- what reads goes on up to the end of a v-part
+pub part-scanned : (w : World) (r : Reader) (bs : List Begun) → is_scanning bs ≡ true → ends_part w r bs ≡ given_to w frozen (with_end r) bs
+part-scanned w r [] is = absurd (cc)
+part-scanned w r (begun.Use u ∷ outer) is = absurd (cc)
+part-scanned w r (begun.After ∷ outer) is = absurd (cc)
+part-scanned w r (begun.Before t ∷ outer) is = absurd (cc)
+part-scanned w r (begun.Once ∷ outer) is = absurd (cc)
+part-scanned w r (begun.Hold ∷ outer) is = absurd (cc)
+part-scanned w r (begun.Print what ∷ outer) is = absurd (cc)
+part-scanned w r (begun.Scanning scan ∷ outer) is = refl
+part-scanned w r (begun.Skipping depth ∷ outer) is = absurd (cc)
+part-scanned w r (begun.Opening ∷ outer) is = absurd (cc)
+
+-- what else is open ends there
+pub part-over : (w : World) (r : Reader) (bs : List Begun) → bs ≢ [] → is_scanning bs ≡ false → ends_part w r bs ≡ ended (with_end r)
+part-over w r [] some other = absurd (some refl)
+part-over w r (begun.Use u ∷ outer) some other = refl
+part-over w r (begun.After ∷ outer) some other = refl
+part-over w r (begun.Before t ∷ outer) some other = refl
+part-over w r (begun.Once ∷ outer) some other = refl
+part-over w r (begun.Hold ∷ outer) some other = refl
+part-over w r (begun.Print what ∷ outer) some other = refl
+part-over w r (begun.Scanning scan ∷ outer) some other = absurd (cc)
+part-over w r (begun.Skipping depth ∷ outer) some other = refl
+part-over w r (begun.Opening ∷ outer) some other = refl

@@ -2,11 +2,13 @@
 use Rattle.std.proofs.Common.{◌≡◌, ℕ, zero, suc, true, false, List, [], ◌∷◌, ◌++◌, Option, None, Some, refl, map, pos}
 use Rattle.std.specs.Prelude.{codes, cond}
 use Rattle.std.specs.Str.{bytes_eq as same_text}
-use Rattle.tx_char.specs.declared.category.Cat.TheVariants.{Letter, Other, Space}
+use Rattle.tx_char.specs.declared.category.Cat.TheVariants.{AlignmentTab, BeginGroup, EndGroup, Letter, Other, Space}
 use Rattle.tx_char.specs.declared.tokens.Token.{Token}
 use Rattle.tx_char.specs.declared.tokens.Token.TheVariants as token
 use Rattle.tx_toklist.specs.Macros.{Definition}
-use Rattle.tx_pending.specs.Elements.{Given}
+use Rattle.tx_pending.specs.declared.next.ColumnPart.TheVariants.{U, V}
+use Rattle.tx_pending.specs.Elements.{Given, PartEnd, outside}
+use Rattle.tx_prim.specs.declared.family.EntryEnd.TheVariants as end
 use Rattle.tx_prim.specs.declared.modes.Mode.TheVariants.{Vertical}
 use Rattle.tx_prim.specs.declared.expandable.Expandable.TheVariants as x
 use Rattle.tx_prim.specs.declared.expandable.Test.TheVariants as tests
@@ -110,7 +112,7 @@ abbrev around : World
 around = record { meaning = means; value = λ p. Int (pos 7); tokens = λ p. token.Name (codes "a") ∷ []; mark = marks; codes = []; escape = Some 92; fonts = []; font = λ f. 0; mode = Vertical }
 
 abbrev reads : List Token → Reader
-reads tokens = record { input = record { elements = map Given tokens; closing = false }; begun = []; conditionals = []; job = codes "texput.tex" }
+reads tokens = record { input = record { elements = map Given tokens; closing = false; level = outside }; begun = []; conditionals = []; job = codes "texput.tex" }
 
 abbrev wants : Wanted
 wants = record { want = Expanded; text = false; takes_the = false; names = false }
@@ -136,6 +138,8 @@ followed (answer.Text ts) later = more ts later
 followed answer.Went later = later
 followed (answer.Relaxes name) later = later
 followed answer.Marked later = later
+followed (answer.EndsEntry word) later = All []
+followed answer.PartEnded later = All []
 followed (answer.Used close) later = All []
 followed (answer.Asks file) later = Opens [] file
 followed (answer.Wrong error) later = Stopped [] error
@@ -469,3 +473,37 @@ end_in_skipped_in_text = refl
 -- a file ends behind \input f
 end_in_file : file_ended false (left_after 2 (reads (cs (codes "input") ∷ letter 102 ∷ []))) ≡ None
 end_in_file = refl
+
+-- within an entry of an alignment
+abbrev in_entry : List Token → Reader
+in_entry tokens = record { input = record { elements = map Given tokens; closing = false; level = pos 0 }; begun = []; conditionals = []; job = codes "texput.tex" }
+
+abbrev tab : Token
+tab = token.Character 38 AlignmentTab
+
+-- a&: an & ends the entry
+tab_ends : answers_after 1 (in_entry (letter 97 ∷ tab ∷ [])) ≡ answer.EndsEntry end.Tab
+tab_ends = refl
+
+-- {&}&: not within braces
+tab_in_braces : run 3 (in_entry (token.Character 123 BeginGroup ∷ tab ∷ token.Character 125 EndGroup ∷ [])) ≡ All (token.Character 123 BeginGroup ∷ tab ∷ token.Character 125 EndGroup ∷ [])
+tab_in_braces = refl
+
+-- \number5&: the number goes on in the v-part
+tab_in_number : answers_after 2 (in_entry (cs (codes "number") ∷ other 53 ∷ tab ∷ [])) ≡ answer.EndsEntry end.Tab
+tab_in_number = refl
+
+-- a\number5 up to the end of the v-part: the number ends there, and so does the entry
+abbrev in_part : List Token → Reader
+in_part tokens = record { input = record { elements = map Given tokens ++ PartEnd V ∷ []; closing = false; level = outside }; begun = []; conditionals = []; job = codes "texput.tex" }
+
+number_in_part : run 8 (in_part (letter 97 ∷ cs (codes "number") ∷ other 53 ∷ [])) ≡ All (letter 97 ∷ other 53 ∷ token.FrozenRelax ∷ [])
+number_in_part = refl
+
+-- an argument doesn't go on behind it
+argument_in_part : run 4 (in_part (cs (codes "b") ∷ [])) ≡ Stopped [] IncompleteText
+argument_in_part = refl
+
+-- the level of an entry begins where the u-part ends
+entry_begins : (left_after 1 (record { input = record { elements = PartEnd U ∷ Given tab ∷ []; closing = false; level = outside }; begun = []; conditionals = []; job = codes "texput.tex" })).input.level ≡ pos 0
+entry_begins = refl

@@ -6,7 +6,7 @@ use Rattle.tx_char.specs.declared.tokens.Token.TheVariants.{Character}
 use Rattle.tx_cond.specs.declared.types.SkipItem.{SkipItem}
 use Rattle.tx_cond.specs.Skipping.{passing, IsPassed}
 use Rattle.tx_prim.specs.declared.expandable.CondWord.{CondWord}
-use Rattle.tx_pending.specs.Elements.{Input, with_tokens}
+use Rattle.tx_pending.specs.Elements.{Input, given_back}
 use Rattle.tx_seen.specs.declared.fed.Fed.{Fed}
 use Rattle.tx_seen.specs.declared.fed.Value.{Value}
 use Rattle.tx_seen.specs.declared.fed.Want.{Want}
@@ -50,7 +50,7 @@ abbrev pub IsReadAll : Scan → List Item → Input → Scan → Input → Read 
 IsReadAll old items before new after read.More =
     ((want : Want) × (reading old.what items ≡ More want)) × ((new ≡ record { what = old.what; taken = items }) × (after ≡ before))
 IsReadAll old items before new after (read.Made made) =
-    (back : List Item) × ((reading old.what items ≡ Done made back) × (after ≡ with_tokens before (tokens_of back)))
+    (back : List Item) × ((reading old.what items ≡ Done made back) × (after ≡ given_back before (tokens_of back)))
 IsReadAll old items before new after (read.Wrong error) = reading old.what items ≡ Wrong error
 
 -- one more token

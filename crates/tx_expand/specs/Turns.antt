@@ -1,12 +1,22 @@
 -- One turn: a token is read, and what comes of it before another one is needed (TeX: The Program, sections 366 to 380).
-use Rattle.std.specs.Prelude.{◌≡◌, ℕ, Bool, true, false, not, ◌&&◌, ◌||◌, Option, None, Some, List, [], ◌∷◌, ◌++◌, ℤ, unwrap_or, if◌then◌else◌}
+use Rattle.std.specs.Prelude.{◌≡◌, ℕ, Bool, true, false, not, ◌&&◌, ◌||◌, Option, None, Some, List, [], ◌∷◌, ◌++◌, ℤ, pos, unwrap_or, if◌then◌else◌}
+use Rattle.std.specs.Ordering.{int_eq}
+use Rattle.tx_char.specs.declared.category.Cat.{Cat}
+use Rattle.tx_char.specs.declared.category.Cat.TheVariants.{AlignmentTab}
 use Rattle.tx_char.specs.declared.tokens.Token.{Token}
 use Rattle.tx_char.specs.declared.tokens.Token.TheVariants as token
 use Rattle.tx_toklist.specs.Bodies.{filled}
-use Rattle.tx_toklist.specs.Macros.{Definition, Parameters}
+use Rattle.tx_toklist.specs.Macros.{Definition, Parameters, is_begin}
+use Rattle.tx_pending.specs.declared.next.ColumnPart.TheVariants.{U, V}
 use Rattle.tx_pending.specs.declared.next.Next.{Next}
 use Rattle.tx_pending.specs.declared.next.Next.TheVariants as front
-use Rattle.tx_pending.specs.Elements.{Step, step, with_close, with_held, with_tokens}
+use Rattle.tx_pending.specs.Elements.{Input, Step, given_back, lowered, step, with_close, with_held, with_part_end, with_tokens, with_use}
+use Rattle.tx_prim.specs.declared.family.AlignWord.{AlignWord}
+use Rattle.tx_prim.specs.declared.family.AlignWord.TheVariants as align
+use Rattle.tx_prim.specs.declared.family.EntryEnd.{EntryEnd}
+use Rattle.tx_prim.specs.declared.family.EntryEnd.TheVariants as end
+use Rattle.tx_prim.specs.declared.primitive.Primitive.{Primitive}
+use Rattle.tx_prim.specs.declared.primitive.Primitive.TheVariants as primitive
 use Rattle.tx_prim.specs.declared.expandable.Conversion.TheVariants as conversion
 use Rattle.tx_prim.specs.declared.expandable.Expandable.{Expandable}
 use Rattle.tx_prim.specs.declared.expandable.Expandable.TheVariants as expandable
@@ -14,7 +24,7 @@ use Rattle.tx_prim.specs.declared.expandable.MarkKind.{MarkKind}
 use Rattle.tx_prim.specs.declared.expandable.Test.{Test}
 use Rattle.tx_prim.specs.declared.expandable.Test.TheVariants as tests
 use Rattle.tx_seen.specs.declared.error.TexError.{TexError}
-use Rattle.tx_seen.specs.declared.error.TexError.TheVariants.{Undefined, InvalidCharacter, NumberOutOfRange, ExtraConditionalWord, IncompleteConditional, IncompleteText}
+use Rattle.tx_seen.specs.declared.error.TexError.TheVariants.{Undefined, InvalidCharacter, NumberOutOfRange, ExtraConditionalWord, IncompleteConditional, IncompleteText, MisplacedAlignment}
 use Rattle.tx_seen.specs.declared.fed.Want.{Want}
 use Rattle.tx_seen.specs.declared.fed.Want.TheVariants.{Raw, Expanded}
 use Rattle.tx_seen.specs.declared.fed.Value.{Value}
@@ -63,32 +73,50 @@ with_begun begun r = record { input = r.input; begun = begun; conditionals = r.c
 abbrev pub with_conditionals : List Conditional → Reader → Reader
 with_conditionals conditionals r = record { input = r.input; begun = r.begun; conditionals = conditionals; job = r.job }
 
--- tokens stand in front
+abbrev pub with_input : Input → Reader → Reader
+with_input input r = record { input = input; begun = r.begun; conditionals = r.conditionals; job = r.job }
+
+-- tokens that weren't read stand in front (section 323)
 abbrev pub put : List Token → Reader → Reader
-put tokens r = record { input = with_tokens r.input tokens; begun = r.begun; conditionals = r.conditionals; job = r.job }
+put tokens r = with_input (with_tokens r.input tokens) r
+
+-- so do tokens that were read, to be read again (section 325)
+abbrev pub put_back : List Token → Reader → Reader
+put_back tokens r = with_input (given_back r.input tokens) r
+
+-- and those that the use of a macro comes to (section 390)
+abbrev pub put_use : List Token → Reader → Reader
+put_use tokens r = with_input (with_use r.input tokens) r
 
 -- so does one that \noexpand holds: where it is read again at once, it isn't expanded (section 369)
 abbrev pub put_held : Token → Reader → Reader
-put_held t r = record { input = with_held r.input t; begun = r.begun; conditionals = r.conditionals; job = r.job }
+put_held t r = with_input (with_held r.input t) r
 
 -- \endinput: the file ends with its line (section 378)
 abbrev pub put_close : Reader → Reader
-put_close r = record { input = with_close r.input; begun = r.begun; conditionals = r.conditionals; job = r.job }
+put_close r = with_input (with_close r.input) r
 
 -- one begins within those that have begun
 abbrev pub begins : Begun → Reader → Turn
 begins b r = Goes answer.Went (with_begun (b ∷ r.begun) r)
 
--- an expansion within these has ended: what \expandafter held back before it comes in front, innermost first (section 368)
+-- an expansion within these has ended: what \expandafter held back before it comes in front, innermost first (section 368); \span in a
+-- preamble waited for it alone (section 782)
 abbrev pub released_within : List Begun → Reader → Reader
 released_within [] r = with_begun [] r
-released_within (begun.Before t ∷ outer) r = released_within outer (put (t ∷ []) (with_begun outer r))
+released_within (begun.Before t ∷ outer) r = released_within outer (put_back (t ∷ []) (with_begun outer r))
+released_within (begun.Once ∷ outer) r = with_begun outer r
 released_within (b ∷ outer) r = with_begun (b ∷ outer) r
 
 -- the token that the innermost expansion holds back
 abbrev pub held_back : List Begun → Option Token
 held_back (begun.Before t ∷ outer) = Some t
 held_back other = None
+
+-- where no \expandafter waits, \span waits no more
+abbrev pub without_once : List Begun → List Begun
+without_once (begun.Once ∷ outer) = outer
+without_once other = other
 
 abbrev pub released : Reader → Reader
 released r = released_within r.begun r
@@ -100,6 +128,10 @@ ended r = Goes answer.Went (released r)
 abbrev pub replaced : List Token → Reader → Turn
 replaced tokens r = ended (put tokens r)
 
+-- the same, where they were read
+abbrev pub returned : List Token → Reader → Turn
+returned tokens r = ended (put_back tokens r)
+
 -- a word of the innermost conditional: while its test is read TeX puts a \relax in before the word, which is read again; else text
 -- is skipped from there on, or read (sections 379 and 510)
 abbrev pub met_word : Token → Reader → Option Met → Turn
@@ -107,7 +139,7 @@ met_word t r None = Fails ExtraConditionalWord
 met_word t r (Some met) = by met.answer (with_conditionals met.stack r)
   where
     by : Meet → Reader → Turn
-    by meet.Relax behind = replaced (token.FrozenRelax ∷ t ∷ []) behind
+    by meet.Relax behind = returned (token.FrozenRelax ∷ t ∷ []) behind
     by meet.Skip behind = begins (begun.Skipping 0) behind
     by meet.Closed behind = ended behind
 
@@ -140,7 +172,7 @@ come w (made.Gives tokens) r = Goes (answer.Text tokens) (released r)
 come w (made.List text place) r = listed text (w.tokens place) r
 come w (made.Register text n) r = register_listed w text (byte_of n) r
 come w (made.Identifier text font) r = listed text (token.FontIdentifier (w.font font) ∷ []) r
-come w (made.Names name) r = named name (w.meaning (token.Name name)) (released (put (token.Name name ∷ []) r))
+come w (made.Names name) r = named name (w.meaning (token.Name name)) (released (put_back (token.Name name ∷ []) r))
 come w (made.Decides value) r = decided value r
 come w (made.Font font) r = replaced (as_tokens (font_text w.fonts (w.font font))) r
 come w (made.Opens name) r = Goes (answer.Asks name) (with_begun (begun.Opening ∷ r.begun) r)
@@ -149,7 +181,7 @@ come w (made.Opens name) r = Goes (answer.Asks name) (with_begun (begun.Opening 
 abbrev pub read_on : World → Scan → Reader → Reading Made → Turn
 read_on w scan r (More want) = begins (begun.Scanning scan) r
 read_on w scan r (Need kind) = begins (begun.Scanning scan) r
-read_on w scan r (Done made back) = come w made (put (tokens_of back) r)
+read_on w scan r (Done made back) = come w made (put_back (tokens_of back) r)
 read_on w scan r (Wrong error) = Fails error
 
 -- an expansion reads these items
@@ -160,11 +192,15 @@ reads w what items r = read_on w (record { what = what; taken = items }) r (read
 abbrev pub joined : (Place → Value) → Scan → Seen → List Item
 joined at scan t = with_values at (reading scan.what) (scan.taken ++ Took t ∷ [])
 
+-- a begin-group token with which a parameter text ends stands in the body too, so it is as if it hadn't been read (section 394)
+abbrev pub behind_begin : Bool → Input → Input
+behind_begin opens input = if opens then lowered input else input
+
 -- a token joins the use of a macro (section 389)
-abbrev pub use_on : Use → Reader → macro.Use → Turn
-use_on u r macro.Open = begins (begun.Use u) r
-use_on u r (macro.Fits arguments) = replaced (filled u.definition.body arguments) r
-use_on u r (macro.Fails error) = Fails error
+abbrev pub use_on : Token → Use → Reader → macro.Use → Turn
+use_on t u r macro.Open = begins (begun.Use u) r
+use_on t u r (macro.Fits arguments) = ended (put_use (filled u.definition.body arguments) (with_input (behind_begin (is_begin t) r.input) r))
+use_on t u r (macro.Fails error) = Fails error
 
 -- a token joins skipped text, of which it makes this (section 494)
 abbrev pub skips_on : Token → Reader → Passing → Turn
@@ -199,9 +235,10 @@ text_of w printed.Meaning t = meaning_shown w t.meaning
 
 -- an expansion takes a token within those around it
 abbrev pub given_by : World → Seen → Reader → Begun → Turn
-given_by w t r (begun.Use u) = use_on (with_taken u t.token) r (comes_to (with_taken u t.token))
+given_by w t r (begun.Use u) = use_on t.token (with_taken u t.token) r (comes_to (with_taken u t.token))
 given_by w t r begun.After = begins (begun.Before t.token) r
-given_by w t r (begun.Before held) = replaced (held ∷ t.token ∷ []) r
+given_by w t r (begun.Before held) = returned (held ∷ t.token ∷ []) r
+given_by w t r begun.Once = returned (t.token ∷ []) r
 given_by w t r begun.Hold = ended (put_held t.token r)
 given_by w t r (begun.Print what) = replaced (as_tokens (text_of w what t)) r
 given_by w t r (begun.Scanning scan) = reads w scan.what (joined w.value scan t) r
@@ -302,7 +339,7 @@ expands w wanted t r (expandable.Convert conversion.Meaning) = begins (begun.Pri
 expands w wanted t r (expandable.Convert conversion.JobName) = replaced (as_tokens (job_name r.job)) r
 expands w wanted t r (expandable.Convert conversion.FontName) = reads w scanned.Font [] r
 expands w wanted t r expandable.The = reads w (scanned.Quantity (for_text wanted.takes_the r.begun)) [] r
-expands w wanted t r expandable.Input = if wanted.names || is_finding r.begun then replaced (token.FrozenRelax ∷ t ∷ []) r else reads w scanned.File [] r
+expands w wanted t r expandable.Input = if wanted.names || is_finding r.begun then returned (token.FrozenRelax ∷ t ∷ []) r else reads w scanned.File [] r
 expands w wanted t r expandable.EndInput = ended (put_close r)
 expands w wanted t r (expandable.Test test) = reads w (scanned.Test test w.mode) [] (with_conditionals (Testing (is_case test) ∷ r.conditionals) r)
 expands w wanted t r (expandable.Word word) = met_word t r (meeting r.conditionals word)
@@ -318,7 +355,7 @@ is_bare p = is_none p.before && is_none p.delimiters
 
 -- a macro without anything in its parameter text is its body; the others take their arguments (section 389)
 abbrev pub uses : Definition → Reader → Turn
-uses m r = if is_bare m.parameters then replaced (filled m.body []) r else begins (begun.Use (record { definition = m; taken = [] })) r
+uses m r = if is_bare m.parameters then ended (put_use (filled m.body []) r) else begins (begun.Use (record { definition = m; taken = [] })) r
 
 -- the expansion of a token that means this; what isn't expanded is taken
 abbrev pub expanded : World → Wanted → Seen → Reader → Meaning → Turn
@@ -343,7 +380,8 @@ abbrev pub is_expanding : Want → Bool
 is_expanding Raw = false
 is_expanding Expanded = true
 
--- how the next token is wanted by the innermost expansion, or by the caller: what \expandafter waits for is expanded
+-- how the next token is wanted by the innermost expansion, or by the caller: what \expandafter waits for is expanded, and so is what
+-- \span waits for
 abbrev pub want_of : Reading Made → Want
 want_of (More want) = want
 want_of other = Raw
@@ -351,6 +389,7 @@ want_of other = Raw
 abbrev pub wanted_by : Wanted → List Begun → Want
 wanted_by wanted [] = wanted.want
 wanted_by wanted (begun.Before t ∷ outer) = Expanded
+wanted_by wanted (begun.Once ∷ outer) = Expanded
 wanted_by wanted (begun.Scanning scan ∷ outer) = want_of (reading scan.what scan.taken)
 wanted_by wanted (b ∷ outer) = Raw
 
@@ -396,10 +435,67 @@ token_read w wanted t r = by (refused wanted.text t.meaning r.begun)
     by (Some error) = Fails error
     by None = if is_expanding (wanted_by wanted r.begun) then expanded w wanted t r t.meaning else given_to w t r r.begun
 
+-- what a token ends that is read at level 0: an entry of an alignment, whatever is open (section 342)
+abbrev pub word_ends : AlignWord → Option EntryEnd
+word_ends align.Cr = Some end.Cr
+word_ends align.CrCr = Some end.CrCr
+word_ends align.Span = Some end.Span
+word_ends other = None
+
+abbrev pub primitive_ends : Primitive → Option EntryEnd
+primitive_ends (primitive.AlignWord word) = word_ends word
+primitive_ends other = None
+
+abbrev pub category_ends : Cat → Option EntryEnd
+category_ends AlignmentTab = Some end.Tab
+category_ends other = None
+
+abbrev pub entry_end : Meaning → Option EntryEnd
+entry_end (meaning.Character code kind) = category_ends kind
+entry_end (meaning.Command p) = primitive_ends p
+entry_end other = None
+
+abbrev pub entry_end_at : ℤ → Meaning → Option EntryEnd
+entry_end_at level m = if int_eq level (pos 0) then entry_end m else None
+
+-- a token is met: it ends an entry, or is read
+abbrev pub met : World → Wanted → Seen → Reader → Turn
+met w wanted t r = by (entry_end_at r.input.level t.meaning)
+  where
+    by : Option EntryEnd → Turn
+    by (Some word) = Goes (answer.EndsEntry word) r
+    by None = token_read w wanted t r
+
+-- the \relax that stands for the end of a v-part where something is read that goes on up to it
+abbrev pub frozen : Seen
+frozen = record { token = token.FrozenRelax; meaning = meaning.Command primitive.Relax }
+
+-- the end of a v-part stays in front
+abbrev pub with_end : Reader → Reader
+with_end r = with_input (with_part_end r.input V) r
+
+-- the entry has ended, once nothing is open: what reads goes on up to the end of the v-part, and what \expandafter held back stands
+-- before that
+abbrev pub ends_part : World → Reader → List Begun → Turn
+ends_part w r [] = Goes answer.PartEnded r
+ends_part w r (begun.Scanning scan ∷ outer) = given_to w frozen (with_end r) (begun.Scanning scan ∷ outer)
+ends_part w r other = ended (with_end r)
+
+-- a v-part is read to its end (sections 375 and 1130): an error as at the end of a file where an argument, a text or skipped text goes
+-- on, and where a token is wanted whatever it is
+abbrev pub part_ended : World → Wanted → Reader → Turn
+part_ended w wanted r = by (incomplete wanted.text r.begun)
+  where
+    by : Option TexError → Turn
+    by (Some error) = Fails error
+    by None = if is_expanding (wanted_by wanted r.begun) then ends_part w r r.begun else Fails MisplacedAlignment
+
 abbrev pub front_read : World → Wanted → Reader → Next → Turn
-front_read w wanted r (front.Token t) = token_read w wanted (record { token = t; meaning = w.meaning t }) r
-front_read w wanted r (front.Held t) = token_read w wanted (held (record { token = t; meaning = w.meaning t })) r
+front_read w wanted r (front.Token t) = met w wanted (record { token = t; meaning = w.meaning t }) r
+front_read w wanted r (front.Held t) = met w wanted (held (record { token = t; meaning = w.meaning t })) r
 front_read w wanted r front.Marker = Goes answer.Marked r
+front_read w wanted r (front.PartEnd U) = Goes answer.Went r
+front_read w wanted r (front.PartEnd V) = part_ended w wanted r
 front_read w wanted r (front.Used close) = Goes (answer.Used close) r
 front_read w wanted r front.E1 = Fails InvalidCharacter
 
@@ -426,6 +522,10 @@ opened r = by r.begun
     by : List Begun → Reader
     by (begun.Opening ∷ outer) = released (with_begun outer r)
     by other = r
+
+-- the next token is expanded once, and what comes of it is read as it stands (section 782)
+abbrev pub expanding_once : Reader → Reader
+expanding_once r = with_begun (begun.Once ∷ r.begun) r
 
 -- an answer is that of a turn, and this is left; where an error comes nothing is said of what is left
 abbrev pub IsTurned : Turn → Reader → Answer → Type 0

@@ -14,6 +14,8 @@ pub enum Begun {
     After,
     /// \expandafter, which holds this token back until the one behind it is expanded.
     Before(Token),
+    /// \span in a preamble, which waits until the next token is expanded (TeX: The Program, section 782).
+    Once,
     /// \noexpand.
     Hold,
     /// What is printed of the next token.

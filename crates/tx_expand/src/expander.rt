@@ -62,8 +62,8 @@ impl Expander {
         }
         match &self.open.begun[0] {
             Begun::Scanning(scanning) => scanning.magnification(),
-            Begun::Use(_) | Begun::After | Begun::Before(_) | Begun::Hold => None,
-            Begun::Print(_) | Begun::Skipping(_) | Begun::Opening => None,
+            Begun::Use(_) | Begun::After | Begun::Before(_) | Begun::Once => None,
+            Begun::Hold | Begun::Print(_) | Begun::Skipping(_) | Begun::Opening => None,
         }
     }
 
@@ -114,6 +114,13 @@ impl Expander {
         self.open.begun.is_empty()
     }
 
+    /// The next token is expanded once, and what comes of it is read as it stands. Its only error is want of memory.
+    pub fn expand_once(&mut self) -> Result<(), AllocError>
+        ensures { (input : Input) → OnOk result (reader_of self.new input ≡ turns.expanding_once (reader_of self.old input)) }
+    {
+        self.open.expand_once()
+    }
+
     /// Whether the first line of a file is awaited.
     pub fn is_opening(&self) -> bool
         ensures { result ≡ turns.is_opening self.now.begun.items }
@@ -158,19 +165,15 @@ impl Expander {
             Next::Token(token) => {
                 let meaning = known.table.meaning(&token)?;
                 let seen = Seen { token, meaning };
-                if self.open.passes(&seen.meaning) {
-                    return Ok(Expanded::Got(seen));
-                }
-                self.open
-                    .read_other(alloc, input, known, mode, wanted, seen)
+                self.open.met(alloc, input, known, mode, wanted, seen)
             }
             Next::Held(token) => {
                 let meaning = known.table.meaning(&token)?;
                 let seen = Seen { token, meaning }.held();
-                self.open
-                    .read_other(alloc, input, known, mode, wanted, seen)
+                self.open.met(alloc, input, known, mode, wanted, seen)
             }
             Next::Marker => Ok(Expanded::Marked),
+            Next::PartEnd(part) => self.open.part_ends(alloc, input, known, wanted, part),
             Next::Used { close } => Ok(Expanded::Used(close)),
             Next::E1 => Ok(Expanded::Wrong(TexError::InvalidCharacter)),
         }

@@ -7,13 +7,14 @@ ghost use Rattle.tx_convert.specs.Texts.{as_tokens};
 ghost use Rattle.tx_expand.specs.Values.{lent, value_now};
 ghost use Rattle.tx_eqtb.specs.Table.{tokens_at};
 ghost use Rattle.tx_pending.specs.Elements.{Input};
+ghost use Rattle.tx_pending.specs.declared.next.Next.TheVariants as Next;
 ghost use Rattle.tx_prim.specs.declared.modes.Mode.{Mode as Any_mode};
 ghost use Rattle.tx_expand.specs.declared.types.Wanted.{Wanted as Any_wanted};
 ghost use Rattle.tx_expand.specs.Expanding.{reader, reader_of, world_of};
 ghost use Rattle.tx_expand.specs.Reader.{World};
 ghost use Rattle.tx_expand.specs.Taken.{HasTakenIn, HasUseJoined, IsJoinedBegun, IsJoinedFirst, IsPassedBegun, IsPassedFirst, IsReadBegun, IsReadFirst, character};
 ghost use Rattle.tx_expand.specs.Turns as turns;
-ghost use Rattle.tx_expand.specs.Turns.{begins, come, decided, ended, expanded, expands, given_by, given_to, listed, met_word, reads, released, replaced, text_of, token_read, use_on, uses, IsTurned};
+ghost use Rattle.tx_expand.specs.Turns.{begins, come, decided, ended, expanded, expands, given_by, given_to, listed, met, met_word, reads, released, replaced, returned, text_of, token_read, use_on, uses, IsTurned};
 ghost use Rattle.tx_expand.specs.Uses.{comes_to, with_taken};
 
 use crate::begun::Begun;
@@ -30,11 +31,13 @@ use std::collections::VecDeque;
 use tx_char::{Cat, ControlName, Token};
 use tx_cond::{Meet, SkipItem, Skipper};
 use tx_convert::{push_font_name, push_job_name};
-use tx_pending::Pending;
-use tx_prim::{CondWord, Conversion, Expandable, MarkKind, Mode, Test};
+use tx_pending::{ColumnPart, Pending};
+use tx_prim::{
+    AlignWord, CondWord, Conversion, EntryEnd, Expandable, MarkKind, Mode, Primitive, Test,
+};
 use tx_scan::{byte, token_of};
 use tx_seen::{Fed, FontName, Meaning, Place, Seen, TexError, Want};
-use tx_toklist::{Macro, TokList, Toks};
+use tx_toklist::{Macro, TokList, Toks, begins_group};
 
 /// The token that the innermost expansion holds back, if it does. Its only error is that no more owners can be counted.
 fn held_back(begun: &VecDeque<Begun>) -> Result<Option<Token>, AllocError>
@@ -46,8 +49,17 @@ fn held_back(begun: &VecDeque<Begun>) -> Result<Option<Token>, AllocError>
     }
 }
 
-/// Puts what \expandafter held back before an expansion that has ended at the front of the input. Its only error is want of
-/// memory.
+/// A \span that waits for an expansion waits no more.
+fn drop_once(begun: &mut VecDeque<Begun>)
+    ensures { begun.new.items ≡ turns.without_once begun.old.items }
+{
+    if matches!(begun.front(), Some(Begun::Once)) {
+        begun.pop_front();
+    }
+}
+
+/// Puts what \expandafter held back before an expansion that has ended at the front of the input; a \span that waits for it
+/// waits no more. Its only error is want of memory.
 fn release(begun: &mut VecDeque<Begun>, input: &mut Pending) -> Result<(), AllocError>
     ensures { (conditionals : List Conditional) (job : List ℕ) → OnOk result (reader begun.new.items input.new conditionals job ≡ released (reader begun.old.items input.old conditionals job)) }
 {
@@ -55,6 +67,7 @@ fn release(begun: &mut VecDeque<Begun>, input: &mut Pending) -> Result<(), Alloc
         begun.pop_front();
         input.give_back(token)?;
     }
+    drop_once(begun);
     Ok(())
 }
 
@@ -236,7 +249,7 @@ impl Open {
 
     /// TeX puts a \relax in before this token. Its only error is want of memory.
     fn relax_before(&mut self, input: &mut Pending, token: Token) -> Result<Expanded, AllocError>
-        ensures { IfOk result (IsTurned (replaced (Token.FrozenRelax ∷ token ∷ []) (reader_of self.old input.old)) (reader_of self.new input.new)) }
+        ensures { IfOk result (IsTurned (returned (Token.FrozenRelax ∷ token ∷ []) (reader_of self.old input.old)) (reader_of self.new input.new)) }
     {
         input.give_back(token)?;
         input.give_back(Token::FrozenRelax)?;
@@ -430,11 +443,13 @@ impl Open {
         usage: Using,
         token: Token,
     ) -> Result<Expanded, AllocError>
-        ensures { IfOk result (IsTurned (use_on (with_taken usage token) (reader_of self.old input.old) (comes_to (with_taken usage token))) (reader_of self.new input.new)) }
+        ensures { IfOk result (IsTurned (use_on token (with_taken usage token) (reader_of self.old input.old) (comes_to (with_taken usage token))) (reader_of self.new input.new)) }
     {
+        let opens = begins_group(&token);
         match usage.feed(alloc, token)? {
             Step::On(using) => self.begin(Begun::Use(using)),
             Step::Fits(made, arguments) => {
+                lower_behind(input, opens)?;
                 input.push_use(&made, arguments.as_slice())?;
                 self.went(input)
             }
@@ -576,6 +591,10 @@ impl Open {
             Begun::Before(held) => {
                 input.give_back(token_of(token))?;
                 input.give_back(held)?;
+                self.went(input)
+            }
+            Begun::Once => {
+                input.give_back(token_of(token))?;
                 self.went(input)
             }
             Begun::Hold => {
@@ -749,7 +768,7 @@ impl Open {
     {
         match self.begun.front() {
             None => wanted.want,
-            Some(Begun::Before(_)) => Want::Expanded,
+            Some(Begun::Before(_) | Begun::Once) => Want::Expanded,
             Some(Begun::Scanning(scanning)) => scanning.want(),
             Some(_) => Want::Raw,
         }
@@ -852,6 +871,93 @@ impl Open {
         }
     }
 
+    /// A token is met: it ends an entry of an alignment, or is read; where it is the caller's however that wants it, nothing else is
+    /// looked at. Its only error is want of memory.
+    #[inline(always)]
+    pub(crate) fn met(
+        &mut self,
+        alloc: Global,
+        input: &mut Pending,
+        known: &Known,
+        mode: Mode,
+        wanted: Wanted,
+        token: Seen,
+    ) -> Result<Expanded, AllocError>
+        ensures { IfOk result (IsTurned (met (world_of (lent known.now) mode) wanted token (reader_of self.old input.old)) (reader_of self.new input.new)) }
+    {
+        if let Some(word) = entry_end_at(input.level(), &token.meaning) {
+            return Ok(Expanded::EndsEntry(word));
+        }
+        if self.passes(&token.meaning) {
+            return Ok(Expanded::Got(token));
+        }
+        self.read_other(alloc, input, known, mode, wanted, token)
+    }
+
+    /// A part of a column is read to its end: the u-part's is where the entry begins. Its only error is want of memory.
+    #[inline(never)]
+    pub(crate) fn part_ends(
+        &mut self,
+        alloc: Global,
+        input: &mut Pending,
+        known: &Known,
+        wanted: Wanted,
+        part: ColumnPart,
+    ) -> Result<Expanded, AllocError>
+        ensures { (any : Any_mode) → IfOk result (IsTurned (turns.front_read (world_of (lent known.now) any) wanted (reader_of self.old input.old) (Next.PartEnd part)) (reader_of self.new input.new)) }
+    {
+        match part {
+            ColumnPart::U => Ok(Expanded::Went),
+            ColumnPart::V => self.end_part(alloc, input, known, wanted),
+        }
+    }
+
+    /// A v-part is read to its end. Its only error is want of memory.
+    fn end_part(
+        &mut self,
+        alloc: Global,
+        input: &mut Pending,
+        known: &Known,
+        wanted: Wanted,
+    ) -> Result<Expanded, AllocError>
+        ensures { (any : Any_mode) → IfOk result (IsTurned (turns.part_ended (world_of (lent known.now) any) wanted (reader_of self.old input.old)) (reader_of self.new input.new)) }
+    {
+        if let Some(error) = self.incomplete(wanted.text) {
+            return Ok(Expanded::Wrong(error));
+        }
+        match self.want(wanted) {
+            Want::Raw => Ok(Expanded::Wrong(TexError::MisplacedAlignment)),
+            Want::Expanded => self.end_open(alloc, input, known),
+        }
+    }
+
+    /// What is open at the end of a v-part goes on up to it, or nothing is. Its only error is want of memory.
+    fn end_open(
+        &mut self,
+        alloc: Global,
+        input: &mut Pending,
+        known: &Known,
+    ) -> Result<Expanded, AllocError>
+        ensures { (any : Any_mode) → IfOk result (IsTurned (turns.ends_part (world_of (lent known.now) any) (reader_of self.old input.old) self.old.begun.items) (reader_of self.new input.new)) }
+    {
+        if self.begun.is_empty() {
+            return Ok(Expanded::PartEnded);
+        }
+        input.push_part_end(ColumnPart::V)?;
+        if is_scanning(&self.begun) {
+            return self.scan_on(alloc, input, known, frozen());
+        }
+        self.went(input)
+    }
+
+    /// The next token is expanded once. Its only error is want of memory.
+    pub(crate) fn expand_once(&mut self) -> Result<(), AllocError>
+        ensures { (input : Input) → OnOk result (reader_of self.new input ≡ turns.expanding_once (reader_of self.old input)) }
+    {
+        self.begun.push_front(Begun::Once)?;
+        Ok(())
+    }
+
     /// Whether the first line of a file is awaited.
     pub(crate) fn is_opening(&self) -> bool
         ensures { result ≡ turns.is_opening self.now.begun.items }
@@ -868,6 +974,59 @@ impl Open {
             release(&mut self.begun, input)?;
         }
         Ok(())
+    }
+}
+
+/// The \relax that stands for the end of a v-part.
+fn frozen() -> Seen
+    ensures { result ≡ turns.frozen }
+{
+    Seen {
+        token: Token::FrozenRelax,
+        meaning: Meaning::Command(Primitive::Relax),
+    }
+}
+
+/// A begin-group token with which a macro's parameter text ends stands in the body too: it is as if it hadn't been read. Its only
+/// error is that the level can't be counted.
+fn lower_behind(input: &mut Pending, opens: bool) -> Result<(), AllocError>
+    ensures { OnOk result (input.new ≡ turns.behind_begin opens input.old) }
+{
+    if opens {
+        input.lower()?;
+    }
+    Ok(())
+}
+
+/// What a token that means this ends, where it is read at this level.
+#[inline(always)]
+fn entry_end_at(level: i64, meaning: &Meaning) -> Option<EntryEnd>
+    ensures { result ≡ turns.entry_end_at level meaning.now }
+{
+    if level == 0 { entry_end(meaning) } else { None }
+}
+
+/// What a token that means this ends, where it ends an entry of an alignment.
+#[inline(never)]
+fn entry_end(meaning: &Meaning) -> Option<EntryEnd>
+    ensures { result ≡ turns.entry_end meaning.now }
+{
+    match meaning {
+        Meaning::Character(_, Cat::AlignmentTab) => Some(EntryEnd::Tab),
+        Meaning::Command(Primitive::AlignWord(word)) => word_ends(*word),
+        _ => None,
+    }
+}
+
+/// What a word of alignments ends.
+fn word_ends(word: AlignWord) -> Option<EntryEnd>
+    ensures { result ≡ turns.word_ends word }
+{
+    match word {
+        AlignWord::Cr => Some(EntryEnd::Cr),
+        AlignWord::CrCr => Some(EntryEnd::CrCr),
+        AlignWord::Span => Some(EntryEnd::Span),
+        AlignWord::Omit | AlignWord::NoAlign => None,
     }
 }
 

@@ -1,7 +1,7 @@
 //! What an expansion reads and makes, and what a turn answers.
 use tx_bytes::Bytes;
 use tx_char::ControlName;
-use tx_prim::{Mode, Test};
+use tx_prim::{EntryEnd, Mode, Test};
 use tx_seen::{FontName, Place, Seen, TexError, Want};
 use tx_toklist::Toks;
 
@@ -93,6 +93,10 @@ pub enum Expanded {
     Relaxes(ControlName),
     /// The end of a list that was to be marked.
     Marked,
+    /// An entry of an alignment ends by this: what its column has behind it is to be read (TeX: The Program, section 342).
+    EndsEntry(EntryEnd),
+    /// What the column has behind the entry is read to its end.
+    PartEnded,
     /// The line is used up; whether \endinput came since the last such answer.
     Used(bool),
     /// The file of this name is asked for.

@@ -52,8 +52,11 @@ level_before level token = if is_begin token then level -ℤ pos 1 else if is_en
 abbrev pub with_level : Input → ℤ → Input
 with_level input level = record { elements = input.elements; closing = input.closing; level = level }
 
--- a token that was read stands in what is put in, or is none: the level is as if it hadn't been read (TeX: The Program, sections
--- 394 and 442)
+-- a begin-group token that was read stands in what is put in: the level is as if it hadn't been read (TeX: The Program, section 394)
+abbrev pub lowered : Input → Input
+lowered input = with_level input (input.level -ℤ pos 1)
+
+-- so it is behind a brace that is a number behind a backquote (TeX: The Program, section 442)
 abbrev pub unread : Input → Token → Input
 unread input token = with_level input (level_before input.level token)
 

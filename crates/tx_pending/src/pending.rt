@@ -139,8 +139,20 @@ impl Pending {
         self.level = level;
     }
 
-    /// The level becomes as if this token hadn't been read: it stands in what is put in, or is none (TeX: The Program, sections
-    /// 394 and 442). Its only error is that it can't be counted, and then nothing has changed.
+    /// The level is one lower, as if a begin-group token hadn't been read that stands in what is put in (TeX: The Program, section
+    /// 394). Its only error is that it can't be counted, and then nothing has changed.
+    pub fn lower(&mut self) -> Result<(), AllocError>
+        ensures ok { OnOk result (self.new ≡ spec.lowered self.old) }
+        ensures err { OnErr result (self.new ≡ self.old) }
+    {
+        let Some(level) = self.level.checked_sub(1) else {
+            return Err(AllocError);
+        };
+        self.level = level;
+        Ok(())
+    }
+
+    /// The level becomes as if this token hadn't been read: it is a number behind a backquote (TeX: The Program, section 442). Its only error is that it can't be counted, and then nothing has changed.
     pub fn unread(&mut self, token: &Token) -> Result<(), AllocError>
         ensures ok { OnOk result (self.new ≡ spec.unread self.old token.now) }
         ensures err { OnErr result (self.new ≡ self.old) }

@@ -1,7 +1,7 @@
 -- The last tokens of what was taken, put at the front of the input one by one.
-use Rattle.std.proofs.Common.{◌≡◌, ◌≤◌, ◌<◌, ◌+◌, ◌-◌, ℕ, zero, suc, List, [], ◌∷◌, ◌++◌, length, map, refl, ap, sym, ◌∙◌, length-append, arith}
+use Rattle.std.proofs.Common.{◌≡◌, ◌≤◌, ◌<◌, ◌+◌, ◌-◌, ℕ, zero, suc, List, [], ◌∷◌, ◌++◌, length, refl, ap, sym, ◌∙◌, length-append, arith}
 use Rattle.tx_char.specs.declared.tokens.Token.{Token}
-use Rattle.tx_pending.specs.Elements.{Element, Given, Input, with_token, with_tokens}
+use Rattle.tx_pending.specs.Elements.{Input, given_back, with_token}
 use Rattle.tx_seen.specs.declared.item.Item.{Item}
 use Rattle.tx_seen.specs.declared.item.Item.TheVariants.{Took, Gave}
 use Rattle.tx_seen.specs.declared.fed.Value.{Value}
@@ -15,9 +15,9 @@ tokens-on [] ys = refl
 tokens-on (Took t ∷ xs) ys = ap (λ (ts : List Token). t.token ∷ ts) (tokens-on xs ys)
 tokens-on (Gave v ∷ xs) ys = tokens-on xs ys
 
-map-push : (xs : List Token) (t : Token) (more : List Element) → map Given (xs ++ t ∷ []) ++ more ≡ map Given xs ++ Given t ∷ more
-map-push [] t more = refl
-map-push (x ∷ xs) t more = ap (λ (es : List Element). Given x ∷ es) (map-push xs t more)
+given-push : (input : Input) (ts : List Token) (t : Token) → given_back (with_token input t) ts ≡ given_back input (ts ++ t ∷ [])
+given-push input [] t = refl
+given-push input (x ∷ ts) t = ap (λ (i : Input). with_token i x) (given-push input ts t)
 
 last-one : (left : ℕ) (taken : List Item) (t : Seen) → last (suc left) (taken ++ Took t ∷ []) ≡ last left taken ++ Took t ∷ []
 last-one left taken t =
@@ -26,18 +26,18 @@ last-one left taken t =
     last-push (suc left) left taken t (omega arith) ∙ ending-all (suc left) (last left taken ++ Took t ∷ []) (omega (arith, short, long))
 
 -- the last token first
-token-back : (input : Input) (taken : List Item) (t : Seen) (left : ℕ) → with_tokens (with_token input t.token) (tokens_of (last left taken)) ≡ with_tokens input (tokens_of (last (suc left) (taken ++ Took t ∷ [])))
+token-back : (input : Input) (taken : List Item) (t : Seen) (left : ℕ) → given_back (with_token input t.token) (tokens_of (last left taken)) ≡ given_back input (tokens_of (last (suc left) (taken ++ Took t ∷ [])))
 token-back input taken t left =
     let all : tokens_of (last (suc left) (taken ++ Took t ∷ [])) ≡ tokens_of (last left taken) ++ t.token ∷ [] = ap tokens_of (last-one left taken t) ∙ tokens-on (last left taken) (Took t ∷ []) in
-    ap (λ (es : List Element). record { elements = es; closing = input.closing }) (sym (map-push (tokens_of (last left taken)) t.token input.elements) ∙ ap (λ (ts : List Token). map Given ts ++ input.elements) (sym all))
+    given-push input (tokens_of (last left taken)) t.token ∙ ap (given_back input) (sym all)
 
-pub took-back : (input new : Input) (taken rest : List Item) (t : Seen) (left : ℕ) (all : Input) → taken ≡ rest ++ Took t ∷ [] → 0 < left → new ≡ with_token input t.token → with_tokens input (tokens_of (last left taken)) ≡ all → with_tokens new (tokens_of (last (left - 1) rest)) ≡ all
+pub took-back : (input new : Input) (taken rest : List Item) (t : Seen) (left : ℕ) (all : Input) → taken ≡ rest ++ Took t ∷ [] → 0 < left → new ≡ with_token input t.token → given_back input (tokens_of (last left taken)) ≡ all → given_back new (tokens_of (last (left - 1) rest)) ≡ all
 took-back input new taken rest t zero all same h put k = absurd (omega (arith, h))
 took-back input new taken rest t (suc left) all same h put k =
     let e : suc left - 1 ≡ left = omega arith in
-    rw (e, put) (token-back input rest t left ∙ (ap (λ (ts : List Item). with_tokens input (tokens_of (last (suc left) ts))) (sym same) ∙ k))
+    rw (e, put) (token-back input rest t left ∙ (ap (λ (ts : List Item). given_back input (tokens_of (last (suc left) ts))) (sym same) ∙ k))
 
 -- a value is no token
-pub gave-back : (input : Input) (taken rest : List Item) (v : Value) (left : ℕ) (all : Input) → taken ≡ rest ++ Gave v ∷ [] → with_tokens input (tokens_of (last left taken)) ≡ all → with_tokens input (tokens_of (last left rest)) ≡ all
+pub gave-back : (input : Input) (taken rest : List Item) (v : Value) (left : ℕ) (all : Input) → taken ≡ rest ++ Gave v ∷ [] → given_back input (tokens_of (last left taken)) ≡ all → given_back input (tokens_of (last left rest)) ≡ all
 gave-back input taken rest v left all same k =
-    ap (λ (ts : List Item). with_tokens input (tokens_of ts)) (sym (last-given left rest v)) ∙ (ap (λ (ts : List Item). with_tokens input (tokens_of (last left ts))) (sym same) ∙ k)
+    ap (λ (ts : List Item). given_back input (tokens_of ts)) (sym (last-given left rest v)) ∙ (ap (λ (ts : List Item). given_back input (tokens_of (last left ts))) (sym same) ∙ k)

@@ -1,6 +1,6 @@
 //! What was taken and isn't part of a thing goes back to the input (TeX: The Program, section 325).
 ghost use Rattle.std.specs.Prelude.{◌≡◌, OnOk};
-ghost use Rattle.tx_pending.specs.Elements.{with_tokens};
+ghost use Rattle.tx_pending.specs.Elements.{given_back};
 ghost use Rattle.tx_seen.specs.Readings.{last};
 ghost use Rattle.tx_scan.specs.Settled.{tokens_of};
 
@@ -26,7 +26,7 @@ pub fn give_back(
     input: &mut Pending,
     back: usize,
 ) -> Result<(), AllocError>
-    ensures { OnOk result (input.new ≡ with_tokens input.old (tokens_of (last back taken.old))) }
+    ensures { OnOk result (input.new ≡ given_back input.old (tokens_of (last back taken.old))) }
 {
     let mut left = back;
     while left > 0 {

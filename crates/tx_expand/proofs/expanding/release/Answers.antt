@@ -1,6 +1,8 @@
-use Rattle.std.proofs.Common.{◌≡◌, ◌∙◌, sym, rules, Some}
+use Rattle.std.proofs.Common.{◌≡◌, ◌∙◌, ap, sym, rules, List, Some}
+use Rattle.tx_expand.specs.declared.begun.Begun.{Begun}
+use Rattle.tx_expand.specs.Expanding.{reader}
 use Rattle.tx_expand.specs.Turns.{held_back}
-use Rattle.tx_expand.proofs.Releasing.{one-released}
+use Rattle.tx_expand.proofs.Releasing.{none-held, one-released}
 use Rattle.tx_expand.proofs.expanding.release.Goals as goal
 
 pub loop-token-preserved : goal.loop-token-preserved
@@ -10,3 +12,9 @@ loop-token-preserved c =
     one-released c.loop-token.begun.items c.pop_front.new.self.items c.in-Some.token c.loop-token.input c.give_back.new.self conditionals job held
     c.pop_front.ensures.rest (search rules)
     ∙ c.loop-token.invariant conditionals job
+
+pub returns : goal.returns
+returns c = λ conditionals job.
+    ap (λ (bs : List Begun). reader bs c.loop-token.input conditionals job) c.drop_once.ensures
+    ∙ (sym (none-held c.loop-token.begun.items c.loop-token.input conditionals job (search rules))
+    ∙ c.loop-token.invariant conditionals job)
