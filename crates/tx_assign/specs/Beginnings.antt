@@ -65,6 +65,8 @@ primitive_variable primitive.Adjust = None
 primitive_variable primitive.Discretionary = None
 primitive_variable primitive.Insert = None
 primitive_variable primitive.DeadCycles = None
+primitive_variable primitive.Align = None
+primitive_variable (primitive.AlignWord word) = None
 primitive_variable (primitive.Page quantity) = None
 
 -- a register's name of its own is a left side too

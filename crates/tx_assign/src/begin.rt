@@ -38,6 +38,7 @@ fn of_primitive(primitive: Primitive) -> Option<Variable>
         Primitive::Indent(_) | Primitive::DiscretionaryHyphen => None,
         Primitive::Adjust | Primitive::Discretionary => None,
         Primitive::Insert | Primitive::DeadCycles | Primitive::Page(_) => None,
+        Primitive::Align | Primitive::AlignWord(_) => None,
     }
 }
 

@@ -4,6 +4,9 @@ use Rattle.std.specs.Prelude.{IfSome}
 use Rattle.tx_node.specs.declared.rule.Rule.{Rule}
 use Rattle.tx_prim.specs.declared.family.AfterKind.{AfterKind}
 use Rattle.tx_shape.specs.declared.types.Opener.{Opener}
+use Rattle.tx_shape.specs.declared.types.Opener.TheVariants as opener
+use Rattle.tx_command.specs.declared.scans.RowStart.{RowStart}
+use Rattle.tx_command.specs.declared.scans.RowStart.TheVariants as start
 use Rattle.tx_prim.specs.declared.family.DefinitionKind.{DefinitionKind}
 use Rattle.tx_prim.specs.declared.family.GlueForm.{GlueForm}
 use Rattle.tx_prim.specs.declared.family.LeadersKind.{LeadersKind}
@@ -65,9 +68,9 @@ use Rattle.tx_command.specs.declared.scans.Whole.TheVariants as whole
 use Rattle.tx_command.specs.declared.types.Command.{Command}
 use Rattle.tx_command.specs.declared.types.Command.TheVariants.{Nothing, Assign, Keep, Sized}
 use Rattle.tx_command.specs.declared.types.Head.{Head}
-use Rattle.tx_command.specs.declared.types.Head.TheVariants.{Fresh, Prefixed, Defining, Future, Leading, Loading, Shaping as Shaping_head, Opening}
+use Rattle.tx_command.specs.declared.types.Head.TheVariants.{Fresh, Prefixed, Defining, Future, Leading, Loading, Shaping as Shaping_head, Opening, Row, Entry}
 use Rattle.tx_command.specs.declared.types.Prefixes.{Prefixes}
-use Rattle.tx_command.specs.Commands.{command, command_meant, family_command, font_defining, future_defining, load_of, loading, future_of, future_second, keeping, macro_defining, fresh_command, standing_command, may_be_prefixed, prefixed_command, assigning, defining, leaders_of, leaders_rule, leading_command, leading_glue, led_by, repeated, ruling, sizing, skipping, command_of, shaping}
+use Rattle.tx_command.specs.Commands.{command, command_meant, family_command, font_defining, future_defining, load_of, loading, future_of, future_second, keeping, macro_defining, fresh_command, standing_command, may_be_prefixed, prefixed_command, assigning, defining, leaders_of, leaders_rule, leading_command, leading_glue, led_by, repeated, ruling, sizing, skipping, command_of, entry_start, row_start, shaping, started}
 use Rattle.tx_command.specs.Standing.{standing_in}
 use Rattle.tx_scan.proofs.Answering.{ending-none}
 use Rattle.tx_scan.specs.Mapped.{mapped}
@@ -428,6 +431,20 @@ first-shaping mode head prefixes left sizes t new (Err error) e k = tt
 -- the begin-group token before a text of \discretionary
 pub first-opening : (mode : Mode) (head : Head) (opener : Opener) (t : Seen) (new : Scans) (answer : Fed Command) → head ≡ Opening opener → Begins (λ more. shaping (shape_glue.Open opener) (Took t ∷ more)) new answer → IsBegunBy mode head 1 (λ more. command mode head (Took t ∷ more)) (Took t ∷ []) new answer
 first-opening mode head opener t new answer e k = rw e (one-token mode (Opening opener) (λ more. shaping (shape_glue.Open opener) (Took t ∷ more)) t new answer (k mode (Opening opener)))
+
+-- \noalign: the begin-group token behind it
+pub started-open : (t : Seen) (new : Scans) (answer : Fed Command) → is_undefined t ≡ false → Begins (shaping (shape_glue.Open opener.NoAlign)) new answer → (mode : Mode) (head : Head) → IsBegunBy mode head 1 (λ more. started start.NoAlign (Took t ∷ more)) (Took t ∷ []) new answer
+started-open t new answer u k = λ mode head.
+    one-token mode head (λ more. started start.NoAlign (Took t ∷ more)) t new answer
+    (alike mode head 0 (λ more. started start.NoAlign (Took t ∷ more)) (λ more. shaping (shape_glue.Open opener.NoAlign) more) [] new answer
+    (λ more. rw u refl) (k mode head))
+
+-- the first token of a row, and of a further entry
+pub first-row : (mode : Mode) (head : Head) (how : RowStart) (t : Seen) (new : Scans) (answer : Fed Command) → head ≡ Row → how ≡ row_start t.meaning → ((m : Mode) (h : Head) → IsBegunBy m h 1 (λ more. started how (Took t ∷ more)) (Took t ∷ []) new answer) → IsBegunBy mode head 1 (λ more. command mode head (Took t ∷ more)) (Took t ∷ []) new answer
+first-row mode head how t new answer e is k = rw (e, ← is) (k mode Row)
+
+pub first-entry : (mode : Mode) (head : Head) (how : RowStart) (t : Seen) (new : Scans) (answer : Fed Command) → head ≡ Entry → how ≡ entry_start t → ((m : Mode) (h : Head) → IsBegunBy m h 1 (λ more. started how (Took t ∷ more)) (Took t ∷ []) new answer) → IsBegunBy mode head 1 (λ more. command mode head (Took t ∷ more)) (Took t ∷ []) new answer
+first-entry mode head how t new answer e is k = rw (e, ← is) (k mode Entry)
 
 -- the first of the two tokens behind \futurelet and its name
 second-reads : (mode : Mode) (head : Head) (first : Seen) (new : Scans) (item : Item) (more : List Item) → new.stage ≡ stage.SecondToken → future_second head first (item ∷ more) ≡ command_rest mode head new (ending (held new) (Took first ∷ [])) item more

@@ -4,6 +4,8 @@ use Rattle.std.specs.Prelude.{ℕ, pos, ◌∷◌, [], ◌||◌, ◌&&◌, Bool,
 use Rattle.tx_char.specs.declared.category.Cat.{Cat}
 use Rattle.tx_char.specs.declared.category.Cat.TheVariants as category
 use Rattle.tx_prim.specs.declared.family.AfterKind.{AfterKind}
+use Rattle.tx_prim.specs.declared.family.AlignWord.{AlignWord}
+use Rattle.tx_prim.specs.declared.family.AlignWord.TheVariants as align
 use Rattle.tx_prim.specs.declared.family.BreakText.TheVariants as break
 use Rattle.tx_shape.specs.declared.types.Opener.TheVariants as opener
 use Rattle.tx_prim.specs.declared.family.DefinitionKind.{DefinitionKind}
@@ -51,10 +53,12 @@ use Rattle.tx_shape.specs.declared.types.FontAsked.{FontAsked}
 use Rattle.tx_shape.specs.Loading.{loading as load}
 use Rattle.tx_shape.specs.Shapes.{shape as shape_of}
 use Rattle.tx_command.specs.declared.types.Command.{Command}
-use Rattle.tx_command.specs.declared.types.Command.TheVariants.{Nothing, Space, Character, BeginGroup, EndGroup, BeginSemiSimple, EndSemiSimple, Prefix, Define, Assign, Sized, Rule, BeginBox, UseBox, CopyBox, LastBox, Unbox, Penalize, Skip, BeginLeaders, SetDepth, End, Interact, DefineMacro, BeginText, DefineFuture, Keep, Remove, ControlSpace, ItalicCorrection, Indent, InsertPar, EndParagraph, DiscretionaryHyphen, SetFactor, SetPrevGraf, BeginShape, Open, SetDeadCycles, SetPage, SplitBox, DefineFont, LoadFont, SetFontDimen, SetFontInteger}
+use Rattle.tx_command.specs.declared.types.Command.TheVariants.{Nothing, Space, Character, BeginGroup, EndGroup, BeginSemiSimple, EndSemiSimple, Prefix, Define, Assign, Sized, Rule, BeginBox, UseBox, CopyBox, LastBox, Unbox, Penalize, Skip, BeginLeaders, SetDepth, End, Interact, DefineMacro, BeginText, DefineFuture, Keep, Remove, ControlSpace, ItalicCorrection, Indent, InsertPar, EndParagraph, DiscretionaryHyphen, SetFactor, SetPrevGraf, BeginShape, Open, BeginAlign, BeginEntry, EndAlign, SetDeadCycles, SetPage, SplitBox, DefineFont, LoadFont, SetFontDimen, SetFontInteger}
 use Rattle.tx_command.specs.declared.types.Head.{Head}
-use Rattle.tx_command.specs.declared.types.Head.TheVariants.{Fresh, Prefixed, Defining, Future, Leading, Loading, Shaping as Shaping_head, Opening}
+use Rattle.tx_command.specs.declared.types.Head.TheVariants.{Fresh, Prefixed, Defining, Future, Leading, Loading, Shaping as Shaping_head, Opening, Row, Entry}
 use Rattle.tx_command.specs.declared.types.Prefixes.{Prefixes}
+use Rattle.tx_command.specs.declared.scans.RowStart.{RowStart}
+use Rattle.tx_command.specs.declared.scans.RowStart.TheVariants as start
 use Rattle.tx_command.specs.declared.types.SizeUse.{SizeUse}
 use Rattle.tx_command.specs.declared.types.SizeUse.TheVariants as size
 use Rattle.tx_command.specs.Rules.{plain_rule, rule_sides}
@@ -136,6 +140,7 @@ command_of (shaped.SetFactor n) = SetFactor n
 command_of (shaped.SetPrevGraf n) = SetPrevGraf n
 command_of (shaped.BeginShape lines) = BeginShape lines
 command_of (shaped.Open opener) = Open opener
+command_of (shaped.BeginAlign goal) = BeginAlign goal
 command_of (shaped.SetDeadCycles n) = SetDeadCycles n
 command_of (shaped.SetPage quantity v) = SetPage quantity v
 command_of (shaped.SetFontDimen font n size) = SetFontDimen font n size
@@ -228,6 +233,8 @@ family_command primitive.ParShape rest = shaping shape.ParShape rest
 family_command primitive.Adjust rest = shaping shape.Adjust rest
 family_command primitive.Discretionary rest = shaping (shape.Open (opener.Break break.Before)) rest
 family_command primitive.Insert rest = shaping shape.Insert rest
+family_command primitive.Align rest = shaping shape.Align rest
+family_command (primitive.AlignWord word) rest = Wrong MisplacedAlignment
 family_command primitive.DeadCycles rest = shaping shape.DeadCycles rest
 family_command (primitive.Page quantity) rest = shaping (shape.Page quantity) rest
 family_command primitive.ItalicCorrection rest = Done ItalicCorrection rest
@@ -275,6 +282,8 @@ prefixes_of (Defining prefixes defined kind) = prefixes
 prefixes_of (Future prefixes defined) = prefixes
 prefixes_of (Leading kind rule) = record { global = false; long = false; outer = false }
 prefixes_of (Opening opener) = record { global = false; long = false; outer = false }
+prefixes_of Row = record { global = false; long = false; outer = false }
+prefixes_of Entry = record { global = false; long = false; outer = false }
 prefixes_of (Loading prefixes defined) = prefixes
 prefixes_of (Shaping_head prefixes left sizes) = prefixes
 
@@ -352,6 +361,8 @@ is_prefixable prefixes primitive.DiscretionaryHyphen = false
 is_prefixable prefixes primitive.Adjust = false
 is_prefixable prefixes primitive.Discretionary = false
 is_prefixable prefixes primitive.Insert = false
+is_prefixable prefixes primitive.Align = false
+is_prefixable prefixes (primitive.AlignWord word) = false
 is_prefixable prefixes primitive.DeadCycles = not (want_definition prefixes)
 is_prefixable prefixes (primitive.Page quantity) = not (want_definition prefixes)
 
@@ -419,6 +430,58 @@ leading_command mode (Gave v ∷ rest) = Wrong MissingBox
 leading_command mode (Took t ∷ rest) =
     expanded t (if is_space t || is_relax t then Done Nothing rest else led_by (leading_glue mode t.meaning) rest)
 
+-- before a row of an alignment: spaces and \crcr, which do nothing; \noalign and a begin-group token; the alignment's end-group token;
+-- or its first entry, whose first token is read again unless it is \omit (sections 785 and 788)
+abbrev pub word_start : AlignWord → RowStart
+word_start align.CrCr = start.Skipped
+word_start align.NoAlign = start.NoAlign
+word_start align.Omit = start.Omit
+word_start other = start.Entry
+
+abbrev pub character_start : Cat → RowStart
+character_start category.Space = start.Skipped
+character_start category.EndGroup = start.End
+character_start other = start.Entry
+
+abbrev pub primitive_start : Primitive → RowStart
+primitive_start (primitive.AlignWord word) = word_start word
+primitive_start other = start.Entry
+
+abbrev pub row_start : Meaning → RowStart
+row_start (meaning.Character code kind) = character_start kind
+row_start (meaning.Command p) = primitive_start p
+row_start other = start.Entry
+
+-- a further entry: spaces, which do nothing, and its first token, which is read again unless it is \omit (section 791)
+abbrev pub further : RowStart → RowStart
+further start.Omit = start.Omit
+further other = start.Entry
+
+abbrev pub entry_start : Seen → RowStart
+entry_start t = if is_space t then start.Skipped else further (row_start t.meaning)
+
+abbrev pub starts : RowStart → Seen → List Item → Reading Command
+starts start.Skipped t rest = Done Nothing rest
+starts start.NoAlign t rest = shaping (shape.Open opener.NoAlign) rest
+starts start.End t rest = Done EndAlign rest
+starts start.Omit t rest = Done (BeginEntry true) rest
+starts start.Entry t rest = Done (BeginEntry false) (Took t ∷ rest)
+
+abbrev pub started : RowStart → List Item → Reading Command
+started how [] = More Expanded
+started how (Gave v ∷ rest) = Wrong NotAllowed
+started how (Took t ∷ rest) = expanded t (starts how t rest)
+
+abbrev pub row_command : List Item → Reading Command
+row_command [] = More Expanded
+row_command (Gave v ∷ rest) = Wrong NotAllowed
+row_command (Took t ∷ rest) = started (row_start t.meaning) (Took t ∷ rest)
+
+abbrev pub entry_command : List Item → Reading Command
+entry_command [] = More Expanded
+entry_command (Gave v ∷ rest) = Wrong NotAllowed
+entry_command (Took t ∷ rest) = started (entry_start t) (Took t ∷ rest)
+
 -- the command at the front of these items, by what stands before it
 abbrev pub command : Mode → Head → List Item → Reading Command
 command mode Fresh items = fresh_command mode items
@@ -429,6 +492,8 @@ command mode (Leading kind rule) items = leading_command mode items
 command mode (Loading prefixes defined) items = loading defined items
 command mode (Shaping_head prefixes left sizes) items = sizing size.Shape items
 command mode (Opening opener) items = shaping (shape.Open opener) items
+command mode Row items = row_command items
+command mode Entry items = entry_command items
 
 -- whether a token of a command is taken
 abbrev pub is_begun : List Item → Bool

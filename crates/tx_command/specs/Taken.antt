@@ -1,6 +1,6 @@
 -- How a command is taken off the input.
 use Rattle.std.specs.Prelude.{◌≡◌, List, [], ◌∷◌, ◌++◌}
-use Rattle.tx_pending.specs.Elements.{Input, with_tokens}
+use Rattle.tx_pending.specs.Elements.{Input, given_back}
 use Rattle.tx_seen.specs.declared.fed.Fed.{Fed}
 use Rattle.tx_seen.specs.declared.fed.Fed.TheVariants as fed
 use Rattle.tx_seen.specs.declared.fed.Value.{Value}
@@ -48,7 +48,7 @@ abbrev pub IsTakenAll : Begun → List Item → Input → Begun → Input → Co
 IsTakenAll old items before new after made taken.More =
     ((want : Want) × (command old.mode old.head items ≡ More want)) × ((new ≡ record old { taken = items }) × (after ≡ before))
 IsTakenAll old items before new after made taken.Whole =
-    (behind : List Item) × ((command old.mode old.head items ≡ Done made behind) × ((new ≡ record old { taken = [] }) × (after ≡ with_tokens before (tokens_of behind))))
+    (behind : List Item) × ((command old.mode old.head items ≡ Done made behind) × ((new ≡ record old { taken = [] }) × (after ≡ given_back before (tokens_of behind))))
 IsTakenAll old items before new after made (taken.Wrong e) = command old.mode old.head items ≡ Wrong e
 
 -- one more token

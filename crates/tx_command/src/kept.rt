@@ -21,6 +21,8 @@ impl Kept for Head {
                 Ok(Head::Shaping(*prefixes, *left, sizes.share()?))
             }
             Head::Opening(opener) => Ok(Head::Opening(*opener)),
+            Head::Row => Ok(Head::Row),
+            Head::Entry => Ok(Head::Entry),
         }
     }
 
@@ -44,6 +46,8 @@ impl Kept for Head {
                 one == other && left == also && sizes.same(like)
             }
             (Head::Opening(one), Head::Opening(other)) => one == other,
+            (Head::Row, Head::Row) => true,
+            (Head::Entry, Head::Entry) => true,
             _ => false,
         }
     }

@@ -181,6 +181,7 @@ fn command_of(shaped: Shaped) -> Command
         Shaped::SetPrevGraf(number) => Command::SetPrevGraf(number),
         Shaped::BeginShape(lines) => Command::BeginShape(lines),
         Shaped::Open(opener) => Command::Open(opener),
+        Shaped::BeginAlign(goal) => Command::BeginAlign(goal),
         Shaped::SetDeadCycles(number) => Command::SetDeadCycles(number),
         Shaped::SetPage(quantity, value) => Command::SetPage(quantity, value),
         Shaped::SetFontDimen(font, number, size) => Command::SetFontDimen(font, number, size),

@@ -63,6 +63,21 @@ pub enum Stage {
     Spaces,
 }
 
+/// What an entry of an alignment, or what stands before a row, begins with (TeX: The Program, sections 785 and 791).
+#[derive(Clone, Copy)]
+pub enum RowStart {
+    /// A space, or \crcr before a row: nothing yet.
+    Skipped,
+    /// \noalign.
+    NoAlign,
+    /// The end-group token of the alignment.
+    End,
+    /// \omit.
+    Omit,
+    /// The entry itself.
+    Entry,
+}
+
 /// The scans of the parts of commands. They are begun anew in place, so that a token moves none of them.
 #[derive(Drop)]
 pub struct Scans {

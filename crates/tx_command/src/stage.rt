@@ -13,7 +13,7 @@ use crate::mapping::{
     assigned, defined, font_defined, future_defined, led, loaded, macro_defined, put_shaped,
     put_whole, ruled, shaped, sized,
 };
-use crate::scans::{RuleScan, Scans, Stage, Whole};
+use crate::scans::{RowStart, RuleScan, Scans, Stage, Whole};
 use crate::standing::{may_be_prefixed, standing_in};
 use crate::types::{Command, Head, Prefixes, SizeUse};
 use std::alloc::{AllocError, Global};
@@ -21,8 +21,8 @@ use tx_assign::{AssignScan, Assigning, Assignment, Change, Variable};
 use tx_char::Cat;
 use tx_eqtb::Entry;
 use tx_prim::{
-    AfterKind, BreakText, GlueForm, Indentation, LeadersKind, Mode, Primitive, RuleKind, Shorthand,
-    Standing,
+    AfterKind, AlignWord, BreakText, GlueForm, Indentation, LeadersKind, Mode, Primitive, RuleKind,
+    Shorthand, Standing,
 };
 use tx_scan::{DimenScan, NameScan};
 use tx_seen::{Fed, Meaning, Place, Seen, TexError, Value, Want};
@@ -77,6 +77,7 @@ fn feed_second(head: &Head, token: &Seen) -> Result<Fed<Command>, AllocError>
         }
         Head::Leading(_, _) | Head::Loading(_, _) => Ok(Fed::Done(Command::Nothing, 2)),
         Head::Shaping(_, _, _) | Head::Opening(_) => Ok(Fed::Done(Command::Nothing, 2)),
+        Head::Row | Head::Entry => Ok(Fed::Done(Command::Nothing, 2)),
     }
 }
 
@@ -102,6 +103,66 @@ fn leading_glue(mode: Mode, meaning: &Meaning) -> Option<GlueForm>
         Meaning::Command(Primitive::VerticalGlue(form)) if vertical => Some(*form),
         // of all others alike
         _ => None,
+    }
+}
+
+/// What a row begins with, by a word of alignments.
+fn word_start(word: AlignWord) -> RowStart
+    ensures { result ≡ commands.word_start word }
+{
+    match word {
+        AlignWord::CrCr => RowStart::Skipped,
+        AlignWord::NoAlign => RowStart::NoAlign,
+        AlignWord::Omit => RowStart::Omit,
+        AlignWord::Cr | AlignWord::Span => RowStart::Entry,
+    }
+}
+
+/// The same, by a character's category.
+fn character_start(category: Cat) -> RowStart
+    ensures { result ≡ commands.character_start category }
+{
+    match category {
+        Cat::Space => RowStart::Skipped,
+        Cat::EndGroup => RowStart::End,
+        // of all others alike
+        _ => RowStart::Entry,
+    }
+}
+
+/// The same, by a primitive.
+fn primitive_start(primitive: Primitive) -> RowStart
+    ensures { result ≡ commands.primitive_start primitive }
+{
+    match primitive {
+        Primitive::AlignWord(word) => word_start(word),
+        // of all others alike
+        _ => RowStart::Entry,
+    }
+}
+
+/// What a row begins with where this token is met.
+fn row_start(token: &Seen) -> RowStart
+    ensures { result ≡ commands.row_start token.now.meaning }
+{
+    match &token.meaning {
+        Meaning::Character(_, category) => character_start(*category),
+        Meaning::Command(primitive) => primitive_start(*primitive),
+        // of all others alike
+        _ => RowStart::Entry,
+    }
+}
+
+/// What a further entry begins with there: neither \crcr nor \noalign nor an end-group token is anything but its text.
+fn entry_start(token: &Seen) -> RowStart
+    ensures { result ≡ commands.entry_start token.now }
+{
+    if token.is_space() {
+        return RowStart::Skipped;
+    }
+    match row_start(token) {
+        RowStart::Omit => RowStart::Omit,
+        RowStart::Skipped | RowStart::NoAlign | RowStart::End | RowStart::Entry => RowStart::Entry,
     }
 }
 
@@ -367,6 +428,8 @@ impl Scans {
             Head::Loading(_, name) => self.feed_loading(name, token),
             Head::Shaping(_, _, _) => self.feed_shape(token),
             Head::Opening(opener) => Ok(self.feed_open(*opener, token)),
+            Head::Row => Ok(self.feed_row(row_start(token), token)),
+            Head::Entry => Ok(self.feed_row(entry_start(token), token)),
         }
     }
 
@@ -473,6 +536,23 @@ impl Scans {
         shaped(self.shape.feed_open(opener, token))
     }
 
+    /// What an entry, or what stands before a row, begins with.
+    #[inline(never)]
+    fn feed_row(&mut self, start: RowStart, token: &Seen) -> Fed<Command>
+        ensures { (mode : Mode) (head : Head) → IsBegunBy mode head 1 (λ more. commands.started start (Took token.now ∷ more)) (Took token.now ∷ []) self.new result }
+    {
+        if token.is_undefined() {
+            return Fed::Wrong(TexError::Undefined);
+        }
+        match start {
+            RowStart::Skipped => Fed::Done(Command::Nothing, 0),
+            RowStart::NoAlign => self.begin_shape(Shaping::Open(Opener::NoAlign)),
+            RowStart::End => Fed::Done(Command::EndAlign, 0),
+            RowStart::Omit => Fed::Done(Command::BeginEntry(true), 0),
+            RowStart::Entry => Fed::Done(Command::BeginEntry(false), 1),
+        }
+    }
+
     /// The command whose first token means this.
     fn begin(&mut self, meaning: &Meaning) -> Fed<Command>
         ensures { Begins (commands.command_meant meaning.now) self.new result }
@@ -557,6 +637,8 @@ impl Scans {
                 self.begin_shape(Shaping::Open(Opener::Break(BreakText::Before)))
             }
             Primitive::Insert => self.begin_shape(Shaping::Insert),
+            Primitive::Align => self.begin_shape(Shaping::Align),
+            Primitive::AlignWord(_) => Fed::Wrong(TexError::MisplacedAlignment),
             Primitive::DeadCycles => self.begin_shape(Shaping::DeadCycles),
             Primitive::Page(quantity) => self.begin_shape(Shaping::Page(quantity)),
             Primitive::ItalicCorrection => Fed::Done(Command::ItalicCorrection, 0),

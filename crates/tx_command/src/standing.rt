@@ -126,6 +126,8 @@ fn is_prefixable(prefixes: Prefixes, primitive: Primitive) -> bool
         | Primitive::DiscretionaryHyphen
         | Primitive::Adjust
         | Primitive::Insert
+        | Primitive::Align
+        | Primitive::AlignWord(_)
         | Primitive::Discretionary => false,
     }
 }

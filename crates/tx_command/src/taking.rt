@@ -86,11 +86,12 @@ impl CommandScan {
         ensures { result ≡ prefixes_of self.now.head }
     {
         match &self.head {
-            Head::Fresh | Head::Leading(_, _) | Head::Opening(_) => Prefixes {
-                global: false,
-                long: false,
-                outer: false,
-            },
+            Head::Fresh | Head::Leading(_, _) | Head::Opening(_) | Head::Row | Head::Entry =>
+                Prefixes {
+                    global: false,
+                    long: false,
+                    outer: false,
+                },
             Head::Prefixed(prefixes) | Head::Defining(prefixes, _, _) | Head::Future(prefixes, _) =>
                 *prefixes,
             Head::Loading(prefixes, _) | Head::Shaping(prefixes, _, _) => *prefixes,
@@ -105,6 +106,7 @@ impl CommandScan {
             Head::Leading(kind, rule) => Some((*kind, *rule)),
             Head::Fresh | Head::Prefixed(_) | Head::Defining(_, _, _) | Head::Future(_, _) => None,
             Head::Loading(_, _) | Head::Shaping(_, _, _) | Head::Opening(_) => None,
+            Head::Row | Head::Entry => None,
         }
     }
 
@@ -123,7 +125,7 @@ impl CommandScan {
             Head::Loading(_, _) => is_naming(self.taken.as_slice()),
             Head::Fresh | Head::Prefixed(_) | Head::Defining(_, _, _) => false,
             Head::Future(_, _) | Head::Leading(_, _) | Head::Shaping(_, _, _) => false,
-            Head::Opening(_) => false,
+            Head::Opening(_) | Head::Row | Head::Entry => false,
         }
     }
 
@@ -248,7 +250,7 @@ fn begun_want(head: &Head) -> Want
     match head {
         Head::Fresh | Head::Prefixed(_) | Head::Defining(_, _, _) => Want::Expanded,
         Head::Leading(_, _) | Head::Loading(_, _) | Head::Shaping(_, _, _) => Want::Expanded,
-        Head::Opening(_) => Want::Expanded,
+        Head::Opening(_) | Head::Row | Head::Entry => Want::Expanded,
         Head::Future(_, _) => Want::Raw,
     }
 }

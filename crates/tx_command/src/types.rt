@@ -56,6 +56,10 @@ pub enum Head {
     Shaping(Prefixes, u32, Items<i32>),
     /// The begin-group token of this is to follow: of a text of \discretionary, behind it and its texts before, or of \output.
     Opening(Opener),
+    /// A row of an alignment is to follow, or what stands between rows, or the alignment's end.
+    Row,
+    /// A further entry of a row is to follow.
+    Entry,
 }
 
 /// A command with all that belongs to it.
@@ -124,6 +128,12 @@ pub enum Command {
     BeginShape(i32),
     /// The begin-group token before a text of `\discretionary`, or of `\output`'s tokens.
     Open(Opener),
+    /// `\halign` and its begin-group token, with what the preamble is set to.
+    BeginAlign(BoxGoal),
+    /// The first token of an entry: whether it is `\omit`, or is read again.
+    BeginEntry(bool),
+    /// The end-group token of an alignment.
+    EndAlign,
     /// An assignment to `\deadcycles`.
     SetDeadCycles(i32),
     /// An assignment to a quantity of the page, in sp; to `\insertpenalties` a number.

@@ -20,6 +20,12 @@ pub enum GroupKind {
     Insert(u8),
     /// The brace that \output's tokens begin with.
     Output,
+    /// The brace behind \halign.
+    Align,
+    /// An entry of an alignment, or entries that \span joins.
+    Entry,
+    /// The brace behind \noalign.
+    NoAlign,
 }
 
 /// A group, and the table as it stands outside it.

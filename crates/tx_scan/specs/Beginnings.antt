@@ -107,6 +107,8 @@ begun_by_command primitive.DiscretionaryHyphen = no_number
 begun_by_command primitive.Adjust = no_number
 begun_by_command primitive.Discretionary = no_number
 begun_by_command primitive.Insert = no_number
+begun_by_command primitive.Align = no_number
+begun_by_command (primitive.AlignWord word) = no_number
 begun_by_command primitive.DeadCycles = begin.At place.DeadCycles
 begun_by_command (primitive.Page quantity) = begin.At (place.Page quantity)
 

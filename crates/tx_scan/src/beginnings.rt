@@ -96,6 +96,7 @@ fn begun_by_command(command: Primitive) -> Beginning
         Primitive::ItalicCorrection | Primitive::ControlSpace => nothing(),
         Primitive::Indent(_) | Primitive::DiscretionaryHyphen => nothing(),
         Primitive::Adjust | Primitive::Discretionary | Primitive::Insert => nothing(),
+        Primitive::Align | Primitive::AlignWord(_) => nothing(),
         Primitive::DeadCycles => Beginning::At(Place::DeadCycles),
         Primitive::Page(quantity) => Beginning::At(Place::Page(quantity)),
         Primitive::Tokens(_) => nothing(),

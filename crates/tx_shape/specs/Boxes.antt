@@ -33,8 +33,9 @@ use Rattle.tx_shape.specs.declared.types.BoxGoal.TheVariants.{Natural, To, Sprea
 use Rattle.tx_shape.specs.declared.types.BoxRead.TheVariants.{Begin, Use, Copy, Last, Split}
 use Rattle.tx_shape.specs.declared.types.Opener.{Opener}
 use Rattle.tx_shape.specs.declared.types.Shaped.{Shaped}
-use Rattle.tx_shape.specs.declared.types.Shaped.TheVariants.{Box, Open, Unbox, Penalize, Skip}
+use Rattle.tx_shape.specs.declared.types.Shaped.TheVariants.{BeginAlign, Box, Open, Unbox, Penalize, Skip}
 use Rattle.tx_shape.specs.declared.scans.Opening.{Opening}
+use Rattle.tx_shape.specs.declared.scans.Opening.TheVariants as opening
 
 -- what the list of a box is packed to: `to` or `spread` and a size, or nothing (section 645)
 abbrev pub goal_by : (ℤ → BoxGoal) → List Item → Reading BoxGoal
@@ -54,19 +55,20 @@ to_or_not false rest = spread_goal rest
 abbrev pub box_goal : List Item → Reading BoxGoal
 box_goal items = next (keyword (codes "to") items) to_or_not
 
--- a box that is begun
+-- a box that is begun, or an alignment
 abbrev pub begun : Opening → BoxGoal → Shaped
-begun opening goal = Box (Begin opening.kind goal) opening.context
+begun (opening.Box kind context) goal = Box (Begin kind goal) context
+begun opening.Align goal = BeginAlign goal
 
 -- the begin-group token behind that (section 403)
 abbrev pub opened : Opening → BoxGoal → List Item → Reading Shaped
-opened opening goal items = next (left_brace items) (λ _ rest. Done (begun opening goal) rest)
+opened what goal items = next (left_brace items) (λ _ rest. Done (begun what goal) rest)
 
 abbrev pub box_begin : Opening → List Item → Reading Shaped
-box_begin opening items = next (box_goal items) (opened opening)
+box_begin what items = next (box_goal items) (opened what)
 
--- the begin-group token before a text of \discretionary (sections 1117 and 1119), the list of an \insert (section 1099) and the
--- tokens of \output (section 1025)
+-- the begin-group token before a text of \discretionary (sections 1117 and 1119), the list of an \insert (section 1099), the tokens
+-- of \output (section 1025) and the material of \noalign (section 785)
 abbrev pub group_begun : Opener → List Item → Reading Shaped
 group_begun opener items = next (left_brace items) (λ _ rest. Done (Open opener) rest)
 
@@ -107,7 +109,7 @@ box_from source.Split context items = by_register (λ n rest. split_to n context
 
 -- the box that a primitive begins or stands for; no other is one
 abbrev pub box_meant : BoxContext → Meaning → List Item → Reading Shaped
-box_meant context (meaning.Command (primitive.Box kind)) rest = box_begin (record { kind = kind; context = context }) rest
+box_meant context (meaning.Command (primitive.Box kind)) rest = box_begin (opening.Box kind context) rest
 box_meant context (meaning.Command (primitive.BoxFrom source)) rest = box_from source context rest
 box_meant context _ rest = Wrong MissingBox
 

@@ -6,6 +6,7 @@ use Rattle.tx_seen.specs.declared.error.TexError.TheVariants.{NumberOutOfRange}
 use Rattle.tx_seen.specs.Readings.{Reading, Done, Wrong}
 use Rattle.tx_scan.specs.declared.scans.FontSought.TheVariants as sought
 use Rattle.tx_shape.specs.declared.scans.NumberSetting.TheVariants as number
+use Rattle.tx_shape.specs.declared.scans.Opening.TheVariants as opening
 use Rattle.tx_shape.specs.declared.scans.Setting.TheVariants.{Size, Number}
 use Rattle.tx_shape.specs.declared.scans.SizeSetting.TheVariants as size
 use Rattle.tx_shape.specs.declared.types.BoxContext.TheVariants.{Adjust, Append, Ship}
@@ -24,7 +25,7 @@ character items = by_register (λ n rest. Done (Character n) rest) items
 
 -- \vadjust: the begin-group token of a vertical list (section 1099)
 abbrev pub adjusting : List Item → Reading Shaped
-adjusting items = opened (record { kind = Vertical; context = Adjust }) Natural items
+adjusting items = opened (opening.Box Vertical Adjust) Natural items
 
 -- \insert: the number of a class, then the begin-group token of a vertical list (section 1099)
 abbrev pub inserting_at : ℕ → List Item → Reading Shaped
@@ -33,9 +34,13 @@ inserting_at n rest = if n == 255 then Wrong NumberOutOfRange else group_begun (
 abbrev pub inserting : List Item → Reading Shaped
 inserting items = by_register inserting_at items
 
+-- \halign: perhaps `to` or `spread` and a size, and a begin-group token (section 774)
+abbrev pub aligning : List Item → Reading Shaped
+aligning items = box_begin opening.Align items
+
 -- what a command takes behind its first token; a box that stands alone is appended as it is
 abbrev pub shape : Shaping → List Item → Reading Shaped
-shape (shaping.Box kind) items = box_begin (record { kind = kind; context = Append (pos 0) }) items
+shape (shaping.Box kind) items = box_begin (opening.Box kind (Append (pos 0))) items
 shape (shaping.From source) items = box_from source (Append (pos 0)) items
 shape shaping.Shipout items = needed_box Ship items
 shape shaping.SetBox items = box_setting items
@@ -50,6 +55,7 @@ shape shaping.PrevGraf items = setting (Number number.PrevGraf) items
 shape shaping.ParShape items = setting (Number number.ParShape) items
 shape shaping.Adjust items = adjusting items
 shape shaping.Insert items = inserting items
+shape shaping.Align items = aligning items
 shape shaping.DeadCycles items = setting (Number number.DeadCycles) items
 shape (shaping.Page quantity) items = setting (page_setting quantity) items
 shape (shaping.Open opener) items = group_begun opener items

@@ -36,7 +36,7 @@ impl ShapeScan {
         match &token.meaning {
             Meaning::Command(Primitive::Box(kind)) => {
                 let kind = *kind;
-                self.on(Stage::Plain(Plain::Goal(Opening { kind, context })))
+                self.on(Stage::Plain(Plain::Goal(Opening::Box(kind, context))))
             }
             Meaning::Command(Primitive::BoxFrom(source)) => self.begin_source(*source, context),
             // of all others alike

@@ -1,4 +1,5 @@
-//! What the list of a box is packed to, and its begin-group token (TeX: The Program, sections 403 and 645).
+//! What the list of a box or the preamble of an alignment is packed to, and the begin-group token (TeX: The Program, sections 403,
+//! 645 and 774).
 ghost use Rattle.std.specs.Prelude.{◌≡◌, ◌≤◌, ◌<◌, ◌+◌, ◌∷◌, ◌++◌, [], List, length};
 ghost use Rattle.tx_seen.specs.declared.item.Item.{Item};
 ghost use Rattle.tx_seen.specs.declared.item.Item.TheVariants.{Took};
@@ -150,9 +151,12 @@ impl ShapeScan {
     }
 }
 
-/// A box that is begun.
+/// A box or an alignment that is begun.
 fn begun(opening: Opening, goal: BoxGoal) -> Shaped
     ensures { result ≡ boxes.begun opening goal }
 {
-    Shaped::Box(BoxRead::Begin(opening.kind, goal), opening.context)
+    match opening {
+        Opening::Box(kind, context) => Shaped::Box(BoxRead::Begin(kind, goal), context),
+        Opening::Align => Shaped::BeginAlign(goal),
+    }
 }

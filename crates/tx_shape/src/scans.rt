@@ -6,11 +6,13 @@ use tx_prim::{BoxKind, FontNumber, PageQuantity, ShiftKind, UnboxKind};
 use tx_scan::{DimenScan, FontSought, GlueScan, IntScan};
 use tx_seen::{FontName, TexError};
 
-/// A box that is to be begun: which list makes it, and what becomes of it.
+/// What is to be begun behind perhaps `to` or `spread` and a size.
 #[derive(Clone, Copy)]
-pub struct Opening {
-    pub kind: BoxKind,
-    pub context: BoxContext,
+pub enum Opening {
+    /// A box: which list makes it, and what becomes of it.
+    Box(BoxKind, BoxContext),
+    /// An alignment.
+    Align,
 }
 
 /// What the number of a register is for.

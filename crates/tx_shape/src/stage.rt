@@ -43,8 +43,8 @@ impl ShapeScan {
     {
         match shaping {
             Shaping::Box(kind) => {
-                let context = BoxContext::Append(0);
-                self.on(Stage::Plain(Plain::Goal(Opening { kind, context })))
+                let opening = Opening::Box(kind, BoxContext::Append(0));
+                self.on(Stage::Plain(Plain::Goal(opening)))
             }
             Shaping::From(source) => self.begin_source(source, BoxContext::Append(0)),
             Shaping::Shipout => self.on(Stage::Plain(Plain::Needed(BoxContext::Ship))),
@@ -63,11 +63,11 @@ impl ShapeScan {
                 self.on(Stage::Setting(Setting::Number(NumberSetting::ParShape)))
             }
             Shaping::Adjust => {
-                let (kind, context) = (BoxKind::Vertical, BoxContext::Adjust);
-                let opening = Opening { kind, context };
+                let opening = Opening::Box(BoxKind::Vertical, BoxContext::Adjust);
                 self.on(Stage::Plain(Plain::Brace(opening, BoxGoal::Natural)))
             }
             Shaping::Insert => self.to_amount(Amount::Register(Registering::Insert)),
+            Shaping::Align => self.on(Stage::Plain(Plain::Goal(Opening::Align))),
             Shaping::DeadCycles => {
                 self.on(Stage::Setting(Setting::Number(NumberSetting::DeadCycles)))
             }

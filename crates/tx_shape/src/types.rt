@@ -37,6 +37,8 @@ pub enum Opener {
     Insert(u8),
     /// The tokens of \output.
     Output,
+    /// The material of \noalign.
+    NoAlign,
 }
 
 /// A box that is meant (TeX: The Program, section 1079).
@@ -86,6 +88,8 @@ pub enum Shaping {
     Adjust,
     /// \insert.
     Insert,
+    /// \halign.
+    Align,
     /// \deadcycles.
     DeadCycles,
     /// \pagegoal and its kin.
@@ -125,6 +129,8 @@ pub enum Shaped {
     SetPage(PageQuantity, i32),
     /// The begin-group token of this is there.
     Open(Opener),
+    /// That of \halign is, whose preamble is set to this.
+    BeginAlign(BoxGoal),
     /// The \fontdimen of this number of a font is to be so many sp.
     SetFontDimen(FontName, u16, i32),
     /// \hyphenchar or \skewchar of a font is to be this number.

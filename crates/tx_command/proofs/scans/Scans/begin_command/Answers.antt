@@ -1,5 +1,5 @@
 use Rattle.std.proofs.Common.{ap}
-use Rattle.tx_command.proofs.Stages.{first-fresh, first-prefixed, first-future, first-leading, first-loading, first-shaping, first-opening}
+use Rattle.tx_command.proofs.Stages.{first-fresh, first-prefixed, first-future, first-leading, first-loading, first-shaping, first-opening, first-row, first-entry}
 use Rattle.tx_command.proofs.scans.Scans.begin_command.Goals as goal
 
 pub returns-in-Fresh : goal.returns-in-Fresh
@@ -22,3 +22,9 @@ returns-in-Shaping c = first-shaping c.args.mode c.args.head.now _ _ _ c.args.to
 
 pub returns-in-Opening : goal.returns-in-Opening
 returns-in-Opening c = first-opening c.args.mode c.args.head.now _ c.args.token.now c.feed_open.new.self c.feed_open.result c.in-Opening.is c.feed_open.ensures
+
+pub returns-in-Row : goal.returns-in-Row
+returns-in-Row c = first-row c.args.mode c.args.head.now c.row_start.result c.args.token.now c.feed_row.new.self c.feed_row.result c.in-Row.is c.row_start.ensures c.feed_row.ensures
+
+pub returns-in-Entry : goal.returns-in-Entry
+returns-in-Entry c = first-entry c.args.mode c.args.head.now c.entry_start.result c.args.token.now c.feed_row-in-Entry.new.self c.feed_row-in-Entry.result c.in-Entry.is c.entry_start.ensures c.feed_row-in-Entry.ensures
