@@ -111,7 +111,7 @@ ends lines before between new most lists table report done answer deep same said
 -- a list without a marker is its tokens
 unmarked : (input : Input) (tokens : List Token) → with_list input tokens false ≡ with_tokens input tokens
 unmarked input tokens =
-    let made : List Element → Input = λ elements. record { elements = elements ++ input.elements; closing = input.closing } in
+    let made : List Element → Input = λ elements. record { elements = elements ++ input.elements; closing = input.closing; level = input.level } in
     ap made (append-nil (map Given tokens))
 
 -- the tokens of \everyhbox or \everyvbox come in front

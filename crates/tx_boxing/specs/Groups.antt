@@ -3,7 +3,7 @@ use Rattle.std.specs.Prelude.{ℕ, ◌==◌, nat_lt, List, [], ◌∷◌, length
 use Rattle.tx_char.specs.declared.tokens.Token.{Token}
 use Rattle.tx_eqtb.specs.declared.groups.GroupKind.{GroupKind}
 use Rattle.tx_eqtb.specs.Stack.{opened, closed}
-use Rattle.tx_expand.specs.Turns.{put}
+use Rattle.tx_expand.specs.Turns.{put_back}
 use Rattle.tx_seen.specs.declared.error.TexError.TheVariants.{TooManyGroups}
 use Rattle.tx_state.specs.declared.parts.KeptToken.{KeptToken}
 use Rattle.tx_state.specs.State.{TexState}
@@ -34,5 +34,5 @@ closing s =
     record s {
       table = closed s.table;
       after_groups = left_after (length s.table.groups) s.after_groups;
-      reader = put (kept_tokens (length s.table.groups) s.after_groups []) s.reader;
+      reader = put_back (kept_tokens (length s.table.groups) s.after_groups []) s.reader;
     }

@@ -4,7 +4,7 @@ use Rattle.tx_char.specs.declared.tokens.Token.TheVariants as token
 use Rattle.tx_nest.specs.Grafs.{with_graf}
 use Rattle.tx_eqtb.specs.declared.entry.Entry.TheVariants.{Shape as Shape_entry}
 use Rattle.tx_eqtb.specs.Table.{tokens_at}
-use Rattle.tx_expand.specs.Turns.{put}
+use Rattle.tx_expand.specs.Turns.{put, put_back}
 use Rattle.tx_prim.specs.declared.family.Indentation.{Indentation}
 use Rattle.tx_prim.specs.declared.tokens.TokenParameter.TheVariants.{Everypar}
 use Rattle.tx_seen.specs.declared.error.TexError.TheVariants.{NumberOutOfRange}
@@ -96,7 +96,7 @@ indenting_so s how = beginning_paragraph (is_pages s.mode) (indenting how (with_
 
 -- \par is read first (section 1095)
 abbrev pub inserting_par : TexState → TexState
-inserting_par s = record s { reader = put (token.Name (codes "par") ∷ []) s.reader }
+inserting_par s = record s { reader = put_back (token.Name (codes "par") ∷ []) s.reader }
 
 -- \par (section 1094)
 abbrev pub paragraph_ended : TexState → Result paragraph.Left ParError → Outcome

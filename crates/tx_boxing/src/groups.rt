@@ -2,7 +2,7 @@
 ghost use Rattle.std.specs.Prelude.{◌≡◌, [], Some, IfOk, OnOk};
 ghost use Rattle.tx_eqtb.specs.declared.groups.GroupKind.{GroupKind};
 ghost use Rattle.tx_eqtb.specs.Stack.{kind_of};
-ghost use Rattle.tx_pending.specs.Elements.{with_tokens};
+ghost use Rattle.tx_pending.specs.Elements.{given_back};
 ghost use Rattle.tx_state.specs.declared.parts.Phase.{Phase};
 ghost use Rattle.tx_boxing.specs.Boxes.{ending_box};
 ghost use Rattle.tx_boxing.specs.GroupEnds.{ending, ending_semi_simple};
@@ -53,7 +53,7 @@ fn release_kept(
     groups: usize,
 ) -> Result<(), AllocError>
     ensures left { OnOk result (after_groups.new ≡ spec.left_after groups after_groups.old) }
-    ensures input { OnOk result (input.new ≡ with_tokens input.old (spec.kept_tokens groups after_groups.old [])) }
+    ensures input { OnOk result (input.new ≡ given_back input.old (spec.kept_tokens groups after_groups.old [])) }
 {
     while let Some(token) = kept_for(after_groups, groups)? {
         after_groups.pop();

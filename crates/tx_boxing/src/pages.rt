@@ -228,6 +228,7 @@ fn take_marker(alloc: Global, s: &mut State) -> Result<bool, AllocError>
     match s.input.next(alloc, s.table.categories(), &s.table)? {
         Pending_next::Marker => Ok(true),
         Pending_next::Token(_) | Pending_next::Held(_) => Ok(false),
+        Pending_next::PartEnd(_) => Ok(false),
         Pending_next::Used { .. } | Pending_next::E1 => Ok(false),
     }
 }

@@ -5,6 +5,9 @@ use Rattle.tx_node.specs.declared.rule.Rule.{Rule}
 use Rattle.tx_prim.specs.declared.family.AfterKind.{AfterKind}
 use Rattle.tx_shape.specs.declared.types.Opener.{Opener}
 use Rattle.tx_shape.specs.declared.types.Opener.TheVariants as opener
+use Rattle.tx_prim.specs.declared.glue.GlueParameter.TheVariants.{Tabskip}
+use Rattle.tx_command.specs.declared.scans.PreamblePart.{PreamblePart}
+use Rattle.tx_command.specs.declared.scans.PreamblePart.TheVariants as part
 use Rattle.tx_command.specs.declared.scans.RowStart.{RowStart}
 use Rattle.tx_command.specs.declared.scans.RowStart.TheVariants as start
 use Rattle.tx_prim.specs.declared.family.DefinitionKind.{DefinitionKind}
@@ -68,9 +71,9 @@ use Rattle.tx_command.specs.declared.scans.Whole.TheVariants as whole
 use Rattle.tx_command.specs.declared.types.Command.{Command}
 use Rattle.tx_command.specs.declared.types.Command.TheVariants.{Nothing, Assign, Keep, Sized}
 use Rattle.tx_command.specs.declared.types.Head.{Head}
-use Rattle.tx_command.specs.declared.types.Head.TheVariants.{Fresh, Prefixed, Defining, Future, Leading, Loading, Shaping as Shaping_head, Opening, Row, Entry}
+use Rattle.tx_command.specs.declared.types.Head.TheVariants.{Fresh, Prefixed, Defining, Future, Leading, Loading, Shaping as Shaping_head, Opening, Aligning, Preamble, Row, Entry}
 use Rattle.tx_command.specs.declared.types.Prefixes.{Prefixes}
-use Rattle.tx_command.specs.Commands.{command, command_meant, family_command, font_defining, future_defining, load_of, loading, future_of, future_second, keeping, macro_defining, fresh_command, standing_command, may_be_prefixed, prefixed_command, assigning, defining, leaders_of, leaders_rule, leading_command, leading_glue, led_by, repeated, ruling, sizing, skipping, command_of, entry_start, row_start, shaping, started}
+use Rattle.tx_command.specs.Commands.{command, command_meant, family_command, font_defining, future_defining, load_of, loading, future_of, future_second, keeping, macro_defining, fresh_command, standing_command, may_be_prefixed, prefixed_command, assigning, defining, leaders_of, leaders_rule, leading_command, leading_glue, led_by, repeated, ruling, sizing, skipping, command_of, entry_start, preamble_by, preamble_command, preamble_part, row_start, shaping, started}
 use Rattle.tx_command.specs.Standing.{standing_in}
 use Rattle.tx_scan.proofs.Answering.{ending-none}
 use Rattle.tx_scan.specs.Mapped.{mapped}
@@ -431,6 +434,22 @@ first-shaping mode head prefixes left sizes t new (Err error) e k = tt
 -- the begin-group token before a text of \discretionary
 pub first-opening : (mode : Mode) (head : Head) (opener : Opener) (t : Seen) (new : Scans) (answer : Fed Command) → head ≡ Opening opener → Begins (λ more. shaping (shape_glue.Open opener) (Took t ∷ more)) new answer → IsBegunBy mode head 1 (λ more. command mode head (Took t ∷ more)) (Took t ∷ []) new answer
 first-opening mode head opener t new answer e k = rw e (one-token mode (Opening opener) (λ more. shaping (shape_glue.Open opener) (Took t ∷ more)) t new answer (k mode (Opening opener)))
+
+-- what the preamble of an alignment is set to
+pub first-aligning : (mode : Mode) (head : Head) (level : ℤ) (t : Seen) (new : Scans) (answer : Fed Command) → head ≡ Aligning level → Begins (λ more. shaping shape_glue.Align (Took t ∷ more)) new answer → IsBegunBy mode head 1 (λ more. command mode head (Took t ∷ more)) (Took t ∷ []) new answer
+first-aligning mode head level t new answer e k = rw e (one-token mode (Aligning level) (λ more. shaping shape_glue.Align (Took t ∷ more)) t new answer (k mode (Aligning level)))
+
+-- the first token of a preamble
+pub first-preamble : {E : Type 0} (mode : Mode) (head : Head) (t : Seen) (new : Scans) (answer : Result (Fed Command) E) → head ≡ Preamble → ((m : Mode) (h : Head) → IfOk answer (IsBegunBy m h 1 (λ more. preamble_command (Took t ∷ more)) (Took t ∷ []) new)) → IfOk answer (IsBegunBy mode head 1 (λ more. command mode head (Took t ∷ more)) (Took t ∷ []) new)
+first-preamble mode head t new (Ok answer) e k = rw e (k mode Preamble)
+first-preamble mode head t new (Err error) e k = tt
+
+-- \tabskip in it is assigned
+pub preamble-tabskip : (p : PreamblePart) (t : Seen) (new : Scans) (answer : Fed Command) → p ≡ preamble_part t.meaning → p ≡ part.Tabskip → Begins (assigning (assign_begun.Variable (Standing (place.Glue Tabskip)))) new answer → (mode : Mode) (head : Head) → IsBegunBy mode head 1 (λ more. preamble_command (Took t ∷ more)) (Took t ∷ []) new answer
+preamble-tabskip p t new answer found is k = λ mode head.
+    one-token mode head (λ more. preamble_command (Took t ∷ more)) t new answer
+    (alike mode head 0 (λ more. preamble_command (Took t ∷ more)) (λ more. assigning (assign_begun.Variable (Standing (place.Glue Tabskip))) more) [] new answer
+    (λ more. ap (λ (q : PreamblePart). preamble_by q t more) (sym found ∙ is)) (k mode head))
 
 -- \noalign: the begin-group token behind it
 pub started-open : (t : Seen) (new : Scans) (answer : Fed Command) → is_undefined t ≡ false → Begins (shaping (shape_glue.Open opener.NoAlign)) new answer → (mode : Mode) (head : Head) → IsBegunBy mode head 1 (λ more. started start.NoAlign (Took t ∷ more)) (Took t ∷ []) new answer

@@ -1,6 +1,6 @@
 -- The commands, as items at the front of a list (TeX: The Program, part 46 on; The TeXbook, chapters 24 to 26): first the mode, then
 -- what the command takes, by its family.
-use Rattle.std.specs.Prelude.{ℕ, pos, ◌∷◌, [], ◌||◌, ◌&&◌, Bool, true, false, not, List, Option, Some, None, if◌then◌else◌}
+use Rattle.std.specs.Prelude.{ℕ, ℤ, pos, ◌∷◌, [], ◌||◌, ◌&&◌, Bool, true, false, not, List, Option, Some, None, if◌then◌else◌}
 use Rattle.tx_char.specs.declared.category.Cat.{Cat}
 use Rattle.tx_char.specs.declared.category.Cat.TheVariants as category
 use Rattle.tx_prim.specs.declared.family.AfterKind.{AfterKind}
@@ -11,6 +11,8 @@ use Rattle.tx_shape.specs.declared.types.Opener.TheVariants as opener
 use Rattle.tx_prim.specs.declared.family.DefinitionKind.{DefinitionKind}
 use Rattle.tx_node.specs.declared.rule.Rule.{Rule as Rule_sides}
 use Rattle.tx_prim.specs.declared.family.GlueForm.{GlueForm}
+use Rattle.tx_prim.specs.declared.glue.GlueParameter.{GlueParameter}
+use Rattle.tx_prim.specs.declared.glue.GlueParameter.TheVariants.{Tabskip}
 use Rattle.tx_prim.specs.declared.family.Indentation.TheVariants.{Indented}
 use Rattle.tx_prim.specs.declared.family.LeadersKind.{LeadersKind}
 use Rattle.tx_prim.specs.declared.family.RuleKind.{RuleKind}
@@ -53,10 +55,12 @@ use Rattle.tx_shape.specs.declared.types.FontAsked.{FontAsked}
 use Rattle.tx_shape.specs.Loading.{loading as load}
 use Rattle.tx_shape.specs.Shapes.{shape as shape_of}
 use Rattle.tx_command.specs.declared.types.Command.{Command}
-use Rattle.tx_command.specs.declared.types.Command.TheVariants.{Nothing, Space, Character, BeginGroup, EndGroup, BeginSemiSimple, EndSemiSimple, Prefix, Define, Assign, Sized, Rule, BeginBox, UseBox, CopyBox, LastBox, Unbox, Penalize, Skip, BeginLeaders, SetDepth, End, Interact, DefineMacro, BeginText, DefineFuture, Keep, Remove, ControlSpace, ItalicCorrection, Indent, InsertPar, EndParagraph, DiscretionaryHyphen, SetFactor, SetPrevGraf, BeginShape, Open, BeginAlign, BeginEntry, EndAlign, SetDeadCycles, SetPage, SplitBox, DefineFont, LoadFont, SetFontDimen, SetFontInteger}
+use Rattle.tx_command.specs.declared.types.Command.TheVariants.{Nothing, Space, Character, BeginGroup, EndGroup, BeginSemiSimple, EndSemiSimple, Prefix, Define, Assign, Sized, Rule, BeginBox, UseBox, CopyBox, LastBox, Unbox, Penalize, Skip, BeginLeaders, SetDepth, End, Interact, DefineMacro, BeginText, DefineFuture, Keep, Remove, ControlSpace, ItalicCorrection, Indent, InsertPar, EndParagraph, DiscretionaryHyphen, SetFactor, SetPrevGraf, BeginShape, Open, Align, BeginAlign, ExpandOnce, Template, BeginEntry, EndAlign, SetDeadCycles, SetPage, SplitBox, DefineFont, LoadFont, SetFontDimen, SetFontInteger}
 use Rattle.tx_command.specs.declared.types.Head.{Head}
-use Rattle.tx_command.specs.declared.types.Head.TheVariants.{Fresh, Prefixed, Defining, Future, Leading, Loading, Shaping as Shaping_head, Opening, Row, Entry}
+use Rattle.tx_command.specs.declared.types.Head.TheVariants.{Fresh, Prefixed, Defining, Future, Leading, Loading, Shaping as Shaping_head, Opening, Aligning, Preamble, Row, Entry}
 use Rattle.tx_command.specs.declared.types.Prefixes.{Prefixes}
+use Rattle.tx_command.specs.declared.scans.PreamblePart.{PreamblePart}
+use Rattle.tx_command.specs.declared.scans.PreamblePart.TheVariants as part
 use Rattle.tx_command.specs.declared.scans.RowStart.{RowStart}
 use Rattle.tx_command.specs.declared.scans.RowStart.TheVariants as start
 use Rattle.tx_command.specs.declared.types.SizeUse.{SizeUse}
@@ -233,7 +237,7 @@ family_command primitive.ParShape rest = shaping shape.ParShape rest
 family_command primitive.Adjust rest = shaping shape.Adjust rest
 family_command primitive.Discretionary rest = shaping (shape.Open (opener.Break break.Before)) rest
 family_command primitive.Insert rest = shaping shape.Insert rest
-family_command primitive.Align rest = shaping shape.Align rest
+family_command primitive.Align rest = Done Align rest
 family_command (primitive.AlignWord word) rest = Wrong MisplacedAlignment
 family_command primitive.DeadCycles rest = shaping shape.DeadCycles rest
 family_command (primitive.Page quantity) rest = shaping (shape.Page quantity) rest
@@ -282,6 +286,8 @@ prefixes_of (Defining prefixes defined kind) = prefixes
 prefixes_of (Future prefixes defined) = prefixes
 prefixes_of (Leading kind rule) = record { global = false; long = false; outer = false }
 prefixes_of (Opening opener) = record { global = false; long = false; outer = false }
+prefixes_of (Aligning level) = record { global = false; long = false; outer = false }
+prefixes_of Preamble = record { global = false; long = false; outer = false }
 prefixes_of Row = record { global = false; long = false; outer = false }
 prefixes_of Entry = record { global = false; long = false; outer = false }
 prefixes_of (Loading prefixes defined) = prefixes
@@ -291,6 +297,16 @@ prefixes_of (Shaping_head prefixes left sizes) = prefixes
 abbrev pub leaders_before : Head → Option (LeadersKind × Rule_sides)
 leaders_before (Leading kind rule) = Some (kind, rule)
 leaders_before other = None
+
+-- the level of braces at which the \halign stood that stands before it (section 772)
+abbrev pub level_before : Head → ℤ
+level_before (Aligning level) = level
+level_before other = pos 0
+
+-- whether it is a token of a preamble
+abbrev pub is_preamble : Head → Bool
+is_preamble Preamble = true
+is_preamble other = false
 
 -- \long and \outer stand before definitions alone
 abbrev pub want_definition : Prefixes → Bool
@@ -430,6 +446,26 @@ leading_command mode (Gave v ∷ rest) = Wrong MissingBox
 leading_command mode (Took t ∷ rest) =
     expanded t (if is_space t || is_relax t then Done Nothing rest else led_by (leading_glue mode t.meaning) rest)
 
+-- a preamble, token by token, as it stands: behind \span the next one is expanded once, and \tabskip is assigned (section 782)
+abbrev pub preamble_primitive : Primitive → PreamblePart
+preamble_primitive (primitive.AlignWord align.Span) = part.Span
+preamble_primitive (primitive.Glue Tabskip) = part.Tabskip
+preamble_primitive other = part.Token
+
+abbrev pub preamble_part : Meaning → PreamblePart
+preamble_part (meaning.Command p) = preamble_primitive p
+preamble_part other = part.Token
+
+abbrev pub preamble_by : PreamblePart → Seen → List Item → Reading Command
+preamble_by part.Span t rest = Done ExpandOnce rest
+preamble_by part.Tabskip t rest = assigning (assign.Variable (Standing (place.Glue Tabskip))) rest
+preamble_by part.Token t rest = Done (Template t) rest
+
+abbrev pub preamble_command : List Item → Reading Command
+preamble_command [] = More Raw
+preamble_command (Gave v ∷ rest) = Wrong NotAllowed
+preamble_command (Took t ∷ rest) = preamble_by (preamble_part t.meaning) t rest
+
 -- before a row of an alignment: spaces and \crcr, which do nothing; \noalign and a begin-group token; the alignment's end-group token;
 -- or its first entry, whose first token is read again unless it is \omit (sections 785 and 788)
 abbrev pub word_start : AlignWord → RowStart
@@ -492,6 +528,8 @@ command mode (Leading kind rule) items = leading_command mode items
 command mode (Loading prefixes defined) items = loading defined items
 command mode (Shaping_head prefixes left sizes) items = sizing size.Shape items
 command mode (Opening opener) items = shaping (shape.Open opener) items
+command mode (Aligning level) items = shaping shape.Align items
+command mode Preamble items = preamble_command items
 command mode Row items = row_command items
 command mode Entry items = entry_command items
 

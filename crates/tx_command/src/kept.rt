@@ -21,6 +21,8 @@ impl Kept for Head {
                 Ok(Head::Shaping(*prefixes, *left, sizes.share()?))
             }
             Head::Opening(opener) => Ok(Head::Opening(*opener)),
+            Head::Aligning(level) => Ok(Head::Aligning(*level)),
+            Head::Preamble => Ok(Head::Preamble),
             Head::Row => Ok(Head::Row),
             Head::Entry => Ok(Head::Entry),
         }
@@ -46,6 +48,8 @@ impl Kept for Head {
                 one == other && left == also && sizes.same(like)
             }
             (Head::Opening(one), Head::Opening(other)) => one == other,
+            (Head::Aligning(one), Head::Aligning(other)) => one == other,
+            (Head::Preamble, Head::Preamble) => true,
             (Head::Row, Head::Row) => true,
             (Head::Entry, Head::Entry) => true,
             _ => false,

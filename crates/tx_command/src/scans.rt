@@ -78,6 +78,17 @@ pub enum RowStart {
     Entry,
 }
 
+/// What a token of a preamble is (TeX: The Program, section 782).
+#[derive(Clone, Copy)]
+pub enum PreamblePart {
+    /// \span.
+    Span,
+    /// \tabskip, which is assigned.
+    Tabskip,
+    /// A token of a column's parts, or what ends or divides these.
+    Token,
+}
+
 /// The scans of the parts of commands. They are begun anew in place, so that a token moves none of them.
 #[derive(Drop)]
 pub struct Scans {

@@ -13,7 +13,7 @@ use crate::mapping::{
     assigned, defined, font_defined, future_defined, led, loaded, macro_defined, put_shaped,
     put_whole, ruled, shaped, sized,
 };
-use crate::scans::{RowStart, RuleScan, Scans, Stage, Whole};
+use crate::scans::{PreamblePart, RowStart, RuleScan, Scans, Stage, Whole};
 use crate::standing::{may_be_prefixed, standing_in};
 use crate::types::{Command, Head, Prefixes, SizeUse};
 use std::alloc::{AllocError, Global};
@@ -21,8 +21,8 @@ use tx_assign::{AssignScan, Assigning, Assignment, Change, Variable};
 use tx_char::Cat;
 use tx_eqtb::Entry;
 use tx_prim::{
-    AfterKind, AlignWord, BreakText, GlueForm, Indentation, LeadersKind, Mode, Primitive, RuleKind,
-    Shorthand, Standing,
+    AfterKind, AlignWord, BreakText, GlueForm, GlueParameter, Indentation, LeadersKind, Mode,
+    Primitive, RuleKind, Shorthand, Standing,
 };
 use tx_scan::{DimenScan, NameScan};
 use tx_seen::{Fed, Meaning, Place, Seen, TexError, Value, Want};
@@ -77,6 +77,7 @@ fn feed_second(head: &Head, token: &Seen) -> Result<Fed<Command>, AllocError>
         }
         Head::Leading(_, _) | Head::Loading(_, _) => Ok(Fed::Done(Command::Nothing, 2)),
         Head::Shaping(_, _, _) | Head::Opening(_) => Ok(Fed::Done(Command::Nothing, 2)),
+        Head::Aligning(_) | Head::Preamble => Ok(Fed::Done(Command::Nothing, 2)),
         Head::Row | Head::Entry => Ok(Fed::Done(Command::Nothing, 2)),
     }
 }
@@ -103,6 +104,29 @@ fn leading_glue(mode: Mode, meaning: &Meaning) -> Option<GlueForm>
         Meaning::Command(Primitive::VerticalGlue(form)) if vertical => Some(*form),
         // of all others alike
         _ => None,
+    }
+}
+
+/// What a token of a preamble is that means this.
+fn preamble_part(meaning: &Meaning) -> PreamblePart
+    ensures { result ≡ commands.preamble_part meaning.now }
+{
+    match meaning {
+        Meaning::Command(primitive) => preamble_primitive(*primitive),
+        // of all others alike
+        _ => PreamblePart::Token,
+    }
+}
+
+/// The same, by a primitive.
+fn preamble_primitive(primitive: Primitive) -> PreamblePart
+    ensures { result ≡ commands.preamble_primitive primitive }
+{
+    match primitive {
+        Primitive::AlignWord(AlignWord::Span) => PreamblePart::Span,
+        Primitive::Glue(GlueParameter::Tabskip) => PreamblePart::Tabskip,
+        // of all others alike
+        _ => PreamblePart::Token,
     }
 }
 
@@ -428,6 +452,8 @@ impl Scans {
             Head::Loading(_, name) => self.feed_loading(name, token),
             Head::Shaping(_, _, _) => self.feed_shape(token),
             Head::Opening(opener) => Ok(self.feed_open(*opener, token)),
+            Head::Aligning(_) => Ok(self.feed_align(token)),
+            Head::Preamble => self.feed_preamble(token),
             Head::Row => Ok(self.feed_row(row_start(token), token)),
             Head::Entry => Ok(self.feed_row(entry_start(token), token)),
         }
@@ -536,6 +562,26 @@ impl Scans {
         shaped(self.shape.feed_open(opener, token))
     }
 
+    /// The first token of what the preamble of an alignment is set to, or its begin-group token.
+    fn feed_align(&mut self, token: &Seen) -> Fed<Command>
+        ensures { Begins (λ more. commands.shaping Shaping.Align (Took token.now ∷ more)) self.new result }
+    {
+        self.stage = Stage::Shape;
+        shaped(self.shape.feed_align(token))
+    }
+
+    /// A token of a preamble. Its only error is that no more owners of a name or a meaning can be counted.
+    #[inline(never)]
+    fn feed_preamble(&mut self, token: &Seen) -> Result<Fed<Command>, AllocError>
+        ensures { (mode : Mode) (head : Head) → IfOk result (IsBegunBy mode head 1 (λ more. commands.preamble_command (Took token.now ∷ more)) (Took token.now ∷ []) self.new) }
+    {
+        match preamble_part(&token.meaning) {
+            PreamblePart::Span => Ok(Fed::Done(Command::ExpandOnce, 0)),
+            PreamblePart::Tabskip => Ok(self.begin_place(Place::Glue(GlueParameter::Tabskip))),
+            PreamblePart::Token => Ok(Fed::Done(Command::Template(token.clone()?), 0)),
+        }
+    }
+
     /// What an entry, or what stands before a row, begins with.
     #[inline(never)]
     fn feed_row(&mut self, start: RowStart, token: &Seen) -> Fed<Command>
@@ -637,7 +683,7 @@ impl Scans {
                 self.begin_shape(Shaping::Open(Opener::Break(BreakText::Before)))
             }
             Primitive::Insert => self.begin_shape(Shaping::Insert),
-            Primitive::Align => self.begin_shape(Shaping::Align),
+            Primitive::Align => Fed::Done(Command::Align, 0),
             Primitive::AlignWord(_) => Fed::Wrong(TexError::MisplacedAlignment),
             Primitive::DeadCycles => self.begin_shape(Shaping::DeadCycles),
             Primitive::Page(quantity) => self.begin_shape(Shaping::Page(quantity)),

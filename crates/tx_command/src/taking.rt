@@ -1,5 +1,5 @@
 //! Commands, taken off the input token by token (TeX: The Program, part 46).
-ghost use Rattle.std.specs.Prelude.{◌≡◌, ◌↔◌, ◌<◌, ◌≤◌, ◌+◌, ◌∷◌, ◌++◌, [], ℕ, List, length, IfOk, OnOk, IsTrue};
+ghost use Rattle.std.specs.Prelude.{◌≡◌, ◌↔◌, ◌<◌, ◌≤◌, ◌+◌, ◌∷◌, ◌++◌, [], ℕ, false, List, length, IfOk, OnOk, IsTrue};
 ghost use Rattle.tx_prim.specs.declared.modes.Mode.{Mode};
 ghost use Rattle.tx_seen.specs.declared.item.Item.{Item};
 ghost use Rattle.tx_seen.specs.declared.item.Item.TheVariants.{Gave, Took};
@@ -86,12 +86,8 @@ impl CommandScan {
         ensures { result ≡ prefixes_of self.now.head }
     {
         match &self.head {
-            Head::Fresh | Head::Leading(_, _) | Head::Opening(_) | Head::Row | Head::Entry =>
-                Prefixes {
-                    global: false,
-                    long: false,
-                    outer: false,
-                },
+            Head::Fresh | Head::Leading(_, _) | Head::Opening(_) => no_prefixes(),
+            Head::Aligning(_) | Head::Preamble | Head::Row | Head::Entry => no_prefixes(),
             Head::Prefixed(prefixes) | Head::Defining(prefixes, _, _) | Head::Future(prefixes, _) =>
                 *prefixes,
             Head::Loading(prefixes, _) | Head::Shaping(prefixes, _, _) => *prefixes,
@@ -106,8 +102,27 @@ impl CommandScan {
             Head::Leading(kind, rule) => Some((*kind, *rule)),
             Head::Fresh | Head::Prefixed(_) | Head::Defining(_, _, _) | Head::Future(_, _) => None,
             Head::Loading(_, _) | Head::Shaping(_, _, _) | Head::Opening(_) => None,
-            Head::Row | Head::Entry => None,
+            Head::Aligning(_) | Head::Preamble | Head::Row | Head::Entry => None,
         }
+    }
+
+    /// The level of braces at which the \halign stood that stands before the command; 0 where none does.
+    pub fn level(&self) -> i64
+        ensures { result ≡ commands.level_before self.now.head }
+    {
+        match &self.head {
+            Head::Aligning(level) => *level,
+            Head::Fresh | Head::Prefixed(_) | Head::Defining(_, _, _) | Head::Future(_, _) => 0,
+            Head::Leading(_, _) | Head::Loading(_, _) | Head::Shaping(_, _, _) => 0,
+            Head::Opening(_) | Head::Preamble | Head::Row | Head::Entry => 0,
+        }
+    }
+
+    /// Whether the command is a token of a preamble.
+    pub fn is_preamble(&self) -> bool
+        ensures { result ≡ commands.is_preamble self.now.head }
+    {
+        matches!(self.head, Head::Preamble)
     }
 
     /// Whether a token of the command is taken.
@@ -125,7 +140,8 @@ impl CommandScan {
             Head::Loading(_, _) => is_naming(self.taken.as_slice()),
             Head::Fresh | Head::Prefixed(_) | Head::Defining(_, _, _) => false,
             Head::Future(_, _) | Head::Leading(_, _) | Head::Shaping(_, _, _) => false,
-            Head::Opening(_) | Head::Row | Head::Entry => false,
+            Head::Opening(_) | Head::Aligning(_) | Head::Preamble => false,
+            Head::Row | Head::Entry => false,
         }
     }
 
@@ -243,6 +259,17 @@ impl CommandScan {
     }
 }
 
+/// No prefixes.
+fn no_prefixes() -> Prefixes
+    ensures { result ≡ record { global = false; long = false; outer = false } }
+{
+    Prefixes {
+        global: false,
+        long: false,
+        outer: false,
+    }
+}
+
 /// How the first token behind this is wanted.
 fn begun_want(head: &Head) -> Want
     ensures { (mode : Mode) → commands.command mode head.now [] ≡ More result }
@@ -250,8 +277,8 @@ fn begun_want(head: &Head) -> Want
     match head {
         Head::Fresh | Head::Prefixed(_) | Head::Defining(_, _, _) => Want::Expanded,
         Head::Leading(_, _) | Head::Loading(_, _) | Head::Shaping(_, _, _) => Want::Expanded,
-        Head::Opening(_) | Head::Row | Head::Entry => Want::Expanded,
-        Head::Future(_, _) => Want::Raw,
+        Head::Opening(_) | Head::Aligning(_) | Head::Row | Head::Entry => Want::Expanded,
+        Head::Future(_, _) | Head::Preamble => Want::Raw,
     }
 }
 

@@ -9,7 +9,7 @@ use tx_prim::{
     AfterKind, BoxKind, DefinitionKind, FontNumber, Indentation, Interaction, ItemKind,
     LeadersKind, PageQuantity, Prefix, RuleKind, Shorthand, SizeKind, TextUse, UnboxKind,
 };
-use tx_seen::{FontName, Place};
+use tx_seen::{FontName, Place, Seen};
 use tx_shape::{AskedSize, BoxContext, BoxGoal, Opener};
 
 /// A side of a rule.
@@ -56,6 +56,10 @@ pub enum Head {
     Shaping(Prefixes, u32, Items<i32>),
     /// The begin-group token of this is to follow: of a text of \discretionary, behind it and its texts before, or of \output.
     Opening(Opener),
+    /// \halign, which stood at this level of braces: what its preamble is set to and its begin-group token are to follow.
+    Aligning(i64),
+    /// The preamble of an alignment is to follow, token by token.
+    Preamble,
     /// A row of an alignment is to follow, or what stands between rows, or the alignment's end.
     Row,
     /// A further entry of a row is to follow.
@@ -128,8 +132,14 @@ pub enum Command {
     BeginShape(i32),
     /// The begin-group token before a text of `\discretionary`, or of `\output`'s tokens.
     Open(Opener),
-    /// `\halign` and its begin-group token, with what the preamble is set to.
+    /// `\halign`.
+    Align,
+    /// The begin-group token of an alignment, with what the preamble is set to.
     BeginAlign(BoxGoal),
+    /// `\span` in a preamble: the next token is expanded once.
+    ExpandOnce,
+    /// Any other token of a preamble, with what it means.
+    Template(Seen),
     /// The first token of an entry: whether it is `\omit`, or is read again.
     BeginEntry(bool),
     /// The end-group token of an alignment.

@@ -1,5 +1,5 @@
 -- What a turn comes to by what was read.
-use Rattle.std.proofs.Common.{◌≡◌, ◌≢◌, ◌<◌, ◌+◌, ◌-◌, ℕ, zero, suc, Bool, true, false, None, List, [], ◌∷◌, ◌++◌, drop, refl, ap, sym, ◌∙◌, add-one, drop-cons, get_or, length, Result, Ok, Err, IfOk}
+use Rattle.std.proofs.Common.{◌≡◌, ◌≢◌, ◌<◌, ◌+◌, ◌-◌, ℕ, zero, suc, Bool, true, false, Option, None, Some, List, [], ◌∷◌, ◌++◌, drop, refl, ap, sym, ◌∙◌, add-one, drop-cons, get_or, length, Result, Ok, Err, IfOk}
 use Rattle.tx_char.specs.declared.category.Cat.{Cat}
 use Rattle.tx_char.specs.declared.tokens.Token.{Token}
 use Rattle.tx_pending.specs.declared.next.ColumnPart.{ColumnPart}
@@ -21,6 +21,7 @@ use Rattle.tx_seen.specs.Readings.{Reading, Done, last, next}
 use Rattle.tx_cond.specs.Conditionals.{meeting}
 use Rattle.tx_cond.specs.Skipping.{Passing, Inside, Ended, Refused, IsPassed, item_of, passing}
 use Rattle.tx_prim.specs.declared.expandable.CondWord.{CondWord}
+use Rattle.tx_prim.specs.declared.family.EntryEnd.{EntryEnd}
 use Rattle.tx_seen.specs.declared.fed.Value.{Value}
 use Rattle.tx_seen.specs.declared.place.Place.{Place}
 use Rattle.tx_expand.specs.declared.begun.Begun.{Begun}
@@ -36,7 +37,7 @@ use Rattle.tx_expand.specs.Reader.{World, Reader, Fails}
 use Rattle.tx_scan.specs.Settled.{tokens_of}
 use Rattle.tx_expand.specs.Scans.{Scan, reading}
 use Rattle.tx_expand.specs.Taken.{IsPassedFirst, IsRead, IsReadBegun, IsReadFirst}
-use Rattle.tx_expand.specs.Turns.{come, ended, ends_part, entry_end_at, expanded, finds, frozen, given_to, is_finding, is_scanning, is_skipping, joined, met, met_word, part_ended, put_back, read_on, reads, refused, front_read, is_opening, skips_on, token_read, turn, wanted_by, with_begun, with_end, IsTurned}
+use Rattle.tx_expand.specs.Turns.{come, ended, ends_part, at_entry, entry_end_in, expanded, finds, frozen, given_to, is_finding, is_scanning, is_skipping, joined, met, met_word, part_ended, put_back, read_on, reads, refused, front_read, is_opening, skips_on, token_read, turn, wanted_by, with_begun, with_end, IsTurned}
 
 pub reads-done : (w : World) (what : Scanned) (items : List Item) (r : Reader) (m : Made) (back : List Item) → reading what items ≡ Done m back → reads w what items r ≡ come w m (put_back (tokens_of back) r)
 reads-done w what items r m back is = ap (λ (read : Reading Made). read_on w (record { what = what; taken = items }) r read) is
@@ -179,7 +180,7 @@ part-turned w wanted e input behind codes given part closed same next left is =
     ∙ ap (λ (n : Next). front_read w wanted (reader_of e behind) n) is
 
 -- a token that ends no entry is read
-pub none-ended : (w : World) (wanted : Wanted) (t : Seen) (r : Reader) → entry_end_at r.input.level t.meaning ≡ None → met w wanted t r ≡ token_read w wanted t r
+pub none-ended : (w : World) (wanted : Wanted) (t : Seen) (r : Reader) → entry_end_in r.input t.meaning ≡ None → met w wanted t r ≡ token_read w wanted t r
 none-ended w wanted t r none = rw none refl
 
 -- what reads goes on up to the end of a v-part
@@ -207,3 +208,12 @@ part-over w r (begun.Print what ∷ outer) some other = refl
 part-over w r (begun.Scanning scan ∷ outer) some other = absurd (cc)
 part-over w r (begun.Skipping depth ∷ outer) some other = refl
 part-over w r (begun.Opening ∷ outer) some other = refl
+
+-- in braces, and where no entry is read, no word ends one
+pub none-outside : (here : Bool) (e : Option EntryEnd) → here ≡ false → None ≡ at_entry here e
+none-outside here None outside = refl
+none-outside here (Some word) outside = rw outside refl
+
+pub some-inside : (here : Bool) (e : Option EntryEnd) → here ≡ true → e ≡ at_entry here e
+some-inside here None inside = refl
+some-inside here (Some word) inside = rw inside refl

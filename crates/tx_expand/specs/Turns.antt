@@ -1,6 +1,5 @@
 -- One turn: a token is read, and what comes of it before another one is needed (TeX: The Program, sections 366 to 380).
-use Rattle.std.specs.Prelude.{◌≡◌, ℕ, Bool, true, false, not, ◌&&◌, ◌||◌, Option, None, Some, List, [], ◌∷◌, ◌++◌, ℤ, pos, unwrap_or, if◌then◌else◌}
-use Rattle.std.specs.Ordering.{int_eq}
+use Rattle.std.specs.Prelude.{◌≡◌, ℕ, Bool, true, false, not, ◌&&◌, ◌||◌, Option, None, Some, List, [], ◌∷◌, ◌++◌, ℤ, unwrap_or, if◌then◌else◌}
 use Rattle.tx_char.specs.declared.category.Cat.{Cat}
 use Rattle.tx_char.specs.declared.category.Cat.TheVariants.{AlignmentTab}
 use Rattle.tx_char.specs.declared.tokens.Token.{Token}
@@ -10,7 +9,7 @@ use Rattle.tx_toklist.specs.Macros.{Definition, Parameters, is_begin}
 use Rattle.tx_pending.specs.declared.next.ColumnPart.TheVariants.{U, V}
 use Rattle.tx_pending.specs.declared.next.Next.{Next}
 use Rattle.tx_pending.specs.declared.next.Next.TheVariants as front
-use Rattle.tx_pending.specs.Elements.{Input, Step, given_back, lowered, step, with_close, with_held, with_part_end, with_tokens, with_use}
+use Rattle.tx_pending.specs.Elements.{Input, Step, given_back, is_at_entry, lowered, step, with_close, with_held, with_part_end, with_tokens, with_use}
 use Rattle.tx_prim.specs.declared.family.AlignWord.{AlignWord}
 use Rattle.tx_prim.specs.declared.family.AlignWord.TheVariants as align
 use Rattle.tx_prim.specs.declared.family.EntryEnd.{EntryEnd}
@@ -455,20 +454,25 @@ entry_end (meaning.Character code kind) = category_ends kind
 entry_end (meaning.Command p) = primitive_ends p
 entry_end other = None
 
-abbrev pub entry_end_at : ℤ → Meaning → Option EntryEnd
-entry_end_at level m = if int_eq level (pos 0) then entry_end m else None
+abbrev pub at_entry : Bool → Option EntryEnd → Option EntryEnd
+at_entry here None = None
+at_entry here (Some word) = if here then Some word else None
+
+abbrev pub entry_end_in : Input → Meaning → Option EntryEnd
+entry_end_in input m = at_entry (is_at_entry input) (entry_end m)
 
 -- a token is met: it ends an entry, or is read
 abbrev pub met : World → Wanted → Seen → Reader → Turn
-met w wanted t r = by (entry_end_at r.input.level t.meaning)
+met w wanted t r = by (entry_end_in r.input t.meaning)
   where
     by : Option EntryEnd → Turn
     by (Some word) = Goes (answer.EndsEntry word) r
     by None = token_read w wanted t r
 
--- the \relax that stands for the end of a v-part where something is read that goes on up to it
+-- what stands for the end of a v-part where something is read that goes on up to it: a token that is neither expanded nor skipped, and
+-- ends numbers, names and keywords
 abbrev pub frozen : Seen
-frozen = record { token = token.FrozenRelax; meaning = meaning.Command primitive.Relax }
+frozen = record { token = token.FrozenRelax; meaning = meaning.Held }
 
 -- the end of a v-part stays in front
 abbrev pub with_end : Reader → Reader

@@ -885,7 +885,7 @@ impl Open {
     ) -> Result<Expanded, AllocError>
         ensures { IfOk result (IsTurned (met (world_of (lent known.now) mode) wanted token (reader_of self.old input.old)) (reader_of self.new input.new)) }
     {
-        if let Some(word) = entry_end_at(input.level(), &token.meaning) {
+        if let Some(word) = entry_end_in(input, &token.meaning) {
             return Ok(Expanded::EndsEntry(word));
         }
         if self.passes(&token.meaning) {
@@ -945,7 +945,7 @@ impl Open {
         }
         input.push_part_end(ColumnPart::V)?;
         if is_scanning(&self.begun) {
-            return self.scan_on(alloc, input, known, frozen());
+            return self.scan_on(alloc, input, known, part_end());
         }
         self.went(input)
     }
@@ -977,13 +977,14 @@ impl Open {
     }
 }
 
-/// The \relax that stands for the end of a v-part.
-fn frozen() -> Seen
+/// What stands for the end of a v-part where something is read that goes on up to it: neither expanded nor skipped, it ends
+/// numbers, names and keywords.
+pub fn part_end() -> Seen
     ensures { result ≡ turns.frozen }
 {
     Seen {
         token: Token::FrozenRelax,
-        meaning: Meaning::Command(Primitive::Relax),
+        meaning: Meaning::Held,
     }
 }
 
@@ -998,12 +999,15 @@ fn lower_behind(input: &mut Pending, opens: bool) -> Result<(), AllocError>
     Ok(())
 }
 
-/// What a token that means this ends, where it is read at this level.
+/// What a token that means this ends, where it is read from this input.
 #[inline(always)]
-fn entry_end_at(level: i64, meaning: &Meaning) -> Option<EntryEnd>
-    ensures { result ≡ turns.entry_end_at level meaning.now }
+fn entry_end_in(input: &Pending, meaning: &Meaning) -> Option<EntryEnd>
+    ensures { result ≡ turns.entry_end_in input.now meaning.now }
 {
-    if level == 0 { entry_end(meaning) } else { None }
+    if !input.is_at_entry() {
+        return None;
+    }
+    entry_end(meaning)
 }
 
 /// What a token that means this ends, where it ends an entry of an alignment.

@@ -17,10 +17,10 @@ use Rattle.tx_expand.specs.declared.types.Wanted.{Wanted}
 use Rattle.tx_expand.specs.Expanding.{reader, reader_of, world_of}
 use Rattle.tx_expand.specs.Reader.{Goes, Reader, World}
 use Rattle.tx_expand.specs.Taken.{HasTakenIn, IsTakenIn, character}
-use Rattle.tx_expand.specs.Turns.{turn}
-use Rattle.tx_expand.proofs.Turning.{token-turned}
+use Rattle.tx_expand.specs.Turns.{at_entry, turn}
+use Rattle.tx_expand.proofs.Turning.{none-ended, token-turned}
 use Rattle.tx_pending.specs.declared.next.Next.TheVariants as front
-use Rattle.tx_pending.specs.Elements.{Input, Step, step}
+use Rattle.tx_pending.specs.Elements.{Input, Step, is_at_entry, step}
 use Rattle.tx_pending.specs.Plain.{IsNext, behind_first}
 use Rattle.tx_seen.specs.declared.meaning.Meaning.TheVariants as meaning
 use Rattle.tx_seen.specs.Magnified.{noted}
@@ -35,7 +35,7 @@ use Rattle.tx_main.specs.declared.going.Going.TheVariants.{Text, Within}
 use Rattle.tx_main.specs.Going.{HasGone, IsIdle, IsReading}
 use Rattle.tx_main.specs.MainLoop.{behind_plain}
 use Rattle.tx_main.specs.Turns.{goes_on, known_of, outcome, taken_by, texting, turned, wanted_by}
-use Rattle.tx_main.proofs.MainLoop.{behind, gone, meaning-set, reads-plain, seen}
+use Rattle.tx_main.proofs.MainLoop.{behind, gone, meaning-set, plain-goes-on, reads-plain, seen}
 use Rattle.tx_main.proofs.TextTurns.{goes-on}
 
 -- characters that are tokens as they stand are neither braces nor stand for #, and mean themselves
@@ -69,7 +69,7 @@ text-goes s first text due begun is_open within comes =
     let kind : Cat = category_of s.table.table.categories first in
     let left : Input = behind_first (state_behind first) s.reader.input in
     let whole : OpenText = with_ordinary text (Character code kind) in
-    reads-plain s left code kind due begun (plain-means s.table.table first comes.set) (comes-next s.table.table.categories s.reader.input first comes)
+    reads-plain s left code kind due begun (plain-means s.table.table first comes.set) (plain-goes-on s.table.table.categories first comes.set) (comes-next s.table.table.categories s.reader.input first comes)
     ∙ ap (taken_by (behind s left) (seen code kind)) is_open
     ∙ ap (texting (behind s left)) (ordinary-joins text code kind (plain-ordinary s.table.table.categories first comes.set) within)
     ∙ goes-on (behind s left) whole (ordinary-open text (Character code kind) within)
@@ -111,6 +111,7 @@ within-turned s first new comes k =
     let given : step codes s.input ≡ record { next = front.Token (Character code kind); left = left } = comes-next codes s.input first comes in
     token-turned w wanted s.expander s.input left codes (front.Token (Character code kind)) (Character code kind) (meaning.Character code kind) k.opening refl
     (sym (ap (λ (x : Step). x.next) given)) (sym (ap (λ (x : Step). x.left) given)) refl (sym (plain-means s.table.table first comes.set))
+    ∙ none-ended w wanted (character code kind) (reader_of s.expander left) (ap (at_entry (is_at_entry left)) (plain-goes-on codes first comes.set))
     ∙ k.reads w wanted left
 
 within-goes : (s : State) (first : PlainToken) (new : Open) → s.due ≡ [] → IsNext s.table.table.categories s.input first → IsTakenIn s.expander (character (code_of first) (category_of s.table.table.categories first)) new → outcome (Runs (state_of s)) ≡ leaves (record (state_of s) { reader = reader_of new (behind_first (state_behind first) s.input) })

@@ -20,7 +20,7 @@ use Rattle.tx_lettering.specs.Words.{word_ended}
 use Rattle.tx_main.specs.Going.{HasGoneOn, HasJoined, HasTurned, IsCommanding, IsFed, IsNextOf}
 use Rattle.tx_main.specs.Turns.{due_cost, outcome, taken_by, taking, tex}
 use Rattle.tx_main.proofs.Characters.{comes-next, plain-means}
-use Rattle.tx_main.proofs.MainLoop.{behind, plain-turn, reads-plain, runs-as, seen}
+use Rattle.tx_main.proofs.MainLoop.{behind, plain-goes-on, plain-turn, reads-plain, runs-as, seen}
 
 -- a command that goes on takes a turn of which the outside need know nothing
 pub joined-steps : (s new : State) (t : Seen) → s.phase ≡ Running → HasJoined t s new → IsStepped (taking (state_of s) t) s Went new
@@ -49,7 +49,7 @@ next-joins s first commanding next =
     let code : ℕ = code_of first in
     let kind : Cat = category_of s.table.table.categories first in
     let left : Input = behind_first (state_behind first) s.input in
-    reads-plain (state_of s) left code kind commanding.due commanding.begun (plain-means s.table.table first next.comes.set) (comes-next s.table.table.categories s.input first next.comes)
+    reads-plain (state_of s) left code kind commanding.due commanding.begun (plain-means s.table.table first next.comes.set) (plain-goes-on s.table.table.categories first next.comes.set) (comes-next s.table.table.categories s.input first next.comes)
     ∙ ap (taken_by (behind (state_of s) left) (seen code kind)) commanding.text
     ∙ (λ i. taking (if next.begun i || continues_word (seen code kind) then behind (state_of s) left else word_ended (behind (state_of s) left)) (seen code kind))
     ∙ (λ i. taking (record (state_of s) { reader = reader (sym commanding.begun i) left (state_of s).reader.conditionals (state_of s).reader.job }) (seen code kind))

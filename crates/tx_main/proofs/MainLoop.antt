@@ -5,7 +5,9 @@ use Rattle.tx_char.specs.declared.category.Cat.TheVariants.{Letter, Other, Space
 use Rattle.tx_char.specs.declared.tokens.Token.TheVariants as token
 use Rattle.tx_char.specs.Category.{category}
 use Rattle.tx_lex.specs.declared.types.ReadState.TheVariants.{M, S}
-use Rattle.tx_lex.specs.Plain.{is_set}
+use Rattle.tx_lex.specs.declared.types.PlainToken.{PlainToken}
+use Rattle.tx_lex.specs.declared.types.PlainToken.TheVariants.{Set, Blank}
+use Rattle.tx_lex.specs.Plain.{IsSet, category_of, is_set}
 use Rattle.tx_box.specs.declared.parts.Lists.{Lists}
 use Rattle.tx_box.specs.Sources.{appended}
 use Rattle.tx_command.specs.declared.at_once.AtOnce.{AtOnce}
@@ -22,7 +24,7 @@ use Rattle.tx_expand.specs.declared.types.Expanded.TheVariants as answer
 use Rattle.tx_expand.specs.declared.types.Wanted.{Wanted}
 use Rattle.tx_expand.specs.Expanding.{reader, world_of}
 use Rattle.tx_expand.specs.Reader.{Goes, Reader, World}
-use Rattle.tx_expand.specs.Turns.{is_expanding, token_read, turn, with_front}
+use Rattle.tx_expand.specs.Turns.{at_entry, category_ends, entry_end_in, is_expanding, met, token_read, turn, with_front}
 use Rattle.tx_machine.specs.Plain.{ArePlain, HasPassed, IsPlain}
 use Rattle.tx_machine.specs.Steps.{raised}
 use Rattle.tx_machine.proofs.Going.{raised-raised, raised-zero}
@@ -32,7 +34,7 @@ use Rattle.tx_node.specs.Items.{Item, plain}
 use Rattle.tx_node.specs.declared.plain.Plain.TheVariants.{Glue}
 use Rattle.tx_num.specs.Glue.{GlueSpec}
 use Rattle.tx_pending.specs.declared.next.Next.TheVariants as front
-use Rattle.tx_pending.specs.Elements.{Input, step}
+use Rattle.tx_pending.specs.Elements.{Input, is_at_entry, step}
 use Rattle.tx_pending.specs.Plain.{behind_first}
 use Rattle.tx_prim.specs.declared.modes.Mode.{Mode}
 use Rattle.tx_prim.specs.declared.modes.Mode.TheVariants as mode_of
@@ -101,12 +103,27 @@ same-either false x = refl
 abbrev pub idle : Reader → Input → Reader
 idle r input = reader [] input r.conditionals r.job
 
+-- a token that ends no entry is read
+read-on : (w : World) (wanted : Wanted) (t : Seen) (r : Reader) → entry_end_in r.input t.meaning ≡ None → met w wanted t r ≡ token_read w wanted t r
+read-on w wanted t r none = rw none refl
+
+-- neither a character that is set nor a space ends one
+pub set-goes-on : (kind : Cat) → is_set kind ≡ true → category_ends kind ≡ None
+set-goes-on Letter set = refl
+set-goes-on Other set = refl
+set-goes-on _ set = absurd (cc set)
+
+pub plain-goes-on : (codes : List Cat) (first : PlainToken) → IsSet codes first → category_ends (category_of codes first) ≡ None
+plain-goes-on codes (Set code) set = set-goes-on (category codes code) set
+plain-goes-on codes Blank set = refl
+
 -- a turn of it gives a character that means itself
-turn-character : (w : World) (wanted : Wanted) (r : Reader) (left : Input) (code : ℕ) (kind : Cat) → w.meaning (token.Character code kind) ≡ meaning.Character code kind → step w.codes r.input ≡ record { next = front.Token (token.Character code kind); left = left }
+turn-character : (w : World) (wanted : Wanted) (r : Reader) (left : Input) (code : ℕ) (kind : Cat) → w.meaning (token.Character code kind) ≡ meaning.Character code kind → category_ends kind ≡ None → step w.codes r.input ≡ record { next = front.Token (token.Character code kind); left = left }
     → turn w wanted (idle r r.input) ≡ Goes (answer.Got (seen code kind)) (idle r left)
-turn-character w wanted r left code kind means comes =
+turn-character w wanted r left code kind means none comes =
     ap (with_front w wanted (idle r r.input)) comes
-    ∙ ap (λ (m : Meaning). token_read w wanted (record { token = token.Character code kind; meaning = m }) (idle r left)) means
+    ∙ ap (λ (m : Meaning). met w wanted (record { token = token.Character code kind; meaning = m }) (idle r left)) means
+    ∙ read-on w wanted (seen code kind) (idle r left) (ap (at_entry (is_at_entry left)) none)
     ∙ same-either (is_expanding wanted.want) (Goes (answer.Got (seen code kind)) (idle r left))
 
 -- the state behind it, before it takes effect
@@ -116,17 +133,17 @@ behind s left = record s { reader = idle s.reader left }
 awaits-behind : (s : TexState) (left : Input) → AwaitsToken s → AwaitsToken (behind s left)
 awaits-behind s left awaits = record { due = awaits.due; text = awaits.text; begun = refl; head = awaits.head; taken = awaits.taken; horizontal = awaits.horizontal }
 
-pub reads-plain : (s : TexState) (left : Input) (code : ℕ) (kind : Cat) → s.due ≡ [] → s.reader.begun ≡ [] → token_meaning s.table.table (token.Character code kind) ≡ meaning.Character code kind → step s.table.table.categories s.reader.input ≡ record { next = front.Token (token.Character code kind); left = left }
+pub reads-plain : (s : TexState) (left : Input) (code : ℕ) (kind : Cat) → s.due ≡ [] → s.reader.begun ≡ [] → token_meaning s.table.table (token.Character code kind) ≡ meaning.Character code kind → category_ends kind ≡ None → step s.table.table.categories s.reader.input ≡ record { next = front.Token (token.Character code kind); left = left }
     → outcome (Runs s) ≡ taken_by (behind s left) (seen code kind) s.text
-reads-plain s left code kind due begun means comes =
+reads-plain s left code kind due begun means none comes =
     ap (goes_on s) due
     ∙ ap (λ (opened : List Begun). turned s (turn (world_of (known_of s) s.mode) (wanted_by s s.text) (reader opened s.reader.input s.reader.conditionals s.reader.job))) begun
-    ∙ ap (turned s) (turn-character (world_of (known_of s) s.mode) (wanted_by s s.text) s.reader left code kind means comes)
+    ∙ ap (turned s) (turn-character (world_of (known_of s) s.mode) (wanted_by s s.text) s.reader left code kind means none comes)
 
-reads-character : (s : TexState) (left : Input) (code : ℕ) (kind : Cat) → AwaitsToken s → token_meaning s.table.table (token.Character code kind) ≡ meaning.Character code kind → step s.table.table.categories s.reader.input ≡ record { next = front.Token (token.Character code kind); left = left }
+reads-character : (s : TexState) (left : Input) (code : ℕ) (kind : Cat) → AwaitsToken s → token_meaning s.table.table (token.Character code kind) ≡ meaning.Character code kind → category_ends kind ≡ None → step s.table.table.categories s.reader.input ≡ record { next = front.Token (token.Character code kind); left = left }
     → outcome (Runs s) ≡ taken_by (behind s left) (seen code kind) None
-reads-character s left code kind awaits means comes =
-    reads-plain s left code kind awaits.due awaits.begun means comes
+reads-character s left code kind awaits means none comes =
+    reads-plain s left code kind awaits.due awaits.begun means none comes
     ∙ ap (taken_by (behind s left) (seen code kind)) awaits.text
 
 -- it is a command by itself
@@ -166,7 +183,7 @@ letter-goes : (s : TexState) (font factor code : ℕ) → AwaitsToken s → font
 letter-goes s font factor code awaits is_font has_factor next =
     let kind : Cat = category s.table.table.categories code in
     let left : Input = behind_first M s.reader.input in
-    reads-character s left code kind awaits (meaning-set s.table.table code kind next.comes.set) next.comes.next
+    reads-character s left code kind awaits (meaning-set s.table.table code kind next.comes.set) (set-goes-on kind next.comes.set) next.comes.next
     ∙ ap (λ (t : TexState). taking t (seen code kind)) (stays (behind s left) code kind (awaits-behind s left awaits) next.comes.set)
     ∙ takes-alone (behind s left) code kind (at_once.Character code) (awaits-behind s left awaits) (alone-set s.mode code kind awaits.horizontal next.comes.set)
     ∙ sets (behind s left) font factor code is_font has_factor next.has
@@ -188,7 +205,7 @@ awaits-ended s awaits = record { due = awaits.due; text = awaits.text; begun = a
 space-goes : (s : TexState) (font factor : ℕ) (glue : GlueSpec) → AwaitsToken s → font ≡ current_font s.table.table → factor_now s ≡ Some factor → IsSpaceNext s font factor glue → outcome (Runs s) ≡ leaves (spaced s glue)
 space-goes s font factor glue awaits is_font has_factor next =
     let left : Input = behind_first S s.reader.input in
-    reads-character s left 32 Space awaits refl next.comes.next
+    reads-character s left 32 Space awaits refl refl next.comes.next
     ∙ ap (λ (t : TexState). taking t (seen 32 Space)) (ends (behind s left) (awaits-behind s left awaits))
     ∙ takes-alone (word_ended (behind s left)) 32 Space at_once.Space (awaits-ended (behind s left) (awaits-behind s left awaits)) (alone-space s.mode awaits.horizontal)
     ∙ spaces (word_ended (behind s left)) font factor glue is_font has_factor next.glue_is

@@ -1,9 +1,10 @@
 -- What comes of a token by what the open command answers.
 use Rattle.std.proofs.Common.{◌≡◌, ℕ, ℤ, List, [], Option, Result, Ok, Err, IfOk, refl, ap, subst}
 use Rattle.tx_machine.specs.declared.types.Event.{Event}
-use Rattle.tx_pending.specs.Elements.{Input, with_tokens}
+use Rattle.tx_machine.specs.declared.types.Event.TheVariants.{Went}
+use Rattle.tx_pending.specs.Elements.{Input, given_back}
 use Rattle.tx_expand.specs.Values.{Lent, value_now}
-use Rattle.tx_expand.specs.Turns.{put}
+use Rattle.tx_expand.specs.Turns.{put_back}
 use Rattle.tx_seen.specs.declared.error.TexError.{TexError}
 use Rattle.tx_seen.specs.declared.fed.Want.{Want}
 use Rattle.tx_seen.specs.declared.item.Item.{Item}
@@ -35,7 +36,7 @@ joins-more s t want is = ap (scanned s (items_with s t)) is
 pub joins-wrong : (s : TexState) (t : Seen) (e : TexError) → command s.mode s.head (items_with s t) ≡ Wrong e → joining s (items_with s t) ≡ Fails e
 joins-wrong s t e is = ap (scanned s (items_with s t)) is
 
-pub joins-whole : (s : TexState) (t : Seen) (c : Command) (behind : List Item) → command s.mode s.head (items_with s t) ≡ Done c behind → joining s (items_with s t) ≡ effect (record s { taken = []; reader = put (tokens_of behind) s.reader }) c
+pub joins-whole : (s : TexState) (t : Seen) (c : Command) (behind : List Item) → command s.mode s.head (items_with s t) ≡ Done c behind → joining s (items_with s t) ≡ effect (record s { taken = []; reader = put_back (tokens_of behind) s.reader }) c
 joins-whole s t c behind is = ap (scanned s (items_with s t)) is
 
 -- the state once a token is taken
@@ -70,7 +71,7 @@ pub takes-wrong : (s new : State) (scan : Begun) (input : Input) (made : Command
 takes-wrong s new scan input made t e event k did =
     rw (joins-wrong (state_of s) t e k) (record { event_is = did.event_is; state_is = did.state_is; said_is = did.said_is })
 
-whole-by : (s new : State) (t : Seen) (made : Command) (behind : List Item) (event : Event) → command s.scan.mode s.scan.head (items_with (state_of s) t) ≡ Done made behind → IsStepped (effect (record (state_of s) { taken = []; reader = put (tokens_of behind) (state_of s).reader }) made) (fed_state s (record s.scan { taken = [] }) (with_tokens s.input (tokens_of behind)) made) event new → IsStepped (taking (state_of s) t) s event new
+whole-by : (s new : State) (t : Seen) (made : Command) (behind : List Item) (event : Event) → command s.scan.mode s.scan.head (items_with (state_of s) t) ≡ Done made behind → IsStepped (effect (record (state_of s) { taken = []; reader = put_back (tokens_of behind) (state_of s).reader }) made) (fed_state s (record s.scan { taken = [] }) (given_back s.input (tokens_of behind)) made) event new → IsStepped (taking (state_of s) t) s event new
 whole-by s new t made behind event is did =
     rw (joins-whole (state_of s) t made behind is) (record { event_is = did.event_is; state_is = did.state_is; said_is = did.said_is })
 

@@ -26,7 +26,7 @@ use Rattle.tx_expand.specs.declared.types.Expanded.TheVariants as answer
 use Rattle.tx_expand.specs.declared.types.Wanted.{Wanted}
 use Rattle.tx_expand.specs.Expanding.{reader as reader_with, world_of}
 use Rattle.tx_expand.specs.Reader.{Turn, Goes, Fails as Turn_fails}
-use Rattle.tx_expand.specs.Turns.{file_ended, is_opening, magnification_taken, opened, put, turn}
+use Rattle.tx_expand.specs.Turns.{file_ended, is_opening, magnification_taken, opened, put_back, turn}
 use Rattle.tx_pending.specs.Elements.{with_line}
 use Rattle.tx_scan.specs.Settled.{tokens_of}
 use Rattle.tx_scan.specs.Supplied.{with_values}
@@ -55,7 +55,7 @@ abbrev pub scanned : TexState → List Item → Reading Command → Outcome
 scanned s items (More want) = leaves (record s { taken = items; magnification = noted s.magnification (magnification_in items) })
 scanned s items (Need kind) = leaves (record s { taken = items })
 scanned s items (Wrong error) = Fails error
-scanned s items (Done c behind) = effect (record s { taken = []; reader = put (tokens_of behind) s.reader }) c
+scanned s items (Done c behind) = effect (record s { taken = []; reader = put_back (tokens_of behind) s.reader }) c
 
 -- a token, and the values that the open command needs behind it, join what that has taken
 abbrev pub joining : TexState → List Item → Outcome

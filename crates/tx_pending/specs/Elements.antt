@@ -1,5 +1,6 @@
 -- Pending input as one list (TeX: The Program, part 22 and sections 343 to 362).
 use Rattle.std.specs.Prelude.{ℕ, Bool, true, false, List, [], ◌∷◌, ◌++◌, map, ℤ, pos, ◌+ℤ◌, ◌-ℤ◌, if◌then◌else◌}
+use Rattle.std.specs.Ordering.{int_eq}
 use Rattle.tx_char.specs.declared.category.Cat.{Cat}
 use Rattle.tx_char.specs.declared.tokens.Token.{Token}
 use Rattle.tx_toklist.specs.Macros.{is_begin, is_end}
@@ -64,6 +65,10 @@ unread input token = with_level input (level_before input.level token)
 abbrev pub level_at : ColumnPart → ℤ → ℤ
 level_at U level = pos 0
 level_at V level = level
+
+-- an entry is read, in no braces of its own (TeX: The Program, section 342)
+abbrev pub is_at_entry : Input → Bool
+is_at_entry input = int_eq input.level (pos 0)
 
 -- whether the u-part of a column is read to its end; its entry begins there, at level 0 (TeX: The Program, section 324)
 abbrev pub begins_entry : List Element → Bool

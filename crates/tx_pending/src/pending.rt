@@ -132,6 +132,14 @@ impl Pending {
         self.level
     }
 
+    /// Whether an entry of an alignment is read, in no braces of its own.
+    #[inline(always)]
+    pub fn is_at_entry(&self) -> bool
+        ensures { result ≡ spec.is_at_entry self.now }
+    {
+        self.level == 0
+    }
+
     /// From now on it is read at this level.
     pub fn set_level(&mut self, level: i64)
         ensures { self.new ≡ with_level self.old level }

@@ -133,6 +133,13 @@ impl ShapeScan {
         }
     }
 
+    /// The first token behind \halign; what was read before is forgotten.
+    pub fn feed_align(&mut self, token: &Seen) -> Fed<Shaped>
+        ensures { Begins (λ more. boxes.box_begin Opening.Align (Took token.now ∷ more)) self.new result }
+    {
+        self.feed_goal(Opening::Align, token)
+    }
+
     /// The begin-group token of a box, or what is skipped before it.
     pub(crate) fn feed_brace(
         &mut self,

@@ -6,7 +6,9 @@ use Rattle.tx_char.specs.declared.tokens.Token.{Token}
 use Rattle.tx_char.specs.contracts.tokens.Token as token
 use Rattle.tx_seen.specs.declared.item.Item.{Item}
 use Rattle.tx_seen.specs.contracts.item.Item as item
-use Rattle.tx_pending.specs.Elements.{Element, Given, Held, Mark, Unread, Input}
+use Rattle.tx_pending.specs.declared.next.ColumnPart.{ColumnPart}
+use Rattle.tx_pending.specs.contracts.next.ColumnPart as column_part
+use Rattle.tx_pending.specs.Elements.{Element, Given, Held, Mark, PartEnd, Unread, Input}
 use Rattle.tx_eqtb.specs.declared.eqtb.Eqtb.{Eqtb}
 use Rattle.tx_eqtb.specs.contracts.eqtb.Eqtb as eqtb
 use Rattle.tx_lex.specs.declared.types.ReadState.{ReadState}
@@ -40,29 +42,32 @@ use Rattle.tx_command.specs.contracts.types.Head as head
 use Rattle.tx_state.specs.State.{TexState, Meaning, Runs, Waits, Stops}
 
 -- elements of the pending input
-abbrev element_parts : Element → Token ⊎ (Token ⊎ (ℕ ⊎ (List ℕ × ReadState)))
+abbrev element_parts : Element → Token ⊎ (Token ⊎ (ℕ ⊎ (ColumnPart ⊎ (List ℕ × ReadState))))
 element_parts (Given t) = inl t
 element_parts (Held t) = inr (inl t)
 element_parts Mark = inr (inr (inl 0))
-element_parts (Unread rest state) = inr (inr (inr (rest, state)))
+element_parts (PartEnd part) = inr (inr (inr (inl part)))
+element_parts (Unread rest state) = inr (inr (inr (inr (rest, state))))
 
-abbrev element_of : Token ⊎ (Token ⊎ (ℕ ⊎ (List ℕ × ReadState))) → Element
+abbrev element_of : Token ⊎ (Token ⊎ (ℕ ⊎ (ColumnPart ⊎ (List ℕ × ReadState)))) → Element
 element_of (inl t) = Given t
 element_of (inr (inl t)) = Held t
 element_of (inr (inr (inl n))) = Mark
-element_of (inr (inr (inr p))) = Unread p.0 p.1
+element_of (inr (inr (inr (inl part)))) = PartEnd part
+element_of (inr (inr (inr (inr p)))) = Unread p.0 p.1
 
 pub element_back : (x : Element) → element_of (element_parts x) ≡ x
 element_back (Given t) = refl
 element_back (Held t) = refl
 element_back Mark = refl
+element_back (PartEnd part) = refl
 element_back (Unread rest state) = refl
 
 abbrev element_code : Coded Element
-element_code = code_by (Token ⊎ (Token ⊎ (ℕ ⊎ (List ℕ × ReadState)))) (coded⊎ token.the_row.coded (coded⊎ token.the_row.coded (coded⊎ coded_ℕ (coded× (coded_list coded_ℕ) read_state.the_row.coded)))) element_parts element_of element_back
+element_code = code_by (Token ⊎ (Token ⊎ (ℕ ⊎ (ColumnPart ⊎ (List ℕ × ReadState))))) (coded⊎ token.the_row.coded (coded⊎ token.the_row.coded (coded⊎ coded_ℕ (coded⊎ column_part.the_row.coded (coded× (coded_list coded_ℕ) read_state.the_row.coded))))) element_parts element_of element_back
 
 abbrev input_code : Coded Input
-input_code = code_by (List Element × Bool) (coded× (coded_list element_code) coded_bool) (λ i. (i.elements, i.closing)) (λ p. record { elements = p.0; closing = p.1 }) (λ _. refl)
+input_code = code_by (List Element × (Bool × ℤ)) (coded× (coded_list element_code) (coded× coded_bool coded_ℤ)) (λ i. (i.elements, (i.closing, i.level))) (λ p. record { elements = p.0; closing = p.1.0; level = p.1.1 }) (λ _. refl)
 
 abbrev reader_code : Coded Reader
 reader_code = code_by

@@ -6,7 +6,7 @@ use Rattle.tx_nest.specs.declared.list.ModeList.{ModeList}
 use Rattle.tx_eqtb.specs.declared.eqtb.Eqtb.{Eqtb}
 use Rattle.tx_eqtb.specs.declared.table.Table.{Table}
 use Rattle.tx_eqtb.specs.Table.{number_at}
-use Rattle.tx_expand.specs.Turns.{put}
+use Rattle.tx_expand.specs.Turns.{put_back}
 use Rattle.tx_prim.specs.declared.integer.IntegerParameter.{IntegerParameter}
 use Rattle.tx_seen.specs.declared.error.TexError.{TexError}
 use Rattle.tx_seen.specs.declared.place.Place.TheVariants.{Integer}
@@ -25,7 +25,7 @@ naming s head (Ok table) = leaves (record s { table = table; head = head })
 -- an assignment is done: what \afterassignment keeps is read next (TeX: The Program, section 1269)
 abbrev pub with_after : TexState → Option Token → TexState
 with_after s None = s
-with_after s (Some t) = record s { after_assignment = None; reader = put (t ∷ []) s.reader }
+with_after s (Some t) = record s { after_assignment = None; reader = put_back (t ∷ []) s.reader }
 
 abbrev pub assigned : TexState → TexState
 assigned s = with_after (record s { head = Fresh; taken = [] }) s.after_assignment

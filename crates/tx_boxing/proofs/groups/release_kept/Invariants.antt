@@ -1,5 +1,5 @@
 use Rattle.std.proofs.Common.{◌≡◌, [], length}
-use Rattle.tx_pending.specs.Elements.{with_tokens}
+use Rattle.tx_pending.specs.Elements.{given_back}
 use Rattle.tx_boxing.specs.Groups.{kept_tokens, left_after}
 use Rattle.tx_boxing.proofs.groups.release_kept.Given as goal
 
@@ -7,7 +7,7 @@ use Rattle.tx_boxing.proofs.groups.release_kept.Given as goal
 abbrev pub invariant-loop-token : goal.invariant-loop-token
 invariant-loop-token l = record {
   left : left_after l.groups l.after_groups ≡ left_after l.groups l.initial.after_groups;
-  input : with_tokens l.input (kept_tokens l.groups l.after_groups []) ≡ with_tokens l.initial.input (kept_tokens l.groups l.initial.after_groups []);
+  input : given_back l.input (kept_tokens l.groups l.after_groups []) ≡ given_back l.initial.input (kept_tokens l.groups l.initial.after_groups []);
 }
 
 abbrev pub decreases-loop-token : goal.decreases-loop-token

@@ -1,5 +1,5 @@
 use Rattle.std.proofs.Common.{ap}
-use Rattle.tx_command.proofs.Stages.{first-fresh, first-prefixed, first-future, first-leading, first-loading, first-shaping, first-opening, first-row, first-entry}
+use Rattle.tx_command.proofs.Stages.{first-fresh, first-prefixed, first-future, first-leading, first-loading, first-shaping, first-opening, first-aligning, first-preamble, first-row, first-entry}
 use Rattle.tx_command.proofs.scans.Scans.begin_command.Goals as goal
 
 pub returns-in-Fresh : goal.returns-in-Fresh
@@ -28,3 +28,9 @@ returns-in-Row c = first-row c.args.mode c.args.head.now c.row_start.result c.ar
 
 pub returns-in-Entry : goal.returns-in-Entry
 returns-in-Entry c = first-entry c.args.mode c.args.head.now c.entry_start.result c.args.token.now c.feed_row-in-Entry.new.self c.feed_row-in-Entry.result c.in-Entry.is c.entry_start.ensures c.feed_row-in-Entry.ensures
+
+pub returns-in-Aligning : goal.returns-in-Aligning
+returns-in-Aligning c = first-aligning c.args.mode c.args.head.now _ c.args.token.now c.feed_align.new.self c.feed_align.result c.in-Aligning.is c.feed_align.ensures
+
+pub returns-in-Preamble : goal.returns-in-Preamble
+returns-in-Preamble c = first-preamble c.args.mode c.args.head.now c.args.token.now c.feed_preamble.new.self c.feed_preamble.result c.in-Preamble.is c.feed_preamble.ensures

@@ -119,6 +119,3 @@ returns-in-Discretionary c = rw c.in-Discretionary.is c.begin_shape-in-Discretio
 
 pub returns-in-LoadFont : goal.returns-in-LoadFont
 returns-in-LoadFont c = rw (c.in-LoadFont.is, c.on-in-LoadFont.ensures.answer) (font-begun c.on-in-LoadFont.new.self (ap (λ scans. scans.stage) c.on-in-LoadFont.ensures.scans))
-
-pub returns-in-Align : goal.returns-in-Align
-returns-in-Align c = rw c.in-Align.is c.begin_shape-in-Align.ensures

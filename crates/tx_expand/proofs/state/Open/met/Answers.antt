@@ -6,5 +6,5 @@ use Rattle.tx_expand.proofs.state.Open.met.Goals as goal
 
 pub returns : goal.returns
 returns c =
-    rw (none-ended (world_of (lent c.args.known.now) c.args.mode) c.args.wanted c.args.token (reader_of c.args.self.now c.args.input.now) (sym c.entry_end_at.ensures ∙ c.in_default.is))
+    rw (none-ended (world_of (lent c.args.known.now) c.args.mode) c.args.wanted c.args.token (reader_of c.args.self.now c.args.input.now) (sym c.entry_end_in.ensures ∙ c.in_default.is))
     c.read_other.ensures
