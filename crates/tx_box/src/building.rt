@@ -233,7 +233,7 @@ fn box_list(
 }
 
 /// The items of the list that is being built, which ends; the one around it goes on.
-pub(crate) fn leave_list(nest: &mut Nest) -> Nodes
+pub fn leave_list(nest: &mut Nest) -> Nodes
     requires { nest.old.around ≢ [] }
     ensures nodes { result ≡ nest.old.innermost.nodes }
     ensures left { spec.left_list nest.old.innermost nest.old.around ≡ Some nest.new }

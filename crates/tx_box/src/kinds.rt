@@ -43,7 +43,7 @@ pub fn every_in(kind: BoxKind) -> TokenParameter
 }
 
 /// What a list is packed to.
-pub(crate) fn goal_of(goal: BoxGoal) -> Goal
+pub fn goal_of(goal: BoxGoal) -> Goal
     ensures { result ≡ spec.goal_of goal }
 {
     match goal {
@@ -54,7 +54,7 @@ pub(crate) fn goal_of(goal: BoxGoal) -> Goal
 }
 
 /// The size of a goal.
-pub(crate) fn size_in(goal: Goal) -> i64
+pub fn size_in(goal: Goal) -> i64
     ensures { result ≡ spec.size_in goal }
 {
     match goal {

@@ -54,7 +54,7 @@ pub(crate) fn all_own(alloc: Global, list: Nodes) -> Line
 /// What of a list stands in the box, and what leaves it. A list that nothing leaves, as most are, isn't copied. Its only error is
 /// want of memory.
 #[tactic(auto, using(crate::proofs::Lines::all_stays))]
-pub(crate) fn split_list(alloc: Global, list: Nodes) -> Result<Line, AllocError>
+pub fn split_list(alloc: Global, list: Nodes) -> Result<Line, AllocError>
     ensures { IfOk result (λ line. line ≡ line_of_items list) }
 {
     if any_leaves_box(list.as_slice()) {

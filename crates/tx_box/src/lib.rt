@@ -21,10 +21,11 @@ mod placing;
 mod sources;
 
 pub use breaks::{begin_break, end_break};
-pub use building::{Ended, begin_box, end_box, greatest_depth, reset_shape};
+pub use building::{Ended, begin_box, end_box, greatest_depth, leave_list, reset_shape};
 pub use due_work::{copy_list, place_copy};
 pub use inserts::{InsertParams, begin_vertical, end_insert, end_vertical, insert_params};
-pub use kinds::every_in;
+pub use kinds::{every_in, goal_of, size_in};
+pub use leaving::split_list;
 pub use parameters::{across, dimension, down, glue, integer, leading_of};
 pub use parts::{Done, Lists, OpenBox, Target, Work};
 pub use placing::place;

@@ -10,7 +10,7 @@ use tx_node::{BoxNode, Node, Nodes, Plain, Rule, Shared};
 use tx_num::Glue;
 
 /// Puts leading at the end of a list, if there is any.
-fn append_leading(nodes: &mut Nodes, leading: Option<Glue>) -> Result<(), AllocError>
+pub fn append_leading(nodes: &mut Nodes, leading: Option<Glue>) -> Result<(), AllocError>
     ensures { OnOk result (nodes.new ≡ with_leading nodes.old leading) }
 {
     match leading {

@@ -77,7 +77,7 @@ fn leading(params: &LeadingParams, prev_depth: i32, height: i32) -> Result<Optio
 }
 
 /// The leading before a box so high, in sp, by \prevdepth, which lists that aren't vertical don't have.
-pub(crate) fn leading_behind(
+pub fn leading_behind(
     params: &LeadingParams,
     prev_depth: Option<i32>,
     height: i32,

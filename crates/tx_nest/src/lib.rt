@@ -19,7 +19,7 @@ mod list;
 mod nest;
 mod state;
 
-pub use append::{append_box, append_rule};
+pub use append::{append_box, append_leading, append_rule};
 pub use change::{
     append_item, append_items, has_last, is_bare_page, remove_item, set_prev_depth,
     set_space_factor,
@@ -27,7 +27,7 @@ pub use change::{
 pub use factor::SpaceFactor;
 pub use graf::{go_on_behind, graf_of, raised_graf, set_prev_graf};
 pub use last::{has_last_box, last_kern, last_penalty, last_skip, take_last_box};
-pub use leading::{LeadingParams, NestError};
+pub use leading::{LeadingParams, NestError, leading_behind};
 pub use list::ModeList;
 pub use nest::Nest;
 pub use state::ModeState;

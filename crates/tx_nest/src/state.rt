@@ -105,7 +105,7 @@ impl ModeState {
     }
 
     /// What is kept behind a box of this depth, in sp.
-    pub(crate) fn behind_box(self, depth: i32) -> ModeState
+    pub fn behind_box(self, depth: i32) -> ModeState
         ensures { result ≡ spec.behind_box self depth }
     {
         match self {

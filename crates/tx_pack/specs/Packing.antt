@@ -8,6 +8,7 @@ use Rattle.tx_node.specs.declared.head.Direction.TheVariants.{Horizontal, Vertic
 use Rattle.tx_node.specs.Items.{Item, items_of}
 use Rattle.tx_node.specs.Counts.{nesting_of}
 use Rattle.tx_pack.specs.declared.sums.Sums.{Sums}
+use Rattle.tx_pack.specs.declared.types.Extent.{Extent}
 use Rattle.tx_pack.specs.declared.types.Goal.{Goal}
 use Rattle.tx_pack.specs.declared.types.Goal.TheVariants.{Natural, To, Spread}
 use Rattle.tx_pack.specs.declared.types.PackParams.{PackParams}
@@ -81,3 +82,11 @@ hpacked list goal params = packing Horizontal list goal params (sums_of Horizont
 -- the box of a vertical list, at most so deep
 abbrev pub vpacked : List Item → Goal → ℤ → PackParams → Result Packed PackError
 vpacked list goal most params = packing Vertical list goal params (option_and_then (with_depth most) (sums_of Vertical list))
+
+-- how high and how deep the box of a horizontal list is (section 796)
+abbrev pub extent_by : List Item → Option Sums → Result Extent PackError
+extent_by list None = Err SizeOutOfRange
+extent_by list (Some sums) = if nat_le (suc (nesting_of (items_of list))) 500 then Ok (record { height = sums.height; depth = sums.depth }) else Err TooDeep
+
+abbrev pub extent_of : List Item → Result Extent PackError
+extent_of list = extent_by list (sums_of Horizontal list)

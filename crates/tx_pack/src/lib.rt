@@ -16,7 +16,7 @@ mod tops;
 mod types;
 mod verdicts;
 
-pub use packing::{hpack, vpack};
+pub use packing::{extent_of, hpack, vpack};
 pub use sums::fits;
 pub use tops::vtop;
-pub use types::{Goal, PackError, PackParams, Packed};
+pub use types::{Extent, Goal, PackError, PackParams, Packed};

@@ -15,7 +15,7 @@ ghost use Rattle.tx_pack.specs.Verdicts.{ended_by, verdict_of as verdict_of_list
 use crate::reports::report_of;
 use crate::stretching::setting_for;
 use crate::sums::{Sums, fits, minus, plus, sums_of};
-use crate::types::{Goal, PackError, PackParams, Packed};
+use crate::types::{Extent, Goal, PackError, PackParams, Packed};
 use crate::verdicts::{Verdict, end_rule, verdict_of};
 use std::alloc::{AllocError, Global};
 use tx_node::{BoxHead, BoxNode, Direction, Node, Nodes, Rule, Shared};
@@ -263,6 +263,30 @@ pub fn hpack(
         return Err(PackError::SizeOutOfRange);
     };
     packed_to(alloc, Direction::Horizontal, list, goal, params, &sums)
+}
+
+/// The extent of a list with these sums.
+fn extent_by(list: &Nodes, sums: &Sums) -> Result<Extent, PackError>
+    requires { IsSmall sums.now }
+    ensures { result ≡ spec.extent_by list.now (Some sums.now) }
+{
+    if list.nesting() >= MAX_NESTING {
+        return Err(PackError::TooDeep);
+    }
+    Ok(Extent {
+        height: dimension(sums.height),
+        depth: dimension(sums.depth),
+    })
+}
+
+/// How high and how deep a horizontal list's box is, which isn't made. The errors are those of `hpack` to the natural size.
+pub fn extent_of(list: &Nodes) -> Result<Extent, PackError>
+    ensures { result ≡ spec.extent_of list.now }
+{
+    match sums_of(Direction::Horizontal, list.as_slice()) {
+        Some(sums) => extent_by(list, &sums),
+        None => Err(PackError::SizeOutOfRange),
+    }
 }
 
 /// A vertical list in a box that is at most so many sp deep: what is deeper goes into its height. `SizeOutOfRange` exactly

@@ -31,6 +31,13 @@ pub struct Packed {
     pub report: Bytes,
 }
 
+/// How high and how deep a list is, in sp.
+#[derive(Clone, Copy)]
+pub struct Extent {
+    pub height: i32,
+    pub depth: i32,
+}
+
 /// Why a list can't be packed.
 #[derive(Clone, Copy, Debug, Error)]
 pub enum PackError {
