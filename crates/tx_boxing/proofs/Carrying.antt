@@ -22,7 +22,7 @@ use Rattle.tx_shape.specs.declared.types.BoxContext.{BoxContext}
 use Rattle.tx_shape.specs.declared.types.BoxContext.TheVariants.{Adjust, Append, Register, Ship}
 use Rattle.tx_state.specs.declared.state.State.{State}
 use Rattle.tx_boxing.specs.Boxes.{boxed, carried, packing_box, settled, target_of, telling, with_every, with_every_in}
-use Rattle.tx_boxing.specs.Groups.{closing}
+use Rattle.tx_state.specs.Groups.{closing}
 use Rattle.tx_state.specs.Ended.{with_after}
 use Rattle.tx_state.specs.Meanings.{IsStepped, state_of}
 use Rattle.tx_state.specs.Outcomes.{Outcome, Leaves, Asks, Ships, Fails, FailsTelling, Ends}

@@ -1,4 +1,3 @@
-pub mod Keeping
 pub mod Ships
 pub mod Carrying
 pub mod Vertical

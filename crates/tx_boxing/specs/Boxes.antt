@@ -36,7 +36,7 @@ use Rattle.tx_boxing.specs.Building.{built_if, built_in}
 use Rattle.tx_state.specs.Ended.{assigned, integer, with_top_list}
 use Rattle.tx_state.specs.State.{TexState}
 use Rattle.tx_state.specs.Outcomes.{Outcome, Asks, Leaves, Ships, Fails, FailsTelling, Ends, leaves}
-use Rattle.tx_boxing.specs.Groups.{closing}
+use Rattle.tx_state.specs.Groups.{closing}
 
 -- a rule
 abbrev pub ruling : TexState → ARule → Outcome

@@ -11,7 +11,7 @@ use Rattle.tx_shape.specs.declared.types.Opener.TheVariants as opener
 use Rattle.tx_state.specs.State.{TexState}
 use Rattle.tx_state.specs.Outcomes.{Outcome, Fails, leaves}
 use Rattle.tx_boxing.specs.Boxes.{carried, carrying}
-use Rattle.tx_boxing.specs.Groups.{closing}
+use Rattle.tx_state.specs.Groups.{closing}
 
 -- a text of \discretionary begins behind its begin-group token (section 1117)
 abbrev pub beginning_break : TexState → BreakText → Outcome

@@ -5,7 +5,7 @@ use Rattle.tx_eqtb.specs.declared.groups.GroupKind.TheVariants as kind
 use Rattle.tx_seen.specs.declared.error.TexError.TheVariants.{ExtraGroupEnd}
 use Rattle.tx_state.specs.State.{TexState}
 use Rattle.tx_state.specs.Outcomes.{Outcome, Fails, leaves}
-use Rattle.tx_boxing.specs.Groups.{closing}
+use Rattle.tx_state.specs.Groups.{closing}
 use Rattle.tx_boxing.specs.Boxes.{ending_box}
 use Rattle.tx_boxing.specs.Breaks.{ending_break}
 use Rattle.tx_boxing.specs.Paragraphs.{ending_vertical, inserting, outputting}

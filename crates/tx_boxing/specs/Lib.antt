@@ -1,5 +1,4 @@
 pub mod Building
-pub mod Groups
 pub mod Boxes
 pub mod Pages
 pub mod Paragraphs

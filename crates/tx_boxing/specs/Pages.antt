@@ -25,7 +25,7 @@ use Rattle.tx_state.specs.Ended.{assigned}
 use Rattle.tx_state.specs.State.{TexState}
 use Rattle.tx_state.specs.Outcomes.{Outcome, Fails, Ends, leaves}
 use Rattle.tx_boxing.specs.Boxes.{boxed, carried, carrying, settled, target_of}
-use Rattle.tx_boxing.specs.Groups.{closing}
+use Rattle.tx_state.specs.Groups.{closing}
 
 -- the list of an \insert ends (section 1100); what the insertion takes from the table is read before its group ends
 abbrev pub packing_insert : TexState → ℕ → Outcome

@@ -10,7 +10,6 @@ ghost use Rattle.tx_state.specs.Meanings.{IsStepped, state_of};
 ghost use Rattle.tx_state.specs.Outcomes.{Leaves};
 ghost use Rattle.tx_boxing.specs.Shipped as shipped;
 
-use crate::groups::leave_group;
 use crate::pages::{build_if, build_in, context_of};
 use std::alloc::{AllocError, Global};
 use tx_assign::is_global;
@@ -28,7 +27,7 @@ use tx_node::{BoxNode, Nodes, Rule};
 use tx_output::LastItem;
 use tx_prim::{BoxKind, IntegerParameter, ItemKind, UnboxKind};
 use tx_seen::{Place, TexError};
-use tx_state::{Due, State, end_assignment, fail, finish_assignment, integer};
+use tx_state::{Due, State, end_assignment, fail, finish_assignment, integer, leave_group};
 
 /// Appends a rule.
 pub fn add_rule(alloc: Global, s: &mut State, rule: Rule) -> Result<Event, AllocError>

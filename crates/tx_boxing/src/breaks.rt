@@ -6,14 +6,13 @@ ghost use Rattle.tx_state.specs.declared.parts.Phase.{Phase};
 ghost use Rattle.tx_state.specs.Meanings.{IsStepped, state_of};
 
 use crate::boxes::carry;
-use crate::groups::leave_group;
 use std::alloc::{AllocError, Global};
 use tx_command::Head;
 use tx_eqtb::GroupKind;
 use tx_machine::Event;
 use tx_prim::BreakText;
 use tx_shape::Opener;
-use tx_state::{State, fail};
+use tx_state::{State, fail, leave_group};
 
 /// A text of \discretionary begins. Its only error is want of memory.
 pub fn begin_break(alloc: Global, s: &mut State, text: BreakText) -> Result<Event, AllocError>

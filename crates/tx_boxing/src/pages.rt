@@ -13,11 +13,10 @@ ghost use Rattle.tx_machine.specs.declared.types.Event.{Event};
 ghost use Rattle.tx_state.specs.Outcomes.{Fails, Outcome};
 ghost use Rattle.tx_boxing.specs.Building as building;
 ghost use Rattle.tx_boxing.specs.Boxes.{context_of as innermost_context, telling};
-ghost use Rattle.tx_boxing.specs.Groups.{closing};
+ghost use Rattle.tx_state.specs.Groups.{closing};
 ghost use Rattle.tx_boxing.specs.Pages as spec;
 
 use crate::boxes::{carry, finish_box, settle, target_of};
-use crate::groups::leave_group;
 use std::alloc::{AllocError, Global};
 use tx_box::{
     Ended, OpenBox, Target, Work, begin_vertical, end_insert, end_vertical, insert_params, place,
@@ -35,7 +34,7 @@ use tx_pending::Next as Pending_next;
 use tx_prim::{Mode, PageQuantity};
 use tx_seen::{Place, TexError};
 use tx_shape::{BoxContext, Opener};
-use tx_state::{Due, State, end_assignment, fail, finish};
+use tx_state::{Due, State, end_assignment, fail, finish, leave_group};
 
 /// The run ends by the error of a page, if that isn't want of memory.
 fn fail_by(s: &mut State, error: GalleyError) -> Result<Event, AllocError>

@@ -23,6 +23,7 @@ first_state date main = record {
   head = Fresh;
   taken = [];
   lists = first_lists;
+  alignments = [];
   words = record { fonts = no_fonts; word = None };
   hyphenation = record { hyphens = record { patterns = []; exceptions = [] }; used = false };
   table = record { table = initial_table (moment_of date); groups = [] };

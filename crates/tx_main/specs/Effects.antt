@@ -46,7 +46,7 @@ use Rattle.tx_boxing.specs.Pages.{beginning_list, ending_run, paged_so, setting_
 use Rattle.tx_boxing.specs.Boxes.{copying_box, opening_box, removing, ruling, setting_depth, taking_box, unboxing_so, using_box}
 use Rattle.tx_boxing.specs.GroupEnds.{ending, ending_semi_simple}
 use Rattle.tx_boxing.specs.Paragraphs.{ending_paragraph, indenting_so, inserting_par, setting_graf, shape_sized, shaping, sizes_of}
-use Rattle.tx_boxing.specs.Groups.{opening}
+use Rattle.tx_state.specs.Groups.{opening}
 
 -- one more prefix
 abbrev pub with_prefix : Prefixes → APrefix → Prefixes

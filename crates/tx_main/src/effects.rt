@@ -8,7 +8,7 @@ use std::alloc::{AllocError, Global};
 use tx_assign::{Assignment, Carried, Change, relaxed};
 use tx_boxing::{
     add_rule, add_size, begin_break, begin_shape, begin_vertical_list, build_here, copy_box,
-    end_group, end_paragraph, end_run, end_semi_simple, indent, insert_par, open, open_box, remove,
+    end_group, end_paragraph, end_run, end_semi_simple, indent, insert_par, open_box, remove,
     set_dead_cycles, set_depth, set_graf, set_page, split, take_box, unbox, use_box,
 };
 use tx_char::Token;
@@ -25,7 +25,7 @@ use tx_num::Glue;
 use tx_prim::{AfterKind, LeadersKind, Prefix, Shorthand, SizeKind};
 use tx_seen::Place;
 use tx_shape::Opener;
-use tx_state::{KeptToken, Phase, State, add, assign_so, end_assignment, fail};
+use tx_state::{KeptToken, Phase, State, add, assign_so, end_assignment, fail, open};
 
 /// The prefixes with one more.
 fn with_prefix(prefixes: Prefixes, prefix: Prefix) -> Prefixes

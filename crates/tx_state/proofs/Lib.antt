@@ -1,3 +1,4 @@
 pub mod Texting
 pub mod Outcomes
 pub mod Ordinary
+pub mod Keeping

@@ -39,6 +39,8 @@ use Rattle.tx_state.specs.declared.parts.OpenText.{OpenText}
 use Rattle.tx_state.specs.contracts.parts.OpenText as open_text
 use Rattle.tx_command.specs.declared.types.Head.{Head}
 use Rattle.tx_command.specs.contracts.types.Head as head
+use Rattle.tx_tabular.specs.declared.alignment.Alignment.{Alignment}
+use Rattle.tx_tabular.specs.contracts.alignment.Alignment as alignment
 use Rattle.tx_state.specs.State.{TexState, Meaning, Runs, Waits, Stops}
 
 -- elements of the pending input
@@ -87,9 +89,9 @@ words_code = code_by
 
 abbrev state_code : Coded TexState
 state_code = code_by
-    (List Due × (ℕ × (Reader × (Option OpenText × (Mode × (Head × (List Item × (Lists × (Collecting × (Hyphenation × (Eqtb × (List KeptToken × (Option Token × (Option ℤ × List ℕ))))))))))))))
-    (coded× (coded_list due.the_row.coded) (coded× coded_ℕ (coded× reader_code (coded× (coded_option open_text.the_row.coded) (coded× mode.the_row.coded (coded× head.the_row.coded (coded× (coded_list item.the_row.coded) (coded× lists.the_row.coded (coded× words_code (coded× hyphenation.the_row.coded (coded× eqtb.the_row.coded (coded× (coded_list kept_token.the_row.coded) (coded× (coded_option token.the_row.coded) (coded× (coded_option coded_ℤ) (coded_list coded_ℕ)))))))))))))))
-    (λ s. (s.due, (s.files, (s.reader, (s.text, (s.mode, (s.head, (s.taken, (s.lists, (s.words, (s.hyphenation, (s.table, (s.after_groups, (s.after_assignment, (s.magnification, s.defined)))))))))))))))
+    (List Due × (ℕ × (Reader × (Option OpenText × (Mode × (Head × (List Item × (Lists × (List Alignment × (Collecting × (Hyphenation × (Eqtb × (List KeptToken × (Option Token × (Option ℤ × List ℕ)))))))))))))))
+    (coded× (coded_list due.the_row.coded) (coded× coded_ℕ (coded× reader_code (coded× (coded_option open_text.the_row.coded) (coded× mode.the_row.coded (coded× head.the_row.coded (coded× (coded_list item.the_row.coded) (coded× lists.the_row.coded (coded× (coded_list alignment.the_row.coded) (coded× words_code (coded× hyphenation.the_row.coded (coded× eqtb.the_row.coded (coded× (coded_list kept_token.the_row.coded) (coded× (coded_option token.the_row.coded) (coded× (coded_option coded_ℤ) (coded_list coded_ℕ))))))))))))))))
+    (λ s. (s.due, (s.files, (s.reader, (s.text, (s.mode, (s.head, (s.taken, (s.lists, (s.alignments, (s.words, (s.hyphenation, (s.table, (s.after_groups, (s.after_assignment, (s.magnification, s.defined))))))))))))))))
     (λ p. record {
       due = p.0;
       files = p.1.0;
@@ -99,13 +101,14 @@ state_code = code_by
       head = p.1.1.1.1.1.0;
       taken = p.1.1.1.1.1.1.0;
       lists = p.1.1.1.1.1.1.1.0;
-      words = p.1.1.1.1.1.1.1.1.0;
-      hyphenation = p.1.1.1.1.1.1.1.1.1.0;
-      table = p.1.1.1.1.1.1.1.1.1.1.0;
-      after_groups = p.1.1.1.1.1.1.1.1.1.1.1.0;
-      after_assignment = p.1.1.1.1.1.1.1.1.1.1.1.1.0;
-      magnification = p.1.1.1.1.1.1.1.1.1.1.1.1.1.0;
-      defined = p.1.1.1.1.1.1.1.1.1.1.1.1.1.1;
+      alignments = p.1.1.1.1.1.1.1.1.0;
+      words = p.1.1.1.1.1.1.1.1.1.0;
+      hyphenation = p.1.1.1.1.1.1.1.1.1.1.0;
+      table = p.1.1.1.1.1.1.1.1.1.1.1.0;
+      after_groups = p.1.1.1.1.1.1.1.1.1.1.1.1.0;
+      after_assignment = p.1.1.1.1.1.1.1.1.1.1.1.1.1.0;
+      magnification = p.1.1.1.1.1.1.1.1.1.1.1.1.1.1.0;
+      defined = p.1.1.1.1.1.1.1.1.1.1.1.1.1.1.1;
     })
     (λ _. refl)
 

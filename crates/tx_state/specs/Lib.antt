@@ -1,6 +1,7 @@
 pub mod State
 pub mod Outcomes
 pub mod Ended
+pub mod Groups
 pub mod Texts
 pub mod Meanings
 pub mod Codes

@@ -17,6 +17,7 @@ state_of s = record {
   head = s.scan.head;
   taken = s.scan.taken;
   lists = s.lists;
+  alignments = s.alignments;
   words = s.words;
   hyphenation = s.hyphenation;
   table = s.table;

@@ -16,6 +16,7 @@ use Rattle.tx_state.specs.declared.parts.OpenText.{OpenText}
 use Rattle.tx_state.specs.declared.parts.Phase.{Phase}
 use Rattle.tx_state.specs.declared.parts.Phase.TheVariants.{Running, Waiting, Halted}
 use Rattle.tx_command.specs.declared.types.Head.{Head}
+use Rattle.tx_tabular.specs.declared.alignment.Alignment.{Alignment}
 
 -- all that the next turns can depend on
 pub record TexState : Type 0 where
@@ -35,6 +36,8 @@ pub record TexState : Type 0 where
   pub taken : List Item
   -- the lists that are being built, one in another, and the boxes that they are to become
   pub lists : Lists
+  -- the alignments that are being read, the innermost first
+  pub alignments : List Alignment
   -- the fonts, and the word that is open at the end of the innermost list
   pub words : Collecting
   -- the patterns and exceptions of hyphenation, and whether a paragraph began its second pass

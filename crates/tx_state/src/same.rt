@@ -34,9 +34,10 @@ fn same_kept(one: &State, other: &State) -> bool
 
 /// Whether the same lists are built, with the same table.
 fn same_lists(one: &State, other: &State) -> bool
-    ensures { IsTrue result ↔ ((one.now.lists ≡ other.now.lists) × ((one.now.magnification ≡ other.now.magnification) × (one.now.table ≡ other.now.table))) }
+    ensures { IsTrue result ↔ ((one.now.lists ≡ other.now.lists) × ((one.now.alignments ≡ other.now.alignments) × ((one.now.magnification ≡ other.now.magnification) × (one.now.table ≡ other.now.table)))) }
 {
     one.lists.same(&other.lists)
+        && one.alignments.same(&other.alignments)
         && one.magnification == other.magnification
         && one.table.same(&other.table)
 }

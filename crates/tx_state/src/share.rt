@@ -28,13 +28,14 @@ pub fn share_state(alloc: Global, s: &State) -> Result<State, AllocError>
     let begun = both(share_option(&s.text), scan);
     let tokens = both(s.after_groups.share(), share_option(&s.after_assignment));
     let of_bytes = both(s.defined.clone(), s.said.clone());
-    let built = both(s.lists.share(), both(tokens, of_bytes));
+    let of_lists = both(s.lists.share(), s.alignments.share());
+    let built = both(of_lists, both(tokens, of_bytes));
     let read = both(of_input, begun);
     let known = both(of_words, of_table);
     let ((known, read), built) = both(both(known, read), built)?;
     let ((expander, words), (table, hyphenation)) = known;
     let ((due, input), (text, (scan, made))) = read;
-    let (lists, ((after_groups, after_assignment), (defined, said))) = built;
+    let ((lists, alignments), ((after_groups, after_assignment), (defined, said))) = built;
     Ok(State {
         phase: s.phase,
         due,
@@ -45,6 +46,7 @@ pub fn share_state(alloc: Global, s: &State) -> Result<State, AllocError>
         scan,
         made,
         lists,
+        alignments,
         words,
         hyphenation,
         table,

@@ -17,6 +17,7 @@ use tx_hyphenate::Hyphenation;
 use tx_list::{Stack, both};
 use tx_pending::Pending;
 use tx_prim::Mode;
+use tx_tabular::Alignment;
 use tx_word::Words;
 
 /// All that the next turns depend on, and the bytes of the transcript that are still to be taken.
@@ -36,6 +37,8 @@ pub struct State {
     pub made: CommandBuffer,
     /// The lists that are being built, with their boxes.
     pub lists: Lists,
+    /// The alignments that are being read, the innermost first.
+    pub alignments: Stack<Alignment>,
     /// The fonts, and the word that is open.
     pub words: Words,
     /// What is known of hyphenation.
@@ -61,7 +64,7 @@ impl State {
         table: Eqtb,
         hyphenation: Hyphenation,
     ) -> Result<State, AllocError>
-        ensures { IfOk result (λ s. s ≡ record { phase = Phase.Running; due = []; files = 0; input = no_input; expander = expander; text = None; scan = record { mode = mode.Vertical; head = Head.Fresh; taken = [] }; made = Nothing; lists = first_lists; words = words; hyphenation = hyphenation; table = table; after_groups = []; after_assignment = None; magnification = None; defined = []; said = [] }) }
+        ensures { IfOk result (λ s. s ≡ record { phase = Phase.Running; due = []; files = 0; input = no_input; expander = expander; text = None; scan = record { mode = mode.Vertical; head = Head.Fresh; taken = [] }; made = Nothing; lists = first_lists; alignments = []; words = words; hyphenation = hyphenation; table = table; after_groups = []; after_assignment = None; magnification = None; defined = []; said = [] }) }
     {
         // (what was given is dropped with the rest, in one way out)
         let given = both(Ok((expander, words)), Ok((table, hyphenation)));
@@ -80,6 +83,7 @@ impl State {
             scan,
             made,
             lists: Lists::new(alloc),
+            alignments: Stack::new(alloc),
             words,
             hyphenation,
             table,

@@ -70,32 +70,42 @@ fn no_tokens(alloc: Global) -> Result<TokList, AllocError>
     TokList::from_toks(alloc, Toks::new(alloc))
 }
 
-/// What ends the entry, whose v-part is read. `MisplacedAlignment` exactly where none does, or another column is to come and the
-/// preamble hasn't one.
-pub fn ending_parts(alignment: &Alignment) -> Result<EntryEnd, AlignError>
-    ensures { result ≡ spec.ending_of alignment.now }
+/// Whether behind this another column has to come.
+fn needs_next(word: EntryEnd) -> bool
+    ensures { result ≡ spec.needs_next word }
 {
-    match alignment.ending {
-        None => Err(AlignError::MisplacedAlignment),
-        Some(EntryEnd::Cr) => Ok(EntryEnd::Cr),
-        Some(EntryEnd::CrCr) => Ok(EntryEnd::CrCr),
-        Some(word) => {
-            if has_next(alignment) {
-                Ok(word)
-            } else {
-                Err(AlignError::MisplacedAlignment)
-            }
-        }
+    match word {
+        EntryEnd::Tab | EntryEnd::Span => true,
+        EntryEnd::Cr | EntryEnd::CrCr => false,
     }
 }
 
-/// Whether the preamble has a further column.
-fn has_next(alignment: &Alignment) -> bool
-    ensures { result ≡ spec.has_next alignment.now }
+/// Whether the preamble has a further column. Its only error is that it can't be counted.
+fn has_next(alignment: &Alignment) -> Result<bool, AllocError>
+    ensures { IfOk result (λ found. found ≡ spec.has_next alignment.now) }
 {
     match alignment.column.checked_add(1) {
-        Some(column) => alignment.preamble.parts(column).is_some(),
-        None => false,
+        Some(column) => Ok(alignment.preamble.parts(column).is_some()),
+        None => Err(AllocError),
+    }
+}
+
+/// What ends the entry, whose v-part is read. `MisplacedAlignment` exactly where nothing does, or another column has to come that
+/// the preamble hasn't.
+pub fn ending_of(alignment: &Alignment) -> Result<EntryEnd, AlignError>
+    ensures ok { IfOk result (λ word. spec.ending_of alignment.now ≡ Ok word) }
+    ensures error { IfErr result (λ e. e ≢ OutOfMemory → spec.ending_of alignment.now ≡ Err e) }
+{
+    let Some(word) = alignment.ending else {
+        return Err(AlignError::MisplacedAlignment);
+    };
+    if !needs_next(word) {
+        return Ok(word);
+    }
+    if has_next(alignment)? {
+        Ok(word)
+    } else {
+        Err(AlignError::MisplacedAlignment)
     }
 }
 

@@ -16,7 +16,7 @@ mod rows;
 pub use alignment::Alignment;
 pub use ending::end_alignment;
 pub use entries::{
-    begin_entry, begin_row, end_entry, ending_parts, join_columns, next_column, part_of,
+    begin_entry, begin_row, end_entry, ending_of, join_columns, next_column, part_of,
 };
 pub use lists::{begin_entry_list, begin_list};
 pub use rows::end_row;
