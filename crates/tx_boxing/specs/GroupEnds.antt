@@ -2,15 +2,15 @@
 use Rattle.std.specs.Prelude.{Option, Some, None}
 use Rattle.tx_eqtb.specs.declared.groups.GroupKind.{GroupKind}
 use Rattle.tx_eqtb.specs.declared.groups.GroupKind.TheVariants as kind
-use Rattle.tx_seen.specs.declared.error.TexError.TheVariants.{ExtraGroupEnd}
+use Rattle.tx_seen.specs.declared.error.TexError.TheVariants.{ExtraGroupEnd, MisplacedAlignment}
 use Rattle.tx_state.specs.State.{TexState}
 use Rattle.tx_state.specs.Outcomes.{Outcome, Fails, leaves}
 use Rattle.tx_state.specs.Groups.{closing}
 use Rattle.tx_boxing.specs.Boxes.{ending_box}
 use Rattle.tx_boxing.specs.Breaks.{ending_break}
-use Rattle.tx_boxing.specs.Paragraphs.{ending_vertical, inserting, outputting}
+use Rattle.tx_boxing.specs.Paragraphs.{between_rows, ending_vertical, inserting, outputting}
 
--- what an end-group token does, by the kind of the innermost group
+-- what an end-group token does, by the kind of the innermost group; a row of an alignment isn't to end before its \cr (section 1132)
 abbrev pub ending : TexState → Option GroupKind → Outcome
 ending s None = Fails ExtraGroupEnd
 ending s (Some kind.SemiSimple) = Fails ExtraGroupEnd
@@ -21,6 +21,9 @@ ending s (Some kind.TopBox) = ending_vertical s
 ending s (Some (kind.Discretionary text)) = ending_break s text
 ending s (Some (kind.Insert class)) = inserting s class
 ending s (Some kind.Output) = outputting s
+ending s (Some kind.NoAlign) = between_rows s
+ending s (Some kind.Entry) = Fails MisplacedAlignment
+ending s (Some kind.Align) = Fails ExtraGroupEnd
 
 -- what \endgroup does
 abbrev pub ending_semi_simple : TexState → Option GroupKind → Outcome
@@ -33,3 +36,6 @@ ending_semi_simple s (Some kind.TopBox) = Fails ExtraGroupEnd
 ending_semi_simple s (Some (kind.Discretionary text)) = Fails ExtraGroupEnd
 ending_semi_simple s (Some (kind.Insert class)) = Fails ExtraGroupEnd
 ending_semi_simple s (Some kind.Output) = Fails ExtraGroupEnd
+ending_semi_simple s (Some kind.NoAlign) = Fails ExtraGroupEnd
+ending_semi_simple s (Some kind.Entry) = Fails ExtraGroupEnd
+ending_semi_simple s (Some kind.Align) = Fails ExtraGroupEnd

@@ -21,6 +21,8 @@ use Rattle.tx_paragraph.specs.Ending as paragraph
 use Rattle.tx_paragraph.specs.Hyphens.{Hyphenating}
 use Rattle.tx_boxing.specs.Building.{built, exercising, is_pages}
 use Rattle.tx_state.specs.Ended.{assigned, assigning, with_top_list}
+use Rattle.tx_state.specs.Groups.{closing}
+use Rattle.tx_state.specs.Standing.{before_row}
 use Rattle.tx_state.specs.State.{TexState}
 use Rattle.tx_state.specs.Outcomes.{Outcome, Leaves, Fails, leaves}
 use Rattle.tx_boxing.specs.Boxes.{carrying, ending_box, telling}
@@ -76,6 +78,14 @@ output_behind s (Ok left) = telling left.report (ending_output (record s { lists
 
 abbrev pub outputting : TexState → Outcome
 outputting s = output_behind s (paragraph.closing (hyphenating s) s.lists s.table)
+
+-- and one in the material of \noalign, behind which rows are read again (section 1133)
+abbrev pub between_behind : TexState → Result paragraph.Left ParError → Outcome
+between_behind s (Err error) = Fails (paragraph.par_error error)
+between_behind s (Ok left) = telling left.report (leaves (before_row (closing (record s { lists = left.lists; hyphenation = left.known; table = left.table }))))
+
+abbrev pub between_rows : TexState → Outcome
+between_rows s = between_behind s (paragraph.closing (hyphenating s) s.lists s.table)
 
 -- a paragraph begins, in which \everypar's tokens are read first (section 1091); \indent and \noindent in other lists
 abbrev pub with_every_par : Bool → TexState → TexState

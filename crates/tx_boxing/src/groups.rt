@@ -11,7 +11,7 @@ ghost use Rattle.tx_state.specs.Meanings.{IsStepped, state_of};
 
 use crate::boxes::end_box;
 use crate::breaks::end_break;
-use crate::paragraphs::{end_insert, end_output, end_vertical};
+use crate::paragraphs::{end_insert, end_noalign, end_output, end_vertical};
 use std::alloc::{AllocError, Global};
 use tx_bytes::Bytes;
 use tx_eqtb::GroupKind;
@@ -52,7 +52,11 @@ pub fn end_group(alloc: Global, s: &mut State) -> Result<Event, AllocError>
         Some(GroupKind::Discretionary(text)) => end_break(alloc, s, text),
         Some(GroupKind::Insert(class)) => end_insert(alloc, s, class),
         Some(GroupKind::Output) => end_output(alloc, s),
-        Some(GroupKind::SemiSimple) | None => Ok(fail(s, TexError::ExtraGroupEnd)),
+        Some(GroupKind::NoAlign) => end_noalign(alloc, s),
+        Some(GroupKind::Entry) => Ok(fail(s, TexError::MisplacedAlignment)),
+        Some(GroupKind::SemiSimple | GroupKind::Align) | None => {
+            Ok(fail(s, TexError::ExtraGroupEnd))
+        }
     }
 }
 

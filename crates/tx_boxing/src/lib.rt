@@ -19,6 +19,8 @@ mod shipping;
 pub use boxes::{add_rule, copy_box, open_box, remove, set_depth, take_box, unbox, use_box};
 pub use breaks::begin_break;
 pub use groups::{end_group, end_semi_simple};
-pub use pages::{begin_vertical_list, build_here, end_run, set_dead_cycles, set_page, split};
+pub use pages::{
+    begin_vertical_list, build_behind, build_here, end_run, set_dead_cycles, set_page, split,
+};
 pub use paragraphs::{add_size, begin_shape, end_paragraph, indent, insert_par, set_graf};
 pub use shipping::work_boxes;

@@ -119,7 +119,7 @@ pub(crate) fn is_pages(mode: Mode) -> bool
 }
 
 /// The same behind what changed the list that is being built, with this event.
-pub(crate) fn build_behind(alloc: Global, s: &mut State, event: Event) -> Result<Event, AllocError>
+pub fn build_behind(alloc: Global, s: &mut State, event: Event) -> Result<Event, AllocError>
     requires runs { event ≡ Event.Went → s.old.phase ≡ Phase.Running }
     ensures { (before : State) (outcome : Outcome) → IsStepped outcome before event s.old → IfOk result (λ further. IsStepped (building.built outcome) before further s.new) }
 {

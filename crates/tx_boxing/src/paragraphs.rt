@@ -7,6 +7,9 @@ ghost use Rattle.tx_nest.specs.Grafs.{graf_of as graf_for};
 ghost use Rattle.tx_par.specs.declared.error.ParError.TheVariants.{OutOfMemory};
 ghost use Rattle.tx_paragraph.specs.Beginning as beginning;
 ghost use Rattle.tx_paragraph.specs.Ending.{par_error};
+ghost use Rattle.tx_boxing.specs.Boxes.{telling};
+ghost use Rattle.tx_state.specs.Groups.{closing};
+ghost use Rattle.tx_state.specs.Standing.{before_row};
 ghost use Rattle.tx_state.specs.Outcomes.{Fails, leaves};
 ghost use Rattle.tx_state.specs.declared.parts.Phase.{Phase};
 ghost use Rattle.tx_state.specs.Meanings.{IsStepped, state_of};
@@ -15,6 +18,7 @@ use crate::boxes::{end_box, take_over};
 use crate::pages::{build, build_behind, finish_insert, finish_output, is_pages};
 use std::alloc::{AllocError, Global};
 use tx_assign::{Assignment, Change};
+use tx_bytes::Bytes;
 use tx_char::{ControlName, Token};
 use tx_command::{Head, Prefixes};
 use tx_eqtb::{Entry, GroupKind, ParShape};
@@ -25,7 +29,7 @@ use tx_par::ParError;
 use tx_paragraph::close_paragraph;
 use tx_prim::{Indentation, TokenParameter};
 use tx_seen::{Place, TexError};
-use tx_state::{State, assign_so, end_assignment, fail};
+use tx_state::{State, assign_so, end_assignment, fail, leave_group, stand_before_row};
 
 /// Whether a paragraph begins in the list that is being built.
 fn begins_paragraph(s: &State) -> bool
@@ -155,7 +159,8 @@ pub fn add_size(alloc: Global, s: &mut State, size: i32) -> Result<Event, AllocE
         }
         Head::Fresh | Head::Prefixed(_) | Head::Defining(_, _, _) => Ok(Event::Went),
         Head::Future(_, _) | Head::Leading(_, _) | Head::Loading(_, _) => Ok(Event::Went),
-        Head::Opening(_) => Ok(Event::Went),
+        Head::Opening(_) | Head::Aligning(_) | Head::Preamble => Ok(Event::Went),
+        Head::Row | Head::Entry => Ok(Event::Went),
     }
 }
 
@@ -248,6 +253,37 @@ pub(crate) fn end_output(alloc: Global, s: &mut State) -> Result<Event, AllocErr
         &mut s.table,
     ) {
         Ok(report) => finish_output(alloc, s, report),
+        Err(error) => fail_by(s, error),
+    }
+}
+
+/// The group of \noalign ends, behind the paragraph in it, of which this is told: rows are read again. Its only error is want of
+/// memory.
+fn finish_noalign(s: &mut State, said: Bytes) -> Result<Event, AllocError>
+    requires running { s.old.phase ≡ Phase.Running }
+    requires kind { kind_of s.old.table ≡ Some GroupKind.NoAlign }
+    ensures { IfOk result (λ event. IsStepped (telling said (leaves (before_row (closing (state_of s.old))))) s.old event s.new) }
+{
+    leave_group(s, GroupKind::NoAlign)?;
+    stand_before_row(s);
+    s.said.append(said.as_slice())?;
+    Ok(Event::Went)
+}
+
+/// The end of \noalign: the paragraph that is open in its material ends first. Its only further error is want of memory.
+pub(crate) fn end_noalign(alloc: Global, s: &mut State) -> Result<Event, AllocError>
+    requires running { s.old.phase ≡ Phase.Running }
+    requires kind { kind_of s.old.table ≡ Some GroupKind.NoAlign }
+    ensures { IfOk result (λ event. IsStepped (spec.between_rows (state_of s.old)) s.old event s.new) }
+{
+    match close_paragraph(
+        alloc,
+        s.words.fonts(),
+        &mut s.hyphenation,
+        &mut s.lists,
+        &mut s.table,
+    ) {
+        Ok(report) => finish_noalign(s, report),
         Err(error) => fail_by(s, error),
     }
 }

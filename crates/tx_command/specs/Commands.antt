@@ -308,6 +308,16 @@ abbrev pub is_preamble : Head → Bool
 is_preamble Preamble = true
 is_preamble other = false
 
+-- whether nothing stands before it
+abbrev pub is_fresh : Head → Bool
+is_fresh Fresh = true
+is_fresh other = false
+
+-- whether the first entry of a row is to come, or a further one
+abbrev pub is_row : Head → Bool
+is_row Row = true
+is_row other = false
+
 -- \long and \outer stand before definitions alone
 abbrev pub want_definition : Prefixes → Bool
 want_definition prefixes = prefixes.long || prefixes.outer

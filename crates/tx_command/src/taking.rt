@@ -125,6 +125,13 @@ impl CommandScan {
         matches!(self.head, Head::Preamble)
     }
 
+    /// Whether the first entry of a row is to come, and not a further one.
+    pub fn is_row(&self) -> bool
+        ensures { result ≡ commands.is_row self.now.head }
+    {
+        matches!(self.head, Head::Row)
+    }
+
     /// Whether a token of the command is taken.
     pub fn is_begun(&self) -> bool
         ensures { result ≡ commands.is_begun self.now.taken }

@@ -1,5 +1,5 @@
 -- What each command does, once it is whole (TeX: The Program, parts 45 to 49): a line for each.
-use Rattle.std.specs.Prelude.{true, ◌==◌, [], ◌∷◌, length, Option, Some, None, if◌then◌else◌}
+use Rattle.std.specs.Prelude.{Bool, true, false, ◌==◌, [], ◌∷◌, length, Option, Some, None, if◌then◌else◌}
 use Rattle.tx_char.specs.declared.tokens.Token.{Token}
 use Rattle.tx_node.specs.declared.plain.KernKind.TheVariants.{Explicit}
 use Rattle.tx_node.specs.declared.plain.Plain.TheVariants as small
@@ -25,11 +25,11 @@ use Rattle.tx_assign.specs.declared.types.Change.TheVariants.{Set, Compute, Add,
 use Rattle.tx_assign.specs.Changes.{carried_out, relaxed}
 use Rattle.tx_tfm.specs.Fonts.{with_font_integer, with_font_parameter}
 use Rattle.tx_command.specs.declared.types.Command.{Command}
-use Rattle.tx_command.specs.declared.types.Command.TheVariants.{Nothing, Space, ControlSpace, Character, ItalicCorrection, Indent, InsertPar, EndParagraph, DiscretionaryHyphen, SetFactor, SetPrevGraf, BeginShape, Open, SetDeadCycles, SetPage, SplitBox, DefineFont, LoadFont, SetFontDimen, SetFontInteger, BeginGroup, EndGroup, BeginSemiSimple, EndSemiSimple, Prefix, Define, Assign, Sized, Rule, BeginBox, UseBox, CopyBox, LastBox, Unbox, Penalize, Remove, Skip, BeginLeaders, SetDepth, End, Interact, DefineMacro, BeginText, DefineFuture, Keep}
+use Rattle.tx_command.specs.declared.types.Command.TheVariants.{Nothing, Space, ControlSpace, Character, ItalicCorrection, Indent, InsertPar, EndParagraph, DiscretionaryHyphen, SetFactor, SetPrevGraf, BeginShape, Open, Align, BeginAlign, ExpandOnce, Template, BeginEntry, EndAlign, SetDeadCycles, SetPage, SplitBox, DefineFont, LoadFont, SetFontDimen, SetFontInteger, BeginGroup, EndGroup, BeginSemiSimple, EndSemiSimple, Prefix, Define, Assign, Sized, Rule, BeginBox, UseBox, CopyBox, LastBox, Unbox, Penalize, Remove, Skip, BeginLeaders, SetDepth, End, Interact, DefineMacro, BeginText, DefineFuture, Keep}
 use Rattle.tx_command.specs.declared.types.Head.TheVariants.{Fresh, Prefixed, Defining, Future, Leading}
 use Rattle.tx_command.specs.declared.types.SizeUse.TheVariants.{Item, Shape}
 use Rattle.tx_command.specs.declared.types.Prefixes.{Prefixes}
-use Rattle.tx_command.specs.Commands.{leaders_before, prefixes_of}
+use Rattle.tx_command.specs.Commands.{is_preamble, leaders_before, prefixes_of}
 use Rattle.tx_galley.specs.Ending.{is_done}
 use Rattle.tx_galley.specs.Assigning.{setting}
 use Rattle.tx_shape.specs.declared.types.Opener.TheVariants as opener
@@ -47,6 +47,9 @@ use Rattle.tx_boxing.specs.Boxes.{copying_box, opening_box, removing, ruling, se
 use Rattle.tx_boxing.specs.GroupEnds.{ending, ending_semi_simple}
 use Rattle.tx_boxing.specs.Paragraphs.{ending_paragraph, indenting_so, inserting_par, setting_graf, shape_sized, shaping, sizes_of}
 use Rattle.tx_state.specs.Groups.{opening}
+use Rattle.tx_aligning.specs.Preambles.{aligning, beginning as beginning_align, beginning_noalign, expanding, tabskipping, templating}
+use Rattle.tx_aligning.specs.Entries.{beginning as beginning_entry}
+use Rattle.tx_aligning.specs.Ends.{ending as ending_align}
 
 -- one more prefix
 abbrev pub with_prefix : Prefixes → APrefix → Prefixes
@@ -64,6 +67,11 @@ assigning_now s a (Set entry) = assigning s (carried_out s.table a (prefixes_of 
 assigning_now s a (Compute operation n) = assigning s (carried_out s.table a (prefixes_of s.head).global)
 assigning_now s a (Add g) = assigning s (carried_out s.table a (prefixes_of s.head).global)
 assigning_now s a (Copy other) = assigning s (carried_out s.table a (prefixes_of s.head).global)
+
+-- the only one within a preamble is that of \tabskip
+abbrev pub assigning_in : Bool → TexState → Assignment → Outcome
+assigning_in true s a = tabskipping s a
+assigning_in false s a = assigning_now s a a.change
 
 -- a token is kept; outside of groups \aftergroup does nothing (section 280)
 abbrev pub keeping_after : TexState → AfterKind → Token → TexState
@@ -100,7 +108,7 @@ effect s BeginSemiSimple = opening s kind.SemiSimple s
 effect s EndSemiSimple = ending_semi_simple s (kind_of s.table)
 effect s (Prefix prefix) = prefixing s prefix
 effect s (Define defined kind) = naming s (Defining (prefixes_of s.head) defined kind) (carried_out s.table (relaxed defined) (prefixes_of s.head).global)
-effect s (Assign a) = assigning_now s a a.change
+effect s (Assign a) = assigning_in (is_preamble s.head) s a
 effect s (Sized (Item Kern) size) = adding s (plain (small.Kern Explicit size))
 effect s (Sized Shape size) = shape_sized s size s.head
 effect s (Rule kind rule) = ruling s rule
@@ -121,6 +129,13 @@ effect s (BeginShape lines) = shaping s (prefixes_of s.head) (sizes_of lines) []
 effect s (Open (opener.Break text)) = beginning_break s text
 effect s (Open (opener.Insert class)) = beginning_list s (kind.Insert class)
 effect s (Open opener.Output) = beginning_list s kind.Output
+effect s (Open opener.NoAlign) = beginning_noalign s
+effect s Align = aligning s
+effect s (BeginAlign goal) = beginning_align s goal
+effect s ExpandOnce = expanding s
+effect s (Template t) = templating s t
+effect s (BeginEntry omitted) = beginning_entry s omitted
+effect s EndAlign = built (ending_align s)
 effect s (SetDeadCycles n) = setting_dead_cycles s n
 effect s (SetPage quantity v) = paged_so s (setting quantity v s.lists.pages)
 effect s (DefineFont defined) = defining_font s defined

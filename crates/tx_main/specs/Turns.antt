@@ -1,5 +1,5 @@
 -- One turn of TeX: due work, the ask for a line, or one token and its expansion (TeX: The Program, sections 1030, 343, 360 and 366).
-use Rattle.std.specs.Prelude.{ℕ, suc, true, false, List, [], ◌∷◌, ◌++◌, Option, None, Some, is_some, Result, Ok, Err, if◌then◌else◌}
+use Rattle.std.specs.Prelude.{ℕ, suc, Bool, true, false, not, ◌||◌, List, [], ◌∷◌, ◌++◌, Option, None, Some, is_some, Result, Ok, Err, if◌then◌else◌}
 use Rattle.tx_char.specs.declared.tokens.Token.{Token}
 use Rattle.tx_seen.specs.declared.item.Item.{Item}
 use Rattle.tx_seen.specs.declared.item.Item.TheVariants.{Took}
@@ -26,14 +26,15 @@ use Rattle.tx_expand.specs.declared.types.Expanded.TheVariants as answer
 use Rattle.tx_expand.specs.declared.types.Wanted.{Wanted}
 use Rattle.tx_expand.specs.Expanding.{reader as reader_with, world_of}
 use Rattle.tx_expand.specs.Reader.{Turn, Goes, Fails as Turn_fails}
-use Rattle.tx_expand.specs.Turns.{file_ended, is_opening, magnification_taken, opened, put_back, turn}
+use Rattle.tx_expand.specs.Turns.{file_ended, is_opening, frozen, magnification_taken, opened, put_back, turn, with_end}
 use Rattle.tx_pending.specs.Elements.{with_line}
 use Rattle.tx_scan.specs.Settled.{tokens_of}
 use Rattle.tx_scan.specs.Supplied.{with_values}
 use Rattle.tx_main.specs.Pages.{line_end}
-use Rattle.tx_lettering.specs.Words.{before_token}
+use Rattle.tx_aligning.specs.Entries.{ending as ending_entry, over}
+use Rattle.tx_lettering.specs.Words.{before_token, word_ended}
 use Rattle.tx_seen.specs.Magnified.{magnification_in, noted}
-use Rattle.tx_command.specs.Commands.{command, is_naming}
+use Rattle.tx_command.specs.Commands.{command, is_begun, is_fresh, is_naming, is_preamble}
 use Rattle.tx_main.specs.Effects.{effect}
 use Rattle.tx_lettering.specs.Texts.{ending_text, relaxing}
 use Rattle.tx_lettering.specs.Fonts.{loading}
@@ -82,13 +83,13 @@ abbrev pub given_to_text : TexState → List Token → Option OpenText → Outco
 given_to_text s tokens None = leaves s
 given_to_text s tokens (Some text) = leaves (record s { text = Some (with_given text tokens) })
 
--- what is taken next: what the open text wants, or else the open command
+-- what is taken next: what the open text wants, or else the open command; a preamble is a text too
 abbrev pub want_of : Reading Command → Want
 want_of (More want) = want
 want_of other = Expanded
 
 abbrev pub wanted_by : TexState → Option OpenText → Wanted
-wanted_by s None = record { want = want_of (command s.mode s.head s.taken); text = false; takes_the = false; names = is_naming s.head s.taken }
+wanted_by s None = record { want = want_of (command s.mode s.head s.taken); text = is_preamble s.head; takes_the = false; names = is_naming s.head s.taken }
 wanted_by s (Some text) = text_wanted text
 
 -- the innermost file has ended: it is closed, unless something is open within which no file may end (section 336)
@@ -97,7 +98,16 @@ closed_unless s (Some error) = Fails error
 closed_unless s None = Asks Close s
 
 abbrev pub closes : TexState → Outcome
-closes s = closed_unless s (file_ended (is_some s.text) s.reader)
+closes s = closed_unless s (file_ended (is_some s.text || is_preamble s.head) s.reader)
+
+-- the v-part of an entry is read to its end: a command that is open goes on up to it, and stays in front of it; else the entry ends,
+-- and the word that is open before it
+abbrev pub is_open : TexState → Bool
+is_open s = is_begun s.taken || not (is_fresh s.head)
+
+abbrev pub part_over : TexState → Bool → Outcome
+part_over s true = taking (before_token (record s { reader = with_end s.reader }) frozen) frozen
+part_over s false = over (word_ended s)
 
 -- what comes of what the expander answers. Where a line is used up the next one is asked for, or behind \endinput the file is
 -- closed; nothing puts a marker into the input, and one would be passed over
@@ -107,6 +117,8 @@ answered s (answer.Text tokens) = given_to_text s tokens s.text
 answered s answer.Went = leaves s
 answered s (answer.Relaxes name) = leaves (relaxing s name)
 answered s answer.Marked = Fails UnbalancedOutput
+answered s (answer.EndsEntry word) = ending_entry s word
+answered s answer.PartEnded = part_over s (is_open s)
 answered s (answer.Used false) = Asks Line s
 answered s (answer.Used true) = closes s
 answered s (answer.Asks name) = Asks (Open name) s

@@ -5,11 +5,15 @@ ghost use Rattle.tx_main.specs.Effects as effects;
 ghost use Rattle.tx_state.specs.Meanings.{IsStepped, state_of};
 
 use std::alloc::{AllocError, Global};
+use tx_aligning::{
+    align, begin_align, begin_entry, begin_noalign, end_align, expand_next, feed_template,
+    set_tabskip,
+};
 use tx_assign::{Assignment, Carried, Change, relaxed};
 use tx_boxing::{
-    add_rule, add_size, begin_break, begin_shape, begin_vertical_list, build_here, copy_box,
-    end_group, end_paragraph, end_run, end_semi_simple, indent, insert_par, open_box, remove,
-    set_dead_cycles, set_depth, set_graf, set_page, split, take_box, unbox, use_box,
+    add_rule, add_size, begin_break, begin_shape, begin_vertical_list, build_behind, build_here,
+    copy_box, end_group, end_paragraph, end_run, end_semi_simple, indent, insert_par, open_box,
+    remove, set_dead_cycles, set_depth, set_graf, set_page, split, take_box, unbox, use_box,
 };
 use tx_char::Token;
 use tx_command::{AtOnce, Command, Head, Prefixes, SizeUse};
@@ -80,6 +84,9 @@ fn assign(alloc: Global, s: &mut State, assignment: Assignment) -> Result<Event,
     requires between { s.old.scan.taken ≡ [] }
     ensures { IfOk result (λ event. IsStepped (effects.effect (state_of s.old) (Command.Assign assignment)) s.old event s.new) }
 {
+    if s.scan.is_preamble() {
+        return set_tabskip(alloc, s, assignment);
+    }
     let global = s.scan.prefixes().global;
     let Assignment { place, change } = assignment;
     match change {
@@ -187,7 +194,17 @@ fn open_by(alloc: Global, s: &mut State, opener: Opener) -> Result<Event, AllocE
         Opener::Break(text) => begin_break(alloc, s, text),
         Opener::Insert(class) => begin_vertical_list(alloc, s, GroupKind::Insert(class)),
         Opener::Output => begin_vertical_list(alloc, s, GroupKind::Output),
+        Opener::NoAlign => begin_noalign(s),
     }
+}
+
+/// The end-group token of an alignment, behind which the page builder is exercised.
+fn end_alignment(alloc: Global, s: &mut State) -> Result<Event, AllocError>
+    requires { s.old.phase ≡ Phase.Running }
+    ensures { IfOk result (λ event. IsStepped (effects.effect (state_of s.old) Command.EndAlign) s.old event s.new) }
+{
+    let event = end_align(alloc, s)?;
+    build_behind(alloc, s, event)
 }
 
 /// Carries out a command. Its only error is want of memory.
@@ -230,6 +247,12 @@ fn carry_out(alloc: Global, s: &mut State, command: Command) -> Result<Event, Al
         Command::SetPrevGraf(number) => set_graf(s, number),
         Command::BeginShape(lines) => begin_shape(alloc, s, lines),
         Command::Open(opener) => open_by(alloc, s, opener),
+        Command::Align => Ok(align(s)),
+        Command::BeginAlign(goal) => begin_align(alloc, s, goal),
+        Command::ExpandOnce => expand_next(s),
+        Command::Template(token) => feed_template(alloc, s, token),
+        Command::BeginEntry(omitted) => begin_entry(alloc, s, omitted),
+        Command::EndAlign => end_alignment(alloc, s),
         Command::SetDeadCycles(number) => set_dead_cycles(s, number),
         Command::SetPage(quantity, value) => set_page(s, quantity, value),
         Command::DefineFont(defined) => define_font(s, defined),

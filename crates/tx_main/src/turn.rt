@@ -12,14 +12,16 @@ ghost use Rattle.tx_state.specs.Meanings.{IsStepped, meaning_of, state_of};
 use crate::effects::{carry_made_out, take_at_once};
 use crate::page::line_end;
 use std::alloc::{AllocError, Global};
+use tx_aligning::end_entry;
 use tx_boxing::work_boxes;
 use tx_bytes::Bytes;
 use tx_command::Taken;
-use tx_expand::{Expanded, Known, Wanted};
-use tx_lettering::{end_text, load_font, relax_name, settle_word, with_file};
+use tx_expand::{Expanded, Known, Wanted, part_end};
+use tx_lettering::{end_text, end_word, load_font, relax_name, settle_word, with_file};
 use tx_lex::line_text;
 use tx_list::Stack;
 use tx_machine::{Ask, AskKind, Event, Reply};
+use tx_pending::ColumnPart;
 use tx_seen::{Fed, Seen, TexError, Want};
 use tx_state::{Due, OpenText, Phase, State, ask, fail};
 use tx_toklist::Toks;
@@ -157,7 +159,7 @@ fn wanted(s: &State) -> Wanted
         Some(text) => text.wanted(),
         None => Wanted {
             want: s.scan.want(),
-            text: false,
+            text: s.scan.is_preamble(),
             takes_the: false,
             names: s.scan.is_naming(),
         },
@@ -170,10 +172,25 @@ fn close(s: &mut State) -> Event
     requires { s.old.phase ≡ Phase.Running }
     ensures { IsStepped (turns.closes (state_of s.old)) s.old result s.new }
 {
-    match s.expander.ended(s.text.is_some()) {
+    match s.expander.ended(s.text.is_some() || s.scan.is_preamble()) {
         Some(error) => fail(s, error),
         None => ask(s, AskKind::Close, Ask::Close),
     }
+}
+
+/// The v-part of an entry is read to its end: a command that is open goes on up to it, or else the entry ends, and the word that is
+/// open before it. Its only error is want of memory.
+#[inline(never)]
+fn end_part(alloc: Global, s: &mut State) -> Result<Event, AllocError>
+    requires { s.old.phase ≡ Phase.Running }
+    ensures { IfOk result (λ event. IsStepped (turns.answered (state_of s.old) Expanded.PartEnded) s.old event s.new) }
+{
+    if s.scan.is_begun() || !s.scan.is_fresh() {
+        s.input.push_part_end(ColumnPart::V)?;
+        return take_command(alloc, s, part_end());
+    }
+    end_word(alloc, s)?;
+    tx_aligning::end_part(alloc, s)
 }
 
 /// Does what an answer of the expander asks for that neither is a token nor only goes on. Its only error is want of memory.
@@ -189,6 +206,8 @@ fn heed_other(alloc: Global, s: &mut State, answer: Expanded) -> Result<Event, A
         Expanded::Went => unreachable!(),
         Expanded::Text(tokens) => put_text(s, tokens),
         Expanded::Marked => Ok(fail(s, TexError::UnbalancedOutput)),
+        Expanded::EndsEntry(word) => end_entry(alloc, s, word),
+        Expanded::PartEnded => end_part(alloc, s),
         Expanded::Relaxes(name) => relax_name(s, name),
         Expanded::Used(false) => Ok(ask(s, AskKind::Line, Ask::Line)),
         Expanded::Used(true) => Ok(close(s)),

@@ -1,0 +1,3 @@
+pub mod Preambles
+pub mod Entries
+pub mod Ends
