@@ -2,10 +2,10 @@
 use Rattle.std.specs.Prelude.{ℤ, pos, Bool, true, List, [], ◌∷◌, Option, None, Some, Result, Ok, Err}
 use Rattle.std.specs.Int.{int_max}
 use Rattle.tx_align.specs.declared.error.AlignError.{AlignError}
-use Rattle.tx_align.specs.declared.error.AlignError.TheVariants.{SizeOutOfRange, TooDeep, OutOfMemory}
+use Rattle.tx_align.specs.declared.error.AlignError.TheVariants.{SizeOutOfRange}
 use Rattle.tx_align.specs.declared.row_item.RowItem.{RowItem}
 use Rattle.tx_align.specs.declared.row_item.RowItem.TheVariants as row
-use Rattle.tx_align.specs.Preambles.{Forming}
+use Rattle.tx_align.specs.Prototypes.{of_packing}
 use Rattle.tx_align.specs.Rows.{pushed}
 use Rattle.tx_box.specs.declared.parts.Lists.{Lists}
 use Rattle.tx_box.specs.Placing.{with_list}
@@ -20,7 +20,6 @@ use Rattle.tx_node.specs.Items.{Item, shared}
 use Rattle.tx_num.specs.Glue.{GlueSpec}
 use Rattle.tx_pack.specs.declared.types.Extent.{Extent}
 use Rattle.tx_pack.specs.declared.types.PackError.{PackError}
-use Rattle.tx_pack.specs.declared.types.PackError.TheVariants as pack
 use Rattle.tx_pack.specs.Packing.{extent_of}
 use Rattle.tx_tabular.specs.declared.alignment.Alignment.{Alignment}
 use Rattle.tx_tabular.specs.Alignments.{Laid, Laying}
@@ -32,13 +31,8 @@ no_extent = record { height = pos 0; depth = pos 0 }
 abbrev pub greater : Extent → Extent → Extent
 greater one other = record { height = int_max one.height other.height; depth = int_max one.depth other.depth }
 
-abbrev pub of_pack : PackError → AlignError
-of_pack pack.SizeOutOfRange = SizeOutOfRange
-of_pack pack.TooDeep = TooDeep
-of_pack pack.OutOfMemory = OutOfMemory
-
 abbrev pub with_extent : Extent → Result Extent PackError → Result Extent AlignError
-with_extent extent (Err error) = Err (of_pack error)
+with_extent extent (Err error) = Err (of_packing error)
 with_extent extent (Ok more) = Ok (greater extent more)
 
 abbrev pub extent_with : Extent → RowItem → Result Extent AlignError

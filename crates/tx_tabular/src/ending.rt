@@ -7,6 +7,7 @@ ghost use Rattle.tx_tabular.specs.Ending as spec;
 
 use crate::alignment::Alignment;
 use crate::lists::between;
+use crate::rows::push;
 use std::alloc::{AllocError, Global};
 use tx_align::{AlignError, Aligned, RowItem};
 use tx_box::{Lists, goal_of, size_in};
@@ -97,9 +98,7 @@ pub fn end_alignment(
     };
     let rest = between(alloc, alignment.behind_row, nodes)?;
     let mut alignment = alignment;
-    alignment
-        .rows
-        .push(RowItem::NoAlign(rest), &alignment.preamble)?;
+    push(&mut alignment, RowItem::NoAlign(rest))?;
     let made = aligned(alloc, alignment, params)?;
     Ok(stand_in(lists, state, made)?)
 }

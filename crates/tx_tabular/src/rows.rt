@@ -69,13 +69,21 @@ fn leading_list(alloc: Global, glue: Option<Glue>) -> Result<Nodes, AllocError>
     Ok(nodes)
 }
 
+/// One more item joins the rows. `MisplacedAlignment` exactly where it may not stand there.
+pub(crate) fn push(alignment: &mut Alignment, item: RowItem) -> Result<(), AlignError>
+    ensures pushed { OnOk result (spec.pushing alignment.old item ≡ Ok alignment.new) }
+    ensures error { IfErr result (λ e. e ≢ OutOfMemory → spec.pushing alignment.old item ≡ Err e) }
+{
+    alignment.rows.push(item, &alignment.preamble)
+}
+
 /// The entries of the row join the rows. `MisplacedAlignment` exactly where the preamble hasn't their columns.
 fn push_cells(alignment: &mut Alignment, cells: Items<RowItem>) -> Result<(), AlignError>
     ensures pushed { OnOk result (spec.with_pushed alignment.old cells ≡ Ok alignment.new) }
     ensures error { IfErr result (λ e. e ≢ OutOfMemory → spec.with_pushed alignment.old cells ≡ Err e) }
 {
     for cell in cells.into_vec() {
-        alignment.rows.push(cell, &alignment.preamble)?;
+        push(alignment, cell)?;
     }
     Ok(())
 }
@@ -88,14 +96,10 @@ fn push_row(alloc: Global, alignment: &mut Alignment, glue: Option<Glue>) -> Res
     let cells = replace(&mut alignment.cells, Items::new(alloc));
     let leaving = replace(&mut alignment.leaving, Nodes::new(alloc));
     let before = leading_list(alloc, glue)?;
-    alignment
-        .rows
-        .push(RowItem::NoAlign(before), &alignment.preamble)?;
+    push(alignment, RowItem::NoAlign(before))?;
     push_cells(alignment, cells)?;
-    alignment.rows.push(RowItem::RowEnd, &alignment.preamble)?;
-    alignment
-        .rows
-        .push(RowItem::NoAlign(leaving), &alignment.preamble)?;
+    push(alignment, RowItem::RowEnd)?;
+    push(alignment, RowItem::NoAlign(leaving))?;
     alignment.behind_row = true;
     Ok(())
 }
