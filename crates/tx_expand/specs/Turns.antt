@@ -469,10 +469,10 @@ met w wanted t r = by (entry_end_in r.input t.meaning)
     by (Some word) = Goes (answer.EndsEntry word) r
     by None = token_read w wanted t r
 
--- what stands for the end of a v-part where something is read that goes on up to it: a token that is neither expanded nor skipped, and
--- ends numbers, names and keywords
+-- what stands for the end of a v-part where something is read that goes on up to it: a token that is neither expanded nor skipped, as
+-- \cr is, and ends numbers, names and keywords
 abbrev pub frozen : Seen
-frozen = record { token = token.FrozenRelax; meaning = meaning.Held }
+frozen = record { token = token.FrozenRelax; meaning = meaning.Command (primitive.AlignWord align.Cr) }
 
 -- the end of a v-part stays in front
 abbrev pub with_end : Reader → Reader

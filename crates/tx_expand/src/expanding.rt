@@ -977,14 +977,14 @@ impl Open {
     }
 }
 
-/// What stands for the end of a v-part where something is read that goes on up to it: neither expanded nor skipped, it ends
-/// numbers, names and keywords.
+/// What stands for the end of a v-part where something is read that goes on up to it: neither expanded nor skipped, as \cr is, it
+/// ends numbers, names and keywords.
 pub fn part_end() -> Seen
     ensures { result ≡ turns.frozen }
 {
     Seen {
         token: Token::FrozenRelax,
-        meaning: Meaning::Held,
+        meaning: Meaning::Command(Primitive::AlignWord(AlignWord::Cr)),
     }
 }
 

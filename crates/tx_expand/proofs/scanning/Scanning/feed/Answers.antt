@@ -1,6 +1,6 @@
 use Rattle.std.proofs.Common.{◌∙◌, List, ap, refl}
 use Rattle.tx_char.specs.declared.tokens.Token.{Token}
-use Rattle.tx_pending.specs.Elements.{with_tokens}
+use Rattle.tx_pending.specs.Elements.{given_back}
 use Rattle.tx_seen.specs.declared.item.Item.{Item}
 use Rattle.tx_seen.specs.Readings.{last}
 use Rattle.tx_expand.specs.Scans.{Scan}
@@ -19,7 +19,7 @@ returns-in_ok-given-in-Ok-Done g c =
     let items : List Item = joined (g.Q.Quantities.value_at c.args.quantities.now) (record { what = c.self.inside.what; taken = c.self.inside.taken }) c.args.token in
     rw (← c.self.view_is) (
       last c.in-Ok-Done.back items,
-      (settled.0, c.in_ok-given-in-Ok-Done.ensures ∙ ap (λ (tokens : List Token). with_tokens c.args.input.now tokens) settled.1),
+      (settled.0, c.in_ok-given-in-Ok-Done.ensures ∙ ap (λ (tokens : List Token). given_back c.args.input.now tokens) settled.1),
     )
 
 pub returns-in-Ok-Wrong : goal.returns-in-Ok-Wrong
