@@ -37,7 +37,7 @@ use Rattle.tx_expand.specs.Reader.{World, Reader, Fails}
 use Rattle.tx_scan.specs.Settled.{tokens_of}
 use Rattle.tx_expand.specs.Scans.{Scan, reading}
 use Rattle.tx_expand.specs.Taken.{IsPassedFirst, IsRead, IsReadBegun, IsReadFirst}
-use Rattle.tx_expand.specs.Turns.{come, ended, ends_part, at_entry, entry_end_in, expanded, finds, frozen, given_to, is_finding, is_scanning, is_skipping, joined, met, met_word, part_ended, put_back, read_on, reads, refused, front_read, is_opening, skips_on, token_read, turn, wanted_by, with_begun, with_end, IsTurned}
+use Rattle.tx_expand.specs.Turns.{at_entry, begins, come, counted, ended, ends_part, entry_end_in, expanded, finds, front_read, frozen, given_to, is_finding, is_opening, is_scanning, is_skipping, joined, met, met_word, part_ended, put_back, read_on, reads, refused, skips_on, token_read, turn, wanted_by, wants_constant, with_begun, with_end, with_input, IsTurned}
 
 pub reads-done : (w : World) (what : Scanned) (items : List Item) (r : Reader) (m : Made) (back : List Item) → reading what items ≡ Done m back → reads w what items r ≡ come w m (put_back (tokens_of back) r)
 reads-done w what items r m back is = ap (λ (read : Reading Made). read_on w (record { what = what; taken = items }) r read) is
@@ -72,16 +72,41 @@ pub reads-on : {E : Type 0} (at : Place → Value) (b : Begun) (scan new : Scan)
 reads-on at b scan new t before after (Ok read) is k = λ other also. let same : other ≡ scan = cc in (new, (refl, rw same k))
 reads-on at b scan new t before after (Err e) is k = tt
 
+-- what a token makes of what reads; a brace that is a number counts as none
+given-scan : (w : World) (t : Seen) (r : Reader) (scan : Scan) (outer : List Begun) (b : Bool) → r.begun ≡ begun.Scanning scan ∷ outer → b ≡ wants_constant r.begun → given_to w t r r.begun ≡ reads w scan.what (joined w.value scan t) (with_input (counted b t r.input) (with_begun outer r))
+given-scan w t r scan outer b is constant = rw (constant, is) refl
+
+-- more is to come
+pub scanned-more : (w : World) (t : Seen) (r : Reader) (b : Bool) (new : List Begun) (after : Input) → is_scanning r.begun ≡ true → b ≡ wants_constant r.begun → IsReadFirst w.value r.begun t (counted b t r.input) new after read.More → IsTurned (given_to w t r r.begun) (record { input = after; begun = new; conditionals = r.conditionals; job = r.job }) answer.Went
+scanned-more w t r b new after is constant k =
+    let first = is-scanning r.begun is in
+    let scan : Scan = first.0 in
+    let joins = k scan first.1.0 first.1.1 in
+    let goes : reads w scan.what (joined w.value scan t) (with_input (counted b t r.input) (with_begun first.1.0 r)) ≡ begins (begun.Scanning (record { what = scan.what; taken = joined w.value scan t })) (with_input (counted b t r.input) (with_begun first.1.0 r)) =
+    ap (λ (read : Reading Made). read_on w (record { what = scan.what; taken = joined w.value scan t }) (with_input (counted b t r.input) (with_begun first.1.0 r)) read) joins.1.1.0.1 in
+    rw (given-scan w t r scan first.1.0 b first.1.1 constant ∙ goes, joins.1.0, joins.1.1.1.0, joins.1.1.1.1) (refl, refl)
+
 -- a token makes it whole
-pub scanned-made : (w : World) (t : Seen) (r : Reader) (new outer : List Begun) (after : Input) (made : Made) → is_scanning r.begun ≡ true → IsReadFirst w.value r.begun t r.input new after (read.Made made) → outer ≡ drop 1 new → given_to w t r r.begun ≡ come w made (record { input = after; begun = outer; conditionals = r.conditionals; job = r.job })
-scanned-made w t r new outer after made is k rest =
+pub scanned-made : (w : World) (t : Seen) (r : Reader) (b : Bool) (new outer : List Begun) (after : Input) (made : Made) → is_scanning r.begun ≡ true → b ≡ wants_constant r.begun → IsReadFirst w.value r.begun t (counted b t r.input) new after (read.Made made) → outer ≡ drop 1 new → given_to w t r r.begun ≡ come w made (record { input = after; begun = outer; conditionals = r.conditionals; job = r.job })
+scanned-made w t r b new outer after made is constant k rest =
     let first = is-scanning r.begun is in
     let scan : Scan = first.0 in
     let items : List Item = joined w.value scan t in
     let joins = k scan first.1.0 first.1.1 in
     let around : outer ≡ first.1.0 = rest ∙ ap (λ (bs : List Begun). drop 1 bs) joins.1.0 in
-    let goes : reads w scan.what items (with_begun first.1.0 r) ≡ come w made (put_back (tokens_of joins.1.1.0) (with_begun first.1.0 r)) = reads-done w scan.what items (with_begun first.1.0 r) made joins.1.1.0 joins.1.1.1.0 in
-    rw (first.1.1, joins.1.1.1.1, around) goes
+    let before : Reader = with_input (counted b t r.input) (with_begun first.1.0 r) in
+    let goes : reads w scan.what items before ≡ come w made (put_back (tokens_of joins.1.1.0) before) = reads-done w scan.what items before made joins.1.1.0 joins.1.1.1.0 in
+    rw (given-scan w t r scan first.1.0 b first.1.1 constant, joins.1.1.1.1, around) goes
+
+-- it is wrong
+pub scanned-wrong : (w : World) (t : Seen) (r left : Reader) (b : Bool) (new : List Begun) (after : Input) (error : TexError) → is_scanning r.begun ≡ true → b ≡ wants_constant r.begun → IsReadFirst w.value r.begun t (counted b t r.input) new after (read.Wrong error) → IsTurned (given_to w t r r.begun) left (answer.Wrong error)
+scanned-wrong w t r left b new after error is constant k =
+    let first = is-scanning r.begun is in
+    let scan : Scan = first.0 in
+    let joins = k scan first.1.0 first.1.1 in
+    let fails : reads w scan.what (joined w.value scan t) (with_input (counted b t r.input) (with_begun first.1.0 r)) ≡ Fails error =
+    ap (λ (read : Reading Made). read_on w (record { what = scan.what; taken = joined w.value scan t }) (with_input (counted b t r.input) (with_begun first.1.0 r)) read) joins.1.1 in
+    rw (given-scan w t r scan first.1.0 b first.1.1 constant ∙ fails) refl
 
 -- skipped text, if the innermost expansion is that
 pub is-skipping : (bs : List Begun) → is_skipping bs ≡ true → (depth : ℕ) × ((outer : List Begun) × (bs ≡ begun.Skipping depth ∷ outer))

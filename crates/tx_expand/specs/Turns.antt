@@ -9,7 +9,7 @@ use Rattle.tx_toklist.specs.Macros.{Definition, Parameters, is_begin}
 use Rattle.tx_pending.specs.declared.next.ColumnPart.TheVariants.{U, V}
 use Rattle.tx_pending.specs.declared.next.Next.{Next}
 use Rattle.tx_pending.specs.declared.next.Next.TheVariants as front
-use Rattle.tx_pending.specs.Elements.{Input, Step, given_back, is_at_entry, lowered, step, with_close, with_held, with_part_end, with_tokens, with_use}
+use Rattle.tx_pending.specs.Elements.{Input, Step, given_back, is_at_entry, lowered, step, unread, with_close, with_held, with_part_end, with_tokens, with_use}
 use Rattle.tx_prim.specs.declared.family.AlignWord.{AlignWord}
 use Rattle.tx_prim.specs.declared.family.AlignWord.TheVariants as align
 use Rattle.tx_prim.specs.declared.family.EntryEnd.{EntryEnd}
@@ -232,6 +232,27 @@ abbrev pub text_of : World → Printed → Seen → List ℕ
 text_of w printed.Token t = string_text w.escape w.fonts t.token
 text_of w printed.Meaning t = meaning_shown w t.meaning
 
+-- \noexpand, \string, \meaning and \ifx take a token whatever it is (sections 369, 471 and 507)
+abbrev pub compares : Scanned → Bool
+compares (scanned.Test tests.Same mode) = true
+compares other = false
+
+abbrev pub is_expanding : Want → Bool
+is_expanding Raw = false
+is_expanding Expanded = true
+
+abbrev pub want_of : Reading Made → Want
+want_of (More want) = want
+want_of other = Raw
+
+-- all else that is read off tokens wants one as it stands behind a backquote alone: a brace there is a number, and counts as if it
+-- hadn't been read (section 442)
+abbrev pub is_constant : Scan → Bool
+is_constant scan = not (is_expanding (want_of (reading scan.what scan.taken))) && not (compares scan.what)
+
+abbrev pub counted : Bool → Seen → Input → Input
+counted constant t input = if constant then unread input t.token else input
+
 -- an expansion takes a token within those around it
 abbrev pub given_by : World → Seen → Reader → Begun → Turn
 given_by w t r (begun.Use u) = use_on t.token (with_taken u t.token) r (comes_to (with_taken u t.token))
@@ -240,7 +261,7 @@ given_by w t r (begun.Before held) = returned (held ∷ t.token ∷ []) r
 given_by w t r begun.Once = returned (t.token ∷ []) r
 given_by w t r begun.Hold = ended (put_held t.token r)
 given_by w t r (begun.Print what) = replaced (as_tokens (text_of w what t)) r
-given_by w t r (begun.Scanning scan) = reads w scan.what (joined w.value scan t) r
+given_by w t r (begun.Scanning scan) = reads w scan.what (joined w.value scan t) (with_input (counted (is_constant scan) t r.input) r)
 given_by w t r (begun.Skipping depth) = skips_on t.token r (passing depth (item_of t.meaning))
 given_by w t r begun.Opening = begins begun.Opening r
 
@@ -257,6 +278,11 @@ scans other = false
 abbrev pub skips : Begun → Bool
 skips (begun.Skipping depth) = true
 skips other = false
+
+-- whether the innermost one wants what stands behind a backquote
+abbrev pub wants_constant : List Begun → Bool
+wants_constant (begun.Scanning scan ∷ outer) = is_constant scan
+wants_constant other = false
 
 -- whether the innermost one does
 abbrev pub is_scanning : List Begun → Bool
@@ -375,16 +401,8 @@ abbrev pub passes : Meaning → List Begun → Bool
 passes m [] = is_plain m
 passes m (b ∷ outer) = false
 
-abbrev pub is_expanding : Want → Bool
-is_expanding Raw = false
-is_expanding Expanded = true
-
 -- how the next token is wanted by the innermost expansion, or by the caller: what \expandafter waits for is expanded, and so is what
 -- \span waits for
-abbrev pub want_of : Reading Made → Want
-want_of (More want) = want
-want_of other = Raw
-
 abbrev pub wanted_by : Wanted → List Begun → Want
 wanted_by wanted [] = wanted.want
 wanted_by wanted (begun.Before t ∷ outer) = Expanded
@@ -406,11 +424,6 @@ abbrev pub incomplete : Bool → List Begun → Option TexError
 incomplete text (begun.Skipping depth ∷ outer) = Some IncompleteConditional
 incomplete text (begun.Use m ∷ outer) = Some IncompleteText
 incomplete text other = in_text text
-
--- \noexpand, \string, \meaning and \ifx take a token whatever it is (sections 369, 471 and 507)
-abbrev pub compares : Scanned → Bool
-compares (scanned.Test tests.Same mode) = true
-compares other = false
 
 abbrev pub takes_all : List Begun → Bool
 takes_all (begun.Hold ∷ outer) = true

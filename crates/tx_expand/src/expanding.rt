@@ -414,6 +414,16 @@ impl Open {
         }
     }
 
+    /// Whether the innermost expansion wants what stands behind a backquote: a number by its code.
+    fn wants_constant(&self) -> bool
+        ensures { result ≡ turns.wants_constant self.now.begun.items }
+    {
+        match self.begun.front() {
+            Some(Begun::Scanning(scanning)) => is_constant(scanning),
+            _ => false,
+        }
+    }
+
     /// A token joins what the innermost expansion reads. Its only error is want of memory.
     fn scan_on(
         &mut self,
@@ -425,6 +435,7 @@ impl Open {
         requires { turns.is_scanning self.old.begun.items ≡ true }
         ensures { (any : Any_mode) → IfOk result (IsTurned (given_to (world_of (lent known.now) any) token (reader_of self.old input.old) self.old.begun.items) (reader_of self.new input.new)) }
     {
+        count(input, self.wants_constant(), &token)?;
         match feed_scan(alloc, &mut self.begun, input, known, token)? {
             Read::More => Ok(Expanded::Went),
             Read::Made(made) => {
@@ -986,6 +997,26 @@ pub fn part_end() -> Seen
         token: Token::FrozenRelax,
         meaning: Meaning::Command(Primitive::AlignWord(AlignWord::Cr)),
     }
+}
+
+/// Whether what an expansion reads goes on with the character behind a backquote.
+fn is_constant(scanning: &Scanning) -> bool
+    ensures { result ≡ turns.is_constant scanning.now }
+{
+    match scanning.want() {
+        Want::Expanded => false,
+        Want::Raw => !matches!(scanning.what(), Scanned::Test(Test::Same, _)),
+    }
+}
+
+/// A brace that is a number behind a backquote counts as if it hadn't been read. Its only error is that the level can't be counted.
+fn count(input: &mut Pending, constant: bool, token: &Seen) -> Result<(), AllocError>
+    ensures { OnOk result (input.new ≡ turns.counted constant token.now input.old) }
+{
+    if constant {
+        input.unread(&token.token)?;
+    }
+    Ok(())
 }
 
 /// A begin-group token with which a macro's parameter text ends stands in the body too: it is as if it hadn't been read. Its only
