@@ -1043,7 +1043,7 @@ fn entry_end_in(input: &Pending, meaning: &Meaning) -> Option<EntryEnd>
 
 /// What a token that means this ends, where it ends an entry of an alignment.
 #[inline(never)]
-fn entry_end(meaning: &Meaning) -> Option<EntryEnd>
+pub fn entry_end(meaning: &Meaning) -> Option<EntryEnd>
     ensures { result ≡ turns.entry_end meaning.now }
 {
     match meaning {

@@ -28,7 +28,7 @@ mod values;
 
 pub use begun::Begun;
 pub use expander::Expander;
-pub use expanding::part_end;
+pub use expanding::{entry_end, part_end};
 pub use known::Known;
 pub use printing::escape_of;
 pub use scanning::Scanning;
