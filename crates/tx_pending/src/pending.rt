@@ -160,7 +160,8 @@ impl Pending {
         Ok(())
     }
 
-    /// The level becomes as if this token hadn't been read: it is a number behind a backquote (TeX: The Program, section 442). Its only error is that it can't be counted, and then nothing has changed.
+    /// The level becomes as if this token hadn't been read: it is a number behind a backquote (TeX: The Program, section 442). Its
+    /// only error is that the level can't be counted, and then nothing has changed.
     pub fn unread(&mut self, token: &Token) -> Result<(), AllocError>
         ensures ok { OnOk result (self.new ≡ spec.unread self.old token.now) }
         ensures err { OnErr result (self.new ≡ self.old) }
