@@ -10,7 +10,7 @@ use Rattle.tx_pending.specs.declared.next.ColumnPart.{ColumnPart}
 use Rattle.tx_pending.specs.declared.next.ColumnPart.TheVariants.{U, V}
 use Rattle.tx_pending.specs.declared.source.Source.{Source}
 use Rattle.tx_pending.specs.declared.source.Source.TheVariants as source
-use Rattle.tx_pending.specs.Elements.{Element, Given, Held as Element_held, Input, Mark, PartEnd as Element_part, Unread, begins_entry, behind_part, step_of}
+use Rattle.tx_pending.specs.Elements.{Element, Given as Element_given, Held as Element_held, Input, Mark, PartEnd as Element_part, Unread, begins_entry, behind_part, step_of}
 use Rattle.tx_pending.specs.Sources.{IsReady, before, elements_of, stack_elements}
 use Rattle.tx_pending.specs.Steps.{Gives, Takes, given_step, taken_step}
 use Rattle.tx_pending.proofs.ListSteps.{no-entry}
@@ -72,7 +72,7 @@ ready-top stack i top long is ready =
 -- what stands behind the first element doesn't matter
 entry-front : (xs ys : List Element) → xs ≢ [] → begins_entry xs ≡ begins_entry (xs ++ ys)
 entry-front [] ys some = absurd (some refl)
-entry-front (Given t ∷ xs) ys some = refl
+entry-front (Element_given t ∷ xs) ys some = refl
 entry-front (Element_held t ∷ xs) ys some = refl
 entry-front (Mark ∷ xs) ys some = refl
 entry-front (Element_part U ∷ xs) ys some = refl
@@ -120,7 +120,7 @@ entry-taken (s ∷ stack) ready begins =
 -- where none begins all stays
 pub none-begins : (xs : List Element) → begins_entry xs ≡ false → xs ≡ behind_part xs
 none-begins [] none = refl
-none-begins (Given t ∷ xs) none = refl
+none-begins (Element_given t ∷ xs) none = refl
 none-begins (Element_held t ∷ xs) none = refl
 none-begins (Mark ∷ xs) none = refl
 none-begins (Element_part U ∷ xs) none = absurd (cc)
