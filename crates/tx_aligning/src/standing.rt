@@ -40,7 +40,7 @@ pub(crate) fn read_everycr(s: &mut State) -> Result<(), AllocError>
 
 /// Whether a group of this kind could be opened, which it is then. Its only error is want of memory.
 pub(crate) fn open_group(s: &mut State, kind: GroupKind) -> Result<bool, AllocError>
-    ensures { IfOk result (λ opened. spec.IsOpened kind (state_of s.old) opened (state_of s.new)) }
+    ensures opened { IfOk result (λ opened. spec.IsOpened kind (state_of s.old) opened (state_of s.new)) }
     ensures phase { OnOk result (s.new.phase ≡ s.old.phase) }
     ensures said { OnOk result (s.new.said ≡ s.old.said) }
 {
