@@ -42,7 +42,7 @@ ERRORS = [
     (22, "Parameters must be numbered|You already have nine|Illegal parameter number"),
     (23, r"Missing \S{0,4}endcsname inserted|Extra \S{0,4}endcsname"),
     (24, "You can't use |Missing [$] inserted|Improper .*prevdepth"),
-    (32, "Misplaced "),
+    (32, r"Misplaced |Missing # inserted|Only one # is|Extra alignment tab|Missing \S{0,4}cr inserted"),
     (34, "A <box> was supposed|Leaders not followed by proper glue"),
     (34, r"\S{0,4}vsplit needs a |Insertions can only be added to a vbox"),
     (27, r"\S{0,4}box255 is not void"),

@@ -1,5 +1,5 @@
 -- Entries begin and end (TeX: The Program, sections 786 to 796).
-use Rattle.std.specs.Prelude.{ℕ, suc, Bool, true, false, List, [], ◌∷◌, ◌++◌, is_some, Option, None, Some, Result, Ok, Err, if◌then◌else◌}
+use Rattle.std.specs.Prelude.{ℕ, suc, pos, Bool, true, false, List, [], ◌∷◌, ◌++◌, is_some, Option, None, Some, Result, Ok, Err, if◌then◌else◌}
 use Rattle.tx_char.specs.declared.tokens.Token.{Token}
 use Rattle.tx_align.specs.declared.error.AlignError.{AlignError}
 use Rattle.tx_align.specs.declared.error.AlignError.TheVariants.{MisplacedAlignment}
@@ -74,13 +74,14 @@ spanning a = record a { column = suc a.column; span = suc a.span }
 abbrev pub advancing : Alignment → Alignment
 advancing a = record a { column = suc a.column; span = 1 }
 
--- its list is a cell, which marks, insertions and adjustments leave, to follow the row (section 796)
+-- its list is a cell, which marks, insertions and adjustments leave, to follow the row; it is packed to its natural size, so that
+-- \badness is 0 (section 796)
 abbrev pub with_cell : Alignment → Line → Alignment
 with_cell a line = record a { cells = a.cells ++ row.Cell a.span line.own ∷ []; leaving = a.leaving ++ line.behind }
 
 abbrev pub celled : Lists → Alignment → Option Nest → Laying
 celled lists a None = Err MisplacedAlignment
-celled lists a (Some nest) = Ok (record { lists = record lists { nest = nest }; alignment = with_cell a (line_of lists.nest.innermost.nodes) })
+celled lists a (Some nest) = Ok (record { lists = record lists { nest = nest; badness = pos 0 }; alignment = with_cell a (line_of lists.nest.innermost.nodes) })
 
 abbrev pub celling : Lists → Alignment → Laying
 celling lists a = celled lists a (left_list lists.nest.innermost lists.nest.around)

@@ -124,8 +124,8 @@ pub fn join_columns(alignment: &mut Alignment) -> Result<(), AllocError>
     Ok(())
 }
 
-/// An entry is whole: its list ends, and what leaves a box of it is kept beside. `MisplacedAlignment` exactly where no list waits
-/// around. After an error both may only be dropped.
+/// An entry is whole: its list ends, and what leaves a box of it is kept beside; \badness is 0. `MisplacedAlignment` exactly where no
+/// list waits around. After an error both may only be dropped.
 pub fn end_entry(
     alloc: Global,
     lists: &mut Lists,
@@ -138,6 +138,7 @@ pub fn end_entry(
         return Err(AlignError::MisplacedAlignment);
     }
     let nodes = leave_list(&mut lists.nest);
+    lists.badness = 0;
     add_cell(alloc, alignment, nodes)?;
     Ok(())
 }
