@@ -74,7 +74,7 @@ abbrev pub with_pushed : Alignment → List RowItem → Result Alignment AlignEr
 with_pushed a [] = Ok a
 with_pushed a (item ∷ items) = then_pushing (λ more. with_pushed more items) (pushing a item)
 
--- the row: its leading, its entries, its end, and what leaves them
+-- the row: its leading, its entries, and its end
 abbrev pub row_whole : Alignment → Alignment
 row_whole a = record a { behind_row = true }
 
@@ -85,25 +85,25 @@ row_made (Ok a) = Ok (row_whole a)
 abbrev pub with_row : Alignment → Option GlueSpec → Result Alignment AlignError
 with_row a glue =
     row_made
-    (then_pushing (λ ended. pushing ended (row.NoAlign a.leaving))
     (then_pushing (λ full. pushing full row.RowEnd)
     (then_pushing (λ begun. with_pushed begun a.cells)
-    (pushing (record a { cells = []; leaving = [] }) (row.NoAlign (leading_items glue))))))
+    (pushing (record a { cells = [] }) (row.NoAlign (leading_items glue)))))
 
--- the list between rows begins anew; to commands there the row is an item that is neither glue nor a kern, a penalty or a box
-abbrev pub row_stands : List Item
-row_stands = shared (Special []) ∷ []
+-- the list between rows begins anew with what leaves the entries; to commands there the row before it is an item that is neither glue
+-- nor a kern, a penalty or a box
+abbrev pub row_stands : List Item → List Item
+row_stands leaving = shared (Special []) ∷ leaving
 
-abbrev pub behind_row : ModeList → ℤ → ModeList
-behind_row list depth = record list { state = behind_box list.state depth; nodes = row_stands }
+abbrev pub behind_row : ModeList → ℤ → List Item → ModeList
+behind_row list depth leaving = record list { state = behind_box list.state depth; nodes = row_stands leaving }
 
-abbrev pub stood : Lists → ℤ → Result Alignment AlignError → Laying
-stood lists depth (Err error) = Err error
-stood lists depth (Ok a) = Ok (record { lists = with_list lists (behind_row lists.nest.innermost depth); alignment = a })
+abbrev pub stood : Lists → ℤ → List Item → Result Alignment AlignError → Laying
+stood lists depth leaving (Err error) = Err error
+stood lists depth leaving (Ok a) = Ok (record { lists = with_list lists (behind_row lists.nest.innermost depth leaving); alignment = a })
 
 abbrev pub led : Lists → Alignment → Extent → Result (Option GlueSpec) AlignError → Laying
 led lists a extent (Err error) = Err error
-led lists a extent (Ok glue) = stood lists extent.depth (with_row a glue)
+led lists a extent (Ok glue) = stood lists extent.depth a.leaving (with_row (record a { leaving = [] }) glue)
 
 abbrev pub measured : LeadingParams → Lists → Alignment → Result Extent AlignError → Laying
 measured params lists a (Err error) = Err error

@@ -88,29 +88,34 @@ fn push_cells(alignment: &mut Alignment, cells: Items<RowItem>) -> Result<(), Al
     Ok(())
 }
 
-/// The row joins the rows: the leading before it, its entries, its end, and what leaves them.
+/// The row joins the rows: the leading before it, its entries, and its end. What leaves them is no part of it.
 fn push_row(alloc: Global, alignment: &mut Alignment, glue: Option<Glue>) -> Result<(), AlignError>
     ensures pushed { OnOk result (spec.with_row alignment.old glue ≡ Ok alignment.new) }
     ensures error { IfErr result (λ e. e ≢ OutOfMemory → spec.with_row alignment.old glue ≡ Err e) }
 {
     let cells = replace(&mut alignment.cells, Items::new(alloc));
-    let leaving = replace(&mut alignment.leaving, Nodes::new(alloc));
     let before = leading_list(alloc, glue)?;
     push(alignment, RowItem::NoAlign(before))?;
     push_cells(alignment, cells)?;
     push(alignment, RowItem::RowEnd)?;
-    push(alignment, RowItem::NoAlign(leaving))?;
     alignment.behind_row = true;
     Ok(())
 }
 
-/// The list between rows begins anew behind a row so deep, which an item stands for that no command reads or takes away. Its only
-/// error is want of memory.
-fn stand_behind(alloc: Global, list: &mut ModeList, depth: i32) -> Result<(), AllocError>
-    ensures { OnOk result (list.new ≡ spec.behind_row list.old depth) }
+/// The list between rows begins anew with what leaves a row so deep, which an item stands for that no command reads or takes away.
+/// Its only error is want of memory.
+fn stand_behind(
+    alloc: Global,
+    list: &mut ModeList,
+    depth: i32,
+    leaving: Nodes,
+) -> Result<(), AllocError>
+    ensures { OnOk result (list.new ≡ spec.behind_row list.old depth leaving) }
 {
     let mut nodes = Nodes::new(alloc);
     nodes.push(Node::from_shared(alloc, Shared::Special(Bytes::new(alloc)))?)?;
+    let mut leaving = leaving;
+    nodes.append(&mut leaving)?;
     list.state = list.state.behind_box(depth);
     drop(replace(&mut list.nodes, nodes));
     Ok(())
@@ -129,7 +134,8 @@ pub fn end_row(
 {
     let extent = row_extent(alignment.cells.as_slice())?;
     let glue = leading(params, lists.nest.innermost(), extent.height)?;
+    let leaving = replace(&mut alignment.leaving, Nodes::new(alloc));
     push_row(alloc, alignment, glue)?;
-    stand_behind(alloc, lists.nest.top(), extent.depth)?;
+    stand_behind(alloc, lists.nest.top(), extent.depth, leaving)?;
     Ok(())
 }
