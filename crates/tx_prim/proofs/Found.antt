@@ -1,14 +1,14 @@
 -- Each primitive is the first of all that has its name.
 use Rattle.std.proofs.Common.{◌≡◌, ℕ, List, [], ◌∷◌, Some, IfSome, cond, true, false, refl}
 use Rattle.tx_prim.specs.declared.primitive.Primitive.{Primitive}
-use Rattle.tx_prim.specs.declared.primitive.Primitive.TheVariants.{Relax, EndCsName, Par, BeginGroup, EndGroup, Prefix, Let, Shorthand, Arithmetic, Numbered, Integer, Dimension, Glue, Tokens, Sized, Rule, Box, Shipout, End, IgnoreSpaces, Interaction, Definition, Text, After, FutureLet, BoxFrom, SetBox, Shift, Unbox, HorizontalGlue, VerticalGlue, Penalty, Remove, Last, Badness, PrevDepth, Leaders, NullFont, LoadFont, FontDimen, FontInteger, Char, SpaceFactor as Factor, ItalicCorrection, ControlSpace, Indent, DiscretionaryHyphen, PrevGraf, ParShape, Adjust, Discretionary, Insert, DeadCycles, Page, Align, AlignWord}
+use Rattle.tx_prim.specs.declared.primitive.Primitive.TheVariants.{Relax, EndCsName, Par, BeginGroup, EndGroup, Prefix, Let, Shorthand, Arithmetic, Numbered, Integer, Dimension, Glue, Tokens, Sized, Rule, Box, Shipout, End, IgnoreSpaces, Interaction, Definition, Text, After, FutureLet, BoxFrom, SetBox, Shift, Unbox, HorizontalGlue, VerticalGlue, Penalty, Remove, Last, Badness, PrevDepth, Leaders, NullFont, LoadFont, FontDimen, FontInteger, FamilyFont, Char, SpaceFactor as Factor, ItalicCorrection, ControlSpace, Indent, DiscretionaryHyphen, PrevGraf, ParShape, Adjust, Discretionary, MathChar, Atom, Center, Limits, Style, Choice, Fraction, MathGlue, Nonscript, Insert, DeadCycles, Page, Align, AlignWord}
 use Rattle.tx_prim.specs.declared.family.Prefix.TheVariants.{Global, Long, Outer}
 use Rattle.tx_prim.specs.declared.family.Interaction.TheVariants.{Batch, Nonstop, Scroll, Errorstop}
 use Rattle.tx_prim.specs.declared.family.Operation.TheVariants.{Advance, Multiply, Divide}
 use Rattle.tx_prim.specs.declared.family.Shorthand.TheVariants.{CountRegister, DimenRegister, SkipRegister, MuskipRegister, ToksRegister, Character, MathCharacter}
 use Rattle.tx_prim.specs.declared.family.CharacterCode.TheVariants.{LowerCase, UpperCase, SpaceFactor, Math, Delimiter}
 use Rattle.tx_prim.specs.declared.family.Numbered.TheVariants.{Count, Dimen, Skip, Muskip, Toks, Category, Code, Size}
-use Rattle.tx_prim.specs.declared.family.SizeKind.TheVariants.{Kern}
+use Rattle.tx_prim.specs.declared.family.SizeKind.TheVariants.{Kern, MathKern, Above}
 use Rattle.tx_prim.specs.declared.family.BoxKind.TheVariants as box
 use Rattle.tx_prim.specs.declared.family.RuleKind.TheVariants as rule
 use Rattle.tx_prim.specs.declared.family.BoxSide.TheVariants as side
@@ -19,6 +19,11 @@ use Rattle.tx_prim.specs.declared.family.GlueForm.TheVariants as glue
 use Rattle.tx_prim.specs.declared.family.ItemKind.TheVariants as item
 use Rattle.tx_prim.specs.declared.family.LeadersKind.TheVariants as leaders
 use Rattle.tx_prim.specs.declared.family.FontNumber.TheVariants as font
+use Rattle.tx_prim.specs.declared.family.AtomClass.TheVariants as atom
+use Rattle.tx_prim.specs.declared.family.LimitsKind.TheVariants as limits
+use Rattle.tx_prim.specs.declared.family.MathStyle.TheVariants as style
+use Rattle.tx_prim.specs.declared.family.FractionKind.TheVariants as fraction
+use Rattle.tx_prim.specs.declared.family.MathSize.TheVariants as family
 use Rattle.tx_prim.specs.declared.family.Indentation.TheVariants.{Indented, Flush}
 use Rattle.tx_prim.specs.declared.family.DefinitionKind.TheVariants as definition
 use Rattle.tx_prim.specs.declared.family.TextUse.TheVariants as text
@@ -255,6 +260,9 @@ found LoadFont = refl
 found FontDimen = refl
 found (FontInteger font.Hyphen) = refl
 found (FontInteger font.Skew) = refl
+found (FamilyFont family.Text) = refl
+found (FamilyFont family.Script) = refl
+found (FamilyFont family.ScriptScript) = refl
 found Char = refl
 found Factor = refl
 found ItalicCorrection = refl
@@ -266,6 +274,32 @@ found PrevGraf = refl
 found ParShape = refl
 found Adjust = refl
 found Discretionary = refl
+found MathChar = refl
+found (Atom atom.Ord) = refl
+found (Atom atom.Op) = refl
+found (Atom atom.Bin) = refl
+found (Atom atom.Rel) = refl
+found (Atom atom.Open) = refl
+found (Atom atom.Close) = refl
+found (Atom atom.Punct) = refl
+found (Atom atom.Inner) = refl
+found (Atom atom.Under) = refl
+found (Atom atom.Over) = refl
+found Center = refl
+found (Limits limits.Always) = refl
+found (Limits limits.Never) = refl
+found (Limits limits.Displayed) = refl
+found (Style style.Display) = refl
+found (Style style.Text) = refl
+found (Style style.Script) = refl
+found (Style style.ScriptScript) = refl
+found Choice = refl
+found (Fraction fraction.Over) = refl
+found (Fraction fraction.Atop) = refl
+found (Sized Above) = refl
+found MathGlue = refl
+found (Sized MathKern) = refl
+found Nonscript = refl
 found (Text text.Patterns) = refl
 found (Text text.Hyphenation) = refl
 found (BoxFrom source.Split) = refl

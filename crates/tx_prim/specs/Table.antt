@@ -1,14 +1,14 @@
 -- The table of the primitives.
 use Rattle.std.specs.Prelude.{ℕ, List, [], ◌∷◌, Option, None, Some, codes, cond, bytes_eq}
 use Rattle.tx_prim.specs.declared.primitive.Primitive.{Primitive}
-use Rattle.tx_prim.specs.declared.primitive.Primitive.TheVariants.{Relax, EndCsName, Par, BeginGroup, EndGroup, Prefix, Let, Shorthand, Arithmetic, Numbered, Integer, Dimension, Glue, Tokens, Sized, Rule, Box, Shipout, End, IgnoreSpaces, Interaction, Definition, Text, After, FutureLet, BoxFrom, SetBox, Shift, Unbox, HorizontalGlue, VerticalGlue, Penalty, Remove, Last, Badness, PrevDepth, Leaders, NullFont, LoadFont, FontDimen, FontInteger, Char, SpaceFactor as Factor, ItalicCorrection, ControlSpace, Indent, DiscretionaryHyphen, PrevGraf, ParShape, Adjust, Discretionary, Insert, DeadCycles, Page, Align, AlignWord}
+use Rattle.tx_prim.specs.declared.primitive.Primitive.TheVariants.{Relax, EndCsName, Par, BeginGroup, EndGroup, Prefix, Let, Shorthand, Arithmetic, Numbered, Integer, Dimension, Glue, Tokens, Sized, Rule, Box, Shipout, End, IgnoreSpaces, Interaction, Definition, Text, After, FutureLet, BoxFrom, SetBox, Shift, Unbox, HorizontalGlue, VerticalGlue, Penalty, Remove, Last, Badness, PrevDepth, Leaders, NullFont, LoadFont, FontDimen, FontInteger, FamilyFont, Char, SpaceFactor as Factor, ItalicCorrection, ControlSpace, Indent, DiscretionaryHyphen, PrevGraf, ParShape, Adjust, Discretionary, MathChar, Atom, Center, Limits, Style, Choice, Fraction, MathGlue, Nonscript, Insert, DeadCycles, Page, Align, AlignWord}
 use Rattle.tx_prim.specs.declared.family.Prefix.TheVariants.{Global, Long, Outer}
 use Rattle.tx_prim.specs.declared.family.Interaction.TheVariants.{Batch, Nonstop, Scroll, Errorstop}
 use Rattle.tx_prim.specs.declared.family.Operation.TheVariants.{Advance, Multiply, Divide}
 use Rattle.tx_prim.specs.declared.family.Shorthand.TheVariants.{CountRegister, DimenRegister, SkipRegister, MuskipRegister, ToksRegister, Character, MathCharacter}
 use Rattle.tx_prim.specs.declared.family.CharacterCode.TheVariants.{LowerCase, UpperCase, SpaceFactor, Math, Delimiter}
 use Rattle.tx_prim.specs.declared.family.Numbered.TheVariants.{Count, Dimen, Skip, Muskip, Toks, Category, Code, Size}
-use Rattle.tx_prim.specs.declared.family.SizeKind.TheVariants.{Kern}
+use Rattle.tx_prim.specs.declared.family.SizeKind.TheVariants.{Kern, MathKern, Above}
 use Rattle.tx_prim.specs.declared.family.BoxKind.TheVariants as box
 use Rattle.tx_prim.specs.declared.family.RuleKind.TheVariants as rule
 use Rattle.tx_prim.specs.declared.family.BoxSide.TheVariants as side
@@ -19,6 +19,11 @@ use Rattle.tx_prim.specs.declared.family.GlueForm.TheVariants as glue
 use Rattle.tx_prim.specs.declared.family.ItemKind.TheVariants as item
 use Rattle.tx_prim.specs.declared.family.LeadersKind.TheVariants as leaders
 use Rattle.tx_prim.specs.declared.family.FontNumber.TheVariants as font
+use Rattle.tx_prim.specs.declared.family.AtomClass.TheVariants as atom
+use Rattle.tx_prim.specs.declared.family.LimitsKind.TheVariants as limits
+use Rattle.tx_prim.specs.declared.family.MathStyle.TheVariants as style
+use Rattle.tx_prim.specs.declared.family.FractionKind.TheVariants as fraction
+use Rattle.tx_prim.specs.declared.family.MathSize.TheVariants as family
 use Rattle.tx_prim.specs.declared.family.Indentation.TheVariants.{Indented, Flush}
 use Rattle.tx_prim.specs.declared.family.DefinitionKind.TheVariants as definition
 use Rattle.tx_prim.specs.declared.family.TextUse.TheVariants as text
@@ -30,7 +35,7 @@ use Rattle.tx_prim.specs.declared.dimension.DimensionParameter.TheVariants.{Hfuz
 use Rattle.tx_prim.specs.declared.glue.GlueParameter.TheVariants.{Baselineskip, Lineskip, Parskip, Abovedisplayskip, Abovedisplayshortskip, Belowdisplayskip, Belowdisplayshortskip, Leftskip, Rightskip, Topskip, Splittopskip, Tabskip, Spaceskip, Xspaceskip, Parfillskip, Thinmuskip, Medmuskip, Thickmuskip}
 use Rattle.tx_prim.specs.declared.tokens.TokenParameter.TheVariants.{Output, Everypar, Everymath, Everydisplay, Everyhbox, Everyvbox, Everyjob, Everycr, Errhelp}
 use Rattle.tx_prim.specs.declared.modes.Modes.{Modes}
-use Rattle.tx_prim.specs.declared.modes.Modes.TheVariants.{All, NotMath, NotVertical, InVertical, OnlyVertical, OutsideVertical, OnlyHorizontal, Pages}
+use Rattle.tx_prim.specs.declared.modes.Modes.TheVariants.{All, NotMath, NotVertical, InVertical, OnlyVertical, OutsideVertical, OnlyHorizontal, Pages, Math as Formulas}
 use Rattle.tx_prim.specs.Integers.{integer_name}
 use Rattle.tx_prim.specs.Dimensions.{dimension_name}
 use Rattle.tx_prim.specs.Glues.{glue_name}
@@ -143,6 +148,9 @@ line_of LoadFont = line (codes "font") All
 line_of FontDimen = line (codes "fontdimen") All
 line_of (FontInteger font.Hyphen) = line (codes "hyphenchar") All
 line_of (FontInteger font.Skew) = line (codes "skewchar") All
+line_of (FamilyFont family.Text) = line (codes "textfont") All
+line_of (FamilyFont family.Script) = line (codes "scriptfont") All
+line_of (FamilyFont family.ScriptScript) = line (codes "scriptscriptfont") All
 line_of Char = line (codes "char") NotVertical
 line_of Factor = line (codes "spacefactor") OnlyHorizontal
 line_of ItalicCorrection = line (codes "/") OutsideVertical
@@ -154,6 +162,32 @@ line_of PrevGraf = line (codes "prevgraf") All
 line_of ParShape = line (codes "parshape") All
 line_of Adjust = line (codes "vadjust") OutsideVertical
 line_of Discretionary = line (codes "discretionary") NotVertical
+line_of MathChar = line (codes "mathchar") Formulas
+line_of (Atom atom.Ord) = line (codes "mathord") Formulas
+line_of (Atom atom.Op) = line (codes "mathop") Formulas
+line_of (Atom atom.Bin) = line (codes "mathbin") Formulas
+line_of (Atom atom.Rel) = line (codes "mathrel") Formulas
+line_of (Atom atom.Open) = line (codes "mathopen") Formulas
+line_of (Atom atom.Close) = line (codes "mathclose") Formulas
+line_of (Atom atom.Punct) = line (codes "mathpunct") Formulas
+line_of (Atom atom.Inner) = line (codes "mathinner") Formulas
+line_of (Atom atom.Under) = line (codes "underline") Formulas
+line_of (Atom atom.Over) = line (codes "overline") Formulas
+line_of Center = line (codes "vcenter") Formulas
+line_of (Limits limits.Always) = line (codes "limits") Formulas
+line_of (Limits limits.Never) = line (codes "nolimits") Formulas
+line_of (Limits limits.Displayed) = line (codes "displaylimits") Formulas
+line_of (Style style.Display) = line (codes "displaystyle") Formulas
+line_of (Style style.Text) = line (codes "textstyle") Formulas
+line_of (Style style.Script) = line (codes "scriptstyle") Formulas
+line_of (Style style.ScriptScript) = line (codes "scriptscriptstyle") Formulas
+line_of Choice = line (codes "mathchoice") Formulas
+line_of (Fraction fraction.Over) = line (codes "over") Formulas
+line_of (Fraction fraction.Atop) = line (codes "atop") Formulas
+line_of (Sized Above) = line (codes "above") Formulas
+line_of MathGlue = line (codes "mskip") Formulas
+line_of (Sized MathKern) = line (codes "mkern") Formulas
+line_of Nonscript = line (codes "nonscript") Formulas
 line_of (Text text.Patterns) = line (codes "patterns") All
 line_of (Text text.Hyphenation) = line (codes "hyphenation") All
 line_of (BoxFrom source.Split) = line (codes "vsplit") All
@@ -190,7 +224,7 @@ modes_of primitive = (line_of primitive).modes
 
 -- all primitives
 unfoldable pub all : List Primitive
-all = Relax ∷ EndCsName ∷ BeginGroup ∷ EndGroup ∷ Prefix Global ∷ Let ∷ Arithmetic Advance ∷ Arithmetic Multiply ∷ Arithmetic Divide ∷ Numbered Count ∷ Numbered Dimen ∷ Numbered Toks ∷ Shorthand CountRegister ∷ Shorthand DimenRegister ∷ Shorthand ToksRegister ∷ Shorthand Character ∷ Shorthand MathCharacter ∷ Numbered Category ∷ Numbered (Code LowerCase) ∷ Numbered (Code UpperCase) ∷ Numbered (Code SpaceFactor) ∷ Numbered (Code Math) ∷ Numbered (Code Delimiter) ∷ Box box.Horizontal ∷ Shipout ∷ Sized Kern ∷ Par ∷ End ∷ Rule rule.Vertical ∷ Prefix Long ∷ Prefix Outer ∷ IgnoreSpaces ∷ Interaction Batch ∷ Interaction Nonstop ∷ Interaction Scroll ∷ Interaction Errorstop ∷ Definition definition.Plain ∷ Definition definition.Expanded ∷ Definition definition.Global ∷ Definition definition.GlobalExpanded ∷ Text text.Message ∷ Text text.ErrorMessage ∷ Text text.UpperCase ∷ Text text.LowerCase ∷ After after.Group ∷ After after.Assignment ∷ FutureLet ∷ Box box.Vertical ∷ Box box.Top ∷ BoxFrom source.Register ∷ BoxFrom source.Copy ∷ BoxFrom source.Last ∷ SetBox ∷ Numbered (Size side.Width) ∷ Numbered (Size side.Height) ∷ Numbered (Size side.Depth) ∷ Shift shift.Raise ∷ Shift shift.Lower ∷ Shift shift.Left ∷ Shift shift.Right ∷ Rule rule.Horizontal ∷ Unbox unbox.Horizontal ∷ Unbox unbox.HorizontalCopy ∷ Unbox unbox.Vertical ∷ Unbox unbox.VerticalCopy ∷ HorizontalGlue glue.Skip ∷ HorizontalGlue glue.Fil ∷ HorizontalGlue glue.Fill ∷ HorizontalGlue glue.Both ∷ HorizontalGlue glue.Negative ∷ VerticalGlue glue.Skip ∷ VerticalGlue glue.Fil ∷ VerticalGlue glue.Fill ∷ VerticalGlue glue.Both ∷ VerticalGlue glue.Negative ∷ Penalty ∷ Remove item.Penalty ∷ Remove item.Kern ∷ Remove item.Skip ∷ Last item.Penalty ∷ Last item.Kern ∷ Last item.Skip ∷ Badness ∷ PrevDepth ∷ Text text.Special ∷ Leaders leaders.Aligned ∷ Leaders leaders.Centered ∷ Leaders leaders.Expanded ∷ Numbered Skip ∷ Numbered Muskip ∷ Shorthand SkipRegister ∷ Shorthand MuskipRegister ∷ NullFont ∷ LoadFont ∷ FontDimen ∷ FontInteger font.Hyphen ∷ FontInteger font.Skew ∷ Char ∷ Factor ∷ ItalicCorrection ∷ ControlSpace ∷ Indent Indented ∷ Indent Flush ∷ DiscretionaryHyphen ∷ PrevGraf ∷ ParShape ∷ Adjust ∷ Discretionary ∷ Text text.Patterns ∷ Text text.Hyphenation ∷ BoxFrom source.Split ∷ Insert ∷ Text text.Mark ∷ DeadCycles ∷ Page page.Goal ∷ Page page.Total ∷ Page page.Stretch ∷ Page page.FilStretch ∷ Page page.FillStretch ∷ Page page.FilllStretch ∷ Page page.Shrink ∷ Page page.Depth ∷ Page page.InsertPenalties ∷ Align ∷ AlignWord align.Cr ∷ AlignWord align.CrCr ∷ AlignWord align.Span ∷ AlignWord align.Omit ∷ AlignWord align.NoAlign ∷ Integer Pretolerance ∷ Integer Tolerance ∷ Integer Hbadness ∷ Integer Vbadness ∷ Integer Linepenalty ∷ Integer Hyphenpenalty ∷ Integer Exhyphenpenalty ∷ Integer Binoppenalty ∷ Integer Relpenalty ∷ Integer Clubpenalty ∷ Integer Widowpenalty ∷ Integer Displaywidowpenalty ∷ Integer Brokenpenalty ∷ Integer Predisplaypenalty ∷ Integer Postdisplaypenalty ∷ Integer Interlinepenalty ∷ Integer Floatingpenalty ∷ Integer Outputpenalty ∷ Integer Doublehyphendemerits ∷ Integer Finalhyphendemerits ∷ Integer Adjdemerits ∷ Integer Looseness ∷ Integer Pausing ∷ Integer Holdinginserts ∷ Integer Tracingonline ∷ Integer Tracingmacros ∷ Integer Tracingstats ∷ Integer Tracingparagraphs ∷ Integer Tracingpages ∷ Integer Tracingoutput ∷ Integer Tracinglostchars ∷ Integer Tracingcommands ∷ Integer Tracingrestores ∷ Integer Language ∷ Integer Uchyph ∷ Integer Lefthyphenmin ∷ Integer Righthyphenmin ∷ Integer Globaldefs ∷ Integer Defaulthyphenchar ∷ Integer Defaultskewchar ∷ Integer Escapechar ∷ Integer Endlinechar ∷ Integer Newlinechar ∷ Integer Maxdeadcycles ∷ Integer Hangafter ∷ Integer Fam ∷ Integer Mag ∷ Integer Delimiterfactor ∷ Integer Time ∷ Integer Day ∷ Integer Month ∷ Integer Year ∷ Integer Showboxbreadth ∷ Integer Showboxdepth ∷ Integer Errorcontextlines ∷ Dimension Hfuzz ∷ Dimension Vfuzz ∷ Dimension Overfullrule ∷ Dimension Emergencystretch ∷ Dimension Hsize ∷ Dimension Vsize ∷ Dimension Maxdepth ∷ Dimension Splitmaxdepth ∷ Dimension Boxmaxdepth ∷ Dimension Lineskiplimit ∷ Dimension Delimitershortfall ∷ Dimension Nulldelimiterspace ∷ Dimension Scriptspace ∷ Dimension Mathsurround ∷ Dimension Predisplaysize ∷ Dimension Displaywidth ∷ Dimension Displayindent ∷ Dimension Parindent ∷ Dimension Hangindent ∷ Dimension Hoffset ∷ Dimension Voffset ∷ Tokens Output ∷ Tokens Everypar ∷ Tokens Everymath ∷ Tokens Everydisplay ∷ Tokens Everyhbox ∷ Tokens Everyvbox ∷ Tokens Everyjob ∷ Tokens Everycr ∷ Tokens Errhelp ∷ Glue Baselineskip ∷ Glue Lineskip ∷ Glue Parskip ∷ Glue Abovedisplayskip ∷ Glue Abovedisplayshortskip ∷ Glue Belowdisplayskip ∷ Glue Belowdisplayshortskip ∷ Glue Leftskip ∷ Glue Rightskip ∷ Glue Topskip ∷ Glue Splittopskip ∷ Glue Tabskip ∷ Glue Spaceskip ∷ Glue Xspaceskip ∷ Glue Parfillskip ∷ Glue Thinmuskip ∷ Glue Medmuskip ∷ Glue Thickmuskip ∷ []
+all = Relax ∷ EndCsName ∷ BeginGroup ∷ EndGroup ∷ Prefix Global ∷ Let ∷ Arithmetic Advance ∷ Arithmetic Multiply ∷ Arithmetic Divide ∷ Numbered Count ∷ Numbered Dimen ∷ Numbered Toks ∷ Shorthand CountRegister ∷ Shorthand DimenRegister ∷ Shorthand ToksRegister ∷ Shorthand Character ∷ Shorthand MathCharacter ∷ Numbered Category ∷ Numbered (Code LowerCase) ∷ Numbered (Code UpperCase) ∷ Numbered (Code SpaceFactor) ∷ Numbered (Code Math) ∷ Numbered (Code Delimiter) ∷ Box box.Horizontal ∷ Shipout ∷ Sized Kern ∷ Par ∷ End ∷ Rule rule.Vertical ∷ Prefix Long ∷ Prefix Outer ∷ IgnoreSpaces ∷ Interaction Batch ∷ Interaction Nonstop ∷ Interaction Scroll ∷ Interaction Errorstop ∷ Definition definition.Plain ∷ Definition definition.Expanded ∷ Definition definition.Global ∷ Definition definition.GlobalExpanded ∷ Text text.Message ∷ Text text.ErrorMessage ∷ Text text.UpperCase ∷ Text text.LowerCase ∷ After after.Group ∷ After after.Assignment ∷ FutureLet ∷ Box box.Vertical ∷ Box box.Top ∷ BoxFrom source.Register ∷ BoxFrom source.Copy ∷ BoxFrom source.Last ∷ SetBox ∷ Numbered (Size side.Width) ∷ Numbered (Size side.Height) ∷ Numbered (Size side.Depth) ∷ Shift shift.Raise ∷ Shift shift.Lower ∷ Shift shift.Left ∷ Shift shift.Right ∷ Rule rule.Horizontal ∷ Unbox unbox.Horizontal ∷ Unbox unbox.HorizontalCopy ∷ Unbox unbox.Vertical ∷ Unbox unbox.VerticalCopy ∷ HorizontalGlue glue.Skip ∷ HorizontalGlue glue.Fil ∷ HorizontalGlue glue.Fill ∷ HorizontalGlue glue.Both ∷ HorizontalGlue glue.Negative ∷ VerticalGlue glue.Skip ∷ VerticalGlue glue.Fil ∷ VerticalGlue glue.Fill ∷ VerticalGlue glue.Both ∷ VerticalGlue glue.Negative ∷ Penalty ∷ Remove item.Penalty ∷ Remove item.Kern ∷ Remove item.Skip ∷ Last item.Penalty ∷ Last item.Kern ∷ Last item.Skip ∷ Badness ∷ PrevDepth ∷ Text text.Special ∷ Leaders leaders.Aligned ∷ Leaders leaders.Centered ∷ Leaders leaders.Expanded ∷ Numbered Skip ∷ Numbered Muskip ∷ Shorthand SkipRegister ∷ Shorthand MuskipRegister ∷ NullFont ∷ LoadFont ∷ FontDimen ∷ FontInteger font.Hyphen ∷ FontInteger font.Skew ∷ FamilyFont family.Text ∷ FamilyFont family.Script ∷ FamilyFont family.ScriptScript ∷ Char ∷ Factor ∷ ItalicCorrection ∷ ControlSpace ∷ Indent Indented ∷ Indent Flush ∷ DiscretionaryHyphen ∷ PrevGraf ∷ ParShape ∷ Adjust ∷ Discretionary ∷ MathChar ∷ Atom atom.Ord ∷ Atom atom.Op ∷ Atom atom.Bin ∷ Atom atom.Rel ∷ Atom atom.Open ∷ Atom atom.Close ∷ Atom atom.Punct ∷ Atom atom.Inner ∷ Atom atom.Under ∷ Atom atom.Over ∷ Center ∷ Limits limits.Always ∷ Limits limits.Never ∷ Limits limits.Displayed ∷ Style style.Display ∷ Style style.Text ∷ Style style.Script ∷ Style style.ScriptScript ∷ Choice ∷ Fraction fraction.Over ∷ Fraction fraction.Atop ∷ Sized Above ∷ MathGlue ∷ Sized MathKern ∷ Nonscript ∷ Text text.Patterns ∷ Text text.Hyphenation ∷ BoxFrom source.Split ∷ Insert ∷ Text text.Mark ∷ DeadCycles ∷ Page page.Goal ∷ Page page.Total ∷ Page page.Stretch ∷ Page page.FilStretch ∷ Page page.FillStretch ∷ Page page.FilllStretch ∷ Page page.Shrink ∷ Page page.Depth ∷ Page page.InsertPenalties ∷ Align ∷ AlignWord align.Cr ∷ AlignWord align.CrCr ∷ AlignWord align.Span ∷ AlignWord align.Omit ∷ AlignWord align.NoAlign ∷ Integer Pretolerance ∷ Integer Tolerance ∷ Integer Hbadness ∷ Integer Vbadness ∷ Integer Linepenalty ∷ Integer Hyphenpenalty ∷ Integer Exhyphenpenalty ∷ Integer Binoppenalty ∷ Integer Relpenalty ∷ Integer Clubpenalty ∷ Integer Widowpenalty ∷ Integer Displaywidowpenalty ∷ Integer Brokenpenalty ∷ Integer Predisplaypenalty ∷ Integer Postdisplaypenalty ∷ Integer Interlinepenalty ∷ Integer Floatingpenalty ∷ Integer Outputpenalty ∷ Integer Doublehyphendemerits ∷ Integer Finalhyphendemerits ∷ Integer Adjdemerits ∷ Integer Looseness ∷ Integer Pausing ∷ Integer Holdinginserts ∷ Integer Tracingonline ∷ Integer Tracingmacros ∷ Integer Tracingstats ∷ Integer Tracingparagraphs ∷ Integer Tracingpages ∷ Integer Tracingoutput ∷ Integer Tracinglostchars ∷ Integer Tracingcommands ∷ Integer Tracingrestores ∷ Integer Language ∷ Integer Uchyph ∷ Integer Lefthyphenmin ∷ Integer Righthyphenmin ∷ Integer Globaldefs ∷ Integer Defaulthyphenchar ∷ Integer Defaultskewchar ∷ Integer Escapechar ∷ Integer Endlinechar ∷ Integer Newlinechar ∷ Integer Maxdeadcycles ∷ Integer Hangafter ∷ Integer Fam ∷ Integer Mag ∷ Integer Delimiterfactor ∷ Integer Time ∷ Integer Day ∷ Integer Month ∷ Integer Year ∷ Integer Showboxbreadth ∷ Integer Showboxdepth ∷ Integer Errorcontextlines ∷ Dimension Hfuzz ∷ Dimension Vfuzz ∷ Dimension Overfullrule ∷ Dimension Emergencystretch ∷ Dimension Hsize ∷ Dimension Vsize ∷ Dimension Maxdepth ∷ Dimension Splitmaxdepth ∷ Dimension Boxmaxdepth ∷ Dimension Lineskiplimit ∷ Dimension Delimitershortfall ∷ Dimension Nulldelimiterspace ∷ Dimension Scriptspace ∷ Dimension Mathsurround ∷ Dimension Predisplaysize ∷ Dimension Displaywidth ∷ Dimension Displayindent ∷ Dimension Parindent ∷ Dimension Hangindent ∷ Dimension Hoffset ∷ Dimension Voffset ∷ Tokens Output ∷ Tokens Everypar ∷ Tokens Everymath ∷ Tokens Everydisplay ∷ Tokens Everyhbox ∷ Tokens Everyvbox ∷ Tokens Everyjob ∷ Tokens Everycr ∷ Tokens Errhelp ∷ Glue Baselineskip ∷ Glue Lineskip ∷ Glue Parskip ∷ Glue Abovedisplayskip ∷ Glue Abovedisplayshortskip ∷ Glue Belowdisplayskip ∷ Glue Belowdisplayshortskip ∷ Glue Leftskip ∷ Glue Rightskip ∷ Glue Topskip ∷ Glue Splittopskip ∷ Glue Tabskip ∷ Glue Spaceskip ∷ Glue Xspaceskip ∷ Glue Parfillskip ∷ Glue Thinmuskip ∷ Glue Medmuskip ∷ Glue Thickmuskip ∷ []
 
 -- the first primitive of a list that has a name
 abbrev pub named : List Primitive → List ℕ → Option Primitive

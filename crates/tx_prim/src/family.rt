@@ -85,6 +85,10 @@ pub enum Numbered {
 pub enum SizeKind {
     /// \kern.
     Kern,
+    /// \mkern: a kern in mu.
+    MathKern,
+    /// \above: the line of a fraction.
+    Above,
 }
 
 /// In which lists a rule stands (The TeXbook, chapter 21).
@@ -268,6 +272,86 @@ pub enum PageQuantity {
     Depth,
     /// \insertpenalties, an integer.
     InsertPenalties,
+}
+
+/// A class of atoms, or what an Ord is set with (The TeXbook, chapters 17 and 26; TeX: The Program, section 1156).
+#[derive(Clone, Copy)]
+pub enum AtomClass {
+    /// \mathord.
+    Ord,
+    /// \mathop.
+    Op,
+    /// \mathbin.
+    Bin,
+    /// \mathrel.
+    Rel,
+    /// \mathopen.
+    Open,
+    /// \mathclose.
+    Close,
+    /// \mathpunct.
+    Punct,
+    /// \mathinner.
+    Inner,
+    /// \underline.
+    Under,
+    /// \overline.
+    Over,
+}
+
+/// A part of an atom (The TeXbook, chapter 17).
+#[derive(Clone, Copy, PartialEq, Eq)]
+pub enum AtomPart {
+    /// Its nucleus.
+    Nucleus,
+    /// Its superscript.
+    Superscript,
+    /// Its subscript.
+    Subscript,
+}
+
+/// Where the limits of a large operator stand (TeX: The Program, section 1156).
+#[derive(Clone, Copy)]
+pub enum LimitsKind {
+    /// \limits: above and below it.
+    Always,
+    /// \nolimits: behind it.
+    Never,
+    /// \displaylimits: as the style says.
+    Displayed,
+}
+
+/// A style of formulas (The TeXbook, chapter 17).
+#[derive(Clone, Copy, PartialEq, Eq)]
+pub enum MathStyle {
+    /// \displaystyle.
+    Display,
+    /// \textstyle.
+    Text,
+    /// \scriptstyle.
+    Script,
+    /// \scriptscriptstyle.
+    ScriptScript,
+}
+
+/// What makes a fraction of the list around it, and takes nothing (The TeXbook, chapter 17).
+#[derive(Clone, Copy)]
+pub enum FractionKind {
+    /// \over: with a line.
+    Over,
+    /// \atop: without.
+    Atop,
+}
+
+/// The size of the fonts of families (The TeXbook, chapter 17).
+#[derive(Clone, Copy, PartialEq, Eq)]
+pub enum MathSize {
+    /// \textfont.
+    Text,
+    /// \scriptfont.
+    Script,
+    /// \scriptscriptfont.
+    ScriptScript,
 }
 
 /// A word of alignments (The TeXbook, chapter 22).

@@ -19,9 +19,10 @@ mod tokens;
 pub use dimension::DimensionParameter;
 pub use expandable::{BoxTest, CondWord, Conversion, Expandable, MarkKind, Test};
 pub use family::{
-    AfterKind, AlignWord, BoxKind, BoxSide, BoxSource, BreakText, CharacterCode, DefinitionKind,
-    EntryEnd, FontNumber, GlueForm, Indentation, Interaction, ItemKind, LeadersKind, Numbered,
-    Operation, PageQuantity, Prefix, RuleKind, ShiftKind, Shorthand, SizeKind, TextUse, UnboxKind,
+    AfterKind, AlignWord, AtomClass, AtomPart, BoxKind, BoxSide, BoxSource, BreakText,
+    CharacterCode, DefinitionKind, EntryEnd, FontNumber, FractionKind, GlueForm, Indentation,
+    Interaction, ItemKind, LeadersKind, LimitsKind, MathSize, MathStyle, Numbered, Operation,
+    PageQuantity, Prefix, RuleKind, ShiftKind, Shorthand, SizeKind, TextUse, UnboxKind,
 };
 pub use glue::GlueParameter;
 pub use integer::{IntegerParameter, Moment};

@@ -5,9 +5,10 @@ ghost use Rattle.tx_prim.specs.Table.{all, modes_of, name_of, named};
 
 use crate::dimension::DimensionParameter;
 use crate::family::{
-    AfterKind, AlignWord, BoxKind, BoxSide, BoxSource, CharacterCode, DefinitionKind, FontNumber,
-    GlueForm, Indentation, Interaction, ItemKind, LeadersKind, Numbered, Operation, PageQuantity,
-    Prefix, RuleKind, ShiftKind, Shorthand, SizeKind, TextUse, UnboxKind,
+    AfterKind, AlignWord, AtomClass, BoxKind, BoxSide, BoxSource, CharacterCode, DefinitionKind,
+    FontNumber, FractionKind, GlueForm, Indentation, Interaction, ItemKind, LeadersKind, LimitsKind,
+    MathSize, MathStyle, Numbered, Operation, PageQuantity, Prefix, RuleKind, ShiftKind, Shorthand,
+    SizeKind, TextUse, UnboxKind,
 };
 use crate::glue::GlueParameter;
 use crate::integer::IntegerParameter;
@@ -96,6 +97,8 @@ pub enum Primitive {
     FontDimen,
     /// \hyphenchar and \skewchar.
     FontInteger(FontNumber),
+    /// \textfont and its kin: the font of a family.
+    FamilyFont(MathSize),
     /// \char.
     Char,
     /// \spacefactor.
@@ -116,6 +119,24 @@ pub enum Primitive {
     Adjust,
     /// \discretionary.
     Discretionary,
+    /// \mathchar: a character of a formula, by its number.
+    MathChar,
+    /// What makes an atom of what follows, as \mathord.
+    Atom(AtomClass),
+    /// \vcenter.
+    Center,
+    /// \limits and its kin.
+    Limits(LimitsKind),
+    /// \displaystyle and its kin.
+    Style(MathStyle),
+    /// \mathchoice.
+    Choice,
+    /// \over and \atop.
+    Fraction(FractionKind),
+    /// \mskip: glue in mu.
+    MathGlue,
+    /// \nonscript.
+    Nonscript,
     /// \insert: vertical material that goes to a place of its own on the page.
     Insert,
     /// \deadcycles: how often \output was read since a page was shipped.
@@ -129,7 +150,7 @@ pub enum Primitive {
 }
 
 /// All primitives, in the order of their table.
-const ALL: [Primitive; 232] = [
+const ALL: [Primitive; 261] = [
     Primitive::Relax,
     Primitive::EndCsName,
     Primitive::BeginGroup,
@@ -227,6 +248,9 @@ const ALL: [Primitive; 232] = [
     Primitive::FontDimen,
     Primitive::FontInteger(FontNumber::Hyphen),
     Primitive::FontInteger(FontNumber::Skew),
+    Primitive::FamilyFont(MathSize::Text),
+    Primitive::FamilyFont(MathSize::Script),
+    Primitive::FamilyFont(MathSize::ScriptScript),
     Primitive::Char,
     Primitive::SpaceFactor,
     Primitive::ItalicCorrection,
@@ -238,6 +262,32 @@ const ALL: [Primitive; 232] = [
     Primitive::ParShape,
     Primitive::Adjust,
     Primitive::Discretionary,
+    Primitive::MathChar,
+    Primitive::Atom(AtomClass::Ord),
+    Primitive::Atom(AtomClass::Op),
+    Primitive::Atom(AtomClass::Bin),
+    Primitive::Atom(AtomClass::Rel),
+    Primitive::Atom(AtomClass::Open),
+    Primitive::Atom(AtomClass::Close),
+    Primitive::Atom(AtomClass::Punct),
+    Primitive::Atom(AtomClass::Inner),
+    Primitive::Atom(AtomClass::Under),
+    Primitive::Atom(AtomClass::Over),
+    Primitive::Center,
+    Primitive::Limits(LimitsKind::Always),
+    Primitive::Limits(LimitsKind::Never),
+    Primitive::Limits(LimitsKind::Displayed),
+    Primitive::Style(MathStyle::Display),
+    Primitive::Style(MathStyle::Text),
+    Primitive::Style(MathStyle::Script),
+    Primitive::Style(MathStyle::ScriptScript),
+    Primitive::Choice,
+    Primitive::Fraction(FractionKind::Over),
+    Primitive::Fraction(FractionKind::Atop),
+    Primitive::Sized(SizeKind::Above),
+    Primitive::MathGlue,
+    Primitive::Sized(SizeKind::MathKern),
+    Primitive::Nonscript,
     Primitive::Text(TextUse::Patterns),
     Primitive::Text(TextUse::Hyphenation),
     Primitive::BoxFrom(BoxSource::Split),
@@ -476,6 +526,9 @@ impl Primitive {
             Primitive::FontDimen => b"fontdimen",
             Primitive::FontInteger(FontNumber::Hyphen) => b"hyphenchar",
             Primitive::FontInteger(FontNumber::Skew) => b"skewchar",
+            Primitive::FamilyFont(MathSize::Text) => b"textfont",
+            Primitive::FamilyFont(MathSize::Script) => b"scriptfont",
+            Primitive::FamilyFont(MathSize::ScriptScript) => b"scriptscriptfont",
             Primitive::Char => b"char",
             Primitive::SpaceFactor => b"spacefactor",
             Primitive::ItalicCorrection => b"/",
@@ -487,6 +540,32 @@ impl Primitive {
             Primitive::ParShape => b"parshape",
             Primitive::Adjust => b"vadjust",
             Primitive::Discretionary => b"discretionary",
+            Primitive::MathChar => b"mathchar",
+            Primitive::Atom(AtomClass::Ord) => b"mathord",
+            Primitive::Atom(AtomClass::Op) => b"mathop",
+            Primitive::Atom(AtomClass::Bin) => b"mathbin",
+            Primitive::Atom(AtomClass::Rel) => b"mathrel",
+            Primitive::Atom(AtomClass::Open) => b"mathopen",
+            Primitive::Atom(AtomClass::Close) => b"mathclose",
+            Primitive::Atom(AtomClass::Punct) => b"mathpunct",
+            Primitive::Atom(AtomClass::Inner) => b"mathinner",
+            Primitive::Atom(AtomClass::Under) => b"underline",
+            Primitive::Atom(AtomClass::Over) => b"overline",
+            Primitive::Center => b"vcenter",
+            Primitive::Limits(LimitsKind::Always) => b"limits",
+            Primitive::Limits(LimitsKind::Never) => b"nolimits",
+            Primitive::Limits(LimitsKind::Displayed) => b"displaylimits",
+            Primitive::Style(MathStyle::Display) => b"displaystyle",
+            Primitive::Style(MathStyle::Text) => b"textstyle",
+            Primitive::Style(MathStyle::Script) => b"scriptstyle",
+            Primitive::Style(MathStyle::ScriptScript) => b"scriptscriptstyle",
+            Primitive::Choice => b"mathchoice",
+            Primitive::Fraction(FractionKind::Over) => b"over",
+            Primitive::Fraction(FractionKind::Atop) => b"atop",
+            Primitive::Sized(SizeKind::Above) => b"above",
+            Primitive::MathGlue => b"mskip",
+            Primitive::Sized(SizeKind::MathKern) => b"mkern",
+            Primitive::Nonscript => b"nonscript",
             Primitive::Text(TextUse::Patterns) => b"patterns",
             Primitive::Text(TextUse::Hyphenation) => b"hyphenation",
             Primitive::BoxFrom(BoxSource::Split) => b"vsplit",
@@ -530,7 +609,9 @@ impl Primitive {
             Primitive::IgnoreSpaces | Primitive::Interaction(_) => Modes::All,
             Primitive::Definition(_) | Primitive::Text(_) => Modes::All,
             Primitive::After(_) | Primitive::FutureLet => Modes::All,
-            Primitive::Sized(_) | Primitive::Box(_) | Primitive::Shipout => Modes::All,
+            Primitive::Sized(SizeKind::Kern) => Modes::All,
+            Primitive::Sized(SizeKind::MathKern | SizeKind::Above) => Modes::Math,
+            Primitive::Box(_) | Primitive::Shipout => Modes::All,
             Primitive::BoxFrom(_) | Primitive::SetBox => Modes::All,
             Primitive::Penalty | Primitive::Remove(_) | Primitive::Leaders(_) => Modes::All,
             Primitive::Last(_) | Primitive::Badness => Modes::All,
@@ -548,11 +629,15 @@ impl Primitive {
             Primitive::Rule(RuleKind::Vertical) => Modes::NotVertical,
             Primitive::NullFont | Primitive::LoadFont => Modes::All,
             Primitive::FontDimen | Primitive::FontInteger(_) => Modes::All,
+            Primitive::FamilyFont(_) => Modes::All,
             Primitive::Char | Primitive::ControlSpace => Modes::NotVertical,
             Primitive::DiscretionaryHyphen | Primitive::Discretionary => Modes::NotVertical,
             Primitive::Indent(_) | Primitive::PrevGraf | Primitive::ParShape => Modes::All,
             Primitive::Insert | Primitive::DeadCycles | Primitive::Page(_) => Modes::All,
             Primitive::ItalicCorrection | Primitive::Adjust => Modes::OutsideVertical,
+            Primitive::MathChar | Primitive::Atom(_) | Primitive::Center => Modes::Math,
+            Primitive::Limits(_) | Primitive::Style(_) | Primitive::Choice => Modes::Math,
+            Primitive::Fraction(_) | Primitive::MathGlue | Primitive::Nonscript => Modes::Math,
             Primitive::SpaceFactor => Modes::OnlyHorizontal,
             Primitive::Par => Modes::NotMath,
             Primitive::End => Modes::Pages,
