@@ -9,6 +9,8 @@ use Rattle.tx_nest.specs.Changed.{with_items, with_nodes}
 use Rattle.tx_nest.specs.Grafs.{list_within}
 use Rattle.tx_nest.specs.Lasts.{last_of, shortened}
 use Rattle.tx_node.specs.declared.head.BreakHead.{BreakHead}
+use Rattle.tx_node.specs.declared.plain.KernKind.{KernKind}
+use Rattle.tx_node.specs.declared.plain.KernKind.TheVariants.{Implicit, Explicit, MathOn, MathOff}
 use Rattle.tx_node.specs.declared.plain.Plain.{Plain}
 use Rattle.tx_node.specs.declared.plain.Plain.TheVariants.{Kern, Glue, Penalty, Character}
 use Rattle.tx_node.specs.declared.plain.Shared.{Shared}
@@ -45,8 +47,14 @@ breaking text lists table =
     else Err TooManyGroups
 
 -- what may stand in a text: characters, ligatures, kerns, boxes and rules
+abbrev pub kern_may_stand : KernKind → Bool
+kern_may_stand Implicit = true
+kern_may_stand Explicit = true
+kern_may_stand MathOn = false
+kern_may_stand MathOff = false
+
 abbrev pub may_stand : Plain → Bool
-may_stand (Kern kind size) = true
+may_stand (Kern kind size) = kern_may_stand kind
 may_stand (Glue g) = false
 may_stand (Penalty n) = false
 may_stand (Character c) = true

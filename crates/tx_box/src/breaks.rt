@@ -12,19 +12,30 @@ use crate::parts::{Done, Lists};
 use std::alloc::{AllocError, Global};
 use tx_eqtb::{Eqtb, GroupKind, OpenError};
 use tx_nest::{ModeList, append_item, append_items};
-use tx_node::{Discretionary, Node, Nodes, Plain, Shared};
+use tx_node::{Discretionary, KernKind, Node, Nodes, Plain, Shared};
 use tx_prim::{BreakText, Mode};
 use tx_seen::TexError;
 
 /// How many items the text has at most that stands where no line ends.
 const MOST_ITEMS: usize = 255;
 
+/// Whether a kern may stand in a text: not the ends of a formula.
+fn kern_may_stand(kind: KernKind) -> bool
+    ensures { result ≡ spec.kern_may_stand kind }
+{
+    match kind {
+        KernKind::Implicit | KernKind::Explicit => true,
+        KernKind::MathOn | KernKind::MathOff => false,
+    }
+}
+
 /// Whether a small item may stand in a text.
 fn may_stand(item: &Plain) -> bool
     ensures { result ≡ spec.may_stand item.now }
 {
     match item {
-        Plain::Character(_) | Plain::Kern(_, _) => true,
+        Plain::Character(_) => true,
+        Plain::Kern(kind, _) => kern_may_stand(*kind),
         Plain::Glue(_) | Plain::Penalty(_) => false,
     }
 }

@@ -1,7 +1,7 @@
 -- A list with its words hyphenated (TeX: The Program, sections 891 to 903 and 915). The run of characters, ligatures and kerns of one
 -- font in which a word stands is composed anew as one word, with the places at which the word may be divided; for each place at
 -- which a hyphen is put in that the font lacks, the transcript gets a line.
-use Rattle.std.specs.Prelude.{ℕ, ◌+◌, ◌-◌, ◌==◌, ◌&&◌, nat_lt, if◌then◌else◌, Bool, true, false, List, [], ◌∷◌, ◌++◌, length, map, filter, take, drop, reverse, slice_get, slice_index, Option, Some, None, is_some}
+use Rattle.std.specs.Prelude.{ℕ, ◌+◌, ◌-◌, ◌==◌, ◌&&◌, not, nat_lt, if◌then◌else◌, Bool, true, false, List, [], ◌∷◌, ◌++◌, length, map, filter, take, drop, reverse, slice_get, slice_index, Option, Some, None, is_some}
 use Rattle.std.specs.List.{flat_map, prefix_len}
 use Rattle.std.specs.Option.{option_and_then, unwrap_or}
 use Rattle.tx_hyphen.specs.Points.{points}
@@ -16,7 +16,7 @@ use Rattle.tx_hyphenate.specs.declared.kind.Kind.{Kind}
 use Rattle.tx_hyphenate.specs.declared.kind.Kind.TheVariants.{Characters, Kern, Special, Glue, Ends, Other}
 use Rattle.tx_hyphenate.specs.declared.made.Made.{Made}
 use Rattle.tx_hyphenate.specs.declared.params.HyphenParams.{HyphenParams}
-use Rattle.tx_hyphenate.specs.Kinds.{kind}
+use Rattle.tx_hyphenate.specs.Kinds.{is_formula_behind, kind}
 use Rattle.tx_hyphenate.specs.Letters.{codes_of, font_of}
 use Rattle.tx_hyphenate.specs.Finding.{is_in_run, may_end, word_length, word_start}
 use Rattle.tx_hyphenate.specs.Lacking.{division_report, lacking_report}
@@ -121,7 +121,7 @@ stretch_hyphenated w items = with_word_at w (word_start w.lower w.params.uc_hyph
 abbrev pub finished : Ways → Bool → List Item → Made
 finished w behind_glue items = if behind_glue then stretch_hyphenated w items else kept items
 
--- a list, parted at its first glue: the items before it, and what is made of the list from it on
+-- a list, parted at its first glue that stands in no formula: the items before it, and what is made of the list from it on
 pub record Parted : Type 0 where
   pub first : List Item
   pub rest : Made
@@ -134,16 +134,19 @@ is_glue Glue = true
 is_glue Ends = false
 is_glue Other = false
 
-abbrev pub with_item : Ways → Item → Parted → Parted
-with_item w item parted =
-    if is_glue (kind item)
+abbrev pub parts : Bool → Item → Bool
+parts formula item = not formula && is_glue (kind item)
+
+abbrev pub with_item : Ways → Bool → Item → Parted → Parted
+with_item w formula item parted =
+    if parts formula item
     then record { first = []; rest = joined (kept (item ∷ [])) (joined (stretch_hyphenated w parted.first) parted.rest) }
     else record { first = item ∷ parted.first; rest = parted.rest }
 
-unfoldable pub parted_at_glue : Ways → List Item → Parted
-parted_at_glue w [] = record { first = []; rest = kept [] }
-parted_at_glue w (item ∷ items) = with_item w item (parted_at_glue w items)
+unfoldable pub parted_at_glue : Ways → Bool → List Item → Parted
+parted_at_glue w formula [] = record { first = []; rest = kept [] }
+parted_at_glue w formula (item ∷ items) = with_item w formula item (parted_at_glue w (is_formula_behind formula item) items)
 
--- no word stands before the first glue
+-- no word stands before the first glue, and no formula is open at the beginning
 abbrev pub hyphenated : Ways → List Item → Made
-hyphenated w items = joined (kept (parted_at_glue w items).first) (parted_at_glue w items).rest
+hyphenated w items = joined (kept (parted_at_glue w false items).first) (parted_at_glue w false items).rest

@@ -1,10 +1,10 @@
 //! Lists with their words hyphenated.
 ghost use Rattle.std.specs.Prelude.{◌≡◌, ◌++◌, ◌≤◌, length, IfOk, OnOk};
-ghost use Rattle.tx_node.specs.Nodes.{list_of};
+ghost use Rattle.tx_node.specs.Nodes.{item_of, list_of};
 ghost use Rattle.tx_hyphenate.specs.Hyphenated as spec;
 
 use crate::find::{codes_between, font_at, run_before, run_behind, word_start};
-use crate::kind::{Kind, kind_of};
+use crate::kind::{Kind, is_formula_behind, kind_of};
 use crate::made::{Made, keep};
 use crate::params::HyphenParams;
 use crate::places::{moved, word_places};
@@ -13,7 +13,7 @@ use std::alloc::{AllocError, Global};
 use std::mem::replace;
 use tx_bytes::Bytes;
 use tx_hyphen::hyphens::Hyphens;
-use tx_node::Nodes;
+use tx_node::{Node, Nodes};
 use tx_tfm::Fonts;
 
 /// Puts items with a word before which so many stand behind what is made: its run is composed anew with the places, if there are
@@ -77,6 +77,13 @@ fn append_stretch(
     append_with_word(alloc, made, fonts, font, word, places.as_slice(), items)
 }
 
+/// Whether a word is looked for behind an item: behind glue, but not in a formula.
+fn parts(formula: bool, node: &Node) -> bool
+    ensures { result ≡ spec.parts formula (item_of node.now) }
+{
+    !formula && matches!(kind_of(node), Kind::Glue)
+}
+
 /// What is made of a list whose words are hyphenated. Its only error is want of memory.
 fn made_of(
     alloc: Global,
@@ -95,8 +102,10 @@ fn made_of(
     };
     let mut items = Nodes::new(alloc);
     let mut behind_glue = false;
+    let mut formula = false;
     for node in list.into_vec() {
-        if kind_of(&node) == Kind::Glue {
+        let formula_behind = is_formula_behind(formula, &node);
+        if parts(formula, &node) {
             let stretch = replace(&mut items, Nodes::new(alloc));
             finish(
                 alloc,
@@ -113,6 +122,7 @@ fn made_of(
         } else {
             items.push(node)?;
         }
+        formula = formula_behind;
     }
     finish(
         alloc,
@@ -127,10 +137,10 @@ fn made_of(
     Ok(made)
 }
 
-/// A list with its words hyphenated (TeX: The Program, sections 891 to 903). Behind each glue a word is looked for; the run of
-/// characters, ligatures and kerns of its font in which it stands is composed anew, with a discretionary at each place where the
+/// A list with its words hyphenated (TeX: The Program, sections 866 and 891 to 903). Behind each glue that stands in no formula a word
+/// is looked for; the run of characters, ligatures and kerns of its font in which it stands is composed anew, with a discretionary at each place where the
 /// patterns and exceptions permit one; `lower` holds the 256 \lccodes. A line for each of these whose hyphen the font lacks is put at
-/// the end of `report` (section 915). The list has no mathematics. Its only error is want of memory.
+/// the end of `report` (section 915). Its only error is want of memory.
 pub fn hyphenated(
     alloc: Global,
     list: Nodes,

@@ -21,7 +21,7 @@ pub enum Kind {
     Glue,
     /// Another item behind which a word may end: a kern of \kern, a penalty, an insertion, a \vadjust or a mark.
     Ends,
-    /// A box, a rule or a discretionary.
+    /// A box, a rule, a discretionary, or an end of a formula.
     Other,
 }
 
@@ -31,6 +31,7 @@ fn plain_kind(item: Plain) -> Kind
     match item {
         Plain::Kern(KernKind::Implicit, _) => Kind::Kern,
         Plain::Kern(KernKind::Explicit, _) | Plain::Penalty(_) => Kind::Ends,
+        Plain::Kern(KernKind::MathOn | KernKind::MathOff, _) => Kind::Other,
         Plain::Glue(_) => Kind::Glue,
         Plain::Character(_) => Kind::Characters,
     }
@@ -57,6 +58,22 @@ pub(crate) fn kind_of(node: &Node) -> Kind
         Node::Shared(item) => shared_kind(item),
         Node::Box(_, _) | Node::Discretionary(_) => Kind::Other,
         Node::Adjustment(_) | Node::Insertion(_) => Kind::Ends,
+    }
+}
+
+/// Whether items stand in a formula behind this one, where they do before it or not.
+pub(crate) fn is_formula_behind(formula: bool, node: &Node) -> bool
+    ensures { result ≡ kinds.is_formula_behind formula (item_of node.now) }
+{
+    match node {
+        Node::Plain(Plain::Kern(KernKind::MathOn, _)) => true,
+        Node::Plain(Plain::Kern(KernKind::MathOff, _)) => false,
+        Node::Plain(_)
+        | Node::Shared(_)
+        | Node::Box(_, _)
+        | Node::Discretionary(_)
+        | Node::Adjustment(_)
+        | Node::Insertion(_) => formula,
     }
 }
 

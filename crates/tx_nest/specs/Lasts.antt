@@ -3,6 +3,8 @@ use Rattle.std.specs.Prelude.{ℕ, ◌-◌, ℤ, pos, Bool, false, not, ◌&&◌
 use Rattle.tx_num.specs.Glue.{GlueSpec, glue_of}
 use Rattle.tx_prim.specs.declared.family.ItemKind.{ItemKind}
 use Rattle.tx_prim.specs.declared.family.ItemKind.TheVariants as kind
+use Rattle.tx_node.specs.declared.plain.KernKind.{KernKind}
+use Rattle.tx_node.specs.declared.plain.KernKind.TheVariants.{Implicit, Explicit, MathOn, MathOff}
 use Rattle.tx_node.specs.declared.plain.Plain.{Plain}
 use Rattle.tx_node.specs.declared.plain.Plain.TheVariants.{Kern, Glue, Penalty, Character}
 use Rattle.tx_node.specs.Items.{Item, Items, none, more, plain, shared, boxed, discretionary, adjustment, insertion, PackedBox}
@@ -12,7 +14,7 @@ use Rattle.tx_node.specs.Sizes.{glue_of_item}
 abbrev pub last_of : List Item → Option Item
 last_of list = slice_get list (length list - 1)
 
--- the number of a penalty, the size of a kern, whichever its kind, the box of an item without its shift; None of other items
+-- the number of a penalty, the size of a kern, but not of one at an end of a formula, the box of an item without its shift; None of other items
 abbrev pub plain_penalty : Plain → Option ℤ
 plain_penalty (Kern kind size) = None
 plain_penalty (Glue g) = None
@@ -27,8 +29,14 @@ penalty_of (discretionary replaced pre post) = None
 penalty_of (adjustment inner) = None
 penalty_of (insertion inserted inner) = None
 
+abbrev pub kern_size : KernKind → ℤ → Option ℤ
+kern_size Implicit size = Some size
+kern_size Explicit size = Some size
+kern_size MathOn size = None
+kern_size MathOff size = None
+
 abbrev pub plain_kern : Plain → Option ℤ
-plain_kern (Kern kind size) = Some size
+plain_kern (Kern kind size) = kern_size kind size
 plain_kern (Glue g) = None
 plain_kern (Penalty n) = None
 plain_kern (Character c) = None

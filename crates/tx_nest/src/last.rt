@@ -5,7 +5,7 @@ ghost use Rattle.tx_nest.specs.Lasts as spec;
 
 use crate::list::ModeList;
 use std::alloc::AllocError;
-use tx_node::{BoxNode, Node, Nodes, Plain};
+use tx_node::{BoxNode, KernKind, Node, Nodes, Plain};
 use tx_num::Glue;
 use tx_prim::ItemKind;
 
@@ -34,7 +34,8 @@ fn kern_of(node: &Node) -> Option<i32>
     ensures { result ≡ spec.kern_of (item_of node.now) }
 {
     match node {
-        Node::Plain(Plain::Kern(_, size)) => Some(*size),
+        Node::Plain(Plain::Kern(KernKind::Implicit | KernKind::Explicit, size)) => Some(*size),
+        Node::Plain(Plain::Kern(KernKind::MathOn | KernKind::MathOff, _)) => None,
         Node::Plain(Plain::Penalty(_) | Plain::Glue(_) | Plain::Character(_)) => None,
         Node::Shared(_) | Node::Box(_, _) => None,
         Node::Discretionary(_) | Node::Adjustment(_) | Node::Insertion(_) => None,

@@ -5,13 +5,18 @@ use tx_bytes::Bytes;
 use tx_num::Glue;
 use tx_toklist::TokList;
 
-/// Where a kern comes from (TeX: The Program, section 155).
+/// Where a kern comes from (TeX: The Program, section 155). What stands at both ends of a formula in a text is one too, as wide as
+/// \mathsurround (section 147), but \unkern and \lastkern don't know it.
 #[derive(Clone, Copy, PartialEq, Eq)]
 pub enum KernKind {
     /// From a font's table, or from TeX itself.
     Implicit,
     /// From \kern.
     Explicit,
+    /// From the beginning of a formula.
+    MathOn,
+    /// From its end.
+    MathOff,
 }
 
 /// A small item, which its node holds.

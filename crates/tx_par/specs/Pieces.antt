@@ -4,7 +4,7 @@ use Rattle.std.specs.Int.{int_max, int_min}
 use Rattle.tx_linebreak.specs.declared.piece.Piece.{Piece}
 use Rattle.tx_linebreak.specs.declared.piece.Piece.TheVariants as piece
 use Rattle.tx_node.specs.declared.plain.KernKind.{KernKind}
-use Rattle.tx_node.specs.declared.plain.KernKind.TheVariants.{Implicit, Explicit}
+use Rattle.tx_node.specs.declared.plain.KernKind.TheVariants.{Implicit, Explicit, MathOn, MathOff}
 use Rattle.tx_node.specs.declared.plain.Plain.{Plain}
 use Rattle.tx_node.specs.declared.plain.Plain.TheVariants.{Kern, Glue, Penalty, Character}
 use Rattle.tx_node.specs.declared.plain.Shared.{Shared}
@@ -15,10 +15,12 @@ use Rattle.tx_node.specs.Items.{Item, plain, shared, boxed, discretionary, adjus
 use Rattle.tx_node.specs.Sizes.{advance, side}
 use Rattle.tx_nest.specs.Lasts.{list_from}
 
--- a kern is discardable only where it is explicit
+-- a kern is discardable only where it is explicit, or at one end of a formula
 abbrev pub kern_piece : KernKind → ℤ → Piece
 kern_piece Implicit size = piece.Solid size
 kern_piece Explicit size = piece.Kern size
+kern_piece MathOn size = piece.MathOn size
+kern_piece MathOff size = piece.MathOff size
 
 abbrev pub plain_piece : Plain → Piece
 plain_piece (Kern kind size) = kern_piece kind size

@@ -21,6 +21,8 @@ fn kern_piece(kind: KernKind, size: i32) -> Piece
     match kind {
         KernKind::Implicit => Piece::Solid(size),
         KernKind::Explicit => Piece::Kern(size),
+        KernKind::MathOn => Piece::MathOn(size),
+        KernKind::MathOff => Piece::MathOff(size),
     }
 }
 

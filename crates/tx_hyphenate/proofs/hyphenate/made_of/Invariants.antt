@@ -6,5 +6,5 @@ use Rattle.tx_hyphenate.proofs.hyphenate.made_of.Given as goal
 abbrev pub invariant-loop-node : goal.invariant-loop-node
 invariant-loop-node l =
     let w = ways l.fonts l.hyphens l.lower l.params in
-    let behind = parted_at_glue w (list_of l.node-iterator.rest.items) in
+    let behind = parted_at_glue w l.formula (list_of l.node-iterator.rest.items) in
     joined (joined l.made (finished w l.behind_glue (l.items ++ behind.first))) behind.rest ≡ hyphenated w l.fn.list
