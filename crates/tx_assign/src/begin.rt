@@ -37,6 +37,10 @@ fn of_primitive(primitive: Primitive) -> Option<Variable>
         Primitive::ItalicCorrection | Primitive::ControlSpace => None,
         Primitive::Indent(_) | Primitive::DiscretionaryHyphen => None,
         Primitive::Adjust | Primitive::Discretionary => None,
+        Primitive::FamilyFont(_) | Primitive::MathChar | Primitive::Atom(_) => None,
+        Primitive::Center | Primitive::Limits(_) | Primitive::Style(_) => None,
+        Primitive::Choice | Primitive::Fraction(_) => None,
+        Primitive::MathGlue | Primitive::Nonscript => None,
         Primitive::Insert | Primitive::DeadCycles | Primitive::Page(_) => None,
         Primitive::Align | Primitive::AlignWord(_) => None,
     }

@@ -44,7 +44,7 @@ expandable_entries = map (λ e. (expandable.name_of e, Expandable e)) expandable
 abbrev pub initial_names : Names Meaning
 initial_names = from_entries (map (λ p. (name_of p, Command p)) all ++ expandable_entries)
 
--- no active character has a meaning, registers are 0 or zero glue, lists of tokens empty, boxes void, \parshape has no lines, \nullfont is the current font, and the parameters begin as their table says
+-- no active character has a meaning, registers are 0 or zero glue, lists of tokens empty, boxes void, \parshape has no lines, \nullfont is the current font and that of each family, and the parameters begin as their table says
 unfoldable pub initial_table : Moment → Table
 initial_table begun = record {
   names = initial_names;
@@ -65,6 +65,7 @@ initial_table begun = record {
   token_registers = replicate 256 [];
   token_parameters = replicate 9 [];
   boxes = replicate 256 void;
+  families = replicate 48 (pos 0);
   par_shape = [];
   font = 0;
 }

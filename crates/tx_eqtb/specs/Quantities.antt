@@ -12,7 +12,7 @@ use Rattle.tx_prim.specs.declared.glue.GlueParameter.{GlueParameter}
 use Rattle.tx_seen.specs.declared.fed.Value.{Value}
 use Rattle.tx_seen.specs.declared.fed.Value.TheVariants.{Int, Dimen as Size, Glue as Elastic, Muglue, Flag, Absent}
 use Rattle.tx_seen.specs.declared.place.Place.{Place}
-use Rattle.tx_seen.specs.declared.place.Place.TheVariants.{Name, Active, Count, Dimen, Skip, Muskip, Toks, Category, Code, Integer, Dimension, Glue, Tokens, Box, BoxSize, BoxTest as Tested, Last, Badness, PrevDepth, Magnification, Font, FontSize, FontDimen, FontInteger, SpaceFactor, PrevGraf, ParShape, Page, DeadCycles}
+use Rattle.tx_seen.specs.declared.place.Place.TheVariants.{Name, Active, Count, Dimen, Skip, Muskip, Toks, Category, Code, Integer, Dimension, Glue, Tokens, Box, BoxSize, BoxTest as Tested, Last, Badness, PrevDepth, Magnification, Font, FontSize, FontDimen, FontInteger, Family, SpaceFactor, PrevGraf, ParShape, Page, DeadCycles}
 use Rattle.tx_eqtb.specs.declared.eqtb.Eqtb.{Eqtb}
 use Rattle.tx_eqtb.specs.Table.{box_at, glue_at, number_at}
 
@@ -66,6 +66,7 @@ value_in e Font = Int (number_at e.table Font)
 value_in e (FontSize size) = Int (pos 0)
 value_in e (FontDimen font number) = Int (pos 0)
 value_in e (FontInteger kind font) = Int (pos 0)
+value_in e (Family size family) = Int (number_at e.table (Family size family))
 value_in e SpaceFactor = Int (pos 0)
 value_in e PrevGraf = Int (pos 0)
 value_in e ParShape = Int (pos (length e.table.par_shape / 2))

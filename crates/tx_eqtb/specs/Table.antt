@@ -1,5 +1,5 @@
 -- What stands at the places of a table, and how that changes.
-use Rattle.std.specs.Prelude.{◌&&◌, ◌==◌, ℕ, ℤ, pos, int_le, unsigned_abs, if◌then◌else◌, List, [], Option, None, unwrap_or, slice_get, slice_set}
+use Rattle.std.specs.Prelude.{◌&&◌, ◌==◌, ℕ, ◌+◌, ℤ, pos, int_le, unsigned_abs, if◌then◌else◌, List, [], Option, None, unwrap_or, slice_get, slice_set}
 use Rattle.std.specs.FinMap.{get, insert, remove}
 use Rattle.tx_num.specs.Glue.{GlueSpec, zero_glue}
 use Rattle.tx_char.specs.declared.category.Cat.{Cat}
@@ -13,8 +13,10 @@ use Rattle.tx_prim.specs.Dimensions.{dimension_number}
 use Rattle.tx_prim.specs.Glues.{glue_number}
 use Rattle.tx_prim.specs.Tokens.{token_number}
 use Rattle.tx_prim.specs.declared.family.CharacterCode.TheVariants.{LowerCase, UpperCase, SpaceFactor, Math, Delimiter}
+use Rattle.tx_prim.specs.declared.family.MathSize.{MathSize}
+use Rattle.tx_prim.specs.declared.family.MathSize.TheVariants as size
 use Rattle.tx_seen.specs.declared.place.Place.{Place}
-use Rattle.tx_seen.specs.declared.place.Place.TheVariants.{Name, Active, Count, Dimen, Skip, Muskip, Toks, Category, Code, Integer, Dimension, Glue, Tokens, Box, BoxSize, Font, ParShape}
+use Rattle.tx_seen.specs.declared.place.Place.TheVariants.{Name, Active, Count, Dimen, Skip, Muskip, Toks, Category, Code, Integer, Dimension, Glue, Tokens, Box, BoxSize, Font, Family, ParShape}
 use Rattle.tx_seen.specs.declared.meaning.Meaning.{Meaning}
 use Rattle.tx_seen.specs.declared.meaning.Meaning.TheVariants.{Undefined, Command, Character, Font as Selected}
 use Rattle.tx_eqtb.specs.declared.entry.Entry.{Entry}
@@ -41,6 +43,12 @@ active_meaning active code = unwrap_or (slice_get active code) Undefined
 abbrev pub number_of : List ℤ → ℕ → ℤ
 number_of numbers at = unwrap_or (slice_get numbers at) (pos 0)
 
+-- the font of a family among all of them: 16 at each size
+abbrev pub family_index : MathSize → ℕ → ℕ
+family_index size.Text family = family
+family_index size.Script family = 16 + family
+family_index size.ScriptScript family = 32 + family
+
 -- the number that stands at a place, in scaled points where it is a size, of a box too; 0 where no number stands
 unfoldable pub number_at : Table → Place → ℤ
 number_at table (Count number) = number_of table.counts number
@@ -54,6 +62,7 @@ number_at table (Integer parameter) = number_of table.integers (integer_number p
 number_at table (Dimension parameter) = number_of table.dimensions (dimension_number parameter)
 number_at table (BoxSize side number) = size_of side (box_of table.boxes number)
 number_at table Font = pos table.font
+number_at table (Family size family) = number_of table.families (family_index size family)
 number_at table other = pos 0
 
 -- the glue of a list of registers or parameters, and what stands at a place; zero glue where none stands
@@ -110,6 +119,7 @@ with_number_at table (Integer parameter) value = record table { integers = slice
 with_number_at table (Dimension parameter) value = record table { dimensions = slice_set table.dimensions (dimension_number parameter) value }
 with_number_at table (BoxSize side number) value = record table { boxes = with_size table.boxes side number value }
 with_number_at table Font value = record table { font = font_number value }
+with_number_at table (Family size family) value = record table { families = slice_set table.families (family_index size family) value }
 with_number_at table other value = table
 
 abbrev pub with_category_at : Table → Place → Cat → Table

@@ -1,7 +1,7 @@
 //! Groups that are open.
 
 use crate::parts::Parts;
-use tx_prim::BreakText;
+use tx_prim::{AtomPart, BreakText, MathStyle};
 
 /// What opened a group, which has to be closed by the same (TeX: The Program, section 269).
 #[derive(Clone, Copy, PartialEq, Eq)]
@@ -16,6 +16,12 @@ pub enum GroupKind {
     SemiSimple,
     /// The brace before this text of \discretionary.
     Discretionary(BreakText),
+    /// The `$` before a formula in a text.
+    MathShift,
+    /// The brace before this part of an atom.
+    MathPart(AtomPart),
+    /// The brace before the list of \mathchoice for this style.
+    MathChoice(MathStyle),
     /// The brace behind \insert and this class.
     Insert(u8),
     /// The brace that \output's tokens begin with.

@@ -27,6 +27,9 @@ use tx_toklist::TokList;
 /// How many registers of a kind, and how many characters there are.
 const ALL: usize = 256;
 
+/// How many fonts families have: 16 families, at each of three sizes.
+const FAMILIES: usize = 48;
+
 /// A code of a character.
 fn initial_code(kind: CharacterCode, code: u8) -> i32
     ensures { result ≡ spec.initial_code kind code }
@@ -169,7 +172,9 @@ pub fn initial_table(alloc: Global, begun: &Moment) -> Result<Table, AllocError>
     let glues = both(skips, zero_glues(alloc, GlueParameter::COUNT));
     let token_parameters = empty_lists(alloc, TokenParameter::COUNT);
     let lists = both(empty_lists(alloc, ALL), token_parameters);
-    let boxed = both(lists, void_boxes(alloc, ALL));
+    let families = zeros(alloc, FAMILIES);
+    let others = both(void_boxes(alloc, ALL), families);
+    let boxed = both(lists, others);
     let registered = both(glues, boxed);
     let rest = both(of_characters, registered);
     let (
@@ -179,7 +184,10 @@ pub fn initial_table(alloc: Global, begun: &Moment) -> Result<Table, AllocError>
                 ((counts, dimens), (integers, dimensions)),
                 ((lower_case, upper_case), (space_factors, (math, delimiters))),
             ),
-            (((skips, muskips), glue_parameters), ((token_registers, token_parameters), boxes)),
+            (
+                ((skips, muskips), glue_parameters),
+                ((token_registers, token_parameters), (boxes, families)),
+            ),
         ),
     ) = both(meanings, rest)?;
     Ok(Table {
@@ -201,6 +209,7 @@ pub fn initial_table(alloc: Global, begun: &Moment) -> Result<Table, AllocError>
         token_registers,
         token_parameters,
         boxes,
+        families,
         par_shape: ParShape::none(),
         font: 0,
     })

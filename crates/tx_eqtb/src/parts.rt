@@ -31,7 +31,7 @@ impl Model for Parts {
 
     ghost coded = { table.the_row.coded };
 
-    ghost view = { λ p. record { names = p.names; active = p.seldom.value.active; categories = p.seldom.value.categories; counts = p.counts; dimens = p.dimens; lower_case = p.seldom.value.lower_case; upper_case = p.seldom.value.upper_case; space_factors = p.seldom.value.space_factors; math = p.seldom.value.math; delimiters = p.seldom.value.delimiters; integers = p.integers; dimensions = p.dimensions; skips = p.seldom.value.skips; muskips = p.seldom.value.muskips; glue_parameters = p.seldom.value.glue_parameters; token_registers = p.seldom.value.token_registers; token_parameters = p.seldom.value.token_parameters; boxes = p.seldom.value.boxes; par_shape = p.seldom.value.par_shape; font = p.font } };
+    ghost view = { λ p. record { names = p.names; active = p.seldom.value.active; categories = p.seldom.value.categories; counts = p.counts; dimens = p.dimens; lower_case = p.seldom.value.lower_case; upper_case = p.seldom.value.upper_case; space_factors = p.seldom.value.space_factors; math = p.seldom.value.math; delimiters = p.seldom.value.delimiters; integers = p.integers; dimensions = p.dimensions; skips = p.seldom.value.skips; muskips = p.seldom.value.muskips; glue_parameters = p.seldom.value.glue_parameters; token_registers = p.seldom.value.token_registers; token_parameters = p.seldom.value.token_parameters; boxes = p.seldom.value.boxes; families = p.seldom.value.families; par_shape = p.seldom.value.par_shape; font = p.font } };
 }
 
 impl Parts {
@@ -58,6 +58,7 @@ impl Parts {
             token_registers,
             token_parameters,
             boxes,
+            families,
             par_shape,
             font,
         } = table;
@@ -77,6 +78,7 @@ impl Parts {
                 token_registers,
                 token_parameters,
                 boxes,
+                families,
                 par_shape,
             },
         )?;

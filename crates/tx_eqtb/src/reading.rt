@@ -13,7 +13,7 @@ use tx_char::{Cat, Codes, ControlName, Token};
 use tx_list::both;
 use tx_node::BoxNode;
 use tx_num::Glue;
-use tx_prim::{CharacterCode, Primitive};
+use tx_prim::{CharacterCode, MathSize, Primitive};
 use tx_seen::{Meaning, Place};
 use tx_toklist::{TokList, Toks};
 
@@ -36,6 +36,18 @@ fn number_of(numbers: &Cells<i32>, at: usize) -> i32
         Some(number) => *number,
         None => 0,
     }
+}
+
+/// Which number the font of a family has among all of them.
+pub(crate) fn family_index(size: MathSize, family: u8) -> usize
+    ensures { result ≡ spec.family_index size family }
+{
+    let before = match size {
+        MathSize::Text => 0,
+        MathSize::Script => 16,
+        MathSize::ScriptScript => 32,
+    };
+    before + usize::from(family)
 }
 
 /// Glue of a register or a parameter.
@@ -127,6 +139,10 @@ impl Parts {
             Place::Font => i32::from(self.font),
             Place::Last(_) | Place::Badness | Place::PrevDepth | Place::Magnification => 0,
             Place::FontSize(_) | Place::FontDimen(_, _) => 0,
+            Place::Family(size, family) => number_of(
+                &self.seldom.families,
+                family_index(*size, *family),
+            ),
             Place::FontInteger(_, _) | Place::SpaceFactor => 0,
             Place::PrevGraf | Place::ParShape => 0,
             Place::Page(_) | Place::DeadCycles => 0,
@@ -148,7 +164,7 @@ impl Parts {
             Place::BoxTest(_, _) | Place::Magnification => Glue::zero(),
             Place::Last(_) | Place::Badness | Place::PrevDepth => Glue::zero(),
             Place::Font | Place::FontSize(_) | Place::FontDimen(_, _) => Glue::zero(),
-            Place::FontInteger(_, _) | Place::SpaceFactor => Glue::zero(),
+            Place::FontInteger(_, _) | Place::Family(_, _) | Place::SpaceFactor => Glue::zero(),
             Place::PrevGraf | Place::ParShape => Glue::zero(),
             Place::Page(_) | Place::DeadCycles => Glue::zero(),
         }
@@ -178,7 +194,7 @@ impl Parts {
             Place::Integer(_) | Place::Dimension(_) | Place::Tokens(_) => None,
             Place::Last(_) | Place::Badness | Place::PrevDepth | Place::Magnification => None,
             Place::Font | Place::FontSize(_) | Place::FontDimen(_, _) => None,
-            Place::FontInteger(_, _) | Place::SpaceFactor => None,
+            Place::FontInteger(_, _) | Place::Family(_, _) | Place::SpaceFactor => None,
             Place::PrevGraf | Place::ParShape => None,
             Place::Page(_) | Place::DeadCycles => None,
         }
@@ -198,7 +214,7 @@ impl Parts {
             Place::Integer(_) | Place::Dimension(_) | Place::Tokens(_) => 0,
             Place::Last(_) | Place::Badness | Place::PrevDepth | Place::Magnification => 0,
             Place::Font | Place::FontSize(_) | Place::FontDimen(_, _) => 0,
-            Place::FontInteger(_, _) | Place::SpaceFactor => 0,
+            Place::FontInteger(_, _) | Place::Family(_, _) | Place::SpaceFactor => 0,
             Place::PrevGraf | Place::ParShape => 0,
             Place::Page(_) | Place::DeadCycles => 0,
         }
@@ -281,6 +297,7 @@ impl Seldom {
             && self.token_registers.same(&other.token_registers)
             && self.token_parameters.same(&other.token_parameters)
             && self.boxes.same(&other.boxes)
+            && self.families.same(&other.families)
             && self.par_shape.same(&other.par_shape)
             && self.categories.same(&other.categories)
             && self.active.same(&other.active)

@@ -14,7 +14,7 @@ use tx_prim::BoxSide;
 use tx_seen::Meaning;
 use tx_toklist::TokList;
 
-/// The codes of characters, the active ones, glue, lists of tokens, boxes and \parshape.
+/// The codes of characters, the active ones, glue, lists of tokens, boxes, the fonts of families and \parshape.
 #[derive(Drop)]
 pub struct Seldom {
     pub(crate) active: Cells<Meaning>,
@@ -30,6 +30,7 @@ pub struct Seldom {
     pub(crate) token_registers: Cells<TokList>,
     pub(crate) token_parameters: Cells<TokList>,
     pub(crate) boxes: Cells<BoxRegister>,
+    pub(crate) families: Cells<i32>,
     pub(crate) par_shape: ParShape,
 }
 
@@ -46,14 +47,15 @@ impl Clone for Seldom {
         let skips = both(self.skips.share(), self.muskips.share());
         let glues = both(skips, self.glue_parameters.share());
         let lists = both(self.token_registers.share(), self.token_parameters.share());
-        let boxed = both(lists, both(self.boxes.share(), self.par_shape.clone()));
+        let others = both(self.families.share(), self.par_shape.clone());
+        let boxed = both(lists, both(self.boxes.share(), others));
         let of_characters = both(meanings, codes);
         let registered = both(glues, boxed);
         let (
             ((active, categories), ((lower_case, upper_case), (space_factors, (math, delimiters)))),
             (
                 ((skips, muskips), glue_parameters),
-                ((token_registers, token_parameters), (boxes, par_shape)),
+                ((token_registers, token_parameters), (boxes, (families, par_shape))),
             ),
         ) = both(of_characters, registered)?;
         Ok(Seldom {
@@ -70,6 +72,7 @@ impl Clone for Seldom {
             token_registers,
             token_parameters,
             boxes,
+            families,
             par_shape,
         })
     }
@@ -196,6 +199,14 @@ pub fn set_box(
 {
     let own = Rc::make_mut(seldom)?;
     own.boxes.set(number, register)
+}
+
+/// A family gets a font.
+pub fn set_family(seldom: &mut Rc<Seldom>, number: usize, font: i32) -> Result<(), AllocError>
+    ensures { OnOk result (seldom.new.value ≡ record seldom.old.value { families = slice_set seldom.old.value.families number font }) }
+{
+    let own = Rc::make_mut(seldom)?;
+    own.families.set(number, font)
 }
 
 /// A character gets a category.

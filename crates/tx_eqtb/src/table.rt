@@ -30,6 +30,8 @@ pub struct Table {
     pub(crate) token_registers: Cells<TokList>,
     pub(crate) token_parameters: Cells<TokList>,
     pub(crate) boxes: Cells<BoxRegister>,
+    /// The numbers of the fonts of families, at text, script and scriptscript size, 16 of each.
+    pub(crate) families: Cells<i32>,
     pub(crate) par_shape: ParShape,
     /// The number of the current font.
     pub(crate) font: u8,

@@ -60,6 +60,7 @@ impl Quantities for Eqtb {
             Place::Font => Value::Int(i64::from(self.number(place))),
             Place::FontSize(_) | Place::FontDimen(_, _) => Value::Int(0),
             Place::FontInteger(_, _) | Place::SpaceFactor | Place::PrevGraf => Value::Int(0),
+            Place::Family(_, _) => Value::Int(i64::from(self.number(place))),
             Place::ParShape => Value::Int((self.par_shape().len() / 2) as i64),
             Place::Page(_) | Place::DeadCycles => Value::Int(0),
             Place::Toks(_) | Place::Tokens(_) | Place::Box(_) => {

@@ -5,6 +5,7 @@ ghost use Rattle.tx_eqtb.specs.Table.{font_number, with_box_at, with_category_at
 use crate::boxes::BoxRegister;
 use crate::entry::Entry;
 use crate::parts::Parts;
+use crate::reading::family_index;
 use crate::seldom;
 use crate::shape::ParShape;
 use std::alloc::AllocError;
@@ -78,6 +79,9 @@ impl Parts {
             }
             Place::Last(_) | Place::Badness | Place::PrevDepth | Place::Magnification => Ok(()),
             Place::FontSize(_) | Place::FontDimen(_, _) => Ok(()),
+            Place::Family(size, family) => {
+                seldom::set_family(&mut self.seldom, family_index(*size, *family), value)
+            }
             Place::FontInteger(_, _) | Place::SpaceFactor => Ok(()),
             Place::PrevGraf | Place::ParShape => Ok(()),
             Place::Page(_) | Place::DeadCycles => Ok(()),
@@ -100,7 +104,7 @@ impl Parts {
             Place::Toks(_) | Place::Tokens(_) | Place::Box(_) | Place::BoxTest(_, _) => Ok(()),
             Place::Last(_) | Place::Badness | Place::PrevDepth | Place::Magnification => Ok(()),
             Place::Font | Place::FontSize(_) | Place::FontDimen(_, _) => Ok(()),
-            Place::FontInteger(_, _) | Place::SpaceFactor => Ok(()),
+            Place::FontInteger(_, _) | Place::Family(_, _) | Place::SpaceFactor => Ok(()),
             Place::PrevGraf | Place::ParShape => Ok(()),
             Place::Page(_) | Place::DeadCycles => Ok(()),
         }
@@ -154,7 +158,7 @@ impl Parts {
             Place::Integer(_) | Place::Dimension(_) | Place::Tokens(_) => Ok(()),
             Place::Last(_) | Place::Badness | Place::PrevDepth | Place::Magnification => Ok(()),
             Place::Font | Place::FontSize(_) | Place::FontDimen(_, _) => Ok(()),
-            Place::FontInteger(_, _) | Place::SpaceFactor => Ok(()),
+            Place::FontInteger(_, _) | Place::Family(_, _) | Place::SpaceFactor => Ok(()),
             Place::PrevGraf | Place::ParShape => Ok(()),
             Place::Page(_) | Place::DeadCycles => Ok(()),
         }

@@ -130,6 +130,7 @@ value_now known (place.FontSize size) = Dimen (font_parameter known.fonts known.
 value_now known (place.FontDimen font n) = dimen_value known.fonts (font_number known font) n
 value_now known (place.FontInteger kind font) = integer_value known.fonts kind (font_number known font)
 value_now known place.Font = value_in known.table place.Font
+value_now known (place.Family size family) = value_in known.table (place.Family size family)
 value_now known (place.Name name) = value_in known.table (place.Name name)
 value_now known (place.Active code) = value_in known.table (place.Active code)
 value_now known (place.Category code) = value_in known.table (place.Category code)

@@ -229,7 +229,7 @@ impl<'a> Quantities for Known<'a> {
                 self.table.quantity(place)
             }
             Place::Skip(_) | Place::Muskip(_) | Place::Glue(_) => self.table.quantity(place),
-            Place::ParShape => self.table.quantity(place),
+            Place::ParShape | Place::Family(_, _) => self.table.quantity(place),
             Place::Page(quantity) => quantity_value(self.pages, *quantity),
             Place::DeadCycles => Value::Int(i64::from(self.pages.dead_cycles)),
             Place::Box(_) | Place::BoxSize(_, _) | Place::BoxTest(_, _) => {

@@ -8,7 +8,7 @@ use tx_char::ControlName;
 use tx_list::Kept;
 use tx_prim::{
     BoxSide, BoxTest, CharacterCode, DimensionParameter, FontNumber, GlueParameter,
-    IntegerParameter, ItemKind, Numbered, PageQuantity, Primitive, TokenParameter,
+    IntegerParameter, ItemKind, MathSize, Numbered, PageQuantity, Primitive, TokenParameter,
 };
 
 /// How a document tells a font (TeX: The Program, section 577).
@@ -80,6 +80,8 @@ pub enum Place {
     FontDimen(FontName, u16),
     /// \hyphenchar or \skewchar of a font, and no place of the table.
     FontInteger(FontNumber, FontName),
+    /// The number of the font of a family at a size, by the number of the family.
+    Family(MathSize, u8),
     /// \spacefactor of the list that is being built.
     SpaceFactor,
     /// \prevgraf of the innermost vertical list.
@@ -122,6 +124,7 @@ impl Clone for Place {
             Place::FontSize(size) => Ok(Place::FontSize(*size)),
             Place::FontDimen(font, number) => Ok(Place::FontDimen(*font, *number)),
             Place::FontInteger(kind, font) => Ok(Place::FontInteger(*kind, *font)),
+            Place::Family(size, family) => Ok(Place::Family(*size, *family)),
             Place::SpaceFactor => Ok(Place::SpaceFactor),
             Place::PrevGraf => Ok(Place::PrevGraf),
             Place::ParShape => Ok(Place::ParShape),
@@ -169,6 +172,7 @@ impl Kept for Place {
                 && one == other,
             (Place::FontInteger(kind, one), Place::FontInteger(also, other)) => kind == also
                 && one == other,
+            (Place::Family(size, one), Place::Family(also, other)) => size == also && one == other,
             (Place::SpaceFactor, Place::SpaceFactor) => true,
             (Place::PrevGraf, Place::PrevGraf) => true,
             (Place::ParShape, Place::ParShape) => true,
@@ -204,7 +208,7 @@ impl Place {
             Place::Dimen(_) | Place::Dimension(_) | Place::BoxSize(_, _) => true,
             Place::Last(ItemKind::Kern) | Place::PrevDepth => true,
             Place::FontDimen(_, _) | Place::FontSize(_) => true,
-            Place::Font | Place::FontInteger(_, _) => false,
+            Place::Font | Place::FontInteger(_, _) | Place::Family(_, _) => false,
             Place::SpaceFactor | Place::PrevGraf | Place::ParShape => false,
             Place::Page(PageQuantity::InsertPenalties) | Place::DeadCycles => false,
             Place::Page(_) => true,
@@ -228,7 +232,7 @@ impl Place {
             }
             Place::Last(ItemKind::Penalty | ItemKind::Kern) | Place::PrevDepth => false,
             Place::FontDimen(_, _) | Place::FontSize(_) | Place::Font => false,
-            Place::FontInteger(_, _) | Place::SpaceFactor => false,
+            Place::FontInteger(_, _) | Place::Family(_, _) | Place::SpaceFactor => false,
             Place::PrevGraf | Place::ParShape => false,
             Place::Page(_) | Place::DeadCycles => false,
             Place::Name(_) | Place::Active(_) | Place::Count(_) | Place::Toks(_) => false,
@@ -247,7 +251,7 @@ impl Place {
             Place::Skip(_) | Place::Dimen(_) | Place::Dimension(_) | Place::BoxSize(_, _) => false,
             Place::Last(_) | Place::PrevDepth => false,
             Place::FontDimen(_, _) | Place::FontSize(_) | Place::Font => false,
-            Place::FontInteger(_, _) | Place::SpaceFactor => false,
+            Place::FontInteger(_, _) | Place::Family(_, _) | Place::SpaceFactor => false,
             Place::PrevGraf | Place::ParShape => false,
             Place::Page(_) | Place::DeadCycles => false,
             Place::Name(_) | Place::Active(_) | Place::Count(_) | Place::Toks(_) => false,

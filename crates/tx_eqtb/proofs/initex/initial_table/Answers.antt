@@ -23,6 +23,7 @@ returns c =
     let skips = IfOk-at_ok _ glues.0 c.both-skips.ensures in
     let boxed = IfOk-at_ok _ registered.1 c.both-boxed.ensures in
     let lists = IfOk-at_ok _ boxed.0 c.both-lists.ensures in
+    let others = IfOk-at_ok _ boxed.1 c.both-others.ensures in
     λ i. record {
       names = IfOk-at_ok _ of_names.0 c.initial_names.ensures i;
       active = IfOk-at_ok _ of_names.1 c.undefined.ensures i;
@@ -41,7 +42,8 @@ returns c =
       glue_parameters = IfOk-at_ok _ glues.1 c.zero_glues-3.ensures i;
       token_registers = IfOk-at_ok _ lists.0 c.empty_lists.ensures i;
       token_parameters = IfOk-at_ok _ lists.1 c.empty_lists-token_parameters.ensures i;
-      boxes = IfOk-at_ok _ boxed.1 c.void_boxes.ensures i;
+      boxes = IfOk-at_ok _ others.0 c.void_boxes.ensures i;
+      families = IfOk-at_ok _ others.1 c.zeros-families.ensures i;
       par_shape = c.none.ensures i;
       font = 0;
     }
