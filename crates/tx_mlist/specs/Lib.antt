@@ -4,3 +4,4 @@ pub mod Counts
 pub mod Noads
 pub mod Falls
 pub mod Building
+pub mod Choices

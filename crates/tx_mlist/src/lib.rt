@@ -5,11 +5,12 @@
 //! Proved: a list is what was put into it; scripts, limits, fractions and groups become what `specs/Building.antt` makes of them;
 //! and two lists are the same exactly where they are equal. Only tested: nothing.
 //!
-//! Modules in reading order: `kinds`, `plain`, `noad`, `error`, `mlist`, `measure`, `same`, `above`, `building`.
+//! Modules in reading order: `kinds`, `plain`, `noad`, `error`, `mlist`, `measure`, `same`, `above`, `building`, `choices`.
 #![tactic(auto)]
 
 mod above;
 mod building;
+mod choices;
 mod error;
 mod kinds;
 mod measure;

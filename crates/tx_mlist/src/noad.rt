@@ -103,6 +103,7 @@ impl Model for InnerList {
 }
 
 impl InnerList {
+    ghost use Rattle.std.specs.Prelude.{[]};
     ghost use Rattle.tx_mlist.specs.Items.{gathered};
     ghost use Rattle.tx_mlist.specs.Noads.{mlist_of};
     ghost use Rattle.tx_mlist.specs.Counts.{depth_of};
@@ -120,6 +121,16 @@ impl InnerList {
         ensures { mlist_of result.now ≡ self.now }
     {
         self.list.as_slice()
+    }
+
+    /// The empty list; takes no memory.
+    pub(crate) fn empty(alloc: Global) -> InnerList
+        ensures { result ≡ [] }
+    {
+        InnerList {
+            depth: 0,
+            list: Vec::new(alloc),
+        }
     }
 }
 
@@ -160,6 +171,20 @@ impl Clone for Atom {
             nucleus: self.nucleus.clone()?,
             superscript: self.superscript.clone()?,
             subscript: self.subscript.clone()?,
+        })
+    }
+}
+
+/// A clone is the same choice. Its only error is want of memory.
+impl Clone for Choice {
+    ghost is_clone = { λ source copy. copy ≡ source };
+
+    fn clone(&self) -> Result<Self, AllocError> {
+        Ok(Choice {
+            display: self.display.clone()?,
+            text: self.text.clone()?,
+            script: self.script.clone()?,
+            script_script: self.script_script.clone()?,
         })
     }
 }
