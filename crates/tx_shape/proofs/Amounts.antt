@@ -1,5 +1,7 @@
 -- A number or a size, as a part of a command's rest.
 use Rattle.std.proofs.Common.{◌≡◌, ◌≤◌, ◌+◌, ◌==◌, Bool, true, false, if◌then◌else◌, ℕ, ℤ, zero, suc, Option, Some, None, List, [], ◌∷◌, ◌++◌, refl, ap, sym, ◌∙◌, arith}
+use Rattle.std.specs.Prelude.{nat_le}
+use Rattle.tx_prim.specs.declared.family.MathSize.{MathSize}
 use Rattle.tx_seen.specs.declared.fed.Fed.{Fed}
 use Rattle.tx_seen.specs.declared.fed.Fed.TheVariants as fed
 use Rattle.tx_seen.specs.declared.fed.Kind.{Kind}
@@ -148,6 +150,10 @@ class-alone : (is_last : Bool) (n back : ℕ) → needed_behind (if is_last then
 class-alone true n back = refl
 class-alone false n back = refl
 
+family-alone : (is_family : Bool) (size : MathSize) (n back : ℕ) → needed_behind (if is_family then Part (plain.FamilyEquals size n) else Wrong NumberOutOfRange) back ≡ 0
+family-alone true size n back = refl
+family-alone false size n back = refl
+
 register-alone : (what : Registering) (n back : ℕ) → needed_behind (behind_register what n) back ≡ 0
 register-alone (registering.Use context) n back = refl
 register-alone (registering.Copy context) n back = refl
@@ -156,6 +162,7 @@ register-alone registering.Set n back = refl
 register-alone registering.Character n back = refl
 register-alone registering.Insert n back = class-alone (n == 255) n back
 register-alone (registering.Split context) n back = refl
+register-alone (registering.Family size) n back = family-alone (nat_le n 15) size n back
 
 byte-alone : (what : Registering) (byte : Option ℕ) (back : ℕ) → needed_behind (behind_byte what byte) back ≡ 0
 byte-alone what None back = refl

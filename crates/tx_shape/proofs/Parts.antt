@@ -59,6 +59,8 @@ plain-unread (plain.Brace opening goal) = refl
 plain-unread (plain.Open opener) = refl
 plain-unread (plain.To n context) = refl
 plain-unread (plain.ToLetter n context) = refl
+plain-unread (plain.FamilyEquals size n) = refl
+plain-unread (plain.FamilyFont size n) = refl
 
 pub plain-on : (reading : List Item → Reading Shaped) (part : Plain) (new : ShapeScan) → new.stage ≡ stage.Plain part → ((more : List Item) → reading more ≡ plain_rest part more) → Begins reading new (fed.More Expanded)
 plain-on reading part new was same = record {

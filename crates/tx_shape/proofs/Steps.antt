@@ -18,6 +18,7 @@ use Rattle.tx_scan.specs.declared.scans.EqualsScan.{EqualsScan}
 use Rattle.tx_scan.specs.declared.scans.FontScan.{FontScan}
 use Rattle.tx_scan.specs.declared.scans.FontSought.{FontSought}
 use Rattle.tx_scan.specs.declared.scans.GlueScan.{GlueScan}
+use Rattle.tx_prim.specs.declared.family.MathSize.{MathSize}
 use Rattle.tx_seen.specs.declared.place.FontName.{FontName}
 use Rattle.tx_scan.specs.GrammarRests.{IsBraceFed, IsEqualsFed, IsFontFed}
 use Rattle.tx_scan.specs.Rests.{IsFedBy, IsRead, kept}
@@ -31,13 +32,13 @@ use Rattle.tx_shape.specs.declared.scans.Plain.TheVariants as plain
 use Rattle.tx_shape.specs.declared.scans.ShapeScan.{ShapeScan}
 use Rattle.tx_shape.specs.declared.types.Opener.{Opener}
 use Rattle.tx_shape.specs.declared.types.Shaped.{Shaped}
-use Rattle.tx_shape.specs.declared.types.Shaped.TheVariants.{Open}
+use Rattle.tx_shape.specs.declared.types.Shaped.TheVariants.{Open, SetFamily}
 use Rattle.tx_shape.specs.declared.scans.Stage.TheVariants as stage
 use Rattle.tx_shape.specs.declared.scans.Amount.{Amount}
 use Rattle.tx_shape.specs.declared.scans.Amount.TheVariants as amount
 use Rattle.tx_shape.specs.declared.scans.Setting.{Setting}
 use Rattle.tx_shape.specs.declared.scans.Setting.TheVariants.{Size, Number}
-use Rattle.tx_shape.specs.Settings.{amount_of, font_setting, set, set_of_font, setting}
+use Rattle.tx_shape.specs.Settings.{amount_of, family_font, family_setting, font_setting, set, set_of_font, setting}
 use Rattle.tx_shape.specs.declared.scans.Sizing.TheVariants as sizing
 use Rattle.tx_shape.specs.declared.types.BoxContext.TheVariants.{Register}
 use Rattle.tx_shape.specs.declared.types.BoxGoal.{BoxGoal}
@@ -317,6 +318,47 @@ font-wrong what scan t new error k =
 pub font-fed : (what : FontSought) (old new : ShapeScan) (t : Seen) (answer : Fed Shaped) → old.stage ≡ stage.Font what → BeginsSetting (λ more. font_setting what (Took t ∷ more)) t new answer → IsFedBy rest held old t new answer
 font-fed what old new t answer was k = fed-first rest held old t new answer (rw was refl) (rw was k.reads)
 
+-- an optional `=` before the font of a family, and the font
+abbrev to_family : MathSize → ℕ → Bool → List Item → Reading Shaped
+to_family size n there rest = family_font size n rest
+
+abbrev family_told : MathSize → ℕ → FontName → List Item → Reading Shaped
+family_told size n f rest = Done (SetFamily size n f) rest
+
+pub family-on : (size : MathSize) (n : ℕ) (scan : EqualsScan) (t : Seen) (new : ShapeScan) (want : Want) → IsEqualsFed scan t (fed.More want) → new.stage ≡ stage.Plain (plain.FamilyEquals size n) → Begins (λ more. family_setting size n (Took t ∷ more)) new (fed.More want)
+family-on size n scan t new want k was = record {
+  reads = (
+    ap (λ r. next r (to_family size n)) (k []).0,
+    rw was (omega arith),
+    λ item more. ap (λ r. next r (to_family size n)) ((k []).2 item more) ∙ ap (λ s. stage_rest s new (ending (stage_held s new) []) item more) (sym was),
+  );
+  fewer = rw was (omega arith);
+}
+
+pub family-there : (size : MathSize) (n : ℕ) (scan : EqualsScan) (t : Seen) (new : ShapeScan) (there : Bool) (back : ℕ) → IsEqualsFed scan t (fed.Done there back) → back ≡ 0 → new.stage ≡ stage.Plain (plain.FamilyFont size n) → Begins (λ more. family_setting size n (Took t ∷ more)) new (fed.More Expanded)
+family-there size n scan t new there back k none was =
+    plain-on _ (plain.FamilyFont size n) new was (λ more. ap (λ r. next r (to_family size n)) ((k []).1 more) ∙ ap (λ (m : ℕ). family_font size n (kept m t ++ more)) none)
+
+pub family-before : (size : MathSize) (n : ℕ) (scan : EqualsScan) (t : Seen) (new : ShapeScan) (there : Bool) (back : ℕ) (answer : Fed Shaped) → IsEqualsFed scan t (fed.Done there back) → (back ≡ 0 → ⊥) → Begins (λ more. family_font size n (Took t ∷ more)) new answer → Begins (λ more. family_setting size n (Took t ∷ more)) new answer
+family-before size n scan t new there back answer k some later =
+    begins-alike _ _ new answer (λ more. ap (λ r. next r (to_family size n)) ((k []).1 more) ∙ ap (λ (items : List Item). family_font size n (items ++ more)) (one-kept back t some)) later
+
+pub family-wrong : (size : MathSize) (n : ℕ) (scan : EqualsScan) (t : Seen) (new : ShapeScan) (error : TexError) → IsEqualsFed scan t (fed.Wrong error) → Begins (λ more. family_setting size n (Took t ∷ more)) new (fed.Wrong error)
+family-wrong size n scan t new error k = begins-wrong _ new error (λ more. ap (λ r. next r (to_family size n)) (k [] more))
+
+pub family-font-on : (size : MathSize) (n : ℕ) (scan : FontScan) (t : Seen) (new : ShapeScan) (want : Want) → IsFontFed scan t (fed.More want) → new.stage ≡ stage.Plain (plain.FamilyFont size n) → Begins (λ more. family_font size n (Took t ∷ more)) new (fed.More want)
+family-font-on size n scan t new want k was = record {
+  reads = (
+    ap (λ r. next r (family_told size n)) (k []).0,
+    rw was (omega arith),
+    λ item more. ap (λ r. next r (family_told size n)) ((k []).2 item more) ∙ ap (λ s. stage_rest s new (ending (stage_held s new) []) item more) (sym was),
+  );
+  fewer = rw was (omega arith);
+}
+
+pub family-font-wrong : (size : MathSize) (n : ℕ) (scan : FontScan) (t : Seen) (new : ShapeScan) (error : TexError) → IsFontFed scan t (fed.Wrong error) → Begins (λ more. family_font size n (Took t ∷ more)) new (fed.Wrong error)
+family-font-wrong size n scan t new error k = begins-wrong _ new error (λ more. ap (λ r. next r (family_told size n)) (k [] more))
+
 -- the begin-group token
 brace-back : (back : ℕ) (t : Seen) → back ≤ 0 → kept back t ≡ ending back []
 brace-back zero t h = refl
@@ -330,6 +372,17 @@ brace-there opening goal scan t new back value shaped k same = record {
         ap (λ r. next r (λ _ rest. Done (begun opening goal) rest)) ((k []).1 more)
         ∙ (ap (λ (items : List Item). Done (begun opening goal) (items ++ more)) (brace-back back t (k []).0)
         ∙ ap (λ (what : Shaped). Done what (ending back [] ++ more)) (sym same)),
+  );
+  fewer = tt;
+}
+
+pub family-font-there : (size : MathSize) (n : ℕ) (scan : FontScan) (t : Seen) (new : ShapeScan) (f : FontName) (back : ℕ) → IsFontFed scan t (fed.Done f back) → Begins (λ more. family_font size n (Took t ∷ more)) new (fed.Done (SetFamily size n f) back)
+family-font-there size n scan t new f back k = record {
+  reads = (
+    (k []).0,
+    λ more.
+        ap (λ r. next r (family_told size n)) ((k []).1 more)
+        ∙ ap (λ (items : List Item). Done (SetFamily size n f) (items ++ more)) (brace-back back t (k []).0),
   );
   fewer = tt;
 }

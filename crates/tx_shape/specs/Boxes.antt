@@ -33,7 +33,7 @@ use Rattle.tx_shape.specs.declared.types.BoxGoal.TheVariants.{Natural, To, Sprea
 use Rattle.tx_shape.specs.declared.types.BoxRead.TheVariants.{Begin, Use, Copy, Last, Split}
 use Rattle.tx_shape.specs.declared.types.Opener.{Opener}
 use Rattle.tx_shape.specs.declared.types.Shaped.{Shaped}
-use Rattle.tx_shape.specs.declared.types.Shaped.TheVariants.{BeginAlign, Box, Open, Unbox, Penalize, Skip}
+use Rattle.tx_shape.specs.declared.types.Shaped.TheVariants.{BeginAlign, Box, MathSkip, Open, Unbox, Penalize, Skip}
 use Rattle.tx_shape.specs.declared.scans.Opening.{Opening}
 use Rattle.tx_shape.specs.declared.scans.Opening.TheVariants as opening
 
@@ -67,8 +67,8 @@ opened what goal items = next (left_brace items) (λ _ rest. Done (begun what go
 abbrev pub box_begin : Opening → List Item → Reading Shaped
 box_begin what items = next (box_goal items) (opened what)
 
--- the begin-group token before a text of \discretionary (sections 1117 and 1119), the list of an \insert (section 1099), the tokens
--- of \output (section 1025) and the material of \noalign (section 785)
+-- the begin-group token before a text of \discretionary (sections 1117 and 1119), a list of \mathchoice (sections 1172 and 1174), the
+-- list of an \insert (section 1099), the tokens of \output (section 1025) and the material of \noalign (section 785)
 abbrev pub group_begun : Opener → List Item → Reading Shaped
 group_begun opener items = next (left_brace items) (λ _ rest. Done (Open opener) rest)
 
@@ -159,6 +159,13 @@ standing_glue form.Negative = Some (glue_of (pos 0) (neg_ℤ one) 1 (pos 0) 0)
 
 abbrev pub skipped : GlueSpec → List Item → Reading Shaped
 skipped g rest = Done (Skip g) rest
+
+-- \mskip: glue in mu
+abbrev pub math_skipped : GlueSpec → List Item → Reading Shaped
+math_skipped g rest = Done (MathSkip g) rest
+
+abbrev pub math_skipping : List Item → Reading Shaped
+math_skipping items = next (glue true items) math_skipped
 
 -- \hskip and \vskip: glue; and their kin, which take nothing
 abbrev pub skipping_by : Option GlueSpec → List Item → Reading Shaped

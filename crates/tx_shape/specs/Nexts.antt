@@ -1,5 +1,6 @@
 -- What follows a number or a size, by what it is for.
-use Rattle.std.specs.Prelude.{ℕ, ℤ, ◌==◌, Option, Some, None, List, if◌then◌else◌}
+use Rattle.std.specs.Prelude.{ℕ, ℤ, ◌==◌, nat_le, Option, Some, None, List, if◌then◌else◌}
+use Rattle.tx_prim.specs.declared.family.MathSize.{MathSize}
 use Rattle.tx_shape.specs.declared.types.Opener.TheVariants.{Insert}
 use Rattle.tx_seen.specs.declared.error.TexError.TheVariants.{NumberOutOfRange}
 use Rattle.tx_seen.specs.declared.item.Item.{Item}
@@ -22,7 +23,7 @@ use Rattle.tx_shape.specs.declared.scans.Sizing.TheVariants as sizing
 use Rattle.tx_scan.specs.declared.scans.FontSought.TheVariants as sought
 use Rattle.tx_scan.specs.FontNames.{parameter_number}
 use Rattle.tx_shape.specs.declared.scans.NumberSetting.{NumberSetting}
-use Rattle.tx_shape.specs.Settings.{font_setting, set_number, set_size}
+use Rattle.tx_shape.specs.Settings.{family_font, family_setting, font_setting, set_number, set_size}
 use Rattle.tx_shape.specs.Boxes.{box_begin, group_begun, needed_box, opened, register_setting, shift_by, split_letter, split_to, spread_goal}
 
 -- the part, of these items
@@ -35,6 +36,8 @@ plain_rest (plain.Brace opening goal) items = opened opening goal items
 plain_rest (plain.Open opener) items = group_begun opener items
 plain_rest (plain.To n context) items = split_to n context items
 plain_rest (plain.ToLetter n context) items = split_letter n context items
+plain_rest (plain.FamilyEquals size n) items = family_setting size n items
+plain_rest (plain.FamilyFont size n) items = family_font size n items
 
 -- what follows, of these items
 abbrev pub next_rest : Next → List Item → Reading Shaped
@@ -47,6 +50,10 @@ next_rest (Wrong error) items = Wrong_reading error
 abbrev pub behind_class : ℕ → Next
 behind_class n = if n == 255 then Wrong NumberOutOfRange else Part (plain.Open (Insert n))
 
+-- what follows the number of a family, of which there are 16
+abbrev pub behind_family : MathSize → ℕ → Next
+behind_family size n = if nat_le n 15 then Part (plain.FamilyEquals size n) else Wrong NumberOutOfRange
+
 -- what follows the number of a register
 abbrev pub behind_register : Registering → ℕ → Next
 behind_register (registering.Use context) n = Whole (Box (box.Use n) context)
@@ -56,6 +63,7 @@ behind_register registering.Set n = Part (plain.Equals n)
 behind_register registering.Character n = Whole (Character n)
 behind_register registering.Insert n = behind_class n
 behind_register (registering.Split context) n = Part (plain.To n context)
+behind_register (registering.Family size) n = behind_family size n
 
 abbrev pub behind_byte : Registering → Option ℕ → Next
 behind_byte what None = Wrong NumberOutOfRange

@@ -29,7 +29,7 @@ use Rattle.tx_shape.specs.declared.words.Lost.TheVariants as lost
 use Rattle.tx_shape.specs.declared.words.Word.{Word}
 use Rattle.tx_shape.specs.declared.words.Word.TheVariants as word
 use Rattle.tx_shape.specs.AmountRests.{amount_held, amount_needed, amount_rest, begun_amount}
-use Rattle.tx_shape.specs.Boxes.{begun, opened, skipped, spread_goal}
+use Rattle.tx_shape.specs.Boxes.{begun, math_skipped, opened, skipped, spread_goal}
 use Rattle.tx_shape.specs.Settings.{font_setting, in_room, setting}
 use Rattle.tx_shape.specs.Nexts.{behind_measure, next_rest, plain_rest}
 use Rattle.tx_shape.specs.Words.{behind_group, lost_behind}
@@ -91,6 +91,7 @@ stage_rest (stage.Setting what) scan behind item more = setting what (item ∷ m
 stage_rest (stage.Font what) scan behind item more = font_setting what (item ∷ more)
 stage_rest (stage.FontRoom font n) scan behind item more = in_room font n item more
 stage_rest stage.Glue scan behind item more = next (glues.rest scan.glue behind item more) skipped
+stage_rest stage.MathGlue scan behind item more = next (glues.rest scan.glue behind item more) math_skipped
 stage_rest (stage.Word opening letters) scan behind item more = word_rest opening letters.word letters.lost behind (item ∷ more)
 
 abbrev pub rest : ShapeScan → List Item → Item → List Item → Reading Shaped
@@ -104,6 +105,7 @@ stage_held (stage.Setting what) scan = 0
 stage_held (stage.Font what) scan = 0
 stage_held (stage.FontRoom font n) scan = 0
 stage_held stage.Glue scan = glues.held scan.glue
+stage_held stage.MathGlue scan = glues.held scan.glue
 stage_held (stage.Word opening letters) scan = behind_group letters.lost
 
 abbrev pub held : ShapeScan → ℕ
@@ -117,6 +119,7 @@ stage_needed (stage.Setting what) scan = 0
 stage_needed (stage.Font what) scan = 0
 stage_needed (stage.FontRoom font n) scan = 0
 stage_needed stage.Glue scan = glues.more_needed scan.glue
+stage_needed stage.MathGlue scan = glues.more_needed scan.glue
 stage_needed (stage.Word opening letters) scan = 0
 
 abbrev pub needed : ShapeScan → ℕ
@@ -132,6 +135,7 @@ IsValued stage.Amount scan = Unit {0}
 IsValued (stage.Plain part) scan = ⊥
 IsValued (stage.Setting what) scan = ⊥
 IsValued stage.Glue scan = glues.IsSizing scan.glue.stage
+IsValued stage.MathGlue scan = glues.IsSizing scan.glue.stage
 IsValued (stage.Font what) scan = ⊥
 IsValued (stage.FontRoom font n) scan = Unit {0}
 IsValued (stage.Word opening letters) scan = ⊥

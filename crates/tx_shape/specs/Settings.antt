@@ -1,5 +1,6 @@
 -- What is set behind an optional `=` and is no part of the table (TeX: The Program, sections 1242 to 1244, 1248 and 1253).
-use Rattle.std.specs.Prelude.{ℕ, ℤ, ◌∷◌, [], List}
+use Rattle.std.specs.Prelude.{ℕ, ℤ, ◌∷◌, [], nat_le, List, if◌then◌else◌}
+use Rattle.tx_prim.specs.declared.family.MathSize.{MathSize}
 use Rattle.tx_prim.specs.declared.family.PageQuantity.{PageQuantity}
 use Rattle.tx_prim.specs.declared.family.PageQuantity.TheVariants as page
 use Rattle.tx_seen.specs.declared.error.TexError.TheVariants.{MissingNumber, NumberOutOfRange}
@@ -27,7 +28,7 @@ use Rattle.tx_shape.specs.declared.scans.SizeSetting.{SizeSetting}
 use Rattle.tx_shape.specs.declared.scans.SizeSetting.TheVariants as size
 use Rattle.tx_shape.specs.declared.scans.Sizing.TheVariants.{Set}
 use Rattle.tx_shape.specs.declared.types.Shaped.{Shaped}
-use Rattle.tx_shape.specs.declared.types.Shaped.TheVariants.{SetDepth, SetFactor, SetPrevGraf, BeginShape, SetDeadCycles, SetPage, SetFontDimen, SetFontInteger}
+use Rattle.tx_shape.specs.declared.types.Shaped.TheVariants.{SetDepth, SetFactor, SetPrevGraf, BeginShape, SetDeadCycles, SetPage, SetFontDimen, SetFontInteger, SetFamily, MathCharacter}
 
 -- the number or the size that is set
 abbrev pub amount_of : Setting → Amount
@@ -45,6 +46,7 @@ set_number number.Factor n = SetFactor n
 set_number number.PrevGraf n = SetPrevGraf n
 set_number number.ParShape n = BeginShape n
 set_number number.DeadCycles n = SetDeadCycles n
+set_number number.MathCharacter n = MathCharacter n
 set_number (number.Page quantity) n = SetPage quantity n
 set_number (number.FontInteger kind font) n = SetFontInteger kind font n
 
@@ -81,6 +83,16 @@ set_of_font (sought.Integer kind) font items = setting (Number (number.FontInteg
 
 abbrev pub font_setting : FontSought → List Item → Reading Shaped
 font_setting what items = next (font items) (λ f rest. set_of_font what f rest)
+
+-- \textfont and its kin: the number of a family, an optional `=`, and a font (section 1234)
+abbrev pub family_font : MathSize → ℕ → List Item → Reading Shaped
+family_font size n items = next (font items) (λ f rest. Done (SetFamily size n f) rest)
+
+abbrev pub family_setting : MathSize → ℕ → List Item → Reading Shaped
+family_setting size n items = next (equals items) (λ _ rest. family_font size n rest)
+
+abbrev pub family_at : MathSize → ℕ → List Item → Reading Shaped
+family_at size n rest = if nat_le n 15 then family_setting size n rest else Wrong NumberOutOfRange
 
 -- the number of the parameter stands before the font
 abbrev pub dimen_setting : List Item → Reading Shaped

@@ -9,15 +9,15 @@ use Rattle.tx_shape.specs.declared.scans.NumberSetting.TheVariants as number
 use Rattle.tx_shape.specs.declared.scans.Opening.TheVariants as opening
 use Rattle.tx_shape.specs.declared.scans.Setting.TheVariants.{Size, Number}
 use Rattle.tx_shape.specs.declared.scans.SizeSetting.TheVariants as size
-use Rattle.tx_shape.specs.declared.types.BoxContext.TheVariants.{Adjust, Append, Ship}
+use Rattle.tx_shape.specs.declared.types.BoxContext.TheVariants.{Adjust, Append, Center, Ship}
 use Rattle.tx_shape.specs.declared.types.Opener.TheVariants.{Insert}
 use Rattle.tx_shape.specs.declared.types.BoxGoal.TheVariants.{Natural}
 use Rattle.tx_shape.specs.declared.types.Shaped.{Shaped}
 use Rattle.tx_shape.specs.declared.types.Shaped.TheVariants.{Character}
 use Rattle.tx_shape.specs.declared.types.Shaping.{Shaping}
 use Rattle.tx_shape.specs.declared.types.Shaping.TheVariants as shaping
-use Rattle.tx_shape.specs.Boxes.{box_begin, box_from, by_register, group_begun, needed_box, opened, penalizing, setting as box_setting, shifting, skipping, unboxing}
-use Rattle.tx_shape.specs.Settings.{dimen_setting, font_setting, page_setting, setting}
+use Rattle.tx_shape.specs.Boxes.{box_begin, box_from, by_register, group_begun, math_skipping, needed_box, opened, penalizing, setting as box_setting, shifting, skipping, unboxing}
+use Rattle.tx_shape.specs.Settings.{dimen_setting, family_at, font_setting, page_setting, set, setting}
 
 -- \char: the code of a character (section 1124)
 abbrev pub character : List Item → Reading Shaped
@@ -54,6 +54,9 @@ shape shaping.Factor items = setting (Number number.Factor) items
 shape shaping.PrevGraf items = setting (Number number.PrevGraf) items
 shape shaping.ParShape items = setting (Number number.ParShape) items
 shape shaping.Adjust items = adjusting items
+shape shaping.MathCharacter items = set (Number number.MathCharacter) items
+shape shaping.Center items = box_begin (opening.Box Vertical Center) items
+shape shaping.MathGlue items = math_skipping items
 shape shaping.Insert items = inserting items
 shape shaping.Align items = aligning items
 shape shaping.DeadCycles items = setting (Number number.DeadCycles) items
@@ -61,3 +64,4 @@ shape (shaping.Page quantity) items = setting (page_setting quantity) items
 shape (shaping.Open opener) items = group_begun opener items
 shape shaping.FontDimen items = dimen_setting items
 shape (shaping.FontInteger kind) items = font_setting (sought.Integer kind) items
+shape (shaping.Family size) items = by_register (family_at size) items

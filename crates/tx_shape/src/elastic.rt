@@ -43,7 +43,27 @@ pub(crate) fn skipped(fed: Fed<Glue>) -> Fed<Shaped>
     }
 }
 
+/// Glue in mu that was read.
+pub(crate) fn math_skipped(fed: Fed<Glue>) -> Fed<Shaped>
+    ensures { result ≡ mapped Shaped.MathSkip fed }
+{
+    match fed {
+        Fed::More(want) => Fed::More(want),
+        Fed::Need(kind) => Fed::Need(kind),
+        Fed::Done(glue, back) => Fed::Done(Shaped::MathSkip(glue), back),
+        Fed::Wrong(error) => Fed::Wrong(error),
+    }
+}
+
 impl ShapeScan {
+    /// \mskip.
+    pub(crate) fn begin_math_glue(&mut self) -> Fed<Shaped>
+        ensures { Begins boxes.math_skipping self.new result }
+    {
+        self.glue.restart(true);
+        self.on(Stage::MathGlue)
+    }
+
     /// \hskip, \vskip or their kin.
     pub(crate) fn begin_glue(&mut self, form: GlueForm) -> Fed<Shaped>
         ensures { Begins (λ more. boxes.skipping form more) self.new result }

@@ -9,7 +9,7 @@ ghost use Rattle.tx_shape.specs.Nexts as spec;
 
 use crate::scans::{Next, NumberSetting, Plain, Registering, SizeSetting, Sizing};
 use crate::types::{BoxContext, BoxGoal, BoxRead, Opener, Shaped};
-use tx_prim::ShiftKind;
+use tx_prim::{MathSize, ShiftKind};
 use tx_scan::{FontSought, Measure, byte, parameter};
 use tx_seen::{Fed, TexError};
 
@@ -21,6 +21,16 @@ fn behind_class(class: u8) -> Next
         return Next::Wrong(TexError::NumberOutOfRange);
     }
     Next::Part(Plain::Open(Opener::Insert(class)))
+}
+
+/// What follows the number of a family.
+fn behind_family(size: MathSize, family: u8) -> Next
+    ensures { result ≡ spec.behind_family size family }
+{
+    if family <= 15 {
+        return Next::Part(Plain::FamilyEquals(size, family));
+    }
+    Next::Wrong(TexError::NumberOutOfRange)
 }
 
 /// What follows the number of a register.
@@ -35,6 +45,7 @@ fn behind_register(registering: Registering, register: u8) -> Next
         Registering::Character => Next::Whole(Shaped::Character(register)),
         Registering::Insert => behind_class(register),
         Registering::Split(context) => Next::Part(Plain::To(register, context)),
+        Registering::Family(size) => behind_family(size, register),
     }
 }
 
@@ -105,6 +116,7 @@ fn behind_set(setting: NumberSetting, number: i32) -> Next
         NumberSetting::PrevGraf => Next::Whole(Shaped::SetPrevGraf(number)),
         NumberSetting::ParShape => Next::Whole(Shaped::BeginShape(number)),
         NumberSetting::DeadCycles => Next::Whole(Shaped::SetDeadCycles(number)),
+        NumberSetting::MathCharacter => Next::Whole(Shaped::MathCharacter(number)),
         NumberSetting::Page(quantity) => Next::Whole(Shaped::SetPage(quantity, number)),
         NumberSetting::FontInteger(kind, font) => {
             Next::Whole(Shaped::SetFontInteger(kind, font, number))

@@ -2,7 +2,7 @@
 
 use crate::letters::Letters;
 use crate::types::{BoxContext, BoxGoal, Opener, Shaped};
-use tx_prim::{BoxKind, FontNumber, PageQuantity, ShiftKind, UnboxKind};
+use tx_prim::{BoxKind, FontNumber, MathSize, PageQuantity, ShiftKind, UnboxKind};
 use tx_scan::{DimenScan, FontSought, GlueScan, IntScan};
 use tx_seen::{FontName, TexError};
 
@@ -31,6 +31,8 @@ pub enum Registering {
     Insert,
     /// \vsplit.
     Split(BoxContext),
+    /// \textfont and its kin: a family, and no register; there are 16.
+    Family(MathSize),
 }
 
 /// A size that is set behind an optional `=`.
@@ -55,6 +57,8 @@ pub enum NumberSetting {
     ParShape,
     /// \deadcycles.
     DeadCycles,
+    /// \mathchar, which has no `=`.
+    MathCharacter,
     /// A number of the page.
     Page(PageQuantity),
     /// \hyphenchar or \skewchar of a font.
@@ -114,6 +118,10 @@ pub enum Plain {
     To(u8, BoxContext),
     /// Its second letter.
     ToLetter(u8, BoxContext),
+    /// An optional `=`, with spaces before it, and the font of this family.
+    FamilyEquals(MathSize, u8),
+    /// That font, with spaces before it.
+    FamilyFont(MathSize, u8),
 }
 
 /// What follows a number or a size.
@@ -143,6 +151,8 @@ pub enum Stage {
     FontRoom(FontName, u16),
     /// Glue.
     Glue,
+    /// Glue in mu.
+    MathGlue,
     /// The letters of `to` or `spread` behind these.
     Word(Opening, Letters),
 }

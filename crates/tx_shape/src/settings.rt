@@ -6,10 +6,10 @@ ghost use Rattle.tx_scan.specs.Rests.{IsRead};
 ghost use Rattle.tx_scan.specs.Supplied.{NeedsNoMore};
 ghost use Rattle.tx_shape.specs.Rests.{held, needed, rest, Begins, BeginsSetting, WaitsIfNeeded};
 
-use crate::scans::{Amount, NumberSetting, Setting, ShapeScan, SizeSetting, Sizing, Stage};
+use crate::scans::{Amount, NumberSetting, Plain, Setting, ShapeScan, SizeSetting, Sizing, Stage};
 use crate::types::Shaped;
 use std::alloc::AllocError;
-use tx_prim::PageQuantity;
+use tx_prim::{MathSize, PageQuantity};
 use tx_scan::{EqualsScan, FontScan, FontSought};
 use tx_seen::{Fed, FontName, Kind, Place, Seen, TexError, Value};
 
@@ -82,6 +82,42 @@ impl ShapeScan {
             }
             Fed::Need(kind) => Fed::Need(kind),
             Fed::Done(font, _) => self.to_setting(sought, font),
+            Fed::Wrong(error) => Fed::Wrong(error),
+        }
+    }
+
+    /// An optional `=` before the font of a family, or the first token behind it.
+    pub(crate) fn feed_family(&mut self, size: MathSize, family: u8, token: &Seen) -> Fed<Shaped>
+        ensures { Begins (λ more. settings.family_setting size family (Took token.now ∷ more)) self.new result }
+    {
+        match EqualsScan::new().feed(token) {
+            Fed::More(want) => {
+                self.stage = Stage::Plain(Plain::FamilyEquals(size, family));
+                Fed::More(want)
+            }
+            Fed::Need(kind) => Fed::Need(kind),
+            Fed::Done(_, 0) => self.on(Stage::Plain(Plain::FamilyFont(size, family))),
+            Fed::Done(_, _) => self.feed_family_font(size, family, token),
+            Fed::Wrong(error) => Fed::Wrong(error),
+        }
+    }
+
+    /// A space before the font of a family, or the font.
+    pub(crate) fn feed_family_font(
+        &mut self,
+        size: MathSize,
+        family: u8,
+        token: &Seen,
+    ) -> Fed<Shaped>
+        ensures { Begins (λ more. settings.family_font size family (Took token.now ∷ more)) self.new result }
+    {
+        match FontScan::new().feed(token) {
+            Fed::More(want) => {
+                self.stage = Stage::Plain(Plain::FamilyFont(size, family));
+                Fed::More(want)
+            }
+            Fed::Need(kind) => Fed::Need(kind),
+            Fed::Done(font, back) => Fed::Done(Shaped::SetFamily(size, family, font), back),
             Fed::Wrong(error) => Fed::Wrong(error),
         }
     }

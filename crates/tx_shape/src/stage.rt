@@ -12,7 +12,7 @@ ghost use Rattle.tx_shape.specs.Shapes.{shape};
 ghost use Rattle.tx_shape.specs.Nexts.{next_rest, plain_rest};
 ghost use Rattle.tx_shape.specs.Rests.{Begins, IsWaiting, WaitsIfNeeded, begun_at, held, needed, rest};
 
-use crate::elastic::skipped;
+use crate::elastic::{math_skipped, skipped};
 use crate::scans::{
     Amount, AmountScan, Next, NumberSetting, Opening, Plain, Registering, Setting, ShapeScan,
     SizeSetting, Sizing, Stage,
@@ -66,6 +66,12 @@ impl ShapeScan {
                 let opening = Opening::Box(BoxKind::Vertical, BoxContext::Adjust);
                 self.on(Stage::Plain(Plain::Brace(opening, BoxGoal::Natural)))
             }
+            Shaping::MathCharacter => self.to_amount(Amount::Number(NumberSetting::MathCharacter)),
+            Shaping::Center => {
+                let opening = Opening::Box(BoxKind::Vertical, BoxContext::Center);
+                self.on(Stage::Plain(Plain::Goal(opening)))
+            }
+            Shaping::MathGlue => self.begin_math_glue(),
             Shaping::Insert => self.to_amount(Amount::Register(Registering::Insert)),
             Shaping::Align => self.on(Stage::Plain(Plain::Goal(Opening::Align))),
             Shaping::DeadCycles => {
@@ -75,6 +81,7 @@ impl ShapeScan {
             Shaping::Open(opener) => self.on(Stage::Plain(Plain::Open(opener))),
             Shaping::FontDimen => self.to_amount(Amount::FontDimen),
             Shaping::FontInteger(kind) => self.on(Stage::Font(FontSought::Integer(kind))),
+            Shaping::Family(size) => self.to_amount(Amount::Register(Registering::Family(size))),
         }
     }
 
@@ -91,6 +98,7 @@ impl ShapeScan {
             Stage::Font(sought) => Ok(self.feed_font(sought, token)),
             Stage::FontRoom(_, _) => Ok(Fed::Wrong(TexError::MissingNumber)),
             Stage::Glue => Ok(skipped(self.glue.feed(token)?)),
+            Stage::MathGlue => Ok(math_skipped(self.glue.feed(token)?)),
             Stage::Word(opening, letters) => Ok(self.feed_word(opening, letters, token)),
         }
     }
@@ -109,6 +117,7 @@ impl ShapeScan {
                 Ok(self.go_on(fed, behind))
             }
             Stage::Glue => Ok(skipped(self.glue.give(value, behind)?)),
+            Stage::MathGlue => Ok(math_skipped(self.glue.give(value, behind)?)),
             Stage::Plain(_) | Stage::Setting(_) | Stage::Font(_) => unreachable!(),
             Stage::Word(_, _) => unreachable!(),
         }
@@ -183,6 +192,8 @@ impl ShapeScan {
             Plain::Open(opener) => self.feed_open(opener, token),
             Plain::To(register, context) => self.feed_to(register, context, token),
             Plain::ToLetter(register, context) => self.feed_to_letter(register, context, token),
+            Plain::FamilyEquals(size, family) => self.feed_family(size, family, token),
+            Plain::FamilyFont(size, family) => self.feed_family_font(size, family, token),
         }
     }
 }

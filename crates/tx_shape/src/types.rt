@@ -2,7 +2,8 @@
 use tx_bytes::Bytes;
 use tx_num::Glue;
 use tx_prim::{
-    BoxKind, BoxSource, BreakText, FontNumber, GlueForm, PageQuantity, ShiftKind, UnboxKind,
+    BoxKind, BoxSource, BreakText, FontNumber, GlueForm, MathSize, MathStyle, PageQuantity,
+    ShiftKind, UnboxKind,
 };
 use tx_seen::{FontName, Place};
 
@@ -18,6 +19,8 @@ pub enum BoxContext {
     Ship,
     /// Its list is that of a \vadjust.
     Adjust,
+    /// It is the nucleus of an atom, centred as \vcenter does it.
+    Center,
 }
 
 /// What the list of a box is packed to: its natural size, so many sp, or so many more than that (The TeXbook, chapter 12).
@@ -33,6 +36,8 @@ pub enum BoxGoal {
 pub enum Opener {
     /// This text of \discretionary.
     Break(BreakText),
+    /// The list of \mathchoice for this style.
+    Choice(MathStyle),
     /// The list of an \insert of this class.
     Insert(u8),
     /// The tokens of \output.
@@ -86,6 +91,12 @@ pub enum Shaping {
     ParShape,
     /// \vadjust.
     Adjust,
+    /// \mathchar.
+    MathCharacter,
+    /// \vcenter.
+    Center,
+    /// \mskip.
+    MathGlue,
     /// \insert.
     Insert,
     /// \halign.
@@ -100,6 +111,8 @@ pub enum Shaping {
     FontDimen,
     /// \hyphenchar and \skewchar.
     FontInteger(FontNumber),
+    /// \textfont and its kin.
+    Family(MathSize),
 }
 
 /// What such a command is once it is whole.
@@ -117,6 +130,10 @@ pub enum Shaped {
     Skip(Glue),
     /// A character to be set.
     Character(u8),
+    /// A character of a formula, by its number.
+    MathCharacter(i32),
+    /// Glue in mu.
+    MathSkip(Glue),
     /// \spacefactor is to be this number.
     SetFactor(i32),
     /// \prevgraf is to be this number.
@@ -135,6 +152,8 @@ pub enum Shaped {
     SetFontDimen(FontName, u16, i32),
     /// \hyphenchar or \skewchar of a font is to be this number.
     SetFontInteger(FontNumber, FontName, i32),
+    /// The font of a family at a size is to be this one.
+    SetFamily(MathSize, u8, FontName),
 }
 
 /// The size at which \font asks for a font, in little room: commands are moved with each token.
