@@ -5,6 +5,8 @@ use Rattle.tx_eqtb.specs.declared.groups.GroupKind.TheVariants.{Discretionary}
 use Rattle.tx_eqtb.specs.Stack.{opened}
 use Rattle.tx_nest.specs.declared.list.ModeList.{ModeList}
 use Rattle.tx_nest.specs.declared.nest.Nest.{Nest}
+use Rattle.tx_nest.specs.declared.state.ModeState.{ModeState}
+use Rattle.tx_nest.specs.declared.state.ModeState.TheVariants.{Math, DisplayMath}
 use Rattle.tx_nest.specs.Changed.{with_items, with_nodes}
 use Rattle.tx_nest.specs.Grafs.{list_within}
 use Rattle.tx_nest.specs.Lasts.{last_of, shortened}
@@ -21,7 +23,7 @@ use Rattle.tx_prim.specs.declared.family.BreakText.{BreakText}
 use Rattle.tx_prim.specs.declared.family.BreakText.TheVariants.{Before, Behind, Instead}
 use Rattle.tx_prim.specs.declared.modes.Mode.TheVariants.{RestrictedHorizontal}
 use Rattle.tx_seen.specs.declared.error.TexError.{TexError}
-use Rattle.tx_seen.specs.declared.error.TexError.TheVariants.{ExtraGroupEnd, MissingBox, TooManyGroups}
+use Rattle.tx_seen.specs.declared.error.TexError.TheVariants.{BadFormula, ExtraGroupEnd, MissingBox, TooManyGroups}
 use Rattle.tx_box.specs.declared.parts.Lists.{Lists}
 use Rattle.tx_box.specs.Building.{left_list}
 use Rattle.tx_box.specs.Effects.{Effect, leaves}
@@ -84,8 +86,15 @@ fits Before list = true
 fits Behind list = true
 fits Instead list = nat_lt (length list) 256
 
-abbrev pub is_text : BreakText → List Item → Bool
-is_text text list = fits text list && are_of_text list
+-- in a formula nothing may stand there (section 1120)
+abbrev pub is_filled : List Item → Bool
+is_filled [] = false
+is_filled (item ∷ rest) = true
+
+abbrev pub is_illegal : BreakText → ModeState → List Item → Bool
+is_illegal Instead Math list = is_filled list
+is_illegal Instead DisplayMath list = is_filled list
+is_illegal text around list = false
 
 -- a discretionary with one text more; what stands where no line ends stands behind it, and it counts that
 abbrev pub with_text : BreakText → BreakHead → Items → Items → List Item → Item
@@ -123,7 +132,10 @@ or_extra None = Err ExtraGroupEnd
 or_extra (Some list) = Ok list
 
 abbrev pub used : BreakText → List Item → ModeList → Result ModeList TexError
-used text items list = if is_text text items then or_extra (texted text items list) else Err MissingBox
+used text items list =
+    if are_of_text items
+    then (if is_illegal text list.state items then Err BadFormula else if fits text items then or_extra (texted text items list) else Err MissingBox)
+    else Err MissingBox
 
 abbrev pub told_of : Option TexError → ModeList → Result ModeList TexError
 told_of None list = Ok list

@@ -36,7 +36,7 @@ use Rattle.tx_seen.specs.declared.error.TexError.{TexError}
 use Rattle.tx_seen.specs.declared.error.TexError.TheVariants.{ExtraGroupEnd, SizeOutOfRange, TooDeep, TooManyGroups}
 use Rattle.tx_seen.specs.declared.place.Place.TheVariants.{Dimension, Integer, ParShape}
 use Rattle.tx_shape.specs.declared.types.BoxContext.{BoxContext}
-use Rattle.tx_shape.specs.declared.types.BoxContext.TheVariants.{Adjust, Append, Register, Ship}
+use Rattle.tx_shape.specs.declared.types.BoxContext.TheVariants.{Adjust, Append, Center, Register, Ship}
 use Rattle.tx_shape.specs.declared.types.BoxGoal.{BoxGoal}
 use Rattle.tx_shape.specs.declared.types.BoxGoal.TheVariants.{Natural, Spread, To}
 use Rattle.tx_box.specs.declared.parts.Lists.{Lists}
@@ -202,12 +202,13 @@ followed [] ended = ended
 followed (item ∷ rest) (Err error) = Err error
 followed (item ∷ rest) (Ok ended) = Ok (record ended { left = record ended.left { lists = appended ended.left.lists (item ∷ rest) } })
 
--- the list of a \vadjust may be as deep as a dimension is (section 1100)
+-- the lists of a \vadjust and of \vcenter may be as deep as a dimension is (sections 1100 and 1168)
 abbrev pub most_in : BoxContext → ℤ → ℤ
 most_in (Append shift) most = most
 most_in (Register n) most = most
 most_in Ship most = most
 most_in Adjust most = pos 1073741823
+most_in Center most = pos 1073741823
 
 -- of what stands in the box it is made
 abbrev pub boxing_line : OpenBox → ℤ → Lists → Eqtb → Line → Result Ended TexError

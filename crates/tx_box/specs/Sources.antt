@@ -14,7 +14,8 @@ use Rattle.tx_prim.specs.declared.family.UnboxKind.{UnboxKind}
 use Rattle.tx_prim.specs.declared.family.UnboxKind.TheVariants as unbox
 use Rattle.tx_prim.specs.declared.modes.Mode.{Mode}
 use Rattle.tx_prim.specs.declared.modes.Mode.TheVariants as mode
-use Rattle.tx_seen.specs.declared.error.TexError.TheVariants.{MissingBox}
+use Rattle.tx_seen.specs.declared.error.TexError.{TexError}
+use Rattle.tx_seen.specs.declared.error.TexError.TheVariants.{MissingBox, NotAllowed}
 use Rattle.tx_seen.specs.declared.place.Place.TheVariants.{Box}
 use Rattle.tx_box.specs.declared.parts.Lists.{Lists}
 use Rattle.tx_box.specs.declared.parts.Target.{Target}
@@ -76,6 +77,15 @@ takes_from mode.RestrictedHorizontal wanted found = is_same wanted found
 takes_from mode.Math wanted found = false
 takes_from mode.DisplayMath wanted found = false
 
+-- a formula takes no list, whichever it is (section 1110)
+abbrev pub refusal : Mode → TexError
+refusal mode.Vertical = MissingBox
+refusal mode.InternalVertical = MissingBox
+refusal mode.Horizontal = MissingBox
+refusal mode.RestrictedHorizontal = MissingBox
+refusal mode.Math = NotAllowed
+refusal mode.DisplayMath = NotAllowed
+
 -- what was in the box stands at the end of the list, without leading, and \prevdepth and the space factor stay (section 1110); a
 -- copy is due work
 abbrev pub appended : Lists → List Item → Lists
@@ -90,7 +100,7 @@ unboxing_found kind n lists table None = leaves lists table
 unboxing_found kind n lists table (Some b) =
     if takes_from (mode_of lists.nest.innermost.state) (direction_of kind) b.head.direction
     then unboxed kind n lists table b.list
-    else Err MissingBox
+    else Err (refusal (mode_of lists.nest.innermost.state))
 
 abbrev pub unboxing : UnboxKind → ℕ → Lists → Eqtb → Effect
 unboxing kind n lists table = unboxing_found kind n lists table (box_at table.table (Box n))

@@ -11,7 +11,7 @@ use crate::building::leave_list;
 use crate::parts::{Done, Lists};
 use std::alloc::{AllocError, Global};
 use tx_eqtb::{Eqtb, GroupKind, OpenError};
-use tx_nest::{ModeList, append_item, append_items};
+use tx_nest::{ModeList, ModeState, append_item, append_items};
 use tx_node::{Discretionary, KernKind, Node, Nodes, Plain, Shared};
 use tx_prim::{BreakText, Mode};
 use tx_seen::TexError;
@@ -81,6 +81,16 @@ fn fits(text: BreakText, list: &Nodes) -> bool
     match text {
         BreakText::Before | BreakText::Behind => true,
         BreakText::Instead => list.len() <= MOST_ITEMS,
+    }
+}
+
+/// Whether a text stands where no line ends and the list around is a formula's: that has no such text.
+fn is_illegal(text: BreakText, around: ModeState, list: &Nodes) -> bool
+    ensures { result ≡ spec.is_illegal text around list.now }
+{
+    match (text, around) {
+        (BreakText::Instead, ModeState::Math | ModeState::DisplayMath) => list.len() > 0,
+        (_, _) => false,
     }
 }
 
@@ -241,7 +251,13 @@ fn use_text(
 ) -> Result<Option<TexError>, AllocError>
     ensures { IfOk result (λ error. spec.used text items list.old ≡ spec.told_of error list.new) }
 {
-    if !fits(text, &items) || !are_of_text(items.as_slice()) {
+    if !are_of_text(items.as_slice()) {
+        return Ok(Some(TexError::MissingBox));
+    }
+    if is_illegal(text, list.state, &items) {
+        return Ok(Some(TexError::BadFormula));
+    }
+    if !fits(text, &items) {
         return Ok(Some(TexError::MissingBox));
     }
     if put_text(alloc, list, text, items)? {
@@ -252,7 +268,7 @@ fn use_text(
 }
 
 /// A text of \discretionary ends, whose group has ended: it is put into the discretionary with which the list around ends. The answer
-/// is what is wrong: `MissingBox` where something else stands in it than characters, ligatures, kerns, boxes and rules, or where it has
+/// is what is wrong: `BadFormula` where one that stands where no line ends isn't empty in a formula; `MissingBox` where something else stands in it than characters, ligatures, kerns, boxes and rules, or where it has
 /// more than 255 items and is to stand where no line ends; `ExtraGroupEnd` where no list waits around, or it ends with no
 /// discretionary, which no command makes.
 pub fn end_break(

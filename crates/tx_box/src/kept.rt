@@ -2,9 +2,10 @@
 ghost use Rattle.std.specs.Prelude.{◌≡◌, ◌↔◌, IsTrue, IfOk};
 ghost use Rattle.tx_box.specs.Beginnings.{first_lists};
 
-use crate::parts::{Lists, OpenBox, Target, Work};
+use crate::parts::{Lists, OpenBox, OpenFormula, Target, Work};
 use std::alloc::{AllocError, Global};
 use tx_list::{Kept, Stack, both};
+use tx_mlist::Above;
 use tx_nest::Nest;
 use tx_node::same_box;
 use tx_output::Pages;
@@ -44,6 +45,40 @@ impl Kept for OpenBox {
     }
 }
 
+/// Whether the same stands above two lines, or neither has come.
+fn same_above(one: &Option<Above>, other: &Option<Above>) -> bool
+    ensures { IsTrue result ↔ (one.now ≡ other.now) }
+{
+    match (one, other) {
+        (None, None) => true,
+        (Some(one), Some(other)) => one.same(other),
+        (None, Some(_)) | (Some(_), None) => false,
+    }
+}
+
+/// What stands above a line, which shares its noads. Its only error is want of memory.
+fn share_above(above: &Option<Above>) -> Result<Option<Above>, AllocError>
+    ensures { IfOk result (λ twin. twin ≡ above.now) }
+{
+    match above {
+        None => Ok(None),
+        Some(above) => Ok(Some(above.clone()?)),
+    }
+}
+
+impl Kept for OpenFormula {
+    fn share(&self) -> Result<Self, AllocError> {
+        Ok(OpenFormula {
+            noads: self.noads.clone()?,
+            above: share_above(&self.above)?,
+        })
+    }
+
+    fn same(&self, other: &Self) -> bool {
+        self.noads.same(&other.noads) && same_above(&self.above, &other.above)
+    }
+}
+
 impl Kept for Work {
     fn share(&self) -> Result<Self, AllocError> {
         match self {
@@ -70,7 +105,7 @@ impl Kept for Work {
 }
 
 impl Lists {
-    /// The pages' list alone, empty, and no box; takes no memory.
+    /// The pages' list alone, empty, no box and no formula; takes no memory.
     pub fn new(alloc: Global) -> Lists
         ensures { result ≡ first_lists }
     {
@@ -78,6 +113,7 @@ impl Lists {
             nest: Nest::new(alloc),
             badness: 0,
             boxes: Stack::new(alloc),
+            formulas: Stack::new(alloc),
             pages: Pages::new(alloc),
         }
     }
@@ -88,6 +124,7 @@ impl Lists {
     {
         self.badness == other.badness
             && self.boxes.same(&other.boxes)
+            && self.formulas.same(&other.formulas)
             && self.pages.same(&other.pages)
             && self.nest.same(&other.nest)
     }
@@ -97,14 +134,15 @@ impl Lists {
         ensures { IfOk result (λ twin. twin ≡ self.now) }
     {
         let parts = both(
-            self.nest.share(),
+            both(self.nest.share(), self.formulas.share()),
             both(self.boxes.share(), self.pages.share()),
         );
-        let (nest, (boxes, pages)) = parts?;
+        let ((nest, formulas), (boxes, pages)) = parts?;
         Ok(Lists {
             nest,
             badness: self.badness,
             boxes,
+            formulas,
             pages,
         })
     }

@@ -80,6 +80,6 @@ pub(crate) fn most_in(context: BoxContext, most: i64) -> i64
 {
     match context {
         BoxContext::Append(_) | BoxContext::Register(_) | BoxContext::Ship => most,
-        BoxContext::Adjust => GREATEST_SIZE,
+        BoxContext::Adjust | BoxContext::Center => GREATEST_SIZE,
     }
 }

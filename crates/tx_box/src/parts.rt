@@ -1,5 +1,6 @@
 //! The lists that are being built with the boxes that they are to become, and what a command of boxes answers.
 use tx_list::Stack;
+use tx_mlist::{Above, Mlist};
 use tx_nest::Nest;
 use tx_node::{BoxNode, Nodes};
 use tx_output::Pages;
@@ -24,6 +25,15 @@ pub struct OpenBox {
     pub target: Target,
 }
 
+/// A formula that is being built (TeX: The Program, section 212). The nodes behind the last of its noads stand in its list.
+#[derive(Drop)]
+pub struct OpenFormula {
+    /// Its noads up to there.
+    pub noads: Mlist,
+    /// What stands above the line of a fraction, once that has come.
+    pub above: Option<Above>,
+}
+
 /// The lists that are being built.
 #[derive(Drop)]
 pub struct Lists {
@@ -33,6 +43,8 @@ pub struct Lists {
     pub badness: i64,
     /// The boxes whose lists are being built, the innermost first.
     pub boxes: Stack<OpenBox>,
+    /// The formulas that are being built, the innermost first: one for each list in a mode of formulas.
+    pub formulas: Stack<OpenFormula>,
     /// What is kept of pages.
     pub pages: Pages,
 }

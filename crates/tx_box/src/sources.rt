@@ -120,6 +120,17 @@ fn takes_from(mode: Mode, wanted: Direction, found: Direction) -> bool
     }
 }
 
+/// Why a list of this mode doesn't take what is in a box.
+fn refusal(mode: Mode) -> TexError
+    ensures { result ≡ spec.refusal mode }
+{
+    match mode {
+        Mode::Vertical | Mode::InternalVertical => TexError::MissingBox,
+        Mode::Horizontal | Mode::RestrictedHorizontal => TexError::MissingBox,
+        Mode::Math | Mode::DisplayMath => TexError::NotAllowed,
+    }
+}
+
 /// What is in a box stands at the end of the list, or a copy of it is due.
 fn unbox_found(
     lists: &mut Lists,
@@ -139,7 +150,7 @@ fn unbox_found(
 }
 
 /// \unhbox and its kin: what is in the box of a register stands at the end of the list that is being built, if that goes the same
-/// way; else `MissingBox`. Nothing is done where the register is void.
+/// way; else `MissingBox`, or `NotAllowed` in a formula. Nothing is done where the register is void.
 pub fn unbox(
     lists: &mut Lists,
     table: &mut Eqtb,
@@ -156,7 +167,7 @@ pub fn unbox(
         direction_of(kind),
         found.direction(),
     ) {
-        return Ok(Done::Wrong(TexError::MissingBox));
+        return Ok(Done::Wrong(refusal(lists.nest.innermost().mode())));
     }
     unbox_found(lists, table, kind, number, found)
 }

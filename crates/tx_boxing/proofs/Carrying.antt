@@ -19,7 +19,7 @@ use Rattle.tx_prim.specs.declared.tokens.TokenParameter.{TokenParameter}
 use Rattle.tx_seen.specs.declared.error.TexError.{TexError}
 use Rattle.tx_seen.specs.declared.place.Place.TheVariants.{Tokens}
 use Rattle.tx_shape.specs.declared.types.BoxContext.{BoxContext}
-use Rattle.tx_shape.specs.declared.types.BoxContext.TheVariants.{Adjust, Append, Register, Ship}
+use Rattle.tx_shape.specs.declared.types.BoxContext.TheVariants.{Adjust, Append, Center, Register, Ship}
 use Rattle.tx_state.specs.declared.state.State.{State}
 use Rattle.tx_boxing.specs.Boxes.{boxed, carried, packing_box, settled, target_of, telling, with_every, with_every_in}
 use Rattle.tx_state.specs.Groups.{closing}
@@ -70,12 +70,14 @@ settled-lists (Append shift) s = refl
 settled-lists (Register n) s = after-lists _ s.after_assignment
 settled-lists Ship s = refl
 settled-lists Adjust s = refl
+settled-lists Center s = refl
 
 settled-table : (context : BoxContext) (s : TexState) → (settled context s).table ≡ s.table
 settled-table (Append shift) s = refl
 settled-table (Register n) s = after-table _ s.after_assignment
 settled-table Ship s = refl
 settled-table Adjust s = refl
+settled-table Center s = refl
 
 -- what is read first in a box changes neither the lists nor the table
 pub every-lists : (context : BoxContext) (box : BoxKind) (s : TexState) → (with_every_in context box s).lists ≡ s.lists
@@ -83,12 +85,14 @@ every-lists (Append shift) box s = refl
 every-lists (Register n) box s = refl
 every-lists Ship box s = refl
 every-lists Adjust box s = refl
+every-lists Center box s = refl
 
 pub every-table : (context : BoxContext) (box : BoxKind) (s : TexState) → (with_every_in context box s).table ≡ s.table
 every-table (Append shift) box s = refl
 every-table (Register n) box s = refl
 every-table Ship box s = refl
 every-table Adjust box s = refl
+every-table Center box s = refl
 
 -- a box that is to go somewhere: `of` is what comes of it by where it goes, the lists and the table
 pub settles : {E : Type 0} (of : Target → Lists → Eqtb → Effect) (context : BoxContext) (base : TexState) (before between new : State) (target : Target) (lists : Lists) (table : Eqtb) (done : Done) (answer : Result Event E) → base.lists ≡ before.lists → base.table ≡ before.table → target ≡ target_of (state_of before) context → state_of between ≡ settled context base → between.said ≡ before.said → of target between.lists between.table ≡ told done lists table → IfOk answer (λ event. IsStepped (carried (state_of (with_parts between lists table)) (told done lists table)) (with_parts between lists table) event new) → IfOk answer (λ event. IsStepped (carried (settled context base) (of (target_of (state_of before) context) before.lists before.table)) before event new)
@@ -154,6 +158,7 @@ telling-in lines (Append shift) o = telling-built lines o
 telling-in lines (Register n) o = refl
 telling-in lines Ship o = refl
 telling-in lines Adjust o = refl
+telling-in lines Center o = refl
 
 -- lines before that of a box are told with it
 lines-told : (s : State) (said report : List ℕ) (done : Done) → telling said (boxed (state_of s) (reported report (told done s.lists s.table))) ≡ boxed (state_of s) (reported (said ++ report) (told done s.lists s.table))

@@ -20,7 +20,7 @@ use Rattle.tx_seen.specs.declared.place.Place.TheVariants.{Box, Tokens}
 use Rattle.tx_assign.specs.Changes.{is_global as globally}
 use Rattle.tx_shape.specs.declared.types.BoxGoal.{BoxGoal}
 use Rattle.tx_shape.specs.declared.types.BoxContext.{BoxContext}
-use Rattle.tx_shape.specs.declared.types.BoxContext.TheVariants.{Adjust, Append, Register, Ship}
+use Rattle.tx_shape.specs.declared.types.BoxContext.TheVariants.{Adjust, Append, Center, Register, Ship}
 use Rattle.tx_command.specs.Commands.{prefixes_of}
 use Rattle.tx_box.specs.declared.parts.Target.{Target}
 use Rattle.tx_box.specs.declared.parts.Work.{Work}
@@ -97,6 +97,7 @@ settled (Append shift) s = s
 settled (Register n) s = assigned s
 settled Ship s = s
 settled Adjust s = s
+settled Center s = s
 
 -- what \everyhbox or \everyvbox has is read in a box, behind what \afterassignment keeps for \setbox (section 1083)
 abbrev pub with_every : BoxKind → TexState → TexState
@@ -108,6 +109,7 @@ with_every_in (Append shift) box s = with_every box s
 with_every_in (Register n) box s = with_every box s
 with_every_in Ship box s = with_every box s
 with_every_in Adjust box s = s
+with_every_in Center box s = with_every box s
 
 -- what is to become of the innermost open box
 abbrev pub context_of : List OpenBox → BoxContext

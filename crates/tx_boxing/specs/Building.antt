@@ -12,7 +12,7 @@ use Rattle.tx_prim.specs.declared.modes.Mode.{Mode}
 use Rattle.tx_prim.specs.declared.modes.Mode.TheVariants as mode
 use Rattle.tx_seen.specs.declared.error.TexError.{TexError}
 use Rattle.tx_shape.specs.declared.types.BoxContext.{BoxContext}
-use Rattle.tx_shape.specs.declared.types.BoxContext.TheVariants.{Adjust, Append, Register, Ship}
+use Rattle.tx_shape.specs.declared.types.BoxContext.TheVariants.{Adjust, Append, Center, Register, Ship}
 use Rattle.tx_shape.specs.declared.types.Opener.TheVariants.{Output}
 use Rattle.tx_state.specs.declared.parts.Due.TheVariants.{Boxes}
 use Rattle.tx_state.specs.Outcomes.{Outcome, Asks, Leaves, Ships, Fails, FailsTelling, Ends}
@@ -60,6 +60,7 @@ built_in (Append shift) outcome = built outcome
 built_in (Register n) outcome = outcome
 built_in Ship outcome = outcome
 built_in Adjust outcome = outcome
+built_in Center outcome = outcome
 
 abbrev pub built_if : Bool → BoxContext → Outcome → Outcome
 built_if true context outcome = built_in context outcome

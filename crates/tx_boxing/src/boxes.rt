@@ -132,7 +132,8 @@ pub(crate) fn settle(s: &mut State, context: BoxContext) -> Result<(), AllocErro
 {
     match context {
         BoxContext::Register(_) => finish_assignment(s),
-        BoxContext::Append(_) | BoxContext::Ship | BoxContext::Adjust => Ok(()),
+        BoxContext::Append(_) | BoxContext::Ship => Ok(()),
+        BoxContext::Adjust | BoxContext::Center => Ok(()),
     }
 }
 
@@ -154,7 +155,8 @@ fn read_every_in(s: &mut State, context: BoxContext, kind: BoxKind) -> Result<()
     ensures said { OnOk result (s.new.said ≡ s.old.said) }
 {
     match context {
-        BoxContext::Append(_) | BoxContext::Register(_) | BoxContext::Ship => read_every(s, kind),
+        BoxContext::Append(_) | BoxContext::Register(_) => read_every(s, kind),
+        BoxContext::Ship | BoxContext::Center => read_every(s, kind),
         BoxContext::Adjust => Ok(()),
     }
 }

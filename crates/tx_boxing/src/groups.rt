@@ -38,7 +38,8 @@ fn end_across(alloc: Global, s: &mut State) -> Result<Event, AllocError>
     end_box(alloc, s, GroupKind::HorizontalBox, Bytes::new(alloc))
 }
 
-/// An end-group token: closes the innermost group, which brings back what it changed; of the list of a box a box is made.
+/// An end-group token: closes the innermost group, which brings back what it changed; of the list of a box a box is made. The groups
+/// of formulas end elsewhere.
 pub fn end_group(alloc: Global, s: &mut State) -> Result<Event, AllocError>
     requires running { s.old.phase ≡ Phase.Running }
     requires between { s.old.scan.taken ≡ [] }
@@ -54,6 +55,9 @@ pub fn end_group(alloc: Global, s: &mut State) -> Result<Event, AllocError>
         Some(GroupKind::Output) => end_output(alloc, s),
         Some(GroupKind::NoAlign) => end_noalign(alloc, s),
         Some(GroupKind::Entry) => Ok(fail(s, TexError::MisplacedAlignment)),
+        Some(GroupKind::MathShift | GroupKind::MathPart(_) | GroupKind::MathChoice(_)) => {
+            Ok(fail(s, TexError::ExtraGroupEnd))
+        }
         Some(GroupKind::SemiSimple | GroupKind::Align) | None => {
             Ok(fail(s, TexError::ExtraGroupEnd))
         }

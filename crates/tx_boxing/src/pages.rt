@@ -141,7 +141,8 @@ pub(crate) fn build_in(
 {
     match context {
         BoxContext::Append(_) => build_behind(alloc, s, event),
-        BoxContext::Register(_) | BoxContext::Ship | BoxContext::Adjust => Ok(event),
+        BoxContext::Register(_) | BoxContext::Ship => Ok(event),
+        BoxContext::Adjust | BoxContext::Center => Ok(event),
     }
 }
 

@@ -2,6 +2,7 @@
 use Rattle.std.specs.Prelude.{Bool, true, false, pos, if◌then◌else◌, List, [], ◌∷◌}
 use Rattle.tx_eqtb.specs.declared.table.Table.{Table}
 use Rattle.tx_eqtb.specs.Table.{glue_at, number_at}
+use Rattle.tx_mlist.specs.declared.kinds.AtomKind.TheVariants.{Ord}
 use Rattle.tx_nest.specs.declared.list.ModeList.{ModeList}
 use Rattle.tx_nest.specs.declared.state.ModeState.{ModeState}
 use Rattle.tx_nest.specs.declared.state.ModeState.TheVariants.{Vertical, InternalVertical, Horizontal, RestrictedHorizontal, Math, DisplayMath}
@@ -11,7 +12,7 @@ use Rattle.tx_nest.specs.States.{begun}
 use Rattle.tx_node.specs.declared.head.Direction.TheVariants as direction
 use Rattle.tx_node.specs.declared.head.Setting.TheVariants.{Natural}
 use Rattle.tx_node.specs.declared.plain.Plain.TheVariants as small
-use Rattle.tx_node.specs.Items.{Item, plain, boxed, none}
+use Rattle.tx_node.specs.Items.{Item, PackedBox, plain, box_item}
 use Rattle.tx_prim.specs.declared.dimension.DimensionParameter.TheVariants.{Parindent}
 use Rattle.tx_prim.specs.declared.family.Indentation.{Indentation}
 use Rattle.tx_prim.specs.declared.family.Indentation.TheVariants.{Indented, Flush}
@@ -19,6 +20,7 @@ use Rattle.tx_prim.specs.declared.glue.GlueParameter.TheVariants.{Parskip}
 use Rattle.tx_prim.specs.declared.modes.Mode.TheVariants as mode
 use Rattle.tx_seen.specs.declared.place.Place.TheVariants.{Dimension, Glue}
 use Rattle.tx_box.specs.declared.parts.Lists.{Lists}
+use Rattle.tx_box.specs.Formulas.{with_box}
 use Rattle.tx_box.specs.Placing.{with_list}
 
 -- in which lists a paragraph begins: vertical ones
@@ -31,11 +33,14 @@ begins_paragraph Math = false
 begins_paragraph DisplayMath = false
 
 -- an empty box as wide as \parindent, which isn't shifted
+abbrev pub indent_packed : Table → PackedBox
+indent_packed table = record {
+  head = record { direction = direction.Horizontal; width = number_at table (Dimension Parindent); height = pos 0; depth = pos 0; setting = Natural };
+  list = [];
+}
+
 abbrev pub indent_box : Table → Item
-indent_box table =
-    boxed (pos 0)
-    (record { direction = direction.Horizontal; width = number_at table (Dimension Parindent); height = pos 0; depth = pos 0; setting = Natural })
-    none
+indent_box table = box_item (pos 0) (indent_packed table)
 
 -- \indent puts it at the end of a horizontal list, without leading, and spaces behind it are as wide as at the beginning
 -- (section 1093)
@@ -66,14 +71,19 @@ paragraph_begun how table lists = record lists {
   };
 }
 
--- \indent, or \noindent: a paragraph begins, or has begun, and formulas wait for theirs
+-- in a formula \indent puts the nucleus of an Ord there (section 1093)
+abbrev pub formula_indented : Indentation → Table → Lists → Lists
+formula_indented Indented table lists = with_box Ord (pos 0) (indent_packed table) lists
+formula_indented Flush table lists = lists
+
+-- \indent, or \noindent: a paragraph begins, or has begun
 abbrev pub indented_in : ModeState → Indentation → Table → Lists → Lists
 indented_in (Vertical depth) how table lists = paragraph_begun how table lists
 indented_in (InternalVertical depth) how table lists = paragraph_begun how table lists
 indented_in (Horizontal factor) how table lists = with_list lists (with_indent how table lists.nest.innermost)
 indented_in (RestrictedHorizontal factor) how table lists = with_list lists (with_indent how table lists.nest.innermost)
-indented_in Math how table lists = lists
-indented_in DisplayMath how table lists = lists
+indented_in Math how table lists = formula_indented how table lists
+indented_in DisplayMath how table lists = formula_indented how table lists
 
 abbrev pub indented : Indentation → Table → Lists → Lists
 indented how table lists = indented_in lists.nest.innermost.state how table lists

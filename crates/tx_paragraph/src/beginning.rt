@@ -5,15 +5,16 @@ ghost use Rattle.tx_paragraph.specs.Beginning as spec;
 
 use crate::parameters::size;
 use std::alloc::{AllocError, Global};
-use tx_box::{Lists, glue};
+use tx_box::{Lists, append_atom, glue};
 use tx_eqtb::Eqtb;
+use tx_mlist::AtomKind;
 use tx_nest::{ModeList, ModeState, SpaceFactor, append_item, set_space_factor};
 use tx_node::{BoxHead, BoxNode, Direction, Node, Nodes, Plain, Setting};
 use tx_prim::{DimensionParameter, GlueParameter, Indentation, Mode};
 
 /// The empty box that indents a paragraph. Its only error is want of memory.
-fn indent_box(alloc: Global, table: &Eqtb) -> Result<Node, AllocError>
-    ensures { IfOk result (λ node. item_of node ≡ spec.indent_box table.now.table) }
+fn indent_packed(alloc: Global, table: &Eqtb) -> Result<BoxNode, AllocError>
+    ensures { IfOk result (λ made. made ≡ spec.indent_packed table.now.table) }
 {
     let head = BoxHead {
         direction: Direction::Horizontal,
@@ -22,7 +23,32 @@ fn indent_box(alloc: Global, table: &Eqtb) -> Result<Node, AllocError>
         depth: 0,
         setting: Setting::Natural,
     };
-    Node::from_box(alloc, 0, BoxNode::new(alloc, head, Nodes::new(alloc))?)
+    BoxNode::new(alloc, head, Nodes::new(alloc))
+}
+
+/// The same as an item, which isn't shifted. Its only error is want of memory.
+fn indent_box(alloc: Global, table: &Eqtb) -> Result<Node, AllocError>
+    ensures { IfOk result (λ node. item_of node ≡ spec.indent_box table.now.table) }
+{
+    Node::from_box(alloc, 0, indent_packed(alloc, table)?)
+}
+
+/// \indent in a formula: the box, if it is to stand there, is the nucleus of an Ord. Its only error is want of memory.
+fn indent_formula(
+    alloc: Global,
+    lists: &mut Lists,
+    table: &Eqtb,
+    how: Indentation,
+) -> Result<(), AllocError>
+    ensures { OnOk result (lists.new ≡ spec.formula_indented how table.now.table lists.old) }
+{
+    match how {
+        Indentation::Indented => {
+            let packed = indent_packed(alloc, table)?;
+            append_atom(alloc, lists, AtomKind::Ord, 0, packed)
+        }
+        Indentation::Flush => Ok(()),
+    }
 }
 
 /// Puts that box, if it is to stand there, at the end of a horizontal list. Its only error is want of memory.
@@ -83,8 +109,8 @@ fn begin_paragraph(
     put_indent(alloc, lists.nest.top(), table, how)
 }
 
-/// \indent and \noindent: a paragraph begins in a vertical list; in a horizontal one \indent puts its box there, and in formulas
-/// nothing happens. After want of memory, its only error, the lists may only be dropped.
+/// \indent and \noindent: a paragraph begins in a vertical list; in a horizontal one, and in a formula, \indent puts its box there.
+/// After want of memory, its only error, the lists may only be dropped.
 pub fn indent(
     alloc: Global,
     lists: &mut Lists,
@@ -98,6 +124,6 @@ pub fn indent(
         Mode::Horizontal | Mode::RestrictedHorizontal => {
             put_indent(alloc, lists.nest.top(), table, how)
         }
-        Mode::Math | Mode::DisplayMath => Ok(()),
+        Mode::Math | Mode::DisplayMath => indent_formula(alloc, lists, table, how),
     }
 }

@@ -9,5 +9,8 @@ returns-in-Append c =
 pub returns-in-Ship : goal.returns-in-Ship
 returns-in-Ship c = rw c.in-Ship.is (c.ship.ensures c.args.target.global c.args.lists.now c.args.table.now)
 
+pub returns-in-Center : goal.returns-in-Center
+returns-in-Center c = rw c.in-Center.is (c.center.ensures c.args.target.global c.args.table.now)
+
 pub returns-in-Adjust : goal.returns-in-Adjust
 returns-in-Adjust c = rw c.in-Adjust.is (c.adjust.ensures c.args.target.global c.args.table.now)
