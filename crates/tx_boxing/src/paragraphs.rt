@@ -159,8 +159,8 @@ pub fn add_size(alloc: Global, s: &mut State, size: i32) -> Result<Event, AllocE
         }
         Head::Fresh | Head::Prefixed(_) | Head::Defining(_, _, _) => Ok(Event::Went),
         Head::Future(_, _) | Head::Leading(_, _) | Head::Loading(_, _) => Ok(Event::Went),
-        Head::Opening(_) | Head::Aligning(_) | Head::Preamble => Ok(Event::Went),
-        Head::Row | Head::Entry => Ok(Event::Went),
+        Head::Opening(_) | Head::Shift | Head::Part(_) => Ok(Event::Went),
+        Head::Aligning(_) | Head::Preamble | Head::Row | Head::Entry => Ok(Event::Went),
     }
 }
 

@@ -42,7 +42,7 @@ use Rattle.tx_scan.specs.Rests.{IsFedBy, IsGivenBehind, IsRead, HoldsOne}
 use Rattle.tx_scan.specs.Supplied.{NeedsNoMore, NeedsFewer, NeedsNothing}
 use Rattle.tx_scan.specs.declared.scans.DimenScan.{DimenScan}
 use Rattle.tx_scan.specs.declared.scans.Measure.{Measure}
-use Rattle.tx_scan.specs.Dimensions.{lengths}
+use Rattle.tx_prim.specs.declared.family.AtomPart.{AtomPart}
 use Rattle.tx_scan.specs.DimensionRests.{begun_size, rest as dimen_rest, held as dimen_held, more_needed as dimen_needed}
 use Rattle.tx_assign.specs.declared.scan.AssignScan.{AssignScan}
 use Rattle.tx_assign.specs.declared.types.Assigning.{Assigning}
@@ -71,9 +71,9 @@ use Rattle.tx_command.specs.declared.scans.Whole.TheVariants as whole
 use Rattle.tx_command.specs.declared.types.Command.{Command}
 use Rattle.tx_command.specs.declared.types.Command.TheVariants.{Nothing, Assign, Keep, Sized}
 use Rattle.tx_command.specs.declared.types.Head.{Head}
-use Rattle.tx_command.specs.declared.types.Head.TheVariants.{Fresh, Prefixed, Defining, Future, Leading, Loading, Shaping as Shaping_head, Opening, Aligning, Preamble, Row, Entry}
+use Rattle.tx_command.specs.declared.types.Head.TheVariants.{Fresh, Prefixed, Defining, Future, Leading, Shift, Part, Loading, Shaping as Shaping_head, Opening, Aligning, Preamble, Row, Entry}
 use Rattle.tx_command.specs.declared.types.Prefixes.{Prefixes}
-use Rattle.tx_command.specs.Commands.{command, command_meant, family_command, font_defining, future_defining, load_of, loading, future_of, future_second, keeping, macro_defining, fresh_command, standing_command, may_be_prefixed, prefixed_command, assigning, defining, leaders_of, leaders_rule, leading_command, leading_glue, led_by, repeated, ruling, sizing, skipping, command_of, entry_start, preamble_by, preamble_command, preamble_part, row_start, shaping, started}
+use Rattle.tx_command.specs.Commands.{command, command_meant, family_command, font_defining, future_defining, load_of, loading, future_of, future_second, keeping, macro_defining, fresh_command, standing_command, may_be_prefixed, prefixed_command, assigning, defining, leaders_of, leaders_rule, leading_command, leading_glue, led_by, repeated, ruling, sizing, skipping, command_of, shaping, is_part, part_command, shift_command, units_of, entry_start, preamble_by, preamble_command, preamble_part, row_start, started}
 use Rattle.tx_command.specs.Standing.{standing_in}
 use Rattle.tx_scan.proofs.Answering.{ending-none}
 use Rattle.tx_scan.specs.Mapped.{mapped}
@@ -288,7 +288,7 @@ font-begun new is = λ mode head. record { reads = (refl, rw is (omega arith), �
 pub kept-begun : (kind : AfterKind) (new : Scans) → new.stage ≡ stage.KeptToken kind → Begins (keeping kind) new (fed.More Raw)
 kept-begun kind new is = λ mode head. record { reads = (refl, rw is (omega arith), λ item more. rw is refl); needs = rw is (omega arith); goes_on = rw is tt }
 
-pub size-begun : (kind : SizeUse) (new : Scans) → new.stage ≡ stage.Sized kind → new.size ≡ begun_size lengths → Begins (sizing kind) new (fed.More Expanded)
+pub size-begun : (kind : SizeUse) (new : Scans) → new.stage ≡ stage.Sized kind → new.size ≡ begun_size (units_of kind) → Begins (sizing kind) new (fed.More Expanded)
 size-begun kind new is same = λ mode head. record { reads = (refl, rw (is, same) (omega arith), λ item more. rw (is, same) refl); needs = rw (is, same) (omega arith); goes_on = rw is tt }
 
 pub rule-begun : (kind : RuleKind) (new : Scans) → new.stage ≡ stage.Rule kind → new.rule.rule ≡ plain_rule kind → new.rule.part ≡ rule.Start → Begins (ruling kind) new (fed.More Expanded)
@@ -328,6 +328,12 @@ pub leading-glued : (mode : Mode) (form : GlueForm) (t : Seen) (new : Scans) (an
 leading-glued mode form t new answer u s found k = λ m head.
     alike m head 0 (λ more. leading_command mode (Took t ∷ more)) (λ more. shaping (shape_glue.Glue form) more) [] new answer
     (λ more. rw (u, s) (ap (λ f. led_by f more) found)) (k m head)
+
+-- a part of an atom
+pub part-stands : (t : Seen) (new : Scans) (answer : Fed Command) → is_undefined t ≡ false → (is_space t || is_relax t) ≡ false → is_part t.meaning ≡ true → Begins (command_meant t.meaning) new answer → Begins (λ more. part_command (Took t ∷ more)) new answer
+part-stands t new answer u s p k = λ mode head.
+    alike mode head 0 (λ more. part_command (Took t ∷ more)) (λ more. command_meant t.meaning more) [] new answer
+    (λ more. rw (u, s, p) refl) (k mode head)
 
 -- the first token behind a name that is defined
 pub first-assigned : (mode : Mode) (head : Head) (begun : Assigning) (old : AssignScan) (new : Scans) (made : Command) (t : Seen) (answer : Fed (Unit {0})) → new.stage ≡ stage.Assign → IsBegun begun old → assign_needed old ≤ 1 → IsAssigned old t new.assignment answer → NeedsNoMore (assign_needed old) (assign_needed new.assignment) answer → WaitsIfAssigning new.assignment answer → IsBegunBy mode head 1 (λ more. assigning begun (Took t ∷ more)) (Took t ∷ []) new (told new made (mapped (λ _. whole.Assignment) answer))
@@ -405,6 +411,12 @@ first-prefixed mode head prefixes t new answer e k = rw e (one-token mode (Prefi
 pub first-leading : (mode : Mode) (head : Head) (kind : LeadersKind) (sides : Rule) (t : Seen) (new : Scans) (answer : Fed Command) → head ≡ Leading kind sides → Begins (λ more. leading_command mode (Took t ∷ more)) new answer → IsBegunBy mode head 1 (λ more. command mode head (Took t ∷ more)) (Took t ∷ []) new answer
 first-leading mode head kind sides t new answer e k = rw e (one-token mode (Leading kind sides) (λ more. leading_command mode (Took t ∷ more)) t new answer (k mode (Leading kind sides)))
 
+pub first-shift : (mode : Mode) (head : Head) (t : Seen) (new : Scans) (answer : Fed Command) → head ≡ Shift → ((around : Mode) (h : Head) → IsBegunBy around h 1 (λ more. shift_command mode (Took t ∷ more)) (Took t ∷ []) new answer) → IsBegunBy mode head 1 (λ more. command mode head (Took t ∷ more)) (Took t ∷ []) new answer
+first-shift mode head t new answer e k = rw e (k mode Shift)
+
+pub first-part : (mode : Mode) (head : Head) (part : AtomPart) (t : Seen) (new : Scans) (answer : Fed Command) → head ≡ Part part → Begins (λ more. part_command (Took t ∷ more)) new answer → IsBegunBy mode head 1 (λ more. command mode head (Took t ∷ more)) (Took t ∷ []) new answer
+first-part mode head part t new answer e k = rw e (one-token mode (Part part) (λ more. part_command (Took t ∷ more)) t new answer (k mode (Part part)))
+
 pub first-defining : {E : Type 0} (mode : Mode) (head : Head) (prefixes : Prefixes) (name : Place) (kind : Shorthand) (t : Seen) (new : Scans) (made : Command) (answer : Result (Fed Whole) E) → head ≡ Defining prefixes name kind → ((m : Mode) (h : Head) (c : Command) → IfOk answer (λ a. IsBegunBy m h 1 (λ more. assigning (Named name kind) (Took t ∷ more)) (Took t ∷ []) new (told new c a))) → IfOk answer (λ a. IsBegunBy mode head 1 (λ more. command mode head (Took t ∷ more)) (Took t ∷ []) new (told new made a))
 first-defining mode head prefixes name kind t new made (Ok answer) e k = rw e (k mode (Defining prefixes name kind) made)
 first-defining mode head prefixes name kind t new made (Err error) e k = tt
@@ -414,7 +426,7 @@ first-loading mode head prefixes name t new (Ok answer) e k = rw e (k mode (Load
 first-loading mode head prefixes name t new (Err error) e k = tt
 
 -- the first token of a size of \parshape
-pub first-sized : (mode : Mode) (head : Head) (kind : SizeUse) (old : DimenScan) (new : Scans) (t : Seen) (answer : Fed Measure) → new.stage ≡ stage.Sized kind → old ≡ begun_size lengths → IsFedBy dimen_rest dimen_held old t new.size answer → NeedsNoMore (dimen_needed old) (dimen_needed new.size) answer → HoldsOne (dimen_held new.size) answer → IsBegunBy mode head 1 (λ more. sizing kind (Took t ∷ more)) (Took t ∷ []) new (mapped (λ measure. Sized kind measure.size) answer)
+pub first-sized : (mode : Mode) (head : Head) (kind : SizeUse) (old : DimenScan) (new : Scans) (t : Seen) (answer : Fed Measure) → new.stage ≡ stage.Sized kind → old ≡ begun_size (units_of kind) → IsFedBy dimen_rest dimen_held old t new.size answer → NeedsNoMore (dimen_needed old) (dimen_needed new.size) answer → HoldsOne (dimen_held new.size) answer → IsBegunBy mode head 1 (λ more. sizing kind (Took t ∷ more)) (Took t ∷ []) new (mapped (λ measure. Sized kind measure.size) answer)
 first-sized mode head kind old new t answer is same fits needs holds =
     let none : dimen_held old ≡ 0 = rw same refl in
     let h : length {A = Item} [] ≤ dimen_held old = omega arith in

@@ -1,5 +1,5 @@
 -- Commands that are one token, behind which nothing is read (TeX: The Program, sections 1030, 1045, 1063 and 1090).
-use Rattle.std.specs.Prelude.{◌≡◌, ℕ, [], ◌∷◌}
+use Rattle.std.specs.Prelude.{◌≡◌, ℕ, pos, [], ◌∷◌}
 use Rattle.tx_char.specs.declared.category.Cat.{Cat}
 use Rattle.tx_prim.specs.declared.modes.Mode.{Mode}
 use Rattle.tx_prim.specs.declared.modes.Standing.TheVariants.{Stands}
@@ -25,6 +25,9 @@ whole at_once.BeginGroup = command_of.BeginGroup
 whole at_once.EndGroup = command_of.EndGroup
 whole at_once.BeginSemiSimple = command_of.BeginSemiSimple
 whole at_once.EndSemiSimple = command_of.EndSemiSimple
+whole at_once.MathShift = command_of.MathShift
+whole (at_once.Script part) = command_of.Script part
+whole (at_once.MathCharacter number) = command_of.MathCharacter (pos number)
 whole at_once.Nothing = command_of.Nothing
 whole (at_once.Prefix prefix) = command_of.Prefix prefix
 whole at_once.EndParagraph = command_of.EndParagraph

@@ -6,6 +6,8 @@ use Rattle.tx_char.specs.declared.category.Cat.TheVariants as category
 use Rattle.tx_prim.specs.declared.family.AfterKind.{AfterKind}
 use Rattle.tx_prim.specs.declared.family.AlignWord.{AlignWord}
 use Rattle.tx_prim.specs.declared.family.AlignWord.TheVariants as align
+use Rattle.tx_prim.specs.declared.family.AtomPart.{AtomPart}
+use Rattle.tx_prim.specs.declared.family.AtomPart.TheVariants as atom
 use Rattle.tx_prim.specs.declared.family.BreakText.TheVariants as break
 use Rattle.tx_shape.specs.declared.types.Opener.TheVariants as opener
 use Rattle.tx_prim.specs.declared.family.DefinitionKind.{DefinitionKind}
@@ -17,6 +19,8 @@ use Rattle.tx_prim.specs.declared.family.Indentation.TheVariants.{Indented}
 use Rattle.tx_prim.specs.declared.family.LeadersKind.{LeadersKind}
 use Rattle.tx_prim.specs.declared.family.RuleKind.{RuleKind}
 use Rattle.tx_prim.specs.declared.family.Shorthand.{Shorthand}
+use Rattle.tx_prim.specs.declared.family.SizeKind.{SizeKind}
+use Rattle.tx_prim.specs.declared.family.SizeKind.TheVariants as sized
 use Rattle.tx_prim.specs.declared.family.TextUse.{TextUse}
 use Rattle.tx_prim.specs.declared.family.TextUse.TheVariants as purposes
 use Rattle.tx_prim.specs.declared.modes.Mode.{Mode}
@@ -25,7 +29,7 @@ use Rattle.tx_prim.specs.declared.modes.Standing.{Standing as AStanding}
 use Rattle.tx_prim.specs.declared.modes.Standing.TheVariants.{Stands, BeginsParagraph, EndsParagraph, EndsRun, Refused}
 use Rattle.tx_prim.specs.declared.primitive.Primitive.{Primitive}
 use Rattle.tx_prim.specs.declared.primitive.Primitive.TheVariants as primitive
-use Rattle.tx_seen.specs.declared.error.TexError.TheVariants.{Undefined, NoAssignment, NotAllowed, MisplacedAlignment, MissingBox, BadName}
+use Rattle.tx_seen.specs.declared.error.TexError.TheVariants.{Undefined, NoAssignment, NotAllowed, MisplacedAlignment, MissingBeginGroup, MissingBox, BadFormula, BadName}
 use Rattle.tx_seen.specs.declared.fed.Want.TheVariants.{Raw, Expanded}
 use Rattle.tx_seen.specs.declared.item.Item.{Item}
 use Rattle.tx_seen.specs.declared.item.Item.TheVariants.{Took, Gave}
@@ -38,6 +42,7 @@ use Rattle.tx_seen.specs.declared.place.Place.TheVariants as place
 use Rattle.tx_seen.specs.declared.seen.Seen.{Seen}
 use Rattle.tx_seen.specs.Seen.{is_space, is_relax}
 use Rattle.tx_seen.specs.Readings.{Reading, More, Done, Wrong, next}
+use Rattle.tx_scan.specs.declared.scans.Units.{Units}
 use Rattle.tx_scan.specs.Dimensions.{dimension, lengths}
 use Rattle.tx_scan.specs.FileNames.{file_name}
 use Rattle.tx_scan.specs.Grammars.{equals, name}
@@ -55,9 +60,9 @@ use Rattle.tx_shape.specs.declared.types.FontAsked.{FontAsked}
 use Rattle.tx_shape.specs.Loading.{loading as load}
 use Rattle.tx_shape.specs.Shapes.{shape as shape_of}
 use Rattle.tx_command.specs.declared.types.Command.{Command}
-use Rattle.tx_command.specs.declared.types.Command.TheVariants.{Nothing, Space, Character, BeginGroup, EndGroup, BeginSemiSimple, EndSemiSimple, Prefix, Define, Assign, Sized, Rule, BeginBox, UseBox, CopyBox, LastBox, Unbox, Penalize, Skip, BeginLeaders, SetDepth, End, Interact, DefineMacro, BeginText, DefineFuture, Keep, Remove, ControlSpace, ItalicCorrection, Indent, InsertPar, EndParagraph, DiscretionaryHyphen, SetFactor, SetPrevGraf, BeginShape, Open, Align, BeginAlign, ExpandOnce, Template, BeginEntry, EndAlign, SetDeadCycles, SetPage, SplitBox, DefineFont, LoadFont, SetFontDimen, SetFontInteger}
+use Rattle.tx_command.specs.declared.types.Command.TheVariants.{Nothing, Space, Character, BeginGroup, EndGroup, BeginSemiSimple, EndSemiSimple, Prefix, Define, Assign, Sized, Rule, BeginBox, UseBox, CopyBox, LastBox, Unbox, Penalize, Skip, BeginLeaders, SetDepth, End, Interact, DefineMacro, BeginText, DefineFuture, Keep, Remove, ControlSpace, ItalicCorrection, Indent, InsertPar, EndParagraph, DiscretionaryHyphen, SetFactor, SetPrevGraf, BeginShape, Open, SetDeadCycles, SetPage, SplitBox, DefineFont, LoadFont, SetFontDimen, SetFontInteger, MathShift, BeginFormula, Script, MathCharacter, BeginAtom, SetLimits, SetStyle, BeginChoice, BeginFraction, MathSkip, Nonscript, SetFamily, Align, BeginAlign, ExpandOnce, Template, BeginEntry, EndAlign}
 use Rattle.tx_command.specs.declared.types.Head.{Head}
-use Rattle.tx_command.specs.declared.types.Head.TheVariants.{Fresh, Prefixed, Defining, Future, Leading, Loading, Shaping as Shaping_head, Opening, Aligning, Preamble, Row, Entry}
+use Rattle.tx_command.specs.declared.types.Head.TheVariants.{Fresh, Prefixed, Defining, Future, Leading, Shift, Part, Loading, Shaping as Shaping_head, Opening, Aligning, Preamble, Row, Entry}
 use Rattle.tx_command.specs.declared.types.Prefixes.{Prefixes}
 use Rattle.tx_command.specs.declared.scans.PreamblePart.{PreamblePart}
 use Rattle.tx_command.specs.declared.scans.PreamblePart.TheVariants as part
@@ -120,9 +125,18 @@ keeping kind [] = More Raw
 keeping kind (Gave v ∷ rest) = Wrong NotAllowed
 keeping kind (Took t ∷ rest) = Done (Keep kind t.token) rest
 
--- the size of a kern, or one of \parshape
+-- the size of a kern, of a fraction's line, or one of \parshape; that of \mkern is told in mu
+abbrev pub is_in_mu : SizeKind → Bool
+is_in_mu sized.Kern = false
+is_in_mu sized.MathKern = true
+is_in_mu sized.Above = false
+
+abbrev pub units_of : SizeUse → Units
+units_of (size.Item kind) = record { mu = is_in_mu kind; infinite = false }
+units_of size.Shape = lengths
+
 abbrev pub sizing : SizeUse → List Item → Reading Command
-sizing kind items = next (dimension lengths items) (λ measure behind. Done (Sized kind measure.size) behind)
+sizing kind items = next (dimension (units_of kind) items) (λ measure behind. Done (Sized kind measure.size) behind)
 
 -- the sides of a rule
 abbrev pub ruling : RuleKind → List Item → Reading Command
@@ -140,6 +154,8 @@ command_of (shaped.Penalize n) = Penalize n
 command_of (shaped.SetDepth size) = SetDepth size
 command_of (shaped.Skip g) = Skip g
 command_of (shaped.Character code) = Character code
+command_of (shaped.MathCharacter n) = MathCharacter n
+command_of (shaped.MathSkip g) = MathSkip g
 command_of (shaped.SetFactor n) = SetFactor n
 command_of (shaped.SetPrevGraf n) = SetPrevGraf n
 command_of (shaped.BeginShape lines) = BeginShape lines
@@ -149,6 +165,7 @@ command_of (shaped.SetDeadCycles n) = SetDeadCycles n
 command_of (shaped.SetPage quantity v) = SetPage quantity v
 command_of (shaped.SetFontDimen font n size) = SetFontDimen font n size
 command_of (shaped.SetFontInteger kind font n) = SetFontInteger kind font n
+command_of (shaped.SetFamily size n font) = SetFamily size n font
 
 abbrev pub shaping : Shaping → List Item → Reading Command
 shaping what items = next (shape_of what items) (λ s behind. Done (command_of s) behind)
@@ -161,9 +178,9 @@ character_command code category.Space rest = Done Space rest
 character_command code category.Letter rest = Done (Character code) rest
 character_command code category.Other rest = Done (Character code) rest
 character_command code category.AlignmentTab rest = Wrong MisplacedAlignment
-character_command code category.MathShift rest = Wrong NotAllowed
-character_command code category.Superscript rest = Wrong NotAllowed
-character_command code category.Subscript rest = Wrong NotAllowed
+character_command code category.MathShift rest = Done MathShift rest
+character_command code category.Superscript rest = Done (Script atom.Superscript) rest
+character_command code category.Subscript rest = Done (Script atom.Subscript) rest
 character_command code category.Parameter rest = Wrong NotAllowed
 character_command code category.Escape rest = Wrong NotAllowed
 character_command code category.EndOfLine rest = Wrong NotAllowed
@@ -236,6 +253,16 @@ family_command primitive.PrevGraf rest = shaping shape.PrevGraf rest
 family_command primitive.ParShape rest = shaping shape.ParShape rest
 family_command primitive.Adjust rest = shaping shape.Adjust rest
 family_command primitive.Discretionary rest = shaping (shape.Open (opener.Break break.Before)) rest
+family_command primitive.MathChar rest = shaping shape.MathCharacter rest
+family_command (primitive.Atom class) rest = Done (BeginAtom class) rest
+family_command primitive.Center rest = shaping shape.Center rest
+family_command (primitive.Limits kind) rest = Done (SetLimits kind) rest
+family_command (primitive.Style style) rest = Done (SetStyle style) rest
+family_command primitive.Choice rest = Done BeginChoice rest
+family_command (primitive.Fraction kind) rest = Done (BeginFraction kind) rest
+family_command primitive.MathGlue rest = shaping shape.MathGlue rest
+family_command primitive.Nonscript rest = Done Nonscript rest
+family_command (primitive.FamilyFont size) rest = shaping (shape.Family size) rest
 family_command primitive.Insert rest = shaping shape.Insert rest
 family_command primitive.Align rest = Done Align rest
 family_command (primitive.AlignWord word) rest = Wrong MisplacedAlignment
@@ -255,7 +282,7 @@ command_meant meaning.Held rest = Done Nothing rest
 command_meant (meaning.Command primitive) rest = family_command primitive rest
 command_meant (meaning.Character code category) rest = character_command code category rest
 command_meant (meaning.CharacterNumber code) rest = Done (Character code) rest
-command_meant (meaning.MathNumber number) rest = Wrong NotAllowed
+command_meant (meaning.MathNumber number) rest = Done (MathCharacter (pos number)) rest
 command_meant (meaning.CountRegister number) rest = assigning (assign.Variable (Standing (place.Count number))) rest
 command_meant (meaning.DimenRegister number) rest = assigning (assign.Variable (Standing (place.Dimen number))) rest
 command_meant (meaning.SkipRegister number) rest = assigning (assign.Variable (Standing (place.Skip number))) rest
@@ -285,6 +312,8 @@ prefixes_of (Prefixed prefixes) = prefixes
 prefixes_of (Defining prefixes defined kind) = prefixes
 prefixes_of (Future prefixes defined) = prefixes
 prefixes_of (Leading kind rule) = record { global = false; long = false; outer = false }
+prefixes_of Shift = record { global = false; long = false; outer = false }
+prefixes_of (Part part) = record { global = false; long = false; outer = false }
 prefixes_of (Opening opener) = record { global = false; long = false; outer = false }
 prefixes_of (Aligning level) = record { global = false; long = false; outer = false }
 prefixes_of Preamble = record { global = false; long = false; outer = false }
@@ -297,6 +326,11 @@ prefixes_of (Shaping_head prefixes left sizes) = prefixes
 abbrev pub leaders_before : Head → Option (LeadersKind × Rule_sides)
 leaders_before (Leading kind rule) = Some (kind, rule)
 leaders_before other = None
+
+-- the part of an atom that it is to be
+abbrev pub part_before : Head → Option AtomPart
+part_before (Part part) = Some part
+part_before other = None
 
 -- the level of braces at which the \halign stood that stands before it (section 772)
 abbrev pub level_before : Head → ℤ
@@ -386,6 +420,16 @@ is_prefixable prefixes (primitive.Indent how) = false
 is_prefixable prefixes primitive.DiscretionaryHyphen = false
 is_prefixable prefixes primitive.Adjust = false
 is_prefixable prefixes primitive.Discretionary = false
+is_prefixable prefixes primitive.MathChar = false
+is_prefixable prefixes (primitive.Atom class) = false
+is_prefixable prefixes primitive.Center = false
+is_prefixable prefixes (primitive.Limits kind) = false
+is_prefixable prefixes (primitive.Style style) = false
+is_prefixable prefixes primitive.Choice = false
+is_prefixable prefixes (primitive.Fraction kind) = false
+is_prefixable prefixes primitive.MathGlue = false
+is_prefixable prefixes primitive.Nonscript = false
+is_prefixable prefixes (primitive.FamilyFont size) = not (want_definition prefixes)
 is_prefixable prefixes primitive.Insert = false
 is_prefixable prefixes primitive.Align = false
 is_prefixable prefixes (primitive.AlignWord word) = false
@@ -455,6 +499,47 @@ leading_command mode [] = More Expanded
 leading_command mode (Gave v ∷ rest) = Wrong MissingBox
 leading_command mode (Took t ∷ rest) =
     expanded t (if is_space t || is_relax t then Done Nothing rest else led_by (leading_glue mode t.meaning) rest)
+
+-- behind a `$` that begins a formula: a second one in a paragraph begins a displayed formula, which can't be set yet; else the token is
+-- read again (section 1138)
+abbrev pub is_math_shift : Meaning → Bool
+is_math_shift (meaning.Character code category.MathShift) = true
+is_math_shift other = false
+
+abbrev pub is_unrestricted : Mode → Bool
+is_unrestricted mode.Horizontal = true
+is_unrestricted other = false
+
+abbrev pub shift_command : Mode → List Item → Reading Command
+shift_command mode [] = More Raw
+shift_command mode (Gave v ∷ rest) = Wrong NotAllowed
+shift_command mode (Took t ∷ rest) =
+    if is_math_shift t.meaning && is_unrestricted mode then Wrong BadFormula else Done BeginFormula (Took t ∷ rest)
+
+-- a part of an atom: a character, a \mathchar, what stands for one of them, or a begin-group token, with spaces and \relax before it,
+-- which do nothing (sections 1151 and 1153)
+abbrev pub is_part_of : Cat → Bool
+is_part_of category.BeginGroup = true
+is_part_of category.Letter = true
+is_part_of category.Other = true
+is_part_of other = false
+
+abbrev pub is_part : Meaning → Bool
+is_part (meaning.Character code category) = is_part_of category
+is_part (meaning.CharacterNumber code) = true
+is_part (meaning.MathNumber number) = true
+is_part (meaning.Command primitive.Char) = true
+is_part (meaning.Command primitive.MathChar) = true
+is_part other = false
+
+abbrev pub part_command : List Item → Reading Command
+part_command [] = More Expanded
+part_command (Gave v ∷ rest) = Wrong MissingBeginGroup
+part_command (Took t ∷ rest) =
+    expanded t (
+    if is_space t || is_relax t then Done Nothing rest
+    else if is_part t.meaning then command_meant t.meaning rest
+    else Wrong MissingBeginGroup)
 
 -- a preamble, token by token, as it stands: behind \span the next one is expanded once, and \tabskip is assigned (section 782)
 abbrev pub preamble_primitive : Primitive → PreamblePart
@@ -535,6 +620,8 @@ command mode (Prefixed prefixes) items = prefixed_command prefixes items
 command mode (Defining prefixes defined kind) items = assigning (assign.Named defined kind) items
 command mode (Future prefixes defined) items = future (Future prefixes defined) items
 command mode (Leading kind rule) items = leading_command mode items
+command mode Shift items = shift_command mode items
+command mode (Part part) items = part_command items
 command mode (Loading prefixes defined) items = loading defined items
 command mode (Shaping_head prefixes left sizes) items = sizing size.Shape items
 command mode (Opening opener) items = shaping (shape.Open opener) items

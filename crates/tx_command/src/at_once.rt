@@ -7,7 +7,7 @@ ghost use Rattle.tx_command.specs.Standing.{standing_in as standing_of};
 use crate::standing::standing_in;
 use crate::taking::CommandScan;
 use tx_char::Cat;
-use tx_prim::{Indentation, ItemKind, Mode, Prefix, Primitive, Standing};
+use tx_prim::{AtomPart, Indentation, ItemKind, Mode, Prefix, Primitive, Standing};
 use tx_seen::{Meaning, Seen};
 
 /// A command that one token is.
@@ -23,6 +23,12 @@ pub enum AtOnce {
     /// `\begingroup` and `\endgroup`.
     BeginSemiSimple,
     EndSemiSimple,
+    /// A `$`.
+    MathShift,
+    /// A character that begins a superscript or a subscript.
+    Script(AtomPart),
+    /// A name that stands for a `\mathchar`.
+    MathCharacter(u16),
     /// `\relax`, or what \noexpand holds.
     Nothing,
     /// A prefix of the command behind it.
@@ -50,8 +56,10 @@ fn character_alone(code: u8, category: Cat) -> Option<AtOnce>
         Cat::Space => Some(AtOnce::Space),
         Cat::BeginGroup => Some(AtOnce::BeginGroup),
         Cat::EndGroup => Some(AtOnce::EndGroup),
-        Cat::Escape | Cat::MathShift | Cat::AlignmentTab | Cat::EndOfLine | Cat::Parameter => None,
-        Cat::Superscript | Cat::Subscript | Cat::Ignored => None,
+        Cat::MathShift => Some(AtOnce::MathShift),
+        Cat::Superscript => Some(AtOnce::Script(AtomPart::Superscript)),
+        Cat::Subscript => Some(AtOnce::Script(AtomPart::Subscript)),
+        Cat::Escape | Cat::AlignmentTab | Cat::EndOfLine | Cat::Parameter | Cat::Ignored => None,
         Cat::Active | Cat::Comment | Cat::Invalid => None,
     }
 }
@@ -86,7 +94,8 @@ fn alone(meaning: &Meaning) -> Option<AtOnce>
         Meaning::Command(primitive) => primitive_alone(*primitive),
         Meaning::Held => Some(AtOnce::Nothing),
         Meaning::Undefined | Meaning::Expandable(_) | Meaning::Macro(_) => None,
-        Meaning::MathNumber(_) | Meaning::Font(_) => None,
+        Meaning::MathNumber(number) => Some(AtOnce::MathCharacter(*number)),
+        Meaning::Font(_) => None,
         Meaning::CountRegister(_) | Meaning::DimenRegister(_) => None,
         Meaning::SkipRegister(_) | Meaning::MuskipRegister(_) => None,
         Meaning::ToksRegister(_) => None,

@@ -16,6 +16,8 @@ impl Kept for Head {
             )),
             Head::Future(prefixes, defined) => Ok(Head::Future(*prefixes, defined.clone()?)),
             Head::Leading(kind, rule) => Ok(Head::Leading(*kind, *rule)),
+            Head::Shift => Ok(Head::Shift),
+            Head::Part(part) => Ok(Head::Part(*part)),
             Head::Loading(prefixes, defined) => Ok(Head::Loading(*prefixes, defined.clone()?)),
             Head::Shaping(prefixes, left, sizes) => {
                 Ok(Head::Shaping(*prefixes, *left, sizes.share()?))
@@ -41,6 +43,8 @@ impl Kept for Head {
             (Head::Leading(one, rule), Head::Leading(other, also)) => {
                 one == other && same_rule(*rule, *also)
             }
+            (Head::Shift, Head::Shift) => true,
+            (Head::Part(one), Head::Part(other)) => one == other,
             (Head::Loading(one, defined), Head::Loading(other, also)) => {
                 one == other && defined.same(also)
             }

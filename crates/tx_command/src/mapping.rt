@@ -177,6 +177,8 @@ fn command_of(shaped: Shaped) -> Command
         Shaped::SetDepth(depth) => Command::SetDepth(depth),
         Shaped::Skip(glue) => Command::Skip(glue),
         Shaped::Character(code) => Command::Character(code),
+        Shaped::MathCharacter(number) => Command::MathCharacter(number),
+        Shaped::MathSkip(glue) => Command::MathSkip(glue),
         Shaped::SetFactor(number) => Command::SetFactor(number),
         Shaped::SetPrevGraf(number) => Command::SetPrevGraf(number),
         Shaped::BeginShape(lines) => Command::BeginShape(lines),
@@ -188,6 +190,7 @@ fn command_of(shaped: Shaped) -> Command
         Shaped::SetFontInteger(kind, font, number) => {
             Command::SetFontInteger(kind, font, number)
         }
+        Shaped::SetFamily(size, family, font) => Command::SetFamily(size, family, font),
     }
 }
 

@@ -21,8 +21,8 @@ use tx_assign::{AssignScan, Assigning, Assignment, Change, Variable};
 use tx_char::Cat;
 use tx_eqtb::Entry;
 use tx_prim::{
-    AfterKind, AlignWord, BreakText, GlueForm, GlueParameter, Indentation, LeadersKind, Mode,
-    Primitive, RuleKind, Shorthand, Standing,
+    AfterKind, AlignWord, AtomPart, BreakText, GlueForm, GlueParameter, Indentation, LeadersKind,
+    Mode, Primitive, RuleKind, Shorthand, SizeKind, Standing,
 };
 use tx_scan::{DimenScan, NameScan};
 use tx_seen::{Fed, Meaning, Place, Seen, TexError, Value, Want};
@@ -45,10 +45,10 @@ fn character(scans: &Scans, code: u8, category: Cat) -> Fed<Command>
         Cat::Space => Fed::Done(Command::Space, 0),
         Cat::Letter | Cat::Other => Fed::Done(Command::Character(code), 0),
         Cat::AlignmentTab => Fed::Wrong(TexError::MisplacedAlignment),
-        Cat::MathShift
-        | Cat::Superscript
-        | Cat::Subscript
-        | Cat::Parameter
+        Cat::MathShift => Fed::Done(Command::MathShift, 0),
+        Cat::Superscript => Fed::Done(Command::Script(AtomPart::Superscript), 0),
+        Cat::Subscript => Fed::Done(Command::Script(AtomPart::Subscript), 0),
+        Cat::Parameter
         | Cat::Escape
         | Cat::EndOfLine
         | Cat::Ignored
@@ -77,8 +77,46 @@ fn feed_second(head: &Head, token: &Seen) -> Result<Fed<Command>, AllocError>
         }
         Head::Leading(_, _) | Head::Loading(_, _) => Ok(Fed::Done(Command::Nothing, 2)),
         Head::Shaping(_, _, _) | Head::Opening(_) => Ok(Fed::Done(Command::Nothing, 2)),
+        Head::Shift | Head::Part(_) => Ok(Fed::Done(Command::Nothing, 2)),
         Head::Aligning(_) | Head::Preamble => Ok(Fed::Done(Command::Nothing, 2)),
         Head::Row | Head::Entry => Ok(Fed::Done(Command::Nothing, 2)),
+    }
+}
+
+/// Whether a size is told in mu.
+fn is_in_mu(kind: SizeKind) -> bool
+    ensures { result ≡ commands.is_in_mu kind }
+{
+    match kind {
+        SizeKind::MathKern => true,
+        SizeKind::Kern | SizeKind::Above => false,
+    }
+}
+
+/// Whether a token that means this is a `$`.
+fn is_math_shift(meaning: &Meaning) -> bool
+    ensures { result ≡ commands.is_math_shift meaning.now }
+{
+    matches!(meaning, Meaning::Character(_, Cat::MathShift))
+}
+
+/// Whether the list of a mode is that of a paragraph.
+fn is_unrestricted(mode: Mode) -> bool
+    ensures { result ≡ commands.is_unrestricted mode }
+{
+    matches!(mode, Mode::Horizontal)
+}
+
+/// Whether a part of an atom begins with a token that means this.
+fn is_part(meaning: &Meaning) -> bool
+    ensures { result ≡ commands.is_part meaning.now }
+{
+    match meaning {
+        Meaning::Character(_, Cat::BeginGroup | Cat::Letter | Cat::Other) => true,
+        Meaning::CharacterNumber(_) | Meaning::MathNumber(_) => true,
+        Meaning::Command(Primitive::Char | Primitive::MathChar) => true,
+        // all others alike
+        _ => false,
     }
 }
 
@@ -449,6 +487,8 @@ impl Scans {
             Head::Defining(_, _, _) => unreachable!(),
             Head::Future(_, _) => Ok(self.on(Stage::SecondToken, Want::Raw)),
             Head::Leading(_, _) => Ok(self.feed_leading(mode, token)),
+            Head::Shift => Ok(self.feed_shift(mode, token)),
+            Head::Part(_) => Ok(self.feed_atom(token)),
             Head::Loading(_, name) => self.feed_loading(name, token),
             Head::Shaping(_, _, _) => self.feed_shape(token),
             Head::Opening(opener) => Ok(self.feed_open(*opener, token)),
@@ -499,6 +539,34 @@ impl Scans {
         match leading_glue(mode, &token.meaning) {
             Some(form) => self.begin_shape(Shaping::Glue(form)),
             None => Fed::Wrong(TexError::MissingBox),
+        }
+    }
+
+    /// The token behind a `$` that begins a formula, which is read again; a second `$` in a paragraph begins what isn't there yet.
+    fn feed_shift(&self, mode: Mode, token: &Seen) -> Fed<Command>
+        ensures { (around : Mode) (head : Head) → IsBegunBy around head 1 (λ more. commands.shift_command mode (Took token.now ∷ more)) (Took token.now ∷ []) self.now result }
+    {
+        if is_math_shift(&token.meaning) && is_unrestricted(mode) {
+            Fed::Wrong(TexError::BadFormula)
+        } else {
+            Fed::Done(Command::BeginFormula, 1)
+        }
+    }
+
+    /// The first token of a part of an atom, or what is skipped before it.
+    fn feed_atom(&mut self, token: &Seen) -> Fed<Command>
+        ensures { Begins (λ more. commands.part_command (Took token.now ∷ more)) self.new result }
+    {
+        if token.is_undefined() {
+            return Fed::Wrong(TexError::Undefined);
+        }
+        if token.is_space() || token.is_relax() {
+            return Fed::Done(Command::Nothing, 0);
+        }
+        if is_part(&token.meaning) {
+            self.begin(&token.meaning)
+        } else {
+            Fed::Wrong(TexError::MissingBeginGroup)
         }
     }
 
@@ -611,7 +679,9 @@ impl Scans {
             Meaning::Command(primitive) => self.begin_primitive(*primitive),
             Meaning::Character(code, category) => character(self, *code, *category),
             Meaning::CharacterNumber(code) => Fed::Done(Command::Character(*code), 0),
-            Meaning::MathNumber(_) => Fed::Wrong(TexError::NotAllowed),
+            Meaning::MathNumber(number) => {
+                Fed::Done(Command::MathCharacter(i32::from(*number)), 0)
+            }
             Meaning::CountRegister(number) => self.begin_place(Place::Count(*number)),
             Meaning::DimenRegister(number) => self.begin_place(Place::Dimen(*number)),
             Meaning::SkipRegister(number) => self.begin_place(Place::Skip(*number)),
@@ -643,7 +713,7 @@ impl Scans {
             Primitive::Glue(parameter) => self.begin_place(Place::Glue(parameter)),
             Primitive::Tokens(parameter) => self.begin_place(Place::Tokens(parameter)),
             Primitive::Sized(kind) => {
-                self.size.restart(false, false);
+                self.size.restart(is_in_mu(kind), false);
                 self.on(Stage::Sized(SizeUse::Item(kind)), Want::Expanded)
             }
             Primitive::Rule(kind) => {
@@ -682,6 +752,16 @@ impl Scans {
             Primitive::Discretionary => {
                 self.begin_shape(Shaping::Open(Opener::Break(BreakText::Before)))
             }
+            Primitive::MathChar => self.begin_shape(Shaping::MathCharacter),
+            Primitive::Atom(class) => Fed::Done(Command::BeginAtom(class), 0),
+            Primitive::Center => self.begin_shape(Shaping::Center),
+            Primitive::Limits(kind) => Fed::Done(Command::SetLimits(kind), 0),
+            Primitive::Style(style) => Fed::Done(Command::SetStyle(style), 0),
+            Primitive::Choice => Fed::Done(Command::BeginChoice, 0),
+            Primitive::Fraction(kind) => Fed::Done(Command::BeginFraction(kind), 0),
+            Primitive::MathGlue => self.begin_shape(Shaping::MathGlue),
+            Primitive::Nonscript => Fed::Done(Command::Nonscript, 0),
+            Primitive::FamilyFont(size) => self.begin_shape(Shaping::Family(size)),
             Primitive::Insert => self.begin_shape(Shaping::Insert),
             Primitive::Align => Fed::Done(Command::Align, 0),
             Primitive::AlignWord(_) => Fed::Wrong(TexError::MisplacedAlignment),

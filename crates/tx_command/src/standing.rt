@@ -95,6 +95,7 @@ fn is_prefixable(prefixes: Prefixes, primitive: Primitive) -> bool
         | Primitive::PrevGraf
         | Primitive::ParShape
         | Primitive::DeadCycles
+        | Primitive::FamilyFont(_)
         | Primitive::Page(_) => !want_definition(prefixes),
         Primitive::Text(purpose) => assigns_text(purpose) && !want_definition(prefixes),
         Primitive::Relax
@@ -125,6 +126,15 @@ fn is_prefixable(prefixes: Prefixes, primitive: Primitive) -> bool
         | Primitive::Indent(_)
         | Primitive::DiscretionaryHyphen
         | Primitive::Adjust
+        | Primitive::MathChar
+        | Primitive::Atom(_)
+        | Primitive::Center
+        | Primitive::Limits(_)
+        | Primitive::Style(_)
+        | Primitive::Choice
+        | Primitive::Fraction(_)
+        | Primitive::MathGlue
+        | Primitive::Nonscript
         | Primitive::Insert
         | Primitive::Align
         | Primitive::AlignWord(_)

@@ -8,7 +8,7 @@ ghost use Rattle.tx_scan.specs.Rests.{HasTakenBy, IsGivenBehind};
 ghost use Rattle.tx_scan.specs.Supplied.{value_for, NeedsFewer};
 ghost use Rattle.tx_command.specs.declared.types.Head.{Head};
 ghost use Rattle.tx_command.specs.Commands as commands;
-ghost use Rattle.tx_command.specs.Commands.{leaders_before as leaders_of, prefixes_of};
+ghost use Rattle.tx_command.specs.Commands.{leaders_before as leaders_of, part_before as part_of, prefixes_of};
 ghost use Rattle.tx_seen.specs.Magnified.{magnification_in};
 ghost use Rattle.tx_command.specs.Rests.{command_rest, held, more_needed, told, GoesOn, IsOn, IsWaiting};
 ghost use Rattle.tx_command.specs.Taken.{joined, IsEnd, IsPending, IsSettled, IsTaken};
@@ -24,7 +24,7 @@ use std::mem::replace;
 use tx_list::{Items, Kept};
 use tx_node::Rule;
 use tx_pending::Pending;
-use tx_prim::{LeadersKind, Mode, Prefix, Shorthand};
+use tx_prim::{AtomPart, LeadersKind, Mode, Prefix, Shorthand};
 use tx_scan::give_back;
 use tx_seen::{Fed, Item, Kind, Place, Quantities, Seen, Want};
 
@@ -87,6 +87,7 @@ impl CommandScan {
     {
         match &self.head {
             Head::Fresh | Head::Leading(_, _) | Head::Opening(_) => no_prefixes(),
+            Head::Shift | Head::Part(_) => no_prefixes(),
             Head::Aligning(_) | Head::Preamble | Head::Row | Head::Entry => no_prefixes(),
             Head::Prefixed(prefixes) | Head::Defining(prefixes, _, _) | Head::Future(prefixes, _) =>
                 *prefixes,
@@ -102,6 +103,20 @@ impl CommandScan {
             Head::Leading(kind, rule) => Some((*kind, *rule)),
             Head::Fresh | Head::Prefixed(_) | Head::Defining(_, _, _) | Head::Future(_, _) => None,
             Head::Loading(_, _) | Head::Shaping(_, _, _) | Head::Opening(_) => None,
+            Head::Shift | Head::Part(_) => None,
+            Head::Aligning(_) | Head::Preamble | Head::Row | Head::Entry => None,
+        }
+    }
+
+    /// The part of an atom that the command is to be.
+    pub fn part(&self) -> Option<AtomPart>
+        ensures { result ≡ part_of self.now.head }
+    {
+        match &self.head {
+            Head::Part(part) => Some(*part),
+            Head::Fresh | Head::Prefixed(_) | Head::Defining(_, _, _) | Head::Future(_, _) => None,
+            Head::Leading(_, _) | Head::Loading(_, _) | Head::Shaping(_, _, _) => None,
+            Head::Opening(_) | Head::Shift => None,
             Head::Aligning(_) | Head::Preamble | Head::Row | Head::Entry => None,
         }
     }
@@ -114,7 +129,8 @@ impl CommandScan {
             Head::Aligning(level) => *level,
             Head::Fresh | Head::Prefixed(_) | Head::Defining(_, _, _) | Head::Future(_, _) => 0,
             Head::Leading(_, _) | Head::Loading(_, _) | Head::Shaping(_, _, _) => 0,
-            Head::Opening(_) | Head::Preamble | Head::Row | Head::Entry => 0,
+            Head::Opening(_) | Head::Shift | Head::Part(_) => 0,
+            Head::Preamble | Head::Row | Head::Entry => 0,
         }
     }
 
@@ -147,8 +163,8 @@ impl CommandScan {
             Head::Loading(_, _) => is_naming(self.taken.as_slice()),
             Head::Fresh | Head::Prefixed(_) | Head::Defining(_, _, _) => false,
             Head::Future(_, _) | Head::Leading(_, _) | Head::Shaping(_, _, _) => false,
-            Head::Opening(_) | Head::Aligning(_) | Head::Preamble => false,
-            Head::Row | Head::Entry => false,
+            Head::Opening(_) | Head::Shift | Head::Part(_) => false,
+            Head::Aligning(_) | Head::Preamble | Head::Row | Head::Entry => false,
         }
     }
 
@@ -284,8 +300,9 @@ fn begun_want(head: &Head) -> Want
     match head {
         Head::Fresh | Head::Prefixed(_) | Head::Defining(_, _, _) => Want::Expanded,
         Head::Leading(_, _) | Head::Loading(_, _) | Head::Shaping(_, _, _) => Want::Expanded,
-        Head::Opening(_) | Head::Aligning(_) | Head::Row | Head::Entry => Want::Expanded,
-        Head::Future(_, _) | Head::Preamble => Want::Raw,
+        Head::Opening(_) | Head::Part(_) => Want::Expanded,
+        Head::Aligning(_) | Head::Row | Head::Entry => Want::Expanded,
+        Head::Future(_, _) | Head::Shift | Head::Preamble => Want::Raw,
     }
 }
 

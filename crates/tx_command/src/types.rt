@@ -6,8 +6,9 @@ use tx_list::Items;
 use tx_node::Rule;
 use tx_num::Glue;
 use tx_prim::{
-    AfterKind, BoxKind, DefinitionKind, FontNumber, Indentation, Interaction, ItemKind,
-    LeadersKind, PageQuantity, Prefix, RuleKind, Shorthand, SizeKind, TextUse, UnboxKind,
+    AfterKind, AtomClass, AtomPart, BoxKind, DefinitionKind, FontNumber, FractionKind, Indentation,
+    Interaction, ItemKind, LeadersKind, LimitsKind, MathSize, MathStyle, PageQuantity, Prefix,
+    RuleKind, Shorthand, SizeKind, TextUse, UnboxKind,
 };
 use tx_seen::{FontName, Place, Seen};
 use tx_shape::{AskedSize, BoxContext, BoxGoal, Opener};
@@ -50,6 +51,10 @@ pub enum Head {
     Future(Prefixes, Place),
     /// \leaders or its kin and the rule that they repeat: glue is to follow.
     Leading(LeadersKind, Rule),
+    /// A `$` that begins a formula: the token behind it is looked at.
+    Shift,
+    /// An atom with this part empty, which is to follow: a character, or a begin-group token.
+    Part(AtomPart),
     /// \font, with its prefixes and the name that it defines: which font that is to mean is to follow.
     Loading(Prefixes, Place),
     /// \parshape, with its prefixes, how many sizes are to follow, and those that are read, in sp.
@@ -81,13 +86,37 @@ pub enum Command {
     /// `\begingroup` and `\endgroup`.
     BeginSemiSimple,
     EndSemiSimple,
+    /// A `$`.
+    MathShift,
+    /// What stands behind a `$` that begins a formula; it is read again.
+    BeginFormula,
+    /// A character that begins a superscript or a subscript.
+    Script(AtomPart),
+    /// `\mathchar` or what stands for it.
+    MathCharacter(i32),
+    /// `\mathord` or its kin, which the nucleus of the atom is to follow.
+    BeginAtom(AtomClass),
+    /// `\limits` or its kin.
+    SetLimits(LimitsKind),
+    /// `\displaystyle` or its kin.
+    SetStyle(MathStyle),
+    /// `\mathchoice`, whose lists are to follow.
+    BeginChoice,
+    /// `\over` or `\atop`.
+    BeginFraction(FractionKind),
+    /// `\mskip`.
+    MathSkip(Glue),
+    /// `\nonscript`.
+    Nonscript,
+    /// An assignment to the font of a family at a size.
+    SetFamily(MathSize, u8, FontName),
     /// A prefix of the command behind it.
     Prefix(Prefix),
     /// `\chardef` or its kin and the name that it defines.
     Define(Place, Shorthand),
     /// An assignment.
     Assign(Assignment),
-    /// A size in sp: that of a `\kern`, or the next one of `\parshape`.
+    /// A size in sp: that of a `\kern`, of the line of a fraction, or the next one of `\parshape`; that of an `\mkern` is in mu.
     Sized(SizeUse, i32),
     /// `\vrule`.
     Rule(RuleKind, Rule),

@@ -1,5 +1,5 @@
 use Rattle.std.proofs.Common.{ap}
-use Rattle.tx_command.proofs.Stages.{first-fresh, first-prefixed, first-future, first-leading, first-loading, first-shaping, first-opening, first-aligning, first-preamble, first-row, first-entry}
+use Rattle.tx_command.proofs.Stages.{first-fresh, first-prefixed, first-future, first-leading, first-shift, first-part, first-loading, first-shaping, first-opening, first-aligning, first-preamble, first-row, first-entry}
 use Rattle.tx_command.proofs.scans.Scans.begin_command.Goals as goal
 
 pub returns-in-Fresh : goal.returns-in-Fresh
@@ -10,6 +10,12 @@ returns-in-Prefixed c = first-prefixed c.args.mode c.args.head.now _ c.args.toke
 
 pub returns-in-Leading : goal.returns-in-Leading
 returns-in-Leading c = first-leading c.args.mode c.args.head.now _ _ c.args.token.now c.feed_leading.new.self c.feed_leading.result c.in-Leading.is c.feed_leading.ensures
+
+pub returns-in-Shift : goal.returns-in-Shift
+returns-in-Shift c = first-shift c.args.mode c.args.head.now c.args.token.now _ c.feed_shift.result c.in-Shift.is c.feed_shift.ensures
+
+pub returns-in-Part : goal.returns-in-Part
+returns-in-Part c = first-part c.args.mode c.args.head.now _ c.args.token.now c.feed_atom.new.self c.feed_atom.result c.in-Part.is c.feed_atom.ensures
 
 pub returns-in-Future : goal.returns-in-Future
 returns-in-Future c = rw c.on.ensures.answer (first-future c.args.mode c.args.head.now _ _ c.args.token.now c.on.new.self c.in-Future.is (ap (λ scans. scans.stage) c.on.ensures.scans))

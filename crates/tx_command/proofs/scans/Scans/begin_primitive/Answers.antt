@@ -1,4 +1,5 @@
 use Rattle.std.proofs.Common.{refl, ap, ◌∙◌}
+use Rattle.tx_scan.specs.DimensionRests.{begun_size}
 use Rattle.tx_seen.specs.declared.fed.Want.TheVariants.{Raw}
 use Rattle.tx_command.specs.declared.types.SizeUse.TheVariants.{Item}
 use Rattle.tx_command.proofs.Stages.{font-begun, future-begun, kept-begun, leaders-begun, macro-begun, name-begun, size-begun, rule-begun, spaces-begun}
@@ -40,7 +41,7 @@ returns-in-Shorthand c = rw (c.in-Shorthand.is, c.on.ensures.answer) (name-begun
 pub returns-in-Sized : goal.returns-in-Sized
 returns-in-Sized c =
     rw (c.in-Sized.is, c.on-in-Sized.ensures.answer)
-    (size-begun (Item c.in-Sized.kind) c.on-in-Sized.new.self (ap (λ scans. scans.stage) c.on-in-Sized.ensures.scans) (ap (λ scans. scans.size) c.on-in-Sized.ensures.scans ∙ c.restart.ensures.scan))
+    (size-begun (Item c.in-Sized.kind) c.on-in-Sized.new.self (ap (λ scans. scans.stage) c.on-in-Sized.ensures.scans) (ap (λ scans. scans.size) c.on-in-Sized.ensures.scans ∙ (c.restart.ensures.scan ∙ ap (λ mu. begun_size (record { mu = mu; infinite = false })) c.is_in_mu.ensures)))
 
 pub returns-in-Rule : goal.returns-in-Rule
 returns-in-Rule c =
@@ -101,6 +102,18 @@ returns-in-PrevGraf c = rw c.in-PrevGraf.is c.begin_shape-in-PrevGraf.ensures
 
 pub returns-in-DeadCycles : goal.returns-in-DeadCycles
 returns-in-DeadCycles c = rw c.in-DeadCycles.is c.begin_shape-in-DeadCycles.ensures
+
+pub returns-in-MathChar : goal.returns-in-MathChar
+returns-in-MathChar c = rw c.in-MathChar.is c.begin_shape-in-MathChar.ensures
+
+pub returns-in-Center : goal.returns-in-Center
+returns-in-Center c = rw c.in-Center.is c.begin_shape-in-Center.ensures
+
+pub returns-in-MathGlue : goal.returns-in-MathGlue
+returns-in-MathGlue c = rw c.in-MathGlue.is c.begin_shape-in-MathGlue.ensures
+
+pub returns-in-FamilyFont : goal.returns-in-FamilyFont
+returns-in-FamilyFont c = rw c.in-FamilyFont.is c.begin_shape-in-FamilyFont.ensures
 
 pub returns-in-Insert : goal.returns-in-Insert
 returns-in-Insert c = rw c.in-Insert.is c.begin_shape-in-Insert.ensures
