@@ -1,6 +1,7 @@
 -- Fonts that are named, loaded and changed (TeX: The Program, sections 1253 and 1256 to 1260).
-use Rattle.std.specs.Prelude.{ℕ, Bool, ◌&&◌, nat_lt, nat_le, List, [], ◌∷◌, ◌++◌, length, Option, Some, None, codes, if◌then◌else◌}
-use Rattle.tx_eqtb.specs.declared.entry.Entry.TheVariants.{Means}
+use Rattle.std.specs.Prelude.{ℕ, pos, Bool, ◌&&◌, nat_lt, nat_le, List, [], ◌∷◌, ◌++◌, length, Option, Some, None, codes, if◌then◌else◌}
+use Rattle.tx_eqtb.specs.declared.entry.Entry.TheVariants.{Means, Number as A_number}
+use Rattle.tx_prim.specs.declared.family.MathSize.{MathSize}
 use Rattle.tx_prim.specs.declared.integer.IntegerParameter.TheVariants.{Defaulthyphenchar, Defaultskewchar}
 use Rattle.tx_prim.specs.declared.primitive.Primitive.TheVariants.{NullFont}
 use Rattle.tx_seen.specs.declared.error.TexError.TheVariants.{BadFont}
@@ -9,7 +10,7 @@ use Rattle.tx_seen.specs.declared.place.FontName.TheVariants.{Current, Number}
 use Rattle.tx_seen.specs.declared.meaning.Meaning.{Meaning}
 use Rattle.tx_seen.specs.declared.meaning.Meaning.TheVariants.{Font, Command as Command_meaning}
 use Rattle.tx_seen.specs.declared.place.Place.{Place}
-use Rattle.tx_seen.specs.declared.place.Place.TheVariants.{Active, Name}
+use Rattle.tx_seen.specs.declared.place.Place.TheVariants.{Active, Family, Name}
 use Rattle.tx_assign.specs.declared.types.Assignment.{Assignment}
 use Rattle.tx_assign.specs.declared.types.Change.TheVariants.{Set}
 use Rattle.tx_assign.specs.Changes.{carried_out}
@@ -37,6 +38,13 @@ setting_fonts s fonts = leaves (assigned (record s { words = record s.words { fo
 abbrev pub number_of : TexState → FontName → ℕ
 number_of s Current = current_font s.table.table
 number_of s (Number n) = n
+
+-- the font of a family at a size (section 1234)
+abbrev pub in_family : MathSize → ℕ → ℕ → Assignment
+in_family size family font = record { place = Family size family; change = Set (A_number (pos font)) }
+
+abbrev pub setting_family : TexState → MathSize → ℕ → FontName → Outcome
+setting_family s size family font = assigning s (carried_out s.table (in_family size family (number_of s font)) (prefixes_of s.head).global)
 
 -- a name has a meaning from now on
 abbrev pub meant : Meaning → Place → Assignment

@@ -1,11 +1,11 @@
 -- Characters, words, spaces and italic corrections in a list (TeX: The Program, sections 1030 to 1045, 1113 and 1243).
-use Rattle.std.specs.Prelude.{ℕ, ℤ, Bool, true, false, ◌||◌, List, [], ◌∷◌, Option, Some, None, unwrap_or, if◌then◌else◌}
+use Rattle.std.specs.Prelude.{ℕ, ℤ, pos, Bool, true, false, ◌||◌, List, [], ◌∷◌, Option, Some, None, unwrap_or, if◌then◌else◌}
 use Rattle.tx_nest.specs.Changed.{with_factor}
 use Rattle.tx_nest.specs.declared.state.ModeState.{ModeState}
 use Rattle.tx_nest.specs.declared.state.ModeState.TheVariants.{Vertical, InternalVertical, Horizontal, RestrictedHorizontal, Math, DisplayMath}
 use Rattle.tx_nest.specs.Factors.{factor_of, plain_factor}
 use Rattle.tx_nest.specs.States.{space_factor}
-use Rattle.tx_node.specs.declared.plain.KernKind.TheVariants.{Explicit}
+use Rattle.tx_node.specs.declared.plain.KernKind.TheVariants.{Explicit, Implicit}
 use Rattle.tx_node.specs.declared.plain.Plain.TheVariants.{Glue, Kern}
 use Rattle.tx_node.specs.Items.{Item, plain}
 use Rattle.tx_num.specs.Glue.{GlueSpec}
@@ -116,28 +116,27 @@ abbrev pub spacing : TexState → Option ℕ → Outcome
 spacing s None = leaves s
 spacing s (Some factor) = space_at s factor
 
--- `\ ' in a horizontal list is a plain space
-abbrev pub control_spacing : TexState → Option ℕ → Outcome
-control_spacing s None = leaves s
-control_spacing s (Some factor) = space_at s plain_factor
+-- `\ ' in a horizontal list and in a formula is a plain space
+abbrev pub control_spacing : TexState → Outcome
+control_spacing s = space_at s plain_factor
 
 -- \/ behind a character or a ligature is a kern of its italic correction, as if \kern had put it there
 abbrev pub kerning : TexState → Option ℤ → Outcome
 kerning s None = leaves s
 kerning s (Some size) = leaves (with_more s (plain (Kern Explicit size) ∷ []))
 
+-- in a formula it is a kern of no size (section 1112)
 abbrev pub correcting : TexState → Option ℕ → Outcome
-correcting s None = leaves s
+correcting s None = leaves (with_more s (plain (Kern Implicit (pos 0)) ∷ []))
 correcting s (Some factor) = kerning s (last_italic s.words.fonts s.lists.nest.innermost.nodes)
 
--- `\-' in a horizontal list: a word may be broken there, behind the font's hyphen character, of which is told where the font lacks it
+-- `\-' in a horizontal list or in a formula: a word may be broken there, behind the font's hyphen character, of which is told where the font lacks it
 -- (section 1117)
 abbrev pub breaking_in : TexState → ℕ → Outcome
 breaking_in s font = Leaves (with_more s (hyphen_item s.words.fonts font ∷ [])) (lacking_report s.words.fonts font (hyphen_lacking s.words.fonts font))
 
-abbrev pub breaking : TexState → Option ℕ → Outcome
-breaking s None = leaves s
-breaking s (Some factor) = breaking_in s (current_font s.table.table)
+abbrev pub breaking : TexState → Outcome
+breaking s = breaking_in s (current_font s.table.table)
 
 -- \spacefactor, which may stand in horizontal modes alone (section 1243)
 abbrev pub setting_factor : TexState → Option ℕ → Outcome

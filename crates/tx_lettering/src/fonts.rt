@@ -14,7 +14,7 @@ use tx_bytes::Bytes;
 use tx_command::{AskedSize, Head};
 use tx_eqtb::Entry;
 use tx_machine::{Ask, AskKind, Event};
-use tx_prim::{FontNumber, IntegerParameter, Primitive};
+use tx_prim::{FontNumber, IntegerParameter, MathSize, Primitive};
 use tx_seen::{FontName, Meaning, Place, TexError};
 use tx_state::{Due, FontRequest, State, ask, assign_so, end_assignment, fail, integer};
 use tx_tfm::{Font, FontError, Fonts, NamedFont};
@@ -273,4 +273,29 @@ pub fn set_integer(
     let number = number_of(s, font);
     s.words.set_integer(kind, number, value)?;
     end_assignment(s)
+}
+
+/// The font of a family at a size.
+fn in_family(size: MathSize, family: u8, font: u8) -> Assignment
+    ensures { result ≡ spec.in_family size family font }
+{
+    Assignment {
+        place: Place::Family(size, family),
+        change: Change::Set(Entry::Number(i32::from(font))),
+    }
+}
+
+/// An assignment to a \textfont, \scriptfont or \scriptscriptfont.
+pub fn set_family(
+    s: &mut State,
+    size: MathSize,
+    family: u8,
+    font: FontName,
+) -> Result<Event, AllocError>
+    requires { s.old.phase ≡ Phase.Running }
+    ensures { IfOk result (λ event. IsStepped (spec.setting_family (state_of s.old) size family font) s.old event s.new) }
+{
+    let number = number_of(s, font);
+    let global = s.scan.prefixes().global;
+    assign_so(s, in_family(size, family, number), global)
 }

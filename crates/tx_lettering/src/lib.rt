@@ -12,7 +12,9 @@ mod letters;
 mod texts;
 mod words;
 
-pub use fonts::{define_font, find_font, load_font, set_dimension, set_integer, with_file};
+pub use fonts::{
+    define_font, find_font, load_font, set_dimension, set_family, set_integer, with_file,
+};
 pub use texts::{begin_list, begin_text, define_macro, end_text, relax_name};
 pub use words::{
     break_word, control_space, correct_italic, current_font, end_word, factor_now, pass_factor,

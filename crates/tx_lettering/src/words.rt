@@ -193,12 +193,9 @@ pub fn space(s: &mut State) -> Result<Event, AllocError>
 /// `\ `.
 pub fn control_space(s: &mut State) -> Result<Event, AllocError>
     requires { s.old.phase ≡ Phase.Running }
-    ensures { IfOk result (λ event. IsStepped (spec.control_spacing (state_of s.old) (spec.factor_now (state_of s.old))) s.old event s.new) }
+    ensures { IfOk result (λ event. IsStepped (spec.control_spacing (state_of s.old)) s.old event s.new) }
 {
-    match factor_now(s) {
-        Some(_) => space_at(s, SpaceFactor::plain()),
-        None => Ok(Event::Went),
-    }
+    space_at(s, SpaceFactor::plain())
 }
 
 /// The kern of `\/` in a horizontal list, where a character or a ligature stands last.
@@ -219,7 +216,7 @@ pub fn correct_italic(s: &mut State) -> Result<Event, AllocError>
 {
     match factor_now(s) {
         Some(_) => add_italic(s),
-        None => Ok(Event::Went),
+        None => add(s, Node::Plain(Plain::Kern(KernKind::Implicit, 0))),
     }
 }
 
@@ -245,12 +242,9 @@ fn add_break(alloc: Global, s: &mut State) -> Result<Event, AllocError>
 /// `\-`.
 pub fn break_word(alloc: Global, s: &mut State) -> Result<Event, AllocError>
     requires { s.old.phase ≡ Phase.Running }
-    ensures { IfOk result (λ event. IsStepped (spec.breaking (state_of s.old) (spec.factor_now (state_of s.old))) s.old event s.new) }
+    ensures { IfOk result (λ event. IsStepped (spec.breaking (state_of s.old)) s.old event s.new) }
 {
-    match factor_now(s) {
-        Some(_) => add_break(alloc, s),
-        None => Ok(Event::Went),
-    }
+    add_break(alloc, s)
 }
 
 /// The number is the space factor of a horizontal list.
