@@ -7,4 +7,5 @@ pub mod Leaving
 pub mod Building
 pub mod DueWork
 pub mod Breaks
+pub mod FormulaLists
 pub mod Inserts

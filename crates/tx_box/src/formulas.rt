@@ -22,7 +22,7 @@ fn append_nodes(noads: &mut Mlist, nodes: Nodes) -> Result<(), AllocError>
 }
 
 /// A formula with nodes behind its noads. Its only error is want of memory.
-fn with_nodes(formula: OpenFormula, nodes: Nodes) -> Result<OpenFormula, AllocError>
+pub fn with_nodes(formula: OpenFormula, nodes: Nodes) -> Result<OpenFormula, AllocError>
     ensures { IfOk result (λ more. more ≡ spec.with_more (map material nodes) formula) }
 {
     let mut formula = formula;
