@@ -69,7 +69,7 @@ impl Field {
 }
 
 /// An atom that has nothing yet. Its only error is want of memory.
-fn bare(alloc: Global, kind: AtomKind) -> Result<Noad, AllocError>
+pub fn bare(alloc: Global, kind: AtomKind) -> Result<Noad, AllocError>
     ensures { IfOk result (λ noad. math_of noad ≡ spec.bare kind) }
 {
     Noad::from_atom(

@@ -1,5 +1,5 @@
 //! The lists of \mathchoice, as they are read.
-ghost use Rattle.std.specs.Prelude.{◌≡◌, ◌∷◌, ◌++◌, [], IfOk, OnOk};
+ghost use Rattle.std.specs.Prelude.{◌≡◌, IfOk, OnOk};
 ghost use Rattle.tx_mlist.specs.Choices as spec;
 ghost use Rattle.tx_mlist.specs.Items.{gathered};
 ghost use Rattle.tx_mlist.specs.Noads.{choice_of, math_of};
@@ -10,16 +10,19 @@ use std::alloc::{AllocError, Global};
 use std::rc::Rc;
 use tx_prim::MathStyle;
 
-/// A choice whose lists are empty; takes no memory.
-fn no_choice(alloc: Global) -> Choice
-    ensures { choice_of result ≡ spec.no_choice }
+/// \mathchoice, whose lists are to be read. Its only error is want of memory.
+pub fn no_choice(alloc: Global) -> Result<Noad, AllocError>
+    ensures { IfOk result (λ noad. math_of noad ≡ spec.no_choice) }
 {
-    Choice {
-        display: InnerList::empty(alloc),
-        text: InnerList::empty(alloc),
-        script: InnerList::empty(alloc),
-        script_script: InnerList::empty(alloc),
-    }
+    Noad::from_choice(
+        alloc,
+        Choice {
+            display: InnerList::empty(alloc),
+            text: InnerList::empty(alloc),
+            script: InnerList::empty(alloc),
+            script_script: InnerList::empty(alloc),
+        },
+    )
 }
 
 /// Puts a list into a choice, for a style.
@@ -52,13 +55,6 @@ fn with_list(noad: Noad, style: MathStyle, list: InnerList) -> Result<Noad, Allo
 }
 
 impl Mlist {
-    /// Puts a choice at the end, whose lists are to be read. Its only error is want of memory.
-    pub fn begin_choice(&mut self, alloc: Global) -> Result<(), AllocError>
-        ensures { OnOk result (self.new ≡ self.old ++ spec.no_choice ∷ []) }
-    {
-        self.push(Noad::from_choice(alloc, no_choice(alloc))?)
-    }
-
     /// Puts a list, for a style, into the last noad, which is a choice; else nothing changes. After want of memory, its only error,
     /// the list may only be dropped.
     #[tactic(auto, using(crate::proofs::Lists::changed_last, crate::proofs::Lists::changed_none))]

@@ -20,7 +20,8 @@ mod plain;
 mod same;
 
 pub use above::Above;
-pub use building::{kind_of, letter_of};
+pub use building::{bare, kind_of, letter_of};
+pub use choices::no_choice;
 pub use error::MlistError;
 pub use kinds::{AtomKind, Limits, MathCharacter, Place};
 pub use mlist::Mlist;
