@@ -1,0 +1,9 @@
+pub mod Kinds
+pub mod Errors
+pub mod Noads
+pub mod Characters
+pub mod Atoms
+pub mod Lists
+pub mod Groups
+pub mod Params
+pub mod Shifts

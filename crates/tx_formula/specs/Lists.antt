@@ -1,0 +1,44 @@
+-- What the lists of formulas come to when they end (TeX: The Program, sections 1174 and 1184 to 1186).
+use Rattle.std.specs.Prelude.{List, Option, Some, None, map, Result, Ok, Err}
+use Rattle.tx_box.specs.declared.parts.Lists.{Lists}
+use Rattle.tx_box.specs.declared.parts.OpenFormula.{OpenFormula}
+use Rattle.tx_box.specs.FormulaLists.{FormulaLeft, left_formula}
+use Rattle.tx_box.specs.Formulas.{with_more}
+use Rattle.tx_mlist.specs.declared.error.MlistError.{MlistError}
+use Rattle.tx_mlist.specs.Building.{finished, inner, part_of_group}
+use Rattle.tx_mlist.specs.Items.{MathItem, Part, material}
+use Rattle.tx_seen.specs.declared.error.TexError.{TexError}
+use Rattle.tx_seen.specs.declared.error.TexError.TheVariants.{ExtraGroupEnd}
+use Rattle.tx_formula.specs.Errors.{list_error}
+
+-- what comes of it, with the lists around
+abbrev pub beside : {A : Type 0} → Lists → Result A MlistError → Result (A × Lists) TexError
+beside lists (Err error) = Err (list_error error)
+beside lists (Ok made) = Ok (made, lists)
+
+-- the innermost formula ends: its noads, and the nodes behind them, below those that stand above the line of a fraction
+abbrev pub whole_list : OpenFormula → Result (List MathItem) MlistError
+whole_list formula = finished formula.above formula.noads
+
+abbrev pub ended_by : Option FormulaLeft → Result (List MathItem × Lists) TexError
+ended_by None = Err ExtraGroupEnd
+ended_by (Some left) = beside left.lists (whole_list (with_more (map material left.nodes) left.formula))
+
+abbrev pub ended_list : Lists → Result (List MathItem × Lists) TexError
+ended_list lists = ended_by (left_formula lists)
+
+-- as a part of an atom
+abbrev pub part_by : Result (List MathItem × Lists) TexError → Result (Part × Lists) TexError
+part_by (Err error) = Err error
+part_by (Ok ended) = beside ended.1 (part_of_group ended.0)
+
+abbrev pub ended_part : Lists → Result (Part × Lists) TexError
+ended_part lists = part_by (ended_list lists)
+
+-- as a list of \mathchoice
+abbrev pub inner_by : Result (List MathItem × Lists) TexError → Result (List MathItem × Lists) TexError
+inner_by (Err error) = Err error
+inner_by (Ok ended) = beside ended.1 (inner ended.0)
+
+abbrev pub ended_inner : Lists → Result (List MathItem × Lists) TexError
+ended_inner lists = inner_by (ended_list lists)

@@ -1,0 +1,130 @@
+//! Atoms, scripts, limits, choices and fractions begin.
+ghost use Rattle.std.specs.Prelude.{◌≡◌, ◌≢◌, [], Ok, Err, IfOk, IfErr, OnOk};
+ghost use Rattle.tx_formula.specs.Atoms as spec;
+ghost use Rattle.tx_formula.specs.declared.error.FormulaError.TheVariants.{OutOfMemory};
+ghost use Rattle.tx_formula.specs.Errors.{error_of};
+ghost use Rattle.tx_state.specs.declared.parts.Phase.{Phase};
+ghost use Rattle.tx_state.specs.Meanings.{IsStepped, state_of};
+
+use crate::error::{FormulaError, fail_by};
+use crate::kinds::{kind_from, limits_of, place_of};
+use crate::noads::{limit, prepare_script};
+use std::alloc::{AllocError, Global};
+use tx_box::{OpenFormula, append_noad, settle};
+use tx_command::Head;
+use tx_list::Stack;
+use tx_machine::Event;
+use tx_mlist::{Above, Mlist, bare, no_choice};
+use tx_prim::{AtomClass, AtomPart, LimitsKind, MathStyle};
+use tx_seen::TexError;
+use tx_shape::Opener;
+use tx_state::{State, fail};
+
+/// \mathord or its kin: an atom, whose nucleus is to follow.
+pub fn begin_atom(alloc: Global, s: &mut State, class: AtomClass) -> Result<Event, AllocError>
+    requires running { s.old.phase ≡ Phase.Running }
+    requires between { s.old.scan.taken ≡ [] }
+    ensures { IfOk result (λ event. IsStepped (spec.beginning_atom (state_of s.old) class) s.old event s.new) }
+{
+    let atom = bare(alloc, kind_from(class))?;
+    append_noad(alloc, &mut s.lists, atom)?;
+    s.scan.begin_behind(Head::Part(AtomPart::Nucleus));
+    Ok(Event::Went)
+}
+
+/// `^` or `_`: a script is to follow. `BadFormula` exactly where the atom before has one there.
+pub fn begin_script(alloc: Global, s: &mut State, part: AtomPart) -> Result<Event, AllocError>
+    requires running { s.old.phase ≡ Phase.Running }
+    requires between { s.old.scan.taken ≡ [] }
+    ensures { IfOk result (λ event. IsStepped (spec.scripting (state_of s.old) part) s.old event s.new) }
+{
+    settle(alloc, &mut s.lists)?;
+    if prepare_script(alloc, &mut s.lists.formulas, place_of(part))? {
+        return Ok(fail(s, TexError::BadFormula));
+    }
+    s.scan.begin_behind(Head::Part(part));
+    Ok(Event::Went)
+}
+
+/// \limits or its kin. `BadFormula` exactly where no large operator stands before it.
+pub fn set_limits(alloc: Global, s: &mut State, kind: LimitsKind) -> Result<Event, AllocError>
+    requires running { s.old.phase ≡ Phase.Running }
+    ensures { IfOk result (λ event. IsStepped (spec.limiting (state_of s.old) kind) s.old event s.new) }
+{
+    settle(alloc, &mut s.lists)?;
+    if limit(&mut s.lists.formulas, limits_of(kind))? {
+        Ok(Event::Went)
+    } else {
+        Ok(fail(s, TexError::BadFormula))
+    }
+}
+
+/// \mathchoice, whose lists are to follow.
+pub fn begin_choice(alloc: Global, s: &mut State) -> Result<Event, AllocError>
+    requires running { s.old.phase ≡ Phase.Running }
+    requires between { s.old.scan.taken ≡ [] }
+    ensures { IfOk result (λ event. IsStepped (spec.beginning_choice (state_of s.old)) s.old event s.new) }
+{
+    let choice = no_choice(alloc)?;
+    append_noad(alloc, &mut s.lists, choice)?;
+    s.scan
+        .begin_behind(Head::Opening(Opener::Choice(MathStyle::Display)));
+    Ok(Event::Went)
+}
+
+/// What a formula becomes by \over or its kin.
+fn divided(
+    alloc: Global,
+    formula: OpenFormula,
+    thickness: Option<i32>,
+) -> Result<OpenFormula, FormulaError>
+    ensures made { IfOk result (λ made. spec.divided thickness formula ≡ Ok made) }
+    ensures error { IfErr result (λ e. e ≢ OutOfMemory → spec.divided thickness formula ≡ Err (error_of e)) }
+{
+    let OpenFormula { noads, above } = formula;
+    match above {
+        Some(_) => Err(FormulaError::Refused(TexError::BadFormula)),
+        None => {
+            let numerator = noads.into_inner()?;
+            Ok(OpenFormula {
+                noads: Mlist::new(alloc),
+                above: Some(Above {
+                    thickness,
+                    numerator,
+                }),
+            })
+        }
+    }
+}
+
+/// The same of the innermost formula.
+fn divide_first(
+    alloc: Global,
+    formulas: &mut Stack<OpenFormula>,
+    thickness: Option<i32>,
+) -> Result<(), FormulaError>
+    ensures made { OnOk result (spec.first_divided thickness formulas.old ≡ Ok formulas.new) }
+    ensures error { IfErr result (λ e. e ≢ OutOfMemory → spec.first_divided thickness formulas.old ≡ Err (error_of e)) }
+{
+    match formulas.pop() {
+        Some(formula) => {
+            let formula = divided(alloc, formula, thickness)?;
+            formulas.push(formula)?;
+            Ok(())
+        }
+        None => Err(FormulaError::Refused(TexError::BadFormula)),
+    }
+}
+
+/// \over or its kin: all that the formula has stands above a line that is so many sp thick, or as thick as the fonts tell.
+/// `BadFormula` where a line came already.
+pub fn divide(alloc: Global, s: &mut State, thickness: Option<i32>) -> Result<Event, AllocError>
+    requires { s.old.phase ≡ Phase.Running }
+    ensures { IfOk result (λ event. IsStepped (spec.dividing (state_of s.old) thickness) s.old event s.new) }
+{
+    settle(alloc, &mut s.lists)?;
+    match divide_first(alloc, &mut s.lists.formulas, thickness) {
+        Ok(()) => Ok(Event::Went),
+        Err(error) => fail_by(s, error),
+    }
+}

@@ -1,0 +1,131 @@
+//! Groups of formulas begin and end.
+ghost use Rattle.std.specs.Prelude.{◌≡◌, [], Some, IfOk, OnOk};
+ghost use Rattle.tx_command.specs.Commands.{part_before};
+ghost use Rattle.tx_eqtb.specs.Stack.{kind_of};
+ghost use Rattle.tx_formula.specs.Groups as spec;
+ghost use Rattle.tx_mlist.specs.Noads.{part_of};
+ghost use Rattle.tx_state.specs.declared.parts.Phase.{Phase};
+ghost use Rattle.tx_state.specs.Meanings.{IsStepped, state_of};
+ghost use Rattle.tx_state.specs.Outcomes.{leaves};
+
+use crate::error::fail_by;
+use crate::kinds::place_of;
+use crate::lists::{end_inner_list, end_part_list};
+use crate::noads::{choose, fill};
+use std::alloc::{AllocError, Global};
+use tx_box::{append_noad, begin_formula};
+use tx_command::Head;
+use tx_eqtb::GroupKind;
+use tx_machine::Event;
+use tx_mlist::{AtomKind, Field, InnerList, bare};
+use tx_prim::{AtomPart, MathStyle, Mode};
+use tx_shape::Opener;
+use tx_state::{State, leave_group, open};
+
+/// A formula begins in the list that is being built, behind nothing. Its only error is want of memory.
+pub(crate) fn begin(alloc: Global, s: &mut State) -> Result<(), AllocError>
+    ensures state { OnOk result (state_of s.new ≡ spec.begun (state_of s.old)) }
+    ensures phase { OnOk result (s.new.phase ≡ s.old.phase) }
+    ensures said { OnOk result (s.new.said ≡ s.old.said) }
+{
+    begin_formula(alloc, &mut s.lists)?;
+    s.scan.begin_fresh();
+    s.scan.enter(Mode::Math);
+    Ok(())
+}
+
+/// The same in a group of this kind. `TooManyGroups` exactly where 255 are open.
+pub fn open_formula(alloc: Global, s: &mut State, kind: GroupKind) -> Result<Event, AllocError>
+    requires { s.old.phase ≡ Phase.Running }
+    ensures { IfOk result (λ event. IsStepped (spec.opening_formula (state_of s.old) kind) s.old event s.new) }
+{
+    begin(alloc, s)?;
+    open(s, kind)
+}
+
+/// A begin-group token: the list is the part that is awaited, or else the nucleus of an Ord.
+pub fn begin_group(alloc: Global, s: &mut State) -> Result<Event, AllocError>
+    requires running { s.old.phase ≡ Phase.Running }
+    requires between { s.old.scan.taken ≡ [] }
+    ensures { IfOk result (λ event. IsStepped (spec.grouping (state_of s.old) (part_before s.old.scan.head)) s.old event s.new) }
+{
+    match s.scan.part() {
+        Some(part) => open_formula(alloc, s, GroupKind::MathPart(part)),
+        None => {
+            let atom = bare(alloc, AtomKind::Ord)?;
+            append_noad(alloc, &mut s.lists, atom)?;
+            open_formula(alloc, s, GroupKind::MathPart(AtomPart::Nucleus))
+        }
+    }
+}
+
+/// The group of a list, of this kind, ends behind its list, and the list around it goes on. Its only error is want of memory.
+pub(crate) fn go_on(s: &mut State, kind: GroupKind) -> Result<(), AllocError>
+    requires { kind_of s.old.table ≡ Some kind }
+    ensures state { OnOk result (state_of s.new ≡ spec.behind_formula (state_of s.old) s.old.lists) }
+    ensures phase { OnOk result (s.new.phase ≡ s.old.phase) }
+    ensures said { OnOk result (s.new.said ≡ s.old.said) }
+{
+    leave_group(s, kind)?;
+    s.scan.enter(s.lists.nest.innermost().mode());
+    Ok(())
+}
+
+/// What a group gives stands at its place in the atom.
+fn give_part(s: &mut State, part: AtomPart, field: Field) -> Result<Event, AllocError>
+    requires running { s.old.phase ≡ Phase.Running }
+    requires kind { kind_of s.old.table ≡ Some (GroupKind.MathPart part) }
+    ensures { IfOk result (λ event. IsStepped (leaves (spec.with_part (state_of s.old) part (part_of field) s.old.lists)) s.old event s.new) }
+{
+    fill(&mut s.lists.formulas, place_of(part), field)?;
+    go_on(s, GroupKind::MathPart(part))?;
+    Ok(Event::Went)
+}
+
+/// The end of a group that gives a part of an atom.
+pub fn end_part(alloc: Global, s: &mut State, part: AtomPart) -> Result<Event, AllocError>
+    requires running { s.old.phase ≡ Phase.Running }
+    requires kind { kind_of s.old.table ≡ Some (GroupKind.MathPart part) }
+    ensures { IfOk result (λ event. IsStepped (spec.ending_part (state_of s.old) part) s.old event s.new) }
+{
+    match end_part_list(alloc, &mut s.lists) {
+        Ok(field) => give_part(s, part, field),
+        Err(error) => fail_by(s, error),
+    }
+}
+
+/// What stands before the command behind a list of \mathchoice.
+fn head_behind(style: MathStyle) -> Head
+    ensures { result ≡ spec.head_behind style }
+{
+    match style {
+        MathStyle::Display => Head::Opening(Opener::Choice(MathStyle::Text)),
+        MathStyle::Text => Head::Opening(Opener::Choice(MathStyle::Script)),
+        MathStyle::Script => Head::Opening(Opener::Choice(MathStyle::ScriptScript)),
+        MathStyle::ScriptScript => Head::Fresh,
+    }
+}
+
+/// A list stands for its style in the choice, behind which the next one is to follow.
+fn give_choice(s: &mut State, style: MathStyle, list: InnerList) -> Result<Event, AllocError>
+    requires running { s.old.phase ≡ Phase.Running }
+    requires kind { kind_of s.old.table ≡ Some (GroupKind.MathChoice style) }
+    ensures { IfOk result (λ event. IsStepped (leaves (spec.with_choice (state_of s.old) style list s.old.lists)) s.old event s.new) }
+{
+    choose(&mut s.lists.formulas, style, list)?;
+    go_on(s, GroupKind::MathChoice(style))?;
+    s.scan.begin_behind(head_behind(style));
+    Ok(Event::Went)
+}
+
+/// The end of a list of \mathchoice.
+pub fn end_choice(alloc: Global, s: &mut State, style: MathStyle) -> Result<Event, AllocError>
+    requires running { s.old.phase ≡ Phase.Running }
+    requires kind { kind_of s.old.table ≡ Some (GroupKind.MathChoice style) }
+    ensures { IfOk result (λ event. IsStepped (spec.ending_choice (state_of s.old) style) s.old event s.new) }
+{
+    match end_inner_list(alloc, &mut s.lists) {
+        Ok(list) => give_choice(s, style, list),
+        Err(error) => fail_by(s, error),
+    }
+}
