@@ -11,14 +11,19 @@ use Rattle.tx_seen.specs.declared.error.TexError.{TexError}
 use Rattle.tx_seen.specs.declared.error.TexError.TheVariants.{ExtraGroupEnd}
 use Rattle.tx_formula.specs.Errors.{list_error}
 
--- what comes of it, with the lists around
-abbrev pub beside : {A : Type 0} → Lists → Result A MlistError → Result (A × Lists) TexError
-beside lists (Err error) = Err (list_error error)
+-- what comes of a list
+abbrev pub given : {A : Type 0} → Result A MlistError → Result A TexError
+given (Err error) = Err (list_error error)
+given (Ok made) = Ok made
+
+-- with the lists around it
+abbrev pub beside : {A : Type 0} → Lists → Result A TexError → Result (A × Lists) TexError
+beside lists (Err error) = Err error
 beside lists (Ok made) = Ok (made, lists)
 
 -- the innermost formula ends: its noads, and the nodes behind them, below those that stand above the line of a fraction
-abbrev pub whole_list : OpenFormula → Result (List MathItem) MlistError
-whole_list formula = finished formula.above formula.noads
+abbrev pub whole_list : OpenFormula → Result (List MathItem) TexError
+whole_list formula = given (finished formula.above formula.noads)
 
 abbrev pub ended_by : Option FormulaLeft → Result (List MathItem × Lists) TexError
 ended_by None = Err ExtraGroupEnd
@@ -30,7 +35,7 @@ ended_list lists = ended_by (left_formula lists)
 -- as a part of an atom
 abbrev pub part_by : Result (List MathItem × Lists) TexError → Result (Part × Lists) TexError
 part_by (Err error) = Err error
-part_by (Ok ended) = beside ended.1 (part_of_group ended.0)
+part_by (Ok ended) = beside ended.1 (given (part_of_group ended.0))
 
 abbrev pub ended_part : Lists → Result (Part × Lists) TexError
 ended_part lists = part_by (ended_list lists)
@@ -38,7 +43,7 @@ ended_part lists = part_by (ended_list lists)
 -- as a list of \mathchoice
 abbrev pub inner_by : Result (List MathItem × Lists) TexError → Result (List MathItem × Lists) TexError
 inner_by (Err error) = Err error
-inner_by (Ok ended) = beside ended.1 (inner ended.0)
+inner_by (Ok ended) = beside ended.1 (given (inner ended.0))
 
 abbrev pub ended_inner : Lists → Result (List MathItem × Lists) TexError
 ended_inner lists = inner_by (ended_list lists)

@@ -1,6 +1,5 @@
 //! What the lists of formulas come to when they end.
 ghost use Rattle.std.specs.Prelude.{◌≡◌, ◌≢◌, Ok, Err, map, IfOk, IfErr};
-ghost use Rattle.tx_box.specs.declared.parts.Lists.{Lists};
 ghost use Rattle.tx_box.specs.Formulas.{with_more};
 ghost use Rattle.tx_formula.specs.declared.error.FormulaError.TheVariants.{OutOfMemory};
 ghost use Rattle.tx_formula.specs.Errors.{error_of};
@@ -18,7 +17,7 @@ use tx_seen::TexError;
 /// All of a formula, with the nodes behind its noads.
 fn whole_list(alloc: Global, formula: OpenFormula, nodes: Nodes) -> Result<Mlist, FormulaError>
     ensures made { IfOk result (λ list. spec.whole_list (with_more (map material nodes) formula) ≡ Ok list) }
-    ensures error { IfErr result (λ e. e ≢ OutOfMemory → (lists : Lists) → spec.beside lists (spec.whole_list (with_more (map material nodes) formula)) ≡ Err (error_of e)) }
+    ensures error { IfErr result (λ e. e ≢ OutOfMemory → spec.whole_list (with_more (map material nodes) formula) ≡ Err (error_of e)) }
 {
     let OpenFormula { noads, above } = with_nodes(formula, nodes)?;
     let list = noads.finished(alloc, above)?;

@@ -33,7 +33,7 @@ reports-by s t code None same = refl
 reports-by s t code (Some font) same = ap (λ (fonts : List FontState). missing code (font_name fonts font)) same
 
 -- the space factor first, then the character, then the report
-pub collects : (s mid done : State) (factor font code : ℕ) (inside : Bool) (lacking : Option ℕ) → s.phase ≡ Running → font ≡ current_font s.table.table → inside ≡ in_paragraph (state_of s) → state_of mid ≡ with_list_factor (state_of s) (factor_behind factor (space_code s.table.table code)) → mid.phase ≡ s.phase → mid.said ≡ s.said → lacking ≡ (collected mid.words inside font code).lacking → state_of done ≡ gathered (state_of mid) inside font code → done.phase ≡ mid.phase → done.said ≡ mid.said → IsStepped (collecting (state_of s) code (Some factor)) s Went (record done { said = done.said ++ report_of (state_of done) code lacking })
+pub collects : (s mid done : State) (factor font code : ℕ) (inside : Bool) (lacking : Option ℕ) → s.phase ≡ Running → font ≡ current_font s.table.table → inside ≡ in_paragraph (state_of s) → state_of mid ≡ with_list_factor (state_of s) (factor_behind factor (space_code s.table.table code)) → mid.phase ≡ s.phase → mid.said ≡ s.said → lacking ≡ (collected mid.words inside font code).lacking → state_of done ≡ gathered (state_of mid) inside font code → done.phase ≡ mid.phase → done.said ≡ mid.said → IsStepped (collecting (state_of s) code factor) s Went (record done { said = done.said ++ report_of (state_of done) code lacking })
 collects s mid done factor font code inside lacking running is within passed mid_phase mid_said lacks gathers done_phase done_said =
     let own : mid.words ≡ s.words = ap (λ (t : TexState). t.words) passed in
     let state : state_of done ≡ gathered (with_list_factor (state_of s) (factor_behind factor (space_code s.table.table code))) (in_paragraph (state_of s)) (current_font s.table.table) code = gathers ∙ (λ i. gathered (passed i) (within i) (is i) code) in

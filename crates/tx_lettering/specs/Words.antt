@@ -97,9 +97,8 @@ gathered s in_paragraph font code = with_collected s (collected s.words in_parag
 abbrev pub collecting_into : TexState → ℕ → Collected → ℕ → Outcome
 collecting_into s code c factor = Leaves (with_collected (with_list_factor s factor) c) (report_of s code c.lacking)
 
-abbrev pub collecting : TexState → ℕ → Option ℕ → Outcome
-collecting s code None = leaves s
-collecting s code (Some factor) =
+abbrev pub collecting : TexState → ℕ → ℕ → Outcome
+collecting s code factor =
     collecting_into s code (collected s.words (in_paragraph s) (current_font s.table.table) code) (factor_behind factor (space_code s.table.table code))
 
 -- glue, if its sizes are dimensions
@@ -130,8 +129,8 @@ abbrev pub correcting : TexState → Option ℕ → Outcome
 correcting s None = leaves (with_more s (plain (Kern Implicit (pos 0)) ∷ []))
 correcting s (Some factor) = kerning s (last_italic s.words.fonts s.lists.nest.innermost.nodes)
 
--- `\-' in a horizontal list or in a formula: a word may be broken there, behind the font's hyphen character, of which is told where the font lacks it
--- (section 1117)
+-- `\-' in a horizontal list or in a formula: a word may be broken there, behind the font's hyphen character, of which is told where
+-- the font lacks it (section 1117)
 abbrev pub breaking_in : TexState → ℕ → Outcome
 breaking_in s font = Leaves (with_more s (hyphen_item s.words.fonts font ∷ [])) (lacking_report s.words.fonts font (hyphen_lacking s.words.fonts font))
 

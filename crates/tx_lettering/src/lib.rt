@@ -17,6 +17,6 @@ pub use fonts::{
 };
 pub use texts::{begin_list, begin_text, define_macro, end_text, relax_name};
 pub use words::{
-    break_word, control_space, correct_italic, current_font, end_word, factor_now, pass_factor,
-    set_character, set_factor, settle_word, space, word_params,
+    break_word, collect, control_space, correct_italic, current_font, end_word, factor_now,
+    pass_factor, set_factor, settle_word, space, word_params,
 };

@@ -141,9 +141,14 @@ fn report(s: &mut State, code: u8, lacking: Option<u8>) -> Result<(), AllocError
 }
 
 /// A character of a horizontal list with this space factor.
-fn collect(alloc: Global, s: &mut State, factor: SpaceFactor, code: u8) -> Result<Event, AllocError>
+pub fn collect(
+    alloc: Global,
+    s: &mut State,
+    factor: SpaceFactor,
+    code: u8,
+) -> Result<Event, AllocError>
     requires { s.old.phase ≡ Phase.Running }
-    ensures { IfOk result (λ event. IsStepped (spec.collecting (state_of s.old) code (Some factor)) s.old event s.new) }
+    ensures { IfOk result (λ event. IsStepped (spec.collecting (state_of s.old) code factor) s.old event s.new) }
 {
     let font = current_font(&s.table);
     let in_paragraph = in_paragraph(s);
@@ -151,18 +156,6 @@ fn collect(alloc: Global, s: &mut State, factor: SpaceFactor, code: u8) -> Resul
     let lacking = gather(alloc, s, in_paragraph, font, code)?;
     report(s, code, lacking)?;
     Ok(Event::Went)
-}
-
-/// A character, which only horizontal lists take.
-#[inline(always)]
-pub fn set_character(alloc: Global, s: &mut State, code: u8) -> Result<Event, AllocError>
-    requires { s.old.phase ≡ Phase.Running }
-    ensures { IfOk result (λ event. IsStepped (spec.collecting (state_of s.old) code (spec.factor_now (state_of s.old))) s.old event s.new) }
-{
-    match factor_now(s) {
-        Some(factor) => collect(alloc, s, factor, code),
-        None => Ok(Event::Went),
-    }
 }
 
 /// A space of the current font at a space factor.

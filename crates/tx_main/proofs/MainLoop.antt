@@ -55,13 +55,13 @@ use Rattle.tx_state.specs.declared.state.State.{State}
 use Rattle.tx_state.specs.Meanings.{meaning_of, state_of}
 use Rattle.tx_state.specs.Outcomes.{Outcome, leaves, stepped}
 use Rattle.tx_state.specs.State.{Meaning as TexMeaning, TexState, Runs, meaning_in}
-use Rattle.tx_main.specs.Effects.{effect}
+use Rattle.tx_main.specs.Effects.{character_in, effect}
 use Rattle.tx_main.specs.declared.going.Going.{Going}
 use Rattle.tx_main.specs.declared.going.Going.TheVariants.{Letters}
 use Rattle.tx_main.specs.Going.{GoesOn, HasGone, HasRun, IsGoing}
 use Rattle.tx_main.specs.MainLoop.{AwaitsToken, IsLetterNext, IsLooping, IsSpaceNext, lettered, spaced}
 use Rattle.tx_main.specs.Turns.{due_cost, goes_on, known_of, outcome, taken_by, taking, tex, turned, wanted_by}
-use Rattle.tx_lettering.specs.Words.{before_token, collecting, collecting_into, current_font, factor_now, factored, gluing, in_paragraph, space_code, spacing, with_more, word_ended, word_params}
+use Rattle.tx_lettering.specs.Words.{before_token, collecting_into, current_font, factor_now, factored, gluing, in_paragraph, space_code, spacing, with_more, word_ended, word_params}
 use Rattle.tx_main.proofs.AtOnce.{takes-at-once}
 use Rattle.tx_lettering.proofs.Collects.{collected_by}
 
@@ -170,7 +170,7 @@ set_by s there font factor code = collecting_into s code (collected_by there s.w
 
 sets : (s : TexState) (font factor code : ℕ) → font ≡ current_font s.table.table → factor_now s ≡ Some factor → has_character s.words.fonts (font_of s.words.word font) code ≡ true → effect s (command.Character code) ≡ set_by s true font factor code
 sets s font factor code is_font has_factor has =
-    ap (collecting s code) has_factor
+    ap (character_in s code) has_factor
     ∙ (λ i. collecting_into s code (collected s.words (in_paragraph s) (sym is_font i) code) (factor_behind factor (space_code s.table.table code)))
     ∙ ap (λ (there : Bool). set_by s there font factor code) has
 

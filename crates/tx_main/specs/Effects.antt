@@ -1,5 +1,5 @@
 -- What each command does, once it is whole (TeX: The Program, parts 45 to 49): a line for each.
-use Rattle.std.specs.Prelude.{Bool, true, false, ◌==◌, [], ◌∷◌, length, Option, Some, None, if◌then◌else◌}
+use Rattle.std.specs.Prelude.{ℕ, Bool, true, false, ◌==◌, [], ◌∷◌, length, Option, Some, None, if◌then◌else◌}
 use Rattle.tx_char.specs.declared.tokens.Token.{Token}
 use Rattle.tx_node.specs.declared.plain.KernKind.TheVariants.{Explicit}
 use Rattle.tx_node.specs.declared.plain.Plain.TheVariants as small
@@ -9,7 +9,10 @@ use Rattle.tx_node.specs.declared.plain.LeadersKind.TheVariants as item_leaders
 use Rattle.tx_node.specs.declared.rule.Rule.{Rule as ARule}
 use Rattle.tx_num.specs.Glue.{GlueSpec}
 use Rattle.tx_node.specs.Items.{plain, shared}
+use Rattle.tx_mlist.specs.declared.plain.PlainNoad.TheVariants as noad
+use Rattle.tx_mlist.specs.Items.{small as small_noad}
 use Rattle.tx_nest.specs.Grafs.{graf_of}
+use Rattle.tx_eqtb.specs.declared.groups.GroupKind.{GroupKind}
 use Rattle.tx_eqtb.specs.declared.groups.GroupKind.TheVariants as kind
 use Rattle.tx_eqtb.specs.Stack.{kind_of}
 use Rattle.tx_prim.specs.declared.family.AfterKind.{AfterKind}
@@ -18,18 +21,20 @@ use Rattle.tx_prim.specs.declared.family.LeadersKind.{LeadersKind}
 use Rattle.tx_prim.specs.declared.family.LeadersKind.TheVariants as leaders
 use Rattle.tx_prim.specs.declared.family.Prefix.{Prefix as APrefix}
 use Rattle.tx_prim.specs.declared.family.Prefix.TheVariants.{Global, Long, Outer}
-use Rattle.tx_prim.specs.declared.family.SizeKind.TheVariants.{Kern}
+use Rattle.tx_prim.specs.declared.family.SizeKind.TheVariants.{Kern, MathKern, Above}
+use Rattle.tx_prim.specs.declared.modes.Mode.{Mode}
+use Rattle.tx_prim.specs.declared.modes.Mode.TheVariants as mode
 use Rattle.tx_assign.specs.declared.types.Assignment.{Assignment}
 use Rattle.tx_assign.specs.declared.types.Change.{Change}
 use Rattle.tx_assign.specs.declared.types.Change.TheVariants.{Set, Compute, Add, Copy, Text}
 use Rattle.tx_assign.specs.Changes.{carried_out, relaxed}
 use Rattle.tx_tfm.specs.Fonts.{with_font_integer, with_font_parameter}
 use Rattle.tx_command.specs.declared.types.Command.{Command}
-use Rattle.tx_command.specs.declared.types.Command.TheVariants.{Nothing, Space, ControlSpace, Character, ItalicCorrection, Indent, InsertPar, EndParagraph, DiscretionaryHyphen, SetFactor, SetPrevGraf, BeginShape, Open, Align, BeginAlign, ExpandOnce, Template, BeginEntry, EndAlign, SetDeadCycles, SetPage, SplitBox, DefineFont, LoadFont, SetFontDimen, SetFontInteger, BeginGroup, EndGroup, BeginSemiSimple, EndSemiSimple, Prefix, Define, Assign, Sized, Rule, BeginBox, UseBox, CopyBox, LastBox, Unbox, Penalize, Remove, Skip, BeginLeaders, SetDepth, End, Interact, DefineMacro, BeginText, DefineFuture, Keep}
+use Rattle.tx_command.specs.declared.types.Command.TheVariants.{Nothing, Space, ControlSpace, Character, ItalicCorrection, Indent, InsertPar, EndParagraph, DiscretionaryHyphen, SetFactor, SetPrevGraf, BeginShape, Open, SetDeadCycles, SetPage, SplitBox, DefineFont, LoadFont, SetFontDimen, SetFontInteger, BeginGroup, EndGroup, BeginSemiSimple, EndSemiSimple, Prefix, Define, Assign, Sized, Rule, BeginBox, UseBox, CopyBox, LastBox, Unbox, Penalize, Remove, Skip, BeginLeaders, SetDepth, End, Interact, DefineMacro, BeginText, DefineFuture, Keep, MathShift, BeginFormula, Script, MathCharacter, BeginAtom, SetLimits, SetStyle, BeginChoice, BeginFraction, MathSkip, Nonscript, SetFamily, Align, BeginAlign, ExpandOnce, Template, BeginEntry, EndAlign}
 use Rattle.tx_command.specs.declared.types.Head.TheVariants.{Fresh, Prefixed, Defining, Future, Leading}
 use Rattle.tx_command.specs.declared.types.SizeUse.TheVariants.{Item, Shape}
 use Rattle.tx_command.specs.declared.types.Prefixes.{Prefixes}
-use Rattle.tx_command.specs.Commands.{is_preamble, leaders_before, prefixes_of}
+use Rattle.tx_command.specs.Commands.{is_preamble, leaders_before, part_before, prefixes_of}
 use Rattle.tx_galley.specs.Ending.{is_done}
 use Rattle.tx_galley.specs.Assigning.{setting}
 use Rattle.tx_shape.specs.declared.types.Opener.TheVariants as opener
@@ -39,7 +44,7 @@ use Rattle.tx_state.specs.State.{TexState}
 use Rattle.tx_state.specs.Texts.{definition_text}
 use Rattle.tx_state.specs.Outcomes.{Outcome, leaves}
 use Rattle.tx_lettering.specs.Words.{breaking, collecting, control_spacing, correcting, factor_now, setting_factor_of, spacing}
-use Rattle.tx_lettering.specs.Fonts.{asking_font, defining_font, number_of, setting_fonts}
+use Rattle.tx_lettering.specs.Fonts.{asking_font, defining_font, number_of, setting_family, setting_fonts}
 use Rattle.tx_lettering.specs.Texts.{beginning_text, in_list}
 use Rattle.tx_boxing.specs.Breaks.{beginning_break}
 use Rattle.tx_boxing.specs.Pages.{beginning_list, ending_run, paged_so, setting_dead_cycles, splitting_off}
@@ -47,6 +52,12 @@ use Rattle.tx_boxing.specs.Boxes.{copying_box, opening_box, removing, ruling, se
 use Rattle.tx_boxing.specs.GroupEnds.{ending, ending_semi_simple}
 use Rattle.tx_boxing.specs.Paragraphs.{ending_paragraph, indenting_so, inserting_par, setting_graf, shape_sized, shaping, sizes_of}
 use Rattle.tx_state.specs.Groups.{opening}
+use Rattle.tx_formula.specs.Atoms.{beginning_atom, beginning_choice, dividing, limiting, scripting}
+use Rattle.tx_formula.specs.Characters.{setting_character, setting_number}
+use Rattle.tx_formula.specs.Groups.{ending_choice, ending_part, grouping, opening_formula}
+use Rattle.tx_formula.specs.Kinds.{style_of, thickness_of}
+use Rattle.tx_formula.specs.Noads.{adding_noad}
+use Rattle.tx_formula.specs.Shifts.{beginning_text as beginning_formula, shifting}
 use Rattle.tx_aligning.specs.Preambles.{aligning, beginning as beginning_align, beginning_noalign, expanding, tabskipping, templating}
 use Rattle.tx_aligning.specs.Entries.{beginning as beginning_entry}
 use Rattle.tx_aligning.specs.Ends.{ending as ending_align}
@@ -91,25 +102,55 @@ abbrev pub skipping : TexState → GlueSpec → Option (LeadersKind × ARule) �
 skipping s g None = adding s (plain (small.Glue g))
 skipping s g (Some (kind, rule)) = adding (record s { head = Fresh }) (shared (large.Leaders (record { kind = spread kind; glue = g; rule = rule })))
 
+-- a character of a horizontal list, and of a formula
+abbrev pub character_in : TexState → ℕ → Option ℕ → Outcome
+character_in s code None = setting_character s code
+character_in s code (Some factor) = collecting s code factor
+
+-- a begin-group token, which in a formula begins a list of its own (sections 1063 and 1150)
+abbrev pub beginning_group : TexState → Mode → Outcome
+beginning_group s mode.Math = grouping s (part_before s.head)
+beginning_group s other = opening s kind.Simple s
+
+-- an end-group token, by the kind of the innermost group
+abbrev pub ending_group : TexState → Option GroupKind → Outcome
+ending_group s (Some (kind.MathPart part)) = ending_part s part
+ending_group s (Some (kind.MathChoice style)) = ending_choice s style
+ending_group s other = ending s other
+
 -- the effect of each command
 abbrev pub effect : TexState → Command → Outcome
 effect s Nothing = leaves s
 effect s Space = spacing s (factor_now s)
-effect s ControlSpace = control_spacing s (factor_now s)
-effect s (Character code) = collecting s code (factor_now s)
+effect s ControlSpace = control_spacing s
+effect s (Character code) = character_in s code (factor_now s)
 effect s ItalicCorrection = correcting s (factor_now s)
 effect s (Indent how) = indenting_so s how
 effect s InsertPar = leaves (inserting_par s)
 effect s EndParagraph = ending_paragraph s
-effect s DiscretionaryHyphen = breaking s (factor_now s)
-effect s BeginGroup = opening s kind.Simple s
-effect s EndGroup = ending s (kind_of s.table)
+effect s DiscretionaryHyphen = breaking s
+effect s BeginGroup = beginning_group s s.mode
+effect s EndGroup = ending_group s (kind_of s.table)
 effect s BeginSemiSimple = opening s kind.SemiSimple s
 effect s EndSemiSimple = ending_semi_simple s (kind_of s.table)
+effect s MathShift = shifting s
+effect s BeginFormula = beginning_formula s
+effect s (Script part) = scripting s part
+effect s (MathCharacter n) = setting_number s n
+effect s (BeginAtom class) = beginning_atom s class
+effect s (SetLimits kind) = limiting s kind
+effect s (SetStyle style) = adding_noad s (small_noad (noad.Style (style_of style)))
+effect s BeginChoice = beginning_choice s
+effect s (BeginFraction kind) = dividing s (thickness_of kind)
+effect s (MathSkip g) = adding_noad s (small_noad (noad.Glue g))
+effect s Nonscript = adding_noad s (small_noad noad.Nonscript)
+effect s (SetFamily size family font) = setting_family s size family font
 effect s (Prefix prefix) = prefixing s prefix
 effect s (Define defined kind) = naming s (Defining (prefixes_of s.head) defined kind) (carried_out s.table (relaxed defined) (prefixes_of s.head).global)
 effect s (Assign a) = assigning_in (is_preamble s.head) s a
 effect s (Sized (Item Kern) size) = adding s (plain (small.Kern Explicit size))
+effect s (Sized (Item MathKern) size) = adding_noad s (small_noad (noad.Kern size))
+effect s (Sized (Item Above) size) = dividing s (Some size)
 effect s (Sized Shape size) = shape_sized s size s.head
 effect s (Rule kind rule) = ruling s rule
 effect s (Penalize n) = built (adding s (plain (small.Penalty n)))
@@ -127,6 +168,7 @@ effect s (SetFactor number) = setting_factor_of s number (factor_now s)
 effect s (SetPrevGraf number) = setting_graf s (graf_of number)
 effect s (BeginShape lines) = shaping s (prefixes_of s.head) (sizes_of lines) []
 effect s (Open (opener.Break text)) = beginning_break s text
+effect s (Open (opener.Choice style)) = opening_formula s (kind.MathChoice style)
 effect s (Open (opener.Insert class)) = beginning_list s (kind.Insert class)
 effect s (Open opener.Output) = beginning_list s kind.Output
 effect s (Open opener.NoAlign) = beginning_noalign s

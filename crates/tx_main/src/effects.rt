@@ -1,6 +1,8 @@
 //! What each command does, once it is whole (TeX: The Program, parts 45 to 49).
 ghost use Rattle.std.specs.Prelude.{◌≡◌, [], IfOk};
 ghost use Rattle.tx_command.specs.AtOnce.{whole};
+ghost use Rattle.tx_lettering.specs.Words.{factor_now as factor_of_list};
+ghost use Rattle.tx_eqtb.specs.Stack.{kind_of};
 ghost use Rattle.tx_main.specs.Effects as effects;
 ghost use Rattle.tx_state.specs.Meanings.{IsStepped, state_of};
 
@@ -12,21 +14,26 @@ use tx_aligning::{
 use tx_assign::{Assignment, Carried, Change, relaxed};
 use tx_boxing::{
     add_rule, add_size, begin_break, begin_shape, begin_vertical_list, build_behind, build_here,
-    copy_box, end_group, end_paragraph, end_run, end_semi_simple, indent, insert_par, open_box,
-    remove, set_dead_cycles, set_depth, set_graf, set_page, split, take_box, unbox, use_box,
+    copy_box, end_paragraph, end_run, end_semi_simple, indent, insert_par, open_box, remove,
+    set_dead_cycles, set_depth, set_graf, set_page, split, take_box, unbox, use_box,
 };
 use tx_char::Token;
 use tx_command::{AtOnce, Command, Head, Prefixes, SizeUse};
 use tx_eqtb::GroupKind;
+use tx_formula::{
+    add_noad, begin_atom, begin_choice, begin_script, divide, end_choice, end_part, open_formula,
+    set_limits, set_number, shift, style_of, thickness_of,
+};
 use tx_lettering::{
-    begin_list, begin_text, break_word, control_space, correct_italic, define_font, define_macro,
-    find_font, set_character, set_dimension, set_factor, set_integer, space,
+    begin_list, begin_text, break_word, collect, control_space, correct_italic, define_font,
+    define_macro, factor_now, find_font, set_dimension, set_factor, set_family, set_integer, space,
 };
 use tx_machine::Event;
+use tx_mlist::{Noad, PlainNoad};
 use tx_nest::append_item;
 use tx_node::{KernKind, Leaders, Node, Plain, Rule, Shared};
 use tx_num::Glue;
-use tx_prim::{AfterKind, LeadersKind, Prefix, Shorthand, SizeKind};
+use tx_prim::{AfterKind, LeadersKind, Mode, Prefix, Shorthand, SizeKind};
 use tx_seen::Place;
 use tx_shape::Opener;
 use tx_state::{KeptToken, Phase, State, add, assign_so, end_assignment, fail, open};
@@ -133,6 +140,10 @@ fn use_size(alloc: Global, s: &mut State, size_use: SizeUse, size: i32) -> Resul
         SizeUse::Item(SizeKind::Kern) => {
             add(s, Node::Plain(Plain::Kern(KernKind::Explicit, size)))
         }
+        SizeUse::Item(SizeKind::MathKern) => {
+            add_noad(alloc, s, Noad::Plain(PlainNoad::Kern(size)))
+        }
+        SizeUse::Item(SizeKind::Above) => divide(alloc, s, Some(size)),
         SizeUse::Shape => add_size(alloc, s, size),
     }
 }
@@ -192,9 +203,48 @@ fn open_by(alloc: Global, s: &mut State, opener: Opener) -> Result<Event, AllocE
 {
     match opener {
         Opener::Break(text) => begin_break(alloc, s, text),
+        Opener::Choice(style) => open_formula(alloc, s, GroupKind::MathChoice(style)),
         Opener::Insert(class) => begin_vertical_list(alloc, s, GroupKind::Insert(class)),
         Opener::Output => begin_vertical_list(alloc, s, GroupKind::Output),
         Opener::NoAlign => begin_noalign(s),
+    }
+}
+
+/// A character of a horizontal list, or of a formula.
+#[inline(always)]
+fn set_character(alloc: Global, s: &mut State, code: u8) -> Result<Event, AllocError>
+    requires running { s.old.phase ≡ Phase.Running }
+    requires between { s.old.scan.taken ≡ [] }
+    ensures { IfOk result (λ event. IsStepped (effects.character_in (state_of s.old) code (factor_of_list (state_of s.old))) s.old event s.new) }
+{
+    match factor_now(s) {
+        Some(factor) => collect(alloc, s, factor, code),
+        None => tx_formula::set_character(alloc, s, code),
+    }
+}
+
+/// A begin-group token, which in a formula begins a list of its own.
+fn begin_group(alloc: Global, s: &mut State) -> Result<Event, AllocError>
+    requires running { s.old.phase ≡ Phase.Running }
+    requires between { s.old.scan.taken ≡ [] }
+    ensures { IfOk result (λ event. IsStepped (effects.beginning_group (state_of s.old) s.old.scan.mode) s.old event s.new) }
+{
+    match s.scan.mode() {
+        Mode::Math => tx_formula::begin_group(alloc, s),
+        _ => open(s, GroupKind::Simple),
+    }
+}
+
+/// An end-group token.
+fn end_group(alloc: Global, s: &mut State) -> Result<Event, AllocError>
+    requires running { s.old.phase ≡ Phase.Running }
+    requires between { s.old.scan.taken ≡ [] }
+    ensures { IfOk result (λ event. IsStepped (effects.ending_group (state_of s.old) (kind_of s.old.table)) s.old event s.new) }
+{
+    match s.table.kind() {
+        Some(GroupKind::MathPart(part)) => end_part(alloc, s, part),
+        Some(GroupKind::MathChoice(style)) => end_choice(alloc, s, style),
+        _ => tx_boxing::end_group(alloc, s),
     }
 }
 
@@ -224,10 +274,24 @@ fn carry_out(alloc: Global, s: &mut State, command: Command) -> Result<Event, Al
         Command::InsertPar => insert_par(alloc, s),
         Command::EndParagraph => end_paragraph(alloc, s),
         Command::DiscretionaryHyphen => break_word(alloc, s),
-        Command::BeginGroup => open(s, GroupKind::Simple),
+        Command::BeginGroup => begin_group(alloc, s),
         Command::EndGroup => end_group(alloc, s),
         Command::BeginSemiSimple => open(s, GroupKind::SemiSimple),
         Command::EndSemiSimple => end_semi_simple(s),
+        Command::MathShift => shift(alloc, s),
+        Command::BeginFormula => tx_formula::begin_text(alloc, s),
+        Command::Script(part) => begin_script(alloc, s, part),
+        Command::MathCharacter(number) => set_number(alloc, s, number),
+        Command::BeginAtom(class) => begin_atom(alloc, s, class),
+        Command::SetLimits(kind) => set_limits(alloc, s, kind),
+        Command::SetStyle(style) => {
+            add_noad(alloc, s, Noad::Plain(PlainNoad::Style(style_of(style))))
+        }
+        Command::BeginChoice => begin_choice(alloc, s),
+        Command::BeginFraction(kind) => divide(alloc, s, thickness_of(kind)),
+        Command::MathSkip(glue) => add_noad(alloc, s, Noad::Plain(PlainNoad::Glue(glue))),
+        Command::Nonscript => add_noad(alloc, s, Noad::Plain(PlainNoad::Nonscript)),
+        Command::SetFamily(size, family, font) => set_family(s, size, family, font),
         Command::Prefix(found) => Ok(prefix(s, found)),
         Command::Define(defined, kind) => define(s, defined, kind),
         Command::Assign(assignment) => assign(alloc, s, assignment),
@@ -294,10 +358,13 @@ pub(crate) fn take_at_once(alloc: Global, s: &mut State, found: AtOnce) -> Resul
     match found {
         AtOnce::Character(code) => set_character(alloc, s, code),
         AtOnce::Space => space(s),
-        AtOnce::BeginGroup => open(s, GroupKind::Simple),
+        AtOnce::BeginGroup => begin_group(alloc, s),
         AtOnce::EndGroup => end_group(alloc, s),
         AtOnce::BeginSemiSimple => open(s, GroupKind::SemiSimple),
         AtOnce::EndSemiSimple => end_semi_simple(s),
+        AtOnce::MathShift => shift(alloc, s),
+        AtOnce::Script(part) => begin_script(alloc, s, part),
+        AtOnce::MathCharacter(number) => set_number(alloc, s, i32::from(number)),
         AtOnce::Nothing => Ok(Event::Went),
         AtOnce::Prefix(found) => Ok(prefix(s, found)),
         AtOnce::EndParagraph => end_paragraph(alloc, s),
