@@ -9,7 +9,7 @@ use Rattle.tx_eqtb.specs.Table.{number_at}
 use Rattle.tx_expand.specs.Turns.{put_back}
 use Rattle.tx_mlist.specs.declared.kinds.MathCharacter.{MathCharacter}
 use Rattle.tx_mlist.specs.Building.{filled, kind_of, letter_of}
-use Rattle.tx_mlist.specs.Items.{MathItem, Part, atom, empty, letter}
+use Rattle.tx_mlist.specs.Items.{Part, atom, empty, letter}
 use Rattle.tx_prim.specs.declared.family.AtomPart.{AtomPart}
 use Rattle.tx_prim.specs.declared.family.CharacterCode.TheVariants.{Math}
 use Rattle.tx_prim.specs.declared.integer.IntegerParameter.TheVariants.{Fam}

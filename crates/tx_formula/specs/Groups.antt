@@ -5,7 +5,7 @@ use Rattle.tx_box.specs.FormulaLists.{with_formula}
 use Rattle.tx_command.specs.declared.types.Head.{Head}
 use Rattle.tx_command.specs.declared.types.Head.TheVariants.{Fresh, Opening}
 use Rattle.tx_eqtb.specs.declared.groups.GroupKind.{GroupKind}
-use Rattle.tx_eqtb.specs.declared.groups.GroupKind.TheVariants.{MathChoice, MathPart}
+use Rattle.tx_eqtb.specs.declared.groups.GroupKind.TheVariants.{MathPart}
 use Rattle.tx_mlist.specs.declared.kinds.AtomKind.TheVariants.{Ord}
 use Rattle.tx_mlist.specs.Building.{bare, filled}
 use Rattle.tx_mlist.specs.Choices.{chosen}
