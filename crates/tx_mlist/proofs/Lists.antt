@@ -1,5 +1,5 @@
 -- Lists by their last items.
-use Rattle.std.proofs.Common.{◌≡◌, ◌∙◌, ◌-◌, ◌++◌, ◌∷◌, [], List, length, refl, ap, sym}
+use Rattle.std.proofs.Common.{◌≡◌, ◌∙◌, ◌-◌, ◌++◌, ◌∷◌, [], List, length, Result, Ok, Err, OnOk, refl, ap, sym}
 use Rattle.std.specs.Prelude.{slice_get, option_map}
 use Rattle.std.proofs.lemmas.List.{length-map}
 use Rattle.std.proofs.lemmas.Option.{slice_get-map}
@@ -26,3 +26,8 @@ changed_last change whole list item is = ap (with_last change) is ∙ with_last_
 
 pub changed_none : (change : MathItem → MathItem) (whole : List MathItem) → whole ≡ [] → with_last change whole ≡ []
 changed_none change whole is = ap (with_last change) is
+
+-- the last item is taken away and put back changed
+pub changed_put : {A E : Type 0} (change : MathItem → MathItem) (whole list new : List MathItem) (item made : MathItem) (answer : Result A E) → whole ≡ list ++ item ∷ [] → made ≡ change item → OnOk answer (new ≡ list ++ made ∷ []) → OnOk answer (new ≡ with_last change whole)
+changed_put change whole list new item made (Ok value) is does put = put ∙ ap (λ (i : MathItem). list ++ i ∷ []) does ∙ sym (changed_last change whole list item is)
+changed_put change whole list new item made (Err e) is does put = tt
