@@ -78,6 +78,8 @@ ERRORS = [
     (b'\\catcode`\\#=6 \\shipout\\hbox{a\n#}\\end\n', 'run: 0 pages, error 24 at main.tex line 2', b'a'),
     (b'\\catcode`\\^=7 \\shipout\\hbox{^}\\end\n', 'run: 0 pages, error 24 at main.tex line 1', b''),
     (b'\\catcode`\\_=8 \\shipout\\hbox{a_}\\end\n', 'run: 0 pages, error 24 at main.tex line 1', b'a'),
+    (b'\\shipout\\hbox{\\mskip 3mu}\\end\n', 'run: 0 pages, error 24 at main.tex line 1', b''),
+    (b'\\catcode`\\$=3 \\shipout\\hbox{$$}\\end\n', 'run: 0 pages, error 31 at main.tex line 1', b''),
     (b'\\catcode`\\&=4 \\shipout\\hbox{&}\\end\n', 'run: 0 pages, error 32 at main.tex line 1', b''),
     (b'\\shipout\\relax\n\\vrule\\end\n', 'run: 0 pages, error 34 at main.tex line 2', b''),
     (b'\\shipout{}\\end\n', 'run: 0 pages, error 34 at main.tex line 1', b''),
@@ -109,6 +111,7 @@ TABLE = [
     (b'\\chardef\\a=1\\b\\end\n', 'run: 0 pages, error 2 at main.tex line 1', b''),
     (b'\\chardef\\a=\n\\a\\end\n', 'run: 0 pages, error 3 at main.tex line 2', b''),
     (b'\\shipout\\hbox{\\mathchardef\\a=1\\a}\\end\n', 'run: 0 pages, error 24 at main.tex line 1', b''),
+    (b'\\textfont0=\\nullfont \\end\n', 'run: 0 pages, end', b''),
     (b'\\count1\n=x\\end\n', 'run: 0 pages, error 3 at main.tex line 2', b''),
     (b"\\catcode'172=9 \\shipout\\hbox{z}\\end\n", 'run: 1 pages, end', b''),
     (b'\\catcode"7A=9 \\shipout\\hbox{z}\\end\n', 'run: 1 pages, end', b''),
@@ -183,8 +186,6 @@ PAGES = [
 
 # Commands that begin what isn't there yet, with what is said of them until it is.
 FOR_NOW = [
-    (b'\\catcode`$=3 \\shipout\\hbox{$$}\\end\n', 'run: 0 pages, error 24 at main.tex line 1', b''),
+    (b'\\catcode`\\$=3 $$\\end\n', 'run: 0 pages, error 31 at main.tex line 1', b''),
     (b'\\shipout\\hbox{\\leaders\\hbox{}\\hskip 3pt}\\end\n', 'run: 0 pages, error 34 at main.tex line 1', b''),
-    (b'\\shipout\\hbox{\\mskip 3mu}\\end\n', 'run: 0 pages, error 2 at main.tex line 1', b''),
-    (b'\\textfont0=\\nullfont \\end\n', 'run: 0 pages, error 2 at main.tex line 1', b''),
 ]

@@ -49,6 +49,7 @@ ERRORS = [
     (28, "Unbalanced output routine|Output routine didn't use all of "),
     (29, "Output loop"),
     (30, "Infinite glue shrinkage "),
+    (31, "Math formula deleted|Double (super|sub)script|Ambiguous; you need|Limit controls must|is undefined [(]character|Illegal math"),
     (35, "Incompatible magnification|Illegal magnification"),
     (36, "Emergency stop"),
 ]

@@ -57,7 +57,7 @@ fn with_list(noad: Noad, style: MathStyle, list: InnerList) -> Result<Noad, Allo
 impl Mlist {
     /// Puts a list, for a style, into the last noad, which is a choice; else nothing changes. After want of memory, its only error,
     /// the list may only be dropped.
-    #[tactic(auto, using(crate::proofs::Lists::changed_last, crate::proofs::Lists::changed_none))]
+    #[tactic(auto, using(crate::proofs::Lists::changed_none))]
     pub fn choose(&mut self, style: MathStyle, list: InnerList) -> Result<(), AllocError>
         ensures { OnOk result (self.new ≡ spec.chosen style list self.old) }
     {

@@ -1,5 +1,5 @@
 use Rattle.std.proofs.Common.{ap}
-use Rattle.tx_boxing.specs.Groups.{opening}
+use Rattle.tx_state.specs.Groups.{opening}
 use Rattle.tx_formula.specs.Groups.{opening_formula}
 use Rattle.tx_state.specs.Meanings.{state_of}
 use Rattle.tx_state.specs.State.{TexState}
