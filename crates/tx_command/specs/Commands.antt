@@ -327,6 +327,11 @@ abbrev pub leaders_before : Head → Option (LeadersKind × Rule_sides)
 leaders_before (Leading kind rule) = Some (kind, rule)
 leaders_before other = None
 
+-- whether its first token is only looked at, and read again
+abbrev pub is_peeking : Head → Bool
+is_peeking Shift = true
+is_peeking other = false
+
 -- the part of an atom that it is to be
 abbrev pub part_before : Head → Option AtomPart
 part_before (Part part) = Some part

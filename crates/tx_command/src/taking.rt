@@ -108,6 +108,13 @@ impl CommandScan {
         }
     }
 
+    /// Whether the first token of the command is only looked at, and read again.
+    pub fn is_peeking(&self) -> bool
+        ensures { result ≡ commands.is_peeking self.now.head }
+    {
+        matches!(self.head, Head::Shift)
+    }
+
     /// The part of an atom that the command is to be.
     pub fn part(&self) -> Option<AtomPart>
         ensures { result ≡ part_of self.now.head }

@@ -115,11 +115,11 @@ abbrev reads : List Token → Reader
 reads tokens = record { input = record { elements = map Given tokens; closing = false; level = outside }; begun = []; conditionals = []; job = codes "texput.tex" }
 
 abbrev wants : Wanted
-wants = record { want = Expanded; text = false; takes_the = false; names = false }
+wants = record { want = Expanded; text = false; takes_the = false; names = false; peeks = false }
 
 -- the caller takes a text
 abbrev wants_text : Wanted
-wants_text = record { want = Expanded; text = true; takes_the = true; names = false }
+wants_text = record { want = Expanded; text = true; takes_the = true; names = false; peeks = false }
 
 -- what the caller gets in so many turns, up to the end of the input, a file that is asked for, or an error
 data Output : Type 0 where

@@ -498,14 +498,19 @@ ends_part w r [] = Goes answer.PartEnded r
 ends_part w r (begun.Scanning scan ∷ outer) = given_to w frozen (with_end r) (begun.Scanning scan ∷ outer)
 ends_part w r other = ended (with_end r)
 
+-- whether the caller only looks at the next token
+abbrev pub peeks_at : Wanted → List Begun → Bool
+peeks_at wanted [] = wanted.peeks
+peeks_at wanted (b ∷ outer) = false
+
 -- a v-part is read to its end (sections 375 and 1130): an error as at the end of a file where an argument, a text or skipped text goes
--- on, and where a token is wanted whatever it is
+-- on, and where a token is taken whatever it is
 abbrev pub part_ended : World → Wanted → Reader → Turn
 part_ended w wanted r = by (incomplete wanted.text r.begun)
   where
     by : Option TexError → Turn
     by (Some error) = Fails error
-    by None = if is_expanding (wanted_by wanted r.begun) then ends_part w r r.begun else Fails MisplacedAlignment
+    by None = if is_expanding (wanted_by wanted r.begun) || peeks_at wanted r.begun then ends_part w r r.begun else Fails MisplacedAlignment
 
 abbrev pub front_read : World → Wanted → Reader → Next → Turn
 front_read w wanted r (front.Token t) = met w wanted (record { token = t; meaning = w.meaning t }) r

@@ -923,6 +923,16 @@ impl Open {
         }
     }
 
+    /// Whether the caller only looks at the next token.
+    fn peeks(&self, wanted: Wanted) -> bool
+        ensures { result ≡ turns.peeks_at wanted self.now.begun.items }
+    {
+        match self.begun.front() {
+            None => wanted.peeks,
+            Some(_) => false,
+        }
+    }
+
     /// A v-part is read to its end. Its only error is want of memory.
     fn end_part(
         &mut self,
@@ -937,8 +947,13 @@ impl Open {
             return Ok(Expanded::Wrong(error));
         }
         match self.want(wanted) {
-            Want::Raw => Ok(Expanded::Wrong(TexError::MisplacedAlignment)),
             Want::Expanded => self.end_open(alloc, input, known),
+            Want::Raw => {
+                if self.peeks(wanted) {
+                    return self.end_open(alloc, input, known);
+                }
+                Ok(Expanded::Wrong(TexError::MisplacedAlignment))
+            }
         }
     }
 

@@ -16,6 +16,9 @@ pub struct Wanted {
     pub takes_the: bool,
     /// Whether it takes a file's name: an \input there ends it (TeX: The Program, section 378).
     pub names: bool,
+    /// Whether it only looks at that token, which is read again: an entry of an alignment may end there (TeX: The Program, section
+    /// 1138).
+    pub peeks: bool,
 }
 
 /// What is printed of one token.

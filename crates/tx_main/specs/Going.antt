@@ -29,8 +29,9 @@ pub record IsIdle (s : State) : Type 0 where
   pub due : s.due ≡ []
   pub begun : s.expander.begun.items ≡ []
 
--- where turns are taken at one go: in the main loop; where a text may be open that takes the token (sections 473 and 477); or where
--- an expansion may take it, such as an argument (sections 391 to 394) or skipped text (section 494)
+-- where turns are taken at one go: in the main loop, which is that of horizontal lists alone, so that a character of a formula takes a
+-- turn of its own; where a text may be open that takes the token (sections 473 and 477); or where an expansion may take it, such as an
+-- argument (sections 391 to 394) or skipped text (section 494), in a formula as elsewhere
 abbrev pub IsGoing : Going → State → Type 0
 IsGoing (Letters font) s = IsLooping s font
 IsGoing Text s = IsIdle s
@@ -53,7 +54,7 @@ pub record HasRun (count : ℕ) (before after : State) (counted_before counted :
   pub said : after.said ≡ before.said
   pub steps : counted ≡ raised counted_before count
 
--- what is read next is the open command's: no text is open, and no expansion has begun
+-- what is read next is the open command's, in whatever mode: no text is open, and no expansion has begun
 pub record IsCommanding (s : State) : Type 0 where
   pub running : s.phase ≡ Running
   pub due : s.due ≡ []

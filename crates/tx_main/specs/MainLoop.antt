@@ -1,5 +1,5 @@
--- The main loop (TeX: The Program, sections 1034 to 1041): characters that are set follow one another in a line and join the open
--- word, and spaces between them end it, without anything in between.
+-- The main loop of horizontal lists (TeX: The Program, sections 1034 to 1041): characters that are set follow one another in a line
+-- and join the open word, and spaces between them end it, without anything in between. Formulas have none.
 use Rattle.std.specs.Prelude.{◌≡◌, ℕ, true, false, [], ◌∷◌, Some, None}
 use Rattle.tx_lex.specs.declared.types.PlainToken.{PlainToken}
 use Rattle.tx_lex.specs.declared.types.PlainToken.TheVariants.{Set, Blank}

@@ -34,7 +34,7 @@ use Rattle.tx_main.specs.Pages.{line_end}
 use Rattle.tx_aligning.specs.Entries.{ending as ending_entry, over}
 use Rattle.tx_lettering.specs.Words.{before_token, word_ended}
 use Rattle.tx_seen.specs.Magnified.{magnification_in, noted}
-use Rattle.tx_command.specs.Commands.{command, is_begun, is_fresh, is_naming, is_preamble}
+use Rattle.tx_command.specs.Commands.{command, is_begun, is_fresh, is_naming, is_peeking, is_preamble}
 use Rattle.tx_main.specs.Effects.{effect}
 use Rattle.tx_lettering.specs.Texts.{ending_text, relaxing}
 use Rattle.tx_lettering.specs.Fonts.{loading}
@@ -89,7 +89,7 @@ want_of (More want) = want
 want_of other = Expanded
 
 abbrev pub wanted_by : TexState → Option OpenText → Wanted
-wanted_by s None = record { want = want_of (command s.mode s.head s.taken); text = is_preamble s.head; takes_the = false; names = is_naming s.head s.taken }
+wanted_by s None = record { want = want_of (command s.mode s.head s.taken); text = is_preamble s.head; takes_the = false; names = is_naming s.head s.taken; peeks = is_peeking s.head }
 wanted_by s (Some text) = text_wanted text
 
 -- the innermost file has ended: it is closed, unless something is open within which no file may end (section 336)

@@ -3,7 +3,7 @@
 /// What characters become that turns are taken of at one go.
 #[derive(Clone, Copy)]
 pub(crate) enum Going {
-    /// Words and spaces of a list, where the font of this number is current.
+    /// Words and spaces of a horizontal list, where the font of this number is current.
     Letters(u8),
     /// Tokens of the text that is open.
     Text,

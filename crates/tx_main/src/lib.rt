@@ -2,8 +2,8 @@
 //!
 //! Proved: each turn is the defined step. Only tested: that the effects and the reading are TeX's, on documents that Knuth's TeX
 //! reads alike. The state is tx_state's, and how commands are taken off tokens tx_command's; what most of them do stands in
-//! tx_lettering, for characters, words, fonts and texts, in tx_boxing, for boxes, groups, pages and paragraphs, and in tx_formula,
-//! for formulas.
+//! tx_lettering, for characters, words, fonts and texts, in tx_boxing, for boxes, groups, pages and paragraphs, in tx_formula, for
+//! formulas, and in tx_aligning, for alignments.
 //!
 //! Read `effects`, `page`, `turn`, `going`, `main_loop` and `machine`.
 #![tactic(auto)]

@@ -162,6 +162,7 @@ fn wanted(s: &State) -> Wanted
             text: s.scan.is_preamble(),
             takes_the: false,
             names: s.scan.is_naming(),
+            peeks: s.scan.is_peeking(),
         },
     }
 }

@@ -71,9 +71,9 @@ list_text place = texts.List place absorbed.begun_text
 
 -- what is taken next
 abbrev pub text_wanted : OpenText → Wanted
-text_wanted (texts.Definition defined kind d) = record { want = definition.wanted d d.stage; text = true; takes_the = definition.takes_the d d.stage; names = false }
-text_wanted (texts.Absorbed purpose a) = record { want = absorbed.text_wanted a a.stage; text = true; takes_the = keeps_the purpose && absorbed.text_takes_the a a.stage; names = false }
-text_wanted (texts.List place a) = record { want = absorbed.text_wanted a a.stage; text = true; takes_the = absorbed.text_takes_the a a.stage; names = false }
+text_wanted (texts.Definition defined kind d) = record { want = definition.wanted d d.stage; text = true; takes_the = definition.takes_the d d.stage; names = false; peeks = false }
+text_wanted (texts.Absorbed purpose a) = record { want = absorbed.text_wanted a a.stage; text = true; takes_the = keeps_the purpose && absorbed.text_takes_the a a.stage; names = false; peeks = false }
+text_wanted (texts.List place a) = record { want = absorbed.text_wanted a a.stage; text = true; takes_the = absorbed.text_takes_the a a.stage; names = false; peeks = false }
 
 -- with tokens that \the gives
 abbrev pub with_given : OpenText → List Token → OpenText

@@ -90,18 +90,21 @@ impl OpenText {
                 text: true,
                 takes_the: scan.takes_the(),
                 names: false,
+                peeks: false,
             },
             OpenText::Absorbed(purpose, scan) => Wanted {
                 want: scan.want(),
                 text: true,
                 takes_the: keeps_the(*purpose) && scan.takes_the(),
                 names: false,
+                peeks: false,
             },
             OpenText::List(_, scan) => Wanted {
                 want: scan.want(),
                 text: true,
                 takes_the: scan.takes_the(),
                 names: false,
+                peeks: false,
             },
         }
     }
