@@ -267,10 +267,10 @@ fn use_text(
     }
 }
 
-/// A text of \discretionary ends, whose group has ended: it is put into the discretionary with which the list around ends. The answer
-/// is what is wrong: `BadFormula` where one that stands where no line ends isn't empty in a formula; `MissingBox` where something else stands in it than characters, ligatures, kerns, boxes and rules, or where it has
-/// more than 255 items and is to stand where no line ends; `ExtraGroupEnd` where no list waits around, or it ends with no
-/// discretionary, which no command makes.
+/// A text of \discretionary ends, whose group has ended: it is put into the discretionary with which the list around ends. The
+/// answer is what is wrong: `BadFormula` where one that stands where no line ends isn't empty in a formula; `MissingBox` where
+/// something else stands in it than characters, ligatures, kerns, boxes and rules, or where it has more than 255 items and is to
+/// stand where no line ends; `ExtraGroupEnd` where no list waits around, or it ends with no discretionary, which no command makes.
 pub fn end_break(
     alloc: Global,
     lists: &mut Lists,

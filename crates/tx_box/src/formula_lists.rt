@@ -22,8 +22,8 @@ pub fn begin_formula(alloc: Global, lists: &mut Lists) -> Result<(), AllocError>
     })
 }
 
-/// The innermost formula and the nodes in its list, which leave the lists; None where no formula is open or no list waits around it,
-/// which no command makes.
+/// The innermost formula and the nodes in its list, which leave the lists; None where no formula is open or no list waits around
+/// it, which no command makes.
 pub fn end_formula(lists: &mut Lists) -> Option<(OpenFormula, Nodes)>
     ensures { spec.IsFormulaLeft (spec.left_formula lists.old) result lists.new }
 {

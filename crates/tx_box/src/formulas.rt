@@ -39,8 +39,8 @@ fn with_noad(formula: OpenFormula, noad: Noad) -> Result<OpenFormula, AllocError
     Ok(formula)
 }
 
-/// Puts nodes behind the noads of the innermost formula, if there is one. After want of memory, its only error, the formulas may only
-/// be dropped, here and in all that follows.
+/// Puts nodes behind the noads of the innermost formula, if there is one. After want of memory, its only error, the formulas may
+/// only be dropped, here and in all that follows.
 fn settle_nodes(formulas: &mut Stack<OpenFormula>, nodes: Nodes) -> Result<(), AllocError>
     ensures { OnOk result (formulas.new ≡ spec.with_first (spec.with_more (map material nodes)) formulas.old) }
 {

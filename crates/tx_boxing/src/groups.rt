@@ -38,8 +38,8 @@ fn end_across(alloc: Global, s: &mut State) -> Result<Event, AllocError>
     end_box(alloc, s, GroupKind::HorizontalBox, Bytes::new(alloc))
 }
 
-/// An end-group token: closes the innermost group, which brings back what it changed; of the list of a box a box is made. The groups
-/// of formulas end elsewhere.
+/// An end-group token: closes the innermost group, which brings back what it changed; of the list of a box a box is made. The
+/// groups of formulas end elsewhere.
 pub fn end_group(alloc: Global, s: &mut State) -> Result<Event, AllocError>
     requires running { s.old.phase ≡ Phase.Running }
     requires between { s.old.scan.taken ≡ [] }

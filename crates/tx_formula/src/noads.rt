@@ -34,8 +34,8 @@ fn filled(formula: OpenFormula, place: Place, part: Field) -> Result<OpenFormula
     Ok(formula)
 }
 
-/// A part stands at a place of the last noad. After want of memory, its only error, the formulas may only be dropped, here and in all
-/// that follows.
+/// A part stands at a place of the last noad. After want of memory, its only error, the formulas may only be dropped, here and in
+/// all that follows.
 pub(crate) fn fill(
     formulas: &mut Stack<OpenFormula>,
     place: Place,

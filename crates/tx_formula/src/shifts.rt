@@ -107,7 +107,8 @@ fn edge(kind: KernKind, surround: i32) -> Node
     Node::Plain(Plain::Kern(kind, surround))
 }
 
-/// Nodes stand in the list between the ends of a formula, and the space factor is 1000 behind them. Its only error is want of memory.
+/// Nodes stand in the list between the ends of a formula, and the space factor is 1000 behind them. Its only error is want of
+/// memory.
 fn append_text(lists: &mut Lists, surround: i32, nodes: Nodes) -> Result<(), AllocError>
     ensures { OnOk result (lists.new ≡ spec.with_text lists.old surround nodes) }
 {

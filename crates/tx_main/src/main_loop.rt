@@ -1,7 +1,7 @@
 //! Many turns at one go. The main loop: characters that follow one another join the open word, and spaces between them end it (TeX:
-//! The Program, sections 1034 to 1041), in horizontal lists alone. So characters join a text that is open, within its braces (sections
-//! 473 and 477), an argument (section 392), or text that is skipped (section 494), as long as nothing of these ends; and a command that
-//! is begun, such as the number of an assignment, up to the one behind which it is whole; these in formulas too.
+//! The Program, sections 1034 to 1041), in horizontal lists alone. So characters join a text that is open, within its braces
+//! (sections 473 and 477), an argument (section 392), or text that is skipped (section 494), as long as nothing of these ends; and
+//! a command that is begun, such as the number of an assignment, up to the one behind which it is whole; these in formulas too.
 ghost use Rattle.std.specs.Prelude.{◌≡◌, ◌≤◌, ◌∷◌, [], true, Some, IsTrue, IfOk, IfSome, OnOk, OnErr};
 ghost use Rattle.tx_machine.specs.Machine.{Ready};
 ghost use Rattle.tx_machine.specs.Plain.{HasPassed, HasRunOn, turns_of};
