@@ -1,5 +1,5 @@
 -- Formulas in a text begin and end (TeX: The Program, sections 1138, 1139 and 1193 to 1196).
-use Rattle.std.specs.Prelude.{ℕ, ℤ, pos, neg_ℤ, nat_lt, Bool, true, false, List, [], ◌∷◌, length, Option, Some, None, Result, Ok, Err, if◌then◌else◌}
+use Rattle.std.specs.Prelude.{ℤ, pos, neg_ℤ, nat_lt, Bool, true, false, List, [], ◌∷◌, length, Option, Some, Result, Ok, Err, if◌then◌else◌}
 use Rattle.tx_box.specs.declared.parts.Lists.{Lists}
 use Rattle.tx_box.specs.Placing.{with_list}
 use Rattle.tx_box.specs.Sources.{appended}

@@ -5,7 +5,7 @@ use Rattle.tx_node.specs.declared.node.Node.{Node}
 use Rattle.tx_node.specs.Items.{Item}
 use Rattle.tx_node.specs.Nodes.{list_of}
 use Rattle.tx_hyphenate.specs.declared.made.Made.{Made}
-use Rattle.tx_hyphenate.specs.Kinds.{is_formula_behind, kind}
+use Rattle.tx_hyphenate.specs.Kinds.{is_formula_behind}
 use Rattle.tx_hyphenate.specs.Hyphenated.{Parted, Ways, finished, joined, kept, parted_at_glue, parts, stretch_hyphenated, with_item}
 
 -- what is made is joined in any order
@@ -39,24 +39,24 @@ on-glue w done items behind formula item parted glue =
     ∙ ap (λ (stretch : List Item). joined (joined done (finished w behind stretch)) (joined (kept (item ∷ [])) (joined (stretch_hyphenated w parted.first) parted.rest))) (sym (append-nil items)))
 
 -- the same for what is made of the list, behind one more item
-pub item-step : (w : Ways) (done : Made) (items more : List Item) (behind formula : Bool) (item : Item) (rest : List Item) (all : Made) → parts formula item ≡ false → more ≡ items ++ item ∷ []
+pub item-step : (w : Ways) (done : Made) (items more : List Item) (behind formula next : Bool) (item : Item) (rest : List Item) (all : Made) → parts formula item ≡ false → more ≡ items ++ item ∷ [] → next ≡ is_formula_behind formula item
     → joined (joined done (finished w behind (items ++ (parted_at_glue w formula (item ∷ rest)).first))) (parted_at_glue w formula (item ∷ rest)).rest ≡ all
-    → joined (joined done (finished w behind (more ++ (parted_at_glue w (is_formula_behind formula item) rest).first))) (parted_at_glue w (is_formula_behind formula item) rest).rest ≡ all
+    → joined (joined done (finished w behind (more ++ (parted_at_glue w next rest).first))) (parted_at_glue w next rest).rest ≡ all
 unfolding parted_at_glue
-item-step w done items more behind formula item rest all plain more_is before =
-    ap (λ (these : List Item). joined (joined done (finished w behind (these ++ (parted_at_glue w (is_formula_behind formula item) rest).first))) (parted_at_glue w (is_formula_behind formula item) rest).rest) more_is
+item-step w done items more behind formula next item rest all plain more_is next_is before =
+    (λ i. joined (joined done (finished w behind (more_is i ++ (parted_at_glue w (next_is i) rest).first))) (parted_at_glue w (next_is i) rest).rest)
     ∙ on-item w done items behind formula item (parted_at_glue w (is_formula_behind formula item) rest) plain
     ∙ before
 
-pub glue-step : (w : Ways) (done finish : Made) (items further none : List Item) (behind formula : Bool) (item : Item) (rest : List Item) (all : Made) → parts formula item ≡ true → none ≡ []
+pub glue-step : (w : Ways) (done finish : Made) (items further none : List Item) (behind formula next : Bool) (item : Item) (rest : List Item) (all : Made) → parts formula item ≡ true → none ≡ [] → next ≡ is_formula_behind formula item
     → finish ≡ joined done (finished w behind items) → further ≡ finish.items ++ item ∷ []
     → joined (joined done (finished w behind (items ++ (parted_at_glue w formula (item ∷ rest)).first))) (parted_at_glue w formula (item ∷ rest)).rest ≡ all
-    → joined (joined (record finish { items = further }) (finished w true (none ++ (parted_at_glue w (is_formula_behind formula item) rest).first))) (parted_at_glue w (is_formula_behind formula item) rest).rest ≡ all
+    → joined (joined (record finish { items = further }) (finished w true (none ++ (parted_at_glue w next rest).first))) (parted_at_glue w next rest).rest ≡ all
 unfolding parted_at_glue
-glue-step w done finish items further none behind formula item rest all glue none_is finish_is further_is before =
+glue-step w done finish items further none behind formula next item rest all glue none_is next_is finish_is further_is before =
     let made : record finish { items = further } ≡ joined (joined done (finished w behind items)) (kept (item ∷ [])) =
     kept-more finish (item ∷ []) further further_is ∙ ap (λ (m : Made). joined m (kept (item ∷ []))) finish_is in
-    (λ i. joined (joined (made i) (finished w true (none_is i ++ (parted_at_glue w (is_formula_behind formula item) rest).first))) (parted_at_glue w (is_formula_behind formula item) rest).rest)
+    (λ i. joined (joined (made i) (finished w true (none_is i ++ (parted_at_glue w (next_is i) rest).first))) (parted_at_glue w (next_is i) rest).rest)
     ∙ on-glue w done items behind formula item (parted_at_glue w (is_formula_behind formula item) rest) glue
     ∙ before
 

@@ -8,7 +8,7 @@ use Rattle.tx_linebreak.specs.Breaks.{behind, behind_piece, context_from, outset
 use Rattle.tx_linebreak.specs.Chosen.{IsEnded}
 use Rattle.tx_node.specs.declared.node.Node.{Node}
 use Rattle.tx_node.specs.declared.plain.KernKind.{KernKind}
-use Rattle.tx_node.specs.declared.plain.KernKind.TheVariants.{Implicit, Explicit, MathOn, MathOff}
+use Rattle.tx_node.specs.declared.plain.KernKind.TheVariants as kerns
 use Rattle.tx_node.specs.declared.plain.Plain.TheVariants as plains
 use Rattle.tx_node.specs.declared.plain.Shared.TheVariants as larges
 use Rattle.tx_node.specs.Items.{Item, plain, shared, boxed, discretionary, adjustment, insertion}
@@ -40,10 +40,10 @@ replaces (MathOff w) = 0
 -- no more than so many are behind it
 few-kern : (left : ℕ) (kind : KernKind) (size : ℤ) → replaces (kern_piece kind size) ≤ left
 unfolding replaces
-few-kern left Implicit size = omega arith
-few-kern left Explicit size = omega arith
-few-kern left MathOn size = omega arith
-few-kern left MathOff size = omega arith
+few-kern left kerns.Implicit size = omega arith
+few-kern left kerns.Explicit size = omega arith
+few-kern left kerns.MathOn size = omega arith
+few-kern left kerns.MathOff size = omega arith
 
 few : (left : ℕ) (item : Item) → replaces (piece_of left item) ≤ left
 unfolding replaces
