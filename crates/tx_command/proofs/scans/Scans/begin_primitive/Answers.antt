@@ -1,4 +1,4 @@
-use Rattle.std.proofs.Common.{refl, ap, ◌∙◌}
+use Rattle.std.proofs.Common.{false, refl, ap, ◌∙◌}
 use Rattle.tx_scan.specs.DimensionRests.{begun_size}
 use Rattle.tx_seen.specs.declared.fed.Want.TheVariants.{Raw}
 use Rattle.tx_command.specs.declared.types.SizeUse.TheVariants.{Item}
