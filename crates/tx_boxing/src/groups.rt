@@ -1,5 +1,5 @@
 //! Groups end (TeX: The Program, sections 1063 to 1068).
-ghost use Rattle.std.specs.Prelude.{◌≡◌, Some, IfOk};
+ghost use Rattle.std.specs.Prelude.{◌≡◌, [], Some, IfOk};
 ghost use Rattle.tx_eqtb.specs.declared.groups.GroupKind.{GroupKind};
 ghost use Rattle.tx_eqtb.specs.Stack.{kind_of};
 ghost use Rattle.tx_state.specs.declared.parts.Phase.{Phase};
