@@ -6,9 +6,9 @@ ghost use Rattle.tx_prim.specs.Table.{all, modes_of, name_of, named};
 use crate::dimension::DimensionParameter;
 use crate::family::{
     AfterKind, AlignWord, AtomClass, BoxKind, BoxSide, BoxSource, CharacterCode, DefinitionKind,
-    FontNumber, FractionKind, GlueForm, Indentation, Interaction, ItemKind, LeadersKind, LimitsKind,
-    MathSize, MathStyle, Numbered, Operation, PageQuantity, Prefix, RuleKind, ShiftKind, Shorthand,
-    SizeKind, TextUse, UnboxKind,
+    FontNumber, FractionKind, GlueForm, Indentation, Interaction, ItemKind, LeadersKind,
+    LimitsKind, MathSize, MathStyle, Numbered, Operation, PageQuantity, Prefix, RuleKind,
+    ShiftKind, Shorthand, SizeKind, TextUse, UnboxKind,
 };
 use crate::glue::GlueParameter;
 use crate::integer::IntegerParameter;
