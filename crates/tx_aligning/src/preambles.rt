@@ -10,7 +10,7 @@ use crate::standing::{open_group, put_innermost, read_everycr};
 use std::alloc::{AllocError, Global};
 use tx_align::PreItem;
 use tx_assign::{Assignment, Carried};
-use tx_box::{glue, reset_shape};
+use tx_box::reset_shape;
 use tx_char::Cat;
 use tx_command::Head;
 use tx_eqtb::GroupKind;
@@ -40,7 +40,7 @@ pub fn begin_align(alloc: Global, s: &mut State, goal: BoxGoal) -> Result<Event,
     requires { s.old.phase ≡ Phase.Running }
     ensures { IfOk result (λ event. IsStepped (spec.beginning (state_of s.old) goal) s.old event s.new) }
 {
-    let tabskip = glue(&s.table, GlueParameter::Tabskip);
+    let tabskip = s.table.glue_parameter(GlueParameter::Tabskip);
     let outer = s.scan.level();
     if !open_group(s, GroupKind::Align)? {
         return Ok(fail(s, TexError::TooManyGroups));
@@ -172,7 +172,7 @@ pub fn set_tabskip(
 {
     match tx_assign::carry_out(&mut s.table, assignment, false)? {
         Carried::Done => {
-            let tabskip = glue(&s.table, GlueParameter::Tabskip);
+            let tabskip = s.table.glue_parameter(GlueParameter::Tabskip);
             feed(alloc, s, PreItem::Tabskip(tabskip))
         }
         Carried::Refused(error) => Ok(fail(s, error)),

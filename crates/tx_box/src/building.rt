@@ -9,7 +9,7 @@ ghost use Rattle.tx_box.specs.Effects.{told};
 
 use crate::kinds::{goal_of, group_of, is_vertical, mode_in, most_in, size_in};
 use crate::leaving::{all_own, split_list};
-use crate::parameters::{across, dimension, down};
+use crate::parameters::{across, down};
 use crate::parts::{Done, Lists, OpenBox, Target};
 use crate::placing::place;
 use std::alloc::{AllocError, Global};
@@ -93,7 +93,7 @@ pub fn begin_box(
 pub fn greatest_depth(table: &Eqtb) -> i64
     ensures { result ≡ spec.greatest_depth table.now.table }
 {
-    dimension(table, DimensionParameter::Boxmaxdepth)
+    i64::from(table.dimension(DimensionParameter::Boxmaxdepth))
 }
 
 /// A list in a box, at most so many sp deep where it is vertical.
@@ -130,7 +130,7 @@ fn packed(
     ensures packed { IfOk result (λ made. spec.packed_if kind goal most table.now.table list ≡ Ok made) }
     ensures error { IfErr result (λ e. e ≢ OutOfMemory → spec.packed_if kind goal most table.now.table list ≡ Err e) }
 {
-    let rule = dimension(table, DimensionParameter::Overfullrule);
+    let rule = i64::from(table.dimension(DimensionParameter::Overfullrule));
     if Range::Dimen.holds(size_in(goal)) && Range::Dimen.holds(most) && Range::Dimen.holds(rule) {
         packed_as(alloc, kind, goal, most, table, list)
     } else {

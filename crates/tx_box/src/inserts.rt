@@ -8,7 +8,7 @@ ghost use Rattle.tx_box.specs.Sources.{appended};
 
 use crate::building::{leave_list, reset_shape};
 use crate::kinds::GREATEST_SIZE;
-use crate::parameters::{down, glue};
+use crate::parameters::down;
 use crate::parts::{Done, Lists};
 use std::alloc::{AllocError, Global};
 use tx_eqtb::{Eqtb, GroupKind, OpenError};
@@ -17,7 +17,7 @@ use tx_node::{BoxHead, InsertHead, Node, Nodes};
 use tx_num::{Glue, Range};
 use tx_pack::{Goal, PackError, Packed, vpack};
 use tx_prim::{DimensionParameter, GlueParameter, IntegerParameter, Mode};
-use tx_seen::{Place, TexError};
+use tx_seen::TexError;
 
 /// What an insertion takes from the table inside its group, in sp (TeX: The Program, section 1100).
 #[derive(Clone, Copy)]
@@ -33,9 +33,9 @@ pub fn insert_params(table: &Eqtb) -> InsertParams
     ensures { result ≡ spec.insert_params table.now.table }
 {
     InsertParams {
-        split_top_skip: glue(table, GlueParameter::Splittopskip),
-        split_max_depth: table.number(&Place::Dimension(DimensionParameter::Splitmaxdepth)),
-        floating_penalty: table.number(&Place::Integer(IntegerParameter::Floatingpenalty)),
+        split_top_skip: table.glue_parameter(GlueParameter::Splittopskip),
+        split_max_depth: table.dimension(DimensionParameter::Splitmaxdepth),
+        floating_penalty: table.integer(IntegerParameter::Floatingpenalty),
     }
 }
 

@@ -31,7 +31,7 @@ pub use formulas::{append_atom, append_noad, settle, with_nodes};
 pub use inserts::{InsertParams, begin_vertical, end_insert, end_vertical, insert_params};
 pub use kinds::{every_in, goal_of, size_in};
 pub use leaving::split_list;
-pub use parameters::{across, dimension, down, glue, integer, leading_of};
+pub use parameters::{across, down, leading_of};
 pub use parts::{Done, Lists, OpenBox, OpenFormula, Target, Work};
 pub use placing::place;
 pub use sources::{copy_register, take_last, unbox, use_register};

@@ -4,7 +4,6 @@ use Rattle.tx_dvi.specs.declared.font.FontDefinition.{FontDefinition}
 use Rattle.tx_dvi.specs.Page.{Page}
 use Rattle.tx_node.specs.Items.{PackedBox}
 use Rattle.tx_prim.specs.declared.integer.IntegerParameter.TheVariants.{Mag, Year, Month, Day, Time}
-use Rattle.tx_prim.specs.declared.dimension.DimensionParameter.{DimensionParameter}
 use Rattle.tx_prim.specs.declared.dimension.DimensionParameter.TheVariants.{Hoffset, Voffset}
 use Rattle.tx_seen.specs.declared.place.Place.TheVariants.{Count, Dimension}
 use Rattle.tx_eqtb.specs.declared.table.Table.{Table}
@@ -30,9 +29,6 @@ use Rattle.tx_state.specs.State.{TexState}
 abbrev pub count : Table → ℕ → ℤ
 count table n = number_at table (Count n)
 
-abbrev pub dimension : Table → DimensionParameter → ℤ
-dimension table parameter = number_at table (Dimension parameter)
-
 abbrev pub counts : Table → List ℤ
 counts table =
     count table 0 ∷ count table 1 ∷ count table 2 ∷ count table 3 ∷ count table 4 ∷ count table 5 ∷ count table 6 ∷ count table 7
@@ -43,8 +39,8 @@ abbrev pub ship_params : Table → List ℕ → ShipParams
 ship_params table defined = record {
   defined = defined;
   counts = counts table;
-  hoffset = dimension table Hoffset;
-  voffset = dimension table Voffset;
+  hoffset = number_at table (Dimension Hoffset);
+  voffset = number_at table (Dimension Voffset);
   mag = integer table Mag;
   year = integer table Year;
   month = integer table Month;

@@ -27,7 +27,7 @@ use tx_node::{BoxNode, Nodes, Rule};
 use tx_output::LastItem;
 use tx_prim::{BoxKind, IntegerParameter, ItemKind, UnboxKind};
 use tx_seen::{Place, TexError};
-use tx_state::{Due, State, end_assignment, fail, finish_assignment, integer, leave_group};
+use tx_state::{Due, State, end_assignment, fail, finish_assignment, leave_group};
 
 /// Appends a rule.
 pub fn add_rule(alloc: Global, s: &mut State, rule: Rule) -> Result<Event, AllocError>
@@ -117,7 +117,7 @@ pub(crate) fn carry(s: &mut State, done: Done) -> Result<Event, AllocError>
 pub(crate) fn target_of(s: &State, context: BoxContext) -> Target
     ensures { result ≡ spec.target_of (state_of s.now) context }
 {
-    let globaldefs = integer(&s.table, IntegerParameter::Globaldefs);
+    let globaldefs = s.table.integer(IntegerParameter::Globaldefs);
     Target {
         context,
         global: is_global(globaldefs, s.scan.prefixes().global),

@@ -4,14 +4,12 @@ ghost use Rattle.tx_dvi.specs.declared.font.FontDefinition.{FontDefinition};
 ghost use Rattle.tx_boxing.specs.Shipped as spec;
 
 use std::alloc::AllocError;
-use tx_box::dimension;
 use tx_bytes::Bytes;
 use tx_dvi::FontDefinition;
 use tx_eqtb::Eqtb;
 use tx_prim::{DimensionParameter, IntegerParameter};
 use tx_seen::Place;
 use tx_ship::ShipParams;
-use tx_state::integer;
 
 /// A register of \count.
 fn count(table: &Eqtb, number: u8) -> i32
@@ -46,13 +44,13 @@ pub(crate) fn ship_params(table: &Eqtb, defined: &Bytes) -> Result<ShipParams, A
     Ok(ShipParams {
         defined,
         counts: counts(table),
-        hoffset: dimension(table, DimensionParameter::Hoffset),
-        voffset: dimension(table, DimensionParameter::Voffset),
-        mag: i64::from(integer(table, IntegerParameter::Mag)),
-        year: integer(table, IntegerParameter::Year),
-        month: integer(table, IntegerParameter::Month),
-        day: integer(table, IntegerParameter::Day),
-        time: integer(table, IntegerParameter::Time),
+        hoffset: i64::from(table.dimension(DimensionParameter::Hoffset)),
+        voffset: i64::from(table.dimension(DimensionParameter::Voffset)),
+        mag: i64::from(table.integer(IntegerParameter::Mag)),
+        year: table.integer(IntegerParameter::Year),
+        month: table.integer(IntegerParameter::Month),
+        day: table.integer(IntegerParameter::Day),
+        time: table.integer(IntegerParameter::Time),
     })
 }
 

@@ -18,7 +18,7 @@ use tx_node::BoxNode;
 use tx_prim::IntegerParameter;
 use tx_seen::TexError;
 use tx_ship::{ShipError, body};
-use tx_state::{Due, Phase, State, fail, integer};
+use tx_state::{Due, Phase, State, fail};
 
 /// A page goes out, with the magnification. Its only error is want of memory.
 fn send(s: &mut State, magnification: i32, page: PageBody) -> Result<Event, AllocError>
@@ -56,7 +56,7 @@ fn ship_box(alloc: Global, s: &mut State, shipped: &BoxNode) -> Result<Event, Al
     ensures { IfOk result (λ event. IsStepped (spec.ships_box (state_of s.old) shipped.now) s.old event s.new) }
 {
     s.lists.pages.dead_cycles = 0;
-    let magnification = integer(&s.table, IntegerParameter::Mag);
+    let magnification = s.table.integer(IntegerParameter::Mag);
     if !may_be(s.magnification, magnification) {
         return Ok(fail(s, TexError::BadMagnification));
     }

@@ -1,11 +1,26 @@
-//! The bytes of a name.
+//! The bytes of a name, and the number that they are mixed to.
 ghost use Rattle.std.specs.Int.{to_le_bytes, w64};
 ghost use Rattle.std.specs.Prelude.{◌≡◌, ◌≤◌, ◌↔◌, drop, length, take, IfOk, IsTrue};
 ghost use Rattle.tx_char.specs.Letters.{short_letters, letters_of};
+ghost use Rattle.tx_char.specs.Letters as spec;
 
 use crate::short::{Letters, SHORT, Short};
 use std::alloc::{AllocError, Global};
 use tx_bytes::Bytes;
+
+/// Bytes are mixed to a number below this one.
+const NUMBERS: usize = 4_294_967_296;
+
+/// The number that the bytes of a name are mixed to.
+pub fn mixed(bytes: &[u8]) -> usize
+    ensures { result ≡ spec.mixed 0 bytes.now }
+{
+    let mut number: usize = 0;
+    for byte in bytes {
+        number = (number * 31 + *byte as usize) % NUMBERS;
+    }
+    number
+}
 
 /// These bytes, if there are few.
 fn in_place(bytes: &[u8]) -> Short

@@ -1,6 +1,8 @@
 //! Groups that are open.
 
 use crate::parts::Parts;
+use std::alloc::AllocError;
+use tx_list::Kept;
 use tx_prim::{AtomPart, BreakText, MathStyle};
 
 /// What opened a group, which has to be closed by the same (TeX: The Program, section 269).
@@ -39,4 +41,17 @@ pub enum GroupKind {
 pub struct Group {
     pub(crate) kind: GroupKind,
     pub(crate) outside: Parts,
+}
+
+impl Kept for Group {
+    fn share(&self) -> Result<Self, AllocError> {
+        Ok(Group {
+            kind: self.kind,
+            outside: self.outside.share()?,
+        })
+    }
+
+    fn same(&self, other: &Self) -> bool {
+        self.kind == other.kind && self.outside.same(&other.outside)
+    }
 }

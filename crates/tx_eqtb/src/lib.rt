@@ -8,7 +8,7 @@
 //! call_cases, tools/check-tex).
 //!
 //! Read `entry`, what stands at a place; `cells`, `contents`, `boxes`, `shape` and `table`; `seldom` and `parts`, in which the
-//! table is shared; `reading` and `writing`; `initex`, the table at the beginning; `groups` and `nesting`; and then `eqtb` with
+//! table is shared; `writing`; `initex`, the table at the beginning; `groups` and `nesting`; and then `eqtb` with `reading`,
 //! `stack`, `values` and `known`. Places and meanings are tx_seen's.
 #![tactic(auto)]
 

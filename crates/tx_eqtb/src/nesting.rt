@@ -1,5 +1,5 @@
 //! The groups that are open, one in another.
-ghost use Rattle.std.specs.Prelude.{◌≡◌, ◌↔◌, ◌≤◌, ◌-◌, [], ◌∷◌, ◌++◌, length, take, map, slice_get, IsTrue, IfOk, OnOk, OnErr};
+ghost use Rattle.std.specs.Prelude.{◌≡◌, ◌↔◌, ◌≤◌, ◌-◌, [], ◌∷◌, ◌++◌, length, take, map, IsTrue, IfOk, OnOk, OnErr};
 ghost use Rattle.std.specs.Option.{option_map};
 ghost use Rattle.tx_eqtb.specs.Stack.{assigned_outside, assigned_within, innermost};
 
@@ -8,6 +8,7 @@ use crate::groups::{Group, GroupKind};
 use crate::parts::Parts;
 use std::alloc::{AllocError, Global};
 use std::marker::Model;
+use tx_list::{Items, same_items};
 use tx_seen::Place;
 
 /// The open groups, innermost last. Contracts see their list.
@@ -97,7 +98,7 @@ impl Nesting {
     pub fn same(&self, other: &Nesting) -> bool
         ensures { IsTrue result ↔ (self.now ≡ other.now) }
     {
-        same_groups(self.groups.as_slice(), other.groups.as_slice())
+        same_items(self.groups.as_slice(), other.groups.as_slice())
     }
 
     /// A second list, equal to this one. Its only error is want of memory.
@@ -106,7 +107,7 @@ impl Nesting {
     {
         let alloc = *self.groups.allocator();
         Ok(Nesting {
-            groups: share_groups(alloc, self.groups.as_slice())?,
+            groups: Items::from_slice(alloc, self.groups.as_slice())?.into_vec(),
         })
     }
 }
@@ -138,33 +139,4 @@ fn assign_each(
         groups[k].outside.set(level, place, entry)?;
     }
     Ok(())
-}
-
-/// Whether both lists hold the same groups in the same order.
-fn same_groups(some: &[Group], others: &[Group]) -> bool
-    ensures { IsTrue result ↔ (some.now ≡ others.now) }
-{
-    if some.len() != others.len() {
-        return false;
-    }
-    for k in 0..some.len() {
-        if some[k].kind != others[k].kind || !some[k].outside.same(&others[k].outside) {
-            return false;
-        }
-    }
-    true
-}
-
-/// Second groups, equal to these.
-fn share_groups(alloc: Global, groups: &[Group]) -> Result<Vec<Group>, AllocError>
-    ensures { IfOk result (λ twins. twins.items ≡ groups.now) }
-{
-    let mut twins = Vec::with_capacity(alloc, groups.len())?;
-    for group in groups {
-        twins.push(Group {
-            kind: group.kind,
-            outside: group.outside.share()?,
-        })?;
-    }
-    Ok(twins)
 }

@@ -6,6 +6,7 @@ ghost use Rattle.tx_char.specs.Category.{category};
 
 use crate::boxes::{box_of, level_of, size_of};
 use crate::cells::Cells;
+use crate::eqtb::Eqtb;
 use crate::parts::Parts;
 use crate::seldom::Seldom;
 use std::alloc::{AllocError, Global};
@@ -13,7 +14,9 @@ use tx_char::{Cat, Codes, ControlName, Token};
 use tx_list::both;
 use tx_node::BoxNode;
 use tx_num::Glue;
-use tx_prim::{CharacterCode, MathSize, Primitive};
+use tx_prim::{
+    CharacterCode, DimensionParameter, GlueParameter, IntegerParameter, MathSize, Primitive,
+};
 use tx_seen::{Meaning, Place};
 use tx_toklist::{TokList, Toks};
 
@@ -77,70 +80,134 @@ fn list_of(lists: &Cells<TokList>, at: usize) -> Result<TokList, AllocError>
     }
 }
 
-impl Parts {
+impl Eqtb {
     /// The number of the current font.
     pub fn font(&self) -> u8
-        ensures { result ≡ self.now.font }
+        ensures { result ≡ self.now.table.font }
     {
-        self.font
+        self.table.font
     }
 
-    /// The sizes of \parshape, lent, in sp.
+    /// The sizes of \parshape, lent: of each line how far it is indented, then how wide it is, in sp.
     pub fn par_shape(&self) -> &[i32]
-        ensures { result.now ≡ self.now.par_shape }
+        ensures { result.now ≡ self.now.table.par_shape }
     {
-        self.seldom.par_shape.as_slice()
+        self.table.seldom.par_shape.as_slice()
     }
 
     /// The category of a character.
     pub fn category(&self, code: u8) -> Cat
-        ensures { result ≡ category self.now.categories code }
+        ensures { result ≡ category self.now.table.categories code }
     {
-        self.seldom.categories.get(code)
+        self.table.seldom.categories.get(code)
     }
 
-    /// The categories of all characters, lent.
+    /// The categories of all characters, lent, for reading lines.
     pub fn categories(&self) -> &Codes
-        ensures { result.now ≡ self.now.categories }
+        ensures { result.now ≡ self.now.table.categories }
     {
-        &self.seldom.as_ref().categories
+        &self.table.seldom.as_ref().categories
     }
 
-    /// The number that stands at a place, and 0 where none does.
+    /// The meaning of a name. Its only error is that no more owners of a meaning can be counted.
+    pub fn name_meaning(&self, name: &ControlName) -> Result<Meaning, AllocError>
+        ensures { IfOk result (λ meaning. meaning ≡ spec.meaning_of self.now.table.names name.now) }
+    {
+        match self.table.names.get(name) {
+            Some(meaning) => meaning.clone(),
+            None => Ok(Meaning::Undefined),
+        }
+    }
+
+    /// What a token means: a name and an active character what the table says, any other character itself, and the frozen
+    /// \relax what \relax means at the beginning. Its only error is that no more owners of a meaning can be counted.
+    #[inline(always)]
+    pub fn meaning(&self, token: &Token) -> Result<Meaning, AllocError>
+        ensures { IfOk result (λ meaning. meaning ≡ spec.token_meaning self.now.table token.now) }
+    {
+        match token {
+            Token::Name(name) => self.name_meaning(name),
+            Token::Character(code, Cat::Active) => {
+                match self.table.seldom.active.get(*code as usize) {
+                    Some(meaning) => meaning.clone(),
+                    None => Ok(Meaning::Undefined),
+                }
+            }
+            Token::Character(code, category) => Ok(Meaning::Character(*code, *category)),
+            Token::FrozenRelax => Ok(Meaning::Command(Primitive::Relax)),
+            Token::FontIdentifier(font) => Ok(font_meaning(*font)),
+        }
+    }
+
+    /// An integer parameter.
+    #[tactic(auto, unfolding(crate::specs::Table::number_at))]
+    pub fn integer(&self, parameter: IntegerParameter) -> i32
+        ensures { result ≡ spec.number_at self.now.table (Place.Integer parameter) }
+    {
+        number_of(&self.table.integers, parameter.number())
+    }
+
+    /// A dimension parameter, in sp, which may be any number.
+    #[tactic(auto, unfolding(crate::specs::Table::number_at))]
+    pub fn dimension(&self, parameter: DimensionParameter) -> i32
+        ensures { result ≡ spec.number_at self.now.table (Place.Dimension parameter) }
+    {
+        number_of(&self.table.dimensions, parameter.number())
+    }
+
+    /// A glue parameter.
+    pub fn glue_parameter(&self, parameter: GlueParameter) -> Glue
+        ensures { result ≡ spec.glue_at self.now.table (Place.Glue parameter) }
+    {
+        glue_of(&self.table.seldom.glue_parameters, parameter.number())
+    }
+
+    /// The \sfcode of a character.
+    #[tactic(auto, unfolding(crate::specs::Table::number_at))]
+    pub fn space_factor(&self, code: u8) -> i32
+        ensures { result ≡ spec.number_at self.now.table (Place.Code CharacterCode.SpaceFactor code) }
+    {
+        number_of(&self.table.seldom.space_factors, code as usize)
+    }
+
+    /// The number that stands at a place: a register, a code or a parameter, in scaled points where it is a size; 0 where no
+    /// number stands.
     #[tactic(auto, unfolding(crate::specs::Table::number_at))]
     pub fn number(&self, place: &Place) -> i32
-        ensures { result ≡ spec.number_at self.now place.now }
+        ensures { result ≡ spec.number_at self.now.table place.now }
     {
         match place {
-            Place::Count(number) => number_of(&self.counts, *number as usize),
-            Place::Dimen(number) => number_of(&self.dimens, *number as usize),
+            Place::Count(number) => number_of(&self.table.counts, *number as usize),
+            Place::Dimen(number) => number_of(&self.table.dimens, *number as usize),
             Place::Code(CharacterCode::LowerCase, code) => number_of(
-                &self.seldom.lower_case,
+                &self.table.seldom.lower_case,
                 *code as usize,
             ),
             Place::Code(CharacterCode::UpperCase, code) => number_of(
-                &self.seldom.upper_case,
+                &self.table.seldom.upper_case,
                 *code as usize,
             ),
-            Place::Code(CharacterCode::SpaceFactor, code) => {
-                number_of(&self.seldom.space_factors, *code as usize)
+            Place::Code(CharacterCode::SpaceFactor, code) => self.space_factor(*code),
+            Place::Code(CharacterCode::Math, code) => {
+                number_of(&self.table.seldom.math, *code as usize)
             }
-            Place::Code(CharacterCode::Math, code) => number_of(&self.seldom.math, *code as usize),
             Place::Code(CharacterCode::Delimiter, code) => number_of(
-                &self.seldom.delimiters,
+                &self.table.seldom.delimiters,
                 *code as usize,
             ),
-            Place::Integer(parameter) => number_of(&self.integers, parameter.number()),
-            Place::Dimension(parameter) => number_of(&self.dimensions, parameter.number()),
-            Place::BoxSize(side, number) => size_of(&self.seldom.boxes, *side, *number as usize),
+            Place::Integer(parameter) => self.integer(*parameter),
+            Place::Dimension(parameter) => self.dimension(*parameter),
+            Place::BoxSize(side, number) => {
+                size_of(&self.table.seldom.boxes, *side, *number as usize)
+            }
             Place::Name(_) | Place::Active(_) | Place::Category(_) => 0,
             Place::Toks(_) | Place::Tokens(_) | Place::Box(_) | Place::BoxTest(_, _) => 0,
             Place::Skip(_) | Place::Muskip(_) | Place::Glue(_) => 0,
-            Place::Font => i32::from(self.font),
+            Place::Font => i32::from(self.table.font),
             Place::Last(_) | Place::Badness | Place::PrevDepth | Place::Magnification => 0,
             Place::FontSize(_) | Place::FontDimen(_, _) => 0,
             Place::Family(size, family) => number_of(
-                &self.seldom.families,
+                &self.table.seldom.families,
                 family_index(*size, *family),
             ),
             Place::FontInteger(_, _) | Place::SpaceFactor => 0,
@@ -149,14 +216,14 @@ impl Parts {
         }
     }
 
-    /// The glue that stands at a place, and zero glue where none does.
+    /// The glue that stands at a place, a register or a parameter; zero glue where none stands.
     pub fn glue(&self, place: &Place) -> Glue
-        ensures { result ≡ spec.glue_at self.now place.now }
+        ensures { result ≡ spec.glue_at self.now.table place.now }
     {
         match place {
-            Place::Skip(number) => glue_of(&self.seldom.skips, *number as usize),
-            Place::Muskip(number) => glue_of(&self.seldom.muskips, *number as usize),
-            Place::Glue(parameter) => glue_of(&self.seldom.glue_parameters, parameter.number()),
+            Place::Skip(number) => glue_of(&self.table.seldom.skips, *number as usize),
+            Place::Muskip(number) => glue_of(&self.table.seldom.muskips, *number as usize),
+            Place::Glue(parameter) => self.glue_parameter(*parameter),
             Place::Name(_) | Place::Active(_) | Place::Category(_) => Glue::zero(),
             Place::Count(_) | Place::Dimen(_) | Place::Code(_, _) => Glue::zero(),
             Place::Integer(_) | Place::Dimension(_) | Place::BoxSize(_, _) => Glue::zero(),
@@ -170,24 +237,26 @@ impl Parts {
         }
     }
 
-    /// The list of tokens that stands at a place, of which one more owner is answered, and an empty one where none stands. Its
-    /// only error is want of memory.
+    /// The list of tokens that stands at a place, a register or a parameter, of which one more owner is answered; an empty one
+    /// where none stands. Its only error is want of memory.
     pub fn tokens(&self, place: &Place) -> Result<TokList, AllocError>
-        ensures { IfOk result (λ tokens. tokens ≡ spec.tokens_at self.now place.now) }
+        ensures { IfOk result (λ tokens. tokens ≡ spec.tokens_at self.now.table place.now) }
     {
         match place {
-            Place::Toks(number) => list_of(&self.seldom.token_registers, *number as usize),
-            Place::Tokens(parameter) => list_of(&self.seldom.token_parameters, parameter.number()),
-            _ => no_tokens(self.seldom.token_registers.allocator()),
+            Place::Toks(number) => list_of(&self.table.seldom.token_registers, *number as usize),
+            Place::Tokens(parameter) => {
+                list_of(&self.table.seldom.token_parameters, parameter.number())
+            }
+            _ => no_tokens(self.table.seldom.token_registers.allocator()),
         }
     }
 
-    /// The box of a register, lent; None where it is void, and at any other place.
+    /// The box of a register, lent; None where it is void, and at a place that is no box register.
     pub fn boxed(&self, place: &Place) -> Option<&BoxNode>
-        ensures { option_copied result ≡ spec.box_at self.now place.now }
+        ensures { option_copied result ≡ spec.box_at self.now.table place.now }
     {
         match place {
-            Place::Box(number) => box_of(&self.seldom.boxes, *number as usize),
+            Place::Box(number) => box_of(&self.table.seldom.boxes, *number as usize),
             Place::Name(_) | Place::Active(_) | Place::Category(_) | Place::Code(_, _) => None,
             Place::Count(_) | Place::Dimen(_) | Place::Toks(_) | Place::BoxSize(_, _) => None,
             Place::Skip(_) | Place::Muskip(_) | Place::Glue(_) | Place::BoxTest(_, _) => None,
@@ -199,7 +268,9 @@ impl Parts {
             Place::Page(_) | Place::DeadCycles => None,
         }
     }
+}
 
+impl Parts {
     /// How many groups were open when a box register was assigned, also by the place of one of its box's sizes; 0 at any other
     /// place.
     pub fn level(&self, place: &Place) -> usize
@@ -217,40 +288,6 @@ impl Parts {
             Place::FontInteger(_, _) | Place::Family(_, _) | Place::SpaceFactor => 0,
             Place::PrevGraf | Place::ParShape => 0,
             Place::Page(_) | Place::DeadCycles => 0,
-        }
-    }
-
-    /// The meaning of a name. Its only error is that no more owners of a meaning can be counted.
-    pub fn name_meaning(&self, name: &ControlName) -> Result<Meaning, AllocError>
-        ensures { IfOk result (λ meaning. meaning ≡ spec.meaning_of self.now.names name.now) }
-    {
-        match self.names.get(name) {
-            Some(meaning) => meaning.clone(),
-            None => Ok(Meaning::Undefined),
-        }
-    }
-
-    /// The meaning of an active character. Its only error is that no more owners of a meaning can be counted.
-    pub fn active_meaning(&self, code: u8) -> Result<Meaning, AllocError>
-        ensures { IfOk result (λ meaning. meaning ≡ spec.active_meaning self.now.active code) }
-    {
-        match self.seldom.active.get(code as usize) {
-            Some(meaning) => meaning.clone(),
-            None => Ok(Meaning::Undefined),
-        }
-    }
-
-    /// What a token means. Its only error is that no more owners of a meaning can be counted.
-    #[inline(always)]
-    pub fn meaning(&self, token: &Token) -> Result<Meaning, AllocError>
-        ensures { IfOk result (λ meaning. meaning ≡ spec.token_meaning self.now token.now) }
-    {
-        match token {
-            Token::Name(name) => self.name_meaning(name),
-            Token::Character(code, Cat::Active) => self.active_meaning(*code),
-            Token::Character(code, category) => Ok(Meaning::Character(*code, *category)),
-            Token::FrozenRelax => Ok(Meaning::Command(Primitive::Relax)),
-            Token::FontIdentifier(font) => Ok(font_meaning(*font)),
         }
     }
 

@@ -1,6 +1,7 @@
 //! What groups change seldom.
 ghost use Rattle.std.specs.Prelude.{◌≡◌, slice_set, OnOk};
 ghost use Rattle.tx_eqtb.specs.Boxes.{with_size};
+ghost use Rattle.tx_eqtb.specs.Seldom.{with_code};
 
 use crate::boxes::{BoxRegister, set_size};
 use crate::cells::Cells;
@@ -10,7 +11,7 @@ use std::rc::Rc;
 use tx_char::{Cat, Codes};
 use tx_list::both;
 use tx_num::Glue;
-use tx_prim::BoxSide;
+use tx_prim::{BoxSide, CharacterCode};
 use tx_seen::Meaning;
 use tx_toklist::TokList;
 
@@ -93,48 +94,24 @@ pub fn set_active(
     own.active.set(number, meaning)
 }
 
-/// A character gets an \lccode.
-pub fn set_lower_case(seldom: &mut Rc<Seldom>, number: usize, value: i32) -> Result<(), AllocError>
-    ensures { OnOk result (seldom.new.value ≡ record seldom.old.value { lower_case = slice_set seldom.old.value.lower_case number value }) }
-{
-    let own = Rc::make_mut(seldom)?;
-    own.lower_case.set(number, value)
-}
-
-/// A character gets an \uccode.
-pub fn set_upper_case(seldom: &mut Rc<Seldom>, number: usize, value: i32) -> Result<(), AllocError>
-    ensures { OnOk result (seldom.new.value ≡ record seldom.old.value { upper_case = slice_set seldom.old.value.upper_case number value }) }
-{
-    let own = Rc::make_mut(seldom)?;
-    own.upper_case.set(number, value)
-}
-
-/// A character gets an \sfcode.
-pub fn set_space_factor(
+/// A character gets a code of a kind.
+pub fn set_code(
     seldom: &mut Rc<Seldom>,
-    number: usize,
+    kind: CharacterCode,
+    code: u8,
     value: i32,
 ) -> Result<(), AllocError>
-    ensures { OnOk result (seldom.new.value ≡ record seldom.old.value { space_factors = slice_set seldom.old.value.space_factors number value }) }
+    ensures { OnOk result (seldom.new.value ≡ with_code seldom.old.value kind code value) }
 {
+    let number = code as usize;
     let own = Rc::make_mut(seldom)?;
-    own.space_factors.set(number, value)
-}
-
-/// A character gets a \mathcode.
-pub fn set_math(seldom: &mut Rc<Seldom>, number: usize, value: i32) -> Result<(), AllocError>
-    ensures { OnOk result (seldom.new.value ≡ record seldom.old.value { math = slice_set seldom.old.value.math number value }) }
-{
-    let own = Rc::make_mut(seldom)?;
-    own.math.set(number, value)
-}
-
-/// A character gets a \delcode.
-pub fn set_delimiter(seldom: &mut Rc<Seldom>, number: usize, value: i32) -> Result<(), AllocError>
-    ensures { OnOk result (seldom.new.value ≡ record seldom.old.value { delimiters = slice_set seldom.old.value.delimiters number value }) }
-{
-    let own = Rc::make_mut(seldom)?;
-    own.delimiters.set(number, value)
+    match kind {
+        CharacterCode::LowerCase => own.lower_case.set(number, value),
+        CharacterCode::UpperCase => own.upper_case.set(number, value),
+        CharacterCode::SpaceFactor => own.space_factors.set(number, value),
+        CharacterCode::Math => own.math.set(number, value),
+        CharacterCode::Delimiter => own.delimiters.set(number, value),
+    }
 }
 
 /// A register of glue gets another.

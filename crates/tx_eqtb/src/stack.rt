@@ -1,9 +1,7 @@
 //! What is done to the table with its groups.
-ghost use Rattle.std.specs.Prelude.{◌≡◌, ◌↔◌, ◌≤◌, [], length, option_copied, Some, Ok, Err, IsOk, IsTrue, IfOk, IfErr, OnOk, OnErr};
+ghost use Rattle.std.specs.Prelude.{◌≡◌, ◌↔◌, ◌≤◌, [], length, Some, Ok, Err, IsOk, IsTrue, IfOk, OnOk, OnErr};
 ghost use Rattle.tx_eqtb.specs.Initex.{initial_table};
 ghost use Rattle.tx_eqtb.specs.Stack.{assigned, assigned_everywhere, closed, kind_of, opened, replaced};
-ghost use Rattle.tx_eqtb.specs.Table.{active_meaning, box_at, glue_at, meaning_of, number_at, token_meaning, tokens_at};
-ghost use Rattle.tx_char.specs.Category.{category};
 
 use crate::entry::Entry;
 use crate::eqtb::Eqtb;
@@ -14,13 +12,9 @@ use crate::nesting::Nesting;
 use crate::parts::Parts;
 use std::alloc::{AllocError, Global};
 use std::mem;
-use tx_char::{Cat, Codes, ControlName, Token};
 use tx_list::both;
-use tx_node::BoxNode;
-use tx_num::Glue;
 use tx_prim::Moment;
-use tx_seen::{Meaning, Place};
-use tx_toklist::TokList;
+use tx_seen::Place;
 
 /// How many groups can be open.
 const MOST_GROUPS: usize = 255;
@@ -35,87 +29,6 @@ impl Eqtb {
             table: Parts::new(alloc, initex::initial_table(alloc, begun)?)?,
             groups: Nesting::new(alloc),
         })
-    }
-
-    /// The number that stands at a place: a register, a code or a parameter, in scaled points where it is a size; 0 where no
-    /// number stands.
-    pub fn number(&self, place: &Place) -> i32
-        ensures { result ≡ number_at self.now.table place.now }
-    {
-        self.table.number(place)
-    }
-
-    /// The number of the current font.
-    pub fn font(&self) -> u8
-        ensures { result ≡ self.now.table.font }
-    {
-        self.table.font()
-    }
-
-    /// The glue that stands at a place, a register or a parameter; zero glue where none stands.
-    pub fn glue(&self, place: &Place) -> Glue
-        ensures { result ≡ glue_at self.now.table place.now }
-    {
-        self.table.glue(place)
-    }
-
-    /// The list of tokens that stands at a place, a register or a parameter, of which one more owner is answered; an empty one
-    /// where none stands. Its only error is want of memory.
-    pub fn tokens(&self, place: &Place) -> Result<TokList, AllocError>
-        ensures { IfOk result (λ tokens. tokens ≡ tokens_at self.now.table place.now) }
-    {
-        self.table.tokens(place)
-    }
-
-    /// The box of a register, lent; None where it is void, and at a place that is no box register.
-    pub fn boxed(&self, place: &Place) -> Option<&BoxNode>
-        ensures { option_copied result ≡ box_at self.now.table place.now }
-    {
-        self.table.boxed(place)
-    }
-
-    /// The sizes of \parshape, lent: of each line how far it is indented, then how wide it is, in sp.
-    pub fn par_shape(&self) -> &[i32]
-        ensures { result.now ≡ self.now.table.par_shape }
-    {
-        self.table.par_shape()
-    }
-
-    /// The category of a character.
-    pub fn category(&self, code: u8) -> Cat
-        ensures { result ≡ category self.now.table.categories code }
-    {
-        self.table.category(code)
-    }
-
-    /// The meaning of a name. Its only error is that no more owners of a meaning can be counted.
-    pub fn name_meaning(&self, name: &ControlName) -> Result<Meaning, AllocError>
-        ensures { IfOk result (λ meaning. meaning ≡ meaning_of self.now.table.names name.now) }
-    {
-        self.table.name_meaning(name)
-    }
-
-    /// The meaning of an active character. Its only error is that no more owners of a meaning can be counted.
-    pub fn active_meaning(&self, code: u8) -> Result<Meaning, AllocError>
-        ensures { IfOk result (λ meaning. meaning ≡ active_meaning self.now.table.active code) }
-    {
-        self.table.active_meaning(code)
-    }
-
-    /// What a token means: a name and an active character what the table says, any other character itself, and the frozen
-    /// \relax what \relax means at the beginning. Its only error is that no more owners of a meaning can be counted.
-    #[inline(always)]
-    pub fn meaning(&self, token: &Token) -> Result<Meaning, AllocError>
-        ensures { IfOk result (λ meaning. meaning ≡ token_meaning self.now.table token.now) }
-    {
-        self.table.meaning(token)
-    }
-
-    /// The categories of all characters, lent, for reading lines.
-    pub fn categories(&self) -> &Codes
-        ensures { result.now ≡ self.now.table.categories }
-    {
-        self.table.categories()
     }
 
     /// Gives a place an entry until the innermost group ends; one of another kind than stands there changes nothing. After

@@ -51,19 +51,19 @@ impl Parts {
             Place::Count(number) => self.counts.set(*number as usize, value),
             Place::Dimen(number) => self.dimens.set(*number as usize, value),
             Place::Code(CharacterCode::LowerCase, code) => {
-                seldom::set_lower_case(&mut self.seldom, *code as usize, value)
+                seldom::set_code(&mut self.seldom, CharacterCode::LowerCase, *code, value)
             }
             Place::Code(CharacterCode::UpperCase, code) => {
-                seldom::set_upper_case(&mut self.seldom, *code as usize, value)
+                seldom::set_code(&mut self.seldom, CharacterCode::UpperCase, *code, value)
             }
             Place::Code(CharacterCode::SpaceFactor, code) => {
-                seldom::set_space_factor(&mut self.seldom, *code as usize, value)
+                seldom::set_code(&mut self.seldom, CharacterCode::SpaceFactor, *code, value)
             }
             Place::Code(CharacterCode::Math, code) => {
-                seldom::set_math(&mut self.seldom, *code as usize, value)
+                seldom::set_code(&mut self.seldom, CharacterCode::Math, *code, value)
             }
             Place::Code(CharacterCode::Delimiter, code) => {
-                seldom::set_delimiter(&mut self.seldom, *code as usize, value)
+                seldom::set_code(&mut self.seldom, CharacterCode::Delimiter, *code, value)
             }
             Place::Integer(parameter) => self.integers.set(parameter.number(), value),
             Place::Dimension(parameter) => self.dimensions.set(parameter.number(), value),

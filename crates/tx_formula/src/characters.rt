@@ -15,7 +15,7 @@ use tx_machine::Event;
 use tx_mlist::{Atom, Field, MathCharacter, Noad, kind_of, letter_of};
 use tx_prim::{AtomPart, CharacterCode, IntegerParameter};
 use tx_seen::{Place, TexError};
-use tx_state::{State, fail, integer};
+use tx_state::{State, fail};
 
 /// A number as 4096 times a class, 256 times a family and a character, if it is one.
 fn code_of(number: i32) -> Option<u16>
@@ -32,7 +32,7 @@ fn code_of(number: i32) -> Option<u16>
 fn letter_now(s: &State, code: u16) -> MathCharacter
     ensures { result ≡ spec.letter_now (state_of s.now) code }
 {
-    letter_of(integer(&s.table, IntegerParameter::Fam), code)
+    letter_of(s.table.integer(IntegerParameter::Fam), code)
 }
 
 /// What is read for a part of the last atom stands there.

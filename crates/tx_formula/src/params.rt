@@ -2,7 +2,7 @@
 ghost use Rattle.std.specs.Prelude.{◌≡◌};
 ghost use Rattle.tx_formula.specs.Params as spec;
 
-use tx_box::{across, glue};
+use tx_box::across;
 use tx_eqtb::Eqtb;
 use tx_math::{FamilyFonts, MathParams};
 use tx_prim::{DimensionParameter, GlueParameter, IntegerParameter, MathSize};
@@ -60,15 +60,13 @@ pub(crate) fn math_params(table: &Eqtb) -> MathParams
 {
     MathParams {
         families: families_of(table),
-        thin_mu_skip: glue(table, GlueParameter::Thinmuskip),
-        med_mu_skip: glue(table, GlueParameter::Medmuskip),
-        thick_mu_skip: glue(table, GlueParameter::Thickmuskip),
-        null_delimiter_space: table.number(&Place::Dimension(
-            DimensionParameter::Nulldelimiterspace,
-        )),
-        script_space: table.number(&Place::Dimension(DimensionParameter::Scriptspace)),
-        bin_op_penalty: table.number(&Place::Integer(IntegerParameter::Binoppenalty)),
-        rel_penalty: table.number(&Place::Integer(IntegerParameter::Relpenalty)),
+        thin_mu_skip: table.glue_parameter(GlueParameter::Thinmuskip),
+        med_mu_skip: table.glue_parameter(GlueParameter::Medmuskip),
+        thick_mu_skip: table.glue_parameter(GlueParameter::Thickmuskip),
+        null_delimiter_space: table.dimension(DimensionParameter::Nulldelimiterspace),
+        script_space: table.dimension(DimensionParameter::Scriptspace),
+        bin_op_penalty: table.integer(IntegerParameter::Binoppenalty),
+        rel_penalty: table.integer(IntegerParameter::Relpenalty),
         packing: across(table),
     }
 }

@@ -10,7 +10,6 @@ ghost use Rattle.tx_galley.specs.Errors.{error_of};
 use crate::errors::GalleyError;
 use crate::params::node_params;
 use std::alloc::Global;
-use tx_box::dimension;
 use tx_eqtb::Eqtb;
 use tx_node::{Node, Nodes};
 use tx_output::{Pages, last_item};
@@ -23,8 +22,8 @@ use tx_seen::TexError;
 fn may_build(table: &Eqtb) -> bool
     ensures { result ≡ spec.may_build table.now.table }
 {
-    fits(dimension(table, DimensionParameter::Vsize))
-        && fits(dimension(table, DimensionParameter::Maxdepth))
+    fits(i64::from(table.dimension(DimensionParameter::Vsize)))
+        && fits(i64::from(table.dimension(DimensionParameter::Maxdepth)))
 }
 
 /// One contribution.

@@ -8,7 +8,6 @@ ghost use Rattle.tx_galley.specs.Errors.{error_of};
 use crate::errors::GalleyError;
 use crate::exercising::exercise;
 use crate::firing::{Next, is_void};
-use crate::params::dimension;
 use std::alloc::{AllocError, Global};
 use std::mem::replace;
 use tx_eqtb::Eqtb;
@@ -77,7 +76,7 @@ fn line_box(alloc: Global, table: &Eqtb) -> Result<Node, AllocError>
 {
     let head = BoxHead {
         direction: Direction::Horizontal,
-        width: dimension(table, DimensionParameter::Hsize),
+        width: table.dimension(DimensionParameter::Hsize),
         height: 0,
         depth: 0,
         setting: Setting::Natural,

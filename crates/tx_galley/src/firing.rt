@@ -127,7 +127,7 @@ fn begin_output(
     ensures error { IfErr result (λ e. e ≢ OutOfMemory → spec.output_begun fired output.now table.now.table pages.old ≡ Err (error_of e)) }
 {
     let dead = i64::from(pages.dead_cycles);
-    let most = table.number(&Place::Integer(IntegerParameter::Maxdeadcycles));
+    let most = table.integer(IntegerParameter::Maxdeadcycles);
     let void255 = is_void(table, 255);
     let begun = pages
         .output

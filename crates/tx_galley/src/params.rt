@@ -1,12 +1,9 @@
 //! What the page builder takes from the table.
 ghost use Rattle.std.specs.Prelude.{◌≡◌, ◌++◌, IfOk, OnOk};
-ghost use Rattle.tx_eqtb.specs.Table.{number_at};
 ghost use Rattle.tx_node.specs.Nodes.{item_of};
-ghost use Rattle.tx_seen.specs.declared.place.Place.TheVariants as place;
 ghost use Rattle.tx_galley.specs.Params as spec;
 
 use std::alloc::{AllocError, Global};
-use tx_box::glue;
 use tx_eqtb::Eqtb;
 use tx_node::{BoxNode, Direction, Node};
 use tx_pagebuilder::{BoxList, Class, ClassBox, ClassParams, PageParams};
@@ -18,13 +15,6 @@ pub(crate) fn is_integer(number: i64) -> bool
     ensures { result ≡ spec.is_integer number }
 {
     number.unsigned_abs() < 1 << 31
-}
-
-/// A dimension parameter, in sp.
-pub(crate) fn dimension(table: &Eqtb, parameter: DimensionParameter) -> i32
-    ensures { result ≡ number_at table.now.table (place.Dimension parameter) }
-{
-    table.number(&Place::Dimension(parameter))
 }
 
 /// The height and depth of a box together, in sp.
@@ -72,10 +62,10 @@ pub(crate) fn node_params(alloc: Global, table: &Eqtb, node: &Node) -> PageParam
     ensures value { result ≡ spec.item_params table.now.table (item_of node.now) }
 {
     PageParams {
-        vsize: dimension(table, DimensionParameter::Vsize),
-        max_depth: dimension(table, DimensionParameter::Maxdepth),
-        top_skip: glue(table, GlueParameter::Topskip),
-        holding_inserts: table.number(&Place::Integer(IntegerParameter::Holdinginserts)),
+        vsize: table.dimension(DimensionParameter::Vsize),
+        max_depth: table.dimension(DimensionParameter::Maxdepth),
+        top_skip: table.glue_parameter(GlueParameter::Topskip),
+        holding_inserts: table.integer(IntegerParameter::Holdinginserts),
         class: node_class(table, node),
         boxes: BoxList::new(alloc),
     }
@@ -114,10 +104,10 @@ pub(crate) fn fire_params(
     ensures { IfOk result (λ params. params ≡ spec.fire_params table.now.table classes.now) }
 {
     Ok(PageParams {
-        vsize: dimension(table, DimensionParameter::Vsize),
-        max_depth: dimension(table, DimensionParameter::Maxdepth),
-        top_skip: glue(table, GlueParameter::Topskip),
-        holding_inserts: table.number(&Place::Integer(IntegerParameter::Holdinginserts)),
+        vsize: table.dimension(DimensionParameter::Vsize),
+        max_depth: table.dimension(DimensionParameter::Maxdepth),
+        top_skip: table.glue_parameter(GlueParameter::Topskip),
+        holding_inserts: table.integer(IntegerParameter::Holdinginserts),
         class: None,
         boxes: class_boxes(alloc, table, classes)?,
     })

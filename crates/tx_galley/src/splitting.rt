@@ -8,7 +8,7 @@ ghost use Rattle.tx_galley.specs.Splitting as spec;
 use crate::errors::GalleyError;
 use crate::firing::put_box;
 use std::alloc::Global;
-use tx_box::{dimension, down, glue};
+use tx_box::down;
 use tx_eqtb::{BoxContents, Entry, Eqtb};
 use tx_insert::{Split, split};
 use tx_node::{Direction, Nodes};
@@ -62,7 +62,7 @@ fn split_nodes(
     ensures ok { IfOk result (λ made. spec.nodes_split table.now.table size most list ≡ Ok made) }
     ensures error { IfErr result (λ e. e ≢ OutOfMemory → spec.nodes_split table.now.table size most list ≡ Err (error_of e)) }
 {
-    let top_skip = glue(table, GlueParameter::Splittopskip);
+    let top_skip = table.glue_parameter(GlueParameter::Splittopskip);
     Ok(split(alloc, list, size, most, top_skip)?)
 }
 
@@ -105,7 +105,7 @@ fn split_vertical(
     ensures ok { IfOk result (λ packed. spec.list_split register size list table.old pages.old ≡ Ok (record { packed = packed; table = table.new; pages = pages.new })) }
     ensures error { IfErr result (λ e. e ≢ OutOfMemory → spec.list_split register size list table.old pages.old ≡ Err (error_of e)) }
 {
-    let most = dimension(table, DimensionParameter::Splitmaxdepth);
+    let most = i64::from(table.dimension(DimensionParameter::Splitmaxdepth));
     if fits(size) && fits(most) {
         split_list(alloc, table, pages, register, list, size, most)
     } else {

@@ -16,7 +16,7 @@ use tx_eqtb::Entry;
 use tx_machine::{Ask, AskKind, Event};
 use tx_prim::{FontNumber, IntegerParameter, MathSize, Primitive};
 use tx_seen::{FontName, Meaning, Place, TexError};
-use tx_state::{Due, FontRequest, State, ask, assign_so, end_assignment, fail, integer};
+use tx_state::{Due, FontRequest, State, ask, assign_so, end_assignment, fail};
 use tx_tfm::{Font, FontError, Fonts, NamedFont};
 
 /// The longest name of a file, in bytes.
@@ -162,8 +162,8 @@ fn add_font(
     requires named { length font.name ≤ 255 }
     ensures { IfOk result (λ event. IsStepped (spec.naming_font (spec.with_font (state_of s.old) font) defined global (length s.old.words.fonts)) s.old event s.new) }
 {
-    let hyphen = integer(&s.table, IntegerParameter::Defaulthyphenchar);
-    let skew = integer(&s.table, IntegerParameter::Defaultskewchar);
+    let hyphen = s.table.integer(IntegerParameter::Defaulthyphenchar);
+    let skew = s.table.integer(IntegerParameter::Defaultskewchar);
     let number = s.words.push(alloc, font, hyphen, skew)?;
     name_font(alloc, s, defined, global, number)
 }

@@ -1,12 +1,13 @@
 -- How a map is laid out: on which shelf and in which bucket a name stands, and where there. For the look-up alone, no
 -- public clause says it.
-use Rattle.std.specs.Prelude.{◌≡◌, ◌≢◌, ◌<◌, ◌≤◌, ◌+◌, ◌*◌, ◌/◌, ◌%◌, ℕ, T, List, [], ◌∷◌, ◌++◌, length, map, slice_index_or, None}
+use Rattle.std.specs.Prelude.{◌≡◌, ◌≢◌, ◌<◌, ◌≤◌, ◌+◌, ◌/◌, ◌%◌, ℕ, T, List, [], ◌∷◌, ◌++◌, length, map, slice_index_or, None}
 use Rattle.std.specs.declared.cmp.Ordering.TheVariants.{Less, Equal, Greater}
 use Rattle.std.specs.Ordering.{nat_cmp}
 use Rattle.std.specs.Cmp.Lexicographic.{slice_cmp}
 use Rattle.std.specs.FinMap.{empty, entries, get, from_entries, from_sorted, is_sorted}
 use Rattle.std.specs.declared.rc.Rc.{Rc}
 use Rattle.std.specs.Rc.{rc_value}
+use Rattle.tx_char.specs.Letters.{mixed}
 use Rattle.tx_name.specs.Names.{Names}
 
 -- the names of a list of entries strictly rise
@@ -37,14 +38,9 @@ pub record IsGap {X : Type 0} (es : List (List ℕ × X)) (name : List ℕ) (pla
   pub before : IsAbove es name place
   pub after : IsBelow es name place
 
--- the number that the bytes of a name are mixed to, from a number on
-abbrev pub mixed : ℕ → List ℕ → ℕ
-mixed number [] = number
-mixed number (byte ∷ bytes) = mixed ((number * 31 + byte) % 1024) bytes
-
 -- on which of the 32 shelves a name stands, and in which of the 32 buckets there
 abbrev pub shelf_of : List ℕ → ℕ
-shelf_of name = mixed 0 name / 32
+shelf_of name = (mixed 0 name / 32) % 32
 
 abbrev pub bucket_of : List ℕ → ℕ
 bucket_of name = mixed 0 name % 32

@@ -1,4 +1,4 @@
-//! The map: a name's bytes say on which shelf it stands, and in which bucket there.
+//! The map: the number that a name's bytes are mixed to says on which shelf it stands, and in which bucket there.
 ghost use Rattle.std.specs.Prelude.{◌≡◌, ◌↔◌, ◌<◌, IsTrue, IfOk, OnOk, OnErr};
 ghost use Rattle.std.specs.Option.{option_copied, option_map};
 ghost use Rattle.std.specs.FinMap.{empty, get, insert, remove};
@@ -9,7 +9,7 @@ use crate::shelf::Shelf;
 use std::alloc::{AllocError, Global};
 use std::marker::Model;
 use std::rc::Rc;
-use tx_char::ControlName;
+use tx_char::{ControlName, mixed};
 use tx_list::Kept;
 
 /// A finite map from names to values. Contracts see the map. Shared maps have one list of shelves between them until one
@@ -51,7 +51,7 @@ impl<T: Kept> NameMap<T> {
     pub fn get(&self, name: &ControlName) -> Option<&T>
         ensures { option_copied result ≡ get self.now name.now }
     {
-        let spot = spot_of(name.as_slice());
+        let spot = spot_of(name.number());
         self.shelves[spot.shelf].get(spot.bucket, name)
     }
 
@@ -59,7 +59,7 @@ impl<T: Kept> NameMap<T> {
     pub fn find(&self, letters: &[u8]) -> Option<&ControlName>
         ensures { option_copied result ≡ option_map (λ value. letters.now) (get self.now letters.now) }
     {
-        let spot = spot_of(letters);
+        let spot = spot_of(mixed(letters));
         self.shelves[spot.shelf].find(spot.bucket, letters)
     }
 
@@ -68,7 +68,7 @@ impl<T: Kept> NameMap<T> {
     pub fn insert(&mut self, name: ControlName, value: T) -> Result<(), AllocError>
         ensures { OnOk result (self.new ≡ insert self.old name value) }
     {
-        let spot = spot_of(name.as_slice());
+        let spot = spot_of(name.number());
         let own = Rc::make_mut(&mut self.shelves)?;
         insert_in(&mut own[spot.shelf], spot.bucket, name, value)?;
         Ok(())
@@ -81,8 +81,8 @@ impl<T: Kept> NameMap<T> {
         let Some(_value) = self.get(name) else {
             return Ok(());
         };
+        let spot = spot_of(name.number());
         let name = name.as_slice();
-        let spot = spot_of(name);
         let own = Rc::make_mut(&mut self.shelves)?;
         remove_in(&mut own[spot.shelf], spot.bucket, name)?;
         Ok(())

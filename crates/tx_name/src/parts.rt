@@ -1,7 +1,6 @@
 //! The parts of a map that may be shared, and which of them a name belongs to.
-ghost use Rattle.std.specs.Prelude.{◌≡◌, ◌↔◌, ◌<◌, map, IsTrue};
+ghost use Rattle.std.specs.Prelude.{◌≡◌, ◌↔◌, ◌<◌, ◌/◌, ◌%◌, map, IsTrue};
 ghost use Rattle.std.specs.Rc.{rc_value};
-ghost use Rattle.tx_name.specs.Buckets as spec;
 
 use std::rc::Rc;
 use tx_list::Kept;
@@ -21,28 +20,15 @@ pub struct Spot {
     pub bucket: usize,
 }
 
-/// The number that the bytes of a name are mixed to.
-fn mixed(name: &[u8]) -> usize
-    ensures value { result ≡ spec.mixed 0 name.now }
-    ensures within { result < 1024 }
-{
-    let mut number: usize = 0;
-    for byte in name {
-        number = (number * 31 + *byte as usize) % (SHELVES * BUCKETS);
-    }
-    number
-}
-
-/// Where a name belongs.
-pub fn spot_of(name: &[u8]) -> Spot
-    ensures shelf { result.shelf ≡ spec.shelf_of name.now }
-    ensures bucket { result.bucket ≡ spec.bucket_of name.now }
+/// Where a name belongs whose bytes are mixed to this number.
+pub fn spot_of(number: usize) -> Spot
+    ensures shelf { result.shelf ≡ (number / 32) % 32 }
+    ensures bucket { result.bucket ≡ number % 32 }
     ensures shelf_within { result.shelf < 32 }
     ensures bucket_within { result.bucket < 32 }
 {
-    let number = mixed(name);
     Spot {
-        shelf: number / BUCKETS,
+        shelf: number / BUCKETS % SHELVES,
         bucket: number % BUCKETS,
     }
 }

@@ -3,9 +3,8 @@ ghost use Rattle.std.specs.Prelude.{◌≡◌, IfOk, OnOk};
 ghost use Rattle.tx_node.specs.Nodes.{item_of};
 ghost use Rattle.tx_paragraph.specs.Beginning as spec;
 
-use crate::parameters::size;
 use std::alloc::{AllocError, Global};
-use tx_box::{Lists, append_atom, glue};
+use tx_box::{Lists, append_atom};
 use tx_eqtb::Eqtb;
 use tx_mlist::AtomKind;
 use tx_nest::{ModeList, ModeState, SpaceFactor, append_item, set_space_factor};
@@ -18,7 +17,7 @@ fn indent_packed(alloc: Global, table: &Eqtb) -> Result<BoxNode, AllocError>
 {
     let head = BoxHead {
         direction: Direction::Horizontal,
-        width: size(table, DimensionParameter::Parindent),
+        width: table.dimension(DimensionParameter::Parindent),
         height: 0,
         depth: 0,
         setting: Setting::Natural,
@@ -91,7 +90,7 @@ fn put_skip(list: &mut ModeList, table: &Eqtb) -> Result<(), AllocError>
     }
     append_item(
         list,
-        Node::Plain(Plain::Glue(glue(table, GlueParameter::Parskip))),
+        Node::Plain(Plain::Glue(table.glue_parameter(GlueParameter::Parskip))),
     )
 }
 

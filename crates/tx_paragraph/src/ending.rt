@@ -12,7 +12,7 @@ use crate::hyphens::{hyphen_params, lower_codes};
 use crate::parameters::{later_params, params_of};
 use crate::shapes::shape_of;
 use std::alloc::{AllocError, Global};
-use tx_box::{Lists, dimension, reset_shape};
+use tx_box::{Lists, reset_shape};
 use tx_bytes::Bytes;
 use tx_eqtb::Eqtb;
 use tx_hyphenate::{Hyphenation, hyphenated};
@@ -149,7 +149,8 @@ fn lines_if(
     ensures error { IfErr result (λ e. e ≢ OutOfMemory → spec.lines_if (record { fonts = fonts.now; known = known.old }) table.now.table prev_depth passed list ≡ Err e) }
     ensures known { OnOk result (known.new ≡ spec.used_after (spec.first_of table.now.table prev_depth passed list) known.old) }
 {
-    if Range::Dimen.holds(dimension(table, DimensionParameter::Overfullrule)) {
+    let rule = i64::from(table.dimension(DimensionParameter::Overfullrule));
+    if Range::Dimen.holds(rule) {
         lines_of(alloc, fonts, known, table, prev_depth, passed, list)
     } else {
         Err(ParError::SizeOutOfRange)

@@ -2,7 +2,6 @@
 ghost use Rattle.std.specs.Prelude.{◌≡◌, length, IfOk};
 ghost use Rattle.tx_paragraph.specs.Hyphens as spec;
 
-use crate::parameters::integer;
 use std::alloc::{AllocError, Global};
 use tx_bytes::Bytes;
 use tx_eqtb::Eqtb;
@@ -39,8 +38,8 @@ pub(crate) fn hyphen_params(table: &Eqtb) -> HyphenParams
     ensures { result ≡ spec.hyphen_params table.now.table }
 {
     HyphenParams {
-        left: i64::from(integer(table, IntegerParameter::Lefthyphenmin)),
-        right: i64::from(integer(table, IntegerParameter::Righthyphenmin)),
-        uc_hyph: i64::from(integer(table, IntegerParameter::Uchyph)),
+        left: i64::from(table.integer(IntegerParameter::Lefthyphenmin)),
+        right: i64::from(table.integer(IntegerParameter::Righthyphenmin)),
+        uc_hyph: i64::from(table.integer(IntegerParameter::Uchyph)),
     }
 }

@@ -1,46 +1,29 @@
 //! What a paragraph takes from the table.
 ghost use Rattle.std.specs.Prelude.{◌≡◌};
-ghost use Rattle.tx_eqtb.specs.Table.{number_at};
 ghost use Rattle.tx_paragraph.specs.Parameters as spec;
-ghost use Rattle.tx_seen.specs.declared.place.Place.TheVariants as place;
 
-use tx_box::{across, dimension, glue, leading_of};
+use tx_box::{across, leading_of};
 use tx_eqtb::Eqtb;
 use tx_linebreak::BreakParams;
 use tx_par::ParParams;
 use tx_prim::{DimensionParameter, GlueParameter, IntegerParameter};
-use tx_seen::Place;
-
-/// An integer parameter.
-pub(crate) fn integer(table: &Eqtb, parameter: IntegerParameter) -> i32
-    ensures { result ≡ number_at table.now.table (place.Integer parameter) }
-{
-    table.number(&Place::Integer(parameter))
-}
-
-/// A dimension parameter, in sp, which may be any number.
-pub(crate) fn size(table: &Eqtb, parameter: DimensionParameter) -> i32
-    ensures { result ≡ number_at table.now.table (place.Dimension parameter) }
-{
-    table.number(&Place::Dimension(parameter))
-}
 
 /// How lines are broken.
 fn breaking_of(table: &Eqtb) -> BreakParams
     ensures { result ≡ spec.breaking_of table.now.table }
 {
     BreakParams {
-        pretolerance: integer(table, IntegerParameter::Pretolerance),
-        tolerance: integer(table, IntegerParameter::Tolerance),
-        emergency_stretch: dimension(table, DimensionParameter::Emergencystretch),
-        line_penalty: integer(table, IntegerParameter::Linepenalty),
-        hyphen_penalty: integer(table, IntegerParameter::Hyphenpenalty),
-        ex_hyphen_penalty: integer(table, IntegerParameter::Exhyphenpenalty),
-        adj_demerits: integer(table, IntegerParameter::Adjdemerits),
-        double_hyphen_demerits: integer(table, IntegerParameter::Doublehyphendemerits),
-        final_hyphen_demerits: integer(table, IntegerParameter::Finalhyphendemerits),
-        left_skip: glue(table, GlueParameter::Leftskip),
-        right_skip: glue(table, GlueParameter::Rightskip),
+        pretolerance: table.integer(IntegerParameter::Pretolerance),
+        tolerance: table.integer(IntegerParameter::Tolerance),
+        emergency_stretch: i64::from(table.dimension(DimensionParameter::Emergencystretch)),
+        line_penalty: table.integer(IntegerParameter::Linepenalty),
+        hyphen_penalty: table.integer(IntegerParameter::Hyphenpenalty),
+        ex_hyphen_penalty: table.integer(IntegerParameter::Exhyphenpenalty),
+        adj_demerits: table.integer(IntegerParameter::Adjdemerits),
+        double_hyphen_demerits: table.integer(IntegerParameter::Doublehyphendemerits),
+        final_hyphen_demerits: table.integer(IntegerParameter::Finalhyphendemerits),
+        left_skip: table.glue_parameter(GlueParameter::Leftskip),
+        right_skip: table.glue_parameter(GlueParameter::Rightskip),
     }
 }
 
@@ -52,11 +35,11 @@ pub(crate) fn params_of(table: &Eqtb, prev_depth: i32) -> ParParams
         breaking: breaking_of(table),
         packing: across(table),
         leading: leading_of(table),
-        par_fill_skip: glue(table, GlueParameter::Parfillskip),
-        inter_line_penalty: integer(table, IntegerParameter::Interlinepenalty),
-        club_penalty: integer(table, IntegerParameter::Clubpenalty),
-        widow_penalty: integer(table, IntegerParameter::Widowpenalty),
-        broken_penalty: integer(table, IntegerParameter::Brokenpenalty),
+        par_fill_skip: table.glue_parameter(GlueParameter::Parfillskip),
+        inter_line_penalty: table.integer(IntegerParameter::Interlinepenalty),
+        club_penalty: table.integer(IntegerParameter::Clubpenalty),
+        widow_penalty: table.integer(IntegerParameter::Widowpenalty),
+        broken_penalty: table.integer(IntegerParameter::Brokenpenalty),
         prev_depth,
     }
 }

@@ -2,7 +2,6 @@
 ghost use Rattle.std.specs.Prelude.{◌≡◌, ◌≤◌, ◌<◌, length, IfOk};
 ghost use Rattle.tx_paragraph.specs.Shapes as spec;
 
-use crate::parameters::{integer, size};
 use std::alloc::{AllocError, Global};
 use tx_eqtb::Eqtb;
 use tx_linebreak::{LineShape, Shape};
@@ -103,12 +102,12 @@ fn hung_lines(alloc: Global, table: &Eqtb, passed: u32, list: &Nodes) -> Result<
     ensures shape { IfOk result (λ shape. shape ≡ spec.hung_lines table.now.table passed list.now) }
     ensures shaped { IfOk result (λ shape. 0 < length shape) }
 {
-    let line = size(table, DimensionParameter::Hsize);
-    let hang = size(table, DimensionParameter::Hangindent);
+    let line = table.dimension(DimensionParameter::Hsize);
+    let hang = table.dimension(DimensionParameter::Hangindent);
     if hang == 0 {
         return Items::one(alloc, plain_line(line));
     }
-    let after = integer(table, IntegerParameter::Hangafter);
+    let after = table.integer(IntegerParameter::Hangafter);
     hanging(alloc, line, hang, after, passed, list)
 }
 

@@ -93,7 +93,7 @@ impl Kept for Meaning {
     }
 }
 
-/// Whether both are the same primitive. No two have the same name.
+/// Whether both are the same primitive: no two have the same name, and primitives have no numbers.
 pub(crate) fn same_primitive(one: Primitive, other: Primitive) -> bool
     ensures { IsTrue result ↔ (one ≡ other) }
 {

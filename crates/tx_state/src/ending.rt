@@ -12,12 +12,10 @@ use crate::state::State;
 use std::alloc::AllocError;
 use std::mem;
 use tx_assign::{Assignment, Carried};
-use tx_eqtb::Eqtb;
 use tx_machine::{Ask, AskKind, Event, Stop};
 use tx_nest::append_item;
 use tx_node::Node;
-use tx_prim::IntegerParameter;
-use tx_seen::{Place, TexError};
+use tx_seen::TexError;
 
 /// The run ends by an error.
 pub fn fail(s: &mut State, error: TexError) -> Event
@@ -85,11 +83,4 @@ pub fn add(s: &mut State, node: Node) -> Result<Event, AllocError>
 {
     append_item(s.lists.nest.top(), node)?;
     Ok(Event::Went)
-}
-
-/// An integer parameter.
-pub fn integer(table: &Eqtb, parameter: IntegerParameter) -> i32
-    ensures { result ≡ spec.integer table.now.table parameter }
-{
-    table.number(&Place::Integer(parameter))
 }

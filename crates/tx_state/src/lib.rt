@@ -17,7 +17,7 @@ mod standing;
 mod state;
 mod text;
 
-pub use ending::{add, ask, assign_so, end_assignment, fail, finish, finish_assignment, integer};
+pub use ending::{add, ask, assign_so, end_assignment, fail, finish, finish_assignment};
 pub use groups::{leave_group, open};
 pub use parts::{Due, FontRequest, KeptToken, OpenText, Phase};
 pub use same::same_state;
