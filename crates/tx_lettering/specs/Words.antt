@@ -11,9 +11,8 @@ use Rattle.tx_node.specs.Items.{Item, plain}
 use Rattle.tx_num.specs.Glue.{GlueSpec}
 use Rattle.tx_prim.specs.declared.family.CharacterCode.TheVariants.{SpaceFactor}
 use Rattle.tx_prim.specs.declared.glue.GlueParameter.TheVariants.{Spaceskip, Xspaceskip}
-use Rattle.tx_scan.specs.Integers.{byte_of}
 use Rattle.tx_seen.specs.declared.error.TexError.TheVariants.{SizeOutOfRange, NotAllowed, NumberOutOfRange}
-use Rattle.tx_seen.specs.declared.place.Place.TheVariants.{Code, Font, Glue as Glue_place}
+use Rattle.tx_seen.specs.declared.place.Place.TheVariants.{Code, Glue as Glue_place}
 use Rattle.tx_seen.specs.declared.seen.Seen.{Seen}
 use Rattle.tx_seen.specs.Seen.{continues_word}
 use Rattle.tx_eqtb.specs.declared.table.Table.{Table}
@@ -36,7 +35,7 @@ use Rattle.tx_state.specs.Ended.{assigned}
 
 -- the number of the current font
 abbrev pub current_font : Table → ℕ
-current_font table = unwrap_or (byte_of (number_at table Font)) 0
+current_font table = table.font
 
 -- the \sfcode of a character; 0 is no space factor, and leaves that of the list as it is
 abbrev pub space_code : Table → ℕ → ℕ

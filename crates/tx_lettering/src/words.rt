@@ -15,31 +15,28 @@ use tx_hyphenate::{report_lacking, report_missing};
 use tx_machine::Event;
 use tx_nest::{ModeState, SpaceFactor, append_item, set_space_factor};
 use tx_node::{KernKind, Node, Plain};
-use tx_prim::{CharacterCode, GlueParameter};
-use tx_scan::byte;
+use tx_prim::GlueParameter;
 use tx_seen::{Place, Seen, TexError};
 use tx_state::{State, add, end_assignment, fail};
 use tx_word::{
     HyphenPoint, WordParams, discretionary_hyphen, factor_behind, last_italic, space_between,
 };
 
-/// The number of the current font.
+/// The number of the current font; 0 is that of \nullfont.
+#[inline(always)]
 pub fn current_font(table: &Eqtb) -> u8
     ensures { result ≡ spec.current_font table.now.table }
 {
-    match byte(i64::from(table.number(&Place::Font))) {
-        Some(font) => font,
-        None => 0,
-    }
+    table.font()
 }
 
 /// The \sfcode of a character, 0 where it is no space factor.
+#[inline(always)]
 fn space_code(table: &Eqtb, code: u8) -> u16
     ensures value { result ≡ spec.space_code table.now.table code }
     ensures most { result ≤ 32767 }
 {
-    let number = table.number(&Place::Code(CharacterCode::SpaceFactor, code));
-    match SpaceFactor::try_new(number) {
+    match SpaceFactor::try_new(table.space_factor(code)) {
         Some(factor) => factor.get(),
         None => 0,
     }
@@ -56,6 +53,7 @@ pub fn word_params(table: &Eqtb) -> WordParams
 }
 
 /// The space factor of the list that is being built, None where it isn't horizontal.
+#[inline(always)]
 pub fn factor_now(s: &State) -> Option<SpaceFactor>
     ensures { result ≡ spec.factor_now (state_of s.now) }
 {
@@ -74,6 +72,7 @@ fn in_paragraph(s: &State) -> bool
 }
 
 /// The word that is open ends. Its only error is want of memory.
+#[inline(never)]
 pub fn end_word(alloc: Global, s: &mut State) -> Result<(), AllocError>
     ensures state { OnOk result (state_of s.new ≡ spec.word_ended (state_of s.old)) }
     ensures phase { OnOk result (s.new.phase ≡ s.old.phase) }
@@ -86,6 +85,7 @@ pub fn end_word(alloc: Global, s: &mut State) -> Result<(), AllocError>
 
 /// The word that is open ends before a token that begins a command, if that is no character and doesn't stand for one. Its only
 /// error is want of memory.
+#[inline(always)]
 pub fn settle_word(alloc: Global, s: &mut State, seen: &Seen) -> Result<(), AllocError>
     ensures state { OnOk result (state_of s.new ≡ spec.before_token (state_of s.old) seen.now) }
     ensures phase { OnOk result (s.new.phase ≡ s.old.phase) }
@@ -98,6 +98,7 @@ pub fn settle_word(alloc: Global, s: &mut State, seen: &Seen) -> Result<(), Allo
 }
 
 /// The space factor is that behind a character.
+#[inline(always)]
 pub fn pass_factor(s: &mut State, factor: SpaceFactor, code: u8)
     ensures state { state_of s.new ≡ spec.with_list_factor (state_of s.old) (factor_behind_code factor (spec.space_code s.old.table.table code)) }
     ensures phase { s.new.phase ≡ s.old.phase }

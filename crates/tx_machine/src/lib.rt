@@ -1,5 +1,6 @@
 //! The seam between TeX and everything that knows of files and edits: a machine takes turns, asks for files and lines,
-//! ships pages and stops. Below it stands TeX, above it the increments, and neither knows the other.
+//! ships pages and stops; of the turns in between, of which the outside need know nothing, it takes many at one go. Below it
+//! stands TeX, above it the increments, and neither knows the other.
 //!
 //! Proved: a fresh run is the defined one, over any machine, `steps` rises by exactly its turns, and it ends within its
 //! budget. Nothing is left to tests.

@@ -54,7 +54,7 @@ pub trait Machine {
         ensures steps { steps.new ≡ raised steps.old 1 };
 
     /// Takes turns at one go, at most so many, and counts them: each costs 1, and all but the last are nothing that the outside
-    /// has to know (as TeX's main loop does with characters; TeX: The Program, section 1034). A machine may take none.
+    /// has to know, as most turns of TeX's main control are (TeX: The Program, section 1030). A machine may take none.
     fn run_on(
         &self,
         alloc: Global,

@@ -25,7 +25,7 @@ struct Taken {
 
 /// Does what the event of a turn asks for: answers what the machine asks, and notes what the answer shows of files.
 #[inline(never)]
-fn heed_other<M: Machine>(
+fn heed<M: Machine>(
     alloc: Global,
     machine: &M,
     files: &FileSet,
@@ -49,27 +49,8 @@ fn heed_other<M: Machine>(
     }
 }
 
-/// The same: most turns ask for nothing.
-#[inline(always)]
-fn heed<M: Machine>(
-    alloc: Global,
-    machine: &M,
-    files: &FileSet,
-    spot: &mut Spot<M::State>,
-    seen: &mut Seen,
-    event: Event,
-) -> Result<Option<Close>, AllocError>
-    requires { IsAwaiting M.formatter (M.meaning spot.old.state) event }
-    ensures heeded { IfOk result (λ close. IsHeeded (came M.formatter files.now (place_of M.meaning spot.old) event) close (place_of M.meaning spot.new) seen.old seen.new) }
-    ensures pending { OnOk result (M.pending spot.new.state ≡ M.pending spot.old.state) }
-{
-    match event {
-        Event::Went => Ok(None),
-        event => heed_other(alloc, machine, files, spot, seen, event),
-    }
-}
-
-/// Takes one turn, if the budget allows it, answers what the machine asks in it, and notes what the answer shows of files.
+/// Takes one turn that the machine has left, if the budget allows it, answers what the machine asks in it, and notes what the
+/// answer shows of files.
 fn take_turn<M: Machine>(
     alloc: Global,
     machine: &M,
@@ -92,8 +73,8 @@ fn take_turn<M: Machine>(
     heed(alloc, machine, files, spot, seen, event)
 }
 
-/// Lets the machine take turns at one go, as many as the budget allows at most, and takes one behind them, unless the machine has
-/// taken that too.
+/// Lets the machine take turns at one go, as many as the budget allows at most, and heeds what came of the last of them, or takes
+/// the next one, where the machine has left it.
 fn take_turns<M: Machine>(
     alloc: Global,
     machine: &M,

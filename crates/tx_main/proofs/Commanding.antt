@@ -55,7 +55,7 @@ next-joins s first commanding next =
     ∙ (λ i. taking (record (state_of s) { reader = reader (sym commanding.begun i) left (state_of s).reader.conditionals (state_of s).reader.job }) (seen code kind))
 
 -- what has come of it
-turned-event : (s mid new : State) (o : Outcome) (event : Event) → s.phase ≡ Running → s.due ≡ [] → outcome (Runs (state_of s)) ≡ o → mid.said ≡ s.said → IsStepped o mid event new → IsTaken tex event (meaning_of s) (meaning_of new) s.said new.said
+pub turned-event : (s mid new : State) (o : Outcome) (event : Event) → s.phase ≡ Running → s.due ≡ [] → outcome (Runs (state_of s)) ≡ o → mid.said ≡ s.said → IsStepped o mid event new → IsTaken tex event (meaning_of s) (meaning_of new) s.said new.said
 unfolding tex
 turned-event s mid new o event running due goes said did =
     let from : meaning_of s ≡ Runs (state_of s) = runs-as s running in

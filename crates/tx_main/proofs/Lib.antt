@@ -7,3 +7,4 @@ pub mod Assigns
 pub mod MainLoop
 pub mod Characters
 mod Commanding
+mod Runs

@@ -1,5 +1,5 @@
--- Turns at one go: of characters of a line or a list that are tokens as they stand, as long as nothing else is to be done for them than to
--- keep them, or to pass them.
+-- Turns at one go: those that only read, and of them those of characters of a line or a list that are tokens as they stand, as long as
+-- nothing else is to be done for them than to keep them, or to pass them.
 use Rattle.std.specs.Prelude.{◌≡◌, ℕ, Bool, true, false, [], Option, Some, None}
 use Rattle.tx_command.specs.Commands.{is_begun}
 use Rattle.tx_lex.specs.declared.types.PlainToken.{PlainToken}

@@ -1,25 +1,27 @@
-//! Many turns at one go. The main loop: characters that follow one another join the open word, and spaces between them end it (TeX:
-//! The Program, sections 1034 to 1041), in horizontal lists alone. So characters join a text that is open, within its braces
-//! (sections 473 and 477), an argument (section 392), or text that is skipped (section 494), as long as nothing of these ends; and
-//! a command that is begun, such as the number of an assignment, up to the one behind which it is whole; these in formulas too.
-ghost use Rattle.std.specs.Prelude.{◌≡◌, ◌≤◌, ◌∷◌, [], true, Some, IsTrue, IfOk, IfSome, OnOk, OnErr};
+//! Many turns at one go: as long as tokens are read, no work is due, and what comes of them is nothing that the outside has to know
+//! (TeX: The Program, section 1030). Characters are taken without what goes before other tokens: in the main loop those that follow
+//! one another join the open word of a horizontal list, and spaces between them end it (sections 1034 to 1041); so characters join a
+//! text that is open, within its braces (sections 473 and 477), an argument (section 392), or text that is skipped (section 494), as long as
+//! nothing of these ends; and a command that is begun, such as the number of an assignment, up to the one behind which it is whole.
+ghost use Rattle.std.specs.Prelude.{◌≡◌, ◌<◌, ◌≤◌, ◌∷◌, [], true, None, Some, length, IsTrue, IfOk, IfSome, OnOk, OnErr};
 ghost use Rattle.tx_machine.specs.Machine.{Ready};
-ghost use Rattle.tx_machine.specs.Plain.{HasPassed, HasRunOn, turns_of};
+ghost use Rattle.tx_machine.specs.Plain.{HasPassed, HasRunOn, IsLast, last_turns, turns_of};
 ghost use Rattle.tx_machine.specs.Steps.{raised};
 ghost use Rattle.tx_node.specs.Items.{plain};
 ghost use Rattle.tx_pending.specs.Plain.{IsNext};
 ghost use Rattle.tx_tfm.specs.Fonts.{has_character};
 ghost use Rattle.tx_word.specs.Collecting.{font_of};
-ghost use Rattle.tx_main.specs.Going.{GoesOn, HasRun, HasTurned, IsCommanding, IsGoing, IsNextOf};
+ghost use Rattle.tx_main.specs.Going.{GoesOn, HasRun, HasTurned, IsCommanding, IsGoing, IsIdle, IsNextOf, IsReading};
 ghost use Rattle.tx_main.specs.MainLoop.{AwaitsToken, IsLooping, lettered, spaced};
 ghost use Rattle.tx_main.specs.Turns.{tex};
 ghost use Rattle.tx_lettering.specs.Words.{factor_now as factor_of_list, with_more};
+ghost use Rattle.tx_state.specs.declared.parts.Phase.{Phase};
 ghost use Rattle.tx_state.specs.Meanings.{meaning_of, state_of};
 ghost use Rattle.tx_state.specs.State.{mode_of};
 ghost use Rattle.tx_state.specs.Texts.{HasJoinedSome};
 
 use crate::going::Going;
-use crate::turn::feed_on;
+use crate::turn::{feed_on, read};
 use std::alloc::{AllocError, Global};
 use tx_char::Token;
 use tx_lettering::{current_font, end_word, factor_now, pass_factor, word_params};
@@ -30,16 +32,15 @@ use tx_node::{Node, Plain};
 use tx_num::Glue;
 use tx_prim::ModeTest;
 use tx_seen::{Meaning, Seen};
-use tx_state::{OpenText, Phase, State};
+use tx_state::{OpenText, State};
 use tx_word::space_between;
 
-/// Whether a token is read next, for a command of which nothing is taken, in a horizontal list.
+/// Whether the token that is read next is for a command of which nothing is taken, in a horizontal list.
 fn awaits_token(s: &State) -> bool
+    requires idle { IsIdle s.now }
+    requires text { s.now.text ≡ None }
     ensures { IsTrue result → AwaitsToken (state_of s.now) }
 {
-    if !s.due.is_empty() || s.text.is_some() || !s.expander.is_idle() {
-        return false;
-    }
     if s.scan.is_begun() || !s.scan.is_fresh() {
         return false;
     }
@@ -238,6 +239,7 @@ fn go_on(alloc: Global, s: &mut State, going: Going) -> Result<bool, AllocError>
 }
 
 /// Takes turns of characters, at most so many, counts them, and answers how many there were. Its only error is want of memory.
+#[inline(never)]
 fn run_plain(
     alloc: Global,
     s: &mut State,
@@ -260,17 +262,19 @@ fn run_plain(
     Ok(most)
 }
 
-/// What characters become that turns may be taken of at one go, if any is read next.
+/// What characters become that turns may be taken of at one go, if anything.
+#[inline(always)]
 fn going_of(s: &State) -> Option<Going>
+    requires { IsReading s.now }
     ensures { IfSome result (λ going. IsGoing going s.now) }
 {
-    if !matches!(s.phase, Phase::Running) || !s.due.is_empty() {
+    if !s.expander.is_idle() {
+        if s.expander.takes_characters() {
+            return Some(Going::Within);
+        }
         return None;
     }
-    if s.expander.takes_characters() {
-        return Some(Going::Within);
-    }
-    if s.text.is_some() && s.expander.is_idle() {
+    if s.text.is_some() {
         return Some(Going::Text);
     }
     if awaits_token(s) {
@@ -279,11 +283,13 @@ fn going_of(s: &State) -> Option<Going>
     None
 }
 
-/// Whether what is read next joins the open command, if that is begun.
+/// Whether what is read next joins the open command, which is begun.
+#[inline(always)]
 fn is_commanding(s: &State) -> bool
+    requires { IsReading s.now }
     ensures { IsTrue result → IsCommanding s.now }
 {
-    if !matches!(s.phase, Phase::Running) || !s.due.is_empty() || s.text.is_some() {
+    if !s.scan.is_begun() || s.text.is_some() {
         return false;
     }
     s.expander.is_idle()
@@ -354,8 +360,107 @@ fn run_command(
     })
 }
 
-/// Takes turns of characters of a line or a list, at most so many, and counts them; none where something else comes first. Its only error is
-/// want of memory.
+/// Takes turns of characters of a line or a list, at most so many, and counts them; none where something else comes first, or work
+/// is due. Its only error is want of memory.
+#[inline(always)]
+fn run_characters(
+    alloc: Global,
+    s: &mut State,
+    most: u64,
+    steps: &mut Steps,
+) -> Result<Passed, AllocError>
+    requires { s.old.phase ≡ Phase.Running }
+    ensures most { IfOk result (λ passed. turns_of passed ≤ most) }
+    ensures turns { IfOk result (λ passed. HasRunOn tex passed (meaning_of s.old) (meaning_of s.new) s.old.said s.new.said) }
+    ensures steps { IfOk result (λ passed. steps.new ≡ raised steps.old (turns_of passed)) }
+    ensures bound { OnErr result (HasPassed tex most (meaning_of s.old) steps.old steps.new) }
+{
+    // (asked first, so that a name goes none of the ways below)
+    if s.input.first_plain(s.table.categories()).is_none() || !s.due.is_empty() {
+        return Ok(Passed {
+            turns: 0,
+            last: None,
+        });
+    }
+    if is_commanding(s) {
+        return run_command(alloc, s, most, steps);
+    }
+    match going_of(s) {
+        Some(going) => {
+            let turns = run_plain(alloc, s, going, most, steps)?;
+            Ok(Passed { turns, last: None })
+        }
+        None => Ok(Passed {
+            turns: 0,
+            last: None,
+        }),
+    }
+}
+
+/// Takes the turn of the token that is read next, whatever it is, counts it, and answers what came of it; takes none where work is
+/// due. Its only error is want of memory.
+#[inline(always)]
+fn take_token(alloc: Global, s: &mut State, steps: &mut Steps) -> Result<Option<Event>, AllocError>
+    requires { s.old.phase ≡ Phase.Running }
+    ensures last { IfOk result (λ last. IsLast tex last (meaning_of s.old) (meaning_of s.new) s.old.said s.new.said) }
+    ensures steps { IfOk result (λ last. steps.new ≡ raised steps.old (last_turns last)) }
+    ensures bound { OnErr result (steps.new ≡ steps.old) }
+{
+    if !s.due.is_empty() {
+        return Ok(None);
+    }
+    let event = read(alloc, s)?;
+    steps.tick();
+    Ok(Some(event))
+}
+
+/// Takes turns of characters, and one more behind them, at most so many together, and counts them: the last is that of any token,
+/// and isn't taken where work is due. Its only error is want of memory.
+#[inline(always)]
+fn run_next(
+    alloc: Global,
+    s: &mut State,
+    most: u64,
+    steps: &mut Steps,
+) -> Result<Passed, AllocError>
+    requires running { s.old.phase ≡ Phase.Running }
+    requires some { 0 < most }
+    ensures most { IfOk result (λ passed. turns_of passed ≤ most) }
+    ensures fewer { IfOk result (λ passed. passed.turns < most) }
+    ensures turns { IfOk result (λ passed. HasRunOn tex passed (meaning_of s.old) (meaning_of s.new) s.old.said s.new.said) }
+    ensures steps { IfOk result (λ passed. steps.new ≡ raised steps.old (turns_of passed)) }
+    ensures bound { OnErr result (HasPassed tex most (meaning_of s.old) steps.old steps.new) }
+{
+    let Passed { turns, last } = run_characters(alloc, s, most - 1, steps)?;
+    match last {
+        Some(event) => Ok(Passed {
+            turns,
+            last: Some(event),
+        }),
+        None => {
+            let behind = take_token(alloc, s, steps)?;
+            Ok(Passed {
+                turns,
+                last: behind,
+            })
+        }
+    }
+}
+
+/// Whether the turn behind others was nothing that the outside has to know either: it went, and the transcript is as long as it was
+/// before them.
+#[inline(always)]
+fn is_plain(s: &State, last: &Option<Event>, told: usize) -> bool
+    ensures { IsTrue result → ((last.now ≡ Some Event.Went) × (length s.now.said ≡ told)) }
+{
+    if s.said.len() != told {
+        return false;
+    }
+    matches!(last, Some(Event::Went))
+}
+
+/// Takes turns at one go, at most so many, and counts them: up to one of which the outside has to know, or to work that is due. Its
+/// only error is want of memory.
 pub(crate) fn run_on(
     alloc: Global,
     s: &mut State,
@@ -368,12 +473,19 @@ pub(crate) fn run_on(
     ensures steps { IfOk result (λ passed. steps.new ≡ raised steps.old (turns_of passed)) }
     ensures bound { OnErr result (HasPassed tex most (meaning_of s.old) steps.old steps.new) }
 {
-    if s.scan.is_begun() && is_commanding(s) {
-        return run_command(alloc, s, most, steps);
+    let mut all = 0;
+    while all < most {
+        let told = s.said.len();
+        let Passed { turns, last } = run_next(alloc, s, most - all, steps)?;
+        all += turns;
+        let plain = is_plain(s, &last, told);
+        if !plain {
+            return Ok(Passed { turns: all, last });
+        }
+        all += 1;
     }
-    let turns = match going_of(s) {
-        Some(going) => run_plain(alloc, s, going, most, steps)?,
-        None => 0,
-    };
-    Ok(Passed { turns, last: None })
+    Ok(Passed {
+        turns: all,
+        last: None,
+    })
 }

@@ -27,6 +27,7 @@ use tx_state::{Due, OpenText, Phase, State, ask, fail};
 use tx_toklist::Toks;
 
 /// The magnification is used from now on, where it was taken.
+#[inline(always)]
 fn note(used: &mut Option<i32>, taken: Option<u16>)
     ensures { used.new ≡ noted used.old taken }
 {
@@ -152,6 +153,7 @@ fn put_text(s: &mut State, tokens: Toks) -> Result<Event, AllocError>
 }
 
 /// What is taken next.
+#[inline(always)]
 fn wanted(s: &State) -> Wanted
     ensures { result ≡ turns.wanted_by (state_of s.now) s.now.text }
 {
@@ -218,6 +220,7 @@ fn heed_other(alloc: Global, s: &mut State, answer: Expanded) -> Result<Event, A
 }
 
 /// Does what the expander's answer asks for. Its only error is want of memory.
+#[inline(always)]
 fn heed(alloc: Global, s: &mut State, answer: Expanded) -> Result<Event, AllocError>
     requires { s.old.phase ≡ Phase.Running }
     ensures { IfOk result (λ event. IsStepped (turns.answered (state_of s.old) answer) s.old event s.new) }
@@ -231,7 +234,8 @@ fn heed(alloc: Global, s: &mut State, answer: Expanded) -> Result<Event, AllocEr
 }
 
 /// Takes one turn of the expander, and what it answers. Its only error is want of memory.
-fn read(alloc: Global, s: &mut State) -> Result<Event, AllocError>
+#[inline(always)]
+pub(crate) fn read(alloc: Global, s: &mut State) -> Result<Event, AllocError>
     requires { s.old.phase ≡ Phase.Running }
     ensures { IfOk result (λ event. IsStepped (turns.reads (state_of s.old)) s.old event s.new) }
 {
@@ -322,7 +326,9 @@ fn go_on(alloc: Global, s: &mut State) -> Result<Event, AllocError>
     take_due(alloc, s)
 }
 
-/// Takes one turn. Its only error is want of memory.
+/// Takes one turn. Few are left to it, those of work that is due, since tokens are read many turns at one go. Its only error is
+/// want of memory.
+#[inline(never)]
 pub(crate) fn turn(alloc: Global, s: &mut State) -> Result<Event, AllocError>
     requires { mode_of (meaning_of s.old) ≡ Ready }
     ensures { IfOk result (λ event. IsStepped (turns.outcome (meaning_of s.old)) s.old event s.new) }

@@ -1,7 +1,7 @@
 use Rattle.std.proofs.Common.{ap, ◌∙◌}
 use Rattle.tx_machine.specs.Machine.{kind_of, fits}
 use Rattle.tx_machine.proofs.Stretch.{fits-reply_to}
-use Rattle.tx_machine.proofs.turn.heed_other.Goals as goal
+use Rattle.tx_machine.proofs.turn.heed.Goals as goal
 
 pub answer-requires : goal.answer-requires
 answer-requires g c = (
