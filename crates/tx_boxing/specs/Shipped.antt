@@ -19,7 +19,7 @@ use Rattle.tx_box.specs.declared.parts.Target.{Target}
 use Rattle.tx_box.specs.declared.parts.Work.{Work}
 use Rattle.tx_box.specs.declared.parts.Work.TheVariants.{Build, Copy, CopyList, Ship, ShipPage}
 use Rattle.tx_box.specs.Placing.{placed}
-use Rattle.tx_expand.specs.Values.{may_be}
+use Rattle.tx_expand.specs.Values.{may_magnify}
 use Rattle.tx_boxing.specs.Boxes.{carried}
 use Rattle.tx_boxing.specs.Pages.{with_pages}
 use Rattle.tx_boxing.specs.Building.{built_in, exercising}
@@ -63,7 +63,7 @@ ships_with s mag (Ok page) = Ships page (record s { magnification = Some mag; de
 
 -- shipping a box: the magnification has to be one, and that of the first page
 abbrev pub ships : TexState → ℤ → Result Page ShipError → Outcome
-ships s mag page = if may_be s.magnification mag then ships_with s mag page else Fails BadMagnification
+ships s mag page = if may_magnify s.magnification mag then ships_with s mag page else Fails BadMagnification
 
 -- a page that is shipped ends what dead cycles there were (section 638)
 abbrev pub ships_box : TexState → PackedBox → Outcome

@@ -144,7 +144,7 @@ fn read_every(s: &mut State, kind: BoxKind) -> Result<(), AllocError>
     ensures said { OnOk result (s.new.said ≡ s.old.said) }
 {
     let every = s.table.tokens(&Place::Tokens(every_in(kind)))?;
-    s.input.push_list(every, false)?;
+    s.input.push_list(every)?;
     Ok(())
 }
 

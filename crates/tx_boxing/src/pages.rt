@@ -61,7 +61,7 @@ fn page(s: &mut State, next: Next) -> Result<(), AllocError>
         }
         Next::Reads(tokens, badness) => {
             s.lists.badness = badness;
-            s.input.push_list(tokens, true)?;
+            s.input.push_marked(tokens)?;
             s.scan.begin_behind(Head::Opening(Opener::Output));
             Ok(())
         }
@@ -229,7 +229,7 @@ fn take_marker(alloc: Global, s: &mut State) -> Result<bool, AllocError>
         Pending_next::Marker => Ok(true),
         Pending_next::Token(_) | Pending_next::Held(_) => Ok(false),
         Pending_next::PartEnd(_) => Ok(false),
-        Pending_next::Used { .. } | Pending_next::E1 => Ok(false),
+        Pending_next::Used { .. } | Pending_next::InvalidCharacter => Ok(false),
     }
 }
 

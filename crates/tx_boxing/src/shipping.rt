@@ -12,7 +12,7 @@ use crate::pages::build;
 use std::alloc::{AllocError, Global};
 use tx_box::Work;
 use tx_dvi::PageBody;
-use tx_expand::may_be;
+use tx_expand::may_magnify;
 use tx_machine::Event;
 use tx_node::BoxNode;
 use tx_prim::IntegerParameter;
@@ -57,7 +57,7 @@ fn ship_box(alloc: Global, s: &mut State, shipped: &BoxNode) -> Result<Event, Al
 {
     s.lists.pages.dead_cycles = 0;
     let magnification = s.table.integer(IntegerParameter::Mag);
-    if !may_be(s.magnification, magnification) {
+    if !may_magnify(s.magnification, magnification) {
         return Ok(fail(s, TexError::BadMagnification));
     }
     ship_with(alloc, s, magnification, shipped)

@@ -4,18 +4,19 @@ use Rattle.tx_char.specs.declared.category.Cat.{Cat}
 use Rattle.tx_char.specs.declared.tokens.Token.{Token}
 use Rattle.tx_char.specs.declared.tokens.Token.TheVariants.{Character}
 use Rattle.tx_cond.specs.declared.types.Conditional.{Conditional}
-use Rattle.tx_cond.specs.declared.types.SkipItem.TheVariants.{Other}
-use Rattle.tx_cond.specs.Skipping.{Inside, passing}
+use Rattle.tx_cond.specs.declared.types.SkipItem.{SkipItem}
+use Rattle.tx_cond.specs.declared.types.SkipItem.TheVariants.{If, Word, Other, Outer, EndOfFile}
+use Rattle.tx_cond.specs.Skipping.{Inside, item_of, passing}
 use Rattle.tx_seen.specs.declared.seen.Seen.{Seen}
 use Rattle.tx_expand.specs.declared.begun.Begun.{Begun}
 use Rattle.tx_expand.specs.declared.begun.Begun.TheVariants as begun
-use Rattle.tx_expand.specs.declared.state.Open.{Open}
+use Rattle.tx_expand.specs.declared.state.Expander.{Expander}
 use Rattle.tx_expand.specs.declared.types.Expanded.TheVariants as answer
 use Rattle.tx_expand.specs.Expanding.{reader}
 use Rattle.tx_expand.specs.Reader.{Goes, Reader, Turn, World}
 use Rattle.tx_expand.specs.Steps.{HasJoined}
 use Rattle.tx_expand.specs.Taken.{HasTakenIn, HasUseJoined, IsJoinedBegun, IsJoinedFirst, IsTakenIn, IsUseJoined, character}
-use Rattle.tx_expand.specs.Turns.{given_to, is_matching, is_opening, is_skipping, magnification_taken, skips_on, token_read, use_on, with_begun, IsTurned}
+use Rattle.tx_expand.specs.Turns.{given_to, is_matching, is_opening, is_other, is_skipping, magnification_taken, skips_on, token_read, use_on, with_begun, IsTurned}
 use Rattle.tx_expand.specs.Uses.{Use, with_taken}
 use Rattle.tx_expand.proofs.Turning.{is-skipping}
 
@@ -25,6 +26,7 @@ is-matching [] is = absurd (cc)
 is-matching (begun.Use u ∷ outer) is = (u, (outer, refl))
 is-matching (begun.After ∷ outer) is = absurd (cc)
 is-matching (begun.Before t ∷ outer) is = absurd (cc)
+is-matching (begun.Once ∷ outer) is = absurd (cc)
 is-matching (begun.Hold ∷ outer) is = absurd (cc)
 is-matching (begun.Print what ∷ outer) is = absurd (cc)
 is-matching (begun.Scanning scan ∷ outer) is = absurd (cc)
@@ -55,7 +57,7 @@ pub joined-turned : (w : World) (t : Seen) (r : Reader) (new : List Begun) (join
 joined-turned w t r new true is k =
     let goes : given_to w t r r.begun ≡ Goes answer.Went (with_begun new r) =
     ap (given_to w t r) k.was
-    ∙ ap (use_on (with_taken k.usage t.token) (with_begun k.outer r)) k.open_still
+    ∙ ap (use_on t.token (with_taken k.usage t.token) (with_begun k.outer r)) k.open_still
     ∙ ap (λ (bs : List Begun). Goes answer.Went (with_begun bs r)) (sym k.is) in
     subst (λ (turn : Turn). IsTurned turn (with_begun new r) answer.Went) (sym goes) (refl, refl)
 joined-turned w t r new false is k = absurd (cc)
@@ -66,24 +68,24 @@ not-joined old new t true is k = absurd (cc)
 not-joined old new t false is k = k
 
 -- a character joins the use of a macro
-use-character : (old new : Open) (code : ℕ) (kind : Cat) → IsUseJoined old.begun.items (Character code kind) new.begun.items → new.conditionals ≡ old.conditionals → new.job ≡ old.job → IsTakenIn old (character code kind) new
+use-character : (old new : Expander) (code : ℕ) (kind : Cat) → IsUseJoined old.begun (Character code kind) new.begun → new.conditionals ≡ old.conditionals → new.job ≡ old.job → IsTakenIn old (character code kind) new
 use-character old new code kind k conditionals job = record {
   opening = ap is_opening k.was;
   reads = λ w wanted input.
       ap (λ (bs : List Begun). token_read w wanted (character code kind) (reader bs input old.conditionals old.job)) k.was
-      ∙ ap (use_on (with_taken k.usage (Character code kind)) (reader k.outer input old.conditionals old.job)) k.open_still
+      ∙ ap (use_on (Character code kind) (with_taken k.usage (Character code kind)) (reader k.outer input old.conditionals old.job)) k.open_still
       ∙ ap (λ (bs : List Begun). Goes answer.Went (reader bs input old.conditionals old.job)) (sym k.is)
-      ∙ ap (λ (cs : List Conditional). Goes answer.Went (reader new.begun.items input cs old.job)) (sym conditionals)
-      ∙ ap (λ (name : List ℕ). Goes answer.Went (reader new.begun.items input new.conditionals name)) (sym job);
+      ∙ ap (λ (cs : List Conditional). Goes answer.Went (reader new.begun input cs old.job)) (sym conditionals)
+      ∙ ap (λ (name : List ℕ). Goes answer.Went (reader new.begun input new.conditionals name)) (sym job);
   silent = ap magnification_taken k.is;
 }
 
-pub use-taken : {E : Type 0} (old new : Open) (code : ℕ) (kind : Cat) (given : Result Bool E) → new.conditionals ≡ old.conditionals → new.job ≡ old.job → IfOk given (λ joined. HasUseJoined old.begun.items (Character code kind) joined new.begun.items) → IfOk given (λ taken. HasTakenIn old (character code kind) taken new)
+pub use-taken : {E : Type 0} (old new : Expander) (code : ℕ) (kind : Cat) (given : Result Bool E) → new.conditionals ≡ old.conditionals → new.job ≡ old.job → IfOk given (λ joined. HasUseJoined old.begun (Character code kind) joined new.begun) → IfOk given (λ taken. HasTakenIn old (character code kind) taken new)
 use-taken old new code kind (Ok true) conditionals job k = use-character old new code kind k conditionals job
 use-taken old new code kind (Ok false) conditionals job k = λ input.
     ap (λ (bs : List Begun). reader bs input new.conditionals new.job) k
-    ∙ ap (λ (cs : List Conditional). reader old.begun.items input cs new.job) conditionals
-    ∙ ap (λ (name : List ℕ). reader old.begun.items input old.conditionals name) job
+    ∙ ap (λ (cs : List Conditional). reader old.begun input cs new.job) conditionals
+    ∙ ap (λ (name : List ℕ). reader old.begun input old.conditionals name) job
 use-taken old new code kind (Err e) conditionals job k = tt
 
 -- skipped text goes on behind a character
@@ -91,9 +93,28 @@ passes-other : (depth : ℕ) → passing depth Other ≡ Inside depth
 passes-other zero = refl
 passes-other (suc depth) = refl
 
-pub skip-taken : (old : Open) (code : ℕ) (kind : Cat) → is_skipping old.begun.items ≡ true → IsTakenIn old (character code kind) old
+other-is : (item : SkipItem) → is_other item ≡ true → item ≡ Other
+other-is If is = absurd (cc)
+other-is (Word word) is = absurd (cc)
+other-is Other is = refl
+other-is Outer is = absurd (cc)
+other-is EndOfFile is = absurd (cc)
+
+-- and behind any token that is nothing to it
+pub skipped-other : (w : World) (t : Seen) (r : Reader) (item : SkipItem) → is_skipping r.begun ≡ true → item ≡ item_of t.meaning → is_other item ≡ true → IsTurned (given_to w t r r.begun) (with_begun r.begun r) answer.Went
+skipped-other w t r item is item_is other =
+    let first = is-skipping r.begun is in
+    let same : item_of t.meaning ≡ Other = sym item_is ∙ other-is item other in
+    let goes : given_to w t r r.begun ≡ Goes answer.Went (with_begun r.begun r) =
+    ap (given_to w t r) first.1.1
+    ∙ ap (λ (found : SkipItem). skips_on t.token (with_begun first.1.0 r) (passing first.0 found)) same
+    ∙ ap (skips_on t.token (with_begun first.1.0 r)) (passes-other first.0)
+    ∙ ap (λ (bs : List Begun). Goes answer.Went (with_begun bs r)) (sym first.1.1) in
+    subst (λ (turn : Turn). IsTurned turn (with_begun r.begun r) answer.Went) (sym goes) (refl, refl)
+
+pub skip-taken : (old : Expander) (code : ℕ) (kind : Cat) → is_skipping old.begun ≡ true → IsTakenIn old (character code kind) old
 skip-taken old code kind is =
-    let first = is-skipping old.begun.items is in
+    let first = is-skipping old.begun is in
     record {
       opening = ap is_opening first.1.1;
       reads = λ w wanted input.

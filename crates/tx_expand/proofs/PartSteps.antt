@@ -1,5 +1,5 @@
 -- What an expansion reads is read as the scan of it says.
-use Rattle.std.proofs.Common.{◌≡◌, Bool, Result, Ok, Err, IfOk, [], ◌∷◌, refl, lit≤}
+use Rattle.std.proofs.Common.{◌≡◌, Result, Ok, Err, IfOk, [], ◌∷◌, refl, lit≤}
 use Rattle.tx_prim.specs.declared.family.Numbered.{Numbered}
 use Rattle.tx_seen.specs.declared.fed.Fed.{Fed}
 use Rattle.tx_seen.specs.declared.fed.Fed.TheVariants as fed
@@ -19,42 +19,43 @@ use Rattle.tx_scan.specs.Rests.{IsFedBy, IsGivenBy, IsRead}
 use Rattle.tx_scan.specs.Supplied.{NeedsFewer, NeedsNoMore}
 use Rattle.tx_expand.specs.declared.part.Part.{Part}
 use Rattle.tx_expand.specs.declared.part.Part.TheVariants as part
+use Rattle.tx_expand.specs.declared.types.Destination.{Destination}
 use Rattle.tx_expand.specs.declared.types.Made.{Made}
 use Rattle.tx_expand.specs.Parts.{held, more_needed, rest}
 use Rattle.tx_expand.specs.Scans.{quantity, the, value_shown}
 use Rattle.tx_scan.proofs.Mappings.{fed-first, fewer-settled, needs-settled, settled-fed, settled-given}
 
 -- a quantity that stands at a place
-pub place-read : {E : Type 0} (text : Bool) (place : Place) (b : Beginning) (t : Seen) (scan : QuantityScan) (begun : Fed Value) (answer : Result (Fed Made) E) → b ≡ begin.At place → scan ≡ quantities.begun_quantity → begun ≡ fed.Need (Quantity place) → IfOk answer (λ of. of ≡ settled (value_shown text) begun) → IfOk answer (IsRead rest held 1 (λ more. quantity text b more) (Took t ∷ []) (part.Shown scan text))
-place-read text place b t scan begun (Ok of) at first needed is = rw (is, needed, at, first) (refl, lit≤ tt, λ item more. refl)
-place-read text place b t scan begun (Err e) at first needed is = tt
+pub place-read : {E : Type 0} (to : Destination) (place : Place) (b : Beginning) (t : Seen) (scan : QuantityScan) (begun : Fed Value) (answer : Result (Fed Made) E) → b ≡ begin.At place → scan ≡ quantities.begun_quantity → begun ≡ fed.Need (Quantity place) → IfOk answer (λ of. of ≡ settled (value_shown to) begun) → IfOk answer (IsRead rest held 1 (λ more. quantity to b more) (Took t ∷ []) (part.Shown scan to))
+place-read to place b t scan begun (Ok of) at first needed is = rw (is, needed, at, first) (refl, lit≤ tt, λ item more. refl)
+place-read to place b t scan begun (Err e) at first needed is = tt
 
 -- and one at the number that follows
-pub numbered-read : {E : Type 0} (text : Bool) (kind : Numbered) (b : Beginning) (t : Seen) (scan : QuantityScan) (begun : Fed Value) (answer : Result (Fed Made) E) → b ≡ begin.Numbered kind → scan ≡ quantities.begun_at_number (sought.Numbered kind) → begun ≡ fed.More Expanded → IfOk answer (λ of. of ≡ settled (value_shown text) begun) → IfOk answer (IsRead rest held 1 (λ more. quantity text b more) (Took t ∷ []) (part.Shown scan text))
-numbered-read text kind b t scan begun (Ok of) at first wanted is = rw (is, wanted, at, first) (refl, lit≤ tt, λ item more. refl)
-numbered-read text kind b t scan begun (Err e) at first wanted is = tt
+pub numbered-read : {E : Type 0} (to : Destination) (kind : Numbered) (b : Beginning) (t : Seen) (scan : QuantityScan) (begun : Fed Value) (answer : Result (Fed Made) E) → b ≡ begin.Numbered kind → scan ≡ quantities.begun_at_number (sought.Numbered kind) → begun ≡ fed.More Expanded → IfOk answer (λ of. of ≡ settled (value_shown to) begun) → IfOk answer (IsRead rest held 1 (λ more. quantity to b more) (Took t ∷ []) (part.Shown scan to))
+numbered-read to kind b t scan begun (Ok of) at first wanted is = rw (is, wanted, at, first) (refl, lit≤ tt, λ item more. refl)
+numbered-read to kind b t scan begun (Err e) at first wanted is = tt
 
 -- one more token or value of it
-pub shown-fed : {E : Type 0} (text : Bool) (t : Seen) (before : Part) (old new : QuantityScan) (fed : Fed Value) (answer : Result (Fed Made) E) → before ≡ part.Shown old text → IsFedBy quantities.rest quantities.held old t new fed → IfOk answer (λ of. of ≡ settled (value_shown text) fed) → IfOk answer (IsFedBy rest held before t (part.Shown new text))
-shown-fed text t before old new fed (Ok of) was k is =
-    rw (was, is) (settled-fed quantities.rest quantities.held rest held (value_shown text) old new (part.Shown old text) (part.Shown new text) t fed (λ behind item more. refl) refl (λ behind item more. refl) refl k)
-shown-fed text t before old new fed (Err e) was k is = tt
+pub shown-fed : {E : Type 0} (to : Destination) (t : Seen) (before : Part) (old new : QuantityScan) (fed : Fed Value) (answer : Result (Fed Made) E) → before ≡ part.Shown old to → IsFedBy quantities.rest quantities.held old t new fed → IfOk answer (λ of. of ≡ settled (value_shown to) fed) → IfOk answer (IsFedBy rest held before t (part.Shown new to))
+shown-fed to t before old new fed (Ok of) was k is =
+    rw (was, is) (settled-fed quantities.rest quantities.held rest held (value_shown to) old new (part.Shown old to) (part.Shown new to) t fed (λ behind item more. refl) refl (λ behind item more. refl) refl k)
+shown-fed to t before old new fed (Err e) was k is = tt
 
-pub shown-given : {E : Type 0} (text : Bool) (v : Value) (before : Part) (old new : QuantityScan) (fed : Fed Value) (answer : Result (Fed Made) E) → before ≡ part.Shown old text → IsGivenBy quantities.rest quantities.held old v new fed → IfOk answer (λ of. of ≡ settled (value_shown text) fed) → IfOk answer (IsGivenBy rest held before v (part.Shown new text))
-shown-given text v before old new fed (Ok of) was k is =
-    rw (was, is) (settled-given quantities.rest quantities.held rest held (value_shown text) old new (part.Shown old text) (part.Shown new text) v fed (λ behind item more. refl) refl (λ behind item more. refl) refl k)
-shown-given text v before old new fed (Err e) was k is = tt
+pub shown-given : {E : Type 0} (to : Destination) (v : Value) (before : Part) (old new : QuantityScan) (fed : Fed Value) (answer : Result (Fed Made) E) → before ≡ part.Shown old to → IsGivenBy quantities.rest quantities.held old v new fed → IfOk answer (λ of. of ≡ settled (value_shown to) fed) → IfOk answer (IsGivenBy rest held before v (part.Shown new to))
+shown-given to v before old new fed (Ok of) was k is =
+    rw (was, is) (settled-given quantities.rest quantities.held rest held (value_shown to) old new (part.Shown old to) (part.Shown new to) v fed (λ behind item more. refl) refl (λ behind item more. refl) refl k)
+shown-given to v before old new fed (Err e) was k is = tt
 
 -- it needs as many values
-pub shown-needs : {E : Type 0} (text : Bool) (before : Part) (old new : QuantityScan) (fed : Fed Value) (answer : Result (Fed Made) E) → before ≡ part.Shown old text → NeedsNoMore (quantities.more_needed old) (quantities.more_needed new) fed → IfOk answer (λ of. of ≡ settled (value_shown text) fed) → IfOk answer (NeedsNoMore (more_needed before) (more_needed (part.Shown new text)))
-shown-needs text before old new fed (Ok of) was n is = rw (was, is) (needs-settled (value_shown text) (quantities.more_needed old) (quantities.more_needed new) fed n)
-shown-needs text before old new fed (Err e) was n is = tt
+pub shown-needs : {E : Type 0} (to : Destination) (before : Part) (old new : QuantityScan) (fed : Fed Value) (answer : Result (Fed Made) E) → before ≡ part.Shown old to → NeedsNoMore (quantities.more_needed old) (quantities.more_needed new) fed → IfOk answer (λ of. of ≡ settled (value_shown to) fed) → IfOk answer (NeedsNoMore (more_needed before) (more_needed (part.Shown new to)))
+shown-needs to before old new fed (Ok of) was n is = rw (was, is) (needs-settled (value_shown to) (quantities.more_needed old) (quantities.more_needed new) fed n)
+shown-needs to before old new fed (Err e) was n is = tt
 
-pub shown-fewer : {E : Type 0} (text : Bool) (before : Part) (old new : QuantityScan) (fed : Fed Value) (answer : Result (Fed Made) E) → before ≡ part.Shown old text → NeedsFewer (quantities.more_needed old) (quantities.more_needed new) fed → IfOk answer (λ of. of ≡ settled (value_shown text) fed) → IfOk answer (NeedsFewer (more_needed before) (more_needed (part.Shown new text)))
-shown-fewer text before old new fed (Ok of) was n is = rw (was, is) (fewer-settled (value_shown text) (quantities.more_needed old) (quantities.more_needed new) fed n)
-shown-fewer text before old new fed (Err e) was n is = tt
+pub shown-fewer : {E : Type 0} (to : Destination) (before : Part) (old new : QuantityScan) (fed : Fed Value) (answer : Result (Fed Made) E) → before ≡ part.Shown old to → NeedsFewer (quantities.more_needed old) (quantities.more_needed new) fed → IfOk answer (λ of. of ≡ settled (value_shown to) fed) → IfOk answer (NeedsFewer (more_needed before) (more_needed (part.Shown new to)))
+shown-fewer to before old new fed (Ok of) was n is = rw (was, is) (fewer-settled (value_shown to) (quantities.more_needed old) (quantities.more_needed new) fed n)
+shown-fewer to before old new fed (Err e) was n is = tt
 
 -- a scan of which nothing is read holds nothing
-pub quantity-first : {E : Type 0} (text : Bool) (t : Seen) (old new : Part) (answer : Result (Fed Made) E) → old ≡ part.Quantity text → IfOk answer (IsRead rest held 1 (λ more. the text (Took t ∷ more)) (Took t ∷ []) new) → IfOk answer (IsFedBy rest held old t new)
-quantity-first text t old new (Ok of) is k = rw is (fed-first rest held (part.Quantity text) t new of refl k)
-quantity-first text t old new (Err e) is k = tt
+pub quantity-first : {E : Type 0} (to : Destination) (t : Seen) (old new : Part) (answer : Result (Fed Made) E) → old ≡ part.Quantity to → IfOk answer (IsRead rest held 1 (λ more. the to (Took t ∷ more)) (Took t ∷ []) new) → IfOk answer (IsFedBy rest held old t new)
+quantity-first to t old new (Ok of) is k = rw is (fed-first rest held (part.Quantity to) t new of refl k)
+quantity-first to t old new (Err e) is k = tt

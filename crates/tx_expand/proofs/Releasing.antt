@@ -1,5 +1,5 @@
 -- What \expandafter held back comes in front, token by token.
-use Rattle.std.proofs.Common.{◌≡◌, ℕ, Some, None, List, [], ◌∷◌, drop, refl, ap, sym, ◌∙◌}
+use Rattle.std.proofs.Common.{◌≡◌, ◌<◌, ℕ, Some, None, List, [], ◌∷◌, drop, length, refl, ap, sym, ◌∙◌, arith}
 use Rattle.tx_char.specs.declared.tokens.Token.{Token}
 use Rattle.tx_pending.specs.Elements.{Input, with_token}
 use Rattle.tx_cond.specs.declared.types.Conditional.{Conditional}
@@ -41,3 +41,11 @@ one-released bs left t input new conditionals job is rest put =
     ap (λ (them : List Begun). released (reader them new conditionals job)) same
     ∙ (ap (λ (i : Input). released (reader whole.0 i conditionals job)) put
     ∙ ap (λ (them : List Begun). released (reader them input conditionals job)) (sym whole.1))
+
+-- fewer have begun then
+pub fewer-held : (bs left : List Begun) (t : Token) → held_back bs ≡ Some t → left ≡ drop 1 bs → length left < length bs
+fewer-held bs left t is rest =
+    let whole = is-held bs t is in
+    let same : length left ≡ length whole.0 = ap length (rest ∙ ap (λ (them : List Begun). drop 1 them) whole.1) in
+    let all : length bs ≡ length (begun.Before t ∷ whole.0) = ap length whole.1 in
+    omega arith

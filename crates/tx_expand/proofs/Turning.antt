@@ -1,5 +1,7 @@
 -- What a turn comes to by what was read.
-use Rattle.std.proofs.Common.{◌≡◌, ◌≢◌, ◌<◌, ◌+◌, ◌-◌, ℕ, zero, suc, Bool, true, false, Option, None, Some, List, [], ◌∷◌, ◌++◌, drop, refl, ap, sym, ◌∙◌, add-one, drop-cons, get_or, length, Result, Ok, Err, IfOk}
+use Rattle.std.proofs.Common.{◌≡◌, ◌≢◌, ◌<◌, ◌≤◌, ◌+◌, ◌-◌, ℕ, zero, suc, Bool, true, false, Option, None, Some, List, [], ◌∷◌, ◌++◌, drop, take, refl, ap, sym, ◌∙◌, arith, get_or, length, Result, Ok, Err, IfOk, IsTrue, ◌↔◌}
+use Rattle.std.specs.Prelude.{reverse}
+use Rattle.std.proofs.lemmas.List.{reverse-append, take_all, take_more}
 use Rattle.tx_char.specs.declared.category.Cat.{Cat}
 use Rattle.tx_char.specs.declared.tokens.Token.{Token}
 use Rattle.tx_pending.specs.declared.next.ColumnPart.{ColumnPart}
@@ -7,8 +9,9 @@ use Rattle.tx_pending.specs.declared.next.Next.{Next}
 use Rattle.tx_pending.specs.declared.next.Next.TheVariants as front
 use Rattle.tx_pending.specs.Elements.{Input, step}
 use Rattle.tx_seen.specs.declared.error.TexError.{TexError}
+use Rattle.tx_seen.specs.declared.error.TexError.TheVariants.{MisplacedAlignment}
 use Rattle.tx_seen.specs.declared.fed.Fed.TheVariants as fed
-use Rattle.tx_seen.specs.declared.fed.Want.TheVariants.{Raw}
+use Rattle.tx_seen.specs.declared.fed.Want.TheVariants.{Raw, Expanded}
 use Rattle.tx_seen.specs.declared.meaning.Meaning.{Meaning}
 use Rattle.tx_seen.specs.declared.meaning.Meaning.TheVariants as meaning
 use Rattle.tx_seen.specs.declared.seen.Seen.{Seen}
@@ -31,13 +34,13 @@ use Rattle.tx_expand.specs.declared.types.Made.{Made}
 use Rattle.tx_expand.specs.declared.types.Read.{Read}
 use Rattle.tx_expand.specs.declared.types.Read.TheVariants as read
 use Rattle.tx_expand.specs.declared.types.Scanned.{Scanned}
-use Rattle.tx_expand.specs.declared.state.Open.{Open}
+use Rattle.tx_expand.specs.declared.state.Expander.{Expander}
 use Rattle.tx_expand.specs.Expanding.{reader_of}
 use Rattle.tx_expand.specs.Reader.{World, Reader, Fails}
 use Rattle.tx_scan.specs.Settled.{tokens_of}
 use Rattle.tx_expand.specs.Scans.{Scan, reading}
 use Rattle.tx_expand.specs.Taken.{IsPassedFirst, IsRead, IsReadBegun, IsReadFirst}
-use Rattle.tx_expand.specs.Turns.{at_entry, begins, come, counted, ended, ends_part, entry_end_in, expanded, finds, front_read, frozen, given_to, is_finding, is_opening, is_scanning, is_skipping, joined, met, met_word, part_ended, put_back, read_on, reads, refused, skips_on, token_read, turn, wanted_by, wants_constant, with_begun, with_end, with_input, IsTurned}
+use Rattle.tx_expand.specs.Turns.{at_entry, begins, come, counted, ended, ends_part, entry_end_in, expanded, finds, front_read, frozen, given_to, incomplete, is_finding, is_opening, is_scanning, is_skipping, joined, met, met_word, part_ended, put_back, read_on, reads, refused, skips_on, takes_characters, token_read, turn, wanted_by, wants_constant, with_begun, with_end, with_input, IsTurned}
 
 pub reads-done : (w : World) (what : Scanned) (items : List Item) (r : Reader) (m : Made) (back : List Item) → reading what items ≡ Done m back → reads w what items r ≡ come w m (put_back (tokens_of back) r)
 reads-done w what items r m back is = ap (λ (read : Reading Made). read_on w (record { what = what; taken = items }) r read) is
@@ -149,15 +152,31 @@ skipped-wrong w t r left new error is k =
     let fails : skips_on t.token (with_begun first.1.0 r) (passing first.0 (item_of t.meaning)) ≡ Fails error = passed-wrong (passing first.0 (item_of t.meaning)) t.token (with_begun first.1.0 r) error passed.0 passed.1.1 in
     rw (first.1.1, fails) refl
 
--- whether a file's name is being read, place by place
+-- whether a file's name is being read, place by place, the innermost last
 finding-rest : (b : Begun) (outer : List Begun) (all : Bool) → finds b ≡ false → is_finding (b ∷ outer) ≡ all → is_finding outer ≡ all
 finding-rest b outer all e h = rw e at h
 
-pub finding-on : (xs : List Begun) (place : ℕ) (b : Begun) (all : Bool) → place < length xs → b ≡ get_or xs place b → finds b ≡ false → is_finding (drop place xs) ≡ all → is_finding (drop (place + 1) xs) ≡ all
-finding-on xs place b all i at e h = rw add-one (finding-rest b (drop (suc place) xs) all e (rw (drop-cons xs place b, ← at) at h))
+finding-first : (b : Begun) (outer : List Begun) (all : Bool) → finds b ≡ true → is_finding (b ∷ outer) ≡ all → true ≡ all
+finding-first b outer all e h = rw e at h
 
-pub finding-here : (xs : List Begun) (place : ℕ) (b : Begun) (all : Bool) → place < length xs → b ≡ get_or xs place b → finds b ≡ true → is_finding (drop place xs) ≡ all → true ≡ all
-finding-here xs place b all i at e h = rw e at (rw (drop-cons xs place b, ← at) at h)
+finding-split : (xs : List Begun) (place : ℕ) (b : Begun) → 0 < place → place ≤ length xs → b ≡ get_or xs (place - 1) b → reverse (take place xs) ≡ b ∷ reverse (take (place - 1) xs)
+finding-split xs place b some within at =
+    let n : place ≡ place - 1 + 1 = omega arith in
+    let more : take (place - 1 + 1) xs ≡ take (place - 1) xs ++ b ∷ [] = take_more xs (place - 1) b (omega arith) ∙ ap (λ (x : Begun). take (place - 1) xs ++ x ∷ []) (sym at) in
+    ap (λ (k : ℕ). reverse (take k xs)) n ∙ ap reverse more ∙ reverse-append (take (place - 1) xs) (b ∷ [])
+
+pub finding-all : (xs : List Begun) → is_finding (reverse (take (length xs) xs)) ≡ is_finding (reverse xs)
+finding-all xs = ap (λ (ys : List Begun). is_finding (reverse ys)) (take_all (length xs) xs (omega arith))
+
+pub finding-on : (xs : List Begun) (place : ℕ) (b : Begun) (all : Bool) → 0 < place → place ≤ length xs → b ≡ get_or xs (place - 1) b → finds b ≡ false → is_finding (reverse (take place xs)) ≡ all → is_finding (reverse (take (place - 1) xs)) ≡ all
+finding-on xs place b all some within at e h = finding-rest b (reverse (take (place - 1) xs)) all e (ap is_finding (sym (finding-split xs place b some within at)) ∙ h)
+
+pub finding-here : (xs : List Begun) (place : ℕ) (b : Begun) (all : Bool) → 0 < place → place ≤ length xs → b ≡ get_or xs (place - 1) b → finds b ≡ true → is_finding (reverse (take place xs)) ≡ all → true ≡ all
+finding-here xs place b all some within at e h = finding-first b (reverse (take (place - 1) xs)) all e (ap is_finding (sym (finding-split xs place b some within at)) ∙ h)
+
+pub finding-none : (xs : List Begun) (place : ℕ) (all : Bool) → place ≤ 0 → is_finding (reverse (take place xs)) ≡ all → false ≡ all
+finding-none xs zero all none h = h
+finding-none xs (suc place) all none h = absurd (omega arith)
 
 -- what isn't expanded is taken
 pub taken-otherwise : (w : World) (wanted : Wanted) (t : Seen) (r : Reader) (m : Meaning) → (m ≡ meaning.Undefined → ⊥) → ((e : Expandable) → m ≡ meaning.Expandable e → ⊥) → ((d : Definition) → m ≡ meaning.Macro d → ⊥) → expanded w wanted t r m ≡ given_to w t r r.begun
@@ -180,18 +199,31 @@ taken-otherwise w wanted t r meaning.Held undefined expandable made = refl
 pub taken-raw : (w : World) (wanted : Wanted) (t : Seen) (r : Reader) → refused wanted.text t.meaning r.begun ≡ None → wanted_by wanted r.begun ≡ Raw → token_read w wanted t r ≡ given_to w t r r.begun
 taken-raw w wanted t r none raw = rw (none, raw) refl
 
+-- so is each token within an argument and skipped text
+pub raw-within : (wanted : Wanted) (bs : List Begun) → takes_characters bs ≡ true → wanted_by wanted bs ≡ Raw
+raw-within wanted [] is = absurd (cc)
+raw-within wanted (begun.Use u ∷ outer) is = refl
+raw-within wanted (begun.After ∷ outer) is = absurd (cc)
+raw-within wanted (begun.Before t ∷ outer) is = absurd (cc)
+raw-within wanted (begun.Once ∷ outer) is = absurd (cc)
+raw-within wanted (begun.Hold ∷ outer) is = absurd (cc)
+raw-within wanted (begun.Print what ∷ outer) is = absurd (cc)
+raw-within wanted (begun.Scanning scan ∷ outer) is = absurd (cc)
+raw-within wanted (begun.Skipping depth ∷ outer) is = refl
+raw-within wanted (begun.Opening ∷ outer) is = absurd (cc)
+
 -- a turn in which the input gives a token reads it; so does one that \noexpand holds
-front-turned : (w : World) (wanted : Wanted) (e : Open) (input behind : Input) (codes : List Cat) (given : Next) → is_opening e.begun.items ≡ false → codes ≡ w.codes → given ≡ (step codes input).next → behind ≡ (step codes input).left → turn w wanted (reader_of e input) ≡ front_read w wanted (reader_of e behind) given
+front-turned : (w : World) (wanted : Wanted) (e : Expander) (input behind : Input) (codes : List Cat) (given : Next) → is_opening e.begun ≡ false → codes ≡ w.codes → given ≡ (step codes input).next → behind ≡ (step codes input).left → turn w wanted (reader_of e input) ≡ front_read w wanted (reader_of e behind) given
 front-turned w wanted e input behind codes given closed same next left =
     rw (closed, next, left, same) refl
 
-pub token-turned : (w : World) (wanted : Wanted) (e : Open) (input behind : Input) (codes : List Cat) (given : Next) (t : Token) (m : Meaning) → is_opening e.begun.items ≡ false → codes ≡ w.codes → given ≡ (step codes input).next → behind ≡ (step codes input).left → given ≡ front.Token t → m ≡ w.meaning t → turn w wanted (reader_of e input) ≡ met w wanted (record { token = t; meaning = m }) (reader_of e behind)
+pub token-turned : (w : World) (wanted : Wanted) (e : Expander) (input behind : Input) (codes : List Cat) (given : Next) (t : Token) (m : Meaning) → is_opening e.begun ≡ false → codes ≡ w.codes → given ≡ (step codes input).next → behind ≡ (step codes input).left → given ≡ front.Token t → m ≡ w.meaning t → turn w wanted (reader_of e input) ≡ met w wanted (record { token = t; meaning = m }) (reader_of e behind)
 token-turned w wanted e input behind codes given t m closed same next left is means =
     front-turned w wanted e input behind codes given closed same next left
     ∙ (ap (λ (n : Next). front_read w wanted (reader_of e behind) n) is
     ∙ ap (λ (x : Meaning). met w wanted (record { token = t; meaning = x }) (reader_of e behind)) (sym means))
 
-pub held-turned : (w : World) (wanted : Wanted) (e : Open) (input behind : Input) (codes : List Cat) (given : Next) (t : Token) (m : Meaning) (seen : Seen) → is_opening e.begun.items ≡ false → codes ≡ w.codes → given ≡ (step codes input).next → behind ≡ (step codes input).left → given ≡ front.Held t → m ≡ w.meaning t → seen ≡ held (record { token = t; meaning = m }) → turn w wanted (reader_of e input) ≡ met w wanted seen (reader_of e behind)
+pub held-turned : (w : World) (wanted : Wanted) (e : Expander) (input behind : Input) (codes : List Cat) (given : Next) (t : Token) (m : Meaning) (seen : Seen) → is_opening e.begun ≡ false → codes ≡ w.codes → given ≡ (step codes input).next → behind ≡ (step codes input).left → given ≡ front.Held t → m ≡ w.meaning t → seen ≡ held (record { token = t; meaning = m }) → turn w wanted (reader_of e input) ≡ met w wanted seen (reader_of e behind)
 held-turned w wanted e input behind codes given t m seen closed same next left is means held_is =
     front-turned w wanted e input behind codes given closed same next left
     ∙ (ap (λ (n : Next). front_read w wanted (reader_of e behind) n) is
@@ -199,7 +231,7 @@ held-turned w wanted e input behind codes given t m seen closed same next left i
     ∙ ap (λ (x : Seen). met w wanted x (reader_of e behind)) (sym held_is)))
 
 -- the end of a part of a column comes next
-pub part-turned : (w : World) (wanted : Wanted) (e : Open) (input behind : Input) (codes : List Cat) (given : Next) (part : ColumnPart) → is_opening e.begun.items ≡ false → codes ≡ w.codes → given ≡ (step codes input).next → behind ≡ (step codes input).left → given ≡ front.PartEnd part → turn w wanted (reader_of e input) ≡ front_read w wanted (reader_of e behind) (front.PartEnd part)
+pub part-turned : (w : World) (wanted : Wanted) (e : Expander) (input behind : Input) (codes : List Cat) (given : Next) (part : ColumnPart) → is_opening e.begun ≡ false → codes ≡ w.codes → given ≡ (step codes input).next → behind ≡ (step codes input).left → given ≡ front.PartEnd part → turn w wanted (reader_of e input) ≡ front_read w wanted (reader_of e behind) (front.PartEnd part)
 part-turned w wanted e input behind codes given part closed same next left is =
     front-turned w wanted e input behind codes given closed same next left
     ∙ ap (λ (n : Next). front_read w wanted (reader_of e behind) n) is
@@ -207,6 +239,17 @@ part-turned w wanted e input behind codes given part closed same next left is =
 -- a token that ends no entry is read
 pub none-ended : (w : World) (wanted : Wanted) (t : Seen) (r : Reader) → entry_end_in r.input t.meaning ≡ None → met w wanted t r ≡ token_read w wanted t r
 none-ended w wanted t r none = rw none refl
+
+-- a v-part ends where a token is wanted, as it stands or expanded, and no error comes before
+pub part-misplaced : (w : World) (wanted : Wanted) (r : Reader) → incomplete wanted.text r.begun ≡ None → wanted_by wanted r.begun ≡ Raw → part_ended w wanted r ≡ Fails MisplacedAlignment
+part-misplaced w wanted r none raw = rw (none, raw) refl
+
+pub part-read : (w : World) (wanted : Wanted) (r : Reader) → incomplete wanted.text r.begun ≡ None → wanted_by wanted r.begun ≡ Expanded → part_ended w wanted r ≡ ends_part w r r.begun
+part-read w wanted r none expands = rw (none, expands) refl
+
+-- something is open where a list isn't empty
+pub some-begun : (b : Bool) (bs : List Begun) → (IsTrue b ↔ (bs ≡ [])) → b ≡ false → bs ≢ []
+some-begun b bs tells none = λ e. let yes : b ≡ true = tells.1 e in cc
 
 -- what reads goes on up to the end of a v-part
 pub part-scanned : (w : World) (r : Reader) (bs : List Begun) → is_scanning bs ≡ true → ends_part w r bs ≡ given_to w frozen (with_end r) bs

@@ -140,7 +140,8 @@ followed (answer.Relaxes name) later = later
 followed answer.Marked later = later
 followed (answer.EndsEntry word) later = All []
 followed answer.PartEnded later = All []
-followed (answer.Used close) later = All []
+followed answer.LineUsed later = All []
+followed answer.FileUsed later = All []
 followed (answer.Asks file) later = Opens [] file
 followed (answer.Wrong error) later = Stopped [] error
 
@@ -411,7 +412,7 @@ input_behind_name : (left_after 5 (reads (cs (codes "input") ∷ letter 102 ∷ 
 input_behind_name = refl
 
 -- \expandafter\b\input f z: the first line of the file is asked for
-first_line_first : answers_after 5 (reads (cs (codes "expandafter") ∷ cs (codes "b") ∷ cs (codes "input") ∷ letter 102 ∷ token.Character 32 Space ∷ letter 122 ∷ [])) ≡ answer.Used false
+first_line_first : answers_after 5 (reads (cs (codes "expandafter") ∷ cs (codes "b") ∷ cs (codes "input") ∷ letter 102 ∷ token.Character 32 Space ∷ letter 122 ∷ [])) ≡ answer.LineUsed
 first_line_first = refl
 
 -- and \b comes before it
@@ -419,11 +420,11 @@ first_line_behind : (opened (left_after 5 (reads (cs (codes "expandafter") ∷ c
 first_line_behind = refl
 
 -- \endinput a: the file ends with its line
-end_input : answers_after 2 (reads (cs (codes "endinput") ∷ letter 97 ∷ [])) ≡ answer.Used true
+end_input : answers_after 2 (reads (cs (codes "endinput") ∷ letter 97 ∷ [])) ≡ answer.FileUsed
 end_input = refl
 
 -- \endinput\input f : the first line is asked for first
-end_input_before_input : answers_after 5 (reads (cs (codes "endinput") ∷ cs (codes "input") ∷ letter 102 ∷ token.Character 32 Space ∷ [])) ≡ answer.Used false
+end_input_before_input : answers_after 5 (reads (cs (codes "endinput") ∷ cs (codes "input") ∷ letter 102 ∷ token.Character 32 Space ∷ [])) ≡ answer.LineUsed
 end_input_before_input = refl
 
 -- a file ends behind \b

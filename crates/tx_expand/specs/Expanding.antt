@@ -11,15 +11,15 @@ use Rattle.tx_expand.specs.Values.{Lent, font_number, value_now}
 use Rattle.tx_output.specs.Marks.{mark_of}
 use Rattle.tx_cond.specs.declared.types.Conditional.{Conditional}
 use Rattle.tx_expand.specs.declared.begun.Begun.{Begun}
-use Rattle.tx_expand.specs.declared.state.Open.{Open}
+use Rattle.tx_expand.specs.declared.state.Expander.{Expander}
 use Rattle.tx_expand.specs.Reader.{World, Reader}
 
 -- the input, and what is open beside it
 abbrev pub reader : List Begun → Input → List Conditional → List ℕ → Reader
 reader begun input conditionals job = record { input = input; begun = begun; conditionals = conditionals; job = job }
 
-abbrev pub reader_of : Open → Input → Reader
-reader_of e input = reader e.begun.items input e.conditionals e.job
+abbrev pub reader_of : Expander → Input → Reader
+reader_of e input = reader e.begun input e.conditionals e.job
 
 -- \escapechar is the escape character where it is a character's code (section 243)
 abbrev pub escape_of : Eqtb → Option ℕ

@@ -26,13 +26,13 @@ use Rattle.tx_expand.specs.Scans.{printed_value, reading, the}
 abbrev pub printed : Figures → ℤ → Made
 printed figures.Decimal n = made.Puts (as_tokens (number_text n))
 printed figures.Roman n = made.Puts (as_tokens (roman_text n))
-printed (figures.Register text) n = made.Register text n
+printed (figures.Register to) n = made.Register to n
 
 -- the rest, by the scan
 abbrev pub rest : Part → List Item → Item → List Item → Reading Made
 rest (part.Name scan) behind item more = next (names.rest scan behind item more) (λ name rest. Done (made.Names name) rest)
-rest (part.Quantity text) behind item more = the text (item ∷ more)
-rest (part.Shown scan text) behind item more = next (quantities.rest scan behind item more) (printed_value text)
+rest (part.Quantity to) behind item more = the to (item ∷ more)
+rest (part.Shown scan to) behind item more = next (quantities.rest scan behind item more) (printed_value to)
 rest (part.Integer scan figures) behind item more = next (integers.rest scan behind item more) (λ n rest. Done (printed figures n) rest)
 rest (part.Test scan) behind item more = next (tests.rest scan behind item more) (λ value rest. Done (made.Decides value) rest)
 rest (part.File scan) behind item more = next (files.rest scan behind item more) (λ name rest. Done (made.Opens (files.input_name name)) rest)
@@ -40,14 +40,14 @@ rest (part.Font scan) behind item more = next (fonts.font_rest scan behind item 
 
 -- how many of its tokens it holds
 abbrev pub held : Part → ℕ
-held (part.Shown scan text) = quantities.held scan
+held (part.Shown scan to) = quantities.held scan
 held (part.Integer scan figures) = integers.held scan
 held (part.Test scan) = tests.held scan
 held _ = 0
 
 -- how many values it may need at most, unless more tokens need more
 abbrev pub more_needed : Part → ℕ
-more_needed (part.Shown scan text) = quantities.more_needed scan
+more_needed (part.Shown scan to) = quantities.more_needed scan
 more_needed (part.Integer scan figures) = integers.waiting scan
 more_needed (part.Test scan) = tests.more_needed scan
 more_needed _ = 0

@@ -21,7 +21,7 @@ use Rattle.tx_scan.specs.Settled.{tokens_of}
 use Rattle.tx_expand.specs.declared.begun.Begun.{Begun}
 use Rattle.tx_expand.specs.declared.begun.Begun.TheVariants as begun
 use Rattle.tx_expand.specs.declared.part.Part.{Part}
-use Rattle.tx_expand.specs.declared.state.Open.{Open}
+use Rattle.tx_expand.specs.declared.state.Expander.{Expander}
 use Rattle.tx_expand.specs.declared.types.Expanded.TheVariants as answer
 use Rattle.tx_expand.specs.declared.types.Made.{Made}
 use Rattle.tx_expand.specs.declared.types.Read.{Read}
@@ -105,12 +105,12 @@ abbrev pub character : ℕ → Cat → Seen
 character code kind = record { token = Character code kind; meaning = meaning.Character code kind }
 
 -- a token that is read joins what is open, and another one is needed, however the caller wants it and whatever else is pending
-pub record IsTakenIn (old : Open) (t : Seen) (new : Open) : Type 0 where
-  pub opening : is_opening old.begun.items ≡ false
+pub record IsTakenIn (old : Expander) (t : Seen) (new : Expander) : Type 0 where
+  pub opening : is_opening old.begun ≡ false
   pub reads : (w : World) (wanted : Wanted) (input : Input) → token_read w wanted t (reader_of old input) ≡ Goes answer.Went (reader_of new input)
-  pub silent : magnification_taken new.begun.items ≡ None
+  pub silent : magnification_taken new.begun ≡ None
 
 -- whether it does; else nothing changes
-abbrev pub HasTakenIn : Open → Seen → Bool → Open → Type 0
+abbrev pub HasTakenIn : Expander → Seen → Bool → Expander → Type 0
 HasTakenIn old t true new = IsTakenIn old t new
 HasTakenIn old t false new = (input : Input) → reader_of new input ≡ reader_of old input

@@ -44,6 +44,8 @@ use Rattle.tx_cond.specs.declared.types.Conditional.{Conditional}
 use Rattle.tx_cond.specs.declared.types.Conditional.TheVariants.{Testing}
 use Rattle.tx_cond.specs.declared.types.Meet.{Meet}
 use Rattle.tx_cond.specs.declared.types.Meet.TheVariants as meet
+use Rattle.tx_cond.specs.declared.types.SkipItem.{SkipItem}
+use Rattle.tx_cond.specs.declared.types.SkipItem.TheVariants.{Other}
 use Rattle.tx_cond.specs.Skipping.{Passing, Inside, Ended, Refused, item_of, passing}
 use Rattle.tx_cond.specs.Conditionals.{Met, decide, is_skipped, meeting}
 use Rattle.tx_macro.specs.Matching as macro
@@ -53,6 +55,8 @@ use Rattle.tx_convert.specs.Meanings.{mark_text, meaning_text}
 use Rattle.tx_convert.specs.Texts.{as_tokens, string_text}
 use Rattle.tx_expand.specs.declared.begun.Begun.{Begun}
 use Rattle.tx_expand.specs.declared.begun.Begun.TheVariants as begun
+use Rattle.tx_expand.specs.declared.types.Destination.{Destination}
+use Rattle.tx_expand.specs.declared.types.Destination.TheVariants as to
 use Rattle.tx_expand.specs.declared.types.Expanded.{Expanded as Answer}
 use Rattle.tx_expand.specs.declared.types.Expanded.TheVariants as answer
 use Rattle.tx_expand.specs.declared.types.Made.{Made}
@@ -67,13 +71,13 @@ use Rattle.tx_expand.specs.Scans.{Scan, reading}
 use Rattle.tx_expand.specs.Uses.{Use, comes_to, with_taken}
 
 abbrev pub with_begun : List Begun → Reader → Reader
-with_begun begun r = record { input = r.input; begun = begun; conditionals = r.conditionals; job = r.job }
+with_begun begun r = record r { begun = begun }
 
 abbrev pub with_conditionals : List Conditional → Reader → Reader
-with_conditionals conditionals r = record { input = r.input; begun = r.begun; conditionals = conditionals; job = r.job }
+with_conditionals conditionals r = record r { conditionals = conditionals }
 
 abbrev pub with_input : Input → Reader → Reader
-with_input input r = record { input = input; begun = r.begun; conditionals = r.conditionals; job = r.job }
+with_input input r = record r { input = input }
 
 -- tokens that weren't read stand in front (section 323)
 abbrev pub put : List Token → Reader → Reader
@@ -155,22 +159,22 @@ named name other r = Goes answer.Went r
 
 -- a list of tokens is put in, or belongs to the text that the caller takes; a font's identifier is one of its own (sections 466
 -- and 467)
-abbrev pub listed : Bool → List Token → Reader → Turn
-listed false tokens r = replaced tokens r
-listed true tokens r = Goes (answer.Text tokens) (released r)
+abbrev pub listed : Destination → List Token → Reader → Turn
+listed to.Input tokens r = replaced tokens r
+listed to.Text tokens r = Goes (answer.Text tokens) (released r)
 
 -- that of a register of \toks
-abbrev pub register_listed : World → Bool → Option ℕ → Reader → Turn
-register_listed w text None r = Fails NumberOutOfRange
-register_listed w text (Some number) r = listed text (w.tokens (place.Toks number)) r
+abbrev pub register_listed : World → Destination → Option ℕ → Reader → Turn
+register_listed w to None r = Fails NumberOutOfRange
+register_listed w to (Some number) r = listed to (w.tokens (place.Toks number)) r
 
 -- what comes of what was read
 abbrev pub come : World → Made → Reader → Turn
 come w (made.Puts tokens) r = replaced tokens r
 come w (made.Gives tokens) r = Goes (answer.Text tokens) (released r)
-come w (made.List text place) r = listed text (w.tokens place) r
-come w (made.Register text n) r = register_listed w text (byte_of n) r
-come w (made.Identifier text font) r = listed text (token.FontIdentifier (w.font font) ∷ []) r
+come w (made.List to place) r = listed to (w.tokens place) r
+come w (made.Register to n) r = register_listed w to (byte_of n) r
+come w (made.Identifier to font) r = listed to (token.FontIdentifier (w.font font) ∷ []) r
 come w (made.Names name) r = named name (w.meaning (token.Name name)) (released (put_back (token.Name name ∷ []) r))
 come w (made.Decides value) r = decided value r
 come w (made.Font font) r = replaced (as_tokens (font_text w.fonts (w.font font))) r
@@ -206,6 +210,11 @@ abbrev pub skips_on : Token → Reader → Passing → Turn
 skips_on t r (Inside depth) = begins (begun.Skipping depth) r
 skips_on t r (Ended word) = met_word t r (meeting r.conditionals word)
 skips_on t r (Refused error) = Fails error
+
+-- such text goes on as it did behind what neither begins a conditional nor is a word of one, and isn't \outer
+abbrev pub is_other : SkipItem → Bool
+is_other Other = true
+is_other item = false
 
 -- which mark a meaning is that of, if it is \topmark or one of its kin
 abbrev pub mark_in : Expandable → Option MarkKind
@@ -324,11 +333,11 @@ abbrev pub is_waiting : List Begun → Bool
 is_waiting [] = false
 is_waiting (b ∷ outer) = waits b
 
--- whether the tokens of \the belong to the text that the caller takes: where it takes such, and nothing else has begun (section
--- 478)
-abbrev pub for_text : Bool → List Begun → Bool
-for_text text [] = text
-for_text text (b ∷ outer) = false
+-- the tokens of \the belong to the text that the caller takes where it takes such, and nothing else has begun (section 478)
+abbrev pub destination : Bool → List Begun → Destination
+destination takes_the (b ∷ outer) = to.Input
+destination true [] = to.Text
+destination false [] = to.Input
 
 -- whether an expansion reads a file's name: an \input there ends it, as it does where the caller takes one (section 378)
 abbrev pub reads_file : Scanned → Bool
@@ -363,7 +372,7 @@ expands w wanted t r (expandable.Convert conversion.Token) = begins (begun.Print
 expands w wanted t r (expandable.Convert conversion.Meaning) = begins (begun.Print printed.Meaning) r
 expands w wanted t r (expandable.Convert conversion.JobName) = replaced (as_tokens (job_name r.job)) r
 expands w wanted t r (expandable.Convert conversion.FontName) = reads w scanned.Font [] r
-expands w wanted t r expandable.The = reads w (scanned.Quantity (for_text wanted.takes_the r.begun)) [] r
+expands w wanted t r expandable.The = reads w (scanned.Quantity (destination wanted.takes_the r.begun)) [] r
 expands w wanted t r expandable.Input = if wanted.names || is_finding r.begun then returned (token.FrozenRelax ∷ t ∷ []) r else reads w scanned.File [] r
 expands w wanted t r expandable.EndInput = ended (put_close r)
 expands w wanted t r (expandable.Test test) = reads w (scanned.Test test w.mode) [] (with_conditionals (Testing (is_case test) ∷ r.conditionals) r)
@@ -518,11 +527,12 @@ front_read w wanted r (front.Held t) = met w wanted (held (record { token = t; m
 front_read w wanted r front.Marker = Goes answer.Marked r
 front_read w wanted r (front.PartEnd U) = Goes answer.Went r
 front_read w wanted r (front.PartEnd V) = part_ended w wanted r
-front_read w wanted r (front.Used close) = Goes (answer.Used close) r
-front_read w wanted r front.E1 = Fails InvalidCharacter
+front_read w wanted r (front.Used false) = Goes answer.LineUsed r
+front_read w wanted r (front.Used true) = Goes answer.FileUsed r
+front_read w wanted r front.InvalidCharacter = Fails InvalidCharacter
 
 abbrev pub with_front : World → Wanted → Reader → Step → Turn
-with_front w wanted r next = front_read w wanted (record { input = next.left; begun = r.begun; conditionals = r.conditionals; job = r.job }) next.next
+with_front w wanted r next = front_read w wanted (with_input next.left r) next.next
 
 -- whether the first line of a file is awaited
 abbrev pub is_opening : List Begun → Bool
@@ -531,7 +541,7 @@ is_opening other = false
 
 -- a turn; the first line of the file that \input opened is asked for before anything else, also behind \endinput (section 538)
 abbrev pub turn : World → Wanted → Reader → Turn
-turn w wanted r = if is_opening r.begun then Goes (answer.Used false) r else with_front w wanted r (step w.codes r.input)
+turn w wanted r = if is_opening r.begun then Goes answer.LineUsed r else with_front w wanted r (step w.codes r.input)
 
 -- the innermost file has ended
 abbrev pub file_ended : Bool → Reader → Option TexError

@@ -75,8 +75,8 @@ depth_value None = Absent
 depth_value (Some depth) = Dimen depth
 
 -- whether a magnification may be used: 1 to 32768, and the one that was used first (section 288)
-abbrev pub may_be : Option ℤ → ℤ → Bool
-may_be first mag = (int_le (pos 1) mag && int_le mag (pos 32768)) && is_that first mag
+abbrev pub may_magnify : Option ℤ → ℤ → Bool
+may_magnify first mag = (int_le (pos 1) mag && int_le mag (pos 32768)) && is_that first mag
   where
     is_that : Option ℤ → ℤ → Bool
     is_that None mag = true
@@ -84,7 +84,7 @@ may_be first mag = (int_le (pos 1) mag && int_le mag (pos 32768)) && is_that fir
 
 -- \mag, if it may be used
 abbrev pub magnification_value : Option ℤ → ℤ → Value
-magnification_value first mag = if may_be first mag then Magnification (unsigned_abs mag) else Absent
+magnification_value first mag = if may_magnify first mag then Magnification (unsigned_abs mag) else Absent
 
 -- the table, the lists, what is kept of pages, \badness, the magnification if it is used, the fonts, and whether a word is open, without the loans
 pub record Lent : Type 0 where

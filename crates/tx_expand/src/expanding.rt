@@ -1,5 +1,5 @@
 //! What a token makes of what is open.
-ghost use Rattle.std.specs.Prelude.{◌≡◌, ◌||◌, ◌∷◌, ◌++◌, [], true, false, List, ℕ, IfOk, OnOk};
+ghost use Rattle.std.specs.Prelude.{◌≡◌, ◌||◌, ◌∷◌, ◌++◌, [], reverse, true, false, List, ℕ, IfOk, OnOk};
 ghost use Rattle.tx_char.specs.declared.tokens.Token.{Token as Any_token};
 ghost use Rattle.tx_cond.specs.Conditionals.{meeting};
 ghost use Rattle.tx_cond.specs.declared.types.Conditional.{Conditional};
@@ -22,15 +22,15 @@ use crate::known::Known;
 use crate::part::Part;
 use crate::printing::push_printed;
 use crate::scanning::Scanning;
-use crate::state::Open;
+use crate::state::Expander;
 use crate::step::Step;
-use crate::types::{Expanded, Made, Printed, Read, Scanned, Wanted};
+use crate::types::{Destination, Expanded, Made, Printed, Read, Scanned, Wanted};
 use crate::using::Using;
 use std::alloc::{AllocError, Global};
-use std::collections::VecDeque;
 use tx_char::{Cat, ControlName, Token};
 use tx_cond::{Meet, SkipItem, Skipper};
 use tx_convert::{push_font_name, push_job_name};
+use tx_list::Stack;
 use tx_pending::{ColumnPart, Pending};
 use tx_prim::{
     AlignWord, CondWord, Conversion, EntryEnd, Expandable, MarkKind, Mode, Primitive, Test,
@@ -40,44 +40,44 @@ use tx_seen::{Fed, FontName, Meaning, Place, Seen, TexError, Want};
 use tx_toklist::{Macro, TokList, Toks, begins_group};
 
 /// The token that the innermost expansion holds back, if it does. Its only error is that no more owners can be counted.
-fn held_back(begun: &VecDeque<Begun>) -> Result<Option<Token>, AllocError>
-    ensures { IfOk result (λ held. held ≡ turns.held_back begun.now.items) }
+fn held_back(begun: &Stack<Begun>) -> Result<Option<Token>, AllocError>
+    ensures { IfOk result (λ held. held ≡ turns.held_back begun.now) }
 {
-    match begun.front() {
+    match begun.first() {
         Some(Begun::Before(token)) => Ok(Some(token.clone()?)),
         _ => Ok(None),
     }
 }
 
 /// A \span that waits for an expansion waits no more.
-fn drop_once(begun: &mut VecDeque<Begun>)
-    ensures { begun.new.items ≡ turns.without_once begun.old.items }
+fn drop_once(begun: &mut Stack<Begun>)
+    ensures { begun.new ≡ turns.without_once begun.old }
 {
-    if matches!(begun.front(), Some(Begun::Once)) {
-        begun.pop_front();
+    if matches!(begun.first(), Some(Begun::Once)) {
+        begun.drop_first();
     }
 }
 
 /// Puts what \expandafter held back before an expansion that has ended at the front of the input; a \span that waits for it
 /// waits no more. Its only error is want of memory.
-fn release(begun: &mut VecDeque<Begun>, input: &mut Pending) -> Result<(), AllocError>
-    ensures { (conditionals : List Conditional) (job : List ℕ) → OnOk result (reader begun.new.items input.new conditionals job ≡ released (reader begun.old.items input.old conditionals job)) }
+fn release(begun: &mut Stack<Begun>, input: &mut Pending) -> Result<(), AllocError>
+    ensures { (conditionals : List Conditional) (job : List ℕ) → OnOk result (reader begun.new input.new conditionals job ≡ released (reader begun.old input.old conditionals job)) }
 {
     while let Some(token) = held_back(begun)? {
-        begun.pop_front();
+        begun.drop_first();
         input.give_back(token)?;
     }
     drop_once(begun);
     Ok(())
 }
 
-/// Whether the tokens of \the belong to the text that the caller takes, which takes such or not.
-fn for_text(text: bool, begun: &VecDeque<Begun>) -> bool
-    ensures { result ≡ turns.for_text text begun.now.items }
+/// Where the tokens of \the go: to the text that the caller takes, where it takes such, and nothing else has begun.
+fn destination(takes_the: bool, begun: &Stack<Begun>) -> Destination
+    ensures { result ≡ turns.destination takes_the begun.now }
 {
-    match begun.front() {
-        Some(_) => false,
-        None => text,
+    match begun.first() {
+        None if takes_the => Destination::Text,
+        _ => Destination::Input,
     }
 }
 
@@ -98,40 +98,61 @@ fn finds(begun: &Begun) -> bool
     }
 }
 
-/// Whether the innermost expansion reads tokens that are expanded.
-fn is_scanning(begun: &VecDeque<Begun>) -> bool
-    ensures { result ≡ turns.is_scanning begun.now.items }
+/// Whether one of these expansions, the outermost first, reads a file's name.
+fn is_finding(begun: &[Begun]) -> bool
+    ensures { result ≡ turns.is_finding (reverse begun.now) }
 {
-    matches!(begun.front(), Some(Begun::Scanning(_)))
+    let mut place = begun.len();
+    while place > 0 {
+        place -= 1;
+        if finds(&begun[place]) {
+            return true;
+        }
+    }
+    false
+}
+
+/// Whether the innermost expansion reads tokens that are expanded.
+fn is_scanning(begun: &Stack<Begun>) -> bool
+    ensures { result ≡ turns.is_scanning begun.now }
+{
+    matches!(begun.first(), Some(Begun::Scanning(_)))
 }
 
 /// Whether text is skipped.
-fn is_skipping(begun: &VecDeque<Begun>) -> bool
-    ensures { result ≡ turns.is_skipping begun.now.items }
+fn is_skipping(begun: &Stack<Begun>) -> bool
+    ensures { result ≡ turns.is_skipping begun.now }
 {
-    matches!(begun.front(), Some(Begun::Skipping(_)))
+    matches!(begun.first(), Some(Begun::Skipping(_)))
+}
+
+/// Whether skipped text goes on behind an item as it did before.
+fn is_other(item: SkipItem) -> bool
+    ensures { result ≡ turns.is_other item }
+{
+    matches!(item, SkipItem::Other)
 }
 
 /// Whether the innermost expansion is the use of a macro.
-fn is_matching(begun: &VecDeque<Begun>) -> bool
-    ensures { result ≡ turns.is_matching begun.now.items }
+fn is_matching(begun: &Stack<Begun>) -> bool
+    ensures { result ≡ turns.is_matching begun.now }
 {
-    matches!(begun.front(), Some(Begun::Use(_)))
+    matches!(begun.first(), Some(Begun::Use(_)))
 }
 
 /// Whether the innermost expansion is an \expandafter that waits for the token that it holds back.
-fn is_waiting(begun: &VecDeque<Begun>) -> bool
-    ensures { result ≡ turns.is_waiting begun.now.items }
+fn is_waiting(begun: &Stack<Begun>) -> bool
+    ensures { result ≡ turns.is_waiting begun.now }
 {
-    matches!(begun.front(), Some(Begun::After))
+    matches!(begun.first(), Some(Begun::After))
 }
 
 /// From now on it holds this token back, in the same place among those that have begun.
-fn hold_back(begun: &mut VecDeque<Begun>, token: Token)
-    requires { turns.is_waiting begun.old.items ≡ true }
-    ensures { (outer : List Begun) → begun.old.items ≡ Begun.After ∷ outer → begun.new.items ≡ Begun.Before token ∷ outer }
+fn hold_back(begun: &mut Stack<Begun>, token: Token)
+    requires { turns.is_waiting begun.old ≡ true }
+    ensures { (outer : List Begun) → begun.old ≡ Begun.After ∷ outer → begun.new ≡ Begun.Before token ∷ outer }
 {
-    begun[0] = Begun::Before(token);
+    *begun.first_mut() = Begun::Before(token);
 }
 
 /// A token joins what an expansion reads. Its only error is want of memory.
@@ -165,23 +186,23 @@ fn skip_by(begun: &mut Begun, item: SkipItem) -> Result<Fed<CondWord>, AllocErro
 /// A token joins what the innermost expansion reads, where it stands. Its only error is want of memory.
 fn feed_scan(
     alloc: Global,
-    begun: &mut VecDeque<Begun>,
+    begun: &mut Stack<Begun>,
     input: &mut Pending,
     known: &Known,
     token: Seen,
 ) -> Result<Read, AllocError>
-    requires { turns.is_scanning begun.old.items ≡ true }
-    ensures { IfOk result (IsReadFirst (value_now (lent known.now)) begun.old.items token input.old begun.new.items input.new) }
+    requires { turns.is_scanning begun.old ≡ true }
+    ensures { IfOk result (IsReadFirst (value_now (lent known.now)) begun.old token input.old begun.new input.new) }
 {
-    read_by(alloc, &mut begun[0], input, known, token)
+    read_by(alloc, begun.first_mut(), input, known, token)
 }
 
 /// An item joins the text that is skipped, where that stands. Its only error is that no more open conditionals can be counted.
-fn feed_skipper(begun: &mut VecDeque<Begun>, item: SkipItem) -> Result<Fed<CondWord>, AllocError>
-    requires { turns.is_skipping begun.old.items ≡ true }
-    ensures { IfOk result (IsPassedFirst begun.old.items item begun.new.items) }
+fn feed_skipper(begun: &mut Stack<Begun>, item: SkipItem) -> Result<Fed<CondWord>, AllocError>
+    requires { turns.is_skipping begun.old ≡ true }
+    ensures { IfOk result (IsPassedFirst begun.old item begun.new) }
 {
-    skip_by(&mut begun[0], item)
+    skip_by(begun.first_mut(), item)
 }
 
 /// A token joins the use of a macro, if an argument goes on with it; else nothing changes. Its only error is want of memory.
@@ -199,17 +220,17 @@ fn join_by(begun: &mut Begun, token: &Token) -> Result<bool, AllocError>
 /// A token joins the use of a macro that is the innermost expansion, where that stands, if an argument goes on with it; else
 /// nothing changes. Its only error is want of memory.
 #[inline(always)]
-fn join_first(begun: &mut VecDeque<Begun>, token: &Token) -> Result<bool, AllocError>
-    requires { turns.is_matching begun.old.items ≡ true }
-    ensures { IfOk result (λ joined. IsJoinedFirst begun.old.items token.now joined begun.new.items) }
+fn join_first(begun: &mut Stack<Begun>, token: &Token) -> Result<bool, AllocError>
+    requires { turns.is_matching begun.old ≡ true }
+    ensures { IfOk result (λ joined. IsJoinedFirst begun.old token.now joined begun.new) }
 {
-    join_by(&mut begun[0], token)
+    join_by(begun.first_mut(), token)
 }
 
 /// The same, whatever the innermost expansion is: where it is no use of a macro nothing changes. Its only error is want of memory.
 #[inline(always)]
-fn join_use(begun: &mut VecDeque<Begun>, token: &Token) -> Result<bool, AllocError>
-    ensures { IfOk result (λ joined. HasUseJoined begun.old.items token.now joined begun.new.items) }
+fn join_use(begun: &mut Stack<Begun>, token: &Token) -> Result<bool, AllocError>
+    ensures { IfOk result (λ joined. HasUseJoined begun.old token.now joined begun.new) }
 {
     if !is_matching(begun) {
         return Ok(false);
@@ -217,12 +238,12 @@ fn join_use(begun: &mut VecDeque<Begun>, token: &Token) -> Result<bool, AllocErr
     join_first(begun, token)
 }
 
-impl Open {
+impl Expander {
     /// An expansion begins. Its only error is want of memory.
     fn begin(&mut self, begun: Begun) -> Result<Expanded, AllocError>
         ensures { (input : Input) → IfOk result (IsTurned (begins begun (reader_of self.old input)) (reader_of self.new input)) }
     {
-        self.begun.push_front(begun)?;
+        self.begun.push(begun)?;
         Ok(Expanded::Went)
     }
 
@@ -243,7 +264,7 @@ impl Open {
     ) -> Result<Expanded, AllocError>
         ensures { IfOk result (IsTurned (replaced tokens (reader_of self.old input.old)) (reader_of self.new input.new)) }
     {
-        input.push_list(TokList::from_toks(alloc, tokens)?, false)?;
+        input.push_list(TokList::from_toks(alloc, tokens)?)?;
         self.went(input)
     }
 
@@ -310,18 +331,21 @@ impl Open {
         alloc: Global,
         input: &mut Pending,
         known: &Known,
-        text: bool,
+        to: Destination,
         place: &Place,
     ) -> Result<Expanded, AllocError>
-        ensures { IfOk result (IsTurned (listed text (tokens_at (lent known.now).table.table place.now) (reader_of self.old input.old)) (reader_of self.new input.new)) }
+        ensures { IfOk result (IsTurned (listed to (tokens_at (lent known.now).table.table place.now) (reader_of self.old input.old)) (reader_of self.new input.new)) }
     {
         let tokens = known.table.tokens(place)?;
-        if text {
-            release(&mut self.begun, input)?;
-            Ok(Expanded::Text(Toks::from_slice(alloc, tokens.as_slice())?))
-        } else {
-            input.push_list(tokens, false)?;
-            self.went(input)
+        match to {
+            Destination::Input => {
+                input.push_list(tokens)?;
+                self.went(input)
+            }
+            Destination::Text => {
+                release(&mut self.begun, input)?;
+                Ok(Expanded::Text(Toks::from_slice(alloc, tokens.as_slice())?))
+            }
         }
     }
 
@@ -332,17 +356,18 @@ impl Open {
         alloc: Global,
         input: &mut Pending,
         known: &Known,
-        text: bool,
+        to: Destination,
         font: FontName,
     ) -> Result<Expanded, AllocError>
-        ensures { (any : Any_mode) → IfOk result (IsTurned (come (world_of (lent known.now) any) (Made.Identifier text font) (reader_of self.old input.old)) (reader_of self.new input.new)) }
+        ensures { (any : Any_mode) → IfOk result (IsTurned (come (world_of (lent known.now) any) (Made.Identifier to font) (reader_of self.old input.old)) (reader_of self.new input.new)) }
     {
         let tokens = Toks::one(alloc, Token::FontIdentifier(known.font_number(font)))?;
-        if text {
-            release(&mut self.begun, input)?;
-            Ok(Expanded::Text(tokens))
-        } else {
-            self.replace(alloc, input, tokens)
+        match to {
+            Destination::Input => self.replace(alloc, input, tokens),
+            Destination::Text => {
+                release(&mut self.begun, input)?;
+                Ok(Expanded::Text(tokens))
+            }
         }
     }
 
@@ -377,18 +402,18 @@ impl Open {
                 release(&mut self.begun, input)?;
                 Ok(Expanded::Text(tokens))
             }
-            Made::List(text, place) => self.list(alloc, input, known, text, &place),
-            Made::Register(text, number) => match byte(number) {
-                Some(number) => self.list(alloc, input, known, text, &Place::Toks(number)),
+            Made::List(to, place) => self.list(alloc, input, known, to, &place),
+            Made::Register(to, number) => match byte(number) {
+                Some(number) => self.list(alloc, input, known, to, &Place::Toks(number)),
                 None => Ok(Expanded::Wrong(TexError::NumberOutOfRange)),
             },
             Made::Names(name) => self.name(input, known, name),
             Made::Decides(value) => self.decide(input, value),
             Made::Opens(name) => {
-                self.begun.push_front(Begun::Opening)?;
+                self.begun.push(Begun::Opening)?;
                 Ok(Expanded::Asks(name))
             }
-            Made::Identifier(text, font) => self.identify_font(alloc, input, known, text, font),
+            Made::Identifier(to, font) => self.identify_font(alloc, input, known, to, font),
             Made::Font(font) => self.name_font(alloc, input, known, font),
         }
     }
@@ -416,9 +441,9 @@ impl Open {
 
     /// Whether the innermost expansion wants what stands behind a backquote: a number by its code.
     fn wants_constant(&self) -> bool
-        ensures { result ≡ turns.wants_constant self.now.begun.items }
+        ensures { result ≡ turns.wants_constant self.now.begun }
     {
-        match self.begun.front() {
+        match self.begun.first() {
             Some(Begun::Scanning(scanning)) => is_constant(scanning),
             _ => false,
         }
@@ -432,14 +457,14 @@ impl Open {
         known: &Known,
         token: Seen,
     ) -> Result<Expanded, AllocError>
-        requires { turns.is_scanning self.old.begun.items ≡ true }
-        ensures { (any : Any_mode) → IfOk result (IsTurned (given_to (world_of (lent known.now) any) token (reader_of self.old input.old) self.old.begun.items) (reader_of self.new input.new)) }
+        requires { turns.is_scanning self.old.begun ≡ true }
+        ensures { (any : Any_mode) → IfOk result (IsTurned (given_to (world_of (lent known.now) any) token (reader_of self.old input.old) self.old.begun) (reader_of self.new input.new)) }
     {
         count(input, self.wants_constant(), &token)?;
         match feed_scan(alloc, &mut self.begun, input, known, token)? {
             Read::More => Ok(Expanded::Went),
             Read::Made(made) => {
-                self.begun.pop_front();
+                self.begun.drop_first();
                 self.come(alloc, input, known, made)
             }
             Read::Wrong(error) => Ok(Expanded::Wrong(error)),
@@ -470,14 +495,18 @@ impl Open {
 
     /// A token joins skipped text. Its only error is want of memory.
     fn skip_on(&mut self, input: &mut Pending, token: Seen) -> Result<Expanded, AllocError>
-        requires { turns.is_skipping self.old.begun.items ≡ true }
-        ensures { (w : World) → IfOk result (IsTurned (given_to w token (reader_of self.old input.old) self.old.begun.items) (reader_of self.new input.new)) }
+        requires { turns.is_skipping self.old.begun ≡ true }
+        ensures { (w : World) → IfOk result (IsTurned (given_to w token (reader_of self.old input.old) self.old.begun) (reader_of self.new input.new)) }
     {
-        match feed_skipper(&mut self.begun, SkipItem::of(&token.meaning))? {
+        let item = SkipItem::of(&token.meaning);
+        if is_other(item) {
+            return Ok(Expanded::Went);
+        }
+        match feed_skipper(&mut self.begun, item)? {
             Fed::More(_) => Ok(Expanded::Went),
             Fed::Need(_) => unreachable!(),
             Fed::Done(word, _) => {
-                self.begun.pop_front();
+                self.begun.drop_first();
                 self.meet(input, token_of(token), word)
             }
             Fed::Wrong(error) => Ok(Expanded::Wrong(error)),
@@ -509,17 +538,17 @@ impl Open {
         known: &Known,
         token: Seen,
     ) -> Result<Expanded, AllocError>
-        ensures { (any : Any_mode) → IfOk result (IsTurned (given_to (world_of (lent known.now) any) token (reader_of self.old input.old) self.old.begun.items) (reader_of self.new input.new)) }
+        ensures { (any : Any_mode) → IfOk result (IsTurned (given_to (world_of (lent known.now) any) token (reader_of self.old input.old) self.old.begun) (reader_of self.new input.new)) }
     {
         if self.begun.is_empty() {
             return Ok(Expanded::Got(token));
         }
-        self.take_within(alloc, input, known, token)
+        self.take_other(alloc, input, known, token)
     }
 
-    /// The same in a function of its own, so that a token which is the caller's isn't moved on its way through it. Its only
+    /// A token joins an argument where that stands, if this goes on with it, or else the innermost expansion takes it. Its only
     /// error is want of memory.
-    #[inline(never)]
+    #[inline(always)]
     fn take_within(
         &mut self,
         alloc: Global,
@@ -527,7 +556,7 @@ impl Open {
         known: &Known,
         token: Seen,
     ) -> Result<Expanded, AllocError>
-        ensures { (any : Any_mode) → IfOk result (IsTurned (given_to (world_of (lent known.now) any) token (reader_of self.old input.old) self.old.begun.items) (reader_of self.new input.new)) }
+        ensures { (any : Any_mode) → IfOk result (IsTurned (given_to (world_of (lent known.now) any) token (reader_of self.old input.old) self.old.begun) (reader_of self.new input.new)) }
     {
         let joined = join_use(&mut self.begun, &token.token)?;
         if joined {
@@ -536,7 +565,8 @@ impl Open {
         self.take_other(alloc, input, known, token)
     }
 
-    /// The same, of a token with which no argument goes on. Its only error is want of memory.
+    /// The innermost expansion takes a token, or the caller does. It is a function of its own, so that a token which is the
+    /// caller's isn't moved on its way through it. Its only error is want of memory.
     #[inline(never)]
     fn take_other(
         &mut self,
@@ -545,7 +575,7 @@ impl Open {
         known: &Known,
         token: Seen,
     ) -> Result<Expanded, AllocError>
-        ensures { (any : Any_mode) → IfOk result (IsTurned (given_to (world_of (lent known.now) any) token (reader_of self.old input.old) self.old.begun.items) (reader_of self.new input.new)) }
+        ensures { (any : Any_mode) → IfOk result (IsTurned (given_to (world_of (lent known.now) any) token (reader_of self.old input.old) self.old.begun) (reader_of self.new input.new)) }
     {
         if is_scanning(&self.begun) {
             return self.scan_on(alloc, input, known, token);
@@ -557,24 +587,25 @@ impl Open {
             hold_back(&mut self.begun, token_of(token));
             return Ok(Expanded::Went);
         }
-        match self.begun.pop_front() {
+        match self.begun.pop() {
             Some(begun) => self.take_by(alloc, input, known, begun, token),
             None => Ok(Expanded::Got(token)),
         }
     }
 
-    /// Whether the innermost expansion takes characters as they stand, one after the other.
+    /// Whether the innermost expansion takes characters as they stand, one after the other: it is the use of a macro, or text that
+    /// is skipped.
     #[inline(always)]
-    pub(crate) fn takes_characters(&self) -> bool
-        ensures { result ≡ turns.takes_characters self.now.begun.items }
+    pub fn takes_characters(&self) -> bool
+        ensures { result ≡ turns.takes_characters self.now.begun }
     {
         is_matching(&self.begun) || is_skipping(&self.begun)
     }
 
-    /// A character joins the argument that is taken, if that goes on with it, or the text that is skipped, whichever the innermost
-    /// expansion does; answers whether it did. Else nothing changes. Its only error is want of memory.
+    /// A character of this category, which means itself, joins the argument that is taken, if that goes on with it, or the text
+    /// that is skipped; answers whether it did, as a turn does. Else nothing changes. Its only error is want of memory.
     #[inline(always)]
-    pub(crate) fn take_character(&mut self, code: u8, category: Cat) -> Result<bool, AllocError>
+    pub fn take_character(&mut self, code: u8, category: Cat) -> Result<bool, AllocError>
         ensures { IfOk result (λ taken. HasTakenIn self.old (character code category) taken self.new) }
     {
         if is_skipping(&self.begun) {
@@ -618,24 +649,12 @@ impl Open {
         }
     }
 
-    /// Whether an expansion reads a file's name.
-    fn is_finding(&self) -> bool
-        ensures { result ≡ turns.is_finding self.now.begun.items }
-    {
-        for place in 0..self.begun.len() {
-            if finds(&self.begun[place]) {
-                return true;
-            }
-        }
-        false
-    }
-
     /// Whether a file's name is being read, by the caller or by an expansion: an \input there ends it (TeX: The Program, section
     /// 378).
     fn is_naming(&self, wanted: Wanted) -> bool
-        ensures { result ≡ (wanted.names || turns.is_finding self.now.begun.items) }
+        ensures { result ≡ (wanted.names || turns.is_finding self.now.begun) }
     {
-        wanted.names || self.is_finding()
+        wanted.names || is_finding(self.begun.as_slice())
     }
 
     /// The expansion of a primitive, whose token is this. Its only error is want of memory.
@@ -659,7 +678,7 @@ impl Open {
             Expandable::Convert(kind) => self.convert(alloc, input, known, kind),
             Expandable::The => {
                 let what = Scanned::Quantity {
-                    text: for_text(wanted.takes_the, &self.begun),
+                    to: destination(wanted.takes_the, &self.begun),
                 };
                 self.scan(alloc, input, known, what)
             }
@@ -693,7 +712,7 @@ impl Open {
         ensures { (any : Any_mode) → IfOk result (IsTurned (turns.marked ((world_of (lent known.now) any).mark kind) (reader_of self.old input.old)) (reader_of self.new input.new)) }
     {
         if let Some(tokens) = known.pages.marks.get(kind)? {
-            input.push_list(tokens, false)?;
+            input.push_list(tokens)?;
         }
         self.went(input)
     }
@@ -775,9 +794,9 @@ impl Open {
     /// How the next token is wanted.
     #[inline(always)]
     fn want(&self, wanted: Wanted) -> Want
-        ensures { result ≡ turns.wanted_by wanted self.now.begun.items }
+        ensures { result ≡ turns.wanted_by wanted self.now.begun }
     {
-        match self.begun.front() {
+        match self.begun.first() {
             None => wanted.want,
             Some(Begun::Before(_) | Begun::Once) => Want::Expanded,
             Some(Begun::Scanning(scanning)) => scanning.want(),
@@ -785,11 +804,11 @@ impl Open {
         }
     }
 
-    /// The error at an \outer macro and where a file ends.
-    pub(crate) fn incomplete(&self, text: bool) -> Option<TexError>
-        ensures { result ≡ turns.incomplete text self.now.begun.items }
+    /// The error where the innermost file has ended and isn't closed yet, and at an \outer macro; whether the caller takes a text.
+    pub fn ended(&self, text: bool) -> Option<TexError>
+        ensures { result ≡ turns.incomplete text self.now.begun }
     {
-        match self.begun.front() {
+        match self.begun.first() {
             Some(Begun::Skipping(_)) => Some(TexError::IncompleteConditional),
             Some(Begun::Use(_)) => Some(TexError::IncompleteText),
             _ if text => Some(TexError::IncompleteText),
@@ -799,9 +818,9 @@ impl Open {
 
     /// Whether the next token is taken whatever it is.
     fn takes_all(&self) -> bool
-        ensures { result ≡ turns.takes_all self.now.begun.items }
+        ensures { result ≡ turns.takes_all self.now.begun }
     {
-        match self.begun.front() {
+        match self.begun.first() {
             Some(Begun::Hold | Begun::Print(_)) => true,
             Some(Begun::Scanning(scanning)) => matches!(
                 scanning.what(),
@@ -814,10 +833,10 @@ impl Open {
     /// The error that an \outer macro is here.
     #[inline(always)]
     fn refused(&self, text: bool, meaning: &Meaning) -> Option<TexError>
-        ensures { result ≡ turns.refused text meaning.now self.now.begun.items }
+        ensures { result ≡ turns.refused text meaning.now self.now.begun }
     {
         match meaning {
-            Meaning::Macro(made) if made.is_outer() && !self.takes_all() => self.incomplete(text),
+            Meaning::Macro(made) if made.is_outer() && !self.takes_all() => self.ended(text),
             _ => None,
         }
     }
@@ -825,7 +844,7 @@ impl Open {
     /// Whether a token that means this is the caller's, however it wants it.
     #[inline(always)]
     pub(crate) fn passes(&self, meaning: &Meaning) -> bool
-        ensures { result ≡ turns.passes meaning.now self.now.begun.items }
+        ensures { result ≡ turns.passes meaning.now self.now.begun }
     {
         self.begun.is_empty() && is_plain(meaning)
     }
@@ -833,7 +852,7 @@ impl Open {
     /// Whether a macro is used where it comes next: a token is wanted expanded, and the macro isn't \outer.
     #[inline(always)]
     pub(crate) fn expands(&self, wanted: Wanted, made: &Macro) -> bool
-        ensures { result ≡ turns.expands_macro wanted made.now self.now.begun.items }
+        ensures { result ≡ turns.expands_macro wanted made.now self.now.begun }
     {
         !made.is_outer() && matches!(self.want(wanted), Want::Expanded)
     }
@@ -860,8 +879,8 @@ impl Open {
         }
     }
 
-    /// A token is read that isn't the caller's however it wants it. It is large, and stays out of the turns of all others. Its only
-    /// error is want of memory.
+    /// A token is read that isn't the caller's however it wants it. It is large, and stays out of the turns of all others. Its
+    /// only error is want of memory.
     #[inline(never)]
     pub(crate) fn read_other(
         &mut self,
@@ -882,8 +901,31 @@ impl Open {
         }
     }
 
-    /// A token is met: it ends an entry of an alignment, or is read; where it is the caller's however that wants it, nothing else is
-    /// looked at. Its only error is want of memory.
+    /// A token is read within an argument, or text that is skipped: it is taken as it stands, unless it is an \outer macro. Its
+    /// only error is want of memory.
+    #[inline(never)]
+    fn read_within(
+        &mut self,
+        alloc: Global,
+        input: &mut Pending,
+        known: &Known,
+        wanted: Wanted,
+        token: Seen,
+    ) -> Result<Expanded, AllocError>
+        requires { turns.takes_characters self.old.begun ≡ true }
+        ensures { (any : Any_mode) → IfOk result (IsTurned (token_read (world_of (lent known.now) any) wanted token (reader_of self.old input.old)) (reader_of self.new input.new)) }
+    {
+        if let Some(error) = self.refused(wanted.text, &token.meaning) {
+            return Ok(Expanded::Wrong(error));
+        }
+        if is_skipping(&self.begun) {
+            return self.skip_on(input, token);
+        }
+        self.take_within(alloc, input, known, token)
+    }
+
+    /// A token is met: it ends an entry of an alignment, or is read; where it is the caller's however that wants it, nothing else
+    /// is looked at, and within an argument or skipped text only whether it is \outer. Its only error is want of memory.
     #[inline(always)]
     pub(crate) fn met(
         &mut self,
@@ -901,6 +943,9 @@ impl Open {
         }
         if self.passes(&token.meaning) {
             return Ok(Expanded::Got(token));
+        }
+        if self.takes_characters() {
+            return self.read_within(alloc, input, known, wanted, token);
         }
         self.read_other(alloc, input, known, mode, wanted, token)
     }
@@ -943,7 +988,7 @@ impl Open {
     ) -> Result<Expanded, AllocError>
         ensures { (any : Any_mode) → IfOk result (IsTurned (turns.part_ended (world_of (lent known.now) any) wanted (reader_of self.old input.old)) (reader_of self.new input.new)) }
     {
-        if let Some(error) = self.incomplete(wanted.text) {
+        if let Some(error) = self.ended(wanted.text) {
             return Ok(Expanded::Wrong(error));
         }
         match self.want(wanted) {
@@ -964,7 +1009,7 @@ impl Open {
         input: &mut Pending,
         known: &Known,
     ) -> Result<Expanded, AllocError>
-        ensures { (any : Any_mode) → IfOk result (IsTurned (turns.ends_part (world_of (lent known.now) any) (reader_of self.old input.old) self.old.begun.items) (reader_of self.new input.new)) }
+        ensures { (any : Any_mode) → IfOk result (IsTurned (turns.ends_part (world_of (lent known.now) any) (reader_of self.old input.old) self.old.begun) (reader_of self.new input.new)) }
     {
         if self.begun.is_empty() {
             return Ok(Expanded::PartEnded);
@@ -976,27 +1021,29 @@ impl Open {
         self.went(input)
     }
 
-    /// The next token is expanded once. Its only error is want of memory.
-    pub(crate) fn expand_once(&mut self) -> Result<(), AllocError>
+    /// The next token is expanded once, and what comes of it is read as it stands. Its only error is want of memory.
+    pub fn expand_once(&mut self) -> Result<(), AllocError>
         ensures { (input : Input) → OnOk result (reader_of self.new input ≡ turns.expanding_once (reader_of self.old input)) }
     {
-        self.begun.push_front(Begun::Once)?;
+        self.begun.push(Begun::Once)?;
         Ok(())
     }
 
     /// Whether the first line of a file is awaited.
-    pub(crate) fn is_opening(&self) -> bool
-        ensures { result ≡ turns.is_opening self.now.begun.items }
+    #[inline(always)]
+    pub fn is_opening(&self) -> bool
+        ensures { result ≡ turns.is_opening self.now.begun }
     {
-        matches!(self.begun.front(), Some(Begun::Opening))
+        matches!(self.begun.first(), Some(Begun::Opening))
     }
 
-    /// The first line of the file is there, or there is none. Its only error is want of memory.
-    pub(crate) fn line_came(&mut self, input: &mut Pending) -> Result<(), AllocError>
+    /// The first line of the file that \input opened stands in front, or there is none: what \expandafter held back comes
+    /// before it. Its only error is want of memory.
+    pub fn line_came(&mut self, input: &mut Pending) -> Result<(), AllocError>
         ensures { OnOk result (reader_of self.new input.new ≡ turns.opened (reader_of self.old input.old)) }
     {
         if self.is_opening() {
-            self.begun.pop_front();
+            self.begun.drop_first();
             release(&mut self.begun, input)?;
         }
         Ok(())

@@ -10,7 +10,7 @@ ghost use Rattle.tx_scan.specs.Beginnings as beginnings;
 
 use crate::mapping::{decided, font_named, named, number_shown, opened, printed, quantity_shown};
 use crate::part::{Figures, Part};
-use crate::types::{Made, Scanned};
+use crate::types::{Destination, Made, Scanned};
 use std::alloc::{AllocError, Global};
 use tx_cond::TestScan;
 use tx_scan::{
@@ -38,7 +38,7 @@ impl Part {
                 Part::Integer(IntScan::new(alloc), Figures::Roman),
                 Fed::More(Want::Expanded),
             ),
-            Scanned::Quantity { text } => (Part::Quantity { text }, Fed::More(Want::Expanded)),
+            Scanned::Quantity { to } => (Part::Quantity { to }, Fed::More(Want::Expanded)),
             Scanned::Test(kind, mode) => {
                 let mut scan = TestScan::new(alloc);
                 let fed = decided(scan.begin(kind, mode));
@@ -59,11 +59,11 @@ impl Part {
     {
         match self {
             Part::Name(scan) => Ok(named(scan.feed(alloc, token)?)),
-            Part::Quantity { text } => {
-                let text = *text;
-                self.feed_quantity(alloc, text, token)
+            Part::Quantity { to } => {
+                let to = *to;
+                self.feed_quantity(alloc, to, token)
             }
-            Part::Shown(scan, text) => quantity_shown(alloc, *text, scan.feed(token)?),
+            Part::Shown(scan, to) => quantity_shown(alloc, *to, scan.feed(token)?),
             Part::Integer(scan, figures) => printed(alloc, *figures, scan.feed(token)?),
             Part::Test(scan) => Ok(decided(scan.feed(token)?)),
             Part::File(scan) => opened(scan.feed(token)?),
@@ -75,21 +75,21 @@ impl Part {
     fn feed_quantity(
         &mut self,
         alloc: Global,
-        text: bool,
+        to: Destination,
         token: &Seen,
     ) -> Result<Fed<Made>, AllocError>
-        ensures fed { IfOk result (IsRead rest held 1 (λ more. the text (Took token.now ∷ more)) (Took token.now ∷ []) self.new) }
+        ensures fed { IfOk result (IsRead rest held 1 (λ more. the to (Took token.now ∷ more)) (Took token.now ∷ []) self.new) }
         ensures needs { IfOk result (NeedsNoMore 0 (more_needed self.new)) }
     {
         match list_begun(&token.meaning) {
-            ListBegun::At(place) => Ok(Fed::Done(Made::List(text, place), 0)),
+            ListBegun::At(place) => Ok(Fed::Done(Made::List(to, place), 0)),
             ListBegun::Register => {
-                *self = Part::Integer(IntScan::new(alloc), Figures::Register { text });
+                *self = Part::Integer(IntScan::new(alloc), Figures::Register { to });
                 Ok(Fed::More(Want::Expanded))
             }
             ListBegun::Nothing => match token.font_name() {
-                Some(font) => Ok(Fed::Done(Made::Identifier(text, font), 0)),
-                None => self.feed_number(alloc, text, token),
+                Some(font) => Ok(Fed::Done(Made::Identifier(to, font), 0)),
+                None => self.feed_number(alloc, to, token),
             },
         }
     }
@@ -98,15 +98,15 @@ impl Part {
     fn feed_number(
         &mut self,
         alloc: Global,
-        text: bool,
+        to: Destination,
         token: &Seen,
     ) -> Result<Fed<Made>, AllocError>
-        ensures fed { IfOk result (IsRead rest held 1 (λ more. quantity text (beginnings.beginning token.now) more) (Took token.now ∷ []) self.new) }
+        ensures fed { IfOk result (IsRead rest held 1 (λ more. quantity to (beginnings.beginning token.now) more) (Took token.now ∷ []) self.new) }
         ensures needs { IfOk result (NeedsNoMore 0 (more_needed self.new)) }
     {
         let mut scan = QuantityScan::new(alloc);
         let fed = match beginning(token) {
-            Beginning::Number(number) => return number_shown(alloc, text, number),
+            Beginning::Number(number) => return number_shown(alloc, to, number),
             Beginning::At(place) => scan.begin_at(place),
             Beginning::Numbered(kind) => scan.begin_behind(Sought::Numbered(kind)),
             Beginning::FontDimen => scan.begin_parameter(),
@@ -118,8 +118,8 @@ impl Part {
                 return Ok(Fed::Wrong(TexError::NoAssignment));
             }
         };
-        *self = Part::Shown(scan, text);
-        quantity_shown(alloc, text, fed)
+        *self = Part::Shown(scan, to);
+        quantity_shown(alloc, to, fed)
     }
 
     /// Takes the value that it needs. Its only error is want of memory.
@@ -130,7 +130,7 @@ impl Part {
         match self {
             Part::Name(_) => Ok(Fed::Wrong(TexError::BadName)),
             Part::Quantity { .. } => Ok(Fed::Wrong(TexError::NoAssignment)),
-            Part::Shown(scan, text) => quantity_shown(alloc, *text, scan.give(value)),
+            Part::Shown(scan, to) => quantity_shown(alloc, *to, scan.give(value)),
             Part::Integer(scan, figures) => printed(alloc, *figures, scan.give(value)),
             Part::Test(scan) => Ok(decided(scan.give(value)?)),
             Part::File(_) | Part::Font(_) => Ok(Fed::Wrong(TexError::MissingName)),

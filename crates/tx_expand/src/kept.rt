@@ -1,10 +1,9 @@
 //! What has begun can be kept: a second one like it can be made, and two of them can be compared.
-ghost use Rattle.std.specs.Prelude.{◌≡◌, ◌↔◌, IfOk, IsTrue};
+ghost use Rattle.std.specs.Prelude.{◌≡◌};
 
 use crate::begun::Begun;
 use crate::part::Part;
-use std::alloc::{AllocError, Global};
-use std::collections::VecDeque;
+use std::alloc::AllocError;
 use tx_list::Kept;
 
 /// A clone has read the same. Its only error is want of memory.
@@ -14,8 +13,8 @@ impl Clone for Part {
     fn clone(&self) -> Result<Self, AllocError> {
         match self {
             Part::Name(scan) => Ok(Part::Name(scan.clone()?)),
-            Part::Quantity { text } => Ok(Part::Quantity { text: *text }),
-            Part::Shown(scan, text) => Ok(Part::Shown(scan.clone()?, *text)),
+            Part::Quantity { to } => Ok(Part::Quantity { to: *to }),
+            Part::Shown(scan, to) => Ok(Part::Shown(scan.clone()?, *to)),
             Part::Integer(scan, figures) => Ok(Part::Integer(scan.clone()?, *figures)),
             Part::Test(scan) => Ok(Part::Test(scan.clone()?)),
             Part::File(scan) => Ok(Part::File(scan.clone()?)),
@@ -53,33 +52,4 @@ impl Kept for Begun {
             _ => false,
         }
     }
-}
-
-/// Whether both have begun the same.
-pub(crate) fn same_begun(one: &VecDeque<Begun>, other: &VecDeque<Begun>) -> bool
-    ensures { IsTrue result ↔ (one.now.items ≡ other.now.items) }
-{
-    if one.len() != other.len() {
-        return false;
-    }
-    for place in 0..one.len() {
-        if !one[place].same(&other[place]) {
-            return false;
-        }
-    }
-    true
-}
-
-/// The same once more. Its only error is want of memory.
-pub(crate) fn share_begun(
-    alloc: Global,
-    begun: &VecDeque<Begun>,
-) -> Result<VecDeque<Begun>, AllocError>
-    ensures { IfOk result (λ shared. shared.items ≡ begun.now.items) }
-{
-    let mut shared = VecDeque::new(alloc);
-    for place in 0..begun.len() {
-        shared.push_back(begun[place].share()?)?;
-    }
-    Ok(shared)
 }

@@ -27,11 +27,11 @@ mod using;
 mod values;
 
 pub use begun::Begun;
-pub use expander::Expander;
 pub use expanding::{entry_end, part_end};
 pub use known::Known;
 pub use printing::escape_of;
 pub use scanning::Scanning;
-pub use types::{Expanded, Made, Printed, Read, Scanned, Wanted};
+pub use state::Expander;
+pub use types::{Destination, Expanded, Made, Printed, Read, Scanned, Wanted};
 pub use using::Using;
-pub use values::may_be;
+pub use values::may_magnify;

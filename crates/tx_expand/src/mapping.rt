@@ -9,7 +9,7 @@ ghost use Rattle.tx_scan.specs.FileNames as files;
 ghost use Rattle.tx_expand.specs.declared.types.Made.TheVariants as made;
 
 use crate::part::Figures;
-use crate::types::Made;
+use crate::types::{Destination, Made};
 use std::alloc::{AllocError, Global};
 use tx_bytes::Bytes;
 use tx_char::ControlName;
@@ -100,29 +100,33 @@ fn made_of(alloc: Global, figures: Figures, number: i64) -> Result<Made, AllocEr
             push_roman(&mut tokens, number)?;
             Ok(Made::Puts(tokens))
         }
-        Figures::Register { text } => Ok(Made::Register(text, number)),
+        Figures::Register { to } => Ok(Made::Register(to, number)),
     }
 }
 
 /// A number that a name stands for, as \the prints it. Its only error is want of memory.
-pub(crate) fn number_shown(alloc: Global, text: bool, number: u16) -> Result<Fed<Made>, AllocError>
-    ensures { IfOk result (λ of. of ≡ fed_if (scans.value_shown text (Int (pos number))) 0) }
+pub(crate) fn number_shown(
+    alloc: Global,
+    to: Destination,
+    number: u16,
+) -> Result<Fed<Made>, AllocError>
+    ensures { IfOk result (λ of. of ≡ fed_if (scans.value_shown to (Int (pos number))) 0) }
 {
-    value_shown(alloc, text, &Value::Int(i64::from(number)), 0)
+    value_shown(alloc, to, &Value::Int(i64::from(number)), 0)
 }
 
 /// A quantity as \the prints it. Its only error is want of memory.
 pub(crate) fn quantity_shown(
     alloc: Global,
-    text: bool,
+    to: Destination,
     fed: Fed<Value>,
 ) -> Result<Fed<Made>, AllocError>
-    ensures { IfOk result (λ of. of ≡ settled (scans.value_shown text) fed) }
+    ensures { IfOk result (λ of. of ≡ settled (scans.value_shown to) fed) }
 {
     match fed {
         Fed::More(want) => Ok(Fed::More(want)),
         Fed::Need(kind) => Ok(Fed::Need(kind)),
-        Fed::Done(value, back) => value_shown(alloc, text, &value, back),
+        Fed::Done(value, back) => value_shown(alloc, to, &value, back),
         Fed::Wrong(error) => Ok(Fed::Wrong(error)),
     }
 }
@@ -131,11 +135,11 @@ pub(crate) fn quantity_shown(
 /// want of memory.
 fn value_shown(
     alloc: Global,
-    text: bool,
+    to: Destination,
     value: &Value,
     back: usize,
 ) -> Result<Fed<Made>, AllocError>
-    ensures { IfOk result (λ of. of ≡ fed_if (scans.value_shown text value.now) back) }
+    ensures { IfOk result (λ of. of ≡ fed_if (scans.value_shown to value.now) back) }
 {
     let mut tokens = Toks::new(alloc);
     match value {
@@ -147,16 +151,15 @@ fn value_shown(
             return Ok(Fed::Wrong(TexError::NoAssignment));
         }
     }
-    Ok(Fed::Done(shown(text, tokens), back))
+    Ok(Fed::Done(shown(to, tokens), back))
 }
 
 /// The characters that \the prints: they are put in, or belong to a text.
-fn shown(text: bool, tokens: Toks) -> Made
-    ensures { result ≡ scans.shown text tokens }
+fn shown(to: Destination, tokens: Toks) -> Made
+    ensures { result ≡ scans.shown to tokens }
 {
-    if text {
-        Made::Gives(tokens)
-    } else {
-        Made::Puts(tokens)
+    match to {
+        Destination::Input => Made::Puts(tokens),
+        Destination::Text => Made::Gives(tokens),
     }
 }

@@ -1,4 +1,5 @@
 //! How far the reading of an expansion is.
+use crate::types::Destination;
 use tx_cond::TestScan;
 use tx_scan::{ControlNameScan, FileNameScan, FontScan, IntScan, QuantityScan};
 
@@ -9,8 +10,8 @@ pub enum Figures {
     Decimal,
     /// In Roman letters.
     Roman,
-    /// It tells a register of \toks, whose list of tokens stands in its place; whether these belong to that text.
-    Register { text: bool },
+    /// It tells a register of \toks, whose list of tokens goes there.
+    Register { to: Destination },
 }
 
 /// The scan of what an expansion reads.
@@ -18,10 +19,10 @@ pub enum Figures {
 pub enum Part {
     /// The name behind \csname.
     Name(ControlNameScan),
-    /// The first token behind \the.
-    Quantity { text: bool },
-    /// What stands at a place, and is printed with its units; whether its tokens belong to the text that the caller takes.
-    Shown(QuantityScan, bool),
+    /// The first token behind \the, whose tokens go there.
+    Quantity { to: Destination },
+    /// What stands at a place, is printed with its units, and goes there.
+    Shown(QuantityScan, Destination),
     /// An integer that is printed.
     Integer(IntScan, Figures),
     /// The test of a conditional.

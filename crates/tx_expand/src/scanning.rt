@@ -130,22 +130,34 @@ impl Scanning {
             Ok(Fed::Need(_)) => unreachable!(),
             Ok(Fed::Done(made, back)) => {
                 let given = give_back(&mut self.taken, input, back);
-                self.what = Scanned::Name;
-                self.want = Want::Expanded;
-                forget(alloc, &mut self.taken, &mut self.part);
+                forget(
+                    alloc,
+                    &mut self.what,
+                    &mut self.taken,
+                    &mut self.want,
+                    &mut self.part,
+                );
                 given?;
                 Ok(Read::Made(made))
             }
             Ok(Fed::Wrong(error)) => {
-                self.what = Scanned::Name;
-                self.want = Want::Expanded;
-                forget(alloc, &mut self.taken, &mut self.part);
+                forget(
+                    alloc,
+                    &mut self.what,
+                    &mut self.taken,
+                    &mut self.want,
+                    &mut self.part,
+                );
                 Ok(Read::Wrong(error))
             }
             Err(error) => {
-                self.what = Scanned::Name;
-                self.want = Want::Expanded;
-                forget(alloc, &mut self.taken, &mut self.part);
+                forget(
+                    alloc,
+                    &mut self.what,
+                    &mut self.taken,
+                    &mut self.want,
+                    &mut self.part,
+                );
                 Err(error)
             }
         }
@@ -153,10 +165,18 @@ impl Scanning {
 }
 
 /// Forgets what was taken, as if a name were to be read.
-fn forget(alloc: Global, taken: &mut Items<Item>, part: &mut Part)
-    ensures { IsAt Scanned.Name taken.new Want.Expanded part.new }
+fn forget(
+    alloc: Global,
+    what: &mut Scanned,
+    taken: &mut Items<Item>,
+    want: &mut Want,
+    part: &mut Part,
+)
+    ensures { IsAt what.new taken.new want.new part.new }
 {
+    *what = Scanned::Name;
     taken.clear();
+    *want = Want::Expanded;
     *part = Part::Name(ControlNameScan::new(alloc));
 }
 

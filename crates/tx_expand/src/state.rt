@@ -1,13 +1,14 @@
-//! What is open.
+//! What the expander keeps.
 use crate::begun::Begun;
-use std::collections::VecDeque;
 use tx_bytes::Bytes;
 use tx_cond::CondStack;
+use tx_list::Stack;
 
-/// What is open: the expansions and the conditionals, the innermost first each; and the main file's name.
+/// What stands between the input and the one who carries commands out: the expansions that have begun and haven't ended, and the
+/// conditionals that are open, the innermost first each; and the main file's name.
 #[derive(Drop)]
-pub struct Open {
-    pub(crate) begun: VecDeque<Begun>,
+pub struct Expander {
+    pub(crate) begun: Stack<Begun>,
     pub(crate) conditionals: CondStack,
     pub(crate) job: Bytes,
 }

@@ -30,6 +30,15 @@ pub enum Printed {
     Meaning,
 }
 
+/// Where the tokens go that \the gives.
+#[derive(Clone, Copy, PartialEq, Eq)]
+pub enum Destination {
+    /// They are put into the input.
+    Input,
+    /// They belong to the text that the caller takes, and aren't expanded again (TeX: The Program, section 478).
+    Text,
+}
+
 /// What an expansion reads off tokens that are expanded.
 #[derive(Clone, Copy, PartialEq, Eq)]
 pub enum Scanned {
@@ -39,8 +48,8 @@ pub enum Scanned {
     Number,
     /// \romannumeral: an integer, to be printed in Roman letters.
     Roman,
-    /// \the: what stands at a place; whether its tokens belong to the text that the caller takes.
-    Quantity { text: bool },
+    /// \the: what stands at a place, and where its tokens go.
+    Quantity { to: Destination },
     /// The test of a conditional, in this mode.
     Test(Test, Mode),
     /// \input: a file's name.
@@ -56,12 +65,12 @@ pub enum Made {
     Puts(Toks),
     /// They belong to the text that the caller takes, and aren't expanded again.
     Gives(Toks),
-    /// The list of tokens at this place does the one or the other; whether it belongs to that text.
-    List(bool, Place),
+    /// The list of tokens at this place goes there.
+    List(Destination, Place),
     /// So does that of the register of \toks of this number.
-    Register(bool, i64),
+    Register(Destination, i64),
     /// So does the identifier of this font.
-    Identifier(bool, FontName),
+    Identifier(Destination, FontName),
     /// This name stands in its place, and means \relax from now on if it had no meaning.
     Names(ControlName),
     /// The innermost test has this value.
@@ -100,8 +109,10 @@ pub enum Expanded {
     EndsEntry(EntryEnd),
     /// What the column has behind the entry is read to its end.
     PartEnded,
-    /// The line is used up; whether \endinput came since the last such answer.
-    Used(bool),
+    /// The line is used up, or there is none: another one is asked for.
+    LineUsed,
+    /// The line is used up, and \endinput came since the last one was: the file is to be closed.
+    FileUsed,
     /// The file of this name is asked for.
     Asks(Bytes),
     /// This error comes.

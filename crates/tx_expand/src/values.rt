@@ -157,8 +157,8 @@ fn integer_value(fonts: &Fonts, kind: FontNumber, font: u8) -> Value
 }
 
 /// Whether this magnification may be used: 1 to 32768, and the one that was used first (TeX: The Program, section 288).
-pub fn may_be(first: Option<i32>, magnification: i32) -> bool
-    ensures known { result ≡ spec.may_be first magnification }
+pub fn may_magnify(first: Option<i32>, magnification: i32) -> bool
+    ensures known { result ≡ spec.may_magnify first magnification }
     ensures least { IsTrue result → pos 1 ≤ℤ magnification }
     ensures greatest { IsTrue result → magnification ≤ℤ pos 32768 }
 {
@@ -169,7 +169,7 @@ pub fn may_be(first: Option<i32>, magnification: i32) -> bool
 fn magnification_value(first: Option<i32>, magnification: i32) -> Value
     ensures { result ≡ spec.magnification_value first magnification }
 {
-    if may_be(first, magnification) {
+    if may_magnify(first, magnification) {
         Value::Magnification(magnification as u16)
     } else {
         Value::Absent

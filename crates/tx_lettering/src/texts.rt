@@ -165,8 +165,7 @@ fn change_letters(
     ensures { IfOk result (λ event. IsStepped (spec.lettering (state_of s.old) upper tokens) s.old event s.new) }
 {
     let changed = with_letters(alloc, &s.table, code_for(upper), tokens)?;
-    s.input
-        .push_list(TokList::from_toks(alloc, changed)?, false)?;
+    s.input.push_list(TokList::from_toks(alloc, changed)?)?;
     Ok(Event::Went)
 }
 

@@ -1,5 +1,6 @@
 //! The list.
 ghost use Rattle.std.specs.Prelude.{◌≡◌, ◌↔◌, ◌∷◌, ◌++◌, ◌<◌, ◌-◌, [], if◌then◌else◌, is_ok, length, slice_index_or, slice_set, take, IsTrue, IfOk, OnOk, OnErr, MatchOption};
+ghost use Rattle.std.specs.Borrow.{sem};
 
 use crate::kept::Kept;
 use std::alloc::{AllocError, Global};
@@ -20,6 +21,8 @@ impl<T> Model for Items<T> {
 }
 
 impl<T> Items<T> {
+    ghost use Rattle.tx_list.specs.Lending.{LendsItem};
+
     /// No values; takes no memory.
     pub fn new(alloc: Global) -> Items<T>
         ensures { result ≡ [] }
@@ -49,6 +52,16 @@ impl<T> Items<T> {
         ensures { result.now ≡ self.now }
     {
         self.values.as_slice()
+    }
+
+    /// The value at this place, counted from 0, lent to be changed.
+    #[inline(always)]
+    pub fn item_mut(&mut self, place: usize) -> &mut T
+        requires { place < length self.old }
+        ensures* writes_back { sem 𝓛 (LendsItem T.row self.entry place result) }
+        ensures value { result.now ≡ slice_index_or self.old place result.now }
+    {
+        &mut self.values[place]
     }
 
     /// How many there are.

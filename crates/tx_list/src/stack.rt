@@ -1,5 +1,6 @@
 //! The stack.
-ghost use Rattle.std.specs.Prelude.{◌≡◌, ◌↔◌, ◌∷◌, [], length, option_copied, slice_get, IsTrue, IfOk, OnOk, OnErr, MatchOption};
+ghost use Rattle.std.specs.Prelude.{◌≡◌, ◌↔◌, ◌∷◌, ◌<◌, [], drop, length, option_copied, reverse, slice_get, slice_index_or, IsTrue, IfOk, OnOk, OnErr, MatchOption};
+ghost use Rattle.std.specs.Borrow.{sem};
 
 use crate::items::Items;
 use crate::kept::Kept;
@@ -21,6 +22,8 @@ impl<T> Model for Stack<T> {
 }
 
 impl<T> Stack<T> {
+    ghost use Rattle.tx_list.specs.Lending.{LendsFirst};
+
     /// No values; takes no memory.
     pub fn new(alloc: Global) -> Stack<T>
         ensures { result ≡ [] }
@@ -44,7 +47,26 @@ impl<T> Stack<T> {
         self.oldest_first.is_empty()
     }
 
+    /// The values, lent, the oldest first.
+    pub fn as_slice(&self) -> &[T]
+        ensures { reverse result.now ≡ self.now }
+    {
+        self.oldest_first.as_slice()
+    }
+
+    /// The newest value, lent to be changed.
+    #[inline(always)]
+    pub fn first_mut(&mut self) -> &mut T
+        requires { 0 < length self.old }
+        ensures* writes_back { sem 𝓛 (LendsFirst T.row self.entry result) }
+        ensures value { result.now ≡ slice_index_or self.old 0 result.now }
+    {
+        let last = self.oldest_first.len() - 1;
+        self.oldest_first.item_mut(last)
+    }
+
     /// The newest value, lent, if there is one.
+    #[inline(always)]
     pub fn first(&self) -> Option<&T>
         ensures { option_copied result ≡ slice_get self.now 0 }
     {
@@ -66,6 +88,13 @@ impl<T: Drop> Stack<T> {
         ensures err { OnErr result (self.new ≡ self.old) }
     {
         self.oldest_first.push(value)
+    }
+
+    /// Drops the newest value, if there is one.
+    pub fn drop_first(&mut self)
+        ensures { self.new ≡ drop 1 self.old }
+    {
+        self.oldest_first.pop();
     }
 }
 

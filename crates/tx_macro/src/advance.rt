@@ -125,6 +125,12 @@ pub(crate) fn join_within(
             gathered.taken.push(token.clone()?)?;
             Ok(Some(next))
         }
+        Move::Opens => {
+            let opening = token.clone()?;
+            gathered.taken.push(opening)?;
+            gathered.from = gathered.taken.len();
+            Ok(Some(Kind::Group { depth: 0 }))
+        }
         _ => Ok(None),
     }
 }

@@ -11,7 +11,7 @@ use Rattle.tx_lex.specs.declared.types.ReadState.{ReadState}
 use Rattle.tx_lex.specs.Plain.{IsSet, category_of, code_of, is_set, plain_token, state_behind}
 use Rattle.tx_eqtb.specs.declared.table.Table.{Table}
 use Rattle.tx_eqtb.specs.Table.{token_meaning}
-use Rattle.tx_expand.specs.declared.state.Open.{Open}
+use Rattle.tx_expand.specs.declared.state.Expander.{Expander}
 use Rattle.tx_expand.specs.declared.types.Expanded.TheVariants as answer
 use Rattle.tx_expand.specs.declared.types.Wanted.{Wanted}
 use Rattle.tx_expand.specs.Expanding.{reader, reader_of, world_of}
@@ -99,7 +99,7 @@ text-stays s new t true went k = absurd (cc went)
 text-stays s new t false went k = (ap (λ (x : Option OpenText). meaning_of (record s { text = x })) k, refl)
 
 -- it joins what the innermost expansion takes
-within-turned : (s : State) (first : PlainToken) (new : Open) → IsNext s.table.table.categories s.input first → IsTakenIn s.expander (character (code_of first) (category_of s.table.table.categories first)) new
+within-turned : (s : State) (first : PlainToken) (new : Expander) → IsNext s.table.table.categories s.input first → IsTakenIn s.expander (character (code_of first) (category_of s.table.table.categories first)) new
     → turn (world_of (known_of (state_of s)) s.scan.mode) (wanted_by (state_of s) s.text) (reader_of s.expander s.input) ≡ Goes answer.Went (reader_of new (behind_first (state_behind first) s.input))
 within-turned s first new comes k =
     let codes : List Cat = s.table.table.categories in
@@ -114,13 +114,13 @@ within-turned s first new comes k =
     ∙ none-ended w wanted (character code kind) (reader_of s.expander left) (ap (at_entry (is_at_entry left)) (plain-goes-on codes first comes.set))
     ∙ k.reads w wanted left
 
-within-goes : (s : State) (first : PlainToken) (new : Open) → s.due ≡ [] → IsNext s.table.table.categories s.input first → IsTakenIn s.expander (character (code_of first) (category_of s.table.table.categories first)) new → outcome (Runs (state_of s)) ≡ leaves (record (state_of s) { reader = reader_of new (behind_first (state_behind first) s.input) })
+within-goes : (s : State) (first : PlainToken) (new : Expander) → s.due ≡ [] → IsNext s.table.table.categories s.input first → IsTakenIn s.expander (character (code_of first) (category_of s.table.table.categories first)) new → outcome (Runs (state_of s)) ≡ leaves (record (state_of s) { reader = reader_of new (behind_first (state_behind first) s.input) })
 within-goes s first new due comes k =
     ap (goes_on (state_of s)) due
     ∙ ap (turned (state_of s)) (within-turned s first new comes k)
     ∙ ap (λ (m : Option ℕ). leaves (record (state_of s) { reader = reader_of new (behind_first (state_behind first) s.input); magnification = noted s.magnification m })) k.silent
 
-pub within-gone : (s : State) (first : PlainToken) (code : ℕ) (kind : Cat) (state : ReadState) (new : Open) (input : Input) (taken : Bool) → IsReading s → IsNext s.table.table.categories s.input first → IsFirst s first code kind state → taken ≡ true → HasTakenIn s.expander (character code kind) taken new → input ≡ behind_first state s.input → HasGone Within s (record s { expander = new; input = input })
+pub within-gone : (s : State) (first : PlainToken) (code : ℕ) (kind : Cat) (state : ReadState) (new : Expander) (input : Input) (taken : Bool) → IsReading s → IsNext s.table.table.categories s.input first → IsFirst s first code kind state → taken ≡ true → HasTakenIn s.expander (character code kind) taken new → input ≡ behind_first state s.input → HasGone Within s (record s { expander = new; input = input })
 within-gone s first code kind state new input true reading comes is went k passed =
     let in_new : IsTakenIn s.expander (character (code_of first) (category_of s.table.table.categories first)) new = rw (is.code_is, is.kind_is) at k in
     let input_is : input ≡ behind_first (state_behind first) s.input = passed ∙ ap (λ (r : ReadState). behind_first r s.input) is.behind_is in
@@ -130,6 +130,6 @@ within-gone s first code kind state new input true reading comes is went k passe
     (record { running = reading.running; due = reading.due })
 within-gone s first code kind state new input false reading comes is went k passed = absurd (cc went)
 
-pub within-stays : (s : State) (new : Open) (code : ℕ) (kind : Cat) (taken : Bool) → taken ≡ false → HasTakenIn s.expander (character code kind) taken new → (meaning_of (record s { expander = new }) ≡ meaning_of s) × (s.said ≡ s.said)
+pub within-stays : (s : State) (new : Expander) (code : ℕ) (kind : Cat) (taken : Bool) → taken ≡ false → HasTakenIn s.expander (character code kind) taken new → (meaning_of (record s { expander = new }) ≡ meaning_of s) × (s.said ≡ s.said)
 within-stays s new code kind true went k = absurd (cc went)
 within-stays s new code kind false went k = (ap (λ (r : Reader). meaning_in s.phase (record (state_of s) { reader = r })) (k s.input), refl)

@@ -1,6 +1,7 @@
 -- Turns of characters that join the open command.
 use Rattle.std.proofs.Common.{◌≡◌, ℕ, ◌||◌, ◌++◌, [], Option, Some, None, Result, Ok, Err, IfOk, if◌then◌else◌, refl, ap, sym, subst, ◌∙◌, append-nil}
 use Rattle.tx_char.specs.declared.category.Cat.{Cat}
+use Rattle.tx_expand.specs.declared.state.Expander.{Expander}
 use Rattle.tx_expand.specs.Expanding.{reader}
 use Rattle.tx_lex.specs.declared.types.PlainToken.{PlainToken}
 use Rattle.tx_lex.specs.Plain.{category_of, code_of, state_behind}
@@ -79,7 +80,7 @@ turned-joined s mid new t commanding phase due text begun said goes joined =
         running = joined.phase ∙ phase ∙ commanding.running;
         due = joined.due ∙ due ∙ commanding.due;
         text = joined.text ∙ text ∙ commanding.text;
-        begun = ap (λ e. e.begun.items) (joined.begun ∙ begun) ∙ commanding.begun;
+        begun = ap (λ (e : Expander). e.begun) (joined.begun ∙ begun) ∙ commanding.begun;
       };
     }
 

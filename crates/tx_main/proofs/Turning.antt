@@ -1,6 +1,6 @@
 -- What comes of a turn of the expander by what it answers.
 use Rattle.std.proofs.Common.{◌≡◌, ℕ, ℤ, Option, Result, Ok, Err, IfOk, refl, ap, sym, subst, ◌∙◌}
-use Rattle.tx_expand.specs.declared.state.Open.{Open}
+use Rattle.tx_expand.specs.declared.state.Expander.{Expander}
 use Rattle.tx_expand.specs.declared.types.Expanded.{Expanded as Answer}
 use Rattle.tx_expand.specs.declared.types.Wanted.{Wanted}
 use Rattle.tx_expand.specs.Expanding.{reader_of, world_of}
@@ -27,22 +27,22 @@ turned-known s known mode wanted left given same k =
     subst Holds same k
 
 -- the state once the expander has answered, and the magnification that it took is used
-abbrev pub turned_state : State → Open → Input → Option ℤ → State
+abbrev pub turned_state : State → Expander → Input → Option ℤ → State
 turned_state s expander input used = record s { expander = expander; input = input; magnification = used }
 
 -- the magnification that the innermost expansion took is used
-abbrev pub IsNoted : State → Open → Input → Option ℤ → Type 0
+abbrev pub IsNoted : State → Expander → Input → Option ℤ → Type 0
 IsNoted s expander input used = used ≡ noted s.magnification (magnification_taken (reader_of expander input).begun)
 
-pub reads-on : (s new : State) (expander : Open) (input : Input) (used : Option ℤ) (wanted : Wanted) (given : Answer) (event : Event) → wanted ≡ wanted_by (state_of s) s.text → IsNoted s expander input used → IsTurned (turn (world_of (known_of (state_of s)) s.scan.mode) wanted (reader_of s.expander s.input)) (reader_of expander input) given → IsStepped (answered (state_of (turned_state s expander input used)) given) (turned_state s expander input used) event new → IsStepped (reads (state_of s)) s event new
+pub reads-on : (s new : State) (expander : Expander) (input : Input) (used : Option ℤ) (wanted : Wanted) (given : Answer) (event : Event) → wanted ≡ wanted_by (state_of s) s.text → IsNoted s expander input used → IsTurned (turn (world_of (known_of (state_of s)) s.scan.mode) wanted (reader_of s.expander s.input)) (reader_of expander input) given → IsStepped (answered (state_of (turned_state s expander input used)) given) (turned_state s expander input used) event new → IsStepped (reads (state_of s)) s event new
 reads-on s new expander input used wanted given event wants notes k did =
     rw (turned-by (state_of s) (turn (world_of (known_of (state_of s)) s.scan.mode) (wanted_by (state_of s) s.text) (reader_of s.expander s.input)) (reader_of expander input) given (rw wants at k), sym notes)
     (record { event_is = did.event_is; state_is = did.state_is; said_is = did.said_is })
 
 -- what was found is what the innermost expansion took
-pub notes : (s : State) (expander : Open) (input : Input) (found : Option ℕ) (used : Option ℤ) → found ≡ magnification_taken expander.begun.items → used ≡ noted s.magnification found → IsNoted s expander input used
+pub notes : (s : State) (expander : Expander) (input : Input) (found : Option ℕ) (used : Option ℤ) → found ≡ magnification_taken expander.begun → used ≡ noted s.magnification found → IsNoted s expander input used
 notes s expander input found used is_found is_used = is_used ∙ ap (λ (m : Option ℕ). noted s.magnification m) is_found
 
-pub reads-by : {E : Type 0} (s new : State) (expander : Open) (input : Input) (used : Option ℤ) (mode : Mode) (wanted : Wanted) (given : Answer) (answer : Result Event E) → mode ≡ s.scan.mode → wanted ≡ wanted_by (state_of s) s.text → IsNoted s expander input used → IsTurned (turn (world_of (known_of (state_of s)) mode) wanted (reader_of s.expander s.input)) (reader_of expander input) given → IfOk answer (λ event. IsStepped (answered (state_of (turned_state s expander input used)) given) (turned_state s expander input used) event new) → IfOk answer (λ event. IsStepped (reads (state_of s)) s event new)
+pub reads-by : {E : Type 0} (s new : State) (expander : Expander) (input : Input) (used : Option ℤ) (mode : Mode) (wanted : Wanted) (given : Answer) (answer : Result Event E) → mode ≡ s.scan.mode → wanted ≡ wanted_by (state_of s) s.text → IsNoted s expander input used → IsTurned (turn (world_of (known_of (state_of s)) mode) wanted (reader_of s.expander s.input)) (reader_of expander input) given → IfOk answer (λ event. IsStepped (answered (state_of (turned_state s expander input used)) given) (turned_state s expander input used) event new) → IfOk answer (λ event. IsStepped (reads (state_of s)) s event new)
 reads-by s new expander input used mode wanted given (Ok event) in_mode wants is_noted k did = reads-on s new expander input used wanted given event wants is_noted (rw in_mode at k) did
 reads-by s new expander input used mode wanted given (Err e) in_mode wants is_noted k did = tt

@@ -27,7 +27,7 @@ pub record IsReading (s : State) : Type 0 where
 pub record IsIdle (s : State) : Type 0 where
   pub running : s.phase ≡ Running
   pub due : s.due ≡ []
-  pub begun : s.expander.begun.items ≡ []
+  pub begun : s.expander.begun ≡ []
 
 -- where turns are taken at one go: in the main loop, which is that of horizontal lists alone, so that a character of a formula takes a
 -- turn of its own; where a text may be open that takes the token (sections 473 and 477); or where an expansion may take it, such as an
@@ -59,7 +59,7 @@ pub record IsCommanding (s : State) : Type 0 where
   pub running : s.phase ≡ Running
   pub due : s.due ≡ []
   pub text : s.text ≡ None
-  pub begun : s.expander.begun.items ≡ []
+  pub begun : s.expander.begun ≡ []
 
 -- a character comes next, and the open command is begun
 pub record IsNextOf (s : State) (first : PlainToken) : Type 0 where

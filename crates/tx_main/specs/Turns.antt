@@ -110,7 +110,7 @@ part_over s true = taking (before_token (record s { reader = with_end s.reader }
 part_over s false = over (word_ended s)
 
 -- what comes of what the expander answers. Where a line is used up the next one is asked for, or behind \endinput the file is
--- closed; nothing puts a marker into the input, and one would be passed over
+-- closed; a marker that is read outside \output's end means that its braces don't match
 abbrev pub answered : TexState → Answer → Outcome
 answered s (answer.Got t) = taken_by s t s.text
 answered s (answer.Text tokens) = given_to_text s tokens s.text
@@ -119,8 +119,8 @@ answered s (answer.Relaxes name) = leaves (relaxing s name)
 answered s answer.Marked = Fails UnbalancedOutput
 answered s (answer.EndsEntry word) = ending_entry s word
 answered s answer.PartEnded = part_over s (is_open s)
-answered s (answer.Used false) = Asks Line s
-answered s (answer.Used true) = closes s
+answered s answer.LineUsed = Asks Line s
+answered s answer.FileUsed = closes s
 answered s (answer.Asks name) = Asks (Open name) s
 answered s (answer.Wrong error) = Fails error
 

@@ -212,8 +212,8 @@ fn heed_other(alloc: Global, s: &mut State, answer: Expanded) -> Result<Event, A
         Expanded::EndsEntry(word) => end_entry(alloc, s, word),
         Expanded::PartEnded => end_part(alloc, s),
         Expanded::Relaxes(name) => relax_name(s, name),
-        Expanded::Used(false) => Ok(ask(s, AskKind::Line, Ask::Line)),
-        Expanded::Used(true) => Ok(close(s)),
+        Expanded::LineUsed => Ok(ask(s, AskKind::Line, Ask::Line)),
+        Expanded::FileUsed => Ok(close(s)),
         Expanded::Asks(name) => Ok(ask(s, AskKind::Open, Ask::Open(name))),
         Expanded::Wrong(error) => Ok(fail(s, error)),
     }

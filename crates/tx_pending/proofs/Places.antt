@@ -2,10 +2,10 @@
 use Rattle.std.proofs.Common.{◌≡◌, ℕ, zero, suc, ◌+◌, ◌-◌, ◌≤◌, ◌<◌, List, [], ◌∷◌, ◌++◌, length, take, drop, get_or, slice_get, refl, ap, sym, subst, ◌∙◌, arith, Bool, IsTrue, nat_eq, ◌↔◌, ◌⊎◌, inl, inr}
 use Rattle.std.proofs.lemmas.Bool.Decides.{eqb_tells}
 use Rattle.std.proofs.lemmas.List.{take_all, take_more, drop-append-le, drop-drop, drop_all, length-drop, length-append, get_or_read}
-use Rattle.tx_pending.specs.declared.same.Place.{Place}
+use Rattle.tx_pending.specs.declared.same.Position.{Position}
 use Rattle.tx_pending.specs.declared.source.Source.{Source}
 use Rattle.tx_pending.specs.Elements.{Element}
-use Rattle.tx_pending.specs.Sources.{IsAt, IsPlace, IsSettled, ahead, elements_of, stack_elements}
+use Rattle.tx_pending.specs.Sources.{IsAt, IsPosition, IsSettled, ahead, elements_of, stack_elements}
 use Rattle.tx_pending.proofs.StackSteps.{stack_elements-top}
 
 -- only one source is at a place
@@ -13,7 +13,7 @@ pub same-source : (stack : List Source) (i : ℕ) (x y : Source) → i < length 
 same-source stack i x y l p q = get_or_read stack i x l p y ∙ sym q
 
 -- the elements ahead are the rest of those of the source, and then those of the others
-pub ahead-source : (stack : List Source) (place : Place) (x : Source) → place.sources ≤ length stack → IsAt stack place x → place.passed ≤ length (elements_of x) → ahead stack place ≡ drop place.passed (elements_of x) ++ stack_elements (take (place.sources - 1) stack)
+pub ahead-source : (stack : List Source) (place : Position) (x : Source) → place.sources ≤ length stack → IsAt stack place x → place.passed ≤ length (elements_of x) → ahead stack place ≡ drop place.passed (elements_of x) ++ stack_elements (take (place.sources - 1) stack)
 ahead-source stack place x within at inside =
     let some : 0 < place.sources = at.0 in
     let n : place.sources - 1 + 1 ≡ place.sources = omega arith in
@@ -24,22 +24,22 @@ ahead-source stack place x within at inside =
     ∙ drop-append-le place.passed (elements_of x) (stack_elements (take (place.sources - 1) stack)) inside
 
 -- the first place is at the end of the innermost source or before it
-pub first-place : (stack : List Source) → IsPlace stack (record { sources = length stack; passed = 0 })
+pub first-place : (stack : List Source) → IsPosition stack (record { sources = length stack; passed = 0 })
 first-place stack = record { within = omega arith; inside = λ x at. omega arith }
 
 pub first-ahead : (stack : List Source) → ahead stack (record { sources = length stack; passed = 0 }) ≡ stack_elements stack
 first-ahead stack = ap stack_elements (take_all (length stack) stack (omega arith))
 
 -- behind a source of which all is passed come the others
-pub lower-place : (stack : List Source) (place : Place) → IsPlace stack place → 0 < place.sources → IsPlace stack (record { sources = place.sources - 1; passed = 0 })
+pub lower-place : (stack : List Source) (place : Position) → IsPosition stack place → 0 < place.sources → IsPosition stack (record { sources = place.sources - 1; passed = 0 })
 lower-place stack place p some = let w : place.sources ≤ length stack = p.within in record { within = omega arith; inside = λ x at. omega arith }
 
-pub lower-ahead : (stack : List Source) (place : Place) (x : Source) → IsPlace stack place → IsAt stack place x → length (elements_of x) ≤ place.passed → ahead stack (record { sources = place.sources - 1; passed = 0 }) ≡ ahead stack place
+pub lower-ahead : (stack : List Source) (place : Position) (x : Source) → IsPosition stack place → IsAt stack place x → length (elements_of x) ≤ place.passed → ahead stack (record { sources = place.sources - 1; passed = 0 }) ≡ ahead stack place
 lower-ahead stack place x p at all =
     sym (ahead-source stack place x p.within at (p.inside x at) ∙ ap (λ t. t ++ stack_elements (take (place.sources - 1) stack)) (drop_all place.passed (elements_of x) all))
 
 -- a place at which an element stands
-pub settled-some : (stack : List Source) (place : Place) (x : Source) → place.sources ≤ length stack → IsAt stack place x → place.passed < length (elements_of x) → IsSettled stack place
+pub settled-some : (stack : List Source) (place : Position) (x : Source) → place.sources ≤ length stack → IsAt stack place x → place.passed < length (elements_of x) → IsSettled stack place
 settled-some stack place x within at here =
     record {
       within = within;
@@ -50,18 +50,18 @@ settled-some stack place x within at here =
           subst P e here;
     }
 
-pub settled-none : (stack : List Source) (place : Place) → place.sources ≤ length stack → place.sources ≤ 0 → IsSettled stack place
+pub settled-none : (stack : List Source) (place : Position) → place.sources ≤ length stack → place.sources ≤ 0 → IsSettled stack place
 settled-none stack place within none = record { within = within; inside = λ y at. let some : 0 < place.sources = at.0 in absurd (omega arith) }
 
 -- one element on
-pub next-place : (stack : List Source) (place : Place) → IsSettled stack place → IsPlace stack (record { sources = place.sources; passed = place.passed + 1 })
+pub next-place : (stack : List Source) (place : Position) → IsSettled stack place → IsPosition stack (record { sources = place.sources; passed = place.passed + 1 })
 next-place stack place s = record { within = s.within; inside = λ x at. let l : place.passed < length (elements_of x) = s.inside x at in omega arith }
 
-pub next-ahead : (stack : List Source) (place : Place) → ahead stack (record { sources = place.sources; passed = place.passed + 1 }) ≡ drop 1 (ahead stack place)
+pub next-ahead : (stack : List Source) (place : Position) → ahead stack (record { sources = place.sources; passed = place.passed + 1 }) ≡ drop 1 (ahead stack place)
 next-ahead stack place = sym (drop-drop 1 place.passed (stack_elements (take place.sources stack)))
 
 -- something is ahead where an element stands
-pub some-ahead : (stack : List Source) (place : Place) (x : Source) → IsSettled stack place → IsAt stack place x → 0 < length (ahead stack place)
+pub some-ahead : (stack : List Source) (place : Position) (x : Source) → IsSettled stack place → IsAt stack place x → 0 < length (ahead stack place)
 some-ahead stack place x s at =
     let l : place.passed < length (elements_of x) = s.inside x at in
     let e : ahead stack place ≡ drop place.passed (elements_of x) ++ stack_elements (take (place.sources - 1) stack) = ahead-source stack place x s.within at (omega arith) in
@@ -74,13 +74,13 @@ slice_get-front (suc n) (x ∷ xs) ys l = slice_get-front n xs ys (omega arith)
 slice_get-front n [] ys l = absurd (omega arith)
 
 -- the element at a place is the first one ahead
-pub element-ahead : (stack : List Source) (place : Place) (x : Source) → IsSettled stack place → IsAt stack place x → slice_get (ahead stack place) 0 ≡ slice_get (elements_of x) place.passed
+pub element-ahead : (stack : List Source) (place : Position) (x : Source) → IsSettled stack place → IsAt stack place x → slice_get (ahead stack place) 0 ≡ slice_get (elements_of x) place.passed
 element-ahead stack place x s at =
     let l : place.passed < length (elements_of x) = s.inside x at in
     ap (λ t. slice_get t 0) (ahead-source stack place x s.within at (omega arith)) ∙ slice_get-front place.passed (elements_of x) _ l
 
 -- the elements at two places are the same if the first ones ahead are
-pub same-ahead : (b : Bool) (one other : List Source) (here there : Place) (x y : Source) → IsSettled one here → IsSettled other there → IsAt one here x → IsAt other there y → (IsTrue b ↔ (slice_get (elements_of x) here.passed ≡ slice_get (elements_of y) there.passed)) → IsTrue b ↔ (slice_get (ahead one here) 0 ≡ slice_get (ahead other there) 0)
+pub same-ahead : (b : Bool) (one other : List Source) (here there : Position) (x y : Source) → IsSettled one here → IsSettled other there → IsAt one here x → IsAt other there y → (IsTrue b ↔ (slice_get (elements_of x) here.passed ≡ slice_get (elements_of y) there.passed)) → IsTrue b ↔ (slice_get (ahead one here) 0 ≡ slice_get (ahead other there) 0)
 same-ahead b one other here there x y s t at bt h =
     let e : slice_get (ahead one here) 0 ≡ slice_get (elements_of x) here.passed = element-ahead one here x s at in
     let f : slice_get (ahead other there) 0 ≡ slice_get (elements_of y) there.passed = element-ahead other there y t bt in
@@ -92,17 +92,17 @@ item-at (x ∷ stack) zero l = (x, refl)
 item-at (x ∷ stack) (suc i) l = item-at stack i (omega arith)
 
 -- where sources are ahead so is an element
-sources-ahead : (stack : List Source) (place : Place) → IsSettled stack place → 0 < place.sources → 0 < length (ahead stack place)
+sources-ahead : (stack : List Source) (place : Position) → IsSettled stack place → 0 < place.sources → 0 < length (ahead stack place)
 sources-ahead stack place s some =
     let w : place.sources ≤ length stack = s.within in
     let at : (x : Source) × (x ≡ get_or stack (place.sources - 1) x) = item-at stack (place.sources - 1) (omega arith) in
     some-ahead stack place at.0 s (some, at.1)
 
-none-ahead : (stack : List Source) (place : Place) → place.sources ≡ 0 → ahead stack place ≡ []
+none-ahead : (stack : List Source) (place : Position) → place.sources ≡ 0 → ahead stack place ≡ []
 none-ahead stack place e = ap (λ n. drop place.passed (stack_elements (take n stack))) e ∙ drop_all place.passed [] (omega arith)
 
 -- where nothing is ahead in one of two stacks, the same is ahead if nothing is in the other
-pub end-tells : (one other : List Source) (here there : Place) → IsSettled one here → IsSettled other there → (here.sources ≤ 0) ⊎ (there.sources ≤ 0) → IsTrue (nat_eq here.sources there.sources) ↔ (ahead one here ≡ ahead other there)
+pub end-tells : (one other : List Source) (here there : Position) → IsSettled one here → IsSettled other there → (here.sources ≤ 0) ⊎ (there.sources ≤ 0) → IsTrue (nat_eq here.sources there.sources) ↔ (ahead one here ≡ ahead other there)
 end-tells one other here there s t over = elim (eqb_tells here.sources there.sources) [
   | inl p ↦
       let h : here.sources ≡ 0 = elim over [ inl l ↦ omega arith | inr l ↦ omega arith ] in
@@ -127,14 +127,14 @@ end-tells one other here there s t over = elim (eqb_tells here.sources there.sou
   )
 ]
 
-pub fewer-ahead : (stack : List Source) (place next : Place) → IsSettled stack place → 0 < place.sources → ahead stack next ≡ drop 1 (ahead stack place) → length (ahead stack next) < length (ahead stack place)
+pub fewer-ahead : (stack : List Source) (place next : Position) → IsSettled stack place → 0 < place.sources → ahead stack next ≡ drop 1 (ahead stack place) → length (ahead stack next) < length (ahead stack place)
 fewer-ahead stack place next s some e =
     let m : 0 < length (ahead stack place) = sources-ahead stack place s some in
     let l : length (ahead stack next) ≡ length (ahead stack place) - 1 = ap length e ∙ length-drop 1 (ahead stack place) in
     omega arith
 
 -- the lower source follows where the last element of one is passed
-pub beyond-source : (stack : List Source) (place : Place) (x : Source) → IsSettled stack place → IsAt stack place x → length (elements_of x) ≤ place.passed + 1 → ahead stack (record { sources = place.sources - 1; passed = 0 }) ≡ drop 1 (ahead stack place)
+pub beyond-source : (stack : List Source) (place : Position) (x : Source) → IsSettled stack place → IsAt stack place x → length (elements_of x) ≤ place.passed + 1 → ahead stack (record { sources = place.sources - 1; passed = 0 }) ≡ drop 1 (ahead stack place)
 beyond-source stack place x s at all =
     lower-ahead stack (record { sources = place.sources; passed = place.passed + 1 }) x (next-place stack place s) at all ∙ next-ahead stack place
 

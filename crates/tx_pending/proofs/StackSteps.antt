@@ -1,18 +1,18 @@
 -- Reading the innermost of the sources on a stack.
-use Rattle.std.proofs.Common.{◌≡◌, ◌≢◌, ℕ, zero, suc, ◌+◌, ◌-◌, Option, Some, None, IfSome, List, [], ◌∷◌, ◌++◌, length, take, set, get_or, slice_get, refl, ap, sym, subst, ◌∙◌, arith, Bool, true, false, IsTrue}
+use Rattle.std.proofs.Common.{◌≡◌, ◌≢◌, ℕ, zero, suc, ◌+◌, ◌-◌, Option, Some, None, IfSome, List, [], ◌∷◌, ◌++◌, length, take, set, get_or, slice_get, refl, ap, sym, subst, ◌∙◌, arith, Bool, true, false}
 use Rattle.std.proofs.lemmas.List.{take_all, take_more, take-set, take_more_set, length-set}
 use Rattle.std.proofs.lemmas.List.Sums.{fold-append}
 use Rattle.std.proofs.lemmas.Option.{slice_get_read}
 use Rattle.tx_char.specs.declared.category.Cat.{Cat}
-use Rattle.tx_pending.specs.declared.given.Given.{Given}
-use Rattle.tx_pending.specs.declared.given.Given.TheVariants.{Token, Held, Marker, PartEnd, Used, E1}
 use Rattle.tx_pending.specs.declared.next.ColumnPart.{ColumnPart}
 use Rattle.tx_pending.specs.declared.next.ColumnPart.TheVariants.{U, V}
+use Rattle.tx_pending.specs.declared.next.Next.{Next}
+use Rattle.tx_pending.specs.declared.next.Next.TheVariants.{Token, Held, Marker, PartEnd, Used, InvalidCharacter}
 use Rattle.tx_pending.specs.declared.source.Source.{Source}
 use Rattle.tx_pending.specs.declared.source.Source.TheVariants as source
-use Rattle.tx_pending.specs.Elements.{Element, Given as Element_given, Held as Element_held, Input, Mark, PartEnd as Element_part, Unread, begins_entry, behind_part, step_of}
+use Rattle.tx_pending.specs.Elements.{Element, Given as Element_given, Held as Element_held, Mark, PartEnd as Element_part, Unread, begins_entry, behind_part, step_of, stepped}
 use Rattle.tx_pending.specs.Sources.{IsReady, before, elements_of, stack_elements}
-use Rattle.tx_pending.specs.Steps.{Gives, Takes, given_step, taken_step}
+use Rattle.tx_pending.specs.Steps.{Gives, Takes, is_used, left_of}
 use Rattle.tx_pending.proofs.ListSteps.{no-entry}
 
 -- the elements of a stack are those of its innermost source, and then those of the others
@@ -29,37 +29,43 @@ stack-set stack i top long =
     let l : length (set stack i top) ≡ i + 1 = length-set stack i top ∙ long in
     sym (take_all (i + 1) (set stack i top) (omega arith)) ∙ take_more_set stack i top (omega arith)
 
-given-taken : (input : Input) (to behind : List Element) (given : Given) → given ≢ Used → given_step input to behind given ≡ taken_step input (to ++ behind) given
-given-taken input to behind (Token t) n = refl
-given-taken input to behind (Held t) n = refl
-given-taken input to behind Marker n = refl
-given-taken input to behind (PartEnd part) n = refl
-given-taken input to behind Used n = absurd (n refl)
-given-taken input to behind E1 n = refl
+-- of a line that is used up nothing is left, and of what gives another thing all that it leaves
+left-none : (next : Next) (left : List Element) → is_used next ≡ true → left_of next left ≡ []
+left-none (Token t) left used = absurd (cc)
+left-none (Held t) left used = absurd (cc)
+left-none Marker left used = absurd (cc)
+left-none (PartEnd part) left used = absurd (cc)
+left-none (Used close) left used = refl
+left-none InvalidCharacter left used = absurd (cc)
+
+left-all : (next : Next) (left : List Element) → is_used next ≡ false → left_of next left ≡ left
+left-all (Token t) left other = refl
+left-all (Held t) left other = refl
+left-all Marker left other = refl
+left-all (PartEnd part) left other = refl
+left-all (Used close) left other = absurd (cc)
+left-all InvalidCharacter left other = refl
 
 -- what the innermost source gives, the whole gives
-pub takes-top : (codes : List Cat) (stack : List Source) (i : ℕ) (from to : Source) (given : Given) → length stack ≡ i + 1 → from ≡ get_or stack i from → Gives codes (elements_of from) given (elements_of to) → given ≢ Used → Takes codes (stack_elements stack) given (stack_elements (set stack i to))
-takes-top codes stack i from to given long is gives n =
-    let e : stack_elements stack ≡ elements_of from ++ stack_elements (take i stack) = ap stack_elements (stack-split stack i from long is) ∙ stack_elements-top (take i stack) from in
-    let e' : stack_elements (set stack i to) ≡ elements_of to ++ stack_elements (take i stack) = ap stack_elements (stack-set stack i to long) ∙ stack_elements-top (take i stack) to in
+pub takes-top : (codes : List Cat) (closing : Bool) (stack : List Source) (i : ℕ) (from to : Source) (next : Next) → length stack ≡ i + 1 → from ≡ get_or stack i from → Gives codes closing (elements_of from) next (elements_of to) → is_used next ≡ false → Takes codes closing (stack_elements stack) next (stack_elements (set stack i to))
+takes-top codes closing stack i from to next long is gives other =
+    let below : List Element = stack_elements (take i stack) in
+    let e : stack_elements stack ≡ elements_of from ++ below = ap stack_elements (stack-split stack i from long is) ∙ stack_elements-top (take i stack) from in
+    let e' : stack_elements (set stack i to) ≡ elements_of to ++ below = ap stack_elements (stack-set stack i to long) ∙ stack_elements-top (take i stack) to in
+    let left : left_of next (elements_of to) ++ below ≡ stack_elements (set stack i to) = ap (λ (xs : List Element). xs ++ below) (left-all next (elements_of to) other) ∙ sym e' in
     record {
-      steps = λ input. ap (step_of codes input) e ∙ gives.steps input (stack_elements (take i stack)) ∙ given-taken input (elements_of to) (stack_elements (take i stack)) given n ∙ ap (λ xs. taken_step input xs given) (sym e');
-      stays = λ h. e' ∙ ap (λ xs. xs ++ stack_elements (take i stack)) (gives.stays h) ∙ sym e;
+      steps = λ level. ap (step_of codes closing level) e ∙ gives.steps level below ∙ ap (λ (xs : List Element). stepped closing level xs next) left;
     }
 
 -- a line that is used up is taken away
-pub takes-line : (codes : List Cat) (stack : List Source) (i : ℕ) (from to : Source) (given : Given) → length stack ≡ i + 1 → from ≡ get_or stack i from → Gives codes (elements_of from) given (elements_of to) → given ≡ Used → Takes codes (stack_elements stack) given (stack_elements (take i (set stack i to)))
-takes-line codes stack i from to given long is gives used =
-    let e : stack_elements stack ≡ elements_of from ++ stack_elements (take i stack) = ap stack_elements (stack-split stack i from long is) ∙ stack_elements-top (take i stack) from in
-    let P : Given → Type 0 = λ g. (input : Input) → given_step input (elements_of to) (stack_elements (take i stack)) g ≡ taken_step input (stack_elements (take i stack)) g in
-    let same : P given = subst P (sym used) (λ input. refl) in
+pub takes-line : (codes : List Cat) (closing : Bool) (stack : List Source) (i : ℕ) (from to : Source) (next : Next) → length stack ≡ i + 1 → from ≡ get_or stack i from → Gives codes closing (elements_of from) next (elements_of to) → is_used next ≡ true → Takes codes closing (stack_elements stack) next (stack_elements (take i (set stack i to)))
+takes-line codes closing stack i from to next long is gives used =
+    let below : List Element = stack_elements (take i stack) in
+    let e : stack_elements stack ≡ elements_of from ++ below = ap stack_elements (stack-split stack i from long is) ∙ stack_elements-top (take i stack) from in
+    let left : left_of next (elements_of to) ++ below ≡ below = ap (λ (xs : List Element). xs ++ below) (left-none next (elements_of to) used) in
     rw take-set (record {
-      steps = λ input. ap (step_of codes input) e ∙ gives.steps input (stack_elements (take i stack)) ∙ same input;
-      stays = λ h. absurd (cc (used, h));
+      steps = λ level. ap (step_of codes closing level) e ∙ gives.steps level below ∙ ap (λ (xs : List Element). stepped closing level xs next) left;
     })
-
-pub other-than : {b : Bool} → b ≡ false → IsTrue b → ⊥
-other-than f t = cc
 
 -- something is left of the innermost source
 pub ready-top : (stack : List Source) (i : ℕ) (top : Source) → length stack ≡ i + 1 → top ≡ get_or stack i top → IsReady stack → elements_of top ≢ []

@@ -18,7 +18,7 @@ passed now (PartEnd part ∷ behind) = PartEnd part ∷ behind
 passed now (Unread unread state ∷ behind) = Unread (drop 1 unread) now ∷ behind
 
 abbrev pub behind_first : ReadState → Input → Input
-behind_first now input = record { elements = passed now input.elements; closing = input.closing; level = input.level }
+behind_first now input = record input { elements = passed now input.elements }
 
 -- this token comes next, and is passed
 abbrev pub plain_step : List Cat → Input → PlainToken → Step

@@ -2,7 +2,7 @@
 use Rattle.std.specs.Prelude.{◌≡◌, ◌≢◌, ◌-◌, ◌≤◌, ◌<◌, drop, take, slice_index_or, List, [], ◌∷◌, ◌++◌, fold, length, slice_get, Some, None, IfSome}
 use Rattle.tx_pending.specs.declared.source.Source.{Source}
 use Rattle.tx_pending.specs.declared.source.Source.TheVariants.{List as Source_list, Line as Source_line, Token as Source_token, Held as Source_held, PartEnd as Source_part}
-use Rattle.tx_pending.specs.declared.same.Place.{Place}
+use Rattle.tx_pending.specs.declared.same.Position.{Position}
 use Rattle.tx_pending.specs.Elements.{Element, Given, Held, PartEnd, Unread, list_elements}
 
 -- the elements that a source stands for
@@ -29,19 +29,19 @@ abbrev pub IsReady : List Source → Type 0
 IsReady stack = IfSome (slice_get stack (length stack - 1)) (λ top. elements_of top ≢ [])
 
 -- the elements that are ahead at a place of a stack
-abbrev pub ahead : List Source → Place → List Element
+abbrev pub ahead : List Source → Position → List Element
 ahead stack place = drop place.passed (stack_elements (take place.sources stack))
 
 -- the source at which a place stands
-abbrev pub IsAt : List Source → Place → Source → Type 0
+abbrev pub IsAt : List Source → Position → Source → Type 0
 IsAt stack place source = (0 < place.sources) × (source ≡ slice_index_or stack (place.sources - 1) source)
 
 -- a place within the stack, and within the source at which it stands
-pub record IsPlace (stack : List Source) (place : Place) : Type 0 where
+pub record IsPosition (stack : List Source) (place : Position) : Type 0 where
   pub within : place.sources ≤ length stack
   pub inside : (source : Source) → IsAt stack place source → place.passed ≤ length (elements_of source)
 
 -- a place at which an element stands, or nothing is ahead
-pub record IsSettled (stack : List Source) (place : Place) : Type 0 where
+pub record IsSettled (stack : List Source) (place : Position) : Type 0 where
   pub within : place.sources ≤ length stack
   pub inside : (source : Source) → IsAt stack place source → place.passed < length (elements_of source)

@@ -2,6 +2,7 @@
 ghost use Rattle.std.specs.Prelude.{◌≡◌, Some, IfOk};
 ghost use Rattle.tx_pending.specs.Elements as spec;
 
+use crate::next::{ColumnPart, Next};
 use std::alloc::AllocError;
 use tx_char::Token;
 use tx_toklist::{begins_group, ends_group};
@@ -18,7 +19,7 @@ fn counted(level: Option<i64>) -> Result<i64, AllocError>
 
 /// The level behind a token that is read. Its only error is that it can't be counted.
 #[inline(always)]
-pub(crate) fn level_behind(level: i64, token: &Token) -> Result<i64, AllocError>
+fn level_behind(level: i64, token: &Token) -> Result<i64, AllocError>
     ensures { IfOk result (λ now. now ≡ spec.level_behind level token.now) }
 {
     if begins_group(token) {
@@ -28,6 +29,19 @@ pub(crate) fn level_behind(level: i64, token: &Token) -> Result<i64, AllocError>
         return counted(level.checked_sub(1));
     }
     Ok(level)
+}
+
+/// The level behind what comes next; behind a u-part the entry begins. Its only error is that it can't be counted.
+#[inline(always)]
+pub(crate) fn level_after(level: i64, next: &Next) -> Result<i64, AllocError>
+    ensures { IfOk result (λ now. now ≡ spec.level_after level next.now) }
+{
+    match next {
+        Next::Token(token) | Next::Held(token) => level_behind(level, token),
+        Next::PartEnd(ColumnPart::U) => Ok(0),
+        Next::PartEnd(ColumnPart::V) | Next::Marker => Ok(level),
+        Next::Used { .. } | Next::InvalidCharacter => Ok(level),
+    }
 }
 
 /// The level as if a token hadn't been read. Its only error is that it can't be counted.

@@ -5,10 +5,9 @@
 //! Proved: each call is its definition on one flat list, however the lists are cut. Only tested: that the definition is
 //! TeX's, on input worked out by hand.
 //!
-//! Modules in reading order: `next`, `given`, `list`, `line`, `source`, `same`, `level`, `pending`.
+//! Modules in reading order: `next`, `list`, `line`, `source`, `same`, `level`, `pending`.
 #![tactic(auto)]
 
-mod given;
 mod level;
 mod line;
 mod list;

@@ -5,7 +5,7 @@ ghost use Rattle.tx_lex.specs.declared.types.ReadState.TheVariants.{N};
 ghost use Rattle.tx_lex.specs.Plain.{Begins};
 ghost use Rattle.tx_pending.specs.Steps.{IsLineStep};
 
-use crate::given::Given;
+use crate::next::Next;
 use std::alloc::{AllocError, Global};
 use std::marker::Model;
 use std::rc::Rc;
@@ -48,14 +48,17 @@ impl LineReading {
         })
     }
 
-    /// The next token of the line, if one is left. Its only error is want of memory.
+    /// The next token of the line, if one is left; a line that is used up tells whether \endinput came, as it is told. Its only
+    /// error is want of memory.
+    #[inline(always)]
     pub fn next<K: KnownNames>(
         &mut self,
         alloc: Global,
         codes: &Codes,
         known: &K,
-    ) -> Result<Given, AllocError>
-        ensures { IfOk result (λ next. IsLineStep codes.now self.old next self.new) }
+        closing: bool,
+    ) -> Result<Next, AllocError>
+        ensures { IfOk result (λ next. IsLineStep codes.now closing self.old next self.new) }
     {
         let rest = &self.line.as_ref().as_slice()[self.used..];
         match lex_on(alloc, self.front, rest, self.state, codes, known)? {
@@ -68,10 +71,10 @@ impl LineReading {
                 self.used += used;
                 self.front = front;
                 self.state = state;
-                Ok(Given::Token(token))
+                Ok(Next::Token(token))
             }
-            Lexed::LineDone => Ok(Given::Used),
-            Lexed::E1 => Ok(Given::E1),
+            Lexed::LineDone => Ok(Next::Used { close: closing }),
+            Lexed::E1 => Ok(Next::InvalidCharacter),
         }
     }
 

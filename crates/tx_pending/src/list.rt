@@ -5,7 +5,7 @@ ghost use Rattle.tx_pending.specs.Elements.{Given as Element_given, list_element
 ghost use Rattle.tx_char.specs.declared.tokens.Token.TheVariants.{Character};
 ghost use Rattle.tx_pending.specs.Steps.{BeginsList, IsListStep, IsPlainly};
 
-use crate::given::Given;
+use crate::next::Next;
 use std::alloc::AllocError;
 use std::marker::Model;
 use tx_char::{Cat, Codes, Token};
@@ -61,17 +61,18 @@ impl ListReading {
     }
 
     /// The next token, and the marker where none is left. Its only error is that no more owners can be counted.
-    pub fn next(&mut self) -> Result<Given, AllocError>
+    #[inline(always)]
+    pub fn next(&mut self) -> Result<Next, AllocError>
         requires { list_elements self.old.left self.old.marked ≢ [] }
-        ensures { IfOk result (λ given. IsListStep self.old given self.new) }
+        ensures { IfOk result (λ next. IsListStep self.old next self.new) }
     {
         if self.read >= self.end {
             self.marked = false;
-            return Ok(Given::Marker);
+            return Ok(Next::Marker);
         }
         let token = self.list.as_slice()[self.read].clone()?;
         self.read += 1;
-        Ok(Given::Token(token))
+        Ok(Next::Token(token))
     }
 
     /// The first token that is left, where a line would give it as it stands; it isn't taken.

@@ -1,5 +1,5 @@
 //! The pending input.
-ghost use Rattle.std.specs.Prelude.{◌≡◌, ◌↔◌, ◌++◌, ◌-◌, drop, map, take, IsTrue, IfOk, IfSome, OnOk, OnErr};
+ghost use Rattle.std.specs.Prelude.{◌≡◌, ◌↔◌, ◌++◌, ◌-◌, drop, false, map, take, true, IsTrue, IfOk, IfSome, OnOk, OnErr};
 ghost use Rattle.tx_pending.specs.Elements as spec;
 ghost use Rattle.tx_toklist.specs.Bodies.{argument, filled, filled_from};
 ghost use Rattle.tx_pending.specs.Elements.{Given as Element_given, begins_entry, behind_part, entered, no_input, step, with_close, with_held, with_level, with_line, with_list, with_part_end, with_token, with_use};
@@ -7,8 +7,7 @@ ghost use Rattle.tx_pending.specs.Plain.{IsNext, behind_first, passed};
 ghost use Rattle.tx_pending.specs.Sources.{IsReady, elements_of, stack_elements};
 ghost use Rattle.tx_pending.specs.Steps.{BeginsPlain, Takes};
 
-use crate::given::Given;
-use crate::level::{level_before, level_behind};
+use crate::level::{level_after, level_before};
 use crate::line::LineReading;
 use crate::list::ListReading;
 use crate::next::{ColumnPart, Next};
@@ -53,17 +52,22 @@ impl Pending {
         }
     }
 
-    /// Puts a list at the front, and a marker behind it if it is to be marked. No token is copied. After want of memory
-    /// nothing has changed.
-    pub fn push_list(&mut self, list: TokList, marked: bool) -> Result<(), AllocError>
-        ensures ok { OnOk result (self.new ≡ with_list self.old list marked) }
+    /// Puts a list at the front. No token is copied. After want of memory nothing has changed.
+    pub fn push_list(&mut self, list: TokList) -> Result<(), AllocError>
+        ensures ok { OnOk result (self.new ≡ with_list self.old list false) }
         ensures err { OnErr result (self.new ≡ self.old) }
     {
         drop_spent(&mut self.stack);
-        put(
-            &mut self.stack,
-            Source::List(ListReading::new(list, marked)),
-        )
+        put(&mut self.stack, Source::List(ListReading::new(list, false)))
+    }
+
+    /// Puts a list at the front, and a marker behind it. No token is copied. After want of memory nothing has changed.
+    pub fn push_marked(&mut self, list: TokList) -> Result<(), AllocError>
+        ensures ok { OnOk result (self.new ≡ with_list self.old list true) }
+        ensures err { OnErr result (self.new ≡ self.old) }
+    {
+        drop_spent(&mut self.stack);
+        put(&mut self.stack, Source::List(ListReading::new(list, true)))
     }
 
     /// Puts the end of a part of an alignment's column at the front: what the part has is put there next. After want of memory
@@ -189,9 +193,9 @@ impl Pending {
     }
 
     /// Takes what comes next. `Marker` and `PartEnd` come exactly where such is at the front; `Used` exactly where a line of which
-    /// nothing but dropped characters is left is at the front, which is taken away, or nothing is pending; `E1` exactly
-    /// where the line at the front has a character of category Invalid next. A name that is known takes no memory. Its only
-    /// error is want of memory.
+    /// nothing but dropped characters is left is at the front, which is taken away, or nothing is pending; `InvalidCharacter`
+    /// exactly where the line at the front has a character of category Invalid next. A name that is known takes no memory. Its
+    /// only error is want of memory.
     #[inline(always)]
     pub fn next<K: KnownNames>(
         &mut self,
@@ -203,29 +207,10 @@ impl Pending {
         ensures left { OnOk result (self.new ≡ (step codes.now self.old).left) }
     {
         drop_spent(&mut self.stack);
-        let given = take(&mut self.stack, alloc, codes, known)?;
-        match given {
-            Given::Token(token) => {
-                self.level = level_behind(self.level, &token)?;
-                Ok(Next::Token(token))
-            }
-            Given::Held(token) => {
-                self.level = level_behind(self.level, &token)?;
-                Ok(Next::Held(token))
-            }
-            Given::Marker => Ok(Next::Marker),
-            Given::PartEnd(ColumnPart::U) => {
-                self.level = 0;
-                Ok(Next::PartEnd(ColumnPart::U))
-            }
-            Given::PartEnd(ColumnPart::V) => Ok(Next::PartEnd(ColumnPart::V)),
-            Given::Used => {
-                let close = self.closing;
-                self.closing = false;
-                Ok(Next::Used { close })
-            }
-            Given::E1 => Ok(Next::E1),
-        }
+        let next = take(&mut self.stack, alloc, codes, known, self.closing)?;
+        self.closing = next.closing_after(self.closing);
+        self.level = level_after(self.level, &next)?;
+        Ok(next)
     }
 
     /// What comes next, where it is a token as it stands in the line or the list at the front; it isn't taken. A source of which
@@ -370,25 +355,28 @@ fn put_argument(
     }
 }
 
-/// Takes what comes next. Its only error is want of memory.
+/// Takes what comes next; where a line is used up, or there is none, it tells whether \endinput came, as it is told. Its only
+/// error is want of memory.
+#[inline(always)]
 fn take<K: KnownNames>(
     stack: &mut Vec<Source>,
     alloc: Global,
     codes: &Codes,
     known: &K,
-) -> Result<Given, AllocError>
+    closing: bool,
+) -> Result<Next, AllocError>
     requires { IsReady stack.old.items }
-    ensures { IfOk result (λ given. Takes codes.now (stack_elements stack.old.items) given (stack_elements stack.new.items)) }
+    ensures { IfOk result (λ next. Takes codes.now closing (stack_elements stack.old.items) next (stack_elements stack.new.items)) }
 {
     if stack.is_empty() {
-        return Ok(Given::Used);
+        return Ok(Next::Used { close: closing });
     }
     let top = stack.len() - 1;
-    let given = stack[top].next(alloc, codes, known)?;
-    if given.is_used() {
+    let next = stack[top].next(alloc, codes, known, closing)?;
+    if next.is_used() {
         stack.truncate(top);
     }
-    Ok(given)
+    Ok(next)
 }
 
 /// What comes next, where the innermost source is a line or a list that goes on with a token as it stands.

@@ -1,12 +1,12 @@
 //! Whether two stacks stand for the same elements, however these are cut into lists. Both are walked along side by side.
 ghost use Rattle.std.specs.Prelude.{◌≡◌, ◌↔◌, ◌<◌, drop, length, slice_get, IsTrue};
-ghost use Rattle.tx_pending.specs.Sources.{IsPlace, IsSettled, ahead, stack_elements};
+ghost use Rattle.tx_pending.specs.Sources.{IsPosition, IsSettled, ahead, stack_elements};
 
 use crate::source::Source;
 
 /// A place on a stack: how many of its sources are ahead, and how many elements of the innermost one are passed.
 #[derive(Clone, Copy)]
-pub struct Place {
+pub struct Position {
     pub sources: usize,
     pub passed: usize,
 }
@@ -28,13 +28,13 @@ pub(crate) fn same_elements(one: &[Source], other: &[Source]) -> bool
 }
 
 /// The place of the first element.
-fn front(stack: &[Source]) -> Place
+fn front(stack: &[Source]) -> Position
     ensures all { ahead stack.now result ≡ stack_elements stack.now }
     ensures settled { IsSettled stack.now result }
 {
     settled(
         stack,
-        Place {
+        Position {
             sources: stack.len(),
             passed: 0,
         },
@@ -42,8 +42,8 @@ fn front(stack: &[Source]) -> Place
 }
 
 /// The place of the next element, at or behind a place.
-fn settled(stack: &[Source], place: Place) -> Place
-    requires { IsPlace stack.now place }
+fn settled(stack: &[Source], place: Position) -> Position
+    requires { IsPosition stack.now place }
     ensures same { ahead stack.now result ≡ ahead stack.now place }
     ensures settled { IsSettled stack.now result }
 {
@@ -52,7 +52,7 @@ fn settled(stack: &[Source], place: Place) -> Place
         if at.passed < stack[at.sources - 1].count() {
             return at;
         }
-        at = Place {
+        at = Position {
             sources: at.sources - 1,
             passed: 0,
         };
@@ -61,7 +61,7 @@ fn settled(stack: &[Source], place: Place) -> Place
 }
 
 /// The place of the element behind the one at this place.
-fn beyond(stack: &[Source], place: Place) -> Place
+fn beyond(stack: &[Source], place: Position) -> Position
     requires settled { IsSettled stack.now place }
     requires some { 0 < place.sources }
     ensures rest { ahead stack.now result ≡ drop 1 (ahead stack.now place) }
@@ -70,14 +70,14 @@ fn beyond(stack: &[Source], place: Place) -> Place
 {
     let last = stack[place.sources - 1].count() - 1;
     if place.passed < last {
-        return Place {
+        return Position {
             sources: place.sources,
             passed: place.passed + 1,
         };
     }
     settled(
         stack,
-        Place {
+        Position {
             sources: place.sources - 1,
             passed: 0,
         },
@@ -85,7 +85,7 @@ fn beyond(stack: &[Source], place: Place) -> Place
 }
 
 /// Whether the elements at these places are the same.
-fn same_at(one: &[Source], here: Place, other: &[Source], there: Place) -> bool
+fn same_at(one: &[Source], here: Position, other: &[Source], there: Position) -> bool
     requires here { IsSettled one.now here }
     requires some_here { 0 < here.sources }
     requires there { IsSettled other.now there }

@@ -5,10 +5,9 @@ ghost use Rattle.tx_pending.specs.Plain.{passed};
 ghost use Rattle.tx_pending.specs.Sources.{elements_of};
 ghost use Rattle.tx_pending.specs.Steps.{BeginsPlain, Gives};
 
-use crate::given::Given;
 use crate::line::LineReading;
 use crate::list::ListReading;
-use crate::next::ColumnPart;
+use crate::next::{ColumnPart, Next};
 use std::alloc::{AllocError, Global};
 use tx_char::{Codes, Token};
 use tx_lex::{KnownNames, PlainToken, ReadState};
@@ -39,27 +38,30 @@ impl Source {
         }
     }
 
-    /// Reads its first element, if it is not spent. Its only error is want of memory.
+    /// Reads its first element, if it is not spent; a line that is used up tells whether \endinput came, as it is told. Its only
+    /// error is want of memory.
+    #[inline(always)]
     pub fn next<K: KnownNames>(
         &mut self,
         alloc: Global,
         codes: &Codes,
         known: &K,
-    ) -> Result<Given, AllocError>
+        closing: bool,
+    ) -> Result<Next, AllocError>
         requires { elements_of self.old ≢ [] }
-        ensures { IfOk result (λ given. Gives codes.now (elements_of self.old) given (elements_of self.new)) }
+        ensures { IfOk result (λ next. Gives codes.now closing (elements_of self.old) next (elements_of self.new)) }
     {
         match self {
             Source::List(list) => list.next(),
-            Source::Line(line) => line.next(alloc, codes, known),
-            Source::Token(token) => Ok(Given::Token(read_again(token))),
-            Source::Held(token) => Ok(Given::Held(read_again(token))),
-            Source::PartEnd(part) => Ok(Given::PartEnd(read_end(part))),
+            Source::Line(line) => line.next(alloc, codes, known, closing),
+            Source::Token(token) => Ok(Next::Token(spend(token))),
+            Source::Held(token) => Ok(Next::Held(spend(token))),
+            Source::PartEnd(part) => Ok(Next::PartEnd(spend(part))),
         }
     }
 
-    /// The token with which it goes on, where it is a line and the token one character as it stands, or a list and the token one that
-    /// a line would give so.
+    /// The token with which it goes on, where it is a line and the token one character as it stands, or a list and the token one
+    /// that a line would give so.
     #[inline(always)]
     pub fn first_plain(&self, codes: &Codes) -> Option<PlainToken>
         ensures { IfSome result (BeginsPlain codes.now (elements_of self.now)) }
@@ -210,26 +212,15 @@ impl Source {
     }
 }
 
-/// Reads a token that was given back, or is held.
-fn read_again(token: &mut Option<Token>) -> Token
-    requires { token.old ≢ None }
-    ensures given { IfSome token.old (λ t. result ≡ t) }
-    ensures spent { token.new ≡ None }
+/// Takes what is read only once.
+#[inline(always)]
+fn spend<T: Drop>(once: &mut Option<T>) -> T
+    requires { once.old ≢ None }
+    ensures given { IfSome once.old (λ value. result ≡ value) }
+    ensures spent { once.new ≡ None }
 {
-    match token.take() {
-        Some(token) => token,
-        None => unreachable!(),
-    }
-}
-
-/// Reads the end of a part of a column.
-fn read_end(part: &mut Option<ColumnPart>) -> ColumnPart
-    requires { part.old ≢ None }
-    ensures given { IfSome part.old (λ p. result ≡ p) }
-    ensures spent { part.new ≡ None }
-{
-    match part.take() {
-        Some(part) => part,
+    match once.take() {
+        Some(value) => value,
         None => unreachable!(),
     }
 }

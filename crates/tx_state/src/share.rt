@@ -21,7 +21,7 @@ pub fn share_state(alloc: Global, s: &State) -> Result<State, AllocError>
     ensures meaning { IfOk result (λ t. meaning_of t ≡ meaning_of s.now) }
     ensures said { IfOk result (λ t. t.said ≡ s.now.said) }
 {
-    let of_words = both(s.expander.share(alloc), s.words.share());
+    let of_words = both(s.expander.share(), s.words.share());
     let of_table = both(s.table.share(), s.hyphenation.share());
     let of_input = both(share_due(&s.due), s.input.share(alloc));
     let scan = both(s.scan.clone(), CommandBuffer::new(alloc));

@@ -4,5 +4,5 @@ use Rattle.tx_expand.proofs.expanding.join_use.Goals as goal
 
 pub returns : goal.returns
 returns c =
-    joined-first c.args.begun.now.items c.join_first.new.begun.items c.args.token.now c.join_first.result
+    joined-first c.args.begun.now c.join_first.new.begun c.args.token.now c.join_first.result
     (sym c.is_matching.ensures ∙ c.if-not-is_matching.false) c.join_first.ensures

@@ -1,10 +1,10 @@
 use Rattle.std.proofs.Common.{◌≡◌}
-use Rattle.tx_pending.specs.Sources.{IsPlace, ahead}
+use Rattle.tx_pending.specs.Sources.{IsPosition, ahead}
 use Rattle.tx_pending.proofs.same.settled.Given as goal
 
 abbrev pub invariant-loop-at : goal.invariant-loop-at
 invariant-loop-at l = record {
-  inside : IsPlace l.stack l.at;
+  inside : IsPosition l.stack l.at;
   rest : ahead l.stack l.at ≡ ahead l.stack l.fn.place;
 }
 

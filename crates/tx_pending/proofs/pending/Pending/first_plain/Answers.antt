@@ -1,4 +1,4 @@
-use Rattle.std.proofs.Common.{◌≡◌, true, Option, Some, None, IfSome, List, ◌∷◌, ℕ, ℤ, rules, refl, ap, sym, ◌∙◌}
+use Rattle.std.proofs.Common.{◌≡◌, Bool, true, Option, Some, None, IfSome, List, ◌∷◌, ℕ, ℤ, rules, refl, ap, sym, ◌∙◌}
 use Rattle.tx_char.specs.declared.category.Cat.{Cat}
 use Rattle.tx_char.specs.declared.category.Cat.TheVariants.{Escape, BeginGroup, EndGroup, MathShift, AlignmentTab, EndOfLine, Parameter, Superscript, Subscript, Ignored, Space, Letter, Other, Active, Comment, Invalid}
 use Rattle.tx_char.specs.declared.tokens.Token.{Token as Any_token}
@@ -38,24 +38,26 @@ plain-level codes level (Set code) set = set-level level code (category codes co
 plain-level codes level Blank set = refl
 
 -- what comes next, and is passed
-abbrev after : List Cat → Input → PlainToken → List Element → Step
-after codes input plain elements = record { next = Token (plain_token codes plain); left = record { elements = passed (state_behind plain) elements; closing = input.closing; level = input.level } }
+abbrev after : List Cat → Bool → ℤ → PlainToken → List Element → Step
+after codes closing level plain elements = record { next = Token (plain_token codes plain); left = record { elements = passed (state_behind plain) elements; closing = closing; level = level } }
 
 -- a token that comes next, at the level behind it
-abbrev read-token : Input → List Element → Any_token → Step
-read-token input behind token = record { next = Token token; left = record { elements = behind; closing = input.closing; level = level_behind input.level token } }
+abbrev read-token : Bool → ℤ → List Element → Any_token → Step
+read-token closing level behind token = record { next = Token token; left = record { elements = behind; closing = closing; level = level_behind level token } }
 
--- so it is where the level stays
-abbrev token-stays : Input → List Element → Any_token → ℤ → Step
-token-stays input behind token level = record { next = Token token; left = record { elements = behind; closing = input.closing; level = level } }
+-- so it is at this level
+abbrev token-stays : Bool → List Element → Any_token → ℤ → Step
+token-stays closing behind token level = record { next = Token token; left = record { elements = behind; closing = closing; level = level } }
 
 -- what an element begins with comes next, whatever is behind it
-element-gives : (codes : List Cat) (input : Input) (plain : PlainToken) (element : Element) (behind : List Element) → BeginsAs codes element plain → step_of codes input (element ∷ behind) ≡ after codes input plain (element ∷ behind)
-element-gives codes input plain (Given token) behind begins = ap (read-token input behind) begins.1 ∙ ap (token-stays input behind (plain_token codes plain)) (plain-level codes input.level plain begins.0)
-element-gives codes input plain (Held token) behind begins = absurd begins
-element-gives codes input plain Mark behind begins = absurd begins
-element-gives codes input plain (PartEnd part) behind begins = absurd begins
-element-gives codes input plain (Unread unread state) behind begins = ap (line_step input behind) begins.reads ∙ ap (token-stays input (passed (state_behind plain) (Unread unread state ∷ behind)) (plain_token codes plain)) (plain-level codes input.level plain begins.set)
+element-gives : (codes : List Cat) (closing : Bool) (level : ℤ) (plain : PlainToken) (element : Element) (behind : List Element) → BeginsAs codes element plain → step_of codes closing level (element ∷ behind) ≡ after codes closing level plain (element ∷ behind)
+element-gives codes closing level plain (Given token) behind begins = ap (read-token closing level behind) begins.1 ∙ ap (token-stays closing behind (plain_token codes plain)) (plain-level codes level plain begins.0)
+element-gives codes closing level plain (Held token) behind begins = absurd begins
+element-gives codes closing level plain Mark behind begins = absurd begins
+element-gives codes closing level plain (PartEnd part) behind begins = absurd begins
+element-gives codes closing level plain (Unread unread state) behind begins =
+    ap (line_step closing level (Unread unread state) behind) begins.reads
+    ∙ ap (token-stays closing (passed (state_behind plain) (Unread unread state ∷ behind)) (plain_token codes plain)) (plain-level codes level plain begins.set)
 
 is-set : (codes : List Cat) (plain : PlainToken) (element : Element) → BeginsAs codes element plain → IsSet codes plain
 is-set codes plain (Given token) begins = begins.0
@@ -68,7 +70,7 @@ next-plain : (codes : List Cat) (input : Input) (elements : List Element) (found
 next-plain codes input elements None same begins = tt
 next-plain codes input elements (Some plain) same begins = record {
   set = is-set codes plain begins.element begins.first;
-  next = ap (step_of codes input) (same ∙ begins.is) ∙ element-gives codes input plain begins.element begins.behind begins.first ∙ ap (after codes input plain) (sym (same ∙ begins.is));
+  next = ap (step_of codes input.closing input.level) (same ∙ begins.is) ∙ element-gives codes input.closing input.level plain begins.element begins.behind begins.first ∙ ap (after codes input.closing input.level plain) (sym (same ∙ begins.is));
 }
 
 pub returns : goal.returns
