@@ -99,7 +99,12 @@ computed_entry table place operation m =
 abbrev pub added_entry : Table → Place → GlueSpec → Result Entry TexError
 added_entry table place g = glue_entry (glue_added (glue_at table place) g)
 
--- what stands at a place after a change, by what stood there; a text has to be taken before
+-- whether a text has to be taken first
+abbrev pub is_text : Change → Bool
+is_text Text = true
+is_text other = false
+
+-- what stands at a place after a change, by what stood there
 abbrev pub changed_entry : Table → Place → Change → Result Entry TexError
 changed_entry table place (Set value) = Ok value
 changed_entry table place (Compute operation m) = computed_entry table place operation m
@@ -112,9 +117,13 @@ abbrev pub put_at : Bool → Eqtb → Place → Entry → Eqtb
 put_at global stack (place.BoxSize side number) value = replaced stack (place.BoxSize side number) value
 put_at global stack other value = assigned_by global stack other value
 
+-- with \global before the assignment or not
+abbrev pub put_by : Bool → Eqtb → Place → Entry → Eqtb
+put_by prefixed stack place value = put_at (is_global (number_at stack.table (Integer Globaldefs)) prefixed) stack place value
+
 abbrev pub carried_to : Eqtb → Assignment → Bool → Result Entry TexError → Result Eqtb TexError
 carried_to stack a global (Err e) = Err e
-carried_to stack a global (Ok value) = Ok (put_at (is_global (number_at stack.table (Integer Globaldefs)) global) stack a.place value)
+carried_to stack a global (Ok value) = Ok (put_by global stack a.place value)
 
 -- the table with the assignment carried out, with \global before it or not
 abbrev pub carried_out : Eqtb → Assignment → Bool → Result Eqtb TexError

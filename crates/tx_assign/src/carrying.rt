@@ -220,6 +220,35 @@ fn put_at(table: &mut Eqtb, place: Place, value: Entry, global: bool) -> Result<
     }
 }
 
+/// Gives a place an entry, with \global before the assignment or not. After want of memory, its only error, the table may only be
+/// dropped.
+fn put(table: &mut Eqtb, place: Place, value: Entry, prefixed: bool) -> Result<(), AllocError>
+    ensures { OnOk result (table.new ≡ spec.put_by prefixed table.old place value) }
+{
+    let globaldefs = table.number(&Place::Integer(IntegerParameter::Globaldefs));
+    put_at(table, place, value, is_global(globaldefs, prefixed))?;
+    Ok(())
+}
+
+/// Carries a change out that hangs on what stands at its place or at another one, or has its text still to come. After want of
+/// memory, its only error, the table may only be dropped.
+#[inline(never)]
+fn carry_change(
+    table: &mut Eqtb,
+    place: Place,
+    change: Change,
+    global: bool,
+) -> Result<Carried, AllocError>
+    ensures { IfOk result (IsCarried table.old (record { place = place; change = change }) global table.new) }
+{
+    let entry = match changed_entry(table, &place, change)? {
+        Ok(entry) => entry,
+        Err(error) => return Ok(Carried::Refused(error)),
+    };
+    put(table, place, entry, global)?;
+    Ok(Carried::Done)
+}
+
 /// Carries an assignment out, with \global before it or not; it is refused where a result leaves its range, a divisor is 0, or
 /// its text isn't there, and then nothing has changed. After want of memory, its only error, the table may only be dropped.
 pub fn carry_out(
@@ -230,11 +259,21 @@ pub fn carry_out(
     ensures ok { IfOk result (IsCarried table.old assignment global table.new) }
 {
     let Assignment { place, change } = assignment;
-    let entry = match changed_entry(table, &place, change)? {
-        Ok(entry) => entry,
-        Err(error) => return Ok(Carried::Refused(error)),
-    };
-    let globaldefs = table.number(&Place::Integer(IntegerParameter::Globaldefs));
-    put_at(table, place, entry, is_global(globaldefs, global))?;
-    Ok(Carried::Done)
+    match change {
+        // most assignments
+        Change::Set(entry) => {
+            put(table, place, entry, global)?;
+            Ok(Carried::Done)
+        }
+        change => carry_change(table, place, change, global),
+    }
+}
+
+impl Assignment {
+    /// Whether its text is still to be taken.
+    pub fn is_text(&self) -> bool
+        ensures { result ≡ spec.is_text self.now.change }
+    {
+        matches!(self.change, Change::Text)
+    }
 }

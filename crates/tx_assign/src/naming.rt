@@ -27,6 +27,7 @@ impl AssignScan {
     }
 
     /// The name that is defined.
+    #[inline(never)]
     pub(crate) fn feed_name(&mut self, token: &Seen) -> Result<Fed<()>, AllocError>
         requires { self.old.stage ≡ AssignStage.LetName }
         ensures answer { IfOk result (IsAssigning 0 (λ more. next (name (Took token.now ∷ more)) spec.let_behind_name) token.now self.new) }
@@ -46,6 +47,7 @@ impl AssignScan {
     }
 
     /// Spaces, an optional `=`, or the token that the name is to be like.
+    #[inline(never)]
     pub(crate) fn feed_behind_name(&mut self, token: &Seen) -> Result<Fed<()>, AllocError>
         ensures answer { IfOk result (IsAssigning 0 (λ more. spec.let_behind_name self.old.place (Took token.now ∷ more)) token.now self.new) }
         ensures needed { IfOk result (NeedsNoMore (waiting self.old.integer) (more_needed self.new)) }
@@ -62,6 +64,7 @@ impl AssignScan {
     }
 
     /// An optional space behind the `=`, or the token that the name is to be like.
+    #[inline(never)]
     pub(crate) fn feed_behind_equals(&mut self, token: &Seen) -> Result<Fed<()>, AllocError>
         ensures answer { IfOk result (IsAssigning 0 (λ more. spec.let_behind_equals self.old.place (Took token.now ∷ more)) token.now self.new) }
         ensures needed { IfOk result (NeedsNoMore (waiting self.old.integer) (more_needed self.new)) }
@@ -75,6 +78,7 @@ impl AssignScan {
     }
 
     /// The token that the name is to be like.
+    #[inline(never)]
     pub(crate) fn feed_token(&mut self, token: &Seen) -> Result<Fed<()>, AllocError>
         ensures answer { IfOk result (IsAssigning 0 (λ more. spec.let_token self.old.place (Took token.now ∷ more)) token.now self.new) }
         ensures needed { IfOk result (NeedsNoMore (waiting self.old.integer) (more_needed self.new)) }

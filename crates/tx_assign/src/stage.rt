@@ -1,19 +1,16 @@
 //! Assignments, token by token (The TeXbook, chapter 24; TeX: The Program, part 49).
-ghost use Rattle.std.specs.Prelude.{◌≡◌, ◌≤◌, ◌∷◌, ◌++◌, [], List, Some, None, IfOk};
-ghost use Rattle.tx_seen.specs.declared.item.Item.{Item};
+ghost use Rattle.std.specs.Prelude.{◌≡◌, ◌≤◌, ◌∷◌, Some, None, IfOk};
 ghost use Rattle.tx_seen.specs.declared.item.Item.TheVariants.{Took};
 ghost use Rattle.tx_seen.specs.declared.seen.Seen.{Seen};
-ghost use Rattle.tx_seen.specs.Readings.{Answers};
 ghost use Rattle.tx_scan.specs.Supplied.{NeedsNoMore};
 ghost use Rattle.tx_scan.specs.IntegerRests.{begun_integer, waiting};
-ghost use Rattle.tx_assign.specs.Assignments.{assignment, arithmetic, behind_place, given, left_side, value};
-ghost use Rattle.tx_assign.specs.declared.types.Assigning.{Assigning};
-ghost use Rattle.tx_assign.specs.Rests.{HasTaken, IsAssigning, IsBegun, IsBehind, IsFed, IsSeldom, WaitsIfNeeded, by_rest, made, more_needed, no_assignment, told};
+ghost use Rattle.tx_assign.specs.Assignments.{arithmetic, behind_place, given, left_side};
+ghost use Rattle.tx_assign.specs.Rests.{IsAssigning, IsBegun, IsBehind, IsFed, IsSeldom, WaitsIfNeeded, by_rest, made, more_needed, no_assignment};
 
 use crate::scan::{AssignScan, AssignStage};
 use crate::types::{Assigning, Assignment, Change, Purpose, Variable};
 use std::alloc::{AllocError, Global};
-use std::mem::replace;
+use std::mem::{replace, swap};
 use tx_prim::Operation;
 use tx_scan::{DimenScan, EqualsScan, GlueScan, IntScan, KeyScan};
 use tx_seen::{Fed, Place, Seen, TexError, Want};
@@ -43,7 +40,6 @@ impl AssignScan {
     /// Begins the assignment behind this command, in the memory that the scan has; what was read before is forgotten.
     pub fn begin(&mut self, assigning: Assigning)
         ensures begun { IsBegun assigning self.new }
-        ensures taken { HasTaken assigning self.new [] }
         ensures needed { more_needed self.new ≤ 1 }
     {
         match assigning {
@@ -51,15 +47,21 @@ impl AssignScan {
             Assigning::Arithmetic(operation) => {
                 self.begin_at(AssignStage::Operand(operation), unread())
             }
-            Assigning::Variable(Variable::Numbered(kind)) => {
-                self.begin_at(AssignStage::Number(kind, None), unread())
-            }
-            Assigning::Variable(Variable::Standing(place)) => {
-                self.begin_at(AssignStage::Equals(Purpose::Set), place)
-            }
+            Assigning::Variable(variable) => self.begin_variable(variable),
             Assigning::Named(place, kind) => {
                 self.begin_at(AssignStage::Equals(Purpose::Define(kind)), place)
             }
+        }
+    }
+
+    /// Begins the assignment to this left side, in the memory that the scan has.
+    pub fn begin_variable(&mut self, variable: Variable)
+        ensures begun { IsBegun (Assigning.Variable variable) self.new }
+        ensures needed { more_needed self.new ≤ 1 }
+    {
+        match variable {
+            Variable::Numbered(kind) => self.begin_at(AssignStage::Number(kind, None), unread()),
+            Variable::Standing(place) => self.begin_at(AssignStage::Equals(Purpose::Set), place),
         }
     }
 
@@ -72,30 +74,9 @@ impl AssignScan {
         self.integer.restart();
     }
 
-    /// Takes one token, at first and after More. The answer, with what the scan has made, is what reading gives of all that was
-    /// taken. Its only error is want of memory.
+    /// Takes one token, at first and after More. The answer, with what the scan has made, says what reading on gives. Its only
+    /// error is want of memory.
     pub fn feed(&mut self, token: &Seen) -> Result<Fed<()>, AllocError>
-        ensures answer { (assigning : Assigning) → (taken : List Item) → HasTaken assigning self.old taken → IfOk result (λ fed. Answers (assignment assigning) (HasTaken assigning) (taken ++ Took token.now ∷ []) self.new (told self.new fed)) }
-        ensures part { IfOk result (IsFed self.old token.now self.new) }
-        ensures needed { IfOk result (NeedsNoMore (more_needed self.old) (more_needed self.new)) }
-        ensures waits { IfOk result (WaitsIfNeeded self.new) }
-    {
-        self.behind(token)
-    }
-
-    /// Takes out the assignment that it has made, once its answer was Done.
-    pub fn take(&mut self) -> Assignment
-        ensures taken { result ≡ made self.old }
-        ensures left { self.new ≡ record self.old { place = Place.Count 0; change = Change.Text } }
-    {
-        Assignment {
-            place: replace(&mut self.place, unread()),
-            change: replace(&mut self.change, Change::Text),
-        }
-    }
-
-    /// What it is behind one more token. Its only error is want of memory.
-    fn behind(&mut self, token: &Seen) -> Result<Fed<()>, AllocError>
         ensures part { IfOk result (IsFed self.old token.now self.new) }
         ensures needed { IfOk result (NeedsNoMore (more_needed self.old) (more_needed self.new)) }
         ensures waits { IfOk result (WaitsIfNeeded self.new) }
@@ -109,7 +90,16 @@ impl AssignScan {
         }
     }
 
-    /// The same at all other stages. Its only error is want of memory.
+    /// Hands out the assignment that it has made, once its answer was Done. What stood there stands in the scan then.
+    pub fn hand_out(&mut self, to: &mut Assignment)
+        ensures out { to.new ≡ made self.old }
+        ensures left { self.new ≡ record self.old { place = to.old.place; change = to.old.change } }
+    {
+        swap(&mut self.place, &mut to.place);
+        swap(&mut self.change, &mut to.change);
+    }
+
+    /// What it is behind one more token at all other stages. Its only error is want of memory.
     #[inline(never)]
     fn behind_other(&mut self, token: &Seen) -> Result<Fed<()>, AllocError>
         requires { IsSeldom self.old.stage }
@@ -205,6 +195,7 @@ impl AssignScan {
     }
 
     /// What \advance and its kin change.
+    #[inline(never)]
     fn feed_operand(&mut self, operation: Operation, token: &Seen) -> Fed<()>
         ensures answer { IsAssigning 0 (λ more. arithmetic operation (Took token.now ∷ more)) token.now self.new result }
         ensures needed { NeedsNoMore (waiting self.old.integer) (more_needed self.new) result }
@@ -224,6 +215,7 @@ impl AssignScan {
     }
 
     /// An optional `=`, or the first token of the value. Its only error is want of memory.
+    #[inline(never)]
     fn feed_equals(&mut self, purpose: Purpose, token: &Seen) -> Result<Fed<()>, AllocError>
         ensures answer { IfOk result (IsBehind (λ more. given purpose self.old.place (Took token.now ∷ more)) token.now self.new) }
         ensures needed { IfOk result (NeedsNoMore (waiting self.old.integer) (more_needed self.new)) }

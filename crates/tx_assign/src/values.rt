@@ -108,6 +108,7 @@ impl AssignScan {
     }
 
     /// The number is whole; so many tokens behind it are given back.
+    #[inline(never)]
     pub(crate) fn end_integer(&mut self, purpose: Purpose, number: i64, back: usize) -> Fed<()>
         ensures { IsEnd (λ more. valued purpose self.old.place number more) back (told self.new result) }
     {
@@ -198,6 +199,7 @@ impl AssignScan {
     }
 
     /// The number of a register or a code is whole.
+    #[inline(never)]
     pub(crate) fn end_number(
         &mut self,
         kind: Numbered,
@@ -217,6 +219,7 @@ impl AssignScan {
     }
 
     /// The number of a register or a code is whole, and this token stands behind it.
+    #[inline(never)]
     pub(crate) fn feed_behind_number(
         &mut self,
         kind: Numbered,

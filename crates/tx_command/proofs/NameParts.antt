@@ -1,5 +1,7 @@
 -- Whether the name of a file is being read shows item by item.
-use Rattle.std.proofs.Common.{◌≡◌, ℕ, ◌==◌, ◌||◌, ◌++◌, Bool, true, false, not, if◌then◌else◌, List, [], ◌∷◌, refl, sym, ◌∙◌}
+use Rattle.std.proofs.Common.{◌≡◌, ℕ, ◌==◌, ◌||◌, ◌++◌, Bool, true, false, not, if◌then◌else◌, List, [], ◌∷◌, refl, ap, sym, ◌∙◌}
+use Rattle.std.specs.Prelude.{fold}
+use Rattle.std.proofs.lemmas.List.Sums.{fold_push}
 use Rattle.tx_char.specs.Character.{character}
 use Rattle.tx_seen.specs.declared.error.TexError.TheVariants.{Undefined}
 use Rattle.tx_seen.specs.declared.item.Item.{Item}
@@ -14,7 +16,14 @@ use Rattle.tx_scan.specs.Grammars.{equals}
 use Rattle.tx_command.specs.declared.naming.NamePart.{NamePart}
 use Rattle.tx_command.specs.declared.naming.NamePart.TheVariants.{Equals, Blank, Name, Over}
 use Rattle.tx_command.specs.Commands.{is_named_next, is_unnamed}
-use Rattle.tx_command.specs.Naming.{behind, behind_blank, behind_name, is_named_by, names_from}
+use Rattle.tx_command.specs.Naming.{behind, behind_blank, behind_name, is_name, is_named_by, part_behind}
+
+-- whether these items leave the name unread, where they begin so
+abbrev names_from : NamePart → List Item → Bool
+names_from Equals items = is_named_next (equals items)
+names_from Blank items = is_unnamed (file_name items)
+names_from Name items = is_unnamed (name_from [] items)
+names_from Over items = false
 
 -- a name goes on alike, whatever was read of it
 abbrev IsAlike : List Item → Type 0
@@ -61,7 +70,7 @@ equals-by false false true t rest = refl
 equals-by false false false t rest = blank-by (is_space t) t rest
 
 -- one more item
-pub name-part : (part : NamePart) (item : Item) (rest : List Item) → names_from part (item ∷ rest) ≡ names_from (behind part item) rest
+name-part : (part : NamePart) (item : Item) (rest : List Item) → names_from part (item ∷ rest) ≡ names_from (behind part item) rest
 name-part Equals (Took t) rest = equals-by (is_undefined t) (is_space t) (is_other (character "=") t) t rest
 name-part Blank (Took t) rest = blank-by (is_space t) t rest
 name-part Name (Took t) rest = name-step t [] rest (name-alike rest)
@@ -70,3 +79,22 @@ name-part Equals (Gave v) rest = refl
 name-part Blank (Gave v) rest = refl
 name-part Name (Gave v) rest = refl
 name-part Over (Gave v) rest = refl
+
+-- all of them, and then none
+names-read : (part : NamePart) (items : List Item) → names_from part items ≡ names_from (fold behind part items) []
+names-read part [] = refl
+names-read part (item ∷ items) = name-part part item items ∙ names-read (behind part item) items
+
+names-none : (part : NamePart) → names_from part [] ≡ is_name part
+names-none Equals = refl
+names-none Blank = refl
+names-none Name = refl
+names-none Over = refl
+
+-- what comes next is the name where that is being read
+pub naming-is : (part : NamePart) (items : List Item) (answer : Bool) → part ≡ part_behind items → answer ≡ is_name part → answer ≡ is_named_next (equals items)
+naming-is part items answer is told = told ∙ (ap is_name is ∙ (sym (names-none (part_behind items)) ∙ sym (names-read Equals items)))
+
+-- what comes next behind one more item
+pub part_more : (items : List Item) (item : Item) → part_behind (items ++ item ∷ []) ≡ behind (part_behind items) item
+part_more items item = fold_push behind Equals items item

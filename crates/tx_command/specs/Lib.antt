@@ -6,3 +6,4 @@ pub mod Begun
 pub mod Taken
 pub mod Naming
 pub mod AtOnce
+pub mod Buffer

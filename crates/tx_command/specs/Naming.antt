@@ -1,5 +1,5 @@
 -- Whether the name of a file is being read, item by item.
-use Rattle.std.specs.Prelude.{◌==◌, ◌||◌, Bool, false, not, List, [], if◌then◌else◌}
+use Rattle.std.specs.Prelude.{◌==◌, ◌||◌, Bool, true, false, not, List, fold, if◌then◌else◌}
 use Rattle.tx_char.specs.Character.{character}
 use Rattle.tx_seen.specs.declared.item.Item.{Item}
 use Rattle.tx_seen.specs.declared.item.Item.TheVariants.{Took, Gave}
@@ -7,11 +7,8 @@ use Rattle.tx_seen.specs.declared.meaning.Meaning.{Meaning}
 use Rattle.tx_seen.specs.declared.meaning.Meaning.TheVariants.{Character}
 use Rattle.tx_seen.specs.declared.seen.Seen.{Seen}
 use Rattle.tx_seen.specs.Seen.{is_other, is_space, is_undefined}
-use Rattle.tx_scan.specs.FileNames.{file_name, name_from}
-use Rattle.tx_scan.specs.Grammars.{equals}
 use Rattle.tx_command.specs.declared.naming.NamePart.{NamePart}
 use Rattle.tx_command.specs.declared.naming.NamePart.TheVariants.{Equals, Blank, Name, Over}
-use Rattle.tx_command.specs.Commands.{is_named_next, is_unnamed}
 
 -- whether a token is a character of a file's name: one that is no blank
 abbrev pub is_named_by : Meaning → Bool
@@ -41,9 +38,13 @@ abbrev pub behind : NamePart → Item → NamePart
 behind part (Gave v) = Over
 behind part (Took t) = behind_token part t
 
--- whether these items leave the name unread, where they begin so
-abbrev pub names_from : NamePart → List Item → Bool
-names_from Equals items = is_named_next (equals items)
-names_from Blank items = is_unnamed (file_name items)
-names_from Name items = is_unnamed (name_from [] items)
-names_from Over items = false
+-- and behind all of these items
+abbrev pub part_behind : List Item → NamePart
+part_behind items = fold behind Equals items
+
+-- whether it is the name
+abbrev pub is_name : NamePart → Bool
+is_name Equals = false
+is_name Blank = true
+is_name Name = true
+is_name Over = false

@@ -48,6 +48,7 @@ pub enum AtOnce {
 }
 
 /// What a character is by itself, by its category.
+#[inline(always)]
 fn character_alone(code: u8, category: Cat) -> Option<AtOnce>
     ensures { IfSome result (λ found. spec.IsAlone (spec.character code category) found) }
 {
@@ -65,6 +66,7 @@ fn character_alone(code: u8, category: Cat) -> Option<AtOnce>
 }
 
 /// What a primitive is by itself.
+#[inline(always)]
 fn primitive_alone(primitive: Primitive) -> Option<AtOnce>
     ensures { IfSome result (λ found. spec.IsAlone (spec.primitive_meaning primitive) found) }
 {
@@ -85,6 +87,7 @@ fn primitive_alone(primitive: Primitive) -> Option<AtOnce>
 }
 
 /// What a token that means this is by itself.
+#[inline(always)]
 fn alone(meaning: &Meaning) -> Option<AtOnce>
     ensures { IfSome result (λ found. spec.IsAlone meaning.now found) }
 {
@@ -103,6 +106,7 @@ fn alone(meaning: &Meaning) -> Option<AtOnce>
 }
 
 /// Whether a command whose first token means this is carried out in a mode.
+#[inline(always)]
 fn stands(mode: Mode, meaning: &Meaning) -> bool
     ensures { IsTrue result ↔ (standing_of mode meaning.now ≡ Stands) }
 {
@@ -111,6 +115,7 @@ fn stands(mode: Mode, meaning: &Meaning) -> bool
 
 /// What a token that means this is by itself in a mode. The table of the modes is asked last, since only a token that is whole by
 /// itself needs it.
+#[inline(always)]
 fn alone_in(mode: Mode, meaning: &Meaning) -> Option<AtOnce>
     ensures { IfSome result (λ found. spec.IsAloneIn mode meaning.now found) }
 {
@@ -122,7 +127,9 @@ fn alone_in(mode: Mode, meaning: &Meaning) -> Option<AtOnce>
 
 impl CommandScan {
     /// The command that this token is by itself, where nothing of a command is taken and nothing stands before it. Where it isn't
-    /// carried out in the mode, since it is refused there or a paragraph begins or ends before it, the answer is None.
+    /// carried out in the mode, since it is refused there or a paragraph begins or ends before it, the answer is None. It is put into
+    /// the turn as a whole, since most tokens of a document pass here.
+    #[inline(always)]
     pub fn at_once(&self, seen: &Seen) -> Option<AtOnce>
         ensures { IfSome result (λ found. spec.IsWhole self.now seen.now found) }
     {

@@ -6,8 +6,8 @@
 //! worked out by hand and on documents that Knuth's TeX reads alike.
 //!
 //! Read `types`; `standing`, what may stand where; `scans` and `rule`, what is being read; `buffer`, where a whole command is put;
-//! `mapping` and `stage`, what one token makes of it; `naming`, whether a file's name is being read; `taking`, whole commands;
-//! `at_once`, those that are one token; last `clones` and `kept`.
+//! `mapping` and `stage`, what one token makes of it; `naming`, whether a file's name is being read; `taken_items`, what was taken;
+//! `taking`, whole commands; `at_once`, those that are one token; last `clones` and `kept`.
 #![tactic(auto)]
 
 mod at_once;
@@ -20,6 +20,7 @@ mod rule;
 mod scans;
 mod stage;
 mod standing;
+mod taken_items;
 mod taking;
 mod types;
 

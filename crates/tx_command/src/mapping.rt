@@ -15,6 +15,7 @@ use tx_seen::{Fed, Place};
 use tx_shape::{BoxContext, BoxRead, FontAsked, Shaped};
 
 /// An assignment, which its scan has made.
+#[inline(always)]
 pub fn assigned(fed: Fed<()>) -> Fed<Whole>
     ensures { result ≡ mapped (λ _. Whole.Assignment) fed }
 {
@@ -27,6 +28,7 @@ pub fn assigned(fed: Fed<()>) -> Fed<Whole>
 }
 
 /// A command that is whole is put beside.
+#[inline(always)]
 pub fn put_whole(fed: Fed<Command>, made: &mut CommandBuffer) -> Fed<Whole>
     ensures answer { result ≡ mapped (λ _. Whole.Command) fed }
     ensures made { (scans : Scans) → told scans made.new result ≡ fed }
@@ -48,7 +50,7 @@ pub fn take_whole(whole: Whole, scans: &mut Scans, made: &mut CommandBuffer)
     ensures { made.new ≡ whole_command scans.old made.old whole }
 {
     match whole {
-        Whole::Assignment => made.put(Command::Assign(scans.assignment.take())),
+        Whole::Assignment => made.put_assignment(&mut scans.assignment),
         Whole::Command => {}
     }
 }
@@ -167,6 +169,7 @@ fn box_command(read: BoxRead, context: BoxContext) -> Command
 }
 
 /// The command of what a box, or what is done with one, and its kin have come to.
+#[inline(never)]
 fn command_of(shaped: Shaped) -> Command
     ensures { result ≡ commands.command_of shaped }
 {
@@ -207,6 +210,7 @@ pub fn shaped(fed: Fed<Shaped>) -> Fed<Command>
 }
 
 /// The same, put beside where it is whole.
+#[inline(always)]
 pub fn put_shaped(fed: Fed<Shaped>, made: &mut CommandBuffer) -> Fed<Whole>
     ensures answer { result ≡ mapped (λ _. Whole.Command) fed }
     ensures made { (scans : Scans) → told scans made.new result ≡ mapped commands.command_of fed }

@@ -1,7 +1,5 @@
 //! Whether the name of a file is being read behind \font (TeX: The Program, sections 526 and 1257).
 ghost use Rattle.std.specs.Prelude.{◌≡◌};
-ghost use Rattle.tx_scan.specs.Grammars.{equals};
-ghost use Rattle.tx_command.specs.Commands as commands;
 ghost use Rattle.tx_command.specs.Naming as spec;
 
 use tx_seen::{Item, Meaning, Seen};
@@ -30,6 +28,15 @@ fn is_named(token: &Seen) -> bool
     }
 }
 
+impl NamePart {
+    /// Whether it is the name.
+    pub(crate) fn is_name(self) -> bool
+        ensures { result ≡ spec.is_name self }
+    {
+        matches!(self, NamePart::Blank | NamePart::Name)
+    }
+}
+
 /// Behind a token of the name.
 fn behind_name(token: &Seen) -> NamePart
     ensures { result ≡ spec.behind_name token.now }
@@ -42,6 +49,7 @@ fn behind_name(token: &Seen) -> NamePart
 }
 
 /// Behind a token where the name may begin.
+#[inline(never)]
 fn behind_blank(token: &Seen) -> NamePart
     ensures { result ≡ spec.behind_blank token.now }
 {
@@ -53,6 +61,7 @@ fn behind_blank(token: &Seen) -> NamePart
 }
 
 /// Behind a token where an `=` may stand.
+#[inline(never)]
 fn behind_equals(token: &Seen) -> NamePart
     ensures { result ≡ spec.behind_equals token.now }
 {
@@ -68,7 +77,8 @@ fn behind_equals(token: &Seen) -> NamePart
 }
 
 /// Behind one more item.
-fn behind(part: NamePart, item: &Item) -> NamePart
+#[inline(always)]
+pub(crate) fn behind(part: NamePart, item: &Item) -> NamePart
     ensures { result ≡ spec.behind part item.now }
 {
     match item {
@@ -80,15 +90,4 @@ fn behind(part: NamePart, item: &Item) -> NamePart
             NamePart::Over => NamePart::Over,
         },
     }
-}
-
-/// Whether the name of a file is being read behind these items.
-pub(crate) fn is_naming(items: &[Item]) -> bool
-    ensures { result ≡ commands.is_named_next (equals items.now) }
-{
-    let mut part = NamePart::Equals;
-    for item in items {
-        part = behind(part, item);
-    }
-    matches!(part, NamePart::Blank | NamePart::Name)
 }

@@ -72,14 +72,8 @@ fn feed_second(head: &Head, token: &Seen) -> Result<Fed<Command>, AllocError>
             }),
             2,
         )),
-        Head::Fresh | Head::Prefixed(_) | Head::Defining(_, _, _) => {
-            Ok(Fed::Done(Command::Nothing, 2))
-        }
-        Head::Leading(_, _) | Head::Loading(_, _) => Ok(Fed::Done(Command::Nothing, 2)),
-        Head::Shaping(_, _, _) | Head::Opening(_) => Ok(Fed::Done(Command::Nothing, 2)),
-        Head::Shift | Head::Part(_) => Ok(Fed::Done(Command::Nothing, 2)),
-        Head::Aligning(_) | Head::Preamble => Ok(Fed::Done(Command::Nothing, 2)),
-        Head::Row | Head::Entry => Ok(Fed::Done(Command::Nothing, 2)),
+        // of all others alike
+        _ => Ok(Fed::Done(Command::Nothing, 2)),
     }
 }
 
@@ -450,7 +444,7 @@ impl Scans {
     fn start_variable(&mut self, variable: Variable) -> Want
         ensures { Begins (commands.assigning (Assigning.Variable variable)) self.new (Fed.More result) }
     {
-        self.assignment.begin(Assigning::Variable(variable));
+        self.assignment.begin_variable(variable);
         self.stage = Stage::Assign;
         Want::Expanded
     }
@@ -513,6 +507,7 @@ impl Scans {
     }
 
     /// The first token of a command behind prefixes.
+    #[inline(never)]
     fn feed_prefixed(&mut self, prefixes: Prefixes, token: &Seen) -> Fed<Command>
         ensures { Begins (λ more. commands.prefixed_command prefixes (Took token.now ∷ more)) self.new result }
     {
@@ -527,6 +522,7 @@ impl Scans {
     }
 
     /// The first token of the glue behind leaders, or what is skipped before it.
+    #[inline(never)]
     fn feed_leading(&mut self, mode: Mode, token: &Seen) -> Fed<Command>
         ensures { Begins (λ more. commands.leading_command mode (Took token.now ∷ more)) self.new result }
     {
@@ -606,6 +602,7 @@ impl Scans {
     }
 
     /// The first token behind a name that \font defines. Its only error is want of memory.
+    #[inline(never)]
     fn feed_loading(&mut self, name: &Place, token: &Seen) -> Result<Fed<Command>, AllocError>
         ensures { (mode : Mode) (head : Head) → IfOk result (IsBegunBy mode head 1 (λ more. commands.loading name.now (Took token.now ∷ more)) (Took token.now ∷ []) self.new) }
     {
@@ -614,6 +611,7 @@ impl Scans {
     }
 
     /// The first token of a size of \parshape. Its only error is want of memory.
+    #[inline(never)]
     fn feed_shape(&mut self, token: &Seen) -> Result<Fed<Command>, AllocError>
         ensures { (mode : Mode) (head : Head) → IfOk result (IsBegunBy mode head 1 (λ more. commands.sizing SizeUse.Shape (Took token.now ∷ more)) (Took token.now ∷ []) self.new) }
     {
@@ -623,6 +621,7 @@ impl Scans {
     }
 
     /// The begin-group token that is awaited, or what is skipped before it.
+    #[inline(never)]
     fn feed_open(&mut self, opener: Opener, token: &Seen) -> Fed<Command>
         ensures { Begins (λ more. commands.shaping (Shaping.Open opener) (Took token.now ∷ more)) self.new result }
     {
@@ -631,6 +630,7 @@ impl Scans {
     }
 
     /// The first token of what the preamble of an alignment is set to, or its begin-group token.
+    #[inline(never)]
     fn feed_align(&mut self, token: &Seen) -> Fed<Command>
         ensures { Begins (λ more. commands.shaping Shaping.Align (Took token.now ∷ more)) self.new result }
     {
@@ -784,6 +784,7 @@ impl Scans {
     }
 
     /// What a box, or what is done with one, takes, and its kin.
+    #[inline(never)]
     fn begin_shape(&mut self, shaping: Shaping) -> Fed<Command>
         ensures { Begins (commands.shaping shaping) self.new result }
     {
@@ -799,6 +800,7 @@ impl Scans {
     }
 
     /// What gives a variable a value.
+    #[inline(never)]
     fn begin_variable(&mut self, variable: Variable) -> Fed<Command>
         ensures { Begins (commands.assigning (Assigning.Variable variable)) self.new result }
     {
@@ -806,6 +808,7 @@ impl Scans {
     }
 
     /// An assignment, whose next token is wanted so.
+    #[inline(never)]
     fn begin_assignment(&mut self, begun: Assigning, want: Want) -> Fed<Command>
         requires { assignment begun [] ≡ More want }
         ensures { Begins (commands.assigning begun) self.new result }

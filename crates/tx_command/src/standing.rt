@@ -47,7 +47,11 @@ fn modes_of_meaning(meaning: &Meaning) -> Modes
 pub fn standing_in(mode: Mode, meaning: &Meaning) -> Standing
     ensures { result ≡ spec.standing_in mode meaning.now }
 {
-    modes_of_meaning(meaning).standing(mode)
+    match modes_of_meaning(meaning) {
+        // most commands
+        Modes::All => Standing::Stands,
+        modes => modes.standing(mode),
+    }
 }
 
 /// Whether prefixes stand before definitions alone.

@@ -1,5 +1,5 @@
 //! Commands, taken off the input token by token (TeX: The Program, part 46).
-ghost use Rattle.std.specs.Prelude.{◌≡◌, ◌↔◌, ◌<◌, ◌≤◌, ◌+◌, ◌∷◌, ◌++◌, [], ℕ, false, List, length, IfOk, OnOk, IsTrue};
+ghost use Rattle.std.specs.Prelude.{◌≡◌, ◌↔◌, ◌≤◌, ◌+◌, ◌∷◌, ◌++◌, [], false, List, length, IfOk, OnOk, IsTrue};
 ghost use Rattle.tx_prim.specs.declared.modes.Mode.{Mode};
 ghost use Rattle.tx_seen.specs.declared.item.Item.{Item};
 ghost use Rattle.tx_seen.specs.declared.item.Item.TheVariants.{Gave, Took};
@@ -15,17 +15,16 @@ ghost use Rattle.tx_command.specs.Taken.{joined, IsEnd, IsPending, IsSettled, Is
 
 use crate::buffer::CommandBuffer;
 use crate::mapping::take_whole;
-use crate::naming::is_naming;
 use crate::scans::{Scans, Stage, Taken, Whole};
+use crate::taken_items::TakenItems;
 use crate::types::{Head, Prefixes};
 use std::alloc::{AllocError, Global};
 use std::marker::Model;
 use std::mem::replace;
-use tx_list::{Items, Kept};
+use tx_list::Kept;
 use tx_node::Rule;
 use tx_pending::Pending;
 use tx_prim::{AtomPart, LeadersKind, Mode, Prefix, Shorthand};
-use tx_scan::give_back;
 use tx_seen::{Fed, Item, Kind, Place, Quantities, Seen, Want};
 
 /// A command that is being taken off the input. Contracts see the mode, what stands before the command, and the tokens and
@@ -34,7 +33,7 @@ use tx_seen::{Fed, Item, Kind, Place, Quantities, Seen, Want};
 pub struct CommandScan {
     mode: Mode,
     head: Head,
-    taken: Items<Item>,
+    taken: TakenItems,
     /// How the next token is wanted.
     want: Want,
     /// Behind a pointer, so that what holds a command is moved and dropped in few steps.
@@ -61,7 +60,7 @@ impl CommandScan {
         Ok(CommandScan {
             mode,
             head: Head::Fresh,
-            taken: Items::new(alloc),
+            taken: TakenItems::new(alloc),
             want: Want::Expanded,
             scans,
         })
@@ -101,10 +100,8 @@ impl CommandScan {
     {
         match &self.head {
             Head::Leading(kind, rule) => Some((*kind, *rule)),
-            Head::Fresh | Head::Prefixed(_) | Head::Defining(_, _, _) | Head::Future(_, _) => None,
-            Head::Loading(_, _) | Head::Shaping(_, _, _) | Head::Opening(_) => None,
-            Head::Shift | Head::Part(_) => None,
-            Head::Aligning(_) | Head::Preamble | Head::Row | Head::Entry => None,
+            // of all others alike
+            _ => None,
         }
     }
 
@@ -121,10 +118,8 @@ impl CommandScan {
     {
         match &self.head {
             Head::Part(part) => Some(*part),
-            Head::Fresh | Head::Prefixed(_) | Head::Defining(_, _, _) | Head::Future(_, _) => None,
-            Head::Leading(_, _) | Head::Loading(_, _) | Head::Shaping(_, _, _) => None,
-            Head::Opening(_) | Head::Shift => None,
-            Head::Aligning(_) | Head::Preamble | Head::Row | Head::Entry => None,
+            // of all others alike
+            _ => None,
         }
     }
 
@@ -134,10 +129,8 @@ impl CommandScan {
     {
         match &self.head {
             Head::Aligning(level) => *level,
-            Head::Fresh | Head::Prefixed(_) | Head::Defining(_, _, _) | Head::Future(_, _) => 0,
-            Head::Leading(_, _) | Head::Loading(_, _) | Head::Shaping(_, _, _) => 0,
-            Head::Opening(_) | Head::Shift | Head::Part(_) => 0,
-            Head::Preamble | Head::Row | Head::Entry => 0,
+            // of all others alike
+            _ => 0,
         }
     }
 
@@ -167,11 +160,9 @@ impl CommandScan {
         ensures { result ≡ commands.is_naming self.now.head self.now.taken }
     {
         match &self.head {
-            Head::Loading(_, _) => is_naming(self.taken.as_slice()),
-            Head::Fresh | Head::Prefixed(_) | Head::Defining(_, _, _) => false,
-            Head::Future(_, _) | Head::Leading(_, _) | Head::Shaping(_, _, _) => false,
-            Head::Opening(_) | Head::Shift | Head::Part(_) => false,
-            Head::Aligning(_) | Head::Preamble | Head::Row | Head::Entry => false,
+            Head::Loading(_, _) => self.taken.is_naming(),
+            // of all others alike
+            _ => false,
         }
     }
 
@@ -190,8 +181,7 @@ impl CommandScan {
         ensures { self.new ≡ record { mode = mode; head = self.old.head; taken = [] } }
     {
         self.mode = mode;
-        self.want = begun_want(&self.head);
-        restart(&mut self.taken, &mut self.scans);
+        begin_next(&self.head, &mut self.taken, &mut self.want, &mut self.scans);
     }
 
     /// Begins a command behind this.
@@ -199,8 +189,7 @@ impl CommandScan {
         ensures { self.new ≡ record { mode = self.old.mode; head = head; taken = [] } }
     {
         self.head = head;
-        self.want = begun_want(&self.head);
-        restart(&mut self.taken, &mut self.scans);
+        begin_next(&self.head, &mut self.taken, &mut self.want, &mut self.scans);
     }
 
     /// Begins a command that nothing stands before, and answers what stood before the last one.
@@ -262,27 +251,25 @@ impl CommandScan {
             made,
         );
         match fed {
+            // most tokens
             Ok(Fed::More(want)) => {
                 self.want = want;
                 Ok(Taken::More)
             }
             Ok(Fed::Need(_kind)) => unreachable!(),
             Ok(Fed::Done(whole, back)) => {
-                let given = give_back(&mut self.taken, input, back);
+                let given = self.taken.put_back(input, back);
                 take_whole(whole, &mut self.scans, made);
-                self.want = begun_want(&self.head);
-                restart(&mut self.taken, &mut self.scans);
+                begin_next(&self.head, &mut self.taken, &mut self.want, &mut self.scans);
                 given?;
                 Ok(Taken::Whole)
             }
             Ok(Fed::Wrong(error)) => {
-                self.want = begun_want(&self.head);
-                restart(&mut self.taken, &mut self.scans);
+                begin_next(&self.head, &mut self.taken, &mut self.want, &mut self.scans);
                 Ok(Taken::Wrong(error))
             }
             Err(error) => {
-                self.want = begun_want(&self.head);
-                restart(&mut self.taken, &mut self.scans);
+                begin_next(&self.head, &mut self.taken, &mut self.want, &mut self.scans);
                 Err(error)
             }
         }
@@ -314,12 +301,23 @@ fn begun_want(head: &Head) -> Want
 }
 
 /// Nothing is taken of the next command.
-fn restart(taken: &mut Items<Item>, scans: &mut Scans)
+fn restart(taken: &mut TakenItems, scans: &mut Scans)
     ensures taken { taken.new ≡ [] }
     ensures scans { scans.new ≡ record scans.old { stage = Stage.Start } }
 {
     taken.clear();
     scans.stage = Stage::Start;
+}
+
+/// The next command begins behind this, of which nothing is taken.
+#[inline(never)]
+fn begin_next(head: &Head, taken: &mut TakenItems, want: &mut Want, scans: &mut Scans)
+    ensures taken { taken.new ≡ [] }
+    ensures want { (mode : Mode) → commands.command mode head.now [] ≡ More want.new }
+    ensures scans { scans.new ≡ record scans.old { stage = Stage.Start } }
+{
+    *want = begun_want(head);
+    restart(taken, scans);
 }
 
 /// Whether an answer ends the command, and no token is given back.
@@ -338,7 +336,7 @@ fn is_end(fed: &Fed<Whole>) -> bool
 fn take<Q: Quantities>(
     mode: Mode,
     head: &Head,
-    taken: &mut Items<Item>,
+    taken: &mut TakenItems,
     scans: &mut Scans,
     quantities: &Q,
     token: Seen,
@@ -372,7 +370,7 @@ fn take<Q: Quantities>(
 /// them. Its only error is want of memory.
 #[inline(never)]
 fn supply<Q: Quantities>(
-    taken: &mut Items<Item>,
+    taken: &mut TakenItems,
     scans: &mut Scans,
     quantities: &Q,
     token: Seen,
@@ -391,7 +389,7 @@ fn supply<Q: Quantities>(
 /// Gives the values that the command needs behind the token that was taken last, as the table has them, until it needs none. Its
 /// only error is want of memory.
 fn settle<Q: Quantities>(
-    taken: &mut Items<Item>,
+    taken: &mut TakenItems,
     scans: &mut Scans,
     quantities: &Q,
     behind: &Seen,
@@ -414,7 +412,7 @@ fn settle<Q: Quantities>(
 
 /// Gives the value that is needed, where this token was taken last. Its only error is want of memory.
 fn give<Q: Quantities>(
-    taken: &mut Items<Item>,
+    taken: &mut TakenItems,
     scans: &mut Scans,
     quantities: &Q,
     behind: &Seen,

@@ -970,9 +970,9 @@ impl Expander {
 
     /// Whether the caller only looks at the next token.
     fn peeks(&self, wanted: Wanted) -> bool
-        ensures { result ≡ turns.peeks_at wanted self.now.begun.items }
+        ensures { result ≡ turns.peeks_at wanted self.now.begun }
     {
-        match self.begun.front() {
+        match self.begun.first() {
             None => wanted.peeks,
             Some(_) => false,
         }

@@ -11,7 +11,7 @@ use tx_aligning::{
     align, begin_align, begin_entry, begin_noalign, end_align, expand_next, feed_template,
     set_tabskip,
 };
-use tx_assign::{Assignment, Carried, Change, relaxed};
+use tx_assign::{Assignment, Carried, relaxed};
 use tx_boxing::{
     add_rule, add_size, begin_break, begin_shape, begin_vertical_list, build_behind, build_here,
     copy_box, end_paragraph, end_run, end_semi_simple, indent, insert_par, open_box, remove,
@@ -95,10 +95,11 @@ fn assign(alloc: Global, s: &mut State, assignment: Assignment) -> Result<Event,
         return set_tabskip(alloc, s, assignment);
     }
     let global = s.scan.prefixes().global;
-    let Assignment { place, change } = assignment;
-    match change {
-        Change::Text => Ok(begin_list(alloc, s, place)),
-        change => assign_so(s, Assignment { place, change }, global),
+    if assignment.is_text() {
+        let Assignment { place, change: _ } = assignment;
+        Ok(begin_list(alloc, s, place))
+    } else {
+        assign_so(s, assignment, global)
     }
 }
 
@@ -340,12 +341,22 @@ pub(crate) fn carry_made_out(alloc: Global, s: &mut State) -> Result<Event, Allo
     requires between { s.old.scan.taken ≡ [] }
     ensures { IfOk result (λ event. IsStepped (effects.effect (state_of s.old) s.old.made) s.old event s.new) }
 {
-    let command = s.made.take();
-    match command {
+    match s.made.take_assignment() {
         // most commands
-        Command::Assign(assignment) => assign(alloc, s, assignment),
-        command => carry_out(alloc, s, command),
+        Some(assignment) => assign(alloc, s, assignment),
+        None => carry_other_out(alloc, s),
     }
+}
+
+/// The same where no scan of assignments has made it.
+#[inline(never)]
+fn carry_other_out(alloc: Global, s: &mut State) -> Result<Event, AllocError>
+    requires running { s.old.phase ≡ Phase.Running }
+    requires between { s.old.scan.taken ≡ [] }
+    ensures { IfOk result (λ event. IsStepped (effects.effect (state_of s.old) s.old.made) s.old event s.new) }
+{
+    let command = s.made.take();
+    carry_out(alloc, s, command)
 }
 
 /// Carries out a command that one token is. Its only error is want of memory.

@@ -1,5 +1,5 @@
 //! Dimensions, token by token (TeX: The Program, sections 448 to 458).
-ghost use Rattle.std.specs.Prelude.{◌≡◌, ◌≤◌, ◌≤ℤ◌, ◌∷◌, ◌++◌, ◌&&◌, [], ℕ, pos, neg_ℤ, unsigned_abs, List, IfOk};
+ghost use Rattle.std.specs.Prelude.{◌≡◌, ◌≤◌, ◌≤ℤ◌, ◌∷◌, ◌&&◌, [], ℕ, pos, neg_ℤ, unsigned_abs, List, IfOk};
 ghost use Rattle.tx_num.specs.Decimals.{fraction_of};
 ghost use Rattle.tx_num.specs.Fractions.{signed};
 ghost use Rattle.tx_num.specs.Units.{size_of};
@@ -7,13 +7,12 @@ ghost use Rattle.tx_seen.specs.Seen.{is_point};
 ghost use Rattle.tx_seen.specs.declared.item.Item.{Item};
 ghost use Rattle.tx_seen.specs.declared.item.Item.TheVariants.{Took, Gave};
 ghost use Rattle.tx_seen.specs.declared.seen.Seen.{Seen};
-ghost use Rattle.tx_seen.specs.Readings.{Answers, next};
-ghost use Rattle.tx_scan.specs.Dimensions.{dimension, ended_with, sized, in_mu, is_decimal, numbered_unit, quantified, spelled, unit_ended, unit_name};
+ghost use Rattle.tx_seen.specs.Readings.{next};
+ghost use Rattle.tx_scan.specs.Dimensions.{ended_with, sized, in_mu, is_decimal, numbered_unit, quantified, spelled, unit_ended, unit_name};
 ghost use Rattle.tx_scan.specs.Dimensions as spec;
 ghost use Rattle.tx_scan.specs.Dimensions.{True_unit};
 ghost use Rattle.tx_scan.specs.Integers.{given, integer, IsInRange};
 ghost use Rattle.tx_scan.specs.IntegerRests as integers;
-ghost use Rattle.tx_scan.specs.declared.scans.Units.{Units as Units_of_size};
 ghost use Rattle.tx_scan.specs.Rests.{IsFedBy, IsGivenBy, IsEnd};
 ghost use Rattle.tx_scan.specs.Supplied.{NeedsFewer, NeedsNoMore};
 ghost use Rattle.tx_scan.specs.DimensionRests.{count_held, HasTaken, IsFed, IsMeasuring, IsSize, IsUnit, begun_size, begun_size_behind, held, held_items, more_needed, name_ended, part_of, rest};
@@ -90,7 +89,6 @@ impl DimenScan {
     /// Takes one token, at first and after More. The answer is what reading gives of all that was taken. Its only error is
     /// want of memory.
     pub fn feed(&mut self, token: &Seen) -> Result<Fed<Measure>, AllocError>
-        ensures answer { (units : Units_of_size) → (taken : List Item) → HasTaken units self.old taken → IfOk result (Answers (dimension units) (HasTaken units) (taken ++ Took token.now ∷ []) self.new) }
         ensures part { IfOk result (IsFedBy rest held self.old token.now self.new) }
         ensures fed { IfOk result (IsFed self.old token.now self.new) }
         ensures size { IfOk result IsSize }
@@ -134,16 +132,6 @@ impl DimenScan {
     /// Takes the value that it needs. The answer is what reading gives of all that was taken. Its only error is want of
     /// memory.
     pub fn give(&mut self, value: &Value) -> Result<Fed<Measure>, AllocError>
-        ensures answer { (units : Units_of_size) → (taken : List Item) → HasTaken units self.old taken → IfOk result (Answers (dimension units) (HasTaken units) (taken ++ Gave value.now ∷ []) self.new) }
-        ensures part { IfOk result (IsGivenBy rest held self.old value.now self.new) }
-        ensures size { IfOk result IsSize }
-        ensures fewer { IfOk result (NeedsFewer (more_needed self.old) (more_needed self.new)) }
-    {
-        self.behind_value(value)
-    }
-
-    /// What it is behind a value. Its only error is want of memory.
-    fn behind_value(&mut self, value: &Value) -> Result<Fed<Measure>, AllocError>
         ensures part { IfOk result (IsGivenBy rest held self.old value.now self.new) }
         ensures size { IfOk result IsSize }
         ensures fewer { IfOk result (NeedsFewer (more_needed self.old) (more_needed self.new)) }
@@ -182,6 +170,7 @@ impl DimenScan {
     }
 
     /// Signs and spaces, or what begins the factor. Its only error is want of memory.
+    #[inline(never)]
     fn feed_sign(&mut self, token: &Seen) -> Result<Fed<Measure>, AllocError>
         requires { self.old.stage ≡ DimenStage.Signs }
         ensures fed { IfOk result (IsFed self.old token.now self.new) }
@@ -219,6 +208,7 @@ impl DimenScan {
     }
 
     /// An internal quantity: a size is the dimension, a number its factor. Its only error is want of memory.
+    #[inline(never)]
     fn begin_quantity(&mut self, is_size: bool, token: &Seen) -> Result<Fed<Measure>, AllocError>
         ensures fed { IfOk result (IsMeasuring 0 (λ more. quantified self.old.units self.old.negative is_size (integer (Took token.now ∷ more)) (beginnings.beginning token.now) more) token.now self.new) }
         ensures size { IfOk result IsSize }
@@ -235,6 +225,7 @@ impl DimenScan {
     }
 
     /// A number that is the factor, or what ends it. Its only error is want of memory.
+    #[inline(never)]
     fn feed_coefficient(&mut self, token: &Seen) -> Result<Fed<Measure>, AllocError>
         ensures fed { IfOk result (IsMeasuring (integers.most self.old.number) (λ more. next (integers.rest self.old.number (held_items (integers.held self.old.number) self.old.behind) (Took token.now) more) (numbered_unit self.old.units self.old.negative)) token.now self.new) }
         ensures size { IfOk result IsSize }
@@ -305,6 +296,7 @@ impl DimenScan {
     }
 
     /// An internal quantity that has to be told in mu.
+    #[inline(never)]
     fn begin_mathematical(&mut self, amount: Amount, beginning: Beginning) -> Fed<Measure>
         ensures fed { (t : Seen) → IsMeasuring 0 (λ more. in_mu self.old.negative (fraction_of self.old.digits) amount beginning more) t self.new result }
         ensures size { IsSize result }
@@ -339,6 +331,7 @@ impl DimenScan {
     }
 
     /// What becomes of the dimension by what the scan of a quantity answers that has to be told in mu.
+    #[inline(never)]
     fn mathematical(&self, amount: Amount, fed: Fed<Value>) -> Fed<Measure>
         ensures answer { result ≡ settled (spec.mathematical self.now.negative (fraction_of self.now.digits) amount) fed }
         ensures size { IsSize result }
@@ -400,6 +393,7 @@ impl DimenScan {
     }
 
     /// A space before the unit behind `true`, or the first letter of its name.
+    #[inline(never)]
     fn feed_true_unit(&mut self, whole: u32, portion: Portion, token: &Seen) -> Fed<Measure>
         requires { self.old.stage ≡ DimenStage.TrueUnit whole portion }
         ensures fed { IsFed self.old token.now self.new result }
@@ -417,6 +411,7 @@ impl DimenScan {
     }
 
     /// An internal quantity that ends the dimension, or what ends it. Its only error is want of memory.
+    #[inline(never)]
     fn feed_quantity(&mut self, amount: Amount, token: &Seen) -> Result<Fed<Measure>, AllocError>
         ensures fed { IfOk result (λ answer. (behind : List Item) → IsMeasuring (integers.most self.old.number) (λ more. next (integers.rest self.old.number behind (Took token.now) more) (ended_with self.old.negative (fraction_of self.old.digits) amount)) token.now self.new answer) }
         ensures size { IfOk result IsSize }
@@ -479,6 +474,7 @@ impl DimenScan {
     }
 
     /// The first digit of an octal or hexadecimal factor.
+    #[inline(never)]
     fn feed_first_digit(&mut self, radix: Radix, token: &Seen) -> Fed<Measure>
         requires { self.old.stage ≡ DimenStage.FirstDigit radix }
         ensures fed { IsFed self.old token.now self.new result }
@@ -530,6 +526,7 @@ impl DimenScan {
     }
 
     /// The character behind a backquote.
+    #[inline(never)]
     fn feed_character(&mut self, token: &Seen) -> Fed<Measure>
         requires { self.old.stage ≡ DimenStage.Character }
         ensures fed { IsFed self.old token.now self.new result }
@@ -543,6 +540,7 @@ impl DimenScan {
     }
 
     /// An optional space behind a character's code. Its only error is want of memory.
+    #[inline(never)]
     fn feed_after_character(&mut self, code: u8, token: &Seen) -> Result<Fed<Measure>, AllocError>
         requires { self.old.stage ≡ DimenStage.AfterCharacter code }
         ensures fed { IfOk result (IsFed self.old token.now self.new) }
@@ -666,6 +664,7 @@ impl DimenScan {
     }
 
     /// A space behind `fil`, or an l of it, or what is behind it all.
+    #[inline(never)]
     fn feed_fil(&mut self, whole: u32, order: Order, token: &Seen) -> Fed<Measure>
         requires { self.old.stage ≡ DimenStage.AfterFil whole order }
         ensures fed { IsFed self.old token.now self.new result }

@@ -1,8 +1,7 @@
 //! Glue, token by token (TeX: The Program, section 461).
-ghost use Rattle.std.specs.Prelude.{◌≡◌, ◌≤◌, ◌<◌, ◌≤ℤ◌, ◌+◌, ◌∷◌, ◌++◌, [], Bool, ℕ, pos, neg_ℤ, List, length, IfOk};
+ghost use Rattle.std.specs.Prelude.{◌≡◌, ◌≤◌, ◌<◌, ◌≤ℤ◌, ◌+◌, ◌∷◌, ◌++◌, [], ℕ, pos, neg_ℤ, List, length, IfOk};
 ghost use Rattle.tx_seen.specs.declared.item.Item.{Item};
-ghost use Rattle.tx_seen.specs.declared.item.Item.TheVariants.{Took, Gave};
-ghost use Rattle.tx_seen.specs.Readings.{Answers, last};
+ghost use Rattle.tx_seen.specs.declared.item.Item.TheVariants.{Took};
 ghost use Rattle.tx_scan.specs.Glues as spec;
 ghost use Rattle.tx_scan.specs.Mapped.{fed_if, settled};
 ghost use Rattle.tx_scan.specs.declared.scans.Beginning.TheVariants as begin;
@@ -49,16 +48,6 @@ impl GlueScan {
     /// Takes one token, at first and after More. The answer is what reading gives of all that was taken. Its only error is
     /// want of memory.
     pub fn feed(&mut self, token: &Seen) -> Result<Fed<Glue>, AllocError>
-        ensures answer { (mu : Bool) → (taken : List Item) → HasTaken mu self.old taken → IfOk result (Answers (spec.glue mu) (HasTaken mu) (taken ++ Took token.now ∷ []) self.new) }
-        ensures part { IfOk result (IsFedBy rest held self.old token.now self.new) }
-        ensures needed { IfOk result (NeedsNoMore (more_needed self.old) (more_needed self.new)) }
-        ensures waits { IfOk result (IsWaiting self.new) }
-    {
-        self.behind(token)
-    }
-
-    /// What it is behind one more token. Its only error is want of memory.
-    fn behind(&mut self, token: &Seen) -> Result<Fed<Glue>, AllocError>
         ensures part { IfOk result (IsFedBy rest held self.old token.now self.new) }
         ensures needed { IfOk result (NeedsNoMore (more_needed self.old) (more_needed self.new)) }
         ensures waits { IfOk result (IsWaiting self.new) }
@@ -80,18 +69,6 @@ impl GlueScan {
     pub fn give(&mut self, value: &Value, behind: &Seen) -> Result<Fed<Glue>, AllocError>
         requires sizing { IsSizing self.old.stage }
         requires few { held self.old ≤ 1 }
-        ensures answer { (mu : Bool) → (taken : List Item) → HasTaken mu self.old taken → last 1 taken ≡ Took behind.now ∷ [] → IfOk result (Answers (spec.glue mu) (HasTaken mu) (taken ++ Gave value.now ∷ []) self.new) }
-        ensures given { IfOk result (IsGivenBehind rest held self.old value.now behind.now self.new) }
-        ensures fewer { IfOk result (NeedsFewer (more_needed self.old) (more_needed self.new)) }
-        ensures waits { IfOk result (IsWaiting self.new) }
-    {
-        self.behind_value(value, behind)
-    }
-
-    /// What it is behind a value. Its only error is want of memory.
-    fn behind_value(&mut self, value: &Value, behind: &Seen) -> Result<Fed<Glue>, AllocError>
-        requires sizing { IsSizing self.old.stage }
-        requires few { held self.old ≤ 1 }
         ensures given { IfOk result (IsGivenBehind rest held self.old value.now behind.now self.new) }
         ensures fewer { IfOk result (NeedsFewer (more_needed self.old) (more_needed self.new)) }
         ensures waits { IfOk result (IsWaiting self.new) }
@@ -107,6 +84,7 @@ impl GlueScan {
     }
 
     /// Signs and spaces, or what begins the glue. Its only error is want of memory.
+    #[inline(never)]
     fn feed_sign(&mut self, negative: bool, token: &Seen) -> Result<Fed<Glue>, AllocError>
         requires { self.old.stage ≡ GlueStage.Signs negative }
         ensures part { IfOk result (IsFedBy rest held self.old token.now self.new) }
@@ -130,6 +108,7 @@ impl GlueScan {
     }
 
     /// What stands at a place: glue, or the width. Its only error is want of memory.
+    #[inline(never)]
     fn begin_at(
         &mut self,
         negative: bool,
@@ -149,6 +128,7 @@ impl GlueScan {
     }
 
     /// What stands at a number of this kind, which follows: glue, or the width. Its only error is want of memory.
+    #[inline(never)]
     fn begin_behind(
         &mut self,
         negative: bool,
@@ -179,6 +159,7 @@ impl GlueScan {
     }
 
     /// What becomes of the glue by what the scan of internal glue answers; it has to be told in mu exactly where this is.
+    #[inline(never)]
     fn internal(&self, negative: bool, fed: Fed<Value>) -> Fed<Glue>
         ensures { result ≡ settled (spec.internal self.now.mu negative) fed }
     {
@@ -283,6 +264,7 @@ impl GlueScan {
     }
 
     /// A letter of `plus`, of which so much is read, or what stands in its place.
+    #[inline(never)]
     fn feed_plus(&mut self, plus: PlusScan, token: &Seen) -> Fed<Glue>
         ensures fed { (behind : List Item) → length behind ≤ plus.held → IsRead rest held (plus.held + 1) (λ more. plus_rest self.old.mu self.old.glue plus.held plus.read behind (Took token.now) more) (behind ++ Took token.now ∷ []) self.new result }
         ensures fewer { NeedsFewer 0 (more_needed self.new) result }
@@ -308,6 +290,7 @@ impl GlueScan {
     }
 
     /// A letter of `minus`, of which so much is read, or what stands in its place.
+    #[inline(never)]
     fn feed_minus(&mut self, minus: MinusScan, token: &Seen) -> Fed<Glue>
         ensures fed { (behind : List Item) → length behind ≤ minus.read → IsRead rest held (minus.read + 1) (λ more. minus_rest self.old.mu self.old.glue minus.read behind (Took token.now) more) (behind ++ Took token.now ∷ []) self.new result }
         ensures fewer { NeedsFewer 0 (more_needed self.new) result }

@@ -224,6 +224,7 @@ impl IntScan {
     }
 
     /// A number is whole, which so many tokens ended: it is the integer, or the number of what waits for it.
+    #[inline(never)]
     fn whole(&mut self, number: i64, held: usize) -> Fed<i64>
         requires { IsInRange number }
         ensures whole { IsWhole self.old.outers self.old.behind number held self.new result }
@@ -251,6 +252,7 @@ impl IntScan {
     }
 
     /// A font is needed, behind a number behind which so many tokens are held.
+    #[inline(never)]
     fn to_font(&mut self, sought: FontSought, held: usize) -> Fed<i64>
         ensures font { IsFontNeeded self.old.outers self.old.negative sought self.old.behind held self.new result }
         ensures within { IsInteger result }
@@ -277,6 +279,7 @@ impl IntScan {
     }
 
     /// A space before the font that is needed, or the font.
+    #[inline(never)]
     fn feed_font(&mut self, sought: FontSought, token: &Seen) -> Fed<i64>
         requires { self.old.stage ≡ IntStage.Font sought }
         ensures fed { IsFed self.old token.now self.new result }
@@ -315,6 +318,7 @@ impl IntScan {
     }
 
     /// The number that tells which of this kind comes next, and this one waits. Its only error is want of memory.
+    #[inline(never)]
     fn wait(&mut self, kind: Counted) -> Result<Fed<i64>, AllocError>
         requires { self.old.stage ≡ IntStage.Signs }
         ensures { IfOk result (IsWaiting self.old kind self.new) }
@@ -335,6 +339,7 @@ impl IntScan {
     }
 
     /// Signs and spaces, or what begins the number. Its only error is want of memory.
+    #[inline(never)]
     fn feed_sign(&mut self, token: &Seen) -> Result<Fed<i64>, AllocError>
         requires { self.old.stage ≡ IntStage.Signs }
         ensures fed { IfOk result (IsFed self.old token.now self.new) }
@@ -372,6 +377,7 @@ impl IntScan {
     }
 
     /// The first digit of an octal or hexadecimal constant.
+    #[inline(never)]
     fn feed_first_digit(&mut self, radix: Radix, token: &Seen) -> Fed<i64>
         requires { self.old.stage ≡ IntStage.FirstDigit radix }
         ensures fed { IsFed self.old token.now self.new result }
@@ -409,6 +415,7 @@ impl IntScan {
     }
 
     /// The character behind a backquote.
+    #[inline(never)]
     fn feed_character(&mut self, token: &Seen) -> Fed<i64>
         requires { self.old.stage ≡ IntStage.Character }
         ensures fed { IsFed self.old token.now self.new result }

@@ -32,6 +32,7 @@ fn standing_glue(form: GlueForm) -> Option<Glue>
 }
 
 /// Glue that was read.
+#[inline(always)]
 pub(crate) fn skipped(fed: Fed<Glue>) -> Fed<Shaped>
     ensures { result ≡ mapped Shaped.Skip fed }
 {

@@ -86,6 +86,7 @@ impl ShapeScan {
     }
 
     /// The next letter of a word, or what breaks it off.
+    #[inline(never)]
     pub(crate) fn feed_word(
         &mut self,
         opening: Opening,

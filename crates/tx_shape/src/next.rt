@@ -50,6 +50,7 @@ fn behind_register(registering: Registering, register: u8) -> Next
 }
 
 /// What follows a number that is to be that of a register.
+#[inline(never)]
 fn behind_number(registering: Registering, number: i64) -> Next
     ensures { result ≡ spec.behind_number registering number }
 {
@@ -72,6 +73,7 @@ fn shift_by(kind: ShiftKind, size: i32) -> i32
 }
 
 /// What follows a size in sp.
+#[inline(never)]
 fn behind_size(sizing: Sizing, size: i32) -> Next
     requires low { neg_ℤ (pos 1073741823) ≤ℤ size }
     requires high { size ≤ℤ pos 1073741823 }
@@ -95,6 +97,7 @@ fn behind_size(sizing: Sizing, size: i32) -> Next
 }
 
 /// What follows a penalty.
+#[inline(always)]
 pub(crate) fn penalized(fed: Fed<i64>) -> Fed<Next>
     requires { IsInteger fed }
     ensures { result ≡ mapped spec.behind_penalty fed }
@@ -108,6 +111,7 @@ pub(crate) fn penalized(fed: Fed<i64>) -> Fed<Next>
 }
 
 /// What follows a number that is set.
+#[inline(never)]
 fn behind_set(setting: NumberSetting, number: i32) -> Next
     ensures { result ≡ spec.behind_set setting number }
 {
@@ -125,6 +129,7 @@ fn behind_set(setting: NumberSetting, number: i32) -> Next
 }
 
 /// The same.
+#[inline(always)]
 pub(crate) fn set(setting: NumberSetting, fed: Fed<i64>) -> Fed<Next>
     requires { IsInteger fed }
     ensures { result ≡ mapped (spec.behind_set setting) fed }
@@ -138,6 +143,7 @@ pub(crate) fn set(setting: NumberSetting, fed: Fed<i64>) -> Fed<Next>
 }
 
 /// What follows the number of a parameter: its font.
+#[inline(always)]
 pub(crate) fn parametered(fed: Fed<i64>) -> Fed<Next>
     ensures { result ≡ mapped spec.behind_parameter fed }
 {
@@ -152,6 +158,7 @@ pub(crate) fn parametered(fed: Fed<i64>) -> Fed<Next>
 }
 
 /// What follows a number that is to be that of a register.
+#[inline(always)]
 pub(crate) fn registered(registering: Registering, fed: Fed<i64>) -> Fed<Next>
     ensures { result ≡ mapped (spec.behind_number registering) fed }
 {
@@ -164,6 +171,7 @@ pub(crate) fn registered(registering: Registering, fed: Fed<i64>) -> Fed<Next>
 }
 
 /// What follows a size.
+#[inline(always)]
 pub(crate) fn sized(sizing: Sizing, fed: Fed<Measure>) -> Fed<Next>
     requires { IsSize fed }
     ensures { result ≡ mapped (spec.behind_measure sizing) fed }

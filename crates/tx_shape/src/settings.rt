@@ -43,6 +43,7 @@ pub(crate) fn page_setting(quantity: PageQuantity) -> Setting
 
 impl ShapeScan {
     /// An optional `=` before what is set, or the first token behind it. Its only error is want of memory.
+    #[inline(never)]
     pub(crate) fn feed_setting(
         &mut self,
         setting: Setting,
@@ -72,6 +73,7 @@ impl ShapeScan {
     }
 
     /// A space before the font that is needed, or the font.
+    #[inline(never)]
     pub(crate) fn feed_font(&mut self, sought: FontSought, token: &Seen) -> Fed<Shaped>
         ensures { BeginsSetting (λ more. settings.font_setting sought (Took token.now ∷ more)) token.now self.new result }
     {

@@ -135,6 +135,7 @@ impl ShapeScan {
     }
 
     /// What becomes of the scan by what that of a number or a size answers, where this token was taken last.
+    #[inline(always)]
     fn go_on(&mut self, fed: Fed<Next>, token: &Seen) -> Fed<Shaped>
         requires { self.old.stage ≡ Stage.Amount }
         ensures fed { (reading : List Item → Reading Next_what) (behind : List Item) (count : ℕ) → IsAnswer amount_rest amount_held 1 reading token.now self.old.amount fed → IsRead rest held (count + 1) (λ more. next (reading more) next_rest) (behind ++ Took token.now ∷ []) self.new result }
@@ -153,6 +154,7 @@ impl ShapeScan {
     }
 
     /// A number or a size is whole, and this follows.
+    #[inline(never)]
     fn end(&mut self, next: Next) -> Fed<Shaped>
         ensures { Begins (next_rest next) self.new result }
     {
@@ -165,6 +167,7 @@ impl ShapeScan {
     }
 
     /// A number or a size is whole, and this follows, with this token.
+    #[inline(never)]
     fn end_before(&mut self, next: Next, token: &Seen) -> Fed<Shaped>
         ensures reads { IsRead rest held 1 (λ more. next_rest next (Took token.now ∷ more)) (Took token.now ∷ []) self.new result }
         ensures needs { (old : ℕ) → NeedsNoMore old (needed self.new) result }

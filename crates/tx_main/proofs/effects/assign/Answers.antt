@@ -1,6 +1,11 @@
-use Rattle.tx_main.proofs.Assigns.{assigns}
+use Rattle.std.proofs.Common.{sym, ◌∙◌}
+use Rattle.tx_main.proofs.Assigns.{assigns, lists}
 use Rattle.tx_main.proofs.effects.assign.Goals as goal
 
-pub returns-in_default : goal.returns-in_default
-returns-in_default c =
-    assigns c.args.s.now c.assign_so.new.s c.args.assignment c.prefixes-global.result c.assign_so.result c.prefixes-global.ensures c.in_default.not-Text c.assign_so.ensures
+pub returns-then-is_text : goal.returns-then-is_text
+returns-then-is_text c =
+    lists c.args.s.now c.begin_list.new.s c.args.assignment c.begin_list.result (sym c.is_preamble.ensures ∙ c.if-is_preamble.false) (sym c.is_text.ensures ∙ c.if-is_text.true) c.begin_list.ensures
+
+pub returns-else-is_text : goal.returns-else-is_text
+returns-else-is_text c =
+    assigns c.args.s.now c.assign_so.new.s c.args.assignment c.prefixes-global.result c.assign_so.result (sym c.is_preamble.ensures ∙ c.if-is_preamble.false) (sym c.is_text.ensures ∙ c.if-is_text.false) c.prefixes-global.ensures c.assign_so.ensures

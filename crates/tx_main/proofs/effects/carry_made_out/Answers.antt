@@ -1,11 +1,12 @@
-use Rattle.std.proofs.Common.{sym, ◌∙◌}
+use Rattle.std.proofs.Common.{sym}
 use Rattle.tx_command.specs.declared.types.Command.TheVariants.{Assign}
 use Rattle.tx_main.proofs.Taking.{carries}
 use Rattle.tx_main.proofs.effects.carry_made_out.Goals as goal
 
-pub returns-in-Assign : goal.returns-in-Assign
-returns-in-Assign c =
-    carries c.args.s.now c.assign.new.s c.take-command.new.self (Assign c.in-Assign.assignment) c.assign.result (sym c.in-Assign.is ∙ c.take-command.ensures.taken) c.assign.ensures
+pub returns-in-Some : goal.returns-in-Some
+returns-in-Some c =
+    carries c.args.s.now c.assign.new.s c.take_assignment.new.self (Assign c.in-Some.assignment) c.assign.result (sym c.in-Some.ensures) c.assign.ensures
 
-pub returns-in_default : goal.returns-in_default
-returns-in_default c = carries c.args.s.now c.carry_out.new.s c.take-command.new.self c.take-command.result c.carry_out.result c.take-command.ensures.taken c.carry_out.ensures
+pub returns-in-None : goal.returns-in-None
+returns-in-None c =
+    carries c.args.s.now c.carry_other_out.new.s c.take_assignment.new.self c.take_assignment.new.self c.carry_other_out.result c.in-None.ensures c.carry_other_out.ensures

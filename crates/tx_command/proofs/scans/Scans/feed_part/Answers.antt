@@ -1,4 +1,4 @@
-use Rattle.std.proofs.Common.{[], refl}
+use Rattle.std.proofs.Common.{[], refl, lit≤}
 use Rattle.tx_seen.specs.declared.item.Item.TheVariants.{Took}
 use Rattle.tx_scan.specs.DimensionRests.{rest as dimen_rest, held as dimen_held, most as dimen_most}
 use Rattle.tx_scan.specs.GrammarRests.{held_none, name_rest}
@@ -9,6 +9,7 @@ use Rattle.tx_command.specs.Commands.{load_of}
 use Rattle.tx_command.specs.Rests.{rule_rest, rule_held}
 use Rattle.tx_command.proofs.Stages.{part-fed, part-needs, part-goes, size-needs, size-goes, rule-needs, rule-goes, led-needs, led-goes, leaders-fed, leaders-needs, load-needs, load-goes, space-fed, end-goes, end-needs, kept-fed, second-fed}
 use Rattle.tx_scan.proofs.Mosts.{most-size}
+use Rattle.tx_scan.proofs.Answering.{fed-part}
 use Rattle.tx_scan.proofs.Behind.{fed-one}
 use Rattle.tx_command.proofs.scans.Scans.feed_part.Goals as goal
 
@@ -16,7 +17,8 @@ pub returns-in_ok-feed-in-Name-clause-fed : goal.returns-in_ok-feed-in-Name-clau
 returns-in_ok-feed-in-Name-clause-fed c =
     rw c.defined.ensures
     (part-fed name_rest held_none (λ name. Define name c.in-Name.kind) (stage.Name c.in-Name.kind) c.args.mode c.args.head.now c.new.result c.feed.new.self c.args.self.now _ c.args.token.now c.in_ok-feed-in-Name.field-0 c.in-Name.is c.in-Name.is
-    (λ behind item more. refl) refl (λ behind item more. refl) refl c.in_ok-feed-in-Name.ensures.part)
+    (λ behind item more. refl) refl (λ behind item more. refl) refl
+    (fed-part name_rest held_none c.new.result c.feed.new.self 0 c.args.token.now c.in_ok-feed-in-Name.field-0 (lit≤ tt) c.in_ok-feed-in-Name.ensures.fed))
 
 pub returns-in_ok-feed-in-Name-clause-needs : goal.returns-in_ok-feed-in-Name-clause-needs
 returns-in_ok-feed-in-Name-clause-needs c = part-needs c.args.self.now c.args.self.now c.defined.result (rw c.in-Name.is refl)
@@ -86,7 +88,8 @@ pub returns-in_ok-feed-in-MacroName-clause-fed : goal.returns-in_ok-feed-in-Macr
 returns-in_ok-feed-in-MacroName-clause-fed c =
     rw c.macro_defined.ensures
     (part-fed name_rest held_none (λ name. DefineMacro name c.in-MacroName.kind) (stage.MacroName c.in-MacroName.kind) c.args.mode c.args.head.now c.new-in-MacroName.result c.feed-in-MacroName.new.self c.args.self.now _ c.args.token.now c.in_ok-feed-in-MacroName.field-0 c.in-MacroName.is c.in-MacroName.is
-    (λ behind item more. refl) refl (λ behind item more. refl) refl c.in_ok-feed-in-MacroName.ensures.part)
+    (λ behind item more. refl) refl (λ behind item more. refl) refl
+    (fed-part name_rest held_none c.new-in-MacroName.result c.feed-in-MacroName.new.self 0 c.args.token.now c.in_ok-feed-in-MacroName.field-0 (lit≤ tt) c.in_ok-feed-in-MacroName.ensures.fed))
 
 pub returns-in_ok-feed-in-MacroName-clause-needs : goal.returns-in_ok-feed-in-MacroName-clause-needs
 returns-in_ok-feed-in-MacroName-clause-needs c = part-needs c.args.self.now c.args.self.now c.macro_defined.result (rw c.in-MacroName.is refl)
@@ -98,7 +101,8 @@ pub returns-in_ok-feed-in-FutureName-clause-fed : goal.returns-in_ok-feed-in-Fut
 returns-in_ok-feed-in-FutureName-clause-fed c =
     rw c.future_defined.ensures
     (part-fed name_rest held_none DefineFuture stage.FutureName c.args.mode c.args.head.now c.new-in-FutureName.result c.feed-in-FutureName.new.self c.args.self.now _ c.args.token.now c.in_ok-feed-in-FutureName.field-0 c.in-FutureName.is c.in-FutureName.is
-    (λ behind item more. refl) refl (λ behind item more. refl) refl c.in_ok-feed-in-FutureName.ensures.part)
+    (λ behind item more. refl) refl (λ behind item more. refl) refl
+    (fed-part name_rest held_none c.new-in-FutureName.result c.feed-in-FutureName.new.self 0 c.args.token.now c.in_ok-feed-in-FutureName.field-0 (lit≤ tt) c.in_ok-feed-in-FutureName.ensures.fed))
 
 pub returns-in_ok-feed-in-FutureName-clause-needs : goal.returns-in_ok-feed-in-FutureName-clause-needs
 returns-in_ok-feed-in-FutureName-clause-needs c = part-needs c.args.self.now c.args.self.now c.future_defined.result (rw c.in-FutureName.is refl)
@@ -128,7 +132,8 @@ pub returns-in_ok-feed-in-FontName-clause-fed : goal.returns-in_ok-feed-in-FontN
 returns-in_ok-feed-in-FontName-clause-fed c =
     rw c.font_defined.ensures
     (part-fed name_rest held_none DefineFont stage.FontName c.args.mode c.args.head.now c.new-in-FontName.result c.feed-in-FontName.new.self c.args.self.now _ c.args.token.now c.in_ok-feed-in-FontName.field-0 c.in-FontName.is c.in-FontName.is
-    (λ behind item more. refl) refl (λ behind item more. refl) refl c.in_ok-feed-in-FontName.ensures.part)
+    (λ behind item more. refl) refl (λ behind item more. refl) refl
+    (fed-part name_rest held_none c.new-in-FontName.result c.feed-in-FontName.new.self 0 c.args.token.now c.in_ok-feed-in-FontName.field-0 (lit≤ tt) c.in_ok-feed-in-FontName.ensures.fed))
 
 pub returns-in_ok-feed-in-FontName-clause-needs : goal.returns-in_ok-feed-in-FontName-clause-needs
 returns-in_ok-feed-in-FontName-clause-needs c = part-needs c.args.self.now c.args.self.now c.font_defined.result (rw c.in-FontName.is refl)

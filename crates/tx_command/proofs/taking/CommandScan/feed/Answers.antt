@@ -25,7 +25,7 @@ returns-in_ok-given-in-Ok-Done g c =
     c.take_whole.ensures ∙ ap (λ (scans : Scans). whole_command scans c.take-fed.new.made c.in-Ok-Done.whole) c.deref_mut-in-Ok-Done.ensures.value in
     rw (← c.self.view_is) (
       last c.in-Ok-Done.back items,
-      (settled.0 ∙ ap (λ (made : Command). Done made (last c.in-Ok-Done.back items)) (sym made), (ap begun c.restart.ensures.taken, c.in_ok-given-in-Ok-Done.ensures ∙ ap (λ (tokens : List Token). given_back c.args.input.now tokens) settled.1)),
+      (settled.0 ∙ ap (λ (made : Command). Done made (last c.in-Ok-Done.back items)) (sym made), (ap begun c.begin_next.ensures.taken, c.in_ok-given-in-Ok-Done.ensures.given ∙ ap (λ (tokens : List Token). given_back c.args.input.now tokens) settled.1)),
     )
 
 pub returns-in-Ok-Wrong : goal.returns-in-Ok-Wrong
