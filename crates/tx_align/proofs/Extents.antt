@@ -3,7 +3,7 @@ use Rattle.std.proofs.Common.{◌≡◌, ℕ, zero, suc, ℤ, pos, ◌+ℤ◌, �
 use Rattle.std.proofs.lemmas.Int.{ints}
 use Rattle.tx_num.specs.Glue.{GlueSpec, zero_glue}
 use Rattle.tx_pack.specs.Packing.{if_fits}
-use Rattle.tx_pack.specs.Sums.{fits}
+use Rattle.tx_num.specs.Limits.{fits}
 use Rattle.tx_align.specs.declared.entry.Entry.{Entry}
 use Rattle.tx_align.specs.declared.error.AlignError.{AlignError}
 use Rattle.tx_align.specs.declared.sized.SizedColumn.{SizedColumn}

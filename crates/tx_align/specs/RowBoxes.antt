@@ -14,7 +14,7 @@ use Rattle.tx_pack.specs.declared.types.PackError.{PackError}
 use Rattle.tx_pack.specs.declared.types.PackParams.{PackParams}
 use Rattle.tx_pack.specs.declared.types.Packed.{Packed}
 use Rattle.tx_pack.specs.Packing.{hpacked}
-use Rattle.tx_pack.specs.Sums.{fits}
+use Rattle.tx_num.specs.Limits.{fits}
 use Rattle.tx_align.specs.declared.cell.Cell.{Cell}
 use Rattle.tx_align.specs.declared.cell.SetCell.{SetCell}
 use Rattle.tx_align.specs.declared.error.AlignError.{AlignError}

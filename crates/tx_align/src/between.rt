@@ -1,4 +1,4 @@
-//! What stands between rows.
+//! What stands between rows (TeX: The Program, sections 805 and 806).
 ghost use Rattle.std.specs.Prelude.{◌≡◌, ◌++◌, map, IfOk, OnOk};
 ghost use Rattle.tx_node.specs.Items.{shared};
 ghost use Rattle.tx_node.specs.Nodes.{item_of, list_of};

@@ -1,7 +1,7 @@
-//! The cells of a row, each in a box of the width of its columns.
+//! The cells of a row, each in a box of the width of its columns (TeX: The Program, sections 808 to 811).
 ghost use Rattle.std.specs.Prelude.{◌≡◌, ◌≢◌, ◌≤◌, ◌^◌, [], take, drop, unsigned_abs, IfOk, IfErr, Ok, Err, OnOk};
 ghost use Rattle.tx_num.specs.Glue.{IsDimension};
-ghost use Rattle.tx_pack.specs.Sums.{fits};
+ghost use Rattle.tx_num.specs.Limits.{fits};
 ghost use Rattle.tx_align.specs.declared.error.AlignError.TheVariants.{OutOfMemory};
 ghost use Rattle.tx_align.specs.RowBoxes as spec;
 
@@ -11,6 +11,7 @@ use crate::prototype::PlacedColumn;
 use std::alloc::Global;
 use tx_list::Items;
 use tx_node::{BoxNode, Nodes};
+use tx_num::GREATEST_DIMENSION;
 use tx_pack::{Goal, PackParams, Packed, hpack};
 
 /// Where a column begins in a row, in sp.
@@ -68,7 +69,7 @@ fn box_to(alloc: Global, width: i128, list: Nodes) -> Result<BoxNode, AlignError
     }
     let silent = PackParams {
         badness: 10_000,
-        fuzz: 1_073_741_823,
+        fuzz: GREATEST_DIMENSION,
         overfull_rule: 0,
     };
     let Packed { node, .. } = hpack(alloc, list, Goal::To(narrow(width)), &silent)?;

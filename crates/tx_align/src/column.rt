@@ -1,4 +1,4 @@
-//! Columns of a preamble.
+//! Columns of a preamble (TeX: The Program, section 769).
 use std::alloc::AllocError;
 use tx_list::Kept;
 use tx_num::Glue;

@@ -1,4 +1,4 @@
-//! What cells ask of columns.
+//! What cells ask of columns (TeX: The Program, sections 796 to 798).
 use tx_list::Items;
 
 /// A cell of columns, counted from 0, up to the one before `end`, and how wide it is, in sp.

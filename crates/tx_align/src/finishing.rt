@@ -1,4 +1,4 @@
-//! How an alignment ends.
+//! How an alignment ends (TeX: The Program, section 800).
 ghost use Rattle.std.specs.Prelude.{◌≡◌, ◌≢◌, IfOk, IfErr, Ok, Err, OnOk};
 ghost use Rattle.tx_num.specs.Glue.{IsDimension};
 ghost use Rattle.tx_pack.specs.Packing.{IsGoal};

@@ -1,4 +1,4 @@
-//! Which cells end in which column.
+//! Which cells end in which column (TeX: The Program, sections 797 and 798).
 ghost use Rattle.std.specs.Prelude.{◌≡◌, [], replicate, IfOk, OnOk};
 ghost use Rattle.tx_align.specs.Entries as spec;
 ghost use Rattle.tx_align.specs.Grouping.{put};

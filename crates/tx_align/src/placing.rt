@@ -1,4 +1,4 @@
-//! The preamble's box, and how far its set glue moves each column.
+//! The preamble's box, and how far its set glue moves each column (TeX: The Program, sections 804 and 809).
 ghost use Rattle.std.specs.Prelude.{◌≡◌, ◌≢◌, ◌<◌, ◌^◌, ◌++◌, ◌∷◌, [], pos, true, is_some, unsigned_abs, IfOk, IfErr, Ok, Err, OnOk};
 ghost use Rattle.tx_num.specs.Glue.{IsDimension};
 ghost use Rattle.tx_node.specs.declared.head.Direction.TheVariants.{Horizontal};

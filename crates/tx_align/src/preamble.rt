@@ -1,4 +1,4 @@
-//! The preamble of an alignment.
+//! The preamble of an alignment (TeX: The Program, sections 777 to 785).
 ghost use Rattle.std.specs.Prelude.{◌≡◌, ◌↔◌, length, Some, None, Ok, IfOk, IsTrue, MatchOption, OnOk};
 ghost use Rattle.std.specs.Option.{option_copied};
 ghost use Rattle.tx_align.specs.Columns as counted;

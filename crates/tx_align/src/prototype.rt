@@ -1,4 +1,4 @@
-//! The preamble's box, by which rows are set.
+//! The preamble's box, by which rows are set (TeX: The Program, section 804).
 use crate::sized::SizedColumn;
 use tx_bytes::Bytes;
 use tx_list::Items;

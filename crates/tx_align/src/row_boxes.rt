@@ -1,4 +1,4 @@
-//! Rows in their boxes.
+//! Rows in their boxes (TeX: The Program, sections 807 to 811).
 ghost use Rattle.std.specs.Prelude.{◌≡◌, ◌≢◌, ◌++◌, pos, true, flat_map, IfOk, IfErr, Ok, Err, OnOk};
 ghost use Rattle.tx_node.specs.Items.{box_item, items_of};
 ghost use Rattle.tx_node.specs.Nodes.{item_of};

@@ -1,4 +1,4 @@
-//! The rows of an alignment.
+//! The rows of an alignment (TeX: The Program, sections 786 to 799).
 ghost use Rattle.std.specs.Prelude.{◌≡◌, ◌≢◌, ◌↔◌, [], true, false, IfOk, IfErr, IsTrue, Ok, Err, Some, OnErr, OnOk};
 ghost use Rattle.tx_num.specs.Glue.{IsDimension};
 ghost use Rattle.tx_pack.specs.Packing.{IsGoal};

@@ -1,7 +1,9 @@
-//! Arithmetic on sizes.
+//! Arithmetic on sizes, in sp.
 ghost use Rattle.std.specs.Prelude.{◌≡◌, ◌≤◌, ◌^◌, ◌+◌, ◌+ℤ◌, ◌-ℤ◌, unsigned_abs, IfSome};
 ghost use Rattle.tx_num.specs.Glue.{IsDimension};
 ghost use Rattle.tx_pack.specs.Packing.{if_fits};
+
+use tx_num::fits;
 
 /// A size in 64 bits.
 pub(crate) fn wide(size: i32) -> i64
@@ -44,9 +46,5 @@ pub(crate) fn dimension(size: i64) -> Option<i32>
     ensures value { result ≡ if_fits size }
     ensures small { IfSome result IsDimension }
 {
-    if size.unsigned_abs() < 1 << 30 {
-        Some(narrow(size))
-    } else {
-        None
-    }
+    if fits(size) { Some(narrow(size)) } else { None }
 }

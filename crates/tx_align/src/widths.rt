@@ -1,4 +1,4 @@
-//! How wide columns are.
+//! How wide columns are (TeX: The Program, sections 801 to 803).
 ghost use Rattle.std.specs.Prelude.{◌≡◌, ◌≢◌, slice_get, Some, IfOk, IfErr, Ok, Err, OnOk};
 ghost use Rattle.tx_align.specs.declared.error.AlignError.TheVariants.{OutOfMemory};
 ghost use Rattle.tx_align.specs.Widths as spec;

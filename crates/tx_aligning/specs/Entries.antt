@@ -1,5 +1,5 @@
 -- Entries begin and end (TeX: The Program, sections 786 to 799, and 1131).
-use Rattle.std.specs.Prelude.{pos, nat_lt, length, Bool, true, false, List, [], ◌∷◌, Option, None, Some, Result, Ok, Err, if◌then◌else◌}
+use Rattle.std.specs.Prelude.{pos, nat_lt, length, Bool, true, false, List, [], ◌∷◌, Option, Some, Result, Ok, Err, if◌then◌else◌}
 use Rattle.tx_align.specs.declared.error.AlignError.{AlignError}
 use Rattle.tx_box.specs.Placing.{leading_of}
 use Rattle.tx_command.specs.declared.types.Head.TheVariants.{Entry, Fresh}
@@ -15,7 +15,7 @@ use Rattle.tx_prim.specs.declared.family.EntryEnd.{EntryEnd}
 use Rattle.tx_prim.specs.declared.family.EntryEnd.TheVariants as end
 use Rattle.tx_seen.specs.declared.error.TexError.TheVariants.{ExtraGroupEnd, MisplacedAlignment, TooManyGroups}
 use Rattle.tx_state.specs.Groups.{closing}
-use Rattle.tx_state.specs.Outcomes.{Outcome, Fails, leaves}
+use Rattle.tx_state.specs.Outcomes.{Outcome, fails, leaves}
 use Rattle.tx_state.specs.Standing.{at_level, before_row, in_mode}
 use Rattle.tx_state.specs.State.{TexState}
 use Rattle.tx_tabular.specs.declared.alignment.Alignment.{Alignment}
@@ -42,7 +42,7 @@ abbrev pub entry_begun : TexState → Bool → Alignment → List Alignment → 
 entry_begun s omitted a outer = entered_by omitted a (record (in_mode (with_innermost s a outer)) { head = Fresh })
 
 abbrev pub begun_in : TexState → Bool → List Alignment → Laying → Outcome
-begun_in s omitted outer (Err error) = Fails (error_of error)
+begun_in s omitted outer (Err error) = fails (error_of error)
 begun_in s omitted outer (Ok laid) = leaves (entry_begun (record s { lists = laid.lists }) omitted (beginning_entry omitted laid.alignment) outer)
 
 -- the first entry of a row begins this
@@ -50,7 +50,7 @@ abbrev pub laid_for : TexState → Alignment → Laying
 laid_for s a = if is_row s.head then rowing s.lists a else Ok (record { lists = s.lists; alignment = a })
 
 abbrev pub entry_in : TexState → Bool → List Alignment → Outcome
-entry_in s omitted [] = Fails MisplacedAlignment
+entry_in s omitted [] = fails MisplacedAlignment
 entry_in s omitted (a ∷ outer) = begun_in (popped s outer) omitted outer (laid_for (popped s outer) a)
 
 abbrev pub beginning : TexState → Bool → Outcome
@@ -58,7 +58,7 @@ beginning s omitted = entry_in s omitted s.alignments
 
 -- a word ends an entry: what its column has behind it is read in the word's place (section 789)
 abbrev pub ends_in : TexState → EntryEnd → List Alignment → Outcome
-ends_in s word [] = Fails MisplacedAlignment
+ends_in s word [] = fails MisplacedAlignment
 ends_in s word (a ∷ outer) =
     let t : TexState = with_part V (ended_by word a) (with_innermost s (ended_by word a) outer) in
     leaves (record t { reader = at_level outside t.reader })
@@ -78,7 +78,7 @@ advanced s a outer = awaiting (record s { lists = entering s.lists }) (advancing
 
 -- a row has ended
 abbrev pub row_over : TexState → List Alignment → Laying → Outcome
-row_over s outer (Err error) = Fails (error_of error)
+row_over s outer (Err error) = fails (error_of error)
 row_over s outer (Ok laid) = leaves (before_row (with_everycr (with_laid s laid outer)))
 
 abbrev pub row_ending : TexState → Alignment → List Alignment → Outcome
@@ -92,7 +92,7 @@ cell_over s end.Cr a outer = row_ending s a outer
 cell_over s end.CrCr a outer = row_ending s a outer
 
 abbrev pub celled : TexState → EntryEnd → List Alignment → Laying → Outcome
-celled s word outer (Err error) = Fails (error_of error)
+celled s word outer (Err error) = fails (error_of error)
 celled s word outer (Ok laid) = cell_over (record s { lists = laid.lists }) word laid.alignment outer
 
 -- each entry has a group of its own (section 791)
@@ -103,22 +103,22 @@ abbrev pub regrouped : TexState → EntryEnd → Alignment → List Alignment �
 regrouped s word a outer =
     if nat_lt (length (closing s).table.groups) 255
     then in_group (record (closing s) { table = opened (closing s).table group.Entry }) word a outer
-    else Fails TooManyGroups
+    else fails TooManyGroups
 
 -- \span joins entries, which go on in one list and one group
 abbrev pub over_by : TexState → Alignment → List Alignment → Result EntryEnd AlignError → Outcome
-over_by s a outer (Err error) = Fails (error_of error)
+over_by s a outer (Err error) = fails (error_of error)
 over_by s a outer (Ok end.Span) = awaiting s (spanning a) outer
 over_by s a outer (Ok word) = regrouped s word a outer
 
 abbrev pub over_in : TexState → List Alignment → Outcome
-over_in s [] = Fails MisplacedAlignment
+over_in s [] = fails MisplacedAlignment
 over_in s (a ∷ outer) = over_by (popped s outer) a outer (ending_of a)
 
 -- the v-part of an entry is read to its end: no group of its own may be open in it (section 1131)
 abbrev pub over_with : TexState → Option GroupKind → Outcome
 over_with s (Some group.Entry) = over_in s s.alignments
-over_with s other = Fails ExtraGroupEnd
+over_with s other = fails ExtraGroupEnd
 
 abbrev pub over : TexState → Outcome
 over s = over_with s (kind_of s.table)

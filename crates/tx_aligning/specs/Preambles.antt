@@ -1,5 +1,5 @@
 -- Alignments begin, and their preambles are read (TeX: The Program, sections 774 to 785).
-use Rattle.std.specs.Prelude.{◌≡◌, ℤ, pos, neg_ℤ, Bool, true, false, nat_lt, List, [], ◌∷◌, length, Option, None, Some, Result, Ok, Err, if◌then◌else◌}
+use Rattle.std.specs.Prelude.{ℤ, pos, neg_ℤ, Bool, true, false, nat_lt, List, [], ◌∷◌, length, Option, None, Some, Result, Ok, Err, if◌then◌else◌}
 use Rattle.std.specs.Ordering.{int_eq}
 use Rattle.tx_char.specs.declared.category.Cat.TheVariants as category
 use Rattle.tx_align.specs.declared.error.AlignError.{AlignError}
@@ -33,7 +33,7 @@ use Rattle.tx_seen.specs.declared.place.Place.TheVariants.{Glue, Tokens}
 use Rattle.tx_seen.specs.declared.seen.Seen.{Seen}
 use Rattle.tx_seen.specs.Seen.{is_space}
 use Rattle.tx_shape.specs.declared.types.BoxGoal.{BoxGoal}
-use Rattle.tx_state.specs.Outcomes.{Outcome, Fails, leaves}
+use Rattle.tx_state.specs.Outcomes.{Outcome, fails, leaves}
 use Rattle.tx_state.specs.Standing.{at_level, before_row, in_mode}
 use Rattle.tx_state.specs.State.{TexState}
 use Rattle.tx_tabular.specs.declared.alignment.Alignment.{Alignment}
@@ -54,11 +54,7 @@ in_preamble = neg_ℤ (pos 1000000)
 -- a group of this kind begins, if fewer than 255 are open
 abbrev pub grouped : GroupKind → TexState → TexState → Outcome
 grouped kind s inside =
-    if nat_lt (length s.table.groups) 255 then leaves (record inside { table = opened inside.table kind }) else Fails TooManyGroups
-
-abbrev pub IsOpened : GroupKind → TexState → Bool → TexState → Type 0
-IsOpened kind s true new = (nat_lt (length s.table.groups) 255 ≡ true) × (new ≡ record s { table = opened s.table kind })
-IsOpened kind s false new = nat_lt (length s.table.groups) 255 ≡ false
+    if nat_lt (length s.table.groups) 255 then leaves (record inside { table = opened inside.table kind }) else fails TooManyGroups
 
 -- \halign: the level of braces around is kept (section 772)
 abbrev pub aligning : TexState → Outcome
@@ -124,11 +120,11 @@ abbrev pub read_so : TexState → Part → Outcome
 read_so s p = if has_ended p then beginning_rows s else leaves s
 
 abbrev pub fed_to : TexState → Alignment → List Alignment → Result Forming TexError → Outcome
-fed_to s a outer (Err error) = Fails error
+fed_to s a outer (Err error) = fails error
 fed_to s a outer (Ok p) = read_so (with_innermost s (record a { preamble = p }) outer) p.part
 
 abbrev pub fed_in : TexState → PreItem → List Alignment → Outcome
-fed_in s i [] = Fails MisplacedAlignment
+fed_in s i [] = fails MisplacedAlignment
 fed_in s i (a ∷ outer) = fed_to (popped s outer) a outer (takes a.preamble i a.preamble.part)
 
 abbrev pub feeding : TexState → PreItem → Outcome
@@ -140,7 +136,7 @@ templating s t = feeding s (item_by (is_outside s) t (entry_end t.meaning))
 
 -- \tabskip in it is assigned, and stands between its columns from then on; what \afterassignment keeps stays (section 782)
 abbrev pub tab_set : TexState → Result Eqtb TexError → Outcome
-tab_set s (Err error) = Fails error
+tab_set s (Err error) = fails error
 tab_set s (Ok table) = feeding (record s { table = table }) (item.Tabskip (glue_at table.table (Glue Tabskip)))
 
 abbrev pub tabskipping : TexState → Assignment → Outcome
@@ -149,4 +145,4 @@ tabskipping s a = tab_set s (carried_out s.table a false)
 -- \noalign and its begin-group token (section 785)
 abbrev pub beginning_noalign : TexState → Outcome
 beginning_noalign s =
-    if nat_lt (length s.table.groups) 255 then leaves (record s { table = plain_shape (opened s.table group.NoAlign); head = Fresh }) else Fails TooManyGroups
+    if nat_lt (length s.table.groups) 255 then leaves (record s { table = plain_shape (opened s.table group.NoAlign); head = Fresh }) else fails TooManyGroups

@@ -6,7 +6,7 @@ ghost use Rattle.tx_state.specs.Meanings.{IsStepped, state_of};
 ghost use Rattle.tx_tabular.specs.Ending.{finishing};
 ghost use Rattle.tx_aligning.specs.Ends as spec;
 
-use crate::standing::fail_by;
+use crate::standing::fail_by_alignment;
 use std::alloc::{AllocError, Global};
 use tx_box::across;
 use tx_command::Head;
@@ -27,7 +27,7 @@ fn params_of(table: &Eqtb) -> PackParams
     }
 }
 
-/// An alignment ends, whose groups have ended. Its only error is want of memory.
+/// An alignment ends, whose groups have ended. Err is want of memory.
 fn end_in(alloc: Global, s: &mut State, alignment: Alignment) -> Result<Event, AllocError>
     requires { s.old.phase ≡ Phase.Running }
     ensures { IfOk result (λ event. IsStepped (spec.ended_to (state_of s.old) alignment s.old.alignments (finishing (spec.params_of s.old.table.table) s.old.lists alignment)) s.old event s.new) }
@@ -36,7 +36,7 @@ fn end_in(alloc: Global, s: &mut State, alignment: Alignment) -> Result<Event, A
     let outer = alignment.outer;
     let report = match end_alignment(alloc, &mut s.lists, &params, alignment) {
         Ok(report) => report,
-        Err(error) => return fail_by(s, error),
+        Err(error) => return fail_by_alignment(s, error),
     };
     stand(s, Head::Fresh);
     s.input.set_level(outer);
@@ -44,7 +44,7 @@ fn end_in(alloc: Global, s: &mut State, alignment: Alignment) -> Result<Event, A
     Ok(Event::Went)
 }
 
-/// The group of an alignment ends, and it. Its only error is want of memory.
+/// The group of an alignment ends, and it. Err is want of memory.
 fn end_own(alloc: Global, s: &mut State) -> Result<Event, AllocError>
     requires running { s.old.phase ≡ Phase.Running }
     requires kind { kind_of s.old.table ≡ Some GroupKind.Align }
@@ -57,7 +57,7 @@ fn end_own(alloc: Global, s: &mut State) -> Result<Event, AllocError>
     }
 }
 
-/// The group of its entries ends, and then its own. Its only error is want of memory.
+/// The group of its entries ends, and then its own. Err is want of memory.
 fn end_both(alloc: Global, s: &mut State) -> Result<Event, AllocError>
     requires running { s.old.phase ≡ Phase.Running }
     requires kind { kind_of s.old.table ≡ Some GroupKind.Entry }
@@ -70,7 +70,8 @@ fn end_both(alloc: Global, s: &mut State) -> Result<Event, AllocError>
     }
 }
 
-/// The end-group token of an alignment, between rows. Its only error is want of memory.
+/// The end-group token of an alignment, between rows. Err is want of memory; the event may end the run by an error, as `ending`
+/// says.
 pub fn end_align(alloc: Global, s: &mut State) -> Result<Event, AllocError>
     requires { s.old.phase ≡ Phase.Running }
     ensures { IfOk result (λ event. IsStepped (spec.ending (state_of s.old)) s.old event s.new) }

@@ -7,7 +7,7 @@ ghost use Rattle.tx_state.specs.Meanings.{IsStepped, state_of};
 ghost use Rattle.tx_tabular.specs.Entries as tabular;
 ghost use Rattle.tx_aligning.specs.Entries as spec;
 
-use crate::standing::{fail_by, open_group, put_innermost, read_everycr};
+use crate::standing::{fail_by_alignment, put_innermost, read_everycr};
 use std::alloc::{AllocError, Global};
 use tx_align::AlignError;
 use tx_box::leading_of;
@@ -17,7 +17,7 @@ use tx_machine::Event;
 use tx_pending::ColumnPart;
 use tx_prim::EntryEnd;
 use tx_seen::TexError;
-use tx_state::{OUTSIDE, State, fail, leave_group, stand, stand_before_row};
+use tx_state::{OUTSIDE, State, fail, leave_group, open_group, stand, stand_before_row};
 use tx_tabular::{
     Alignment, begin_entry_list, begin_row, ending_of, join_columns, next_column, part_of,
 };
@@ -71,7 +71,8 @@ fn lay(alloc: Global, s: &mut State, alignment: &mut Alignment) -> Result<(), Al
     Ok(())
 }
 
-/// The first token of an entry: whether it is \omit. Its only error is want of memory.
+/// The first token of an entry: whether it is \omit. Err is want of memory; the event may end the run by an error, as `beginning`
+/// says.
 pub fn begin_entry(alloc: Global, s: &mut State, omitted: bool) -> Result<Event, AllocError>
     requires { s.old.phase ≡ Phase.Running }
     ensures { IfOk result (λ event. IsStepped (spec.beginning (state_of s.old) omitted) s.old event s.new) }
@@ -82,7 +83,7 @@ pub fn begin_entry(alloc: Global, s: &mut State, omitted: bool) -> Result<Event,
     begin_in(alloc, s, alignment, omitted)
 }
 
-/// The same in this alignment, which is the innermost one again. Its only error is want of memory.
+/// The same in this alignment, which is the innermost one again. Err is want of memory.
 fn begin_in(
     alloc: Global,
     s: &mut State,
@@ -94,7 +95,7 @@ fn begin_in(
 {
     let mut alignment = alignment;
     if let Err(error) = lay(alloc, s, &mut alignment) {
-        return fail_by(s, error);
+        return fail_by_alignment(s, error);
     }
     tx_tabular::begin_entry(&mut alignment, omitted);
     stand(s, Head::Fresh);
@@ -103,7 +104,8 @@ fn begin_in(
     Ok(Event::Went)
 }
 
-/// A word ends an entry: what its column has behind it is read in its place. Its only error is want of memory.
+/// A word ends an entry: what its column has behind it is read in its place. Err is want of memory; the event may end the run by an
+/// error, as `ending` says.
 pub fn end_entry(alloc: Global, s: &mut State, word: EntryEnd) -> Result<Event, AllocError>
     requires { s.old.phase ≡ Phase.Running }
     ensures { IfOk result (λ event. IsStepped (spec.ending (state_of s.old) word) s.old event s.new) }
@@ -119,7 +121,7 @@ pub fn end_entry(alloc: Global, s: &mut State, word: EntryEnd) -> Result<Event, 
     Ok(Event::Went)
 }
 
-/// The next entry is to come, in this alignment. Its only error is want of memory.
+/// The next entry is to come, in this alignment. Err is want of memory.
 fn await_entry(s: &mut State, alignment: Alignment) -> Result<Event, AllocError>
     requires { s.old.phase ≡ Phase.Running }
     ensures { IfOk result (λ event. IsStepped (spec.awaiting (state_of s.old) alignment s.old.alignments) s.old event s.new) }
@@ -130,7 +132,7 @@ fn await_entry(s: &mut State, alignment: Alignment) -> Result<Event, AllocError>
     Ok(Event::Went)
 }
 
-/// A row ends, whose entries are whole. Its only error is want of memory.
+/// A row ends, whose entries are whole. Err is want of memory.
 fn end_row(alloc: Global, s: &mut State, alignment: Alignment) -> Result<Event, AllocError>
     requires { s.old.phase ≡ Phase.Running }
     ensures { IfOk result (λ event. IsStepped (spec.row_ending (state_of s.old) alignment s.old.alignments) s.old event s.new) }
@@ -138,7 +140,7 @@ fn end_row(alloc: Global, s: &mut State, alignment: Alignment) -> Result<Event, 
     let mut alignment = alignment;
     let params = leading_of(&s.table);
     if let Err(error) = tx_tabular::end_row(alloc, &mut s.lists, &params, &mut alignment) {
-        return fail_by(s, error);
+        return fail_by_alignment(s, error);
     }
     put_innermost(s, alignment)?;
     read_everycr(s)?;
@@ -146,7 +148,7 @@ fn end_row(alloc: Global, s: &mut State, alignment: Alignment) -> Result<Event, 
     Ok(Event::Went)
 }
 
-/// The next column's entry is to come. Its only error is want of memory.
+/// The next column's entry is to come. Err is want of memory.
 fn advance(alloc: Global, s: &mut State, alignment: Alignment) -> Result<Event, AllocError>
     requires { s.old.phase ≡ Phase.Running }
     ensures { IfOk result (λ event. IsStepped (spec.advanced (state_of s.old) alignment s.old.alignments) s.old event s.new) }
@@ -157,7 +159,7 @@ fn advance(alloc: Global, s: &mut State, alignment: Alignment) -> Result<Event, 
     await_entry(s, alignment)
 }
 
-/// The list of an entry ends, which this ended, in a group of its own. Its only error is want of memory.
+/// The list of an entry ends, which this ended, in a group of its own. Err is want of memory.
 fn end_cell(
     alloc: Global,
     s: &mut State,
@@ -169,7 +171,7 @@ fn end_cell(
 {
     let mut alignment = alignment;
     if let Err(error) = tx_tabular::end_entry(alloc, &mut s.lists, &mut alignment) {
-        return fail_by(s, error);
+        return fail_by_alignment(s, error);
     }
     match word {
         EntryEnd::Tab | EntryEnd::Span => advance(alloc, s, alignment),
@@ -177,7 +179,7 @@ fn end_cell(
     }
 }
 
-/// The group of an entry ends and that of the next one begins, with its list. Its only error is want of memory.
+/// The group of an entry ends and that of the next one begins, with its list. Err is want of memory.
 fn regroup(
     alloc: Global,
     s: &mut State,
@@ -195,14 +197,14 @@ fn regroup(
     end_cell(alloc, s, alignment, word)
 }
 
-/// What is to come behind the v-part of an entry of this alignment. Its only error is want of memory.
+/// What is to come behind the v-part of an entry of this alignment. Err is want of memory.
 fn end_in(alloc: Global, s: &mut State, alignment: Alignment) -> Result<Event, AllocError>
     requires running { s.old.phase ≡ Phase.Running }
     requires kind { kind_of s.old.table ≡ Some GroupKind.Entry }
     ensures { IfOk result (λ event. IsStepped (spec.over_by (state_of s.old) alignment s.old.alignments (tabular.ending_of alignment)) s.old event s.new) }
 {
     match ending_of(&alignment) {
-        Err(error) => fail_by(s, error),
+        Err(error) => fail_by_alignment(s, error),
         Ok(EntryEnd::Span) => {
             let mut alignment = alignment;
             join_columns(&mut alignment)?;
@@ -212,7 +214,8 @@ fn end_in(alloc: Global, s: &mut State, alignment: Alignment) -> Result<Event, A
     }
 }
 
-/// The v-part of an entry is read to its end, and nothing goes on behind it. Its only error is want of memory.
+/// The v-part of an entry is read to its end, and nothing goes on behind it. Err is want of memory; the event may end the run by an
+/// error, as `over` says.
 pub fn end_part(alloc: Global, s: &mut State) -> Result<Event, AllocError>
     requires { s.old.phase ≡ Phase.Running }
     ensures { IfOk result (λ event. IsStepped (spec.over (state_of s.old)) s.old event s.new) }
@@ -223,7 +226,7 @@ pub fn end_part(alloc: Global, s: &mut State) -> Result<Event, AllocError>
     }
 }
 
-/// The same in the group of an entry.
+/// The same in the group of an entry. Err is want of memory.
 fn end_innermost(alloc: Global, s: &mut State) -> Result<Event, AllocError>
     requires running { s.old.phase ≡ Phase.Running }
     requires kind { kind_of s.old.table ≡ Some GroupKind.Entry }

@@ -6,7 +6,7 @@ ghost use Rattle.tx_state.specs.declared.parts.Phase.{Phase};
 ghost use Rattle.tx_state.specs.Meanings.{IsStepped, state_of};
 ghost use Rattle.tx_aligning.specs.Preambles as spec;
 
-use crate::standing::{open_group, put_innermost, read_everycr};
+use crate::standing::{put_innermost, read_everycr};
 use std::alloc::{AllocError, Global};
 use tx_align::PreItem;
 use tx_assign::{Assignment, Carried};
@@ -19,7 +19,7 @@ use tx_machine::Event;
 use tx_prim::{EntryEnd, GlueParameter};
 use tx_seen::{Fed, Meaning, Seen, TexError};
 use tx_shape::BoxGoal;
-use tx_state::{State, fail, stand, stand_before_row};
+use tx_state::{State, fail, open_group, stand, stand_before_row};
 use tx_tabular::{Alignment, begin_list};
 
 /// The level at which a preamble is read.
@@ -35,7 +35,8 @@ pub fn align(s: &mut State) -> Event
     Event::Went
 }
 
-/// The begin-group token of \halign: the preamble is to follow. Its only error is want of memory.
+/// The begin-group token of \halign: the preamble is to follow. Err is want of memory; the event may end the run by an error, as
+/// `beginning` says.
 pub fn begin_align(alloc: Global, s: &mut State, goal: BoxGoal) -> Result<Event, AllocError>
     requires { s.old.phase ≡ Phase.Running }
     ensures { IfOk result (λ event. IsStepped (spec.beginning (state_of s.old) goal) s.old event s.new) }
@@ -52,7 +53,7 @@ pub fn begin_align(alloc: Global, s: &mut State, goal: BoxGoal) -> Result<Event,
     Ok(Event::Went)
 }
 
-/// \span in a preamble: the next token is expanded once. Its only error is want of memory.
+/// \span in a preamble: the next token is expanded once. Err is want of memory.
 pub fn expand_next(s: &mut State) -> Result<Event, AllocError>
     requires { s.old.phase ≡ Phase.Running }
     ensures { IfOk result (λ event. IsStepped (spec.expanding (state_of s.old)) s.old event s.new) }
@@ -107,7 +108,7 @@ fn item_of(outside: bool, token: Seen) -> PreItem
     }
 }
 
-/// The preamble has ended: rows are read next, each entry in a group. Its only error is want of memory.
+/// The preamble has ended: rows are read next, each entry in a group. Err is want of memory.
 fn begin_rows(s: &mut State) -> Result<Event, AllocError>
     requires { s.old.phase ≡ Phase.Running }
     ensures { IfOk result (λ event. IsStepped (spec.beginning_rows (state_of s.old)) s.old event s.new) }
@@ -120,7 +121,7 @@ fn begin_rows(s: &mut State) -> Result<Event, AllocError>
     Ok(Event::Went)
 }
 
-/// An item joins the preamble. Its only error is want of memory.
+/// An item joins the preamble. Err is want of memory.
 fn feed(alloc: Global, s: &mut State, item: PreItem) -> Result<Event, AllocError>
     requires { s.old.phase ≡ Phase.Running }
     ensures { IfOk result (λ event. IsStepped (spec.feeding (state_of s.old) item) s.old event s.new) }
@@ -131,7 +132,7 @@ fn feed(alloc: Global, s: &mut State, item: PreItem) -> Result<Event, AllocError
     feed_to(alloc, s, alignment, item)
 }
 
-/// An item joins the preamble of this alignment, which is the innermost one again. Its only error is want of memory.
+/// An item joins the preamble of this alignment, which is the innermost one again. Err is want of memory.
 fn feed_to(
     alloc: Global,
     s: &mut State,
@@ -152,7 +153,7 @@ fn feed_to(
     }
 }
 
-/// Any other token of a preamble. Its only error is want of memory.
+/// Any other token of a preamble. Err is want of memory; the event may end the run by an error, as `templating` says.
 pub fn feed_template(alloc: Global, s: &mut State, token: Seen) -> Result<Event, AllocError>
     requires { s.old.phase ≡ Phase.Running }
     ensures { IfOk result (λ event. IsStepped (spec.templating (state_of s.old) token) s.old event s.new) }
@@ -161,7 +162,7 @@ pub fn feed_template(alloc: Global, s: &mut State, token: Seen) -> Result<Event,
     feed(alloc, s, item_of(outside, token))
 }
 
-/// \tabskip in a preamble is assigned. Its only error is want of memory.
+/// \tabskip in a preamble is assigned. Err is want of memory; the event may end the run by an error, as `tabskipping` says.
 pub fn set_tabskip(
     alloc: Global,
     s: &mut State,
@@ -179,7 +180,8 @@ pub fn set_tabskip(
     }
 }
 
-/// \noalign and its begin-group token: material between rows is to follow. Its only error is want of memory.
+/// \noalign and its begin-group token: material between rows is to follow. Err is want of memory; the event may end the run by an
+/// error, as `beginning_noalign` says.
 pub fn begin_noalign(s: &mut State) -> Result<Event, AllocError>
     requires running { s.old.phase ≡ Phase.Running }
     requires between { s.old.scan.taken ≡ [] }

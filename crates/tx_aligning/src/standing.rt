@@ -1,13 +1,12 @@
-//! What the commands of alignments share: errors, groups, \everycr, and the innermost alignment.
+//! What the commands of alignments share: errors, \everycr, and the innermost alignment (TeX: The Program, sections 770 to 774).
 ghost use Rattle.std.specs.Prelude.{◌≡◌, ◌≢◌, ◌∷◌, IfOk, OnOk};
 ghost use Rattle.tx_align.specs.declared.error.AlignError.TheVariants.{OutOfMemory};
 ghost use Rattle.tx_state.specs.Meanings.{IsStepped, state_of};
-ghost use Rattle.tx_state.specs.Outcomes.{Fails};
+ghost use Rattle.tx_state.specs.Outcomes.{fails};
 ghost use Rattle.tx_aligning.specs.Preambles as spec;
 
 use std::alloc::AllocError;
 use tx_align::AlignError;
-use tx_eqtb::{GroupKind, OpenError};
 use tx_machine::Event;
 use tx_prim::TokenParameter;
 use tx_seen::{Place, TexError};
@@ -15,8 +14,8 @@ use tx_state::{State, fail};
 use tx_tabular::Alignment;
 
 /// The run ends, since an alignment can't go on, if that isn't for want of memory.
-pub(crate) fn fail_by(s: &mut State, error: AlignError) -> Result<Event, AllocError>
-    ensures failed { IfOk result (λ event. IsStepped (Fails (spec.error_of error)) s.old event s.new) }
+pub(crate) fn fail_by_alignment(s: &mut State, error: AlignError) -> Result<Event, AllocError>
+    ensures failed { IfOk result (λ event. IsStepped (fails (spec.error_of error)) s.old event s.new) }
     ensures memory { IfOk result (λ _. error ≢ OutOfMemory) }
 {
     match error {
@@ -36,19 +35,6 @@ pub(crate) fn read_everycr(s: &mut State) -> Result<(), AllocError>
     let every = s.table.tokens(&Place::Tokens(TokenParameter::Everycr))?;
     s.input.push_list(every)?;
     Ok(())
-}
-
-/// Whether a group of this kind could be opened, which it is then. Its only error is want of memory.
-pub(crate) fn open_group(s: &mut State, kind: GroupKind) -> Result<bool, AllocError>
-    ensures opened { IfOk result (λ opened. spec.IsOpened kind (state_of s.old) opened (state_of s.new)) }
-    ensures phase { OnOk result (s.new.phase ≡ s.old.phase) }
-    ensures said { OnOk result (s.new.said ≡ s.old.said) }
-{
-    match s.table.open_group(kind) {
-        Ok(()) => Ok(true),
-        Err(OpenError::TooMany) => Ok(false),
-        Err(OpenError::OutOfMemory) => Err(AllocError),
-    }
 }
 
 /// The innermost alignment is this, in those around it. Its only error is want of memory.

@@ -64,7 +64,8 @@ impl Variable {
         }
     }
 
-    /// Whether \advance and its kin may change it: registers and parameters, but no codes and no lists of tokens (TeX: The Program, section 1237).
+    /// Whether \advance and its kin may change it: registers and parameters, but no codes and no lists of tokens (TeX: The Program,
+    /// section 1237).
     pub(crate) fn is_changeable(&self) -> bool
         ensures { result ≡ spec.is_changeable self.now }
     {

@@ -7,7 +7,8 @@
 //! alike.
 //!
 //! Read `types` and `begin`, what stands on left sides; `target`, in what ranges values are; `scan`, `stage`, `naming`,
-//! `values`, `lists` and `giving`, how an assignment is read; and `carrying`, how it is carried out. Scans of numbers are tx_scan's.
+//! `values`, `lists` and `giving`, how an assignment is read; and `carrying`, how it is carried out. `clones` has clones of
+//! scans; scans of numbers are tx_scan's.
 #![tactic(auto)]
 
 mod begin;

@@ -5,7 +5,6 @@ use Rattle.tx_eqtb.specs.declared.eqtb.Eqtb.{Eqtb}
 use Rattle.tx_nest.specs.declared.list.ModeList.{ModeList}
 use Rattle.tx_node.specs.Items.{Item}
 use Rattle.tx_par.specs.declared.line.Line.{Line}
-use Rattle.tx_seen.specs.declared.error.TexError.{TexError}
 use Rattle.tx_box.specs.declared.parts.Lists.{Lists}
 use Rattle.tx_box.specs.declared.parts.OpenBox.{OpenBox}
 use Rattle.tx_box.specs.Building.{Ended, boxing, boxing_line, followed, goal_of, line_in, most_in, packed_if}
@@ -16,7 +15,7 @@ replaced (Ok made) P x y same told = same ∙ told
 replaced (Err error) P x y same told = told
 
 -- a box is made of what stands in it, and what leaves it follows it
-pub boxed_line : (box : OpenBox) (most : ℤ) (lists : Lists) (table : Eqtb) (list : List Item) (around : ModeList) (line : Line) (deepest : ℤ) (made : Result Ended TexError)
+pub boxed_line : (box : OpenBox) (most : ℤ) (lists : Lists) (table : Eqtb) (list : List Item) (around : ModeList) (line : Line) (deepest : ℤ) (made : Ended)
     → around ≡ lists.nest.innermost
     → line ≡ line_in box.kind box.target.context around.state list
     → deepest ≡ most_in box.target.context most

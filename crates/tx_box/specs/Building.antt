@@ -1,5 +1,5 @@
 -- How a box begins and ends (TeX: The Program, sections 1083 to 1087).
-use Rattle.std.specs.Prelude.{◌≡◌, ℕ, ℤ, pos, Bool, true, false, nat_lt, ◌&&◌, List, [], ◌∷◌, length, Option, Some, None, Result, Ok, Err, if◌then◌else◌}
+use Rattle.std.specs.Prelude.{◌≡◌, ℕ, ℤ, pos, Bool, nat_lt, ◌&&◌, List, [], ◌∷◌, length, Option, Some, None, Result, Ok, Err, if◌then◌else◌}
 use Rattle.tx_eqtb.specs.declared.entry.Entry.TheVariants.{Number, Shape}
 use Rattle.tx_eqtb.specs.declared.eqtb.Eqtb.{Eqtb}
 use Rattle.tx_eqtb.specs.declared.groups.GroupKind.{GroupKind}
@@ -10,8 +10,8 @@ use Rattle.tx_eqtb.specs.Table.{number_at}
 use Rattle.tx_nest.specs.declared.list.ModeList.{ModeList}
 use Rattle.tx_nest.specs.declared.nest.Nest.{Nest}
 use Rattle.tx_nest.specs.declared.state.ModeState.{ModeState}
-use Rattle.tx_nest.specs.declared.state.ModeState.TheVariants.{Vertical, InternalVertical, Horizontal, RestrictedHorizontal, Math, DisplayMath}
 use Rattle.tx_nest.specs.Grafs.{behind_list, list_within}
+use Rattle.tx_nest.specs.States.{mode_of}
 use Rattle.tx_node.specs.Items.{Item}
 use Rattle.tx_pack.specs.declared.types.Goal.{Goal}
 use Rattle.tx_pack.specs.declared.types.Goal.TheVariants as goals
@@ -20,7 +20,7 @@ use Rattle.tx_pack.specs.declared.types.PackError.{PackError}
 use Rattle.tx_pack.specs.declared.types.PackError.TheVariants as pack
 use Rattle.tx_pack.specs.declared.types.PackParams.{PackParams}
 use Rattle.tx_pack.specs.Packing.{hpacked, vpacked}
-use Rattle.tx_pack.specs.Sums.{fits}
+use Rattle.tx_num.specs.Limits.{fits}
 use Rattle.tx_pack.specs.Tops.{top_packed}
 use Rattle.tx_par.specs.declared.line.Line.{Line}
 use Rattle.tx_par.specs.LineLists.{line_of}
@@ -30,6 +30,8 @@ use Rattle.tx_prim.specs.declared.family.BoxKind.TheVariants as kind
 use Rattle.tx_prim.specs.declared.integer.IntegerParameter.TheVariants.{Hangafter, Hbadness, Looseness, Vbadness}
 use Rattle.tx_prim.specs.declared.modes.Mode.{Mode}
 use Rattle.tx_prim.specs.declared.modes.Mode.TheVariants as mode
+use Rattle.tx_prim.specs.declared.modes.ModeTest.TheVariants as test
+use Rattle.tx_prim.specs.Modes.{holds}
 use Rattle.tx_prim.specs.declared.tokens.TokenParameter.{TokenParameter}
 use Rattle.tx_prim.specs.declared.tokens.TokenParameter.TheVariants.{Everyhbox, Everyvbox}
 use Rattle.tx_seen.specs.declared.error.TexError.{TexError}
@@ -42,7 +44,7 @@ use Rattle.tx_shape.specs.declared.types.BoxGoal.TheVariants.{Natural, Spread, T
 use Rattle.tx_box.specs.declared.parts.Lists.{Lists}
 use Rattle.tx_box.specs.declared.parts.OpenBox.{OpenBox}
 use Rattle.tx_box.specs.declared.parts.Target.{Target}
-use Rattle.tx_box.specs.Effects.{Effect, Left, leaves}
+use Rattle.tx_box.specs.Effects.{Effect, leaves}
 use Rattle.tx_box.specs.Placing.{placed}
 use Rattle.tx_box.specs.Sources.{appended}
 
@@ -140,18 +142,17 @@ pack_error pack.SizeOutOfRange = SizeOutOfRange
 pack_error pack.TooDeep = TooDeep
 pack_error pack.OutOfMemory = SizeOutOfRange
 
--- what comes of a box's end, and what the transcript gets
+-- what comes of a box's end, and what the transcript gets of the box, also where that can't go where it is to go
 pub record Ended : Type 0 where
-  pub left : Left
+  pub effect : Effect
   pub report : List ℕ
 
-abbrev pub reported : List ℕ → Effect → Result Ended TexError
-reported report (Err error) = Err error
-reported report (Ok left) = Ok (record { left = left; report = report })
+abbrev pub reported : List ℕ → Effect → Ended
+reported report effect = record { effect = effect; report = report }
 
 -- the box goes where it is to go; \badness is how bad it is
-abbrev pub boxing : Target → Lists → Eqtb → Result Packed PackError → Result Ended TexError
-boxing target lists table (Err error) = Err (pack_error error)
+abbrev pub boxing : Target → Lists → Eqtb → Result Packed PackError → Ended
+boxing target lists table (Err error) = reported [] (Err (pack_error error))
 boxing target lists table (Ok made) = reported made.report (placed target (record lists { badness = made.badness }) table (Some made.node))
 
 -- what ends with a box: the innermost open one and the list that is being built, which leave the lists around
@@ -186,21 +187,19 @@ IsClosed (Some closed) found left = (found ≡ Some (closed.box, closed.list)) �
 -- an \hbox that is appended to a vertical list lets its marks, its insertions and the lists of its \vadjust out, which follow it
 -- (sections 655, 1076 and 1083)
 abbrev pub is_vertical : ModeState → Bool
-is_vertical (Vertical depth) = true
-is_vertical (InternalVertical depth) = true
-is_vertical (Horizontal factor) = false
-is_vertical (RestrictedHorizontal factor) = false
-is_vertical Math = false
-is_vertical DisplayMath = false
+is_vertical state = holds test.Vertical (mode_of state)
 
 abbrev pub line_in : BoxKind → BoxContext → ModeState → List Item → Line
 line_in kind.Horizontal (Append shift) state list = if is_vertical state then line_of list else record { own = list; behind = [] }
 line_in box context state list = record { own = list; behind = [] }
 
-abbrev pub followed : List Item → Result Ended TexError → Result Ended TexError
-followed [] ended = ended
-followed (item ∷ rest) (Err error) = Err error
-followed (item ∷ rest) (Ok ended) = Ok (record ended { left = record ended.left { lists = appended ended.left.lists (item ∷ rest) } })
+abbrev pub behind_box : List Item → Effect → Effect
+behind_box [] effect = effect
+behind_box (item ∷ rest) (Err error) = Err error
+behind_box (item ∷ rest) (Ok left) = Ok (record left { lists = appended left.lists (item ∷ rest) })
+
+abbrev pub followed : List Item → Ended → Ended
+followed items ended = reported ended.report (behind_box items ended.effect)
 
 -- the lists of a \vadjust and of \vcenter may be as deep as a dimension is (sections 1100 and 1168)
 abbrev pub most_in : BoxContext → ℤ → ℤ
@@ -211,17 +210,17 @@ most_in Adjust most = pos 1073741823
 most_in Center most = pos 1073741823
 
 -- of what stands in the box it is made
-abbrev pub boxing_line : OpenBox → ℤ → Lists → Eqtb → Line → Result Ended TexError
+abbrev pub boxing_line : OpenBox → ℤ → Lists → Eqtb → Line → Ended
 boxing_line box most lists table line =
     followed line.behind
     (boxing box.target lists table (packed_if box.kind (goal_of box.goal) (most_in box.target.context most) table.table line.own))
 
 -- a box ends, whose group has ended: this is the table around it
-abbrev pub ending_of : ℤ → Eqtb → Option Closed → Result Ended TexError
-ending_of most table None = Err ExtraGroupEnd
+abbrev pub ending_of : ℤ → Eqtb → Option Closed → Ended
+ending_of most table None = reported [] (Err ExtraGroupEnd)
 ending_of most table (Some closed) =
     boxing_line closed.box most closed.left table
     (line_in closed.box.kind closed.box.target.context closed.left.nest.innermost.state closed.list)
 
-abbrev pub ending : ℤ → Lists → Eqtb → Result Ended TexError
+abbrev pub ending : ℤ → Lists → Eqtb → Ended
 ending most lists table = ending_of most table (closed_list lists)

@@ -11,7 +11,7 @@ use Rattle.tx_nest.specs.Grafs.{list_within}
 use Rattle.tx_node.specs.declared.head.BoxHead.{BoxHead}
 use Rattle.tx_node.specs.declared.head.InsertHead.{InsertHead}
 use Rattle.tx_node.specs.Items.{Item, items_of, insertion}
-use Rattle.tx_pack.specs.Sums.{fits}
+use Rattle.tx_num.specs.Limits.{fits}
 use Rattle.tx_pack.specs.declared.types.PackError.{PackError}
 use Rattle.tx_pack.specs.declared.types.Packed.{Packed}
 use Rattle.tx_pack.specs.declared.types.Goal.TheVariants.{Natural}

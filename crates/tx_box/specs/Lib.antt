@@ -1,5 +1,6 @@
 pub mod Beginnings
 pub mod Effects
+pub mod Opening
 pub mod Formulas
 pub mod Placing
 pub mod Sources

@@ -8,9 +8,10 @@ ghost use Rattle.tx_box.specs.Effects.{told};
 ghost use Rattle.tx_par.specs.LineLists.{empty_discretionary};
 
 use crate::building::leave_list;
+use crate::opening::open_group;
 use crate::parts::{Done, Lists};
 use std::alloc::{AllocError, Global};
-use tx_eqtb::{Eqtb, GroupKind, OpenError};
+use tx_eqtb::{Eqtb, GroupKind};
 use tx_nest::{ModeList, ModeState, append_item, append_items};
 use tx_node::{Discretionary, KernKind, Node, Nodes, Plain, Shared};
 use tx_prim::{BreakText, Mode};
@@ -223,8 +224,8 @@ fn open_text(alloc: Global, lists: &mut Lists, text: BreakText) -> Result<(), Al
     lists.nest.push(list)
 }
 
-/// A text of \discretionary begins, in a group of its own. `TooManyGroups` exactly where 255 are open. After want of memory, its only
-/// further error, lists and table may only be dropped, here and in what follows.
+/// A text of \discretionary begins, in a group of its own. `TooManyGroups` exactly where 255 are open. After want of memory, its
+/// only further error, lists and table may only be dropped, here and in what follows.
 pub fn begin_break(
     alloc: Global,
     lists: &mut Lists,
@@ -233,10 +234,8 @@ pub fn begin_break(
 ) -> Result<Done, AllocError>
     ensures { IfOk result (λ done. spec.breaking text lists.old table.old ≡ told done lists.new table.new) }
 {
-    match table.open_group(GroupKind::Discretionary(text)) {
-        Ok(()) => {}
-        Err(OpenError::TooMany) => return Ok(Done::Wrong(TexError::TooManyGroups)),
-        Err(OpenError::OutOfMemory) => return Err(AllocError),
+    if !open_group(table, GroupKind::Discretionary(text))? {
+        return Ok(Done::Wrong(TexError::TooManyGroups));
     }
     open_text(alloc, lists, text)?;
     Ok(Done::Whole)

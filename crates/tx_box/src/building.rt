@@ -1,4 +1,4 @@
-//! How a box begins and ends.
+//! How a box begins and ends (TeX: The Program, sections 1083 to 1087).
 ghost use Rattle.std.specs.Prelude.{◌≡◌, ◌≢◌, [], Some, Ok, Err, IfOk, IfErr, OnOk};
 ghost use Rattle.tx_eqtb.specs.declared.eqtb.Eqtb.{Eqtb};
 ghost use Rattle.tx_num.specs.Glue.{IsDimension};
@@ -7,32 +7,33 @@ ghost use Rattle.tx_pack.specs.declared.types.PackError.TheVariants.{OutOfMemory
 ghost use Rattle.tx_box.specs.Building as spec;
 ghost use Rattle.tx_box.specs.Effects.{told};
 
-use crate::kinds::{goal_of, group_of, is_vertical, mode_in, most_in, size_in};
+use crate::kinds::{goal_of, group_of, mode_in, most_in, size_in};
 use crate::leaving::{all_own, split_list};
+use crate::opening::open_group;
 use crate::parameters::{across, down};
 use crate::parts::{Done, Lists, OpenBox, Target};
 use crate::placing::place;
 use std::alloc::{AllocError, Global};
 use tx_bytes::Bytes;
-use tx_eqtb::{Entry, Eqtb, OpenError, ParShape};
+use tx_eqtb::{Entry, Eqtb, ParShape};
 use tx_nest::{ModeList, ModeState, Nest, append_items, go_on_behind};
 use tx_node::Nodes;
 use tx_num::Range;
 use tx_pack::{Goal, PackError, PackParams, Packed, hpack, vpack, vtop};
 use tx_par::Line;
-use tx_prim::{BoxKind, DimensionParameter, IntegerParameter};
+use tx_prim::{BoxKind, DimensionParameter, IntegerParameter, ModeTest};
 use tx_seen::{Place, TexError};
 use tx_shape::BoxContext;
 
-/// What a box's end answers, and the transcript's line of the box, if it has one.
+/// What a box's end answers, and the transcript's line of the box, if it has one, also where the box can't go where it is to go.
 #[derive(Drop)]
 pub struct Ended {
     pub done: Done,
     pub report: Bytes,
 }
 
-/// A paragraph has its plain shape, until the group ends (TeX: The Program, section 1070). After want of memory, its only error, the
-/// table may only be dropped.
+/// A paragraph has its plain shape, until the group ends (TeX: The Program, section 1070). After want of memory, its only error,
+/// the table may only be dropped.
 pub fn reset_shape(table: &mut Eqtb) -> Result<(), AllocError>
     ensures { OnOk result (table.new ≡ spec.plain_shape table.old) }
 {
@@ -79,10 +80,8 @@ pub fn begin_box(
 ) -> Result<Done, AllocError>
     ensures { IfOk result (λ done. spec.beginning new_box lists.old table.old ≡ told done lists.new table.new) }
 {
-    match table.open_group(group_of(new_box.kind)) {
-        Ok(()) => {}
-        Err(OpenError::TooMany) => return Ok(Done::Wrong(TexError::TooManyGroups)),
-        Err(OpenError::OutOfMemory) => return Err(AllocError),
+    if !open_group(table, group_of(new_box.kind))? {
+        return Ok(Done::Wrong(TexError::TooManyGroups));
     }
     shape(table, new_box.kind)?;
     open_list(alloc, lists, new_box)?;
@@ -208,7 +207,7 @@ fn line_in(
     ensures { IfOk result (λ line. line ≡ spec.line_in ended.kind ended.target.context around list) }
 {
     match (ended.kind, ended.target.context) {
-        (BoxKind::Horizontal, BoxContext::Append(_)) if is_vertical(around) => {
+        (BoxKind::Horizontal, BoxContext::Append(_)) if ModeTest::Vertical.holds(around.mode()) => {
             split_list(alloc, list)
         }
         (_, _) => Ok(all_own(alloc, list)),

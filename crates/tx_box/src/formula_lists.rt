@@ -1,4 +1,4 @@
-//! Formulas begin and end.
+//! Formulas begin and end (TeX: The Program, sections 1136, 1184 and 1185).
 ghost use Rattle.std.specs.Prelude.{◌≡◌, OnOk};
 ghost use Rattle.tx_box.specs.FormulaLists as spec;
 

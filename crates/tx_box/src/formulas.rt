@@ -1,4 +1,4 @@
-//! The noads of the formula that is being built.
+//! The noads of the formula that is being built (TeX: The Program, sections 1076 and 1093).
 ghost use Rattle.std.specs.Prelude.{◌≡◌, ◌∷◌, ◌++◌, [], map, IfOk, OnOk};
 ghost use Rattle.tx_mlist.specs.Items.{material};
 ghost use Rattle.tx_mlist.specs.Noads.{math_of};

@@ -1,4 +1,5 @@
-//! Vertical lists in groups of their own that become no box: those of \insert, and that of \output.
+//! Vertical lists in groups of their own that become no box: those of \insert (TeX: The Program, sections 1099 and 1100), and that
+//! of \output (section 1025).
 ghost use Rattle.std.specs.Prelude.{◌≡◌, ◌∷◌, [], IfOk, OnOk};
 ghost use Rattle.tx_eqtb.specs.declared.eqtb.Eqtb.{Eqtb};
 ghost use Rattle.tx_node.specs.Items.{insertion, items_of};
@@ -7,14 +8,14 @@ ghost use Rattle.tx_box.specs.Inserts as spec;
 ghost use Rattle.tx_box.specs.Sources.{appended};
 
 use crate::building::{leave_list, reset_shape};
-use crate::kinds::GREATEST_SIZE;
+use crate::opening::open_group;
 use crate::parameters::down;
 use crate::parts::{Done, Lists};
 use std::alloc::{AllocError, Global};
-use tx_eqtb::{Eqtb, GroupKind, OpenError};
+use tx_eqtb::{Eqtb, GroupKind};
 use tx_nest::{ModeList, append_item};
-use tx_node::{BoxHead, InsertHead, Node, Nodes};
-use tx_num::{Glue, Range};
+use tx_node::{BoxNode, InsertHead, Node, Nodes};
+use tx_num::{GREATEST_DIMENSION, Glue, Range};
 use tx_pack::{Goal, PackError, Packed, vpack};
 use tx_prim::{DimensionParameter, GlueParameter, IntegerParameter, Mode};
 use tx_seen::TexError;
@@ -40,8 +41,8 @@ pub fn insert_params(table: &Eqtb) -> InsertParams
 }
 
 /// A vertical list begins in the list that is being built, in a group of this kind, and paragraphs in it have the plain shape.
-/// `TooManyGroups` exactly where 255 are open. After want of memory, its only further error, lists and table may only be dropped, here
-/// and in what follows.
+/// `TooManyGroups` exactly where 255 are open. After want of memory, its only further error, lists and table may only be dropped,
+/// here and in what follows.
 pub fn begin_vertical(
     alloc: Global,
     lists: &mut Lists,
@@ -50,10 +51,8 @@ pub fn begin_vertical(
 ) -> Result<Done, AllocError>
     ensures { IfOk result (λ done. spec.beginning_vertical group lists.old table.old ≡ told done lists.new table.new) }
 {
-    match table.open_group(group) {
-        Ok(()) => {}
-        Err(OpenError::TooMany) => return Ok(Done::Wrong(TexError::TooManyGroups)),
-        Err(OpenError::OutOfMemory) => return Err(AllocError),
+    if !open_group(table, group)? {
+        return Ok(Done::Wrong(TexError::TooManyGroups));
     }
     reset_shape(table)?;
     let list = ModeList::within(alloc, Mode::InternalVertical, lists.nest.innermost());
@@ -61,7 +60,8 @@ pub fn begin_vertical(
     Ok(Done::Whole)
 }
 
-/// The vertical list of such a group, which has ended, leaves the lists; None where no list waits around it, which no command makes.
+/// The vertical list of such a group, which has ended, leaves the lists; None where no list waits around it, which no command
+/// makes.
 pub fn end_vertical(lists: &mut Lists) -> Option<Nodes>
     ensures { spec.IsLeft (spec.left_vertical lists.old) result lists.new }
 {
@@ -71,10 +71,11 @@ pub fn end_vertical(lists: &mut Lists) -> Option<Nodes>
     Some(leave_list(&mut lists.nest))
 }
 
-/// The height and depth of a list's box together, in sp.
-fn whole_size(head: BoxHead) -> i64
-    ensures { result ≡ spec.whole_size head }
+/// The height and depth of a box together, in sp.
+pub fn whole_size(found: &BoxNode) -> i64
+    ensures { result ≡ spec.whole_size found.now.head }
 {
+    let head = found.head();
     i64::from(head.height) + i64::from(head.depth)
 }
 
@@ -135,7 +136,7 @@ fn append_insertion(
 {
     let Packed { node, badness, .. } = packed;
     lists.badness = badness;
-    let size = whole_size(node.head());
+    let size = whole_size(&node);
     append_sized(alloc, lists, class, params, node.into_nodes()?, size)
 }
 
@@ -150,7 +151,7 @@ fn insert_list(
 ) -> Result<Done, AllocError>
     ensures { IfOk result (λ done. spec.inserting_list class params lists.old table.now list ≡ told done lists.new table.now) }
 {
-    match vpack(alloc, list, Goal::Natural, GREATEST_SIZE, &down(table)) {
+    match vpack(alloc, list, Goal::Natural, GREATEST_DIMENSION, &down(table)) {
         Ok(packed) => append_insertion(alloc, lists, class, params, packed),
         Err(PackError::SizeOutOfRange) => Ok(Done::Wrong(TexError::SizeOutOfRange)),
         Err(PackError::TooDeep) => Ok(Done::Wrong(TexError::TooDeep)),
@@ -158,9 +159,9 @@ fn insert_list(
     }
 }
 
-/// The list of an \insert of this class ends, whose group has ended: this is the table around it. Packed naturally it tells the size of
-/// the insertion that is appended to the list around. `ExtraGroupEnd` where no list waits around, which no command makes; else
-/// `SizeOutOfRange` and `TooDeep` where the list can't be packed, or where its size is no dimension.
+/// The list of an \insert of this class ends, whose group has ended: this is the table around it. Packed naturally it tells the
+/// size of the insertion that is appended to the list around. `ExtraGroupEnd` where no list waits around, which no command makes;
+/// else `SizeOutOfRange` and `TooDeep` where the list can't be packed, or where its size is no dimension.
 pub fn end_insert(
     alloc: Global,
     lists: &mut Lists,

@@ -1,15 +1,12 @@
-//! What the kinds of boxes differ by.
+//! What the kinds of boxes differ by (TeX: The Program, sections 1083 to 1086).
 ghost use Rattle.std.specs.Prelude.{◌≡◌};
 ghost use Rattle.tx_box.specs.Building as spec;
 
 use tx_eqtb::GroupKind;
-use tx_nest::ModeState;
+use tx_num::GREATEST_DIMENSION;
 use tx_pack::Goal;
 use tx_prim::{BoxKind, Mode, TokenParameter};
 use tx_shape::{BoxContext, BoxGoal};
-
-/// The greatest dimension, in sp.
-pub(crate) const GREATEST_SIZE: i64 = 1_073_741_823;
 
 /// The mode of a box's list.
 pub(crate) fn mode_in(kind: BoxKind) -> Mode
@@ -63,23 +60,12 @@ pub fn size_in(goal: Goal) -> i64
     }
 }
 
-/// Whether a list in this mode is vertical.
-pub(crate) fn is_vertical(state: ModeState) -> bool
-    ensures { result ≡ spec.is_vertical state }
-{
-    match state {
-        ModeState::Vertical(_) | ModeState::InternalVertical(_) => true,
-        ModeState::Horizontal(_) | ModeState::RestrictedHorizontal(_) => false,
-        ModeState::Math | ModeState::DisplayMath => false,
-    }
-}
-
 /// How deep a vertical list may be, in sp, by what becomes of it.
 pub(crate) fn most_in(context: BoxContext, most: i64) -> i64
     ensures { result ≡ spec.most_in context most }
 {
     match context {
         BoxContext::Append(_) | BoxContext::Register(_) | BoxContext::Ship => most,
-        BoxContext::Adjust | BoxContext::Center => GREATEST_SIZE,
+        BoxContext::Adjust | BoxContext::Center => GREATEST_DIMENSION,
     }
 }

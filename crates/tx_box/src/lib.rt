@@ -5,8 +5,8 @@
 //! exactly when each error comes. Only tested: that this is what TeX does, on documents that Knuth's TeX reads alike
 //! (tools/check-boxes).
 //!
-//! Read `parts`, `kept`, `parameters`, `formulas`, `placing`, `sources`, `kinds`, `leaving`, `building`, `formula_lists`, `breaks`,
-//! `inserts` and `due_work`.
+//! Read `parts`, `kept`, `parameters`, `opening`, `formulas`, `placing`, `sources`, `kinds`, `leaving`, `building`,
+//! `formula_lists`, `breaks`, `inserts` and `due_work`.
 #![tactic(auto)]
 
 mod breaks;
@@ -18,6 +18,7 @@ mod inserts;
 mod kept;
 mod kinds;
 mod leaving;
+mod opening;
 mod parameters;
 mod parts;
 mod placing;
@@ -25,10 +26,11 @@ mod sources;
 
 pub use breaks::{begin_break, end_break};
 pub use building::{Ended, begin_box, end_box, greatest_depth, leave_list, reset_shape};
-pub use due_work::{copy_list, place_copy};
 pub use formula_lists::{begin_formula, end_formula};
 pub use formulas::{append_atom, append_noad, settle, with_nodes};
-pub use inserts::{InsertParams, begin_vertical, end_insert, end_vertical, insert_params};
+pub use inserts::{
+    InsertParams, begin_vertical, end_insert, end_vertical, insert_params, whole_size,
+};
 pub use kinds::{every_in, goal_of, size_in};
 pub use leaving::split_list;
 pub use parameters::{across, down, leading_of};

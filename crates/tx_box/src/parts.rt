@@ -8,10 +8,12 @@ use tx_prim::BoxKind;
 use tx_seen::TexError;
 use tx_shape::{BoxContext, BoxGoal};
 
-/// What becomes of a box, and whether \global or \globaldefs is in force, which \setbox alone asks.
+/// What becomes of a box (TeX: The Program, section 1071).
 #[derive(Clone, Copy, PartialEq, Eq)]
 pub struct Target {
+    /// Where it goes.
     pub context: BoxContext,
+    /// Whether \global or \globaldefs is in force, which \setbox alone asks.
     pub global: bool,
 }
 
@@ -39,7 +41,7 @@ pub struct OpenFormula {
 pub struct Lists {
     /// The innermost, with its mode, and those around it.
     pub nest: Nest,
-    /// \badness: how bad the box is that was packed last.
+    /// \badness: how bad the box is that was packed last, 0 to 10000, or 1000000 where it was overfull.
     pub badness: i64,
     /// The boxes whose lists are being built, the innermost first.
     pub boxes: Stack<OpenBox>,

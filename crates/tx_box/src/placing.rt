@@ -1,4 +1,4 @@
-//! Where a box goes that is made, found or copied.
+//! Where a box goes that is made, found or copied (TeX: The Program, sections 1075 to 1078).
 ghost use Rattle.std.specs.Prelude.{◌≡◌, Bool, IfOk, OnOk};
 ghost use Rattle.tx_eqtb.specs.Stack.{assigned_by};
 ghost use Rattle.tx_nest.specs.Appended.{box_appended};

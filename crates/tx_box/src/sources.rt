@@ -1,4 +1,4 @@
-//! Boxes that were made before.
+//! Boxes that were made before (TeX: The Program, sections 1079, 1080 and 1110).
 ghost use Rattle.std.specs.Prelude.{◌≡◌, IfOk, OnOk};
 ghost use Rattle.tx_eqtb.specs.Table.{box_at};
 ghost use Rattle.tx_seen.specs.declared.place.Place.TheVariants as place;

@@ -1,5 +1,5 @@
 -- What the commands of boxes and lists do (TeX: The Program, part 47).
-use Rattle.std.specs.Prelude.{ℕ, ℤ, Bool, true, false, ◌&&◌, List, [], ◌∷◌, ◌++◌, Option, Some, None, is_some, Result, Ok, Err, if◌then◌else◌}
+use Rattle.std.specs.Prelude.{ℕ, ℤ, Bool, true, false, ◌&&◌, List, [], ◌∷◌, ◌++◌, Option, Some, None, is_some, Ok, Err, if◌then◌else◌}
 use Rattle.tx_node.specs.declared.rule.Rule.{Rule as ARule}
 use Rattle.tx_nest.specs.declared.list.ModeList.{ModeList}
 use Rattle.tx_nest.specs.Appended.{rule_appended}
@@ -14,7 +14,6 @@ use Rattle.tx_prim.specs.declared.family.ItemKind.{ItemKind}
 use Rattle.tx_prim.specs.declared.family.ItemKind.TheVariants as item
 use Rattle.tx_prim.specs.declared.integer.IntegerParameter.TheVariants.{Globaldefs}
 use Rattle.tx_prim.specs.declared.family.UnboxKind.{UnboxKind}
-use Rattle.tx_seen.specs.declared.error.TexError.{TexError}
 use Rattle.tx_seen.specs.declared.error.TexError.TheVariants.{MissingBox}
 use Rattle.tx_seen.specs.declared.place.Place.TheVariants.{Box, Tokens}
 use Rattle.tx_assign.specs.Changes.{is_global as globally}
@@ -35,7 +34,7 @@ use Rattle.tx_state.specs.declared.parts.Due.TheVariants.{Boxes}
 use Rattle.tx_boxing.specs.Building.{built_if, built_in}
 use Rattle.tx_state.specs.Ended.{assigned, integer, with_top_list}
 use Rattle.tx_state.specs.State.{TexState}
-use Rattle.tx_state.specs.Outcomes.{Outcome, Asks, Leaves, Ships, Fails, FailsTelling, Ends, leaves}
+use Rattle.tx_state.specs.Outcomes.{Outcome, Asks, Leaves, Ships, Fails, Ends, fails, leaves}
 use Rattle.tx_state.specs.Groups.{closing}
 
 -- a rule
@@ -44,7 +43,7 @@ ruling s rule = leaves (with_top_list s (rule_appended s.lists.nest.innermost ru
 
 -- \unpenalty, \unkern and \unskip
 abbrev pub removed : TexState → Option ModeList → Outcome
-removed s None = Fails MissingBox
+removed s None = fails MissingBox
 removed s (Some new) = leaves (with_top_list s new)
 
 -- on the pages' list with no contribution left \unskip is refused too where glue went to the page last (section 1106)
@@ -57,7 +56,7 @@ takes_of_page item.Skip s = list.is_bare_page s.lists.nest.innermost.state s.lis
 takes_of_page kind s = false
 
 abbrev pub removing : TexState → ItemKind → Outcome
-removing s kind = if takes_of_page kind s then Fails MissingBox else removed s (list.removing kind s.lists.nest.innermost)
+removing s kind = if takes_of_page kind s then fails MissingBox else removed s (list.removing kind s.lists.nest.innermost)
 
 -- \prevdepth, which may stand in vertical modes alone (section 1243)
 abbrev pub setting_depth : TexState → ℤ → Outcome
@@ -78,14 +77,17 @@ carrying s left = record s {
   table = left.table;
 }
 
-abbrev pub carried : TexState → Effect → Outcome
-carried s (Err error) = Fails error
-carried s (Ok left) = leaves (carrying s left)
+-- that, or an error, behind what the transcript gets
+abbrev pub carried_telling : TexState → List ℕ → Effect → Outcome
+carried_telling s report (Err error) = Fails error report
+carried_telling s report (Ok left) = Leaves (carrying s left) report
 
--- and what the transcript gets of a box
-abbrev pub boxed : TexState → Result Ended TexError → Outcome
-boxed s (Err error) = Fails error
-boxed s (Ok ended) = Leaves (carrying s ended.left) ended.report
+abbrev pub carried : TexState → Effect → Outcome
+carried s effect = carried_telling s [] effect
+
+-- the transcript gets what is reported of a box also where that can't go where it is to go
+abbrev pub boxed : TexState → Ended → Outcome
+boxed s ended = carried_telling s ended.report ended.effect
 
 -- what becomes of a box (section 1075): where it goes, and whether \global or \globaldefs is in force, which \setbox alone asks
 abbrev pub target_of : TexState → BoxContext → Target
@@ -123,13 +125,13 @@ packing_box s = boxed (closing s) (ending_list (greatest_depth s.table.table) s.
 abbrev pub ending_box : TexState → Outcome
 ending_box s = built_in (context_of s.lists.boxes) (packing_box s)
 
--- what a turn tells before the rest of it; one that fails tells nothing
+-- what a turn has told stays told, also where the rest of it ends the run by an error; behind a paragraph in a list that ends nothing is
+-- asked or shipped, and no run ends otherwise
 abbrev pub telling : List ℕ → Outcome → Outcome
 telling report (Leaves s said) = Leaves s (report ++ said)
 telling report (Asks ask s) = Asks ask s
 telling report (Ships page s) = Ships page s
-telling report (Fails error) = Fails error
-telling report (FailsTelling error said) = FailsTelling error (report ++ said)
+telling report (Fails error said) = Fails error (report ++ said)
 telling report Ends = Ends
 
 -- a box that was made before goes where it is to go

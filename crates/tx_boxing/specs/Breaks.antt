@@ -9,7 +9,7 @@ use Rattle.tx_box.specs.declared.parts.Lists.{Lists}
 use Rattle.tx_box.specs.Breaks.{breaking as begun_break, broken}
 use Rattle.tx_shape.specs.declared.types.Opener.TheVariants as opener
 use Rattle.tx_state.specs.State.{TexState}
-use Rattle.tx_state.specs.Outcomes.{Outcome, Fails, leaves}
+use Rattle.tx_state.specs.Outcomes.{Outcome, fails, leaves}
 use Rattle.tx_boxing.specs.Boxes.{carried, carrying}
 use Rattle.tx_state.specs.Groups.{closing}
 
@@ -24,7 +24,7 @@ head_behind break.Behind = Opening (opener.Break break.Instead)
 head_behind break.Instead = Fresh
 
 abbrev pub broken_off : TexState → BreakText → Result Lists TexError → Outcome
-broken_off s text (Err error) = Fails error
+broken_off s text (Err error) = fails error
 broken_off s text (Ok lists) =
     leaves (record (carrying s (record { lists = lists; table = s.table; due = None })) { head = head_behind text })
 

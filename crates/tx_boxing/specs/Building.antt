@@ -2,10 +2,8 @@
 use Rattle.std.specs.Prelude.{ℕ, Bool, true, false, List, [], ◌∷◌, Result, Ok, Err, if◌then◌else◌}
 use Rattle.tx_box.specs.declared.parts.Work.TheVariants.{ShipPage}
 use Rattle.tx_command.specs.declared.types.Head.TheVariants.{Opening}
-use Rattle.tx_galley.specs.declared.errors.GalleyError.{GalleyError}
 use Rattle.tx_galley.specs.declared.firing.Next.{Next}
 use Rattle.tx_galley.specs.declared.firing.Next.TheVariants as next
-use Rattle.tx_galley.specs.Errors.{error_of}
 use Rattle.tx_galley.specs.Exercising.{Exercised, exercising as exercising_pages}
 use Rattle.tx_pending.specs.Elements.{with_list}
 use Rattle.tx_prim.specs.declared.modes.Mode.{Mode}
@@ -15,7 +13,7 @@ use Rattle.tx_shape.specs.declared.types.BoxContext.{BoxContext}
 use Rattle.tx_shape.specs.declared.types.BoxContext.TheVariants.{Adjust, Append, Center, Register, Ship}
 use Rattle.tx_shape.specs.declared.types.Opener.TheVariants.{Output}
 use Rattle.tx_state.specs.declared.parts.Due.TheVariants.{Boxes}
-use Rattle.tx_state.specs.Outcomes.{Outcome, Asks, Leaves, Ships, Fails, FailsTelling, Ends}
+use Rattle.tx_state.specs.Outcomes.{Outcome, Asks, Leaves, Ships, Fails, Ends}
 use Rattle.tx_state.specs.State.{TexState}
 
 -- its box is shipped, and then the page builder goes on; or \output's tokens are read, marked at their end, whose begin-group token is
@@ -26,13 +24,8 @@ paging (next.Ships b badness) s = record s { lists = record s.lists { badness = 
 paging (next.Reads tokens badness) s =
     record s { lists = record s.lists { badness = badness }; head = Opening Output; taken = []; reader = record s.reader { input = with_list s.reader.input tokens true } }
 
--- the same as code answers it
-abbrev pub paged : TexState → List ℕ → Result Next GalleyError → Outcome
-paged s said (Err error) = FailsTelling (error_of error) said
-paged s said (Ok n) = Leaves (paging n s) said
-
 abbrev pub exercised : TexState → List ℕ → Result Exercised TexError → Outcome
-exercised s said (Err error) = FailsTelling error said
+exercised s said (Err error) = Fails error said
 exercised s said (Ok x) = Leaves (paging x.next (record s { lists = record s.lists { nest = x.nest; pages = x.pages }; table = x.table })) said
 
 abbrev pub exercising : TexState → List ℕ → Outcome
@@ -50,8 +43,7 @@ abbrev pub built : Outcome → Outcome
 built (Leaves s said) = then_building s said
 built (Asks ask s) = Asks ask s
 built (Ships page s) = Ships page s
-built (Fails error) = Fails error
-built (FailsTelling error said) = FailsTelling error said
+built (Fails error said) = Fails error said
 built Ends = Ends
 
 -- a box that is appended there does, unless it is void (section 1076)

@@ -1,48 +1,59 @@
--- What ends a group, by its kind (TeX: The Program, sections 1063 to 1068).
-use Rattle.std.specs.Prelude.{Option, Some, None}
+-- What ends a group, by its kind (TeX: The Program, sections 1026, 1063 to 1068, 1100 and 1133).
+use Rattle.std.specs.Prelude.{Option, Some, None, Result, Ok, Err, if◌then◌else◌}
 use Rattle.tx_eqtb.specs.declared.groups.GroupKind.{GroupKind}
 use Rattle.tx_eqtb.specs.declared.groups.GroupKind.TheVariants as kind
-use Rattle.tx_seen.specs.declared.error.TexError.TheVariants.{ExtraGroupEnd, MisplacedAlignment}
+use Rattle.tx_seen.specs.declared.error.TexError.TheVariants.{ExtraGroupEnd, MisplacedAlignment, UnbalancedOutput}
 use Rattle.tx_state.specs.State.{TexState}
-use Rattle.tx_state.specs.Outcomes.{Outcome, Fails, leaves}
+use Rattle.tx_state.specs.Outcomes.{Outcome, fails, leaves}
 use Rattle.tx_state.specs.Groups.{closing}
-use Rattle.tx_boxing.specs.Boxes.{ending_box}
+use Rattle.tx_state.specs.Standing.{before_row}
+use Rattle.tx_par.specs.declared.error.ParError.{ParError}
+use Rattle.tx_paragraph.specs.Ending as paragraph
+use Rattle.tx_boxing.specs.Boxes.{ending_box, telling}
 use Rattle.tx_boxing.specs.Breaks.{ending_break}
-use Rattle.tx_boxing.specs.Paragraphs.{between_rows, ending_vertical, inserting, outputting}
+use Rattle.tx_boxing.specs.Pages.{ending_insert, ending_output, is_at_marker, without_marker}
+use Rattle.tx_boxing.specs.Paragraphs.{hyphenating}
+
+-- the end of a list in which a paragraph may be open, by the kind of its group: that of an \insert, of \output, of the material of
+-- \noalign, behind which rows are read again (section 1133), or of a vertical box
+abbrev pub list_ending : GroupKind → TexState → Outcome
+list_ending (kind.Insert class) s = ending_insert s class
+list_ending kind.Output s = ending_output s
+list_ending kind.NoAlign s = leaves (before_row (closing s))
+list_ending other s = ending_box s
+
+-- that paragraph ends before (section 1100)
+abbrev pub behind_left : GroupKind → TexState → Result paragraph.Left ParError → Outcome
+behind_left group s (Err error) = fails (paragraph.par_error error)
+behind_left group s (Ok left) = telling left.report (list_ending group (record s { lists = left.lists; hyphenation = left.known; table = left.table }))
+
+abbrev pub behind_paragraph : GroupKind → TexState → Outcome
+behind_paragraph group s = behind_left group s (paragraph.closing (hyphenating s) s.lists s.table)
+
+-- \output's group has to end where its tokens end (sections 1026 and 1027)
+abbrev pub outputting : TexState → Outcome
+outputting s = if is_at_marker s then behind_paragraph kind.Output (without_marker s) else fails UnbalancedOutput
 
 -- what an end-group token does, by the kind of the innermost group; a group of a formula isn't one of boxes, and a row of an alignment
 -- isn't to end before its \cr (section 1132)
 abbrev pub ending : TexState → Option GroupKind → Outcome
-ending s None = Fails ExtraGroupEnd
-ending s (Some kind.SemiSimple) = Fails ExtraGroupEnd
+ending s None = fails ExtraGroupEnd
+ending s (Some kind.SemiSimple) = fails ExtraGroupEnd
 ending s (Some kind.Simple) = leaves (closing s)
 ending s (Some kind.HorizontalBox) = ending_box s
-ending s (Some kind.VerticalBox) = ending_vertical s
-ending s (Some kind.TopBox) = ending_vertical s
+ending s (Some kind.VerticalBox) = behind_paragraph kind.VerticalBox s
+ending s (Some kind.TopBox) = behind_paragraph kind.TopBox s
 ending s (Some (kind.Discretionary text)) = ending_break s text
-ending s (Some kind.MathShift) = Fails ExtraGroupEnd
-ending s (Some (kind.MathPart part)) = Fails ExtraGroupEnd
-ending s (Some (kind.MathChoice style)) = Fails ExtraGroupEnd
-ending s (Some (kind.Insert class)) = inserting s class
+ending s (Some kind.MathShift) = fails ExtraGroupEnd
+ending s (Some (kind.MathPart part)) = fails ExtraGroupEnd
+ending s (Some (kind.MathChoice style)) = fails ExtraGroupEnd
+ending s (Some (kind.Insert class)) = behind_paragraph (kind.Insert class) s
 ending s (Some kind.Output) = outputting s
-ending s (Some kind.NoAlign) = between_rows s
-ending s (Some kind.Entry) = Fails MisplacedAlignment
-ending s (Some kind.Align) = Fails ExtraGroupEnd
+ending s (Some kind.NoAlign) = behind_paragraph kind.NoAlign s
+ending s (Some kind.Entry) = fails MisplacedAlignment
+ending s (Some kind.Align) = fails ExtraGroupEnd
 
 -- what \endgroup does
 abbrev pub ending_semi_simple : TexState → Option GroupKind → Outcome
-ending_semi_simple s None = Fails ExtraGroupEnd
 ending_semi_simple s (Some kind.SemiSimple) = leaves (closing s)
-ending_semi_simple s (Some kind.Simple) = Fails ExtraGroupEnd
-ending_semi_simple s (Some kind.HorizontalBox) = Fails ExtraGroupEnd
-ending_semi_simple s (Some kind.VerticalBox) = Fails ExtraGroupEnd
-ending_semi_simple s (Some kind.TopBox) = Fails ExtraGroupEnd
-ending_semi_simple s (Some (kind.Discretionary text)) = Fails ExtraGroupEnd
-ending_semi_simple s (Some kind.MathShift) = Fails ExtraGroupEnd
-ending_semi_simple s (Some (kind.MathPart part)) = Fails ExtraGroupEnd
-ending_semi_simple s (Some (kind.MathChoice style)) = Fails ExtraGroupEnd
-ending_semi_simple s (Some (kind.Insert class)) = Fails ExtraGroupEnd
-ending_semi_simple s (Some kind.Output) = Fails ExtraGroupEnd
-ending_semi_simple s (Some kind.NoAlign) = Fails ExtraGroupEnd
-ending_semi_simple s (Some kind.Entry) = Fails ExtraGroupEnd
-ending_semi_simple s (Some kind.Align) = Fails ExtraGroupEnd
+ending_semi_simple s other = fails ExtraGroupEnd

@@ -1,11 +1,11 @@
 -- \insert, \output, \vsplit, \end, and what is assigned to pages (TeX: The Program, sections 994 to 1054 and 1097 to 1100).
-use Rattle.std.specs.Prelude.{ℕ, ℤ, Bool, true, false, [], Option, Some, None, is_some, Result, Ok, Err, if◌then◌else◌}
+use Rattle.std.specs.Prelude.{ℕ, ℤ, Bool, true, false, [], Option, Some, None, is_some, Result, Ok, Err}
 use Rattle.tx_eqtb.specs.declared.eqtb.Eqtb.{Eqtb}
 use Rattle.tx_eqtb.specs.declared.groups.GroupKind.{GroupKind}
 use Rattle.tx_eqtb.specs.Table.{box_at}
 use Rattle.tx_eqtb.specs.Stack.{closed}
 use Rattle.tx_seen.specs.declared.error.TexError.{TexError}
-use Rattle.tx_seen.specs.declared.error.TexError.TheVariants.{ExtraGroupEnd, UnbalancedOutput}
+use Rattle.tx_seen.specs.declared.error.TexError.TheVariants.{ExtraGroupEnd}
 use Rattle.tx_seen.specs.declared.place.Place.TheVariants.{Box}
 use Rattle.tx_shape.specs.declared.types.BoxContext.{BoxContext}
 use Rattle.tx_command.specs.declared.types.Head.TheVariants.{Fresh}
@@ -23,18 +23,18 @@ use Rattle.tx_pending.specs.declared.next.Next.TheVariants.{Marker}
 use Rattle.tx_boxing.specs.Building.{built, built_if, exercised, exercising}
 use Rattle.tx_state.specs.Ended.{assigned}
 use Rattle.tx_state.specs.State.{TexState}
-use Rattle.tx_state.specs.Outcomes.{Outcome, Fails, Ends, leaves}
+use Rattle.tx_state.specs.Outcomes.{Outcome, Ends, fails, leaves}
 use Rattle.tx_boxing.specs.Boxes.{boxed, carried, carrying, settled, target_of}
 use Rattle.tx_state.specs.Groups.{closing}
 
 -- the list of an \insert ends (section 1100); what the insertion takes from the table is read before its group ends
 abbrev pub packing_insert : TexState → ℕ → Outcome
-packing_insert s class = boxed (closing s) (reported [] (insert_ended class (insert_params s.table.table) s.lists (closed s.table)))
+packing_insert s class = carried (closing s) (insert_ended class (insert_params s.table.table) s.lists (closed s.table))
 
 abbrev pub ending_insert : TexState → ℕ → Outcome
 ending_insert s class = built (packing_insert s class)
 
--- \output's group ends (sections 1026 to 1028): its tokens have to end there too
+-- \output's tokens end with their marker
 abbrev pub is_marker : Next → Bool
 is_marker Marker = true
 is_marker _ = false
@@ -49,14 +49,15 @@ is_at_marker s = is_marker (next_of s).next
 abbrev pub without_marker : TexState → TexState
 without_marker s = record s { reader = record s.reader { input = (next_of s).left } }
 
+-- its group ends, and its list leaves the lists (section 1026)
 abbrev pub ending_output_in : TexState → Option VerticalLeft → Outcome
-ending_output_in s None = Fails ExtraGroupEnd
+ending_output_in s None = fails ExtraGroupEnd
 ending_output_in s (Some left) =
     exercised (carrying s (record { lists = left.lists; table = s.table; due = None })) []
-    (output_ended left.items true left.lists.nest s.table left.lists.pages)
+    (output_ended left.items left.lists.nest s.table left.lists.pages)
 
 abbrev pub ending_output : TexState → Outcome
-ending_output s = if is_at_marker s then ending_output_in (closing (without_marker s)) (left_vertical s.lists) else Fails UnbalancedOutput
+ending_output s = ending_output_in (closing s) (left_vertical s.lists)
 
 -- what is kept of pages changes
 abbrev pub with_pages : TexState → Pages → TexState
@@ -72,7 +73,7 @@ setting_dead_cycles s n = leaves (assigned (with_pages s (record s.lists.pages {
 
 -- an assignment to a quantity of the page (section 1245)
 abbrev pub paged_so : TexState → Result Pages TexError → Outcome
-paged_so s (Err error) = Fails error
+paged_so s (Err error) = fails error
 paged_so s (Ok pages) = leaves (assigned (with_pages s pages))
 
 -- what \vsplit splits off goes where it is to go
@@ -82,7 +83,7 @@ split_placed s target table (Some made) =
     boxed s (reported made.report (placed target (record s.lists { badness = made.badness }) table (Some made.node)))
 
 abbrev pub splitting : TexState → Target → Result (SplitOff (Option Packed)) TexError → Outcome
-splitting s target (Err error) = Fails error
+splitting s target (Err error) = fails error
 splitting s target (Ok off) = split_placed (with_pages s off.pages) target off.table off.packed
 
 abbrev pub splitting_box : TexState → ℕ → ℤ → BoxContext → Outcome

@@ -21,16 +21,13 @@ use Rattle.tx_paragraph.specs.Ending as paragraph
 use Rattle.tx_paragraph.specs.Hyphens.{Hyphenating}
 use Rattle.tx_boxing.specs.Building.{built, exercising, is_pages}
 use Rattle.tx_state.specs.Ended.{assigned, assigning, with_top_list}
-use Rattle.tx_state.specs.Groups.{closing}
-use Rattle.tx_state.specs.Standing.{before_row}
 use Rattle.tx_state.specs.State.{TexState}
-use Rattle.tx_state.specs.Outcomes.{Outcome, Leaves, Fails, leaves}
-use Rattle.tx_boxing.specs.Boxes.{carrying, ending_box, telling}
-use Rattle.tx_boxing.specs.Pages.{ending_insert, ending_output}
+use Rattle.tx_state.specs.Outcomes.{Outcome, Leaves, fails, leaves}
+use Rattle.tx_boxing.specs.Boxes.{carrying}
 
 -- \prevgraf, whatever the prefix (section 1244)
 abbrev pub setting_graf : TexState → Option ℕ → Outcome
-setting_graf s None = Fails NumberOutOfRange
+setting_graf s None = fails NumberOutOfRange
 setting_graf s (Some graf) = leaves (assigned (with_top_list s (with_graf s.lists.nest.innermost graf)))
 
 -- \parshape: so many sizes are to follow, two for each of its lines, of which there are none where the number isn't positive; once
@@ -55,38 +52,6 @@ shape_sized s size other = leaves (record s { head = Fresh })
 abbrev pub hyphenating : TexState → Hyphenating
 hyphenating s = record { fonts = s.words.fonts; known = s.hyphenation }
 
--- the paragraph that is open in a vertical box ends before that does (section 1100)
-abbrev pub ending_behind : TexState → Result paragraph.Left ParError → Outcome
-ending_behind s (Err error) = Fails (paragraph.par_error error)
-ending_behind s (Ok left) = telling left.report (ending_box (record s { lists = left.lists; hyphenation = left.known; table = left.table }))
-
-abbrev pub ending_vertical : TexState → Outcome
-ending_vertical s = ending_behind s (paragraph.closing (hyphenating s) s.lists s.table)
-
--- and one in the list of an \insert, before the insertion is made (section 1100)
-abbrev pub insert_behind : ℕ → TexState → Result paragraph.Left ParError → Outcome
-insert_behind class s (Err error) = Fails (paragraph.par_error error)
-insert_behind class s (Ok left) = telling left.report (ending_insert (record s { lists = left.lists; hyphenation = left.known; table = left.table }) class)
-
-abbrev pub inserting : TexState → ℕ → Outcome
-inserting s class = insert_behind class s (paragraph.closing (hyphenating s) s.lists s.table)
-
--- and one in that of \output (sections 1026 and 1100)
-abbrev pub output_behind : TexState → Result paragraph.Left ParError → Outcome
-output_behind s (Err error) = Fails (paragraph.par_error error)
-output_behind s (Ok left) = telling left.report (ending_output (record s { lists = left.lists; hyphenation = left.known; table = left.table }))
-
-abbrev pub outputting : TexState → Outcome
-outputting s = output_behind s (paragraph.closing (hyphenating s) s.lists s.table)
-
--- and one in the material of \noalign, behind which rows are read again (section 1133)
-abbrev pub between_behind : TexState → Result paragraph.Left ParError → Outcome
-between_behind s (Err error) = Fails (paragraph.par_error error)
-between_behind s (Ok left) = telling left.report (leaves (before_row (closing (record s { lists = left.lists; hyphenation = left.known; table = left.table }))))
-
-abbrev pub between_rows : TexState → Outcome
-between_rows s = between_behind s (paragraph.closing (hyphenating s) s.lists s.table)
-
 -- a paragraph begins, in which \everypar's tokens are read first (section 1091); \indent and \noindent in other lists
 abbrev pub with_every_par : Bool → TexState → TexState
 with_every_par false s = s
@@ -110,7 +75,7 @@ inserting_par s = record s { reader = put_back (token.Name (codes "par") ∷ [])
 
 -- \par (section 1094)
 abbrev pub paragraph_ended : TexState → Result paragraph.Left ParError → Outcome
-paragraph_ended s (Err error) = Fails (paragraph.par_error error)
+paragraph_ended s (Err error) = fails (paragraph.par_error error)
 paragraph_ended s (Ok left) = Leaves (carrying (record s { hyphenation = left.known }) (record { lists = left.lists; table = left.table; due = None })) left.report
 
 -- \par, behind which the page builder is exercised

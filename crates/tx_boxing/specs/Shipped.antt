@@ -23,7 +23,7 @@ use Rattle.tx_expand.specs.Values.{may_magnify}
 use Rattle.tx_boxing.specs.Boxes.{carried}
 use Rattle.tx_boxing.specs.Pages.{with_pages}
 use Rattle.tx_boxing.specs.Building.{built_in, exercising}
-use Rattle.tx_state.specs.Outcomes.{Outcome, Ships, Fails, leaves}
+use Rattle.tx_state.specs.Outcomes.{Outcome, Ships, fails, leaves}
 use Rattle.tx_state.specs.State.{TexState}
 
 abbrev pub count : Table → ℕ → ℤ
@@ -58,12 +58,12 @@ defined_by defined page = defined ++ map (λ (f : FontDefinition). f.number) pag
 
 -- a page of a box, with the magnification
 abbrev pub ships_with : TexState → ℤ → Result Page ShipError → Outcome
-ships_with s mag (Err e) = Fails SizeOutOfRange
+ships_with s mag (Err e) = fails SizeOutOfRange
 ships_with s mag (Ok page) = Ships page (record s { magnification = Some mag; defined = defined_by s.defined page })
 
 -- shipping a box: the magnification has to be one, and that of the first page
 abbrev pub ships : TexState → ℤ → Result Page ShipError → Outcome
-ships s mag page = if may_magnify s.magnification mag then ships_with s mag page else Fails BadMagnification
+ships s mag page = if may_magnify s.magnification mag then ships_with s mag page else fails BadMagnification
 
 -- a page that is shipped ends what dead cycles there were (section 638)
 abbrev pub ships_box : TexState → PackedBox → Outcome

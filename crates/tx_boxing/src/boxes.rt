@@ -1,6 +1,6 @@
 //! The effects of the commands of boxes and lists: a part of the state is handed down to the crate that carries them out, and what
 //! this answers is taken over (TeX: The Program, part 47).
-ghost use Rattle.std.specs.Prelude.{◌≡◌, ◌++◌, Some, IfOk, OnOk};
+ghost use Rattle.std.specs.Prelude.{◌≡◌, Some, IfOk, OnOk};
 ghost use Rattle.tx_box.specs.Building.{reported};
 ghost use Rattle.tx_box.specs.Effects.{told};
 ghost use Rattle.tx_eqtb.specs.Stack.{kind_of};
@@ -14,22 +14,21 @@ use crate::pages::{build_if, build_in, context_of};
 use std::alloc::{AllocError, Global};
 use tx_assign::is_global;
 use tx_box::{
-    Done, Ended, OpenBox, Target, Work, begin_box, copy_list, copy_register, every_in,
-    greatest_depth, place_copy, take_last, use_register,
+    Done, Ended, OpenBox, Target, Work, begin_box, copy_register, every_in, greatest_depth, place,
+    take_last, use_register,
 };
-use tx_bytes::Bytes;
 use tx_command::{BoxContext, BoxGoal};
 use tx_eqtb::GroupKind;
 use tx_list::Stack;
 use tx_machine::Event;
-use tx_nest::{append_rule, has_last_box, is_bare_page, remove_item, set_prev_depth};
+use tx_nest::{append_items, append_rule, has_last_box, is_bare_page, remove_item, set_prev_depth};
 use tx_node::{BoxNode, Nodes, Rule};
 use tx_output::LastItem;
 use tx_prim::{BoxKind, IntegerParameter, ItemKind, UnboxKind};
 use tx_seen::{Place, TexError};
 use tx_state::{Due, State, end_assignment, fail, finish_assignment, leave_group};
 
-/// Appends a rule.
+/// Appends a rule. Err is want of memory.
 pub fn add_rule(alloc: Global, s: &mut State, rule: Rule) -> Result<Event, AllocError>
     requires { s.old.phase ≡ Phase.Running }
     ensures { IfOk result (λ event. IsStepped (spec.ruling (state_of s.old) rule) s.old event s.new) }
@@ -66,7 +65,7 @@ pub fn remove(s: &mut State, kind: ItemKind) -> Event
     }
 }
 
-/// An assignment to \prevdepth, in sp.
+/// An assignment to \prevdepth, in sp. Err is want of memory.
 pub fn set_depth(s: &mut State, depth: i32) -> Result<Event, AllocError>
     requires { s.old.phase ≡ Phase.Running }
     ensures { IfOk result (λ event. IsStepped (spec.setting_depth (state_of s.old) depth) s.old event s.new) }
@@ -86,7 +85,7 @@ fn push_work(due: &mut Stack<Due>, work: Option<Work>) -> Result<(), AllocError>
 }
 
 /// What a command of boxes left is taken over: work that is due, the mode of the list that is being built now, and these bytes for
-/// the transcript. Its only error is want of memory.
+/// the transcript. Err is want of memory.
 pub(crate) fn take_over(
     s: &mut State,
     work: Option<Work>,
@@ -101,16 +100,28 @@ pub(crate) fn take_over(
     Ok(Event::Went)
 }
 
-/// What a command of boxes answered is taken over.
+/// What a command of boxes answered is taken over, with these bytes for the transcript, which gets them also where the run ends by
+/// an error. Err is want of memory.
+fn carry_telling(s: &mut State, done: Done, report: &[u8]) -> Result<Event, AllocError>
+    requires { s.old.phase ≡ Phase.Running }
+    ensures { IfOk result (λ event. IsStepped (spec.carried_telling (state_of s.old) report.now (told done s.old.lists s.old.table)) s.old event s.new) }
+{
+    match done {
+        Done::Whole => take_over(s, None, report),
+        Done::Due(work) => take_over(s, Some(work), report),
+        Done::Wrong(error) => {
+            s.said.append(report)?;
+            Ok(fail(s, error))
+        }
+    }
+}
+
+/// What a command of boxes answered is taken over. Err is want of memory.
 pub(crate) fn carry(s: &mut State, done: Done) -> Result<Event, AllocError>
     requires { s.old.phase ≡ Phase.Running }
     ensures { IfOk result (λ event. IsStepped (spec.carried (state_of s.old) (told done s.old.lists s.old.table)) s.old event s.new) }
 {
-    match done {
-        Done::Whole => take_over(s, None, b""),
-        Done::Due(work) => take_over(s, Some(work), b""),
-        Done::Wrong(error) => Ok(fail(s, error)),
-    }
+    carry_telling(s, done, b"")
 }
 
 /// What becomes of a box.
@@ -161,7 +172,8 @@ fn read_every_in(s: &mut State, context: BoxContext, kind: BoxKind) -> Result<()
     }
 }
 
-/// A box begins, in which the tokens of \everyhbox or \everyvbox are read first.
+/// A box begins, in which the tokens of \everyhbox or \everyvbox are read first. Err is want of memory; the event may end the run
+/// by an error, as `opening_box` says.
 pub fn open_box(
     alloc: Global,
     s: &mut State,
@@ -180,7 +192,7 @@ pub fn open_box(
     carry(s, done)
 }
 
-/// The box of a register goes where it is to go.
+/// The box of a register goes where it is to go. Err is want of memory.
 fn move_box(
     alloc: Global,
     s: &mut State,
@@ -196,7 +208,8 @@ fn move_box(
     carry(s, done)
 }
 
-/// \box: the box of a register, behind which the page builder is exercised unless it is void.
+/// \box: the box of a register, behind which the page builder is exercised unless it is void. Err is want of memory; the event may
+/// end the run by an error, as `using_box` says.
 pub fn use_box(
     alloc: Global,
     s: &mut State,
@@ -211,7 +224,8 @@ pub fn use_box(
     build_if(alloc, s, found, context, event)
 }
 
-/// \copy: the box of a register, which keeps it.
+/// \copy: the box of a register, which keeps it. Err is want of memory; the event may end the run by an error, as `copying_box`
+/// says.
 pub fn copy_box(
     alloc: Global,
     s: &mut State,
@@ -227,7 +241,7 @@ pub fn copy_box(
     carry(s, done)
 }
 
-/// The box at the list's end goes where it is to go.
+/// The box at the list's end goes where it is to go. Err is want of memory.
 fn move_last(alloc: Global, s: &mut State, context: BoxContext) -> Result<Event, AllocError>
     requires running { s.old.phase ≡ Phase.Running }
     ensures { IfOk result (λ event. IsStepped (spec.moving_last (state_of s.old) context) s.old event s.new) }
@@ -238,7 +252,8 @@ fn move_last(alloc: Global, s: &mut State, context: BoxContext) -> Result<Event,
     carry(s, done)
 }
 
-/// \lastbox: the box at the list's end, behind which the page builder is exercised if there is one.
+/// \lastbox: the box at the list's end, behind which the page builder is exercised if there is one. Err is want of memory; the
+/// event may end the run by an error, as `taking_box` says.
 pub fn take_box(alloc: Global, s: &mut State, context: BoxContext) -> Result<Event, AllocError>
     requires running { s.old.phase ≡ Phase.Running }
     ensures { IfOk result (λ event. IsStepped (spec.taking_box (state_of s.old) context) s.old event s.new) }
@@ -248,7 +263,7 @@ pub fn take_box(alloc: Global, s: &mut State, context: BoxContext) -> Result<Eve
     build_if(alloc, s, found, context, event)
 }
 
-/// \unhbox and its kin.
+/// \unhbox and its kin. Err is want of memory; the event may end the run by an error, as `unboxing_so` says.
 pub fn unbox(s: &mut State, kind: UnboxKind, number: u8) -> Result<Event, AllocError>
     requires { s.old.phase ≡ Phase.Running }
     ensures { IfOk result (λ event. IsStepped (spec.unboxing_so (state_of s.old) kind number) s.old event s.new) }
@@ -257,66 +272,40 @@ pub fn unbox(s: &mut State, kind: UnboxKind, number: u8) -> Result<Event, AllocE
     carry(s, done)
 }
 
-/// Lines of the transcript, and a line behind them. Its only error is want of memory.
-fn joined(said: Bytes, report: &Bytes) -> Result<Bytes, AllocError>
-    ensures { IfOk result (λ joined. joined ≡ said ++ report.now) }
-{
-    let mut said = said;
-    said.append(report.as_slice())?;
-    Ok(said)
-}
-
-/// What the end of a box left is taken over, with these lines of the transcript.
-fn take_ended(s: &mut State, done: Done, lines: &[u8]) -> Result<Event, AllocError>
+/// A box's end is taken over, and the transcript's line of it. Err is want of memory.
+pub(crate) fn finish_box(s: &mut State, ended: Ended) -> Result<Event, AllocError>
     requires { s.old.phase ≡ Phase.Running }
-    ensures { IfOk result (λ event. IsStepped (spec.boxed (state_of s.old) (reported lines.now (told done s.old.lists s.old.table))) s.old event s.new) }
-{
-    match done {
-        Done::Whole => take_over(s, None, lines),
-        Done::Due(work) => take_over(s, Some(work), lines),
-        Done::Wrong(error) => Ok(fail(s, error)),
-    }
-}
-
-/// A box's end is taken over, and the transcript's line of it, behind those that come with it.
-pub(crate) fn finish_box(s: &mut State, said: Bytes, ended: Ended) -> Result<Event, AllocError>
-    requires { s.old.phase ≡ Phase.Running }
-    ensures { IfOk result (λ event. IsStepped (spec.telling said (spec.boxed (state_of s.old) (reported ended.report (told ended.done s.old.lists s.old.table)))) s.old event s.new) }
+    ensures { IfOk result (λ event. IsStepped (spec.boxed (state_of s.old) (reported ended.report (told ended.done s.old.lists s.old.table))) s.old event s.new) }
 {
     let Ended { done, report } = ended;
-    let lines = joined(said, &report)?;
-    take_ended(s, done, lines.as_slice())
+    carry_telling(s, done, report.as_slice())
 }
 
-/// The list of a box, whose group of this kind ends, is packed and goes where it is to go, behind these lines of the transcript.
-fn pack_box(alloc: Global, s: &mut State, kind: GroupKind, said: Bytes) -> Result<Event, AllocError>
+/// The list of a box, whose group of this kind ends, is packed and goes where it is to go. Err is want of memory.
+fn pack_box(alloc: Global, s: &mut State, kind: GroupKind) -> Result<Event, AllocError>
     requires running { s.old.phase ≡ Phase.Running }
     requires kind { kind_of s.old.table ≡ Some kind }
-    ensures { IfOk result (λ event. IsStepped (spec.telling said (spec.packing_box (state_of s.old))) s.old event s.new) }
+    ensures { IfOk result (λ event. IsStepped (spec.packing_box (state_of s.old)) s.old event s.new) }
 {
     let most = greatest_depth(&s.table);
     leave_group(s, kind)?;
     let ended = tx_box::end_box(alloc, &mut s.lists, &mut s.table, most)?;
-    finish_box(s, said, ended)
+    finish_box(s, ended)
 }
 
-/// The end of a box, whose group is of this kind, behind these lines of the transcript.
-pub(crate) fn end_box(
-    alloc: Global,
-    s: &mut State,
-    kind: GroupKind,
-    said: Bytes,
-) -> Result<Event, AllocError>
+/// The end of a box, whose group is of this kind, behind which the page builder is exercised if it was appended. Err is want of
+/// memory.
+pub(crate) fn end_box(alloc: Global, s: &mut State, kind: GroupKind) -> Result<Event, AllocError>
     requires running { s.old.phase ≡ Phase.Running }
     requires kind { kind_of s.old.table ≡ Some kind }
-    ensures { IfOk result (λ event. IsStepped (spec.telling said (spec.ending_box (state_of s.old))) s.old event s.new) }
+    ensures { IfOk result (λ event. IsStepped (spec.ending_box (state_of s.old)) s.old event s.new) }
 {
     let context = context_of(&s.lists.boxes);
-    let event = pack_box(alloc, s, kind, said)?;
+    let event = pack_box(alloc, s, kind)?;
     build_in(alloc, s, context, event)
 }
 
-/// A copy goes where it is to go.
+/// A copy goes where it is to go. Err is want of memory.
 fn put_copy(
     alloc: Global,
     s: &mut State,
@@ -326,11 +315,11 @@ fn put_copy(
     requires { s.old.phase ≡ Phase.Running }
     ensures { IfOk result (λ event. IsStepped (shipped.copies (state_of s.old) copied target) s.old event s.new) }
 {
-    let done = place_copy(alloc, &mut s.lists, &mut s.table, target, copied)?;
+    let done = place(alloc, &mut s.lists, &mut s.table, target, Some(copied))?;
     carry(s, done)
 }
 
-/// A copy goes where it is to go, behind which the page builder is exercised.
+/// A copy goes where it is to go, behind which the page builder is exercised. Err is want of memory.
 pub(crate) fn add_copy(
     alloc: Global,
     s: &mut State,
@@ -344,11 +333,11 @@ pub(crate) fn add_copy(
     build_in(alloc, s, target.context, event)
 }
 
-/// A copied list stands at the end of the one that is being built.
+/// A copied list stands at the end of the one that is being built. Err is want of memory.
 pub(crate) fn add_list(s: &mut State, list: Nodes) -> Result<Event, AllocError>
     requires { s.old.phase ≡ Phase.Running }
     ensures { IfOk result (λ event. IsStepped (shipped.works_boxes (state_of s.old) (Work.CopyList list)) s.old event s.new) }
 {
-    copy_list(&mut s.lists, list)?;
+    append_items(s.lists.nest.top(), list)?;
     Ok(Event::Went)
 }

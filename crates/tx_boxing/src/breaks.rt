@@ -14,7 +14,7 @@ use tx_prim::BreakText;
 use tx_shape::Opener;
 use tx_state::{State, fail, leave_group};
 
-/// A text of \discretionary begins. Its only error is want of memory.
+/// A text of \discretionary begins. Err is want of memory; the event may end the run by an error, as `beginning_break` says.
 pub fn begin_break(alloc: Global, s: &mut State, text: BreakText) -> Result<Event, AllocError>
     requires running { s.old.phase ≡ Phase.Running }
     requires between { s.old.scan.taken ≡ [] }
@@ -36,7 +36,7 @@ fn head_behind(text: BreakText) -> Head
     }
 }
 
-/// The end of a text of \discretionary. Its only error is want of memory.
+/// The end of a text of \discretionary. Err is want of memory.
 pub(crate) fn end_break(alloc: Global, s: &mut State, text: BreakText) -> Result<Event, AllocError>
     requires running { s.old.phase ≡ Phase.Running }
     requires between { s.old.scan.taken ≡ [] }

@@ -1,6 +1,6 @@
 //! The effects of pages: the page builder is exercised, \output begins and ends, \insert, \vsplit, \end, and what is assigned to
 //! pages (TeX: The Program, sections 994 to 1054 and 1097 to 1100).
-ghost use Rattle.std.specs.Prelude.{◌≡◌, ◌≢◌, [], IsTrue, Some, Err, IfOk, OnOk};
+ghost use Rattle.std.specs.Prelude.{◌≡◌, ◌≢◌, [], IsTrue, Some, IfOk, OnOk};
 ghost use Rattle.tx_eqtb.specs.Stack.{kind_of};
 ghost use Rattle.tx_galley.specs.Assigning.{setting};
 ghost use Rattle.tx_galley.specs.declared.errors.GalleyError.TheVariants.{OutOfMemory};
@@ -10,10 +10,9 @@ ghost use Rattle.tx_box.specs.Inserts.{left_vertical};
 ghost use Rattle.tx_state.specs.declared.parts.Phase.{Phase};
 ghost use Rattle.tx_state.specs.Meanings.{IsStepped, state_of};
 ghost use Rattle.tx_machine.specs.declared.types.Event.{Event};
-ghost use Rattle.tx_state.specs.Outcomes.{Fails, Outcome};
+ghost use Rattle.tx_state.specs.Outcomes.{Outcome, fails, leaves};
 ghost use Rattle.tx_boxing.specs.Building as building;
-ghost use Rattle.tx_boxing.specs.Boxes.{context_of as innermost_context, telling};
-ghost use Rattle.tx_state.specs.Groups.{closing};
+ghost use Rattle.tx_boxing.specs.Boxes.{context_of as innermost_context};
 ghost use Rattle.tx_boxing.specs.Pages as spec;
 
 use crate::boxes::{carry, finish_box, settle, target_of};
@@ -21,7 +20,6 @@ use std::alloc::{AllocError, Global};
 use tx_box::{
     Ended, OpenBox, Target, Work, begin_vertical, end_insert, end_vertical, insert_params, place,
 };
-use tx_bytes::Bytes;
 use tx_command::Head;
 use tx_eqtb::GroupKind;
 use tx_galley::{
@@ -37,8 +35,8 @@ use tx_shape::{BoxContext, Opener};
 use tx_state::{Due, State, end_assignment, fail, finish, leave_group};
 
 /// The run ends by the error of a page, if that isn't want of memory.
-fn fail_by(s: &mut State, error: GalleyError) -> Result<Event, AllocError>
-    ensures failed { IfOk result (λ event. IsStepped (Fails (error_of error)) s.old event s.new) }
+fn fail_by_page(s: &mut State, error: GalleyError) -> Result<Event, AllocError>
+    ensures failed { IfOk result (λ event. IsStepped (fails (error_of error)) s.old event s.new) }
     ensures memory { IfOk result (λ _. error ≢ OutOfMemory) }
 {
     match error {
@@ -47,59 +45,40 @@ fn fail_by(s: &mut State, error: GalleyError) -> Result<Event, AllocError>
     }
 }
 
-/// What is to come of a page that fired. Its only error is want of memory.
-fn page(s: &mut State, next: Next) -> Result<(), AllocError>
-    ensures state { OnOk result (state_of s.new ≡ building.paging next (state_of s.old)) }
-    ensures phase { OnOk result (s.new.phase ≡ s.old.phase) }
-    ensures said { OnOk result (s.new.said ≡ s.old.said) }
+/// What is to come of a page that fired: its box is shipped, or \output's tokens are read. Err is want of memory.
+fn take_page(s: &mut State, next: Next) -> Result<Event, AllocError>
+    requires { s.old.phase ≡ Phase.Running }
+    ensures { IfOk result (λ event. IsStepped (leaves (building.paging next (state_of s.old))) s.old event s.new) }
 {
     match next {
-        Next::Goes => Ok(()),
+        Next::Goes => Ok(Event::Went),
         Next::Ships(shipped, badness) => {
             s.lists.badness = badness;
-            s.due.push(Due::Boxes(Work::ShipPage(shipped)))
+            s.due.push(Due::Boxes(Work::ShipPage(shipped)))?;
+            Ok(Event::Went)
         }
         Next::Reads(tokens, badness) => {
             s.lists.badness = badness;
             s.input.push_marked(tokens)?;
             s.scan.begin_behind(Head::Opening(Opener::Output));
-            Ok(())
-        }
-    }
-}
-
-/// What came of the page builder is taken over, behind these lines of the transcript.
-fn take_page(
-    s: &mut State,
-    said: &[u8],
-    answer: Result<Next, GalleyError>,
-) -> Result<Event, AllocError>
-    requires { s.old.phase ≡ Phase.Running }
-    ensures taken { IfOk result (λ event. IsStepped (building.paged (state_of s.old) said.now answer) s.old event s.new) }
-    ensures memory { IfOk result (λ _. answer ≢ Err OutOfMemory) }
-{
-    s.said.append(said)?;
-    match answer {
-        Ok(next) => {
-            page(s, next)?;
             Ok(Event::Went)
         }
-        Err(error) => fail_by(s, error),
     }
 }
 
-/// The page builder is exercised. Its only further error is want of memory.
+/// The page builder is exercised. Err is want of memory.
 pub(crate) fn build(alloc: Global, s: &mut State) -> Result<Event, AllocError>
     requires { s.old.phase ≡ Phase.Running }
     ensures { IfOk result (λ event. IsStepped (building.exercising (state_of s.old) []) s.old event s.new) }
 {
     match exercise(alloc, &mut s.lists.nest, &mut s.table, &mut s.lists.pages) {
-        Ok(next) => take_page(s, b"", Ok(next)),
-        Err(error) => take_page(s, b"", Err(error)),
+        Ok(next) => take_page(s, next),
+        Err(error) => fail_by_page(s, error),
     }
 }
 
-/// The same where the pages' list is being built.
+/// The same where the pages' list is being built. Err is want of memory; the event may end the run by an error, as `then_building`
+/// says.
 pub fn build_here(alloc: Global, s: &mut State) -> Result<Event, AllocError>
     requires { s.old.phase ≡ Phase.Running }
     ensures { IfOk result (λ event. IsStepped (building.then_building (state_of s.old) []) s.old event s.new) }
@@ -118,7 +97,8 @@ pub(crate) fn is_pages(mode: Mode) -> bool
     matches!(mode, Mode::Vertical)
 }
 
-/// The same behind what changed the list that is being built, with this event.
+/// The same behind what changed the list that is being built, with this event. Err is want of memory; the event may end the run by
+/// an error, as `built` says.
 pub fn build_behind(alloc: Global, s: &mut State, event: Event) -> Result<Event, AllocError>
     requires runs { event ≡ Event.Went → s.old.phase ≡ Phase.Running }
     ensures { (before : State) (outcome : Outcome) → IsStepped outcome before event s.old → IfOk result (λ further. IsStepped (building.built outcome) before further s.new) }
@@ -129,7 +109,7 @@ pub fn build_behind(alloc: Global, s: &mut State, event: Event) -> Result<Event,
     }
 }
 
-/// The same behind a box of which this became, if it was appended.
+/// The same behind a box of which this became, if it was appended. Err is want of memory.
 pub(crate) fn build_in(
     alloc: Global,
     s: &mut State,
@@ -146,7 +126,7 @@ pub(crate) fn build_in(
     }
 }
 
-/// The same behind a box, unless it is void.
+/// The same behind a box, unless it is void. Err is want of memory.
 pub(crate) fn build_if(
     alloc: Global,
     s: &mut State,
@@ -174,7 +154,8 @@ pub(crate) fn context_of(boxes: &Stack<OpenBox>) -> BoxContext
     }
 }
 
-/// The list of an \insert, or that of \output, begins behind its begin-group token. Its only error is want of memory.
+/// The list of an \insert, or that of \output, begins behind its begin-group token. Err is want of memory; the event may end the
+/// run by an error, as `beginning_list` says.
 pub fn begin_vertical_list(
     alloc: Global,
     s: &mut State,
@@ -189,37 +170,31 @@ pub fn begin_vertical_list(
     carry(s, done)
 }
 
-/// The list of an \insert of this class, whose group ends, is packed and stands in the list around, behind these lines of the
-/// transcript.
-fn pack_insert(alloc: Global, s: &mut State, class: u8, said: Bytes) -> Result<Event, AllocError>
+/// The list of an \insert of this class, whose group ends, is packed and stands in the list around. Err is want of memory.
+fn pack_insert(alloc: Global, s: &mut State, class: u8) -> Result<Event, AllocError>
     requires running { s.old.phase ≡ Phase.Running }
     requires kind { kind_of s.old.table ≡ Some (GroupKind.Insert class) }
-    ensures { IfOk result (λ event. IsStepped (telling said (spec.packing_insert (state_of s.old) class)) s.old event s.new) }
+    ensures { IfOk result (λ event. IsStepped (spec.packing_insert (state_of s.old) class) s.old event s.new) }
 {
     let params = insert_params(&s.table);
     leave_group(s, GroupKind::Insert(class))?;
     let done = end_insert(alloc, &mut s.lists, &s.table, class, params)?;
-    let report = Bytes::new(alloc);
-    finish_box(s, said, Ended { done, report })
+    carry(s, done)
 }
 
-/// The end of the list of an \insert of this class, behind the paragraph in it, of which this is told.
-pub(crate) fn finish_insert(
-    alloc: Global,
-    s: &mut State,
-    class: u8,
-    said: Bytes,
-) -> Result<Event, AllocError>
+/// The end of the list of an \insert of this class, behind which the page builder is exercised. Err is want of memory.
+pub(crate) fn finish_insert(alloc: Global, s: &mut State, class: u8) -> Result<Event, AllocError>
     requires running { s.old.phase ≡ Phase.Running }
     requires kind { kind_of s.old.table ≡ Some (GroupKind.Insert class) }
-    ensures { IfOk result (λ event. IsStepped (telling said (spec.ending_insert (state_of s.old) class)) s.old event s.new) }
+    ensures { IfOk result (λ event. IsStepped (spec.ending_insert (state_of s.old) class) s.old event s.new) }
 {
-    let event = pack_insert(alloc, s, class, said)?;
+    let event = pack_insert(alloc, s, class)?;
     build_behind(alloc, s, event)
 }
 
-/// Whether the tokens of \output end here: their marker comes next, and is taken away. Its only error is want of memory.
-fn take_marker(alloc: Global, s: &mut State) -> Result<bool, AllocError>
+/// Whether the tokens of \output end here: their marker comes next, and is taken away. Where it is false, what was read is lost,
+/// and the run ends by that. Err is want of memory.
+pub(crate) fn take_marker(alloc: Global, s: &mut State) -> Result<bool, AllocError>
     ensures told { IfOk result (λ at_end. at_end ≡ spec.is_at_marker (state_of s.old)) }
     ensures state { IfOk result (λ at_end. IsTrue at_end → state_of s.new ≡ spec.without_marker (state_of s.old)) }
     ensures phase { OnOk result (s.new.phase ≡ s.old.phase) }
@@ -233,54 +208,38 @@ fn take_marker(alloc: Global, s: &mut State) -> Result<bool, AllocError>
     }
 }
 
-/// The list of \output, whose group has ended, leaves the lists, and the page builder goes on, behind these lines of the
-/// transcript.
-fn go_on_behind_output(alloc: Global, s: &mut State, said: &[u8]) -> Result<Event, AllocError>
+/// The list of \output, whose group has ended, leaves the lists, and the page builder goes on. Err is want of memory.
+fn go_on_behind_output(alloc: Global, s: &mut State) -> Result<Event, AllocError>
     requires { s.old.phase ≡ Phase.Running }
-    ensures { IfOk result (λ event. IsStepped (telling said.now (spec.ending_output_in (state_of s.old) (left_vertical s.old.lists))) s.old event s.new) }
+    ensures { IfOk result (λ event. IsStepped (spec.ending_output_in (state_of s.old) (left_vertical s.old.lists)) s.old event s.new) }
 {
     let Some(list) = end_vertical(&mut s.lists) else {
         return Ok(fail(s, TexError::ExtraGroupEnd));
     };
     s.scan.enter(s.lists.nest.innermost().mode());
-    let answer = end_output(
+    match end_output(
         alloc,
         &mut s.lists.nest,
         &mut s.table,
         &mut s.lists.pages,
         list,
-        true,
-    );
-    match answer {
-        Ok(next) => take_page(s, said, Ok(next)),
-        Err(error) => take_page(s, said, Err(error)),
+    ) {
+        Ok(next) => take_page(s, next),
+        Err(error) => fail_by_page(s, error),
     }
 }
 
-/// The same, and its group ends before.
-fn close_output(alloc: Global, s: &mut State, said: &[u8]) -> Result<Event, AllocError>
+/// The same, and its group ends before. Err is want of memory.
+pub(crate) fn finish_output(alloc: Global, s: &mut State) -> Result<Event, AllocError>
     requires running { s.old.phase ≡ Phase.Running }
     requires kind { kind_of s.old.table ≡ Some GroupKind.Output }
-    ensures { IfOk result (λ event. IsStepped (telling said.now (spec.ending_output_in (closing (state_of s.old)) (left_vertical s.old.lists))) s.old event s.new) }
+    ensures { IfOk result (λ event. IsStepped (spec.ending_output (state_of s.old)) s.old event s.new) }
 {
     leave_group(s, GroupKind::Output)?;
-    go_on_behind_output(alloc, s, said)
+    go_on_behind_output(alloc, s)
 }
 
-/// The end of \output's group, behind the paragraph in its list, of which this is told.
-pub(crate) fn finish_output(alloc: Global, s: &mut State, said: Bytes) -> Result<Event, AllocError>
-    requires running { s.old.phase ≡ Phase.Running }
-    requires kind { kind_of s.old.table ≡ Some GroupKind.Output }
-    ensures { IfOk result (λ event. IsStepped (telling said (spec.ending_output (state_of s.old))) s.old event s.new) }
-{
-    if take_marker(alloc, s)? {
-        close_output(alloc, s, said.as_slice())
-    } else {
-        Ok(fail(s, TexError::UnbalancedOutput))
-    }
-}
-
-/// An assignment to \deadcycles. Its only error is want of memory.
+/// An assignment to \deadcycles. Err is want of memory.
 pub fn set_dead_cycles(s: &mut State, number: i32) -> Result<Event, AllocError>
     requires { s.old.phase ≡ Phase.Running }
     ensures { IfOk result (λ event. IsStepped (spec.setting_dead_cycles (state_of s.old) number) s.old event s.new) }
@@ -289,7 +248,7 @@ pub fn set_dead_cycles(s: &mut State, number: i32) -> Result<Event, AllocError>
     end_assignment(s)
 }
 
-/// An assignment to a quantity of the page. Its only further error is want of memory.
+/// An assignment to a quantity of the page. Err is want of memory; the event may end the run by an error, as `paged_so` says.
 pub fn set_page(s: &mut State, quantity: PageQuantity, value: i32) -> Result<Event, AllocError>
     requires { s.old.phase ≡ Phase.Running }
     ensures { IfOk result (λ event. IsStepped (spec.paged_so (state_of s.old) (setting quantity value s.old.lists.pages)) s.old event s.new) }
@@ -300,7 +259,7 @@ pub fn set_page(s: &mut State, quantity: PageQuantity, value: i32) -> Result<Eve
     }
 }
 
-/// What \vsplit of a register to so many sp splits off goes where it is to go. Its only error is want of memory.
+/// What \vsplit of a register to so many sp splits off goes where it is to go. Err is want of memory.
 fn split_off(
     alloc: Global,
     s: &mut State,
@@ -315,12 +274,12 @@ fn split_off(
     settle(s, context)?;
     match split_box(alloc, &mut s.table, &mut s.lists.pages, number, size) {
         Ok(packed) => place_split(alloc, s, target, packed),
-        Err(error) => fail_by(s, error),
+        Err(error) => fail_by_page(s, error),
     }
 }
 
-/// \vsplit of a register to so many sp, behind which the page builder is exercised if the register isn't void. Its only error is
-/// want of memory.
+/// \vsplit of a register to so many sp, behind which the page builder is exercised if the register isn't void. Err is want of
+/// memory; the event may end the run by an error, as `splitting_off` says.
 pub fn split(
     alloc: Global,
     s: &mut State,
@@ -336,7 +295,7 @@ pub fn split(
     build_if(alloc, s, found, context, event)
 }
 
-/// What \vsplit split off goes where it is to go. Its only error is want of memory.
+/// What \vsplit split off goes where it is to go. Err is want of memory.
 fn place_split(
     alloc: Global,
     s: &mut State,
@@ -359,10 +318,11 @@ fn place_split(
     };
     s.lists.badness = badness;
     let done = place(alloc, &mut s.lists, &mut s.table, target, Some(node))?;
-    finish_box(s, Bytes::new(alloc), Ended { done, report })
+    finish_box(s, Ended { done, report })
 }
 
-/// \end: the run ends, or a page is to be fired before. Its only error is want of memory.
+/// \end: the run ends, or a page is to be fired before. Err is want of memory; the event may end the run by an error, as
+/// `ending_run` says.
 pub fn end_run(alloc: Global, s: &mut State) -> Result<Event, AllocError>
     requires { s.old.phase ≡ Phase.Running }
     ensures { IfOk result (λ event. IsStepped (spec.ending_run (state_of s.old) (is_run_done s.old.lists.nest s.old.lists.pages)) s.old event s.new) }

@@ -1,46 +1,28 @@
 //! How paragraphs begin and end (TeX: The Program, sections 1090 to 1100).
-ghost use Rattle.std.specs.Prelude.{◌≡◌, ◌≢◌, ◌∷◌, ◌++◌, [], Some, IfOk, OnOk};
-ghost use Rattle.tx_eqtb.specs.Stack.{kind_of};
+ghost use Rattle.std.specs.Prelude.{◌≡◌, ◌≢◌, ◌∷◌, ◌++◌, [], IfOk, OnOk};
 ghost use Rattle.tx_command.specs.Commands.{prefixes_of};
 ghost use Rattle.tx_boxing.specs.Paragraphs as spec;
 ghost use Rattle.tx_nest.specs.Grafs.{graf_of as graf_for};
 ghost use Rattle.tx_par.specs.declared.error.ParError.TheVariants.{OutOfMemory};
-ghost use Rattle.tx_paragraph.specs.Beginning as beginning;
 ghost use Rattle.tx_paragraph.specs.Ending.{par_error};
-ghost use Rattle.tx_boxing.specs.Boxes.{telling};
-ghost use Rattle.tx_state.specs.Groups.{closing};
-ghost use Rattle.tx_state.specs.Standing.{before_row};
-ghost use Rattle.tx_state.specs.Outcomes.{Fails, leaves};
+ghost use Rattle.tx_state.specs.Outcomes.{fails, leaves};
 ghost use Rattle.tx_state.specs.declared.parts.Phase.{Phase};
 ghost use Rattle.tx_state.specs.Meanings.{IsStepped, state_of};
 
-use crate::boxes::{end_box, take_over};
-use crate::pages::{build, build_behind, finish_insert, finish_output, is_pages};
+use crate::boxes::take_over;
+use crate::pages::{build, build_behind, is_pages};
 use std::alloc::{AllocError, Global};
 use tx_assign::{Assignment, Change};
-use tx_bytes::Bytes;
 use tx_char::{ControlName, Token};
 use tx_command::{Head, Prefixes};
-use tx_eqtb::{Entry, GroupKind, ParShape};
+use tx_eqtb::{Entry, ParShape};
 use tx_list::Items;
 use tx_machine::Event;
-use tx_nest::{ModeState, graf_of, set_prev_graf};
+use tx_nest::{graf_of, set_prev_graf};
 use tx_par::ParError;
-use tx_paragraph::close_paragraph;
-use tx_prim::{Indentation, TokenParameter};
+use tx_prim::{Indentation, ModeTest, TokenParameter};
 use tx_seen::{Place, TexError};
-use tx_state::{State, assign_so, end_assignment, fail, leave_group, stand_before_row};
-
-/// Whether a paragraph begins in the list that is being built.
-fn begins_paragraph(s: &State) -> bool
-    ensures { result ≡ beginning.begins_paragraph s.now.lists.nest.innermost.state }
-{
-    match s.lists.nest.innermost().state {
-        ModeState::Vertical(_) | ModeState::InternalVertical(_) => true,
-        ModeState::Horizontal(_) | ModeState::RestrictedHorizontal(_) => false,
-        ModeState::Math | ModeState::DisplayMath => false,
-    }
-}
+use tx_state::{State, carry_out_assignment, end_assignment, fail};
 
 /// The tokens of \everypar are read first, if a paragraph begins. Its only error is want of memory.
 fn read_every_par(s: &mut State, begins: bool) -> Result<(), AllocError>
@@ -55,13 +37,13 @@ fn read_every_par(s: &mut State, begins: bool) -> Result<(), AllocError>
     Ok(())
 }
 
-/// \indent and \noindent, and what begins a paragraph, of which the page builder then has the \parskip. Its only error is want of
-/// memory.
+/// \indent and \noindent, and what begins a paragraph, of which the page builder then has the \parskip. Err is want of memory; the
+/// event may end the run by an error, as `indenting_so` says.
 pub fn indent(alloc: Global, s: &mut State, how: Indentation) -> Result<Event, AllocError>
     requires { s.old.phase ≡ Phase.Running }
     ensures { IfOk result (λ event. IsStepped (spec.indenting_so (state_of s.old) how) s.old event s.new) }
 {
-    let begins = begins_paragraph(s);
+    let begins = ModeTest::Vertical.holds(s.lists.nest.innermost().mode());
     let on_pages = is_pages(s.scan.mode());
     read_every_par(s, begins)?;
     tx_paragraph::indent(alloc, &mut s.lists, &s.table, how)?;
@@ -69,7 +51,7 @@ pub fn indent(alloc: Global, s: &mut State, how: Indentation) -> Result<Event, A
     if on_pages { build(alloc, s) } else { Ok(event) }
 }
 
-/// A command ends a paragraph before it: \par is read first. Its only error is want of memory.
+/// A command ends a paragraph before it: \par is read first. Err is want of memory.
 pub fn insert_par(alloc: Global, s: &mut State) -> Result<Event, AllocError>
     requires { s.old.phase ≡ Phase.Running }
     ensures { IfOk result (λ event. IsStepped (leaves (spec.inserting_par (state_of s.old))) s.old event s.new) }
@@ -79,7 +61,7 @@ pub fn insert_par(alloc: Global, s: &mut State) -> Result<Event, AllocError>
     Ok(Event::Went)
 }
 
-/// An assignment to \prevgraf. Its only error is want of memory.
+/// An assignment to \prevgraf. Err is want of memory; the event may end the run by an error, as `setting_graf` says.
 pub fn set_graf(s: &mut State, number: i32) -> Result<Event, AllocError>
     requires { s.old.phase ≡ Phase.Running }
     ensures { IfOk result (λ event. IsStepped (spec.setting_graf (state_of s.old) (graf_for number)) s.old event s.new) }
@@ -104,8 +86,8 @@ fn sizes_of(lines: i32) -> u32
     }
 }
 
-/// These sizes of \parshape are read, behind its prefixes, and so many are to follow; once none is, it is assigned. Its only error
-/// is want of memory.
+/// These sizes of \parshape are read, behind its prefixes, and so many are to follow; once none is, it is assigned. Err is want of
+/// memory.
 fn shape(
     alloc: Global,
     s: &mut State,
@@ -124,10 +106,10 @@ fn shape(
     let shape = ParShape::new(alloc, sizes)?;
     let change = Change::Set(Entry::Shape(shape));
     let place = Place::ParShape;
-    assign_so(s, Assignment { place, change }, prefixes.global)
+    carry_out_assignment(s, Assignment { place, change }, prefixes.global)
 }
 
-/// \parshape and how many lines it is to have. Its only error is want of memory.
+/// \parshape and how many lines it is to have. Err is want of memory; the event may end the run by an error, as `shaping` says.
 pub fn begin_shape(alloc: Global, s: &mut State, lines: i32) -> Result<Event, AllocError>
     requires running { s.old.phase ≡ Phase.Running }
     requires between { s.old.scan.taken ≡ [] }
@@ -146,7 +128,7 @@ fn with_size(sizes: Items<i32>, size: i32) -> Result<Items<i32>, AllocError>
     Ok(sizes)
 }
 
-/// One more size of \parshape, in sp. Its only error is want of memory.
+/// One more size of \parshape, in sp. Err is want of memory; the event may end the run by an error, as `shape_sized` says.
 pub fn add_size(alloc: Global, s: &mut State, size: i32) -> Result<Event, AllocError>
     requires running { s.old.phase ≡ Phase.Running }
     requires between { s.old.scan.taken ≡ [] }
@@ -165,8 +147,8 @@ pub fn add_size(alloc: Global, s: &mut State, size: i32) -> Result<Event, AllocE
 }
 
 /// The run ends by the error of a paragraph's lines, if that isn't want of memory.
-fn fail_by(s: &mut State, error: ParError) -> Result<Event, AllocError>
-    ensures failed { IfOk result (λ event. IsStepped (Fails (par_error error)) s.old event s.new) }
+pub(crate) fn fail_by_paragraph(s: &mut State, error: ParError) -> Result<Event, AllocError>
+    ensures failed { IfOk result (λ event. IsStepped (fails (par_error error)) s.old event s.new) }
     ensures memory { IfOk result (λ _. error ≢ OutOfMemory) }
 {
     match error {
@@ -177,7 +159,7 @@ fn fail_by(s: &mut State, error: ParError) -> Result<Event, AllocError>
     }
 }
 
-/// \par. Its only further error is want of memory.
+/// \par. Err is want of memory; the event may end the run by an error, as `ending_paragraph` says.
 pub fn end_paragraph(alloc: Global, s: &mut State) -> Result<Event, AllocError>
     requires { s.old.phase ≡ Phase.Running }
     ensures { IfOk result (λ event. IsStepped (spec.ending_paragraph (state_of s.old)) s.old event s.new) }
@@ -193,97 +175,6 @@ pub fn end_paragraph(alloc: Global, s: &mut State) -> Result<Event, AllocError>
             let event = take_over(s, None, report.as_slice())?;
             build_behind(alloc, s, event)
         }
-        Err(error) => fail_by(s, error),
-    }
-}
-
-/// The end of a vertical box, whose group is of this kind: the paragraph that is open in it ends first. Its only further error is
-/// want of memory.
-pub(crate) fn end_vertical(
-    alloc: Global,
-    s: &mut State,
-    kind: GroupKind,
-) -> Result<Event, AllocError>
-    requires running { s.old.phase ≡ Phase.Running }
-    requires kind { kind_of s.old.table ≡ Some kind }
-    ensures { IfOk result (λ event. IsStepped (spec.ending_vertical (state_of s.old)) s.old event s.new) }
-{
-    match close_paragraph(
-        alloc,
-        s.words.fonts(),
-        &mut s.hyphenation,
-        &mut s.lists,
-        &mut s.table,
-    ) {
-        Ok(report) => end_box(alloc, s, kind, report),
-        Err(error) => fail_by(s, error),
-    }
-}
-
-/// The end of the list of an \insert of this class: the paragraph that is open in it ends first. Its only further error is want of
-/// memory.
-pub(crate) fn end_insert(alloc: Global, s: &mut State, class: u8) -> Result<Event, AllocError>
-    requires running { s.old.phase ≡ Phase.Running }
-    requires kind { kind_of s.old.table ≡ Some (GroupKind.Insert class) }
-    ensures { IfOk result (λ event. IsStepped (spec.inserting (state_of s.old) class) s.old event s.new) }
-{
-    match close_paragraph(
-        alloc,
-        s.words.fonts(),
-        &mut s.hyphenation,
-        &mut s.lists,
-        &mut s.table,
-    ) {
-        Ok(report) => finish_insert(alloc, s, class, report),
-        Err(error) => fail_by(s, error),
-    }
-}
-
-/// The end of \output: the paragraph that is open in its list ends first. Its only further error is want of memory.
-pub(crate) fn end_output(alloc: Global, s: &mut State) -> Result<Event, AllocError>
-    requires running { s.old.phase ≡ Phase.Running }
-    requires kind { kind_of s.old.table ≡ Some GroupKind.Output }
-    ensures { IfOk result (λ event. IsStepped (spec.outputting (state_of s.old)) s.old event s.new) }
-{
-    match close_paragraph(
-        alloc,
-        s.words.fonts(),
-        &mut s.hyphenation,
-        &mut s.lists,
-        &mut s.table,
-    ) {
-        Ok(report) => finish_output(alloc, s, report),
-        Err(error) => fail_by(s, error),
-    }
-}
-
-/// The group of \noalign ends, behind the paragraph in it, of which this is told: rows are read again. Its only error is want of
-/// memory.
-fn finish_noalign(s: &mut State, said: Bytes) -> Result<Event, AllocError>
-    requires running { s.old.phase ≡ Phase.Running }
-    requires kind { kind_of s.old.table ≡ Some GroupKind.NoAlign }
-    ensures { IfOk result (λ event. IsStepped (telling said (leaves (before_row (closing (state_of s.old))))) s.old event s.new) }
-{
-    leave_group(s, GroupKind::NoAlign)?;
-    stand_before_row(s);
-    s.said.append(said.as_slice())?;
-    Ok(Event::Went)
-}
-
-/// The end of \noalign: the paragraph that is open in its material ends first. Its only further error is want of memory.
-pub(crate) fn end_noalign(alloc: Global, s: &mut State) -> Result<Event, AllocError>
-    requires running { s.old.phase ≡ Phase.Running }
-    requires kind { kind_of s.old.table ≡ Some GroupKind.NoAlign }
-    ensures { IfOk result (λ event. IsStepped (spec.between_rows (state_of s.old)) s.old event s.new) }
-{
-    match close_paragraph(
-        alloc,
-        s.words.fonts(),
-        &mut s.hyphenation,
-        &mut s.lists,
-        &mut s.table,
-    ) {
-        Ok(report) => finish_noalign(s, report),
-        Err(error) => fail_by(s, error),
+        Err(error) => fail_by_paragraph(s, error),
     }
 }

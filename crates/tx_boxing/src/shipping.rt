@@ -20,7 +20,7 @@ use tx_seen::TexError;
 use tx_ship::{ShipError, body};
 use tx_state::{Due, Phase, State, fail};
 
-/// A page goes out, with the magnification. Its only error is want of memory.
+/// A page goes out, with the magnification. Err is want of memory.
 fn send(s: &mut State, magnification: i32, page: PageBody) -> Result<Event, AllocError>
     requires { s.old.phase ≡ Phase.Running }
     ensures { IfOk result (λ event. IsStepped (spec.ships_with (state_of s.old) magnification (Ok page)) s.old event s.new) }
@@ -30,7 +30,7 @@ fn send(s: &mut State, magnification: i32, page: PageBody) -> Result<Event, Allo
     Ok(Event::Shipped(page))
 }
 
-/// Ships a box with the magnification.
+/// Ships a box with the magnification. Err is want of memory.
 fn ship_with(
     alloc: Global,
     s: &mut State,
@@ -50,7 +50,7 @@ fn ship_with(
     }
 }
 
-/// Ships a box: the magnification has to be one, and that of the first page.
+/// Ships a box: the magnification has to be one, and that of the first page. Err is want of memory.
 fn ship_box(alloc: Global, s: &mut State, shipped: &BoxNode) -> Result<Event, AllocError>
     requires { s.old.phase ≡ Phase.Running }
     ensures { IfOk result (λ event. IsStepped (spec.ships_box (state_of s.old) shipped.now) s.old event s.new) }
@@ -63,7 +63,7 @@ fn ship_box(alloc: Global, s: &mut State, shipped: &BoxNode) -> Result<Event, Al
     ship_with(alloc, s, magnification, shipped)
 }
 
-/// Ships the box of a page that fired, behind which the page builder goes on.
+/// Ships the box of a page that fired, behind which the page builder goes on. Err is want of memory.
 fn ship_page(alloc: Global, s: &mut State, shipped: &BoxNode) -> Result<Event, AllocError>
     requires { s.old.phase ≡ Phase.Running }
     ensures { IfOk result (λ event. IsStepped (spec.works_boxes (state_of s.old) (Work.ShipPage shipped.now)) s.old event s.new) }
@@ -72,7 +72,7 @@ fn ship_page(alloc: Global, s: &mut State, shipped: &BoxNode) -> Result<Event, A
     ship_box(alloc, s, shipped)
 }
 
-/// Copies boxes, or ships one.
+/// Copies boxes, or ships one. Err is want of memory; the event may end the run by an error, as `works_boxes` says.
 pub fn work_boxes(alloc: Global, s: &mut State, work: Work) -> Result<Event, AllocError>
     requires { s.old.phase ≡ Phase.Running }
     ensures { IfOk result (λ event. IsStepped (spec.works_boxes (state_of s.old) work) s.old event s.new) }

@@ -1,3 +1,4 @@
+//! All that there is to tell of a call that ended badly.
 use crate::ends::{append_absent_causes, write_end_cause};
 use crate::faults::{write_put_cause, write_read_cause};
 use crate::memory::write_memory_cause;

@@ -1,3 +1,4 @@
+//! What is wrong with a date.
 use crate::names::are_digits;
 use std::alloc::AllocError;
 

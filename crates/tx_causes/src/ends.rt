@@ -1,3 +1,4 @@
+//! How a run ended, by the line that was said of it.
 use crate::run::{Run, text_of};
 use std::alloc::{AllocError, Global};
 use tx_files::Name;

@@ -1,3 +1,4 @@
+//! What went wrong where a file was read or saved.
 use std::alloc::AllocError;
 use std::io::{self, ErrorKind};
 use std::str;

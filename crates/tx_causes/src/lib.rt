@@ -2,8 +2,8 @@
 //! sink keep, and by a second look at words, script and files. Nothing here is part of what is proved of a call but that
 //! it is safe: the words are tested, by `tools/check-program`.
 //!
-//! Read `ends` (how a run ended), `outside` (edits), `dates`, `names` and `refusals` (words), `scripts`, `faults` (the
-//! system's errors), `memory`, and then `causes` and `telling`.
+//! Read `run` (what a call was to run), `ends` (how a run ended), `outside` (edits), `dates`, `names` and `refusals` (words),
+//! `scripts`, `faults` (the system's errors), `memory`, and then `causes` and `telling`.
 #![tactic(auto)]
 
 pub mod causes;

@@ -1,3 +1,4 @@
+//! What was being done where no memory was left.
 use crate::faults::write_read_cause;
 use std::alloc::AllocError;
 use tx_io::Cause;

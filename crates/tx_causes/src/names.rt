@@ -1,3 +1,4 @@
+//! What is wrong with a file's name.
 use std::alloc::AllocError;
 use tx_files::name::is_name;
 

@@ -1,3 +1,4 @@
+//! Which edits went past the end of their file, and how long that was.
 use crate::run::text_of;
 use std::alloc::{AllocError, Global};
 use tx_files::Edit;

@@ -1,3 +1,4 @@
+//! Why words are no words of a call.
 use crate::dates::write_date_cause;
 use crate::names::{are_digits, write_files_cause, write_name_cause};
 use clap::ArgMatches;

@@ -1,3 +1,4 @@
+//! What a call was to run, as its words say.
 use std::str;
 use tx_files::Name;
 

@@ -1,3 +1,4 @@
+//! Where a script is refused, by line and column, and why.
 use std::alloc::AllocError;
 
 /// A line and a column, both counted from 1.

@@ -1,3 +1,4 @@
+//! Causes on standard error, a line each.
 use std::alloc::{AllocError, Global};
 
 /// A text in one line, whatever the words and names in it have.

@@ -1,3 +1,4 @@
+//! How rows are made: a page with its row, and many of them.
 ghost use Rattle.std.specs.Prelude.{◌≡◌, ◌≤◌, ◌++◌, ◌∷◌, [], IfOk, OnOk};
 ghost use Rattle.tx_machine.specs.Steps.{raised};
 ghost use Rattle.tx_machine.specs.Turn.{stretch, place_of};

@@ -1,5 +1,5 @@
+//! The rows of a run, and the greatest one up to which an edit leaves all reads as they are.
 ghost use Rattle.std.specs.Prelude.{◌≡◌};
-ghost use Rattle.std.specs.List.{list_all};
 ghost use Rattle.tx_checkpoint.specs.Resume.{resume, stays, all_stay};
 
 use crate::row::{Row, Rows};

@@ -1,4 +1,4 @@
-//! Where a whole command is put.
+//! Where a whole command is put, until it is carried out.
 ghost use Rattle.std.specs.Prelude.{◌≡◌, IfOk, MatchOption};
 ghost use Rattle.tx_assign.specs.Rests.{made as assignment_made};
 

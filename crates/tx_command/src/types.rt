@@ -59,7 +59,8 @@ pub enum Head {
     Loading(Prefixes, Place),
     /// \parshape, with its prefixes, how many sizes are to follow, and those that are read, in sp.
     Shaping(Prefixes, u32, Items<i32>),
-    /// The begin-group token of this is to follow: of a text of \discretionary, behind it and its texts before, or of \output.
+    /// The begin-group token of this is to follow, behind what stands before it: of a text of \discretionary, a list of
+    /// \mathchoice, \insert, \output's tokens or \noalign.
     Opening(Opener),
     /// \halign, which stood at this level of braces: what its preamble is set to and its begin-group token are to follow.
     Aligning(i64),
@@ -159,7 +160,8 @@ pub enum Command {
     SetPrevGraf(i32),
     /// `\parshape` and how many lines it is to have, whose sizes are to follow.
     BeginShape(i32),
-    /// The begin-group token before a text of `\discretionary`, or of `\output`'s tokens.
+    /// The begin-group token before a text of `\discretionary`, a list of `\mathchoice`, `\insert`, `\output`'s tokens or
+    /// `\noalign`.
     Open(Opener),
     /// `\halign`.
     Align,
@@ -179,8 +181,8 @@ pub enum Command {
     SetPage(PageQuantity, i32),
     /// `\font` and the name that it defines.
     DefineFont(Place),
-    /// What stands behind that name: the name of the file, as it is written, of the font that the name at this place is to mean, and
-    /// the size at which that is used.
+    /// What stands behind that name: the name of the file, as it is written, of the font that the name at this place is to mean,
+    /// and the size at which that is used.
     LoadFont(Place, Bytes, AskedSize),
     /// An assignment to the `\fontdimen` of this number of a font, in sp.
     SetFontDimen(FontName, u16, i32),

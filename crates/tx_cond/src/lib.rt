@@ -2,9 +2,10 @@
 //! the tests.
 //!
 //! Proved: skipping, the list of open conditionals, and what each test reads and comes to, are exactly as defined; and
-//! skipping by a count ends at the first word that belongs to no conditional within the text. Only tested: that the definitions are Knuth's, on texts that his program skips and expands alike.
+//! skipping by a count ends at the first word that belongs to no conditional within the text. Only tested: that the definitions are
+//! Knuth's, on texts that his program skips and expands alike.
 //!
-//! Read `types`, `skipper` and `laws`, then `stage` and `stack`; and `test`, `comparing` and `testing`.
+//! Read `types`, `skipper` and `laws`, then `stage` and `stack`; and `test`, `comparand`, `comparing` and `testing`.
 #![tactic(auto)]
 
 mod comparand;

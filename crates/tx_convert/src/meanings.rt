@@ -176,9 +176,9 @@ fn put_meaning(
 }
 
 /// Puts what \meaning prints behind the tokens: `undefined`, a primitive's name, what a character is, a register or a number of
-/// \chardef as the command that it stands for, `select font` and a font, or `macro:` and a macro's texts, whose names have a blank behind them unless they
-/// are one character that isn't a letter at this moment (TeX: The Program, sections 292 to 298). Its only error is want of
-/// memory.
+/// \chardef as the command that it stands for, `select font` and a font, or `macro:` and a macro's texts, whose names have a blank
+/// behind them unless they are one character that isn't a letter at this moment (TeX: The Program, sections 292 to 298). Its only
+/// error is want of memory.
 pub fn push_meaning(
     alloc: Global,
     tokens: &mut Toks,

@@ -1,3 +1,4 @@
+//! The DVI file of a list of pages (TeX: The Program, sections 583 to 590).
 ghost use Rattle.std.specs.Prelude.{◌≡◌, ◌≤◌, ◌+◌, ◌*◌, ◌++◌, ◌∷◌, ◌<◌, [], pos, length, IfOk, OnOk};
 ghost use Rattle.std.specs.List.{All, flat_map};
 ghost use Rattle.tx_dvi.specs.Dvi as spec;

@@ -1,3 +1,4 @@
+//! What a page brings to the file.
 ghost use Rattle.std.specs.Prelude.{◌≡◌, ◌≤◌, length, IfOk};
 ghost use Rattle.std.specs.List.{All};
 ghost use Rattle.tx_dvi.specs.Page.{IsNamed};

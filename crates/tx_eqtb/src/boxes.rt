@@ -1,4 +1,4 @@
-//! Box registers.
+//! Box registers (TeX: The Program, section 230).
 ghost use Rattle.std.specs.Prelude.{◌≡◌, ◌↔◌, option_copied, IsTrue, IfOk, OnOk};
 ghost use Rattle.tx_eqtb.specs.Boxes as spec;
 

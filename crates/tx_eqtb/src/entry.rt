@@ -1,4 +1,4 @@
-//! What stands at a place.
+//! What stands at a place (TeX: The Program, sections 220 to 247).
 ghost use Rattle.std.specs.Prelude.{◌≡◌};
 
 use crate::contents::BoxContents;

@@ -1,4 +1,4 @@
-//! Groups that are open.
+//! Groups that are open (TeX: The Program, sections 268 to 271).
 
 use crate::parts::Parts;
 use std::alloc::AllocError;

@@ -1,4 +1,4 @@
-//! The table with which INITEX begins.
+//! The table with which INITEX begins (TeX: The Program, sections 222 to 250, and 1337).
 ghost use Rattle.std.specs.Prelude.{◌≡◌, [], pos, map, replicate, IfOk};
 ghost use Rattle.std.specs.FinMap.{from_entries};
 ghost use Rattle.tx_seen.specs.declared.meaning.Meaning.TheVariants.{Undefined};

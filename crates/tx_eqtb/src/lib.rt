@@ -4,12 +4,12 @@
 //! assigned, for what is used up or resized is so in each group that was opened since.
 //!
 //! Proved: it is a stack of tables: assignments, groups, `same` and `share` are exactly as defined, and so are the values that
-//! scans find in it. Only tested: that it begins as INITEX's table does, by what documents show that Knuth's TeX reads alike (the documents of
-//! call_cases, tools/check-tex).
+//! scans find in it. Only tested: that it begins as INITEX's table does, by what documents show that Knuth's TeX reads alike (the
+//! documents of call_cases, tools/check-tex).
 //!
 //! Read `entry`, what stands at a place; `cells`, `contents`, `boxes`, `shape` and `table`; `seldom` and `parts`, in which the
-//! table is shared; `writing`; `initex`, the table at the beginning; `groups` and `nesting`; and then `eqtb` with `reading`,
-//! `stack`, `values` and `known`. Places and meanings are tx_seen's.
+//! table is shared; `writing`; `initex`, the table at the beginning; `error`, `groups` and `nesting`; and then `eqtb` with
+//! `reading`, `stack`, `values` and `known`. Places and meanings are tx_seen's.
 #![tactic(auto)]
 
 mod boxes;

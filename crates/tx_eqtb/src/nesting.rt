@@ -1,4 +1,4 @@
-//! The groups that are open, one in another.
+//! The groups that are open, one in another (TeX: The Program, sections 273 to 283).
 ghost use Rattle.std.specs.Prelude.{◌≡◌, ◌↔◌, ◌≤◌, ◌-◌, [], ◌∷◌, ◌++◌, length, take, map, IsTrue, IfOk, OnOk, OnErr};
 ghost use Rattle.std.specs.Option.{option_map};
 ghost use Rattle.tx_eqtb.specs.Stack.{assigned_outside, assigned_within, innermost};

@@ -1,5 +1,5 @@
-//! What is done to the table with its groups.
-ghost use Rattle.std.specs.Prelude.{◌≡◌, ◌↔◌, ◌≤◌, [], length, Some, Ok, Err, IsOk, IsTrue, IfOk, OnOk, OnErr};
+//! What is done to the table with its groups (TeX: The Program, sections 277 to 283).
+ghost use Rattle.std.specs.Prelude.{◌≡◌, ◌↔◌, ◌≤◌, [], length, Some, Err, IsOk, IsTrue, IfOk, OnOk, OnErr};
 ghost use Rattle.tx_eqtb.specs.Initex.{initial_table};
 ghost use Rattle.tx_eqtb.specs.Stack.{assigned, assigned_everywhere, closed, kind_of, opened, replaced};
 

@@ -1,4 +1,4 @@
-//! The values that scans find in the table.
+//! The values that scans find in the table (TeX: The Program, sections 413 to 428).
 ghost use Rattle.std.specs.Prelude.{◌≡◌, option_copied};
 ghost use Rattle.tx_eqtb.specs.Quantities.{value_in};
 ghost use Rattle.tx_eqtb.specs.Quantities as spec;

@@ -13,8 +13,8 @@ use tx_seen::{FontName, FontSize, Place, Quantities, Value};
 use tx_tfm::Fonts;
 
 impl<'a> Known<'a> {
-    /// This table, these lists, what is kept of pages, \badness, the magnification if it is used, these fonts, and whether a word is
-    /// open.
+    /// This table, these lists, what is kept of pages, \badness, the magnification if it is used, these fonts, and whether a word
+    /// is open.
     pub fn new(
         table: &'a Eqtb,
         nest: &'a Nest,

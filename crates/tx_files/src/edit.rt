@@ -1,3 +1,4 @@
+//! Edits of files, and how they are taken back.
 ghost use Rattle.std.specs.Prelude.{◌≡◌};
 ghost use Rattle.tx_files.specs.declared.edit.Refusal.TheVariants.{OutOfMemory};
 

@@ -1,3 +1,4 @@
+//! The lines of a file.
 ghost use Rattle.std.specs.Prelude.{◌≡◌, position};
 ghost use Rattle.tx_files.specs.Lines.{IsLineWithin, is_line_feed, line_count, next_line_at};
 

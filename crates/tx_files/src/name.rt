@@ -1,3 +1,4 @@
+//! Names of files.
 ghost use Rattle.std.specs.Prelude.{◌≡◌, ◌↔◌, IsTrue, IsSome, IfSome, IfOk};
 ghost use Rattle.std.specs.List.{list_all};
 ghost use Rattle.tx_files.specs.Names.{is_name, is_visible};

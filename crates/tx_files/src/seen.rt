@@ -1,3 +1,4 @@
+//! What a run saw of files.
 ghost use Rattle.std.specs.Prelude.{◌≡◌, true, false, ℕ, List, OnOk, OnErr};
 ghost use Rattle.std.specs.FinMap.{empty, get};
 ghost use Rattle.tx_files.specs.Reads as reads;

@@ -19,7 +19,7 @@ use Rattle.tx_seen.specs.declared.error.TexError.{TexError}
 use Rattle.tx_seen.specs.declared.error.TexError.TheVariants.{BadFormula}
 use Rattle.tx_shape.specs.declared.types.Opener.TheVariants.{Choice}
 use Rattle.tx_state.specs.State.{TexState}
-use Rattle.tx_state.specs.Outcomes.{Outcome, Fails, leaves}
+use Rattle.tx_state.specs.Outcomes.{Outcome, fails, leaves}
 use Rattle.tx_formula.specs.Errors.{list_error}
 use Rattle.tx_formula.specs.Kinds.{kind_from, limits_of, place_of}
 use Rattle.tx_formula.specs.Noads.{changed, noad_added, noads_of}
@@ -31,7 +31,7 @@ beginning_atom s class = leaves (record (noad_added s (bare (kind_from class))) 
 -- `^' and `_': a script is to follow, unless the atom before has one there (sections 1176 and 1177)
 abbrev pub scripting_in : TexState → AtomPart → Lists → Outcome
 scripting_in s p lists =
-    if is_second (place_of p) (noads_of lists.formulas) then Fails BadFormula
+    if is_second (place_of p) (noads_of lists.formulas) then fails BadFormula
     else leaves (record s { head = Part p; lists = changed for_script lists })
 
 abbrev pub scripting : TexState → AtomPart → Outcome
@@ -40,7 +40,7 @@ scripting s p = scripting_in s p (settled s.lists)
 -- \limits and its kin, which a large operator stands before (section 1159)
 abbrev pub limiting_in : TexState → Limits → Lists → Outcome
 limiting_in s limits lists =
-    if ends_with_operator (noads_of lists.formulas) then leaves (record s { lists = changed (limited limits) lists }) else Fails BadFormula
+    if ends_with_operator (noads_of lists.formulas) then leaves (record s { lists = changed (limited limits) lists }) else fails BadFormula
 
 abbrev pub limiting : TexState → LimitsKind → Outcome
 limiting s kind = limiting_in s (limits_of kind) (settled s.lists)
@@ -70,7 +70,7 @@ first_divided thickness [] = Err BadFormula
 first_divided thickness (formula ∷ around) = and_around around (divided thickness formula)
 
 abbrev pub with_formulas : TexState → Lists → Result (List OpenFormula) TexError → Outcome
-with_formulas s lists (Err error) = Fails error
+with_formulas s lists (Err error) = fails error
 with_formulas s lists (Ok formulas) = leaves (record s { lists = record lists { formulas = formulas } })
 
 abbrev pub dividing : TexState → Option ℤ → Outcome

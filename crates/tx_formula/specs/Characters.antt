@@ -17,7 +17,7 @@ use Rattle.tx_seen.specs.declared.error.TexError.TheVariants.{NumberOutOfRange}
 use Rattle.tx_seen.specs.declared.place.Place.TheVariants.{Code}
 use Rattle.tx_state.specs.Ended.{integer}
 use Rattle.tx_state.specs.State.{TexState}
-use Rattle.tx_state.specs.Outcomes.{Outcome, Fails, leaves}
+use Rattle.tx_state.specs.Outcomes.{Outcome, fails, leaves}
 use Rattle.tx_formula.specs.Kinds.{place_of}
 use Rattle.tx_formula.specs.Noads.{adding_noad, changed}
 
@@ -40,7 +40,7 @@ lettering s (Some p) code = leaves (part_set s p (letter (letter_now s code)))
 lettering s None code = adding_noad s (atom (kind_of (code / 4096)) (letter (letter_now s code)) empty empty)
 
 abbrev pub lettering_if : TexState → Option ℕ → Outcome
-lettering_if s None = Fails NumberOutOfRange
+lettering_if s None = fails NumberOutOfRange
 lettering_if s (Some code) = lettering s (part_before s.head) code
 
 -- \mathchar, and what stands for it

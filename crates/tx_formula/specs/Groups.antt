@@ -20,7 +20,7 @@ use Rattle.tx_seen.specs.declared.error.TexError.{TexError}
 use Rattle.tx_shape.specs.declared.types.Opener.TheVariants.{Choice}
 use Rattle.tx_state.specs.Groups.{closing, opening}
 use Rattle.tx_state.specs.State.{TexState}
-use Rattle.tx_state.specs.Outcomes.{Outcome, Fails, leaves}
+use Rattle.tx_state.specs.Outcomes.{Outcome, fails, leaves}
 use Rattle.tx_formula.specs.Kinds.{place_of}
 use Rattle.tx_formula.specs.Lists.{ended_inner, ended_part}
 use Rattle.tx_formula.specs.Noads.{changed, noad_added}
@@ -46,7 +46,7 @@ abbrev pub with_part : TexState → AtomPart → Part → Lists → TexState
 with_part s p part lists = behind_formula s (changed (filled (place_of p) part) lists)
 
 abbrev pub part_given : TexState → AtomPart → Result (Part × Lists) TexError → Outcome
-part_given s p (Err error) = Fails error
+part_given s p (Err error) = fails error
 part_given s p (Ok ended) = leaves (with_part s p ended.0 ended.1)
 
 abbrev pub ending_part : TexState → AtomPart → Outcome
@@ -63,7 +63,7 @@ abbrev pub with_choice : TexState → MathStyle → List MathItem → Lists → 
 with_choice s style list lists = record (behind_formula s (changed (chosen style list) lists)) { head = head_behind style }
 
 abbrev pub choice_given : TexState → MathStyle → Result (List MathItem × Lists) TexError → Outcome
-choice_given s style (Err error) = Fails error
+choice_given s style (Err error) = fails error
 choice_given s style (Ok ended) = leaves (with_choice s style ended.0 ended.1)
 
 abbrev pub ending_choice : TexState → MathStyle → Outcome

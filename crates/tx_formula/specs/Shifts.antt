@@ -25,7 +25,7 @@ use Rattle.tx_node.specs.declared.plain.KernKind.{KernKind}
 use Rattle.tx_node.specs.declared.plain.KernKind.TheVariants.{MathOff, MathOn}
 use Rattle.tx_node.specs.declared.plain.Plain.TheVariants.{Kern}
 use Rattle.tx_node.specs.Items.{Item, plain}
-use Rattle.tx_pack.specs.Sums.{fits}
+use Rattle.tx_num.specs.Limits.{fits}
 use Rattle.tx_prim.specs.declared.dimension.DimensionParameter.TheVariants.{Mathsurround, Overfullrule}
 use Rattle.tx_prim.specs.declared.integer.IntegerParameter.TheVariants.{Fam}
 use Rattle.tx_prim.specs.declared.modes.Mode.{Mode}
@@ -35,7 +35,7 @@ use Rattle.tx_seen.specs.declared.error.TexError.{TexError}
 use Rattle.tx_seen.specs.declared.error.TexError.TheVariants.{ExtraGroupEnd, TooManyGroups}
 use Rattle.tx_seen.specs.declared.place.Place.TheVariants.{Dimension, Integer, Tokens}
 use Rattle.tx_state.specs.State.{TexState}
-use Rattle.tx_state.specs.Outcomes.{Outcome, Leaves, Fails, leaves}
+use Rattle.tx_state.specs.Outcomes.{Outcome, Leaves, fails, leaves}
 use Rattle.tx_tfm.specs.declared.state.FontState.{FontState}
 use Rattle.tx_formula.specs.Errors.{math_error}
 use Rattle.tx_formula.specs.Groups.{begun, behind_formula}
@@ -55,7 +55,7 @@ begun_text s = record (begun (with_every s)) { table = no_family s.table }
 
 abbrev pub beginning_text : TexState → Outcome
 beginning_text s =
-    if nat_lt (length s.table.groups) 255 then leaves (begun_text (record s { table = opened s.table MathShift })) else Fails TooManyGroups
+    if nat_lt (length s.table.groups) 255 then leaves (begun_text (record s { table = opened s.table MathShift })) else fails TooManyGroups
 
 -- its list is set in text style; lines may be broken behind its operations and relations in a paragraph alone (section 1196)
 abbrev pub is_paragraph : ModeState → Bool
@@ -96,7 +96,7 @@ abbrev pub text_put : TexState → Formula → Lists → Outcome
 text_put s formula lists = Leaves (behind_formula s (with_text lists (surround_in s) formula.nodes)) formula.report
 
 abbrev pub text_given : TexState → Result (Formula × Lists) TexError → Outcome
-text_given s (Err error) = Fails error
+text_given s (Err error) = fails error
 text_given s (Ok ended) = text_put s ended.0 ended.1
 
 abbrev pub ending_text : TexState → Outcome
@@ -105,7 +105,7 @@ ending_text s = text_given s (ended_text s.words.fonts s.table.table s.lists)
 -- a `$' in a formula ends it, if its group is the innermost one (section 1193)
 abbrev pub ending_by : TexState → Option GroupKind → Outcome
 ending_by s (Some MathShift) = ending_text s
-ending_by s other = Fails ExtraGroupEnd
+ending_by s other = fails ExtraGroupEnd
 
 -- in another list a formula begins, unless another `$' is read behind it
 abbrev pub shifting_in : TexState → Mode → Outcome

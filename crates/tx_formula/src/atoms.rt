@@ -1,4 +1,4 @@
-//! Atoms, scripts, limits, choices and fractions begin.
+//! Atoms, scripts, limits, choices and fractions begin (TeX: The Program, sections 1156 to 1184).
 ghost use Rattle.std.specs.Prelude.{◌≡◌, ◌≢◌, [], Ok, Err, IfOk, IfErr, OnOk};
 ghost use Rattle.tx_formula.specs.Atoms as spec;
 ghost use Rattle.tx_formula.specs.declared.error.FormulaError.TheVariants.{OutOfMemory};
@@ -6,7 +6,7 @@ ghost use Rattle.tx_formula.specs.Errors.{error_of};
 ghost use Rattle.tx_state.specs.declared.parts.Phase.{Phase};
 ghost use Rattle.tx_state.specs.Meanings.{IsStepped, state_of};
 
-use crate::error::{FormulaError, fail_by};
+use crate::error::{FormulaError, fail_by_formula};
 use crate::kinds::{kind_from, limits_of, place_of};
 use crate::noads::{limit, prepare_script};
 use std::alloc::{AllocError, Global};
@@ -20,7 +20,7 @@ use tx_seen::TexError;
 use tx_shape::Opener;
 use tx_state::{State, fail};
 
-/// \mathord or its kin: an atom, whose nucleus is to follow.
+/// \mathord or its kin: an atom, whose nucleus is to follow. Err is want of memory.
 pub fn begin_atom(alloc: Global, s: &mut State, class: AtomClass) -> Result<Event, AllocError>
     requires running { s.old.phase ≡ Phase.Running }
     requires between { s.old.scan.taken ≡ [] }
@@ -32,7 +32,8 @@ pub fn begin_atom(alloc: Global, s: &mut State, class: AtomClass) -> Result<Even
     Ok(Event::Went)
 }
 
-/// `^` or `_`: a script is to follow. `BadFormula` exactly where the atom before has one there.
+/// `^` or `_`: a script is to follow. `BadFormula` exactly where the atom before has one there. Err is want of memory; the event
+/// may end the run by an error, as `scripting` says.
 pub fn begin_script(alloc: Global, s: &mut State, part: AtomPart) -> Result<Event, AllocError>
     requires running { s.old.phase ≡ Phase.Running }
     requires between { s.old.scan.taken ≡ [] }
@@ -46,7 +47,8 @@ pub fn begin_script(alloc: Global, s: &mut State, part: AtomPart) -> Result<Even
     Ok(Event::Went)
 }
 
-/// \limits or its kin. `BadFormula` exactly where no large operator stands before it.
+/// \limits or its kin. `BadFormula` exactly where no large operator stands before it. Err is want of memory; the event may end the
+/// run by an error, as `limiting` says.
 pub fn set_limits(alloc: Global, s: &mut State, kind: LimitsKind) -> Result<Event, AllocError>
     requires running { s.old.phase ≡ Phase.Running }
     ensures { IfOk result (λ event. IsStepped (spec.limiting (state_of s.old) kind) s.old event s.new) }
@@ -59,7 +61,7 @@ pub fn set_limits(alloc: Global, s: &mut State, kind: LimitsKind) -> Result<Even
     }
 }
 
-/// \mathchoice, whose lists are to follow.
+/// \mathchoice, whose lists are to follow. Err is want of memory.
 pub fn begin_choice(alloc: Global, s: &mut State) -> Result<Event, AllocError>
     requires running { s.old.phase ≡ Phase.Running }
     requires between { s.old.scan.taken ≡ [] }
@@ -117,7 +119,7 @@ fn divide_first(
 }
 
 /// \over or its kin: all that the formula has stands above a line that is so many sp thick, or as thick as the fonts tell.
-/// `BadFormula` where a line came already.
+/// `BadFormula` where a line came already. Err is want of memory; the event may end the run by an error, as `dividing` says.
 pub fn divide(alloc: Global, s: &mut State, thickness: Option<i32>) -> Result<Event, AllocError>
     requires { s.old.phase ≡ Phase.Running }
     ensures { IfOk result (λ event. IsStepped (spec.dividing (state_of s.old) thickness) s.old event s.new) }
@@ -125,6 +127,6 @@ pub fn divide(alloc: Global, s: &mut State, thickness: Option<i32>) -> Result<Ev
     settle(alloc, &mut s.lists)?;
     match divide_first(alloc, &mut s.lists.formulas, thickness) {
         Ok(()) => Ok(Event::Went),
-        Err(error) => fail_by(s, error),
+        Err(error) => fail_by_formula(s, error),
     }
 }

@@ -1,4 +1,4 @@
-//! Characters of formulas.
+//! Characters of formulas (TeX: The Program, sections 1151 to 1155).
 ghost use Rattle.std.specs.Prelude.{◌≡◌, [], None, IfOk};
 ghost use Rattle.tx_formula.specs.Characters as spec;
 ghost use Rattle.tx_command.specs.Commands.{part_before};
@@ -35,7 +35,7 @@ fn letter_now(s: &State, code: u16) -> MathCharacter
     letter_of(s.table.integer(IntegerParameter::Fam), code)
 }
 
-/// What is read for a part of the last atom stands there.
+/// What is read for a part of the last atom stands there. Err is want of memory.
 fn set_part(s: &mut State, part: AtomPart, field: Field) -> Result<Event, AllocError>
     requires running { s.old.phase ≡ Phase.Running }
     requires between { s.old.scan.taken ≡ [] }
@@ -46,7 +46,7 @@ fn set_part(s: &mut State, part: AtomPart, field: Field) -> Result<Event, AllocE
     Ok(Event::Went)
 }
 
-/// A character is the nucleus of an atom of its class.
+/// A character is the nucleus of an atom of its class. Err is want of memory.
 fn add_letter(alloc: Global, s: &mut State, code: u16) -> Result<Event, AllocError>
     requires { s.old.phase ≡ Phase.Running }
     ensures { IfOk result (λ event. IsStepped (spec.lettering (state_of s.old) None code) s.old event s.new) }
@@ -60,7 +60,7 @@ fn add_letter(alloc: Global, s: &mut State, code: u16) -> Result<Event, AllocErr
     add_noad(alloc, s, Noad::from_atom(alloc, atom)?)
 }
 
-/// A character is the part that is awaited, or else the nucleus of an atom.
+/// A character is the part that is awaited, or else the nucleus of an atom. Err is want of memory.
 fn set_letter(alloc: Global, s: &mut State, code: u16) -> Result<Event, AllocError>
     requires running { s.old.phase ≡ Phase.Running }
     requires between { s.old.scan.taken ≡ [] }
@@ -75,7 +75,8 @@ fn set_letter(alloc: Global, s: &mut State, code: u16) -> Result<Event, AllocErr
     }
 }
 
-/// \mathchar, and what stands for it. `NumberOutOfRange` exactly where the number isn't from 0 to 32767.
+/// \mathchar, and what stands for it. `NumberOutOfRange` exactly where the number isn't from 0 to 32767. Err is want of memory; the
+/// event may end the run by an error, as `setting_number` says.
 pub fn set_number(alloc: Global, s: &mut State, number: i32) -> Result<Event, AllocError>
     requires running { s.old.phase ≡ Phase.Running }
     requires between { s.old.scan.taken ≡ [] }
@@ -87,7 +88,7 @@ pub fn set_number(alloc: Global, s: &mut State, number: i32) -> Result<Event, Al
     }
 }
 
-/// A character, by its \mathcode.
+/// A character, by its \mathcode. Err is want of memory; the event may end the run by an error, as `setting_character` says.
 pub fn set_character(alloc: Global, s: &mut State, code: u8) -> Result<Event, AllocError>
     requires running { s.old.phase ≡ Phase.Running }
     requires between { s.old.scan.taken ≡ [] }

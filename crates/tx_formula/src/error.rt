@@ -3,7 +3,7 @@ ghost use Rattle.std.specs.Prelude.{◌≡◌, ◌≢◌, IfOk};
 ghost use Rattle.tx_formula.specs.declared.error.FormulaError.TheVariants.{OutOfMemory};
 ghost use Rattle.tx_formula.specs.Errors.{error_of, of_list, of_math};
 ghost use Rattle.tx_state.specs.Meanings.{IsStepped};
-ghost use Rattle.tx_state.specs.Outcomes.{Fails};
+ghost use Rattle.tx_state.specs.Outcomes.{fails};
 
 use std::alloc::AllocError;
 use tx_machine::Event;
@@ -55,8 +55,8 @@ impl From<MathError> for FormulaError {
 }
 
 /// The run ends by the error of a formula, if that isn't want of memory.
-pub(crate) fn fail_by(s: &mut State, error: FormulaError) -> Result<Event, AllocError>
-    ensures failed { IfOk result (λ event. IsStepped (Fails (error_of error)) s.old event s.new) }
+pub(crate) fn fail_by_formula(s: &mut State, error: FormulaError) -> Result<Event, AllocError>
+    ensures failed { IfOk result (λ event. IsStepped (fails (error_of error)) s.old event s.new) }
     ensures memory { IfOk result (λ _. error ≢ OutOfMemory) }
 {
     match error {

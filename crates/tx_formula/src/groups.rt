@@ -1,4 +1,4 @@
-//! Groups of formulas begin and end.
+//! Groups of formulas begin and end (TeX: The Program, sections 1136, 1153, 1172 to 1174, and 1186).
 ghost use Rattle.std.specs.Prelude.{◌≡◌, [], Some, IfOk, OnOk};
 ghost use Rattle.tx_command.specs.Commands.{part_before};
 ghost use Rattle.tx_eqtb.specs.Stack.{kind_of};
@@ -8,7 +8,7 @@ ghost use Rattle.tx_state.specs.declared.parts.Phase.{Phase};
 ghost use Rattle.tx_state.specs.Meanings.{IsStepped, state_of};
 ghost use Rattle.tx_state.specs.Outcomes.{leaves};
 
-use crate::error::fail_by;
+use crate::error::fail_by_formula;
 use crate::kinds::place_of;
 use crate::lists::{end_inner_list, end_part_list};
 use crate::noads::{choose, fill};
@@ -34,7 +34,8 @@ pub(crate) fn begin(alloc: Global, s: &mut State) -> Result<(), AllocError>
     Ok(())
 }
 
-/// The same in a group of this kind. `TooManyGroups` exactly where 255 are open.
+/// The same in a group of this kind. `TooManyGroups` exactly where 255 are open. Err is want of memory; the event may end the run
+/// by an error, as `opening_formula` says.
 pub fn open_formula(alloc: Global, s: &mut State, kind: GroupKind) -> Result<Event, AllocError>
     requires { s.old.phase ≡ Phase.Running }
     ensures { IfOk result (λ event. IsStepped (spec.opening_formula (state_of s.old) kind) s.old event s.new) }
@@ -43,7 +44,8 @@ pub fn open_formula(alloc: Global, s: &mut State, kind: GroupKind) -> Result<Eve
     open(s, kind)
 }
 
-/// A begin-group token: the list is the part that is awaited, or else the nucleus of an Ord.
+/// A begin-group token: the list is the part that is awaited, or else the nucleus of an Ord. Err is want of memory; the event may
+/// end the run by an error, as `grouping` says.
 pub fn begin_group(alloc: Global, s: &mut State) -> Result<Event, AllocError>
     requires running { s.old.phase ≡ Phase.Running }
     requires between { s.old.scan.taken ≡ [] }
@@ -71,7 +73,7 @@ pub(crate) fn go_on(s: &mut State, kind: GroupKind) -> Result<(), AllocError>
     Ok(())
 }
 
-/// What a group gives stands at its place in the atom.
+/// What a group gives stands at its place in the atom. Err is want of memory.
 fn give_part(s: &mut State, part: AtomPart, field: Field) -> Result<Event, AllocError>
     requires running { s.old.phase ≡ Phase.Running }
     requires kind { kind_of s.old.table ≡ Some (GroupKind.MathPart part) }
@@ -82,7 +84,8 @@ fn give_part(s: &mut State, part: AtomPart, field: Field) -> Result<Event, Alloc
     Ok(Event::Went)
 }
 
-/// The end of a group that gives a part of an atom.
+/// The end of a group that gives a part of an atom. Err is want of memory; the event may end the run by an error, as `ending_part`
+/// says.
 pub fn end_part(alloc: Global, s: &mut State, part: AtomPart) -> Result<Event, AllocError>
     requires running { s.old.phase ≡ Phase.Running }
     requires kind { kind_of s.old.table ≡ Some (GroupKind.MathPart part) }
@@ -90,7 +93,7 @@ pub fn end_part(alloc: Global, s: &mut State, part: AtomPart) -> Result<Event, A
 {
     match end_part_list(alloc, &mut s.lists) {
         Ok(field) => give_part(s, part, field),
-        Err(error) => fail_by(s, error),
+        Err(error) => fail_by_formula(s, error),
     }
 }
 
@@ -106,7 +109,7 @@ fn head_behind(style: MathStyle) -> Head
     }
 }
 
-/// A list stands for its style in the choice, behind which the next one is to follow.
+/// A list stands for its style in the choice, behind which the next one is to follow. Err is want of memory.
 fn give_choice(s: &mut State, style: MathStyle, list: InnerList) -> Result<Event, AllocError>
     requires running { s.old.phase ≡ Phase.Running }
     requires kind { kind_of s.old.table ≡ Some (GroupKind.MathChoice style) }
@@ -118,7 +121,7 @@ fn give_choice(s: &mut State, style: MathStyle, list: InnerList) -> Result<Event
     Ok(Event::Went)
 }
 
-/// The end of a list of \mathchoice.
+/// The end of a list of \mathchoice. Err is want of memory; the event may end the run by an error, as `ending_choice` says.
 pub fn end_choice(alloc: Global, s: &mut State, style: MathStyle) -> Result<Event, AllocError>
     requires running { s.old.phase ≡ Phase.Running }
     requires kind { kind_of s.old.table ≡ Some (GroupKind.MathChoice style) }
@@ -126,6 +129,6 @@ pub fn end_choice(alloc: Global, s: &mut State, style: MathStyle) -> Result<Even
 {
     match end_inner_list(alloc, &mut s.lists) {
         Ok(list) => give_choice(s, style, list),
-        Err(error) => fail_by(s, error),
+        Err(error) => fail_by_formula(s, error),
     }
 }

@@ -1,4 +1,4 @@
-//! What the lists of formulas come to when they end.
+//! What the lists of formulas come to when they end (TeX: The Program, sections 1184 and 1185).
 ghost use Rattle.std.specs.Prelude.{◌≡◌, ◌≢◌, Ok, Err, map, IfOk, IfErr};
 ghost use Rattle.tx_box.specs.Formulas.{with_more};
 ghost use Rattle.tx_formula.specs.declared.error.FormulaError.TheVariants.{OutOfMemory};

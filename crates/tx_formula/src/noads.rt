@@ -1,4 +1,4 @@
-//! Noads join the formula that is being built, or change the last of it.
+//! Noads join the formula that is being built, or change the last of it (TeX: The Program, sections 1150 to 1177).
 ghost use Rattle.std.specs.Prelude.{◌≡◌, IfOk, OnOk};
 ghost use Rattle.tx_box.specs.Formulas.{with_first};
 ghost use Rattle.tx_formula.specs.Noads as spec;
@@ -16,7 +16,7 @@ use tx_mlist::{Field, InnerList, Limits, Noad, Place};
 use tx_prim::MathStyle;
 use tx_state::State;
 
-/// A noad stands behind all that the formula has. Its only error is want of memory.
+/// A noad stands behind all that the formula has. Err is want of memory.
 pub fn add_noad(alloc: Global, s: &mut State, noad: Noad) -> Result<Event, AllocError>
     requires { s.old.phase ≡ Phase.Running }
     ensures { IfOk result (λ event. IsStepped (spec.adding_noad (state_of s.old) (math_of noad)) s.old event s.new) }

@@ -1,4 +1,4 @@
-//! What a formula is set by, as the table has it.
+//! What a formula is set by, as the table has it (TeX: The Program, sections 700, 701 and 1195).
 ghost use Rattle.std.specs.Prelude.{◌≡◌};
 ghost use Rattle.tx_formula.specs.Params as spec;
 

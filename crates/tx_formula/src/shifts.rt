@@ -1,4 +1,4 @@
-//! Formulas in a text begin and end.
+//! Formulas in a text begin and end (TeX: The Program, sections 1138, 1139, and 1193 to 1196).
 ghost use Rattle.std.specs.Prelude.{◌≡◌, ◌≢◌, [], Some, Ok, Err, IfOk, IfErr, OnOk};
 ghost use Rattle.tx_eqtb.specs.Stack.{kind_of};
 ghost use Rattle.tx_formula.specs.declared.error.FormulaError.TheVariants as formula;
@@ -10,14 +10,14 @@ ghost use Rattle.tx_state.specs.declared.parts.Phase.{Phase};
 ghost use Rattle.tx_state.specs.Meanings.{IsStepped, state_of};
 ghost use Rattle.tx_state.specs.Outcomes.{leaves};
 
-use crate::error::{FormulaError, fail_by};
+use crate::error::{FormulaError, fail_by_formula};
 use crate::groups::{begin, go_on};
 use crate::lists::end_list;
 use crate::params::math_params;
 use std::alloc::{AllocError, Global};
 use tx_box::Lists;
 use tx_command::Head;
-use tx_eqtb::{Entry, Eqtb, GroupKind, OpenError};
+use tx_eqtb::{Entry, Eqtb, GroupKind};
 use tx_machine::Event;
 use tx_math::{Formula, MathError, to_hlist};
 use tx_mlist::Mlist;
@@ -26,10 +26,10 @@ use tx_node::{KernKind, Node, Nodes, Plain};
 use tx_num::Range;
 use tx_prim::{DimensionParameter, IntegerParameter, Mode, TokenParameter};
 use tx_seen::{Place, TexError};
-use tx_state::{State, fail};
+use tx_state::{State, fail, open_group};
 use tx_tfm::Fonts;
 
-/// A formula begins in its group, in which \fam is no family, and what \everymath has is read first.
+/// A formula begins in its group, in which \fam is no family, and what \everymath has is read first. Err is want of memory.
 fn begin_inside(alloc: Global, s: &mut State) -> Result<Event, AllocError>
     requires { s.old.phase ≡ Phase.Running }
     ensures { IfOk result (λ event. IsStepped (leaves (spec.begun_text (state_of s.old))) s.old event s.new) }
@@ -42,15 +42,16 @@ fn begin_inside(alloc: Global, s: &mut State) -> Result<Event, AllocError>
     Ok(Event::Went)
 }
 
-/// A formula begins behind its `$`, in a group of its own. `TooManyGroups` exactly where 255 are open.
+/// A formula begins behind its `$`, in a group of its own. `TooManyGroups` exactly where 255 are open. Err is want of memory; the
+/// event may end the run by an error, as `beginning_text` says.
 pub fn begin_text(alloc: Global, s: &mut State) -> Result<Event, AllocError>
     requires { s.old.phase ≡ Phase.Running }
     ensures { IfOk result (λ event. IsStepped (spec.beginning_text (state_of s.old)) s.old event s.new) }
 {
-    match s.table.open_group(GroupKind::MathShift) {
-        Ok(()) => begin_inside(alloc, s),
-        Err(OpenError::TooMany) => Ok(fail(s, TexError::TooManyGroups)),
-        Err(OpenError::OutOfMemory) => Err(AllocError),
+    if open_group(s, GroupKind::MathShift)? {
+        begin_inside(alloc, s)
+    } else {
+        Ok(fail(s, TexError::TooManyGroups))
     }
 }
 
@@ -119,7 +120,7 @@ fn append_text(lists: &mut Lists, surround: i32, nodes: Nodes) -> Result<(), All
     Ok(())
 }
 
-/// A formula that is set stands in the list, with what is told of it, and its group ends.
+/// A formula that is set stands in the list, with what is told of it, and its group ends. Err is want of memory.
 fn put_text(s: &mut State, made: Formula) -> Result<Event, AllocError>
     requires running { s.old.phase ≡ Phase.Running }
     requires kind { kind_of s.old.table ≡ Some GroupKind.MathShift }
@@ -135,7 +136,7 @@ fn put_text(s: &mut State, made: Formula) -> Result<Event, AllocError>
     Ok(Event::Went)
 }
 
-/// The end of a formula in a text.
+/// The end of a formula in a text. Err is want of memory.
 fn end_text(alloc: Global, s: &mut State) -> Result<Event, AllocError>
     requires running { s.old.phase ≡ Phase.Running }
     requires kind { kind_of s.old.table ≡ Some GroupKind.MathShift }
@@ -143,11 +144,11 @@ fn end_text(alloc: Global, s: &mut State) -> Result<Event, AllocError>
 {
     match end_text_list(alloc, s.words.fonts(), &s.table, &mut s.lists) {
         Ok(made) => put_text(s, made),
-        Err(error) => fail_by(s, error),
+        Err(error) => fail_by_formula(s, error),
     }
 }
 
-/// A `$` in a formula, which ends it. `ExtraGroupEnd` exactly where another group is the innermost one.
+/// A `$` in a formula, which ends it. `ExtraGroupEnd` exactly where another group is the innermost one. Err is want of memory.
 fn end_shift(alloc: Global, s: &mut State) -> Result<Event, AllocError>
     requires { s.old.phase ≡ Phase.Running }
     ensures { IfOk result (λ event. IsStepped (spec.ending_by (state_of s.old) (kind_of s.old.table)) s.old event s.new) }
@@ -158,7 +159,8 @@ fn end_shift(alloc: Global, s: &mut State) -> Result<Event, AllocError>
     }
 }
 
-/// A `$`: in a formula it ends it, and in another list a formula begins behind it.
+/// A `$`: in a formula it ends it, and in another list a formula begins behind it. Err is want of memory; the event may end the run
+/// by an error, as `shifting` says.
 pub fn shift(alloc: Global, s: &mut State) -> Result<Event, AllocError>
     requires running { s.old.phase ≡ Phase.Running }
     requires between { s.old.scan.taken ≡ [] }

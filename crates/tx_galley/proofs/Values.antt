@@ -5,12 +5,12 @@ use Rattle.std.specs.Prelude.{nat_lt, unsigned_abs}
 use Rattle.tx_pagebuilder.specs.Quantities.{IsValue}
 use Rattle.tx_prim.specs.declared.family.PageQuantity.{PageQuantity}
 use Rattle.tx_prim.specs.declared.family.PageQuantity.TheVariants.{Goal, Total, Stretch, FilStretch, FillStretch, FilllStretch, Shrink, Depth, InsertPenalties}
-use Rattle.tx_galley.specs.Assigning.{may_be}
+use Rattle.tx_galley.specs.Assigning.{may_have}
 
 below : (a b : ℕ) → nat_lt a b ≡ true → a < b
 below a b is = grind (arith, nat_tests)
 
-pub is_value : (quantity : PageQuantity) (value : ℤ) → may_be quantity value ≡ true → IsValue quantity value
+pub is_value : (quantity : PageQuantity) (value : ℤ) → may_have quantity value ≡ true → IsValue quantity value
 is_value Goal value is = below (unsigned_abs value) (2 ^ 30) is
 is_value Total value is = below (unsigned_abs value) (2 ^ 30) is
 is_value Stretch value is = below (unsigned_abs value) (2 ^ 30) is

@@ -3,7 +3,7 @@ use Rattle.std.specs.Prelude.{Bool, ◌&&◌, List, [], ◌∷◌, ◌++◌, Res
 use Rattle.tx_eqtb.specs.declared.table.Table.{Table}
 use Rattle.tx_eqtb.specs.Table.{number_at}
 use Rattle.tx_node.specs.Items.{Item}
-use Rattle.tx_pack.specs.Sums.{fits}
+use Rattle.tx_num.specs.Limits.{fits}
 use Rattle.tx_pagebuilder.specs.declared.error.PageError.{PageError}
 use Rattle.tx_pagebuilder.specs.declared.measures.Built.{Built}
 use Rattle.tx_pagebuilder.specs.declared.measures.Built.TheVariants.{Went, Fires}

@@ -1,5 +1,5 @@
 -- How \output ends (TeX: The Program, sections 1026 to 1028), and how a run does (section 1054).
-use Rattle.std.specs.Prelude.{pos, neg_ℤ, Bool, ◌&&◌, List, [], ◌∷◌, ◌++◌, length, ◌==◌, None, Result, Ok, Err}
+use Rattle.std.specs.Prelude.{pos, neg_ℤ, Bool, true, ◌&&◌, List, [], ◌∷◌, ◌++◌, length, ◌==◌, None, Result, Ok, Err}
 use Rattle.std.specs.Ordering.{int_eq}
 use Rattle.tx_eqtb.specs.declared.eqtb.Eqtb.{Eqtb}
 use Rattle.tx_eqtb.specs.declared.table.Table.{Table}
@@ -42,8 +42,8 @@ abbrev pub ending_by : Nest → Eqtb → Pages → Result (List Item) OutputErro
 ending_by nest table pages (Err e) = Err (error_of (of_output e))
 ending_by nest table pages (Ok items) = exercising (contributed_before items nest) table (ended pages)
 
-abbrev pub ending_output : List Item → Bool → Nest → Eqtb → Pages → Result Exercised TexError
-ending_output built at_end nest table pages = ending_by nest table pages (finished pages.output.waiting built at_end (is_void table.table 255))
+abbrev pub ending_output : List Item → Nest → Eqtb → Pages → Result Exercised TexError
+ending_output built nest table pages = ending_by nest table pages (finished pages.output.waiting built true (is_void table.table 255))
 
 -- a run may end where nothing is left to be put out
 abbrev pub is_done : Nest → Pages → Bool

@@ -1,5 +1,6 @@
 -- What the page builder takes from the table (TeX: The Program, sections 987, 1001 and 1009 to 1018).
-use Rattle.std.specs.Prelude.{ℕ, nat_lt, ◌^◌, ℤ, unsigned_abs, ◌+ℤ◌, Bool, true, false, List, [], ◌∷◌, ◌++◌, Option, Some, None}
+use Rattle.std.specs.Prelude.{ℕ, nat_lt, ◌^◌, ℤ, unsigned_abs, Bool, true, false, List, [], ◌∷◌, ◌++◌, Option, Some, None}
+use Rattle.tx_box.specs.Inserts.{whole_size}
 use Rattle.tx_eqtb.specs.declared.table.Table.{Table}
 use Rattle.tx_eqtb.specs.Table.{box_at, glue_at, number_at}
 use Rattle.tx_node.specs.declared.head.BoxHead.{BoxHead}
@@ -19,10 +20,7 @@ use Rattle.tx_seen.specs.declared.place.Place.TheVariants.{Box, Count, Dimen, Di
 abbrev pub is_integer : ℤ → Bool
 is_integer n = nat_lt (unsigned_abs n) (2 ^ 31)
 
--- the height and depth of a box together, and whether it is an \hbox
-abbrev pub whole_size : BoxHead → ℤ
-whole_size head = head.height +ℤ head.depth
-
+-- whether a box is an \hbox
 abbrev pub is_horizontal : Direction → Bool
 is_horizontal Horizontal = true
 is_horizontal Vertical = false

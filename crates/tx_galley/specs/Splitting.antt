@@ -16,7 +16,7 @@ use Rattle.tx_pack.specs.declared.types.Packed.{Packed}
 use Rattle.tx_pack.specs.declared.types.PackParams.{PackParams}
 use Rattle.tx_pack.specs.declared.types.PackError.{PackError}
 use Rattle.tx_pack.specs.Packing.{vpacked}
-use Rattle.tx_pack.specs.Sums.{fits}
+use Rattle.tx_num.specs.Limits.{fits}
 use Rattle.tx_output.specs.declared.pages.Pages.{Pages}
 use Rattle.tx_prim.specs.declared.dimension.DimensionParameter.TheVariants.{Splitmaxdepth}
 use Rattle.tx_prim.specs.declared.glue.GlueParameter.TheVariants.{Splittopskip}

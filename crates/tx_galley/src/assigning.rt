@@ -1,16 +1,16 @@
-//! Assignments to the quantities of the page.
+//! Assignments to the quantities of the page (TeX: The Program, sections 1245 and 1246).
 ghost use Rattle.std.specs.Prelude.{◌≡◌, Ok, Err, IfErr, OnOk, OnErr};
 ghost use Rattle.tx_galley.specs.Assigning as spec;
 
 use crate::params::is_integer;
+use tx_num::fits;
 use tx_output::Pages;
-use tx_pack::fits;
 use tx_prim::PageQuantity;
 use tx_seen::TexError;
 
 /// Whether a quantity may have this value.
-fn may_be(quantity: PageQuantity, value: i64) -> bool
-    ensures { result ≡ spec.may_be quantity value }
+fn may_have(quantity: PageQuantity, value: i64) -> bool
+    ensures { result ≡ spec.may_have quantity value }
 {
     match quantity {
         PageQuantity::InsertPenalties => is_integer(value),
@@ -27,7 +27,7 @@ fn set_if(pages: &mut Pages, quantity: PageQuantity, value: i64) -> Result<(), T
     ensures error { IfErr result (λ e. spec.setting quantity value pages.old ≡ Err e) }
     ensures same { OnErr result (pages.new ≡ pages.old) }
 {
-    if may_be(quantity, value) {
+    if may_have(quantity, value) {
         pages.page.set(quantity, value);
         Ok(())
     } else {
@@ -35,8 +35,8 @@ fn set_if(pages: &mut Pages, quantity: PageQuantity, value: i64) -> Result<(), T
     }
 }
 
-/// Assigns to a quantity of the page, in sp; \insertpenalties is a number. `SizeOutOfRange`, and nothing changes, where a size is no
-/// dimension, or the number no integer, which no scan gives.
+/// Assigns to a quantity of the page, in sp; \insertpenalties is a number. `SizeOutOfRange`, and nothing changes, where a size is
+/// no dimension, or the number no integer, which no scan gives.
 pub fn set_quantity(pages: &mut Pages, quantity: PageQuantity, value: i32) -> Result<(), TexError>
     ensures set { OnOk result (spec.setting quantity value pages.old ≡ Ok pages.new) }
     ensures error { IfErr result (λ e. spec.setting quantity value pages.old ≡ Err e) }

@@ -1,4 +1,4 @@
-//! Contributions go to the page.
+//! Contributions go to the page (TeX: The Program, sections 994 to 1000).
 ghost use Rattle.std.specs.Prelude.{◌≡◌, ◌≢◌, ◌∷◌, [], List, Ok, Err, IfOk, IfErr};
 ghost use Rattle.tx_node.specs.Items.{Item};
 ghost use Rattle.tx_node.specs.Nodes.{item_of};
@@ -12,8 +12,8 @@ use crate::params::node_params;
 use std::alloc::Global;
 use tx_eqtb::Eqtb;
 use tx_node::{Node, Nodes};
+use tx_num::fits;
 use tx_output::{Pages, last_item};
-use tx_pack::fits;
 use tx_pagebuilder::Built;
 use tx_prim::DimensionParameter;
 use tx_seen::TexError;
@@ -69,8 +69,8 @@ fn go_on(
     }
 }
 
-/// Contributes the nodes of a list in order, until the page is to be fired or none is left: those that are left stand in `rest`, where
-/// none stood.
+/// Contributes the nodes of a list in order, until the page is to be fired or none is left: those that are left stand in `rest`,
+/// where none stood.
 pub(crate) fn contribute_all(
     alloc: Global,
     table: &Eqtb,

@@ -1,4 +1,4 @@
-//! How \output ends, and how a run does.
+//! How \output ends (TeX: The Program, sections 1026 to 1028), and how a run does (section 1054).
 ghost use Rattle.std.specs.Prelude.{◌≡◌, ◌≢◌, Ok, Err, IfOk, IfErr, OnOk};
 ghost use Rattle.tx_node.specs.Nodes.{item_of};
 ghost use Rattle.tx_galley.specs.declared.errors.GalleyError.TheVariants.{OutOfMemory};
@@ -40,24 +40,23 @@ fn put_before(alloc: Global, nest: &mut Nest, nodes: Nodes) -> Result<(), AllocE
     nest.push(open)
 }
 
-/// \output ends, whose group has ended, and whose list has left the nest with these nodes (TeX: The Program, sections 1026 to 1028):
-/// they stand behind the insertions that were held over and before what remained of the contributions, and the page builder is
-/// exercised. `at_end` says whether the group ends where the tokens of \output end.
+/// \output ends, whose group has ended, and whose list has left the nest with these nodes (TeX: The Program, sections 1026 to
+/// 1028): they stand behind the insertions that were held over and before what remained of the contributions, and the page builder
+/// is exercised. That the group ends where the tokens of \output end is for the caller to see.
 ///
-/// The errors: `UnbalancedOutput` where that isn't so, or \box255 isn't void; then those of `exercise`.
+/// The errors: `UnbalancedOutput` where \box255 isn't void; then those of `exercise`.
 pub fn end_output(
     alloc: Global,
     nest: &mut Nest,
     table: &mut Eqtb,
     pages: &mut Pages,
     built: Nodes,
-    at_end: bool,
 ) -> Result<Next, GalleyError>
-    ensures ok { IfOk result (λ next. spec.ending_output built at_end nest.old table.old pages.old ≡ Ok (record { next = next; nest = nest.new; table = table.new; pages = pages.new })) }
-    ensures error { IfErr result (λ e. e ≢ OutOfMemory → spec.ending_output built at_end nest.old table.old pages.old ≡ Err (error_of e)) }
+    ensures ok { IfOk result (λ next. spec.ending_output built nest.old table.old pages.old ≡ Ok (record { next = next; nest = nest.new; table = table.new; pages = pages.new })) }
+    ensures error { IfErr result (λ e. e ≢ OutOfMemory → spec.ending_output built nest.old table.old pages.old ≡ Err (error_of e)) }
 {
     let void255 = is_void(table, 255);
-    let list = pages.output.finish(built, at_end, void255)?;
+    let list = pages.output.finish(built, true, void255)?;
     pages.page.end_output();
     put_before(alloc, nest, list)?;
     exercise(alloc, nest, table, pages)
@@ -85,8 +84,8 @@ fn line_box(alloc: Global, table: &Eqtb) -> Result<Node, AllocError>
     Node::from_box(alloc, 0, BoxNode::new(alloc, head, list)?)
 }
 
-/// What \end contributes where something is left: an empty line, \vfill, and a penalty that fires the page. Its only error is want of
-/// memory.
+/// What \end contributes where something is left: an empty line, \vfill, and a penalty that fires the page. Its only error is want
+/// of memory.
 pub fn add_end(alloc: Global, nest: &mut Nest, table: &Eqtb) -> Result<(), AllocError>
     ensures { OnOk result (nest.new ≡ spec.with_end table.now.table nest.old) }
 {

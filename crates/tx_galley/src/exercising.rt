@@ -1,4 +1,5 @@
-//! The page builder is exercised: all contributions of the pages' list go to the page, until it fires.
+//! The page builder is exercised: all contributions of the pages' list go to the page, until it fires (TeX: The Program, section
+//! 994).
 ghost use Rattle.std.specs.Prelude.{◌≡◌, ◌≢◌, [], Ok, Err, IfOk, IfErr, OnOk};
 ghost use Rattle.tx_galley.specs.declared.errors.GalleyError.TheVariants.{OutOfMemory};
 ghost use Rattle.tx_galley.specs.Contributing.{contributing_all};
@@ -116,11 +117,12 @@ fn exercise_around(
     Ok(next)
 }
 
-/// The page builder is exercised on the pages' list: the one that is being built, or the one around a paragraph. Lists, table and pages
-/// may only be dropped behind an error.
+/// The page builder is exercised on the pages' list: the one that is being built, or the one around a paragraph. Lists, table and
+/// pages may only be dropped behind an error.
 ///
-/// The errors: those of contributions and of firing (`NumberOutOfRange`, `SizeOutOfRange`, `TooDeep`, `InfiniteShrink`, `MissingBox`),
-/// then `OccupiedPageBox`, `SizeOutOfRange` and `TooDeep` of the page's box, and `TooManyDeadCycles`; and want of memory.
+/// The errors: those of contributions and of firing (`NumberOutOfRange`, `SizeOutOfRange`, `TooDeep`, `InfiniteShrink`,
+/// `MissingBox`), then `OccupiedPageBox`, `SizeOutOfRange` and `TooDeep` of the page's box, and `TooManyDeadCycles`; and want of
+/// memory.
 pub fn exercise(
     alloc: Global,
     nest: &mut Nest,

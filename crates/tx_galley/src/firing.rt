@@ -1,4 +1,5 @@
-//! A page is fired: its box, the boxes of insertions, the marks, and whether \output reads it.
+//! A page is fired: its box, the boxes of insertions, the marks, and whether \output reads it (TeX: The Program, sections 1012 to
+//! 1025).
 ghost use Rattle.std.specs.Prelude.{◌≡◌, ◌≢◌, ◌<ℤ◌, Ok, Err, IfOk, IfErr, OnOk};
 ghost use Rattle.tx_output.specs.declared.begun.Begun.TheVariants.{Read};
 ghost use Rattle.tx_pack.specs.declared.types.Packed.{Packed};
@@ -29,7 +30,8 @@ pub enum Next {
     Reads(TokList, i64),
 }
 
-/// The box of a register is this one from now on, at the level at which the register was assigned. Its only error is want of memory.
+/// The box of a register is this one from now on, at the level at which the register was assigned. Its only error is want of
+/// memory.
 pub(crate) fn put_box(
     alloc: Global,
     table: &mut Eqtb,

@@ -1,9 +1,10 @@
-//! What the page builder takes from the table.
+//! What the page builder takes from the table (TeX: The Program, sections 987, 1001 and 1009).
 ghost use Rattle.std.specs.Prelude.{◌≡◌, ◌++◌, IfOk, OnOk};
 ghost use Rattle.tx_node.specs.Nodes.{item_of};
 ghost use Rattle.tx_galley.specs.Params as spec;
 
 use std::alloc::{AllocError, Global};
+use tx_box::whole_size;
 use tx_eqtb::Eqtb;
 use tx_node::{BoxNode, Direction, Node};
 use tx_pagebuilder::{BoxList, Class, ClassBox, ClassParams, PageParams};
@@ -15,14 +16,6 @@ pub(crate) fn is_integer(number: i64) -> bool
     ensures { result ≡ spec.is_integer number }
 {
     number.unsigned_abs() < 1 << 31
-}
-
-/// The height and depth of a box together, in sp.
-fn whole_size(found: &BoxNode) -> i64
-    ensures { result ≡ spec.whole_size found.now.head }
-{
-    let head = found.head();
-    i64::from(head.height) + i64::from(head.depth)
 }
 
 /// Whether a box is an \hbox.

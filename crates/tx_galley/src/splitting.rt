@@ -1,4 +1,4 @@
-//! \vsplit.
+//! \vsplit (TeX: The Program, sections 977 to 979).
 ghost use Rattle.std.specs.Prelude.{◌≡◌, ◌≢◌, Ok, Err, IfOk, IfErr, OnOk};
 ghost use Rattle.tx_num.specs.Glue.{IsDimension};
 ghost use Rattle.tx_galley.specs.declared.errors.GalleyError.TheVariants.{OutOfMemory};
@@ -12,13 +12,11 @@ use tx_box::down;
 use tx_eqtb::{BoxContents, Entry, Eqtb};
 use tx_insert::{Split, split};
 use tx_node::{Direction, Nodes};
+use tx_num::{GREATEST_DIMENSION, fits};
 use tx_output::Pages;
-use tx_pack::{Goal, PackParams, Packed, fits, vpack};
+use tx_pack::{Goal, PackParams, Packed, vpack};
 use tx_prim::{DimensionParameter, GlueParameter};
 use tx_seen::{Place, TexError};
-
-/// The greatest dimension, in sp.
-const GREATEST_SIZE: i64 = 1_073_741_823;
 
 /// What remains of a box that is split stands in its register, naturally packed; the register is void where nothing remains.
 fn keep_rest(alloc: Global, table: &mut Eqtb, register: u8, rest: Nodes) -> Result<(), GalleyError>
@@ -28,7 +26,7 @@ fn keep_rest(alloc: Global, table: &mut Eqtb, register: u8, rest: Nodes) -> Resu
     if rest.len() == 0 {
         return Ok(table.replace(Place::Box(register), Entry::Box(BoxContents::void()))?);
     }
-    let packed = vpack(alloc, rest, Goal::Natural, GREATEST_SIZE, &down(table))?;
+    let packed = vpack(alloc, rest, Goal::Natural, GREATEST_DIMENSION, &down(table))?;
     Ok(put_box(alloc, table, register, packed.node)?)
 }
 
@@ -113,12 +111,12 @@ fn split_vertical(
     }
 }
 
-/// \vsplit of a register to so many sp (TeX: The Program, section 977): what stands in its box up to the best break is answered as a
-/// box, None where the register is void; what remains stands in the register, and the marks of the split are those of what was
+/// \vsplit of a register to so many sp (TeX: The Program, section 977): what stands in its box up to the best break is answered as
+/// a box, None where the register is void; what remains stands in the register, and the marks of the split are those of what was
 /// split off. Table and marks may only be dropped behind an error.
 ///
-/// The errors: `MissingBox` where the register has an \hbox; `SizeOutOfRange` and `InfiniteShrink` of the split; `SizeOutOfRange` and
-/// `TooDeep` of the boxes; and want of memory.
+/// The errors: `MissingBox` where the register has an \hbox; `SizeOutOfRange` and `InfiniteShrink` of the split; `SizeOutOfRange`
+/// and `TooDeep` of the boxes; and want of memory.
 pub fn split_box(
     alloc: Global,
     table: &mut Eqtb,

@@ -1,3 +1,4 @@
+//! The files of a document that is made.
 use tx_bytes::Bytes;
 
 /// Files that are made: a document, the metrics of its font, and a script of edits of the document.

@@ -4,8 +4,8 @@
 //! Proved: `points` gives exactly the places of the exceptions or of the greatest levels, `add` and `except` answer as the
 //! definitions of their texts say. Only tested: that these are Knuth's, on words that his program divides.
 //!
-//! To be read in this order: what a text spells, the tree of letters, spellings by their letters, the list of places,
-//! why a text is refused, the whole.
+//! Read `spelling` (what a text spells), `trie` (the tree of letters), `lexicon` (spellings by their letters), `places` (the list
+//! of places), `error` and `reading` (why a text is refused), and then `hyphens`, the whole.
 #![tactic(auto)]
 
 pub mod error;

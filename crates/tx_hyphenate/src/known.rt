@@ -44,8 +44,8 @@ impl Hyphenation {
         })
     }
 
-    /// Adds the patterns that the texts of a \patterns spell, where `lower` holds the 256 \lccodes. Its errors are those of the first
-    /// text that is refused, and want of memory; after one, what is known may only be dropped.
+    /// Adds the patterns that the texts of a \patterns spell, where `lower` holds the 256 \lccodes. Its errors are those of the
+    /// first text that is refused, and want of memory; after one, what is known may only be dropped.
     pub fn add_patterns(
         &mut self,
         alloc: Global,
@@ -63,8 +63,8 @@ impl Hyphenation {
         Ok(())
     }
 
-    /// Adds the exceptions that the words of a \hyphenation spell, where `lower` holds the 256 \lccodes. Its errors are those of the
-    /// first word that is refused, and want of memory; after one, what is known may only be dropped.
+    /// Adds the exceptions that the words of a \hyphenation spell, where `lower` holds the 256 \lccodes. Its errors are those of
+    /// the first word that is refused, and want of memory; after one, what is known may only be dropped.
     pub fn add_exceptions(
         &mut self,
         alloc: Global,

@@ -65,7 +65,8 @@ pub(crate) fn word_places(
     hyphens.points(alloc, letters.as_slice(), params.left, params.right)
 }
 
-/// Places behind `count` more characters, in a run of `length`: each between two characters of it. Its only error is want of memory.
+/// Places behind `count` more characters, in a run of `length`: each between two characters of it. Its only error is want of
+/// memory.
 pub(crate) fn moved(
     alloc: Global,
     count: usize,

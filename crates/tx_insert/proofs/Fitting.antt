@@ -4,7 +4,8 @@ use Rattle.std.proofs.lemmas.Bool.Decides.{nat_tests}
 use Rattle.tx_num.specs.Glue.{IsDimension}
 use Rattle.tx_insert.specs.declared.error.SplitError.TheVariants.{SizeOutOfRange}
 use Rattle.tx_insert.specs.declared.sums.Sums.{Sums}
-use Rattle.tx_insert.specs.Sums.{IsSmall, fits, sizes_fit, glue_fits, all_fit, if_fits}
+use Rattle.tx_num.specs.Limits.{fits}
+use Rattle.tx_insert.specs.Sums.{IsSmall, sizes_fit, glue_fits, all_fit, if_fits}
 
 fit : (sums : Sums) (all : Bool) → all ≡ true → Ok sums ≡ (if all then Ok sums else Err SizeOutOfRange)
 fit sums true e = refl

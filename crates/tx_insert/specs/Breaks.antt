@@ -9,7 +9,8 @@ use Rattle.tx_insert.specs.declared.sums.Sums.{Sums}
 use Rattle.tx_insert.specs.declared.trial.Break.{Break}
 use Rattle.tx_insert.specs.declared.trial.Trial.{Trial}
 use Rattle.tx_insert.specs.Kinds.{kinds_of, stays, begins_with_glue, penalty_at, is_endless}
-use Rattle.tx_insert.specs.Sums.{no_sums, with_item, fits}
+use Rattle.tx_num.specs.Limits.{fits}
+use Rattle.tx_insert.specs.Sums.{no_sums, with_item}
 use Rattle.tx_insert.specs.Costs.{awful, trial_at}
 
 -- a break, if there is a legal one, before others

@@ -15,7 +15,7 @@ use Rattle.tx_insert.specs.declared.kind.Kind.TheVariants.{Solid, Skip, Kern, Pe
 use Rattle.tx_insert.specs.declared.answer.Split.{Split}
 use Rattle.tx_insert.specs.declared.trial.Break.{Break}
 use Rattle.tx_insert.specs.Kinds.{kind_of}
-use Rattle.tx_insert.specs.Sums.{fits}
+use Rattle.tx_num.specs.Limits.{fits}
 use Rattle.tx_insert.specs.Breaks.{break_of}
 
 -- the tokens of an item that is a mark

@@ -1,6 +1,7 @@
 -- What the items before a place have together (TeX: The Program, sections 970, 972, 973 and 976; of a page, sections 1002 to 1004).
-use Rattle.std.specs.Prelude.{ℕ, Bool, ◌&&◌, nat_lt, ◌^◌, ℤ, pos, ◌+ℤ◌, ◌-ℤ◌, int_lt, unsigned_abs, Result, Ok, Err, if◌then◌else◌}
+use Rattle.std.specs.Prelude.{ℕ, Bool, ◌&&◌, ℤ, pos, ◌+ℤ◌, ◌-ℤ◌, int_lt, Result, Ok, Err, if◌then◌else◌}
 use Rattle.tx_num.specs.Glue.{GlueSpec, IsDimension}
+use Rattle.tx_num.specs.Limits.{fits}
 use Rattle.tx_node.specs.declared.head.Change.TheVariants.{Stretch}
 use Rattle.tx_node.specs.Setting.{glue_part}
 use Rattle.tx_insert.specs.declared.error.SplitError.{SplitError}
@@ -46,9 +47,6 @@ abbrev pub carried : ℤ → Sums → Sums
 carried most sums = if int_lt most sums.depth then record sums { height = sums.height +ℤ sums.depth -ℤ most; depth = most } else sums
 
 -- all sums are dimensions
-abbrev pub fits : ℤ → Bool
-fits size = nat_lt (unsigned_abs size) (2 ^ 30)
-
 abbrev pub sizes_fit : Sums → Bool
 sizes_fit sums = fits sums.height && fits sums.depth
 

@@ -7,10 +7,10 @@ ghost use Rattle.tx_insert.specs.Sums.{IsSmall};
 
 use crate::error::SplitError;
 use crate::kind::{begins_with_glue, is_endless, kind_of, penalty_at, stays};
-use crate::sums::{Sums, fits, no_sums, with_item};
+use crate::sums::{Sums, no_sums, with_item};
 use crate::trial::{Break, Trial, better, no_break, trial_at};
 use tx_node::Node;
-use tx_num::Scaled;
+use tx_num::{Scaled, fits};
 
 /// The break, whose size has to be a dimension.
 fn sized(made: Break) -> Result<Break, SplitError>

@@ -9,10 +9,9 @@ ghost use Rattle.tx_insert.specs.Splits as spec;
 
 use crate::error::SplitError;
 use crate::kind::{Kind, kind_of};
-use crate::sums::fits;
 use std::alloc::{AllocError, Global};
 use tx_node::{Node, Nodes, Plain};
-use tx_num::Glue;
+use tx_num::{Glue, fits};
 
 /// The height of a box or a rule, in sp, None of other items.
 fn solid_height(node: &Node) -> Option<i32>

@@ -7,7 +7,7 @@ ghost use Rattle.tx_insert.specs.Sums as spec;
 use crate::error::SplitError;
 use crate::kind::Kind;
 use tx_node::{Change, glue_part};
-use tx_num::{Glue, Scaled};
+use tx_num::{Glue, Scaled, fits};
 
 /// What the items before a place have together, in sp: their height with all depths but the last, this depth, their stretch by its
 /// order, and their shrink.
@@ -150,13 +150,6 @@ fn carried(most: Scaled, sums: &Sums) -> Sums
         more.depth = most;
     }
     more
-}
-
-/// Whether a size is a dimension.
-pub fn fits(size: i64) -> bool
-    ensures value { result ≡ spec.fits size }
-{
-    size.unsigned_abs() < 1 << 30
 }
 
 fn sizes_fit(sums: &Sums) -> bool

@@ -1,3 +1,4 @@
+//! Why something failed at the real edge.
 use std::alloc::Global;
 use std::io;
 use tx_bytes::Bytes;

@@ -1,3 +1,4 @@
+//! Standard output and the current folder, as a sink.
 ghost use Rattle.std.specs.Prelude.{◌≡◌, None};
 ghost use Rattle.tx_io.specs.Sink.{PutCause};
 

@@ -1,3 +1,4 @@
+//! The current folder, as a source.
 ghost use Rattle.std.specs.Prelude.{◌≡◌, false, None};
 ghost use Rattle.tx_io.specs.Source.{FetchCause};
 ghost use Rattle.tx_io.specs.Names.{is_name};

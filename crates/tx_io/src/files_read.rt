@@ -1,3 +1,4 @@
+//! Which files a call has read, so that it saves over none of them.
 use crate::names::path_of;
 use std::alloc::{AllocError, Global};
 use std::cell::RefCell;

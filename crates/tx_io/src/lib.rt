@@ -4,7 +4,7 @@
 //! Proved: what each answer says of content and counts, of those in memory; of the real ones, counts alone. Only tested:
 //! real files. Trusted: std's file calls.
 //!
-//! Read `source` and `sink`, then the implementations: `steady` and `memory`, over `file_map`, and the real ones,
+//! Read `names`, `source` and `sink`, then the implementations: `steady` and `memory`, over `file_map`, and the real ones,
 //! `dir_source` and `dir_sink`, which keep the cause of a fault (`cause`), share what was read (`files_read`) and save
 //! beside the place (`saving`).
 #![tactic(auto)]

@@ -1,3 +1,4 @@
+//! A source and a sink in memory that fail where they are told to.
 ghost use Rattle.std.specs.Prelude.{◌≡◌, ◌↔◌, [], Some, None, IfSome, OnOk, OnErr, IsTrue};
 ghost use Rattle.std.specs.FinMap.{empty, insert};
 ghost use Rattle.tx_bytes.specs.Files.{content};

@@ -1,3 +1,4 @@
+//! Which names files may have, and the paths that they are.
 ghost use Rattle.std.specs.Prelude.{◌≡◌};
 ghost use Rattle.std.specs.List.{list_all};
 ghost use Rattle.tx_io.specs.Names.{is_name, is_visible};

@@ -1,3 +1,4 @@
+//! A file is saved beside its place, and then put there.
 use crate::files_read::FilesRead;
 use crate::names::path_of;
 use std::alloc::Global;

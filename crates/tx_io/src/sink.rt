@@ -1,3 +1,4 @@
+//! Where text and files go.
 ghost use Rattle.std.specs.Prelude.{Option, ℕ};
 ghost use Rattle.tx_io.specs.Output.{Output, Say, Save};
 ghost use Rattle.tx_io.specs.Sink.{PutGives, PutCause};

@@ -1,3 +1,4 @@
+//! Where the bytes of files come from.
 ghost use Rattle.std.specs.Prelude.{◌≡◌, Option, ℕ, IfSome};
 ghost use Rattle.tx_bytes.specs.Files.{Files, content};
 ghost use Rattle.tx_io.specs.Source.{FetchGives, FetchCause};

@@ -1,3 +1,4 @@
+//! A source and a sink in memory that never fail.
 ghost use Rattle.std.specs.Prelude.{◌≡◌, Some, IfSome, OnOk, OnErr, []};
 ghost use Rattle.std.specs.FinMap.{empty, insert};
 ghost use Rattle.tx_bytes.specs.Files.{content};

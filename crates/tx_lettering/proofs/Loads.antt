@@ -12,7 +12,7 @@ use Rattle.tx_word.specs.Collecting.{Collecting}
 use Rattle.tx_state.specs.declared.parts.FontRequest.{FontRequest}
 use Rattle.tx_state.specs.declared.state.State.{State}
 use Rattle.tx_state.specs.Meanings.{IsStepped, state_of}
-use Rattle.tx_state.specs.Outcomes.{Outcome, Fails, leaves}
+use Rattle.tx_state.specs.Outcomes.{Outcome, fails, leaves}
 use Rattle.tx_state.specs.State.{TexState}
 use Rattle.tx_state.specs.Ended.{assigned, assigning}
 use Rattle.tx_lettering.specs.Fonts.{can_load, identifier_of, loading, loading_as, loading_from, meant, naming_font, setting_fonts}
@@ -28,7 +28,7 @@ alike s request left bytes (Some rule) = refl
 
 from-alike : (s : TexState) (request : FontRequest) (left : Option (List ℕ)) (bytes : List ℕ) → loading_from s (read_request request left) bytes ≡ loading_from s request bytes
 from-alike s request left bytes =
-    ap (λ (o : Outcome). if can_load s request.name then o else Fails BadFont) (alike s request left bytes (first_broken bytes request.size))
+    ap (λ (o : Outcome). if can_load s request.name then o else fails BadFont) (alike s request left bytes (first_broken bytes request.size))
 
 pub loads : {E : Type 0} (s new : State) (request : FontRequest) (left : Option (List ℕ)) (bytes : List ℕ) (answer : Result Event E) → request.file ≡ Some bytes → IfOk answer (λ event. IsStepped (loading_from (state_of s) (read_request request left) bytes) s event new) → IfOk answer (λ event. IsStepped (loading (state_of s) request request.file) s event new)
 loads s new request left bytes (Ok event) is did = rw (is, ← from-alike (state_of s) request left bytes) did

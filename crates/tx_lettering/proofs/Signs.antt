@@ -5,8 +5,8 @@ use Rattle.std.proofs.lemmas.List.{append-nil, append_assoc}
 use Rattle.tx_char.specs.declared.tokens.Token.{Token}
 use Rattle.tx_eqtb.specs.declared.table.Table.{Table}
 use Rattle.tx_eqtb.specs.Table.{token_meaning}
-use Rattle.tx_lettering.specs.declared.hyphens.Sign.{Sign}
-use Rattle.tx_lettering.specs.declared.hyphens.Sign.TheVariants.{Letter, Blank, Wrong}
+use Rattle.tx_lettering.specs.declared.hyphens.TextSign.{TextSign}
+use Rattle.tx_lettering.specs.declared.hyphens.TextSign.TheVariants.{Letter, Blank, Wrong}
 use Rattle.tx_lettering.specs.Hyphens.{sign_of, with_sign, words_of}
 
 -- words with the first of others behind one that is open
@@ -21,7 +21,7 @@ led words begun behind = words ++ joined begun behind
 abbrev pub IsFull : Option (List (List ℕ)) → Type 0
 IsFull words = IfSome words (λ (rest : List (List ℕ)). joined [] rest ≡ rest)
 
-full-sign : (sign : Sign) (words : Option (List (List ℕ))) → IsFull (with_sign sign words)
+full-sign : (sign : TextSign) (words : Option (List (List ℕ))) → IsFull (with_sign sign words)
 full-sign sign None = tt
 full-sign (Letter code) (Some []) = refl
 full-sign (Letter code) (Some (word ∷ words)) = refl
@@ -55,12 +55,12 @@ on-wrong words begun None = refl
 on-wrong words begun (Some rest) = refl
 
 -- what is left begins with a token that is this sign
-led-by : (table : Table) (numbers : Bool) (words : List (List ℕ)) (begun : List ℕ) (token : Token) (here rest all : List Token) (sign : Sign)
+led-by : (table : Table) (numbers : Bool) (words : List (List ℕ)) (begun : List ℕ) (token : Token) (here rest all : List Token) (sign : TextSign)
     → here ≡ token ∷ rest → sign_of numbers (token_meaning table token) ≡ sign
     → option_map (led words begun) (words_of table numbers here) ≡ words_of table numbers all
     → option_map (led words begun) (with_sign sign (words_of table numbers rest)) ≡ words_of table numbers all
 led-by table numbers words begun token here rest all sign is means so_far =
-    ap (λ (s : Sign). option_map (led words begun) (with_sign s (words_of table numbers rest))) (sym means)
+    ap (λ (s : TextSign). option_map (led words begun) (with_sign s (words_of table numbers rest))) (sym means)
     ∙ ap (λ (ts : List Token). option_map (led words begun) (words_of table numbers ts)) (sym is)
     ∙ so_far
 

@@ -28,7 +28,7 @@ use Rattle.tx_state.specs.declared.parts.Due.TheVariants.{LoadFont as LoadFont_d
 use Rattle.tx_state.specs.declared.parts.FontRequest.{FontRequest}
 use Rattle.tx_state.specs.Ended.{assigned, assigning, integer, naming}
 use Rattle.tx_state.specs.State.{TexState}
-use Rattle.tx_state.specs.Outcomes.{Outcome, Asks, Fails, leaves}
+use Rattle.tx_state.specs.Outcomes.{Outcome, Asks, fails, leaves}
 use Rattle.tx_lettering.specs.Words.{current_font}
 
 -- \fontdimen, \hyphenchar and \skewchar change the fonts, in all groups (section 1253)
@@ -90,15 +90,15 @@ can_load s name = nat_lt (length s.words.fonts) 256 && nat_le (length name) 255
 
 -- the font of a file, if its bytes are those of one (section 560)
 abbrev pub loading_as : TexState → FontRequest → List ℕ → Option ℕ → Outcome
-loading_as s request bytes (Some rule) = Fails BadFont
+loading_as s request bytes (Some rule) = fails BadFont
 loading_as s request bytes None = naming_font (with_font s (font_of_file request bytes)) request.defined request.global (length s.words.fonts)
 
 abbrev pub loading_from : TexState → FontRequest → List ℕ → Outcome
-loading_from s request bytes = if can_load s request.name then loading_as s request bytes (first_broken bytes request.size) else Fails BadFont
+loading_from s request bytes = if can_load s request.name then loading_as s request bytes (first_broken bytes request.size) else fails BadFont
 
 -- what comes of the reply, which may be that there is no such file
 abbrev pub loading : TexState → FontRequest → Option (List ℕ) → Outcome
-loading s request None = Fails BadFont
+loading s request None = fails BadFont
 loading s request (Some bytes) = loading_from s request bytes
 
 -- \font and the name that it defines, which means \nullfont until the font is found (section 1257)

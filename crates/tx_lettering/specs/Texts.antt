@@ -1,5 +1,5 @@
 -- What becomes of texts that are read whole (TeX: The Program, sections 1218, 1226, 1279 and 1288).
-use Rattle.std.specs.Prelude.{ℕ, Bool, true, false, ◌||◌, List, [], ◌∷◌, ◌++◌, map, Option, Some, None, codes, if◌then◌else◌}
+use Rattle.std.specs.Prelude.{ℕ, true, false, ◌||◌, List, [], ◌∷◌, ◌++◌, map, Option, Some, None, codes, if◌then◌else◌}
 use Rattle.tx_char.specs.declared.tokens.Token.{Token}
 use Rattle.tx_node.specs.declared.plain.Shared.TheVariants as large
 use Rattle.tx_node.specs.Items.{shared}
@@ -7,6 +7,8 @@ use Rattle.tx_eqtb.specs.declared.entry.Entry.TheVariants.{Means}
 use Rattle.tx_eqtb.specs.Stack.{assigned as table_assigned}
 use Rattle.tx_expand.specs.Expanding.{escape_of}
 use Rattle.tx_expand.specs.Turns.{put}
+use Rattle.tx_prim.specs.declared.family.CharacterCode.{CharacterCode}
+use Rattle.tx_prim.specs.declared.family.CharacterCode.TheVariants.{UpperCase, LowerCase}
 use Rattle.tx_prim.specs.declared.family.DefinitionKind.{DefinitionKind}
 use Rattle.tx_prim.specs.declared.family.TextUse.{TextUse}
 use Rattle.tx_prim.specs.declared.family.TextUse.TheVariants as purposes
@@ -27,9 +29,9 @@ use Rattle.tx_state.specs.declared.parts.OpenText.TheVariants as texts
 use Rattle.tx_state.specs.Ended.{adding, assigning}
 use Rattle.tx_state.specs.State.{TexState}
 use Rattle.tx_lettering.specs.Hyphens.{excepting, is_late, patterning, words_of}
-use Rattle.tx_lettering.specs.Letters.{code_for, token_for}
+use Rattle.tx_lettering.specs.Letters.{token_for}
 use Rattle.tx_state.specs.Texts.{absorbed_text, is_global, list_text}
-use Rattle.tx_state.specs.Outcomes.{Outcome, Leaves, Fails, leaves}
+use Rattle.tx_state.specs.Outcomes.{Outcome, Leaves, fails, leaves}
 
 -- the list of tokens that is to stand at a place is taken first
 abbrev pub in_list : TexState → Place → TexState
@@ -54,9 +56,9 @@ message text = codes "message " ++ (text ++ 10 ∷ [])
 abbrev pub printing : TexState → List Token → Outcome
 printing s tokens = Leaves s (message (printed (escape_of s.table) s.table.table.categories s.words.fonts tokens))
 
--- a text is read next, with other letters
-abbrev pub lettering : TexState → Bool → List Token → Outcome
-lettering s upper tokens = leaves (record s { reader = put (map (token_for s.table.table (code_for upper)) tokens) s.reader })
+-- a text is read next, with the letters that these codes tell
+abbrev pub lettering : TexState → CharacterCode → List Token → Outcome
+lettering s kind tokens = leaves (record s { reader = put (map (token_for s.table.table kind) tokens) s.reader })
 
 -- a \special has the bytes that its text has when it is read
 abbrev pub marking : TexState → List Token → Outcome
@@ -65,9 +67,9 @@ marking s tokens = adding s (shared (large.Special (printed (escape_of s.table) 
 -- what becomes of a text in braces
 abbrev pub using_text : TexState → TextUse → List Token → Outcome
 using_text s purposes.Message tokens = printing s tokens
-using_text s purposes.ErrorMessage tokens = Fails ErrorMessage
-using_text s purposes.UpperCase tokens = lettering s true tokens
-using_text s purposes.LowerCase tokens = lettering s false tokens
+using_text s purposes.ErrorMessage tokens = fails ErrorMessage
+using_text s purposes.UpperCase tokens = lettering s UpperCase tokens
+using_text s purposes.LowerCase tokens = lettering s LowerCase tokens
 using_text s purposes.Special tokens = marking s tokens
 using_text s purposes.Patterns tokens = patterning s (words_of s.table.table false tokens)
 using_text s purposes.Hyphenation tokens = excepting s (words_of s.table.table true tokens)
@@ -76,7 +78,7 @@ using_text s purposes.Mark tokens = adding s (shared (large.Mark tokens))
 -- a text in braces begins, unless it comes too late
 abbrev pub beginning_text : TexState → TextUse → Outcome
 beginning_text s purpose =
-    if is_late s.hyphenation purpose then Fails BadHyphenation else leaves (record s { text = Some (absorbed_text purpose) })
+    if is_late s.hyphenation purpose then fails BadHyphenation else leaves (record s { text = Some (absorbed_text purpose) })
 
 -- what becomes of the text that is whole
 abbrev pub ending_text : TexState → Option OpenText → Outcome

@@ -29,9 +29,9 @@ use Rattle.tx_box.specs.declared.parts.Lists.{Lists}
 use Rattle.tx_box.specs.Placing.{with_list}
 use Rattle.tx_box.specs.Sources.{appended}
 use Rattle.tx_command.specs.Commands.{is_begun}
-use Rattle.tx_state.specs.Outcomes.{Outcome, Leaves, Fails, leaves}
+use Rattle.tx_state.specs.Outcomes.{Outcome, Leaves, fails, leaves}
 use Rattle.tx_state.specs.State.{TexState}
-use Rattle.tx_state.specs.Ended.{assigned}
+use Rattle.tx_state.specs.Ended.{adding, assigned}
 
 -- the number of the current font
 abbrev pub current_font : Table → ℕ
@@ -102,8 +102,8 @@ collecting s code factor =
 
 -- glue, if its sizes are dimensions
 abbrev pub gluing : TexState → Option GlueSpec → Outcome
-gluing s None = Fails SizeOutOfRange
-gluing s (Some g) = leaves (with_more s (plain (Glue g) ∷ []))
+gluing s None = fails SizeOutOfRange
+gluing s (Some g) = adding s (plain (Glue g))
 
 -- a space of the current font at a space factor
 abbrev pub space_at : TexState → ℕ → Outcome
@@ -121,11 +121,11 @@ control_spacing s = space_at s plain_factor
 -- \/ behind a character or a ligature is a kern of its italic correction, as if \kern had put it there
 abbrev pub kerning : TexState → Option ℤ → Outcome
 kerning s None = leaves s
-kerning s (Some size) = leaves (with_more s (plain (Kern Explicit size) ∷ []))
+kerning s (Some size) = adding s (plain (Kern Explicit size))
 
 -- in a formula it is a kern of no size (section 1112)
 abbrev pub correcting : TexState → Option ℕ → Outcome
-correcting s None = leaves (with_more s (plain (Kern Implicit (pos 0)) ∷ []))
+correcting s None = adding s (plain (Kern Implicit (pos 0)))
 correcting s (Some factor) = kerning s (last_italic s.words.fonts s.lists.nest.innermost.nodes)
 
 -- `\-' in a horizontal list or in a formula: a word may be broken there, behind the font's hyphen character, of which is told where
@@ -138,10 +138,10 @@ breaking s = breaking_in s (current_font s.table.table)
 
 -- \spacefactor, which may stand in horizontal modes alone (section 1243)
 abbrev pub setting_factor : TexState → Option ℕ → Outcome
-setting_factor s None = Fails NumberOutOfRange
+setting_factor s None = fails NumberOutOfRange
 setting_factor s (Some factor) = leaves (assigned (with_list_factor s factor))
 
 -- behind a prefix it may stand in another mode only to be refused
 abbrev pub setting_factor_of : TexState → ℤ → Option ℕ → Outcome
-setting_factor_of s number None = Fails NotAllowed
+setting_factor_of s number None = fails NotAllowed
 setting_factor_of s number (Some old) = setting_factor s (factor_of number)

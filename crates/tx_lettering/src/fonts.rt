@@ -16,7 +16,7 @@ use tx_eqtb::Entry;
 use tx_machine::{Ask, AskKind, Event};
 use tx_prim::{FontNumber, IntegerParameter, MathSize, Primitive};
 use tx_seen::{FontName, Meaning, Place, TexError};
-use tx_state::{Due, FontRequest, State, ask, assign_so, end_assignment, fail};
+use tx_state::{Due, FontRequest, State, ask, carry_out_assignment, end_assignment, fail};
 use tx_tfm::{Font, FontError, Fonts, NamedFont};
 
 /// The longest name of a file, in bytes.
@@ -32,7 +32,8 @@ fn meant(meaning: Meaning, place: Place) -> Assignment
     }
 }
 
-/// \font and the name that it defines, which means \nullfont until the font is found.
+/// \font and the name that it defines, which means \nullfont until the font is found. Err is want of memory; the event may end the
+/// run by an error, as `defining_font` says.
 pub fn define_font(s: &mut State, defined: Place) -> Result<Event, AllocError>
     requires running { s.old.phase ≡ Phase.Running }
     requires between { s.old.scan.taken ≡ [] }
@@ -72,7 +73,7 @@ fn identifier_of(alloc: Global, defined: &Place) -> Result<Bytes, AllocError>
     }
 }
 
-/// The name of \font means the font of a number, and is its identifier. Its only further error is want of memory.
+/// The name of \font means the font of a number, and is its identifier. Err is want of memory.
 fn name_font(
     alloc: Global,
     s: &mut State,
@@ -85,7 +86,7 @@ fn name_font(
 {
     let identifier = identifier_of(alloc, &defined)?;
     s.words.set_identifier(number, identifier)?;
-    assign_so(s, meant(Meaning::Font(number), defined), global)
+    carry_out_assignment(s, meant(Meaning::Font(number), defined), global)
 }
 
 /// The name of a font's file. Its only error is want of memory.
@@ -97,7 +98,7 @@ fn font_file(name: &Bytes) -> Result<Bytes, AllocError>
     Ok(file)
 }
 
-/// The file of a font that isn't loaded is asked for. Its only error is want of memory.
+/// The file of a font that isn't loaded is asked for. Err is want of memory.
 fn ask_font(s: &mut State, request: FontRequest) -> Result<Event, AllocError>
     requires { s.old.phase ≡ Phase.Running }
     ensures { IfOk result (λ event. IsStepped (spec.finding (state_of s.old) request None) s.old event s.new) }
@@ -107,7 +108,8 @@ fn ask_font(s: &mut State, request: FontRequest) -> Result<Event, AllocError>
     Ok(ask(s, AskKind::Whole, Ask::Whole(file)))
 }
 
-/// \font with all that belongs to it: the font that has the name and the size, or else its file is asked for.
+/// \font with all that belongs to it: the font that has the name and the size, or else its file is asked for. Err is want of
+/// memory; the event may end the run by an error, as `asking_font` says.
 pub fn find_font(
     alloc: Global,
     s: &mut State,
@@ -149,7 +151,7 @@ pub fn with_file(request: FontRequest, bytes: Bytes) -> FontRequest
     }
 }
 
-/// A font more, whose number its name means. Its only further error is want of memory.
+/// A font more, whose number its name means. Err is want of memory.
 fn add_font(
     alloc: Global,
     s: &mut State,
@@ -168,7 +170,7 @@ fn add_font(
     name_font(alloc, s, defined, global, number)
 }
 
-/// The font of these bytes is loaded, if they are those of one. Its only further error is want of memory.
+/// The font of these bytes is loaded, if they are those of one. Err is want of memory.
 fn read_font(
     alloc: Global,
     s: &mut State,
@@ -211,7 +213,7 @@ fn can_load(s: &State, name: &Bytes) -> bool
     has_room(s.words.fonts()) && name.len() <= LONGEST_NAME
 }
 
-/// The font of these bytes is loaded, if one more can be and they are those of one. Its only further error is want of memory.
+/// The font of these bytes is loaded, if one more can be and they are those of one. Err is want of memory.
 fn load_from(
     alloc: Global,
     s: &mut State,
@@ -228,7 +230,8 @@ fn load_from(
     }
 }
 
-/// The font that \font wants is loaded, if its file was found and is one.
+/// The font that \font wants is loaded, if its file was found and is one. Err is want of memory; the event may end the run by an
+/// error, as `loading` says.
 pub fn load_font(alloc: Global, s: &mut State, request: FontRequest) -> Result<Event, AllocError>
     requires { s.old.phase ≡ Phase.Running }
     ensures { IfOk result (λ event. IsStepped (spec.loading (state_of s.old) request request.file) s.old event s.new) }
@@ -250,7 +253,7 @@ fn number_of(s: &State, font: FontName) -> u8
     }
 }
 
-/// An assignment to a \fontdimen.
+/// An assignment to a \fontdimen. Err is want of memory.
 pub fn set_dimension(s: &mut State, font: FontName, n: u16, size: i32) -> Result<Event, AllocError>
     requires { s.old.phase ≡ Phase.Running }
     ensures { IfOk result (λ event. IsStepped (spec.setting_fonts (state_of s.old) (with_font_parameter s.old.words.fonts (spec.number_of (state_of s.old) font) n size)) s.old event s.new) }
@@ -260,7 +263,7 @@ pub fn set_dimension(s: &mut State, font: FontName, n: u16, size: i32) -> Result
     end_assignment(s)
 }
 
-/// An assignment to a \hyphenchar or \skewchar.
+/// An assignment to a \hyphenchar or \skewchar. Err is want of memory.
 pub fn set_integer(
     s: &mut State,
     kind: FontNumber,
@@ -285,7 +288,8 @@ fn in_family(size: MathSize, family: u8, font: u8) -> Assignment
     }
 }
 
-/// An assignment to a \textfont, \scriptfont or \scriptscriptfont.
+/// An assignment to a \textfont, \scriptfont or \scriptscriptfont. Err is want of memory; the event may end the run by an error, as
+/// `setting_family` says.
 pub fn set_family(
     s: &mut State,
     size: MathSize,
@@ -297,5 +301,5 @@ pub fn set_family(
 {
     let number = number_of(s, font);
     let global = s.scan.prefixes().global;
-    assign_so(s, in_family(size, family, number), global)
+    carry_out_assignment(s, in_family(size, family, number), global)
 }

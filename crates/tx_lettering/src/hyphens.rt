@@ -19,7 +19,7 @@ use tx_toklist::Toks;
 
 /// What a token is in such a text.
 #[derive(Clone, Copy)]
-pub enum Sign {
+pub enum TextSign {
     /// A character of a word.
     Letter(u8),
     /// The end of one.
@@ -29,19 +29,19 @@ pub enum Sign {
 }
 
 /// What a token is that means this; `numbers` tells that names of \chardef may stand there.
-fn sign_of(numbers: bool, meaning: &Meaning) -> Sign
+fn sign_of(numbers: bool, meaning: &Meaning) -> TextSign
     ensures { result ≡ spec.sign_of numbers meaning.now }
 {
     match meaning {
-        Meaning::Character(code, Cat::Letter | Cat::Other) => Sign::Letter(*code),
-        Meaning::Character(_, Cat::Space) => Sign::Blank,
-        Meaning::CharacterNumber(code) if numbers => Sign::Letter(*code),
-        _ => Sign::Wrong,
+        Meaning::Character(code, Cat::Letter | Cat::Other) => TextSign::Letter(*code),
+        Meaning::Character(_, Cat::Space) => TextSign::Blank,
+        Meaning::CharacterNumber(code) if numbers => TextSign::Letter(*code),
+        _ => TextSign::Wrong,
     }
 }
 
 /// What a token is in such a text, by what it means in the table. Its only error is want of memory.
-fn sign_at(table: &Eqtb, numbers: bool, token: &Token) -> Result<Sign, AllocError>
+fn sign_at(table: &Eqtb, numbers: bool, token: &Token) -> Result<TextSign, AllocError>
     ensures { IfOk result (λ sign. sign ≡ spec.sign_of numbers (token_meaning table.now.table token.now)) }
 {
     let meaning = table.meaning(token)?;
@@ -49,7 +49,7 @@ fn sign_at(table: &Eqtb, numbers: bool, token: &Token) -> Result<Sign, AllocErro
 }
 
 /// The word that is open ends, and the next one is. Its only error is want of memory.
-fn end_word(alloc: Global, words: &mut Vec<Bytes>, word: &mut Bytes) -> Result<(), AllocError>
+fn keep_word(alloc: Global, words: &mut Vec<Bytes>, word: &mut Bytes) -> Result<(), AllocError>
     ensures words { OnOk result (words.new.items ≡ words.old.items ++ word.old ∷ []) }
     ensures word { OnOk result (word.new ≡ []) }
 {
@@ -71,16 +71,16 @@ fn words_of(
     for token in tokens {
         let sign = sign_at(table, numbers, token)?;
         match sign {
-            Sign::Letter(code) => word.push(code)?,
-            Sign::Blank => end_word(alloc, &mut words, &mut word)?,
-            Sign::Wrong => return Ok(None),
+            TextSign::Letter(code) => word.push(code)?,
+            TextSign::Blank => keep_word(alloc, &mut words, &mut word)?,
+            TextSign::Wrong => return Ok(None),
         }
     }
     words.push(word)?;
     Ok(Some(words))
 }
 
-/// Adds the patterns of these texts. Its only further error is want of memory.
+/// Adds the patterns of these texts. Err is want of memory.
 fn add_patterns(alloc: Global, s: &mut State, texts: &[Bytes]) -> Result<Event, AllocError>
     requires { s.old.phase ≡ Phase.Running }
     ensures { IfOk result (λ event. IsStepped (spec.patterning (state_of s.old) (Some texts.now)) s.old event s.new) }
@@ -95,7 +95,7 @@ fn add_patterns(alloc: Global, s: &mut State, texts: &[Bytes]) -> Result<Event, 
     }
 }
 
-/// Adds the exceptions of these words. Its only further error is want of memory.
+/// Adds the exceptions of these words. Err is want of memory.
 fn add_exceptions(alloc: Global, s: &mut State, words: &[Bytes]) -> Result<Event, AllocError>
     requires { s.old.phase ≡ Phase.Running }
     ensures { IfOk result (λ event. IsStepped (spec.excepting (state_of s.old) (Some words.now)) s.old event s.new) }
@@ -108,7 +108,7 @@ fn add_exceptions(alloc: Global, s: &mut State, words: &[Bytes]) -> Result<Event
     }
 }
 
-/// The text of \patterns that is whole. Its only further error is want of memory.
+/// The text of \patterns that is whole. Err is want of memory.
 pub(crate) fn use_patterns(alloc: Global, s: &mut State, tokens: &Toks) -> Result<Event, AllocError>
     requires { s.old.phase ≡ Phase.Running }
     ensures { IfOk result (λ event. IsStepped (spec.patterning (state_of s.old) (spec.words_of s.old.table.table false tokens.now)) s.old event s.new) }
@@ -119,7 +119,7 @@ pub(crate) fn use_patterns(alloc: Global, s: &mut State, tokens: &Toks) -> Resul
     }
 }
 
-/// The text of \hyphenation that is whole. Its only further error is want of memory.
+/// The text of \hyphenation that is whole. Err is want of memory.
 pub(crate) fn use_exceptions(
     alloc: Global,
     s: &mut State,

@@ -10,17 +10,6 @@ use tx_scan::byte;
 use tx_seen::Place;
 use tx_toklist::Toks;
 
-/// The code that tells which character stands for one in a text with other letters.
-pub(crate) fn code_for(upper: bool) -> CharacterCode
-    ensures { result ≡ spec.code_for upper }
-{
-    if upper {
-        CharacterCode::UpperCase
-    } else {
-        CharacterCode::LowerCase
-    }
-}
-
 /// The character for a character: that of its \uccode or \lccode, where this isn't 0.
 fn letter_for(table: &Eqtb, kind: CharacterCode, code: u8) -> u8
     ensures { result ≡ spec.letter_for table.now.table kind code }

@@ -9,7 +9,7 @@ ghost use Rattle.tx_state.specs.Meanings.{IsStepped, state_of};
 ghost use Rattle.tx_state.specs.Texts.{definition_text, is_global as global_kind};
 
 use crate::hyphens::{is_late, use_exceptions, use_patterns};
-use crate::letters::{code_for, with_letters};
+use crate::letters::with_letters;
 use std::alloc::{AllocError, Global};
 use std::mem;
 use tx_assign::{Assignment, Change, with_text};
@@ -21,9 +21,9 @@ use tx_eqtb::Entry;
 use tx_expand::escape_of;
 use tx_machine::Event;
 use tx_node::{Node, Shared};
-use tx_prim::{DefinitionKind, Primitive, TextUse};
+use tx_prim::{CharacterCode, DefinitionKind, Primitive, TextUse};
 use tx_seen::{Meaning, Place, TexError};
-use tx_state::{OpenText, Phase, State, add, assign_so, fail, is_global};
+use tx_state::{OpenText, Phase, State, add, carry_out_assignment, fail, is_global};
 use tx_text::{DefinitionScan, TextScan};
 use tx_toklist::{TokList, Toks};
 
@@ -72,7 +72,7 @@ fn defines_globally(prefixes: Prefixes, kind: DefinitionKind) -> bool
     prefixes.global || is_global(kind)
 }
 
-/// The place means the macro of a definition that is whole. Its only further error is want of memory.
+/// The place means the macro of a definition that is whole. Err is want of memory.
 fn end_definition(
     alloc: Global,
     s: &mut State,
@@ -90,16 +90,16 @@ fn end_definition(
         place: defined,
         change: Change::Set(Entry::Means(Meaning::Macro(made))),
     };
-    assign_so(s, assignment, global)
+    carry_out_assignment(s, assignment, global)
 }
 
-/// The list of tokens that is whole stands at this place. Its only further error is want of memory.
+/// The list of tokens that is whole stands at this place. Err is want of memory.
 fn end_list(alloc: Global, s: &mut State, place: Place, scan: TextScan) -> Result<Event, AllocError>
     requires { s.old.phase ≡ Phase.Running }
     ensures { IfOk result (λ event. IsStepped (spec.listing (state_of s.old) place scan.tokens) s.old event s.new) }
 {
     let global = s.scan.prefixes().global;
-    assign_so(s, with_text(alloc, place, scan.into_tokens())?, global)
+    carry_out_assignment(s, with_text(alloc, place, scan.into_tokens())?, global)
 }
 
 /// Puts the line of a message into the transcript. Its only error is want of memory.
@@ -112,7 +112,7 @@ fn report_message(said: &mut Bytes, text: &[u8]) -> Result<(), AllocError>
     said.append(b"\n")
 }
 
-/// Prints the text of \message. Its only error is want of memory.
+/// Prints the text of \message. Err is want of memory.
 fn print_message(alloc: Global, s: &mut State, tokens: &Toks) -> Result<Event, AllocError>
     requires { s.old.phase ≡ Phase.Running }
     ensures { IfOk result (λ event. IsStepped (spec.printing (state_of s.old) tokens.now) s.old event s.new) }
@@ -128,7 +128,7 @@ fn print_message(alloc: Global, s: &mut State, tokens: &Toks) -> Result<Event, A
     Ok(Event::Went)
 }
 
-/// Appends a \special with these bytes. Its only error is want of memory.
+/// Appends a \special with these bytes. Err is want of memory.
 fn add_special(alloc: Global, s: &mut State, tokens: &Toks) -> Result<Event, AllocError>
     requires { s.old.phase ≡ Phase.Running }
     ensures { IfOk result (λ event. IsStepped (spec.marking (state_of s.old) tokens.now) s.old event s.new) }
@@ -144,7 +144,7 @@ fn add_special(alloc: Global, s: &mut State, tokens: &Toks) -> Result<Event, All
     add(s, node)
 }
 
-/// Appends a mark with these tokens. Its only error is want of memory.
+/// Appends a mark with these tokens. Err is want of memory.
 fn add_mark(alloc: Global, s: &mut State, tokens: Toks) -> Result<Event, AllocError>
     requires { s.old.phase ≡ Phase.Running }
     ensures { IfOk result (λ event. IsStepped (adding (state_of s.old) (shared (Shared.Mark tokens))) s.old event s.new) }
@@ -154,22 +154,22 @@ fn add_mark(alloc: Global, s: &mut State, tokens: Toks) -> Result<Event, AllocEr
     add(s, node)
 }
 
-/// The text of \uppercase or \lowercase is read next, with other letters. Its only error is want of memory.
+/// The text of \uppercase or \lowercase is read next, with the letters that these codes tell. Err is want of memory.
 fn change_letters(
     alloc: Global,
     s: &mut State,
-    upper: bool,
+    kind: CharacterCode,
     tokens: Toks,
 ) -> Result<Event, AllocError>
     requires { s.old.phase ≡ Phase.Running }
-    ensures { IfOk result (λ event. IsStepped (spec.lettering (state_of s.old) upper tokens) s.old event s.new) }
+    ensures { IfOk result (λ event. IsStepped (spec.lettering (state_of s.old) kind tokens) s.old event s.new) }
 {
-    let changed = with_letters(alloc, &s.table, code_for(upper), tokens)?;
+    let changed = with_letters(alloc, &s.table, kind, tokens)?;
     s.input.push_list(TokList::from_toks(alloc, changed)?)?;
     Ok(Event::Went)
 }
 
-/// What becomes of a text in braces that is whole. Its only further error is want of memory.
+/// What becomes of a text in braces that is whole. Err is want of memory.
 fn use_text(
     alloc: Global,
     s: &mut State,
@@ -183,8 +183,8 @@ fn use_text(
     match purpose {
         TextUse::Message => print_message(alloc, s, &tokens),
         TextUse::ErrorMessage => Ok(fail(s, TexError::ErrorMessage)),
-        TextUse::UpperCase => change_letters(alloc, s, true, tokens),
-        TextUse::LowerCase => change_letters(alloc, s, false, tokens),
+        TextUse::UpperCase => change_letters(alloc, s, CharacterCode::UpperCase, tokens),
+        TextUse::LowerCase => change_letters(alloc, s, CharacterCode::LowerCase, tokens),
         TextUse::Special => add_special(alloc, s, &tokens),
         TextUse::Patterns => use_patterns(alloc, s, &tokens),
         TextUse::Hyphenation => use_exceptions(alloc, s, &tokens),
@@ -192,7 +192,7 @@ fn use_text(
     }
 }
 
-/// What becomes of the text that is whole. Its only further error is want of memory.
+/// What becomes of the text that is whole. Err is want of memory; the event may end the run by an error, as `ending_text` says.
 pub fn end_text(alloc: Global, s: &mut State) -> Result<Event, AllocError>
     requires { s.old.phase ≡ Phase.Running }
     ensures { IfOk result (λ event. IsStepped (spec.ending_text (state_of s.old) s.old.text) s.old event s.new) }
@@ -207,8 +207,7 @@ pub fn end_text(alloc: Global, s: &mut State) -> Result<Event, AllocError>
     }
 }
 
-/// The name that \csname has made means \relax from now on, locally (TeX: The Program, section 372). Its only error is want of
-/// memory.
+/// The name that \csname has made means \relax from now on, locally (TeX: The Program, section 372). Err is want of memory.
 #[inline(never)]
 pub fn relax_name(s: &mut State, name: ControlName) -> Result<Event, AllocError>
     requires { s.old.phase ≡ Phase.Running }

@@ -30,7 +30,7 @@ pub fn current_font(table: &Eqtb) -> u8
     table.font()
 }
 
-/// The \sfcode of a character, 0 where it is no space factor.
+/// The \sfcode of a character; 0 where that is no space factor, which leaves the list's as it is (section 1034).
 #[inline(always)]
 fn space_code(table: &Eqtb, code: u8) -> u16
     ensures value { result ≡ spec.space_code table.now.table code }
@@ -141,7 +141,7 @@ fn report(s: &mut State, code: u8, lacking: Option<u8>) -> Result<(), AllocError
     }
 }
 
-/// A character of a horizontal list with this space factor.
+/// A character of a horizontal list with this space factor. Err is want of memory.
 pub fn collect(
     alloc: Global,
     s: &mut State,
@@ -159,7 +159,7 @@ pub fn collect(
     Ok(Event::Went)
 }
 
-/// A space of the current font at a space factor.
+/// A space of the current font at a space factor. Err is want of memory.
 fn space_at(s: &mut State, factor: SpaceFactor) -> Result<Event, AllocError>
     requires { s.old.phase ≡ Phase.Running }
     ensures { IfOk result (λ event. IsStepped (spec.space_at (state_of s.old) factor) s.old event s.new) }
@@ -172,7 +172,7 @@ fn space_at(s: &mut State, factor: SpaceFactor) -> Result<Event, AllocError>
     }
 }
 
-/// A space token.
+/// A space token. Err is want of memory; the event may end the run by an error, as `spacing` says.
 #[inline(never)]
 pub fn space(s: &mut State) -> Result<Event, AllocError>
     requires { s.old.phase ≡ Phase.Running }
@@ -184,7 +184,7 @@ pub fn space(s: &mut State) -> Result<Event, AllocError>
     }
 }
 
-/// `\ `.
+/// `\ `. Err is want of memory; the event may end the run by an error, as `control_spacing` says.
 pub fn control_space(s: &mut State) -> Result<Event, AllocError>
     requires { s.old.phase ≡ Phase.Running }
     ensures { IfOk result (λ event. IsStepped (spec.control_spacing (state_of s.old)) s.old event s.new) }
@@ -192,7 +192,7 @@ pub fn control_space(s: &mut State) -> Result<Event, AllocError>
     space_at(s, SpaceFactor::plain())
 }
 
-/// The kern of `\/` in a horizontal list, where a character or a ligature stands last.
+/// The kern of `\/` in a horizontal list, where a character or a ligature stands last. Err is want of memory.
 fn add_italic(s: &mut State) -> Result<Event, AllocError>
     requires { s.old.phase ≡ Phase.Running }
     ensures { IfOk result (λ event. IsStepped (spec.kerning (state_of s.old) (italic_of_last s.old.words.fonts s.old.lists.nest.innermost.nodes)) s.old event s.new) }
@@ -203,7 +203,7 @@ fn add_italic(s: &mut State) -> Result<Event, AllocError>
     }
 }
 
-/// `\/`.
+/// `\/`. Err is want of memory.
 pub fn correct_italic(s: &mut State) -> Result<Event, AllocError>
     requires { s.old.phase ≡ Phase.Running }
     ensures { IfOk result (λ event. IsStepped (spec.correcting (state_of s.old) (spec.factor_now (state_of s.old))) s.old event s.new) }
@@ -221,7 +221,7 @@ fn report_hyphen(s: &mut State, font: u8, lacking: Option<u8>) -> Result<(), All
     report_lacking(&mut s.said, s.words.fonts(), font, lacking)
 }
 
-/// A place in the list where a word may be broken.
+/// A place in the list where a word may be broken. Err is want of memory.
 fn add_break(alloc: Global, s: &mut State) -> Result<Event, AllocError>
     requires { s.old.phase ≡ Phase.Running }
     ensures { IfOk result (λ event. IsStepped (spec.breaking_in (state_of s.old) (spec.current_font s.old.table.table)) s.old event s.new) }
@@ -233,7 +233,7 @@ fn add_break(alloc: Global, s: &mut State) -> Result<Event, AllocError>
     Ok(Event::Went)
 }
 
-/// `\-`.
+/// `\-`. Err is want of memory.
 pub fn break_word(alloc: Global, s: &mut State) -> Result<Event, AllocError>
     requires { s.old.phase ≡ Phase.Running }
     ensures { IfOk result (λ event. IsStepped (spec.breaking (state_of s.old)) s.old event s.new) }
@@ -241,7 +241,7 @@ pub fn break_word(alloc: Global, s: &mut State) -> Result<Event, AllocError>
     add_break(alloc, s)
 }
 
-/// The number is the space factor of a horizontal list.
+/// The number is the space factor of a horizontal list. Err is want of memory.
 fn set_factor_to(s: &mut State, number: i32) -> Result<Event, AllocError>
     requires { s.old.phase ≡ Phase.Running }
     ensures { IfOk result (λ event. IsStepped (spec.setting_factor (state_of s.old) (factor_of number)) s.old event s.new) }
@@ -255,7 +255,8 @@ fn set_factor_to(s: &mut State, number: i32) -> Result<Event, AllocError>
     }
 }
 
-/// An assignment to \spacefactor, which only horizontal lists have.
+/// An assignment to \spacefactor, which only horizontal lists have. Err is want of memory; the event may end the run by an error,
+/// as `setting_factor_of` says.
 pub fn set_factor(s: &mut State, number: i32) -> Result<Event, AllocError>
     requires { s.old.phase ≡ Phase.Running }
     ensures { IfOk result (λ event. IsStepped (spec.setting_factor_of (state_of s.old) number (spec.factor_now (state_of s.old))) s.old event s.new) }

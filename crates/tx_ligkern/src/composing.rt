@@ -1,3 +1,4 @@
+//! A whole word by the ligatures and kerns of its font.
 ghost use Rattle.std.specs.Prelude.{◌≡◌, ◌∷◌, List, reverse, All, IsTrue, IfOk};
 ghost use Rattle.tx_tfm.specs.Format.{is_there};
 ghost use Rattle.tx_ligkern.specs.Composing.{AllWordsEnd, Becomes};

@@ -64,7 +64,8 @@ impl Task<'_> {
         penalty_past(self.params, self.pass, context, &self.pieces[place], next)
     }
 
-    /// Tries the lines to a break with this penalty (TeX: The Program, section 829), and makes `links` those of the chains that are made.
+    /// Tries the lines to a break with this penalty (TeX: The Program, section 829), and makes `links` those of the chains that are
+    /// made.
     fn try_break(
         &self,
         chains: &Chains,

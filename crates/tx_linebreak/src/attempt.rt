@@ -17,8 +17,8 @@ use crate::totals::Totals;
 use crate::trial::{Start, Trial};
 use tx_num::Scaled;
 
-/// A pass over a list: its pieces, the totals before each of its places, where lines start, the shapes of lines, the parameters, and what stands
-/// in each line.
+/// A pass over a list: its pieces, the totals before each of its places, where lines start, the shapes of lines, the parameters,
+/// and what stands in each line.
 #[derive(Clone, Copy)]
 pub(crate) struct Task<'a> {
     pub pieces: &'a [Piece],

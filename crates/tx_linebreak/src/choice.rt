@@ -175,8 +175,8 @@ pub fn breaks(
     Ok(choose(alloc, list, sums, starts, shape.as_slice(), params)?)
 }
 
-/// The breaks of the first pass alone, as `breaks` answers them; None where this pass isn't made, or has no chain, so that words are
-/// to be hyphenated for the others (TeX: The Program, section 863). The list ends as for `breaks`, and there is a shape.
+/// The breaks of the first pass alone, as `breaks` answers them; None where this pass isn't made, or has no chain, so that words
+/// are to be hyphenated for the others (TeX: The Program, section 863). The list ends as for `breaks`, and there is a shape.
 ///
 /// Its errors are those of `breaks`.
 pub fn first_breaks(

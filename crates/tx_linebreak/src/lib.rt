@@ -7,8 +7,8 @@
 //! that has one; it is enough to keep the best chain of each candidate. Only tested: that the definitions are TeX's, on
 //! paragraphs that Knuth's program breaks at the same places.
 //!
-//! Modules in reading order: `piece`, `params`, `answer`, `error`; `legal`, `totals`, `starts`, `fit`, `demerits`, `attempt`; `line`,
-//! `link`, `chains`, `offers`; `trial`, `trials`, `reach`, `advance`; `best`, `told`, `endless`, `ended`, `choice`; `law`.
+//! Modules in reading order: `piece`, `params`, `answer`, `error`; `legal`, `totals`, `starts`, `fit`, `demerits`, `attempt`;
+//! `line`, `link`, `chains`, `offers`; `trial`, `trials`, `reach`, `advance`; `best`, `told`, `endless`, `ended`, `choice`; `law`.
 #![tactic(auto)]
 
 mod advance;

@@ -4,7 +4,8 @@
 //! Proved: a list is the list of its values, a stack that of its values with the newest first, and `same` is exactly equality.
 //! Nothing is left to tests.
 //!
-//! Read `kept`, what is asked of a value; then `items`, `stack` and `options`. `both` makes one result of two.
+//! Read `kept`, what is asked of a value; then `items`, `stack` and `options`; and `results`, whose `both` makes one
+//! result of two.
 #![tactic(auto)]
 
 mod items;

@@ -1,12 +1,12 @@
 //! The seam between TeX and everything that knows of files and edits: a machine takes turns, asks for files and lines,
-//! ships pages and stops; of the turns in between, of which the outside need know nothing, it takes many at one go. Below it
-//! stands TeX, above it the increments, and neither knows the other.
+//! ships pages and stops. Below it stands TeX, above it the increments, and neither knows the other. A machine may take many turns
+//! at one go, up to one of which the outside has to know: a run is the same however many it takes so.
 //!
 //! Proved: a fresh run is the defined one, over any machine, `steps` rises by exactly its turns, and it ends within its
 //! budget. Nothing is left to tests.
 //!
-//! Read `types` (what passes over the seam), `machine` (the trait), `steps` (the count of turns), `opens` (how asks are
-//! answered), then `turn` and `run`: the fresh run, to which everything above is held.
+//! Read `types` and `lists` (what passes over the seam), `machine` (the trait), `steps` (the count of turns), `opens` (how asks are
+//! answered), `spot` (what a run goes on with), then `turn` and `run`: the fresh run, to which everything above is held.
 #![tactic(auto)]
 
 pub mod lists;

@@ -1,3 +1,4 @@
+//! The files that are open, and pages and pieces of the transcript in order.
 ghost use Rattle.std.specs.Prelude.{◌≡◌, ◌-◌, ◌∷◌, ◌++◌, [], OnOk, OnErr, IfSome, ◌<◌, length, take, slice_get, slice_set};
 ghost use Rattle.std.specs.Option.{option_copied};
 ghost use Rattle.tx_machine.specs.Opens.{innermost, moved_to};

@@ -1,3 +1,4 @@
+//! The machine, as a trait: what it asks, what it answers, and which laws it keeps.
 ghost use Rattle.std.specs.Prelude.{◌≡◌, ◌≤◌, ◌↔◌, ℕ, List, [], ◌++◌, true, IsTrue, IfOk, OnOk, OnErr};
 ghost use Rattle.tx_machine.specs.declared.types.AskKind.{AskKind};
 ghost use Rattle.tx_machine.specs.Machine.{Formatter, IsLawful, Ready, Awaits, fits};

@@ -1,3 +1,4 @@
+//! How asks are answered by the files, and what the answers show of them.
 ghost use Rattle.std.specs.Prelude.{◌≡◌, [], IfOk, OnOk, OnErr};
 ghost use Rattle.tx_files.specs.Reads.{noting};
 ghost use Rattle.tx_machine.specs.Notes as notes;

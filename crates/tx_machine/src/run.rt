@@ -1,3 +1,4 @@
+//! The fresh run: a document from its start to its end, with no checkpoint and no reuse.
 ghost use Rattle.std.specs.Prelude.{◌≡◌, ◌≤◌, ◌+◌, ◌*◌, [], length, take, IfOk, OnOk};
 ghost use Rattle.tx_files.specs.Lines.{line_count};
 ghost use Rattle.tx_machine.specs.Machine.{Ready};

@@ -1,3 +1,4 @@
+//! What a run goes on with, and what the turns of a page came to.
 use crate::lists::Opens;
 use crate::types::Close;
 use tx_bytes::Bytes;

@@ -1,3 +1,4 @@
+//! The count of turns.
 ghost use Rattle.std.specs.Prelude.{◌≡◌};
 ghost use Rattle.tx_machine.specs.Steps.{raised};
 

@@ -1,3 +1,4 @@
+//! The turns of a page within its budget, one by one or many at one go.
 ghost use Rattle.std.specs.Prelude.{◌≡◌, ◌≤◌, [], IfOk, OnOk, OnErr};
 ghost use Rattle.tx_files.specs.Reads.{noting};
 ghost use Rattle.tx_machine.specs.Machine.{Ready};

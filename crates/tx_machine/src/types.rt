@@ -1,3 +1,4 @@
+//! What passes over the seam: dates, limits, asks, replies, events, and how runs end.
 ghost use Rattle.std.specs.Prelude.{◌≡◌};
 
 use crate::lists::{Pages, Pieces};

@@ -6,7 +6,7 @@ use Rattle.tx_machine.specs.declared.types.Event.{Event}
 use Rattle.tx_seen.specs.declared.error.TexError.{TexError}
 use Rattle.tx_state.specs.declared.state.State.{State}
 use Rattle.tx_state.specs.Meanings.{IsStepped}
-use Rattle.tx_state.specs.Outcomes.{Outcome, Asks, Fails}
+use Rattle.tx_state.specs.Outcomes.{Outcome, Asks, fails}
 use Rattle.tx_state.specs.State.{TexState}
 use Rattle.tx_main.specs.Turns.{closed_unless, closes}
 
@@ -18,7 +18,7 @@ closes-by : (s : TexState) (text : Bool) (error : Option TexError) → text ≡ 
 closes-by s text error open_text is =
     ap (λ (e : Option TexError). closed_unless s e) (ap (λ (b : Bool). file_ended b s.reader) (sym open_text) ∙ sym is)
 
-pub closes-refused : (s : TexState) (text : Bool) (found : Option TexError) (error : TexError) → text ≡ is_some s.text → found ≡ file_ended text s.reader → found ≡ Some error → closes s ≡ Fails error
+pub closes-refused : (s : TexState) (text : Bool) (found : Option TexError) (error : TexError) → text ≡ is_some s.text → found ≡ file_ended text s.reader → found ≡ Some error → closes s ≡ fails error
 closes-refused s text found error open_text is refused = closes-by s text found open_text is ∙ ap (λ (e : Option TexError). closed_unless s e) refused
 
 pub closes-asked : (s : TexState) (text : Bool) (found : Option TexError) → text ≡ is_some s.text → found ≡ file_ended text s.reader → found ≡ None → closes s ≡ Asks Close s

@@ -19,7 +19,7 @@ use Rattle.tx_command.specs.Begun.{Begun}
 use Rattle.tx_command.specs.Commands.{command}
 use Rattle.tx_main.specs.Effects.{effect}
 use Rattle.tx_main.specs.Going.{HasJoined}
-use Rattle.tx_state.specs.Outcomes.{Fails, leaves}
+use Rattle.tx_state.specs.Outcomes.{fails, leaves}
 use Rattle.tx_state.specs.State.{TexState}
 use Rattle.tx_state.specs.Meanings.{IsStepped, state_of}
 use Rattle.tx_command.specs.Taken.{joined, IsTaken}
@@ -33,7 +33,7 @@ items_with s t = joined (value_now (known_of s)) s.mode s.head s.taken t
 pub joins-more : (s : TexState) (t : Seen) (want : Want) → command s.mode s.head (items_with s t) ≡ More want → joining s (items_with s t) ≡ leaves (record s { taken = items_with s t; magnification = noted s.magnification (magnification_in (items_with s t)) })
 joins-more s t want is = ap (scanned s (items_with s t)) is
 
-pub joins-wrong : (s : TexState) (t : Seen) (e : TexError) → command s.mode s.head (items_with s t) ≡ Wrong e → joining s (items_with s t) ≡ Fails e
+pub joins-wrong : (s : TexState) (t : Seen) (e : TexError) → command s.mode s.head (items_with s t) ≡ Wrong e → joining s (items_with s t) ≡ fails e
 joins-wrong s t e is = ap (scanned s (items_with s t)) is
 
 pub joins-whole : (s : TexState) (t : Seen) (c : Command) (behind : List Item) → command s.mode s.head (items_with s t) ≡ Done c behind → joining s (items_with s t) ≡ effect (record s { taken = []; reader = put_back (tokens_of behind) s.reader }) c
@@ -67,7 +67,7 @@ joins-on s scan input made t found used is_found is_used k =
       begun = refl;
     }
 
-pub takes-wrong : (s new : State) (scan : Begun) (input : Input) (made : Command) (t : Seen) (e : TexError) (event : Event) → IsTaken (value_now (known_of (state_of s))) s.scan t s.input scan input made (taken.Wrong e) → IsStepped (Fails e) (fed_state s scan input made) event new → IsStepped (taking (state_of s) t) s event new
+pub takes-wrong : (s new : State) (scan : Begun) (input : Input) (made : Command) (t : Seen) (e : TexError) (event : Event) → IsTaken (value_now (known_of (state_of s))) s.scan t s.input scan input made (taken.Wrong e) → IsStepped (fails e) (fed_state s scan input made) event new → IsStepped (taking (state_of s) t) s event new
 takes-wrong s new scan input made t e event k did =
     rw (joins-wrong (state_of s) t e k) (record { event_is = did.event_is; state_is = did.state_is; said_is = did.said_is })
 

@@ -14,7 +14,7 @@ use Rattle.tx_state.specs.declared.parts.Phase.TheVariants.{Running}
 use Rattle.tx_state.specs.declared.state.State.{State}
 use Rattle.tx_lettering.specs.Texts.{ending_text}
 use Rattle.tx_state.specs.Meanings.{IsStepped, state_of}
-use Rattle.tx_state.specs.Outcomes.{Fails, leaves}
+use Rattle.tx_state.specs.Outcomes.{fails, leaves}
 use Rattle.tx_state.specs.State.{TexState}
 use Rattle.tx_state.specs.Texts.{IsFedSome, IsTextAnswered, IsTextFed, is_whole, text_answer, text_wanted, with_token}
 use Rattle.tx_main.specs.Turns.{taken_by, texting}
@@ -91,13 +91,13 @@ pub takes-text-done : {E : Type 0} (s new : State) (open_text : Option OpenText)
 takes-text-done s new None t u back text answer is k did = absurd cc
 takes-text-done s new (Some whole) t u back text answer is k did = texts-done s new (with_token whole t) u back text answer k did
 
-texts-wrong : (s new : State) (r : Result OpenText TexError) (error : TexError) (text : Option OpenText) (event : Event) → IsFedSome r (fed.Wrong error) text → IsStepped (Fails error) (text_state s text) event new → IsStepped (texting (state_of s) r) s event new
+texts-wrong : (s new : State) (r : Result OpenText TexError) (error : TexError) (text : Option OpenText) (event : Event) → IsFedSome r (fed.Wrong error) text → IsStepped (fails error) (text_state s text) event new → IsStepped (texting (state_of s) r) s event new
 texts-wrong s new (Ok whole) error text event k did = absurd (no-wrong whole (is_whole whole) error refl k.0)
 texts-wrong s new (Err found) error text event k did =
     let same : error ≡ found = cc in
     rw (← same) (record { event_is = did.event_is; state_is = did.state_is; said_is = did.said_is })
 
-pub takes-text-wrong : (s new : State) (open_text : Option OpenText) (t : Seen) (error : TexError) (text : Option OpenText) (event : Event) → is_some open_text ≡ true → IsTextAnswered open_text t (fed.Wrong error) text → IsStepped (Fails error) (text_state s text) event new → IsStepped (taken_by (state_of s) t open_text) s event new
+pub takes-text-wrong : (s new : State) (open_text : Option OpenText) (t : Seen) (error : TexError) (text : Option OpenText) (event : Event) → is_some open_text ≡ true → IsTextAnswered open_text t (fed.Wrong error) text → IsStepped (fails error) (text_state s text) event new → IsStepped (taken_by (state_of s) t open_text) s event new
 takes-text-wrong s new None t error text event is k did = absurd cc
 takes-text-wrong s new (Some open_text) t error text event is k did = texts-wrong s new (with_token open_text t) error text event k did
 

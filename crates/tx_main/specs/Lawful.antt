@@ -7,7 +7,7 @@ use Rattle.tx_machine.specs.Machine.{Stepped, IsLawful, Ready, Awaits, mode_afte
 use Rattle.tx_state.specs.declared.parts.Due.{Due}
 use Rattle.tx_state.specs.declared.parts.Due.TheVariants.{OpenMain, FileAbsent, FileEnded, MainClosed, LoadFont, Boxes}
 use Rattle.tx_box.specs.declared.parts.Work.TheVariants.{Build, Copy, CopyList, Ship, ShipPage}
-use Rattle.tx_state.specs.Outcomes.{Outcome, Leaves, Asks, Ships, Fails, FailsTelling, Ends, stepped}
+use Rattle.tx_state.specs.Outcomes.{Outcome, Leaves, Asks, Ships, Fails, Ends, stepped}
 use Rattle.tx_machine.specs.Same.{same-tells}
 use Rattle.tx_state.specs.Codes.{meaning_code}
 use Rattle.tx_state.specs.State.{Meaning, Runs, Waits, Stops, mode_of}
@@ -21,8 +21,7 @@ stepped-leads : (o : Outcome) → Leads (stepped o)
 stepped-leads (Leaves s said) = refl
 stepped-leads (Asks ask s) = refl
 stepped-leads (Ships page s) = refl
-stepped-leads (Fails error) = refl
-stepped-leads (FailsTelling error said) = refl
+stepped-leads (Fails error said) = refl
 stepped-leads Ends = refl
 
 due-costs : (due : List Due) → 1 ≤ due_cost due

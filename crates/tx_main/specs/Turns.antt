@@ -39,7 +39,7 @@ use Rattle.tx_main.specs.Effects.{effect}
 use Rattle.tx_lettering.specs.Texts.{ending_text, relaxing}
 use Rattle.tx_lettering.specs.Fonts.{loading}
 use Rattle.tx_seen.specs.Readings.{Reading, More, Need, Done, Wrong}
-use Rattle.tx_state.specs.Outcomes.{Outcome, Asks, Fails, Ends, leaves, stepped}
+use Rattle.tx_state.specs.Outcomes.{Outcome, Asks, Ends, fails, leaves, stepped}
 use Rattle.tx_machine.specs.Same.{same_by}
 use Rattle.tx_state.specs.Codes.{meaning_code}
 use Rattle.tx_state.specs.Texts.{is_whole, text_wanted, with_given, with_token}
@@ -55,7 +55,7 @@ known_of s = record { table = s.table; nest = s.lists.nest; pages = s.lists.page
 abbrev pub scanned : TexState → List Item → Reading Command → Outcome
 scanned s items (More want) = leaves (record s { taken = items; magnification = noted s.magnification (magnification_in items) })
 scanned s items (Need kind) = leaves (record s { taken = items })
-scanned s items (Wrong error) = Fails error
+scanned s items (Wrong error) = fails error
 scanned s items (Done c behind) = effect (record s { taken = []; reader = put_back (tokens_of behind) s.reader }) c
 
 -- a token, and the values that the open command needs behind it, join what that has taken
@@ -70,7 +70,7 @@ taking s t = supplying s (s.taken ++ Took t ∷ [])
 
 -- a token joins the text that is open, which takes effect once it is whole
 abbrev pub texting : TexState → Result OpenText TexError → Outcome
-texting s (Err error) = Fails error
+texting s (Err error) = fails error
 texting s (Ok text) = if is_whole text then ending_text s (Some text) else leaves (record s { text = Some text })
 
 -- a token joins the open text, or else the open command, where a word may end before it
@@ -94,7 +94,7 @@ wanted_by s (Some text) = text_wanted text
 
 -- the innermost file has ended: it is closed, unless something is open within which no file may end (section 336)
 abbrev pub closed_unless : TexState → Option TexError → Outcome
-closed_unless s (Some error) = Fails error
+closed_unless s (Some error) = fails error
 closed_unless s None = Asks Close s
 
 abbrev pub closes : TexState → Outcome
@@ -110,24 +110,24 @@ part_over s true = taking (before_token (record s { reader = with_end s.reader }
 part_over s false = over (word_ended s)
 
 -- what comes of what the expander answers. Where a line is used up the next one is asked for, or behind \endinput the file is
--- closed; a marker that is read outside \output's end means that its braces don't match
+-- closed; a marker that is read outside \output's end means that the braces of its tokens don't match (section 1027)
 abbrev pub answered : TexState → Answer → Outcome
 answered s (answer.Got t) = taken_by s t s.text
 answered s (answer.Text tokens) = given_to_text s tokens s.text
 answered s answer.Went = leaves s
 answered s (answer.Relaxes name) = leaves (relaxing s name)
-answered s answer.Marked = Fails UnbalancedOutput
+answered s answer.Marked = fails UnbalancedOutput
 answered s (answer.EndsEntry word) = ending_entry s word
 answered s answer.PartEnded = part_over s (is_open s)
 answered s answer.LineUsed = Asks Line s
 answered s answer.FileUsed = closes s
 answered s (answer.Asks name) = Asks (Open name) s
-answered s (answer.Wrong error) = Fails error
+answered s (answer.Wrong error) = fails error
 
 -- what comes of a turn of the expander
 abbrev pub turned : TexState → Turn → Outcome
 turned s (Goes answer left) = answered (record s { reader = left; magnification = noted s.magnification (magnification_taken left.begun) }) answer
-turned s (Turn_fails error) = Fails error
+turned s (Turn_fails error) = fails error
 
 abbrev pub reads : TexState → Outcome
 reads s = turned s (turn (world_of (known_of s) s.mode) (wanted_by s s.text) s.reader)
@@ -135,9 +135,9 @@ reads s = turned s (turn (world_of (known_of s) s.mode) (wanted_by s s.text) s.r
 -- the next piece of due work
 abbrev pub works : TexState → Due → Outcome
 works s (OpenMain name) = Asks (Open name) s
-works s Due_file_absent = Fails FileAbsent
+works s Due_file_absent = fails FileAbsent
 works s FileEnded = closes s
-works s MainClosed = Fails NoEnd
+works s MainClosed = fails NoEnd
 works s (LoadFont request) = loading s request request.file
 works s (Boxes work) = works_boxes s work
 

@@ -36,7 +36,7 @@ use tx_num::Glue;
 use tx_prim::{AfterKind, LeadersKind, Mode, Prefix, Shorthand, SizeKind};
 use tx_seen::Place;
 use tx_shape::Opener;
-use tx_state::{KeptToken, Phase, State, add, assign_so, end_assignment, fail, open};
+use tx_state::{KeptToken, Phase, State, add, carry_out_assignment, end_assignment, fail, open};
 
 /// The prefixes with one more.
 fn with_prefix(prefixes: Prefixes, prefix: Prefix) -> Prefixes
@@ -99,7 +99,7 @@ fn assign(alloc: Global, s: &mut State, assignment: Assignment) -> Result<Event,
         let Assignment { place, change: _ } = assignment;
         Ok(begin_list(alloc, s, place))
     } else {
-        assign_so(s, assignment, global)
+        carry_out_assignment(s, assignment, global)
     }
 }
 

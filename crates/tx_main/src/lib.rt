@@ -1,12 +1,12 @@
-//! TeX as a machine: a state, and turns that each do one piece of due work, ask for a line, or take one token. Turns that take
-//! tokens follow one another at one go, up to one of which the outside has to know, or to work that is due.
+//! TeX as a machine (TeX: The Program, part 46): a state, and turns that each do one piece of due work, ask for a line, or take one
+//! token. Turns that take tokens follow one another at one go, up to one of which the outside has to know, or to work that is due.
 //!
 //! Proved: each turn is the defined step, also at one go. Only tested: that the effects and the reading are TeX's, on documents
 //! that Knuth's TeX reads alike. The state is tx_state's, and how commands are taken off tokens tx_command's; what most of them do
 //! stands in tx_lettering, for characters, words, fonts and texts, in tx_boxing, for boxes, groups, pages and paragraphs, in
 //! tx_formula, for formulas, and in tx_aligning, for alignments.
 //!
-//! Read `effects`, `page`, `turn`, `going`, `main_loop` and `machine`.
+//! Read `effects`, `page` and `turn`; `going` and `main_loop`, turns at one go; and `machine`.
 #![tactic(auto)]
 
 mod effects;

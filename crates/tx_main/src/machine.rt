@@ -1,4 +1,4 @@
-//! TeX behind the seam.
+//! TeX behind the seam (TeX: The Program, section 1030).
 ghost use Rattle.std.specs.Prelude.{◌≡◌, ◌∷◌, [], IfOk};
 ghost use Rattle.tx_machine.specs.Ranges.{IsDate};
 ghost use Rattle.tx_state.specs.declared.parts.Due.TheVariants.{OpenMain};

@@ -6,6 +6,7 @@ ghost use Rattle.tx_main.specs.Pages as spec;
 use tx_eqtb::Eqtb;
 use tx_machine::Date;
 use tx_prim::{IntegerParameter, Moment};
+use tx_scan::byte;
 
 /// When a run began, as the date parameters say it.
 pub(crate) fn moment_of(date: &Date) -> Moment
@@ -24,10 +25,5 @@ pub(crate) fn moment_of(date: &Date) -> Moment
 pub(crate) fn line_end(table: &Eqtb) -> Option<u8>
     ensures { result ≡ spec.line_end table.now.table }
 {
-    let code = table.integer(IntegerParameter::Endlinechar);
-    if 0 <= code && code < 256 {
-        Some(code as u8)
-    } else {
-        None
-    }
+    byte(i64::from(table.integer(IntegerParameter::Endlinechar)))
 }

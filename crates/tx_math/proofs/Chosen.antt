@@ -1,5 +1,5 @@
 -- The list that \mathchoice takes, and the entries of lists.
-use Rattle.std.proofs.Common.{◌≡◌, ◌≤◌, ◌<◌, ◌+◌, ◌*◌, ℕ, suc, Bool, true, false, List, [], ◌∷◌, ◌++◌, length, drop, get_or, ◌∙◌, refl, ap, arith, subst, sym, append_assoc, append-nil}
+use Rattle.std.proofs.Common.{◌≡◌, ◌≤◌, ◌<◌, ◌+◌, ℕ, Bool, true, false, List, ◌++◌, length, drop, get_or, ◌∙◌, refl, ap, arith, subst, sym, append_assoc, append-nil}
 use Rattle.std.proofs.lemmas.List.{at_drop_all}
 use Rattle.std.specs.Prelude.{◌/◌, ◌==◌, if◌then◌else◌}
 use Rattle.tx_mlist.specs.declared.noad.Choice.{Choice}

@@ -1,9 +1,9 @@
 -- Lists of boxes, and shorter ones.
-use Rattle.std.proofs.Common.{◌≡◌, ◌≤◌, ℤ, pos, suc, Bool, true, false, ◌&&◌, List, [], ◌∷◌, ◌++◌, take, refl, sym, ap, arith, true≢false, subst}
+use Rattle.std.proofs.Common.{◌≡◌, ◌≤◌, pos, suc, Bool, true, false, ◌&&◌, List, [], ◌∷◌, ◌++◌, take, refl, sym, ap, arith, true≢false, subst}
 use Rattle.tx_node.specs.declared.head.BoxHead.{BoxHead}
 use Rattle.tx_node.specs.declared.head.Setting.{Setting}
 use Rattle.tx_node.specs.Counts.{nesting_of}
-use Rattle.tx_node.specs.Items.{Item, PackedBox, items_of}
+use Rattle.tx_node.specs.Items.{Item, items_of}
 use Rattle.tx_node.specs.Nodes.{IsBox}
 use Rattle.tx_node.specs.Setting.{IsSet, sums_fit}
 use Rattle.tx_math.specs.Boxes.{is_corrected, list_from}

@@ -4,12 +4,10 @@
 use Rattle.std.proofs.Common.{◌≡◌, ℕ, ◌*◌, ℤ, pos, negsuc, false, true, List, [], ◌∷◌, ◌++◌, Result, Ok, Err, None, refl}
 use Rattle.std.specs.Prelude.{codes, decimal, replicate}
 use Rattle.tx_num.specs.Glue.{GlueSpec, glue_of, zero_glue}
-use Rattle.tx_node.specs.declared.head.BoxHead.{BoxHead}
-use Rattle.tx_node.specs.declared.head.Direction.{Direction}
 use Rattle.tx_node.specs.declared.head.Direction.TheVariants.{Horizontal, Vertical}
 use Rattle.tx_node.specs.declared.head.Setting.TheVariants.{Natural}
 use Rattle.tx_node.specs.declared.plain.Plain.TheVariants as horizontal
-use Rattle.tx_node.specs.Items.{Item, PackedBox, plain, boxed, items_of, box_item}
+use Rattle.tx_node.specs.Items.{Item, PackedBox, plain, box_item}
 use Rattle.tx_pack.specs.Packing.{packed as packed_box}
 use Rattle.tx_hyphenate.specs.Lacking.{missing}
 use Rattle.tx_tfm.specs.declared.metrics.Metrics.{Metrics}
@@ -19,10 +17,10 @@ use Rattle.tx_tfm.specs.Format.{tfm_of, word_at}
 use Rattle.tx_tfm.specs.LigKern.{boundary_code, boundary_start, character_start, command_of, found}
 use Rattle.tx_tfm.specs.Scaling.{scaled}
 use Rattle.tx_mlist.specs.declared.kinds.AtomKind.{AtomKind}
-use Rattle.tx_mlist.specs.declared.kinds.AtomKind.TheVariants.{Ord, Op, Bin, Rel, Open, Close, Over}
-use Rattle.tx_mlist.specs.declared.kinds.Limits.TheVariants.{Displayed, Never}
-use Rattle.tx_mlist.specs.declared.plain.PlainNoad.TheVariants.{Style, Nonscript, Glue, Kern}
-use Rattle.tx_mlist.specs.Items.{MathItem, Part, atom, fraction, choice, small, material, empty, letter, packed, formula, nothing, followed, gathered}
+use Rattle.tx_mlist.specs.declared.kinds.AtomKind.TheVariants.{Ord, Op, Bin, Rel}
+use Rattle.tx_mlist.specs.declared.kinds.Limits.TheVariants.{Displayed}
+use Rattle.tx_mlist.specs.declared.plain.PlainNoad.TheVariants.{Style, Nonscript, Glue}
+use Rattle.tx_mlist.specs.Items.{MathItem, Part, atom, fraction, choice, small, empty, letter, nothing, gathered}
 use Rattle.tx_math.specs.declared.error.MathError.{MathError}
 use Rattle.tx_math.specs.declared.error.MathError.TheVariants.{NoFont, FewParameters}
 use Rattle.tx_math.specs.declared.formula.Formula.{Formula}

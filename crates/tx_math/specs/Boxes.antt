@@ -1,5 +1,5 @@
 -- Boxes that formulas are made of (TeX: The Program, sections 136, 704, 705, 715, 720 and 721).
-use Rattle.std.specs.Prelude.{ℕ, suc, ◌^◌, ◌-◌, ◌==◌, ◌&&◌, ◌||◌, not, nat_le, Bool, true, false, ℤ, pos, ◌-ℤ◌, unsigned_abs, List, [], ◌∷◌, ◌++◌, length, take, Option, Some, None, Result, Ok, Err, if◌then◌else◌}
+use Rattle.std.specs.Prelude.{ℕ, suc, ◌^◌, ◌-◌, ◌==◌, ◌&&◌, ◌||◌, nat_le, Bool, true, false, ℤ, pos, ◌-ℤ◌, List, [], ◌∷◌, ◌++◌, length, take, Option, Some, None, Result, Ok, Err, if◌then◌else◌}
 use Rattle.tx_num.specs.Glue.{GlueSpec, glue_of}
 use Rattle.tx_node.specs.declared.head.BoxHead.{BoxHead}
 use Rattle.tx_node.specs.declared.head.Direction.{Direction}
@@ -17,7 +17,7 @@ use Rattle.tx_pack.specs.declared.types.PackError.{PackError}
 use Rattle.tx_pack.specs.declared.types.PackError.TheVariants as packing
 use Rattle.tx_pack.specs.Packing.{hpacked, vpacked}
 use Rattle.tx_pack.specs.Stretching.{is_nothing}
-use Rattle.tx_pack.specs.Sums.{fits}
+use Rattle.tx_num.specs.Limits.{fits}
 use Rattle.tx_math.specs.declared.error.MathError.{MathError}
 use Rattle.tx_math.specs.declared.error.MathError.TheVariants.{SizeOutOfRange, TooDeep, OutOfMemory}
 use Rattle.tx_math.specs.Outcomes.{Telling, checked, passed, and_then}

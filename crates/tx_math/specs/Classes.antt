@@ -1,5 +1,5 @@
 -- Each Bin that becomes an Ord by what stands behind it (The TeXbook, appendix G, rule 6; TeX: The Program, sections 728 and 729).
-use Rattle.std.specs.Prelude.{Bool, true, false, ◌&&◌, List, [], ◌∷◌, Option, Some, None, if◌then◌else◌}
+use Rattle.std.specs.Prelude.{Bool, true, false, ◌&&◌, List, [], ◌∷◌, if◌then◌else◌}
 use Rattle.tx_mlist.specs.declared.kinds.AtomKind.{AtomKind}
 use Rattle.tx_mlist.specs.declared.kinds.AtomKind.TheVariants.{Ord, Op, Bin, Rel, Open, Close, Punct, Inner, Over, Under, Center}
 use Rattle.tx_math.specs.Composing.{is_bin}

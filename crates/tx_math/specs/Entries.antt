@@ -8,7 +8,7 @@ use Rattle.tx_mlist.specs.declared.kinds.AtomKind.TheVariants.{Ord, Inner}
 use Rattle.tx_mlist.specs.declared.plain.PlainNoad.{PlainNoad}
 use Rattle.tx_mlist.specs.declared.plain.PlainNoad.TheVariants.{Style, Nonscript, Glue, Kern}
 use Rattle.tx_math.specs.Boxes.{is_plain, plain_is_kern}
-use Rattle.tx_mlist.specs.Items.{MathItem, MathItems, Part, atom, fraction, choice, small, material, nothing, followed}
+use Rattle.tx_mlist.specs.Items.{MathItem, MathItems, atom, fraction, choice, small, material, nothing, followed}
 
 -- an item, and the style in which it is set. Of an atom also: its kind, since a Bin may have become an Ord; and whether a character
 -- of its family was composed with it and stands behind it

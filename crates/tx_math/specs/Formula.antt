@@ -1,7 +1,7 @@
 -- A list of mathematics as a horizontal list (The TeXbook, appendix G; TeX: The Program, sections 720, 725 to 760 and 1195). Errors
 -- come, and characters that their fonts lack are told, in the order in which the items are gone through.
-use Rattle.std.specs.Prelude.{ℕ, zero, suc, Bool, true, false, not, ◌++◌, ℤ, pos, ◌+ℤ◌, ◌-ℤ◌, List, [], ◌∷◌, Option, Some, None, Result, Ok, Err, if◌then◌else◌}
-use Rattle.tx_num.specs.Glue.{GlueSpec, zero_glue}
+use Rattle.std.specs.Prelude.{ℕ, zero, suc, Bool, false, not, ◌++◌, ℤ, pos, ◌+ℤ◌, ◌-ℤ◌, List, [], ◌∷◌, Option, Some, None, Result, Ok, Err, if◌then◌else◌}
+use Rattle.tx_num.specs.Glue.{zero_glue}
 use Rattle.tx_node.specs.declared.plain.KernKind.TheVariants.{Explicit}
 use Rattle.tx_node.specs.declared.plain.Plain.TheVariants as horizontal
 use Rattle.tx_node.specs.declared.character.Character.{Character as CharacterItem}

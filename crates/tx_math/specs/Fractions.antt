@@ -1,5 +1,5 @@
 -- Fractions (The TeXbook, appendix G, rule 15; TeX: The Program, sections 743 to 748).
-use Rattle.std.specs.Prelude.{ℕ, Bool, ℤ, pos, ◌+ℤ◌, ◌-ℤ◌, ◌*ℤ◌, neg_ℤ, int_lt, List, [], ◌∷◌, Option, unwrap_or, Result, Ok, if◌then◌else◌}
+use Rattle.std.specs.Prelude.{ℕ, ℤ, pos, ◌+ℤ◌, ◌-ℤ◌, ◌*ℤ◌, neg_ℤ, int_lt, List, [], ◌∷◌, Option, unwrap_or, Result, Ok, if◌then◌else◌}
 use Rattle.std.specs.Int.{int_max}
 use Rattle.tx_node.specs.Items.{Item, PackedBox, box_item}
 use Rattle.tx_pack.specs.Stretching.{is_nothing}

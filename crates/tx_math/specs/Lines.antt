@@ -1,5 +1,5 @@
 -- Lines above and below formulas, and \vcenter (The TeXbook, appendix G, rules 8 to 10; TeX: The Program, sections 705 and 734 to 736).
-use Rattle.std.specs.Prelude.{ℕ, ℤ, pos, ◌+ℤ◌, ◌-ℤ◌, ◌*ℤ◌, List, [], ◌∷◌, Result}
+use Rattle.std.specs.Prelude.{ℕ, ℤ, pos, ◌+ℤ◌, ◌-ℤ◌, ◌*ℤ◌, [], ◌∷◌, Result}
 use Rattle.tx_node.specs.Items.{PackedBox, box_item}
 use Rattle.tx_math.specs.declared.error.MathError.{MathError}
 use Rattle.tx_math.specs.Boxes.{kern, line, stored, vbox, with_height}

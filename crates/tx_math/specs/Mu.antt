@@ -2,7 +2,7 @@
 use Rattle.std.specs.Prelude.{ℕ, ◌==◌, Bool, ◌&&◌, ℤ, pos, ◌+ℤ◌, ◌*ℤ◌, int_div, if◌then◌else◌, Result, Ok, Err}
 use Rattle.std.specs.Int.{int_div_euclid, int_rem_euclid}
 use Rattle.tx_num.specs.Glue.{GlueSpec}
-use Rattle.tx_pack.specs.Sums.{fits}
+use Rattle.tx_num.specs.Limits.{fits}
 use Rattle.tx_math.specs.declared.error.MathError.{MathError}
 use Rattle.tx_math.specs.declared.error.MathError.TheVariants.{SizeOutOfRange}
 use Rattle.tx_math.specs.Boxes.{stored}

@@ -1,9 +1,9 @@
 -- Large operators (The TeXbook, appendix G, rules 13 and 13a; TeX: The Program, sections 749 to 751).
-use Rattle.std.specs.Prelude.{ℕ, Bool, true, false, ◌&&◌, ℤ, pos, ◌+ℤ◌, ◌-ℤ◌, neg_ℤ, List, [], ◌∷◌, ◌++◌, Option, Some, None, option_and_then, Result, Ok, if◌then◌else◌}
+use Rattle.std.specs.Prelude.{ℕ, Bool, true, false, ℤ, pos, ◌+ℤ◌, ◌-ℤ◌, neg_ℤ, List, [], ◌∷◌, ◌++◌, Option, Some, None, option_and_then, Result, Ok, if◌then◌else◌}
 use Rattle.std.specs.Int.{int_max}
 use Rattle.std.specs.Option.{option_map_or}
 use Rattle.tx_node.specs.declared.character.Character.{Character as CharacterItem}
-use Rattle.tx_node.specs.Items.{Item, PackedBox, box_item}
+use Rattle.tx_node.specs.Items.{PackedBox, box_item}
 use Rattle.tx_tfm.specs.declared.named.NamedFont.{NamedFont}
 use Rattle.tx_tfm.specs.declared.state.FontState.{FontState}
 use Rattle.tx_tfm.specs.Fonts.{character_italic, font_at, has_character}
@@ -15,7 +15,7 @@ use Rattle.tx_math.specs.declared.error.MathError.{MathError}
 use Rattle.tx_math.specs.declared.operators.Limit.{Limit}
 use Rattle.tx_math.specs.declared.operators.Limited.{Limited}
 use Rattle.tx_math.specs.Boxes.{framed, kern, reboxed, shifted, stored, with_width}
-use Rattle.tx_math.specs.Outcomes.{Telling, and_then, checked, given, passed}
+use Rattle.tx_math.specs.Outcomes.{Telling, and_then, given, passed}
 use Rattle.tx_math.specs.Parameters.{Math, axis, big_op_spacing1, big_op_spacing2, big_op_spacing3, big_op_spacing4, big_op_spacing5, half}
 use Rattle.tx_math.specs.Styles.{is_display}
 

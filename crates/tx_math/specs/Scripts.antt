@@ -1,5 +1,5 @@
 -- Scripts (The TeXbook, appendix G, rule 18; TeX: The Program, sections 756 to 759).
-use Rattle.std.specs.Prelude.{ℕ, ◌++◌, ℤ, pos, ◌+ℤ◌, ◌-ℤ◌, ◌*ℤ◌, neg_ℤ, int_lt, List, [], ◌∷◌, Option, Some, None, Result, Ok, if◌then◌else◌}
+use Rattle.std.specs.Prelude.{ℕ, ℤ, pos, ◌+ℤ◌, ◌-ℤ◌, ◌*ℤ◌, neg_ℤ, int_lt, [], ◌∷◌, Option, Some, None, Result, if◌then◌else◌}
 use Rattle.std.specs.Int.{int_max}
 use Rattle.tx_node.specs.Items.{Item, PackedBox, box_item}
 use Rattle.tx_math.specs.declared.error.MathError.{MathError}

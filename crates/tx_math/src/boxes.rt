@@ -1,9 +1,8 @@
-//! Boxes that formulas are made of.
+//! Boxes that formulas are made of (TeX: The Program, sections 704 to 715).
 ghost use Rattle.std.specs.Prelude.{◌≡◌, ◌≢◌, ◌∷◌, [], pos, take, true, IfOk, IfErr, OnOk, Ok, Err};
 ghost use Rattle.tx_num.specs.Glue.{IsDimension};
 ghost use Rattle.tx_node.specs.Items.{box_item, items_of};
 ghost use Rattle.tx_node.specs.Nodes.{item_of, list_of};
-ghost use Rattle.tx_pack.specs.Sums.{fits};
 ghost use Rattle.tx_math.specs.Boxes as spec;
 ghost use Rattle.tx_math.specs.Setters.{IsSetter, math_in};
 ghost use Rattle.tx_math.specs.declared.error.MathError.TheVariants.{OutOfMemory};
@@ -12,10 +11,8 @@ use crate::error::MathError;
 use crate::setter::Setter;
 use std::alloc::{AllocError, Global};
 use tx_node::{BoxHead, BoxNode, Direction, KernKind, Node, Nodes, Plain, Rule, Setting, Shared};
+use tx_num::{GREATEST_DIMENSION, fits};
 use tx_pack::{Goal, Packed, hpack, vpack};
-
-/// The greatest dimension, in sp.
-const GREATEST: i64 = 1_073_741_823;
 
 /// How deep boxes may nest.
 const MOST_NESTING: u16 = 500;
@@ -24,7 +21,7 @@ const MOST_NESTING: u16 = 500;
 pub fn stored(size: i64) -> Result<i32, MathError>
     ensures { result ≡ spec.stored size }
 {
-    if holds(size) {
+    if fits(size) {
         Ok(size as i32)
     } else {
         Err(MathError::SizeOutOfRange)
@@ -125,13 +122,6 @@ pub fn empty_box(alloc: Global, width: i32) -> Result<BoxNode, AllocError>
     BoxNode::new(alloc, head, Nodes::new(alloc))
 }
 
-/// Whether a size is a dimension.
-pub fn holds(size: i64) -> bool
-    ensures { result ≡ fits size }
-{
-    size.unsigned_abs() < 1 << 30
-}
-
 /// A list in a vertical box of sizes of its own, in sp. `SizeOutOfRange` exactly where one of these is no dimension, else `TooDeep`
 /// exactly where boxes would nest more than 500 deep.
 pub fn framed(
@@ -144,7 +134,7 @@ pub fn framed(
     ensures made { IfOk result (λ made. spec.framed width height depth list ≡ Ok made) }
     ensures error { IfErr result (λ e. e ≢ OutOfMemory → spec.framed width height depth list ≡ Err e) }
 {
-    if !(holds(width) && holds(height) && holds(depth)) {
+    if !(fits(width) && fits(height) && fits(depth)) {
         return Err(MathError::SizeOutOfRange);
     }
     if list.nesting() >= MOST_NESTING {
@@ -181,7 +171,7 @@ impl Setter<'_> {
             alloc,
             list,
             Goal::Natural,
-            GREATEST,
+            GREATEST_DIMENSION,
             &self.params.packing,
         )?;
         Ok(node)

@@ -1,4 +1,4 @@
-//! Boxes whose list is centred to another width.
+//! Boxes whose list is centred to another width (TeX: The Program, section 715).
 ghost use Rattle.std.specs.Prelude.{◌≡◌, ◌≢◌, ◌∷◌, ◌++◌, [], IfOk, IfErr, OnOk, Ok, Err};
 ghost use Rattle.tx_node.specs.declared.plain.Plain.TheVariants as small;
 ghost use Rattle.tx_node.specs.Items.{plain};

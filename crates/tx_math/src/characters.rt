@@ -1,4 +1,4 @@
-//! Characters of families.
+//! Characters of families (TeX: The Program, sections 709 and 722 to 724).
 ghost use Rattle.std.specs.Prelude.{◌≡◌, ◌≢◌, ◌≤◌, ◌^◌, ◌++◌, unsigned_abs, IfOk, IfErr, OnOk, Ok, Err};
 ghost use Rattle.tx_word.specs.Words.{character_of as character_in};
 ghost use Rattle.tx_math.specs.Characters as spec;

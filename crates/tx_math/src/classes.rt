@@ -1,4 +1,4 @@
-//! Whether what stands behind a Bin makes an Ord of it.
+//! Whether what stands behind a Bin makes an Ord of it (TeX: The Program, sections 728 and 729).
 ghost use Rattle.std.specs.Prelude.{◌≡◌};
 ghost use Rattle.tx_math.specs.Classes as spec;
 ghost use Rattle.tx_math.specs.Converting.{entries_in, entry_of};

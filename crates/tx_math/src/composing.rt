@@ -1,4 +1,4 @@
-//! Characters that are composed.
+//! Characters that are composed (TeX: The Program, sections 752 and 753).
 ghost use Rattle.std.specs.Prelude.{◌≡◌, ◌≤◌, ◌∷◌, ◌++◌, [], length, IfOk, OnOk};
 ghost use Rattle.tx_ligkern.specs.Composing.{keeps_current as keeps_first, keeps_next as keeps_second, passes as passes_over};
 ghost use Rattle.tx_tfm.specs.Rewriting.{kind_of as kind_in};

@@ -1,4 +1,4 @@
-//! Fractions.
+//! Fractions (TeX: The Program, sections 743 to 748).
 ghost use Rattle.std.specs.Prelude.{◌≡◌, ◌≢◌, ◌≤◌, ◌+◌, ◌^◌, unsigned_abs, IfOk, IfErr, Ok, Err};
 ghost use Rattle.tx_node.specs.Nodes.{item_of};
 ghost use Rattle.tx_math.specs.Fractions as spec;

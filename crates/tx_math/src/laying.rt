@@ -1,4 +1,4 @@
-//! The entries of a list.
+//! The entries of a list (TeX: The Program, sections 726 to 731).
 ghost use Rattle.std.specs.Prelude.{◌≡◌, ◌∷◌, ◌++◌, [], List, false, IfOk, OnOk};
 ghost use Rattle.tx_mlist.specs.Items.{gathered};
 ghost use Rattle.tx_mlist.specs.Noads.{choice_of, math_of, mlist_of};

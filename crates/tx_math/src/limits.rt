@@ -1,4 +1,4 @@
-//! Large operators and their limits.
+//! Large operators and their limits (TeX: The Program, sections 749 to 751).
 ghost use Rattle.std.specs.Prelude.{◌≡◌, ◌≢◌, ◌≤◌, ◌^◌, Some, unsigned_abs, IfOk, IfErr, Ok, Err};
 ghost use Rattle.tx_math.specs.Operators as spec;
 ghost use Rattle.tx_math.specs.Formula as formula;

@@ -1,4 +1,4 @@
-//! Lines above and below formulas, and \vcenter.
+//! Lines above and below formulas, and \vcenter (TeX: The Program, sections 734 to 736).
 ghost use Rattle.std.specs.Prelude.{◌≡◌, ◌≢◌, IfOk, IfErr, Ok, Err};
 ghost use Rattle.tx_math.specs.Lines as spec;
 ghost use Rattle.tx_math.specs.Setters.{IsSetter, math_in};

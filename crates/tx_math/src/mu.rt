@@ -1,13 +1,13 @@
-//! Sizes in mu.
+//! Sizes in mu (TeX: The Program, sections 716 and 717).
 ghost use Rattle.std.specs.Prelude.{◌≡◌, ◌≤◌, ◌^◌, unsigned_abs};
 ghost use Rattle.tx_num.specs.Glue.{IsDimension};
 ghost use Rattle.tx_math.specs.Mu as spec;
 ghost use Rattle.tx_math.specs.Setters.{math_in};
 
-use crate::boxes::{holds, stored};
+use crate::boxes::stored;
 use crate::error::MathError;
 use crate::setter::Setter;
-use tx_num::Glue;
+use tx_num::{Glue, fits};
 
 /// A size in mu as one in sp, where 1mu is so many sp.
 fn times_mu(unit: i64, size: i64) -> i64
@@ -48,7 +48,7 @@ impl Setter<'_> {
         let width = times_mu(unit, glue.width());
         let stretch = elastic_in_points(unit, glue.stretch(), glue.stretch_order());
         let shrink = elastic_in_points(unit, glue.shrink(), glue.shrink_order());
-        if holds(width) && holds(stretch) && holds(shrink) {
+        if fits(width) && fits(stretch) && fits(shrink) {
             Ok(Glue::new(
                 width,
                 stretch,

@@ -1,4 +1,4 @@
-//! What stands in a list for the nucleus of an atom.
+//! What stands in a list for the nucleus of an atom (TeX: The Program, section 754).
 use tx_node::Nodes;
 
 /// What stands for a nucleus: its nodes; where it is no character, how high and how deep it is, in sp; and how much further to the

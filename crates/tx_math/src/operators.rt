@@ -1,4 +1,4 @@
-//! Parts of large operators.
+//! Parts of large operators (TeX: The Program, section 749).
 use tx_node::{BoxNode, Nodes};
 
 /// The box of an operator that is a character: how far it is shifted down, in sp, the box, and its italic correction in sp.

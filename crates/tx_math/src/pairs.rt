@@ -1,4 +1,4 @@
-//! Pairs of characters, and what their fonts say of them.
+//! Pairs of characters, and what their fonts say of them (TeX: The Program, section 752).
 ghost use Rattle.std.specs.Prelude.{◌≡◌, ◌≤◌};
 ghost use Rattle.tx_mlist.specs.Noads.{math_of, part_of};
 ghost use Rattle.tx_math.specs.Composing as spec;

@@ -1,4 +1,4 @@
-//! The parameters of symbol and extension fonts.
+//! The parameters of symbol and extension fonts (TeX: The Program, sections 700 and 701).
 ghost use Rattle.std.specs.Prelude.{◌≡◌, ◌≤◌, ◌^◌, unsigned_abs};
 ghost use Rattle.tx_math.specs.Parameters as spec;
 ghost use Rattle.tx_math.specs.Setters.{math_in};

@@ -1,4 +1,4 @@
-//! Scripts.
+//! Scripts (TeX: The Program, sections 756 to 759).
 ghost use Rattle.std.specs.Prelude.{◌≡◌, ◌≢◌, ◌≤◌, ◌+◌, ◌^◌, unsigned_abs, IfOk, IfErr, Ok, Err};
 ghost use Rattle.tx_node.specs.Nodes.{item_of};
 ghost use Rattle.tx_math.specs.Scripts as spec;

@@ -1,4 +1,4 @@
-//! Formulas as horizontal lists.
+//! Formulas as horizontal lists (TeX: The Program, sections 719 to 726).
 ghost use Rattle.std.specs.Prelude.{◌≡◌, ◌≢◌, ◌≤◌, ◌^◌, ◌++◌, ◌∷◌, [], false, pos, unsigned_abs, Some, IfOk, IfErr, OnOk, Ok, Err};
 ghost use Rattle.tx_num.specs.Glue.{IsDimension};
 ghost use Rattle.tx_node.specs.Items.{box_item};

@@ -1,4 +1,4 @@
-//! Spaces and penalties between atoms.
+//! Spaces and penalties between atoms (TeX: The Program, sections 760 to 767).
 ghost use Rattle.std.specs.Prelude.{◌≡◌, ◌≢◌, ◌<◌, ◌++◌, length, None, IfOk, IfErr, OnOk, Ok, Err};
 ghost use Rattle.tx_node.specs.Nodes.{item_of};
 ghost use Rattle.tx_math.specs.Boxes as boxes;

@@ -1,4 +1,4 @@
-//! Styles.
+//! Styles (TeX: The Program, sections 688, 702 and 703).
 ghost use Rattle.std.specs.Prelude.{◌≡◌};
 ghost use Rattle.tx_math.specs.Styles as spec;
 

@@ -1,4 +1,4 @@
-//! Fractions that aren't finished.
+//! Fractions that aren't finished (TeX: The Program, section 1181).
 ghost use Rattle.std.specs.Prelude.{◌≡◌, ◌↔◌, IsTrue};
 
 use crate::noad::InnerList;

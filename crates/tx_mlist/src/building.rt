@@ -1,4 +1,4 @@
-//! How lists are built.
+//! How lists are built (TeX: The Program, sections 1159, 1175 to 1177, and 1181 to 1186).
 ghost use Rattle.std.specs.Prelude.{◌≡◌, ◌≢◌, option_copied, option_map, IfOk, IfErr, OnOk, Ok, Err};
 ghost use Rattle.tx_mlist.specs.Building as spec;
 ghost use Rattle.tx_mlist.specs.Noads.{atom_of, math_of, mlist_of, part_of};

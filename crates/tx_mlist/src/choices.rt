@@ -1,4 +1,4 @@
-//! The lists of \mathchoice, as they are read.
+//! The lists of \mathchoice, as they are read (TeX: The Program, sections 1171 to 1174).
 ghost use Rattle.std.specs.Prelude.{◌≡◌, IfOk, OnOk};
 ghost use Rattle.tx_mlist.specs.Choices as spec;
 ghost use Rattle.tx_mlist.specs.Items.{gathered};

@@ -1,4 +1,4 @@
-//! What kinds of atoms there are, and the characters of families.
+//! What kinds of atoms there are, and the characters of families (TeX: The Program, sections 681 to 687).
 
 /// Where the limits of a large operator stand (TeX: The Program, section 682).
 #[derive(Clone, Copy, PartialEq, Eq)]

@@ -1,4 +1,4 @@
-//! Lists that are being built.
+//! Lists that are being built (TeX: The Program, section 680).
 ghost use Rattle.std.specs.Prelude.{◌≡◌, ◌↔◌, ◌≤◌, ◌∷◌, ◌++◌, [], length, IsTrue, IfOk, OnOk, OnErr, MatchOption};
 ghost use Rattle.tx_mlist.specs.Building.{inner};
 ghost use Rattle.tx_mlist.specs.Items.{gathered};

@@ -1,4 +1,4 @@
-//! Noads, which nest.
+//! Noads, which nest (TeX: The Program, sections 681 to 690).
 ghost use Rattle.std.specs.Prelude.{◌≡◌, ◌≤◌, IfOk};
 
 use crate::kinds::{AtomKind, MathCharacter};

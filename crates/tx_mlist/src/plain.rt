@@ -1,4 +1,4 @@
-//! Noads that hold nothing else.
+//! Noads that hold nothing else (TeX: The Program, sections 680 and 688).
 use tx_num::Glue;
 
 /// A small noad, which its list holds (TeX: The Program, sections 686, 688 and 149).

@@ -158,7 +158,8 @@ pub fn remove_last(nodes: &mut Nodes, kind: ItemKind)
     }
 }
 
-/// The box that stands last and belongs to no no-break text, lent list and all. Its only error is that no more owners can be counted.
+/// The box that stands last and belongs to no no-break text, lent list and all. Its only error is that no more owners can be
+/// counted.
 fn last_box(nodes: &Nodes) -> Result<Option<BoxNode>, AllocError>
     ensures { IfOk result (λ found. found ≡ spec.last_box nodes.now) }
 {

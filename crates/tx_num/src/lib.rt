@@ -17,7 +17,7 @@ mod units;
 pub use decimal::{decimals, scaled_text};
 pub use fractions::{set_at, x_over_n, xn_over_d};
 pub use glue_spec::Glue;
-pub use limits::{Overflow, Range};
+pub use limits::{GREATEST_DIMENSION, Overflow, Range, fits};
 pub use stretching::{badness, badness_of_sums};
 pub use units::PhysicalUnit;
 

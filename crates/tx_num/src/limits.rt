@@ -1,8 +1,11 @@
-//! How large TeX's numbers may be.
+//! How large TeX's numbers may be (TeX: The Program, sections 100, 104 and 421).
 ghost use Rattle.std.specs.Prelude.{◌≡◌, ◌≤◌, ◌↔◌, IsTrue, unsigned_abs};
-ghost use Rattle.tx_num.specs.Limits.{limit};
+ghost use Rattle.tx_num.specs.Limits.{fits, limit};
 
 use thiserror::Error;
+
+/// The greatest dimension, in sp.
+pub const GREATEST_DIMENSION: i64 = 1_073_741_823;
 
 /// A number left the range of its use.
 #[derive(Clone, Copy, Debug, Error)]
@@ -35,4 +38,11 @@ impl Range {
     {
         number.unsigned_abs() <= self.limit()
     }
+}
+
+/// Whether a size in sp is a dimension, as definitions test it.
+pub fn fits(size: i64) -> bool
+    ensures value { result ≡ fits size }
+{
+    size.unsigned_abs() < 1 << 30
 }

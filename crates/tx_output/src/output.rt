@@ -70,13 +70,13 @@ impl Output {
     }
 
     /// Begins the output of a page that was fired (TeX: The Program, sections 1012, 1015, 1017 and 1023 to 1025), where `dead` is
-    /// \deadcycles, `max_dead` \maxdeadcycles, and `void255` says whether \box255 is void. The page's list is packed to its goal and
-    /// its \maxdepth, and nothing is told of that; the box is shipped where \output has no tokens, and else is \box255, which they
-    /// read. What is held over and what remains of the contributions wait for `finish`.
+    /// \deadcycles, `max_dead` \maxdeadcycles, and `void255` says whether \box255 is void. The page's list is packed to its goal
+    /// and its \maxdepth, and nothing is told of that; the box is shipped where \output has no tokens, and else is \box255, which
+    /// they read. What is held over and what remains of the contributions wait for `finish`.
     ///
-    /// The errors, in this order: `OccupiedPageBox` where \box255 isn't void; `SizeOutOfRange` and `TooDeep` where the list can't be
-    /// packed; `TooManyDeadCycles` where \output has tokens and `dead` isn't below `max_dead`; and want of memory. Behind each of them
-    /// what waits is as before.
+    /// The errors, in this order: `OccupiedPageBox` where \box255 isn't void; `SizeOutOfRange` and `TooDeep` where the list can't
+    /// be packed; `TooManyDeadCycles` where \output has tokens and `dead` isn't below `max_dead`; and want of memory. Behind each
+    /// of them what waits is as before.
     pub fn begin(
         &mut self,
         alloc: Global,
@@ -115,8 +115,8 @@ impl Output {
         Ok(begun)
     }
 
-    /// What waits, with a list between; where nothing waits, the list alone. Its only error is want of memory, behind which what waits
-    /// is as before.
+    /// What waits, with a list between; where nothing waits, the list alone. Its only error is want of memory, behind which what
+    /// waits is as before.
     fn joined(&mut self, built: Nodes) -> Result<Nodes, AllocError>
         ensures ok { IfOk result (λ list. list ≡ spec.joined self.old.waiting built) }
         ensures same { OnErr result (self.new ≡ self.old) }
@@ -127,10 +127,10 @@ impl Output {
         }
     }
 
-    /// Ends the output that has begun (TeX: The Program, sections 1023, 1026 and 1028), and answers what is to be contributed now: the
-    /// insertions that were held over, what \output built, and what remained of the contributions. `at_end` says whether the group
-    /// of \output ends where its tokens end, and `void255` whether \box255 is void; a page that was shipped built nothing, and
-    /// both hold. Where none has begun, nothing waits.
+    /// Ends the output that has begun (TeX: The Program, sections 1023, 1026 and 1028), and answers what is to be contributed now:
+    /// the insertions that were held over, what \output built, and what remained of the contributions. `at_end` says whether the
+    /// group of \output ends where its tokens end, and `void255` whether \box255 is void; a page that was shipped built nothing,
+    /// and both hold. Where none has begun, nothing waits.
     ///
     /// `UnbalancedOutput` exactly where one of the two doesn't hold, and want of memory. Behind both what waits is as before.
     pub fn finish(

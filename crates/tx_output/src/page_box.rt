@@ -7,7 +7,8 @@ use crate::error::OutputError;
 use std::alloc::Global;
 use tx_bytes::Bytes;
 use tx_node::Nodes;
-use tx_pack::{Goal, PackError, PackParams, Packed, fits, vpack};
+use tx_num::{GREATEST_DIMENSION, fits};
+use tx_pack::{Goal, PackError, PackParams, Packed, vpack};
 
 impl From<PackError> for OutputError {
     ghost from_gives = { λ e r. r ≡ spec.of_packing e };
@@ -45,7 +46,7 @@ pub(crate) fn page_box(
     }
     let silent = PackParams {
         badness: 10_000,
-        fuzz: 1_073_741_823,
+        fuzz: GREATEST_DIMENSION,
         overfull_rule: 0,
     };
     let Packed { node, badness, .. } = vpack(alloc, list, Goal::To(goal), maxdepth, &silent)?;

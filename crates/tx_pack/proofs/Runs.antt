@@ -22,7 +22,8 @@ use Rattle.tx_node.specs.Sizes.{glue_of_item}
 use Rattle.tx_node.specs.Setting.{IsSet, sums_fit, share, part, part_of_glue}
 use Rattle.tx_pack.specs.declared.sums.Orders.{Orders}
 use Rattle.tx_pack.specs.declared.sums.Sums.{Sums}
-use Rattle.tx_pack.specs.Sums.{fits, all_fit, asked_fit, orders_fit, with_glue, joined, joined_if_fit, with_item, nothing, sums_of}
+use Rattle.tx_num.specs.Limits.{fits}
+use Rattle.tx_pack.specs.Sums.{all_fit, asked_fit, orders_fit, with_glue, joined, joined_if_fit, with_item, nothing, sums_of}
 use Rattle.tx_pack.specs.Verdicts.{ended_by}
 use Rattle.tx_pack.proofs.Tests.{both, together}
 

@@ -6,7 +6,8 @@ use Rattle.tx_node.specs.declared.head.Direction.{Direction}
 use Rattle.tx_node.specs.Items.{Item}
 use Rattle.tx_pack.specs.declared.sums.Orders.{Orders}
 use Rattle.tx_pack.specs.declared.sums.Sums.{Sums}
-use Rattle.tx_pack.specs.Sums.{fits, orders_fit, all_fit, asked_fit, joined, joined_if_fit, AreSmall, IsSmall}
+use Rattle.tx_num.specs.Limits.{fits}
+use Rattle.tx_pack.specs.Sums.{orders_fit, all_fit, asked_fit, joined, joined_if_fit, AreSmall, IsSmall}
 
 -- both of two tests
 pub both : {a b : Bool} → (a && b) ≡ true → (a ≡ true) × (b ≡ true)

@@ -16,7 +16,8 @@ use Rattle.tx_pack.specs.declared.types.Packed.{Packed}
 use Rattle.tx_pack.specs.declared.types.PackError.{PackError}
 use Rattle.tx_pack.specs.declared.types.PackError.TheVariants.{SizeOutOfRange, TooDeep}
 use Rattle.tx_pack.specs.declared.verdicts.Verdict.{Verdict}
-use Rattle.tx_pack.specs.Sums.{fits, sums_of}
+use Rattle.tx_num.specs.Limits.{fits}
+use Rattle.tx_pack.specs.Sums.{sums_of}
 use Rattle.tx_pack.specs.Stretching.{setting_for}
 use Rattle.tx_pack.specs.Verdicts.{verdict_of, end_rule, ended_by, report_of}
 

@@ -1,8 +1,9 @@
 -- What a list asks of the box that it is packed in: sums over its items (TeX: The Program, sections 649 to 656 and 668 to 671).
-use Rattle.std.specs.Prelude.{Bool, ◌&&◌, nat_lt, ◌^◌, ℤ, pos, ◌+ℤ◌, ◌-ℤ◌, unsigned_abs, List, fold, Option, Some, None, if◌then◌else◌}
+use Rattle.std.specs.Prelude.{Bool, ◌&&◌, ℤ, pos, ◌+ℤ◌, ◌-ℤ◌, List, fold, Option, Some, None, if◌then◌else◌}
 use Rattle.std.specs.Int.{int_max}
 use Rattle.std.specs.Option.{option_and_then}
 use Rattle.tx_num.specs.Glue.{GlueSpec, IsDimension}
+use Rattle.tx_num.specs.Limits.{fits}
 use Rattle.tx_node.specs.declared.character.Character.{Character as CharacterItem}
 use Rattle.tx_node.specs.declared.head.Change.{Change}
 use Rattle.tx_node.specs.declared.head.Change.TheVariants.{Stretch, Shrink}
@@ -134,10 +135,6 @@ no_orders = record { normal = pos 0; fil = pos 0; fill = pos 0; filll = pos 0 }
 -- the sums of the empty list
 abbrev pub nothing : Sums
 nothing = record { width = pos 0; height = pos 0; depth = pos 0; stretch = no_orders; shrink = no_orders }
-
--- a size that is a dimension
-abbrev pub fits : ℤ → Bool
-fits size = nat_lt (unsigned_abs size) (2 ^ 30)
 
 -- what an item asks across its list are dimensions, and so are all sums
 abbrev pub asked_fit : Direction → Item → Bool

@@ -17,6 +17,5 @@ mod types;
 mod verdicts;
 
 pub use packing::{extent_of, hpack, vpack};
-pub use sums::fits;
 pub use tops::vtop;
 pub use types::{Extent, Goal, PackError, PackParams, Packed};

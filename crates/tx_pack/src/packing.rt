@@ -14,11 +14,12 @@ ghost use Rattle.tx_pack.specs.Verdicts.{ended_by, verdict_of as verdict_of_list
 
 use crate::reports::report_of;
 use crate::stretching::setting_for;
-use crate::sums::{Sums, fits, minus, plus, sums_of};
+use crate::sums::{Sums, minus, plus, sums_of};
 use crate::types::{Extent, Goal, PackError, PackParams, Packed};
 use crate::verdicts::{Verdict, end_rule, verdict_of};
 use std::alloc::{AllocError, Global};
 use tx_node::{BoxHead, BoxNode, Direction, Node, Nodes, Rule, Shared};
+use tx_num::fits;
 
 /// How deep boxes may nest.
 const MAX_NESTING: u16 = 500;

@@ -12,7 +12,7 @@ ghost use Rattle.tx_pack.specs.Sums as spec;
 
 use crate::asked::{depth_asked, depth_left, height_asked, width_asked};
 use tx_node::{Change, Character, Direction, Node, Plain};
-use tx_num::Glue;
+use tx_num::{Glue, fits};
 
 /// Stretch or shrink by its order, in sp.
 #[derive(Clone, Copy)]
@@ -198,13 +198,6 @@ fn nothing() -> Sums
         stretch: none,
         shrink: none,
     }
-}
-
-/// Whether a size is a dimension.
-pub fn fits(size: i64) -> bool
-    ensures value { result ≡ spec.fits size }
-{
-    size.unsigned_abs() < 1 << 30
 }
 
 /// Whether what a node asks across its list are dimensions.

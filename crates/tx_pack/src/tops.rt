@@ -88,8 +88,8 @@ fn reset_to_top(packed: &mut BoxNode) -> Result<(), PackError>
 }
 
 /// A vertical list in the box of \vtop: it is packed as `vpack` does, and then has the height of its first item, if that is a box,
-/// a rule or a character, else 0, and the rest of height and depth as its depth (TeX: The Program, section 1087). `SizeOutOfRange` exactly
-/// where `vpack` answers it and where that depth is no dimension; `TooDeep` exactly where `vpack` answers it.
+/// a rule or a character, else 0, and the rest of height and depth as its depth (TeX: The Program, section 1087). `SizeOutOfRange`
+/// exactly where `vpack` answers it and where that depth is no dimension; `TooDeep` exactly where `vpack` answers it.
 pub fn vtop(
     alloc: Global,
     list: Nodes,

@@ -9,7 +9,8 @@ use Rattle.tx_insert.specs.declared.sums.Sums.{Sums}
 use Rattle.tx_insert.specs.declared.trial.Break.{Break}
 use Rattle.tx_insert.specs.declared.trial.Trial.{Trial}
 use Rattle.tx_insert.specs.Kinds.{stays, penalty_at, shrinks_endlessly}
-use Rattle.tx_insert.specs.Sums.{with_item, fits, IsSmall}
+use Rattle.tx_num.specs.Limits.{fits}
+use Rattle.tx_insert.specs.Sums.{with_item, IsSmall}
 use Rattle.tx_insert.specs.Costs.{badness_at, trial_of}
 use Rattle.tx_insert.specs.Breaks.{better}
 use Rattle.tx_pagebuilder.specs.declared.error.PageError.{PageError}

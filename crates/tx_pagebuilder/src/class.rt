@@ -1,7 +1,7 @@
 //! A class of insertions on a page.
 
-/// Where a class was split: the place on the page of the insertion that was, and the place in the list of this insertion at which it
-/// was broken, its length where nothing remains.
+/// Where a class was split: the place on the page of the insertion that was, and the place in the list of this insertion at which
+/// it was broken, its length where nothing remains.
 #[derive(Clone, Copy, PartialEq, Eq)]
 pub struct Cut {
     pub insert: usize,

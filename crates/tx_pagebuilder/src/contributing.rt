@@ -297,15 +297,15 @@ impl Page {
         }
     }
 
-    /// Contributes a node to the page (TeX: The Program, sections 994 to 1010), and tells whether the page is to be fired. Glue, kerns
-    /// and penalties before its first box or rule vanish; before that comes \topskip, less its height and at least 0. A kern waits
-    /// until the next node comes, which tells whether a break at it is legal. An insertion makes the goal fall, by all of it that
-    /// fits or by the part that is split off. A break is the best one if none before it costs less; the page fires at one that is
-    /// forced, or at which it is overfull, and then the node just stands behind it.
+    /// Contributes a node to the page (TeX: The Program, sections 994 to 1010), and tells whether the page is to be fired. Glue,
+    /// kerns and penalties before its first box or rule vanish; before that comes \topskip, less its height and at least 0. A kern
+    /// waits until the next node comes, which tells whether a break at it is legal. An insertion makes the goal fall, by all of it
+    /// that fits or by the part that is split off. A break is the best one if none before it costs less; the page fires at one that
+    /// is forced, or at which it is overfull, and then the node just stands behind it.
     ///
-    /// The page may only be dropped behind an error. The errors: `ClassOutOfRange` for an insertion of class 255; `WrongBox` where the
-    /// box of a class is an \hbox when its first insertion comes; `EndlessShrink` for glue on the page, \skip of a class when its
-    /// first insertion comes, or glue of an insertion that is split, that shrinks infinitely; `SizeOutOfRange` for a sum or the
+    /// The page may only be dropped behind an error. The errors: `ClassOutOfRange` for an insertion of class 255; `WrongBox` where
+    /// the box of a class is an \hbox when its first insertion comes; `EndlessShrink` for glue on the page, \skip of a class when
+    /// its first insertion comes, or glue of an insertion that is split, that shrinks infinitely; `SizeOutOfRange` for a sum or the
     /// goal that is no dimension, and for an \insertpenalties past 2^31-1; and want of memory.
     #[tactic(auto, unfolding(crate::specs::Contributed::contributed))]
     pub fn contribute(&mut self, node: Node, params: &PageParams) -> Result<Built, PageError>

@@ -214,8 +214,8 @@ impl Page {
         below
     }
 
-    /// What a page gives that is fired at a break, and was sorted, where so many insertions are held over. Its only error is want of
-    /// memory.
+    /// What a page gives that is fired at a break, and was sorted, where so many insertions are held over. Its only error is want
+    /// of memory.
     fn fired_as(
         &self,
         alloc: Global,
@@ -294,12 +294,12 @@ impl Page {
     /// \holdinginserts is positive, insertions leave it: all of a class before the one that was split join the box of their class,
     /// of that one what stands above its break, and what remains of it, with \splittopskip, is held over, as are those of its
     /// class behind it. Boxes that insertions join are packed anew, to their natural size. What was contributed from the break
-    /// on remains, a penalty there being 10000 from then on. Then the page has nothing; \insertpenalties is the number of insertions
-    /// that are held over, and the other quantities can still be read, until `end_output`.
+    /// on remains, a penalty there being 10000 from then on. Then the page has nothing; \insertpenalties is the number of
+    /// insertions that are held over, and the other quantities can still be read, until `end_output`.
     ///
-    /// The page may only be dropped behind an error. The errors, in this order: `WrongBox` where the box of a class that an insertion
-    /// joins is an \hbox; `SizeOutOfRange` and `TooDeep` where what is held over or a box can't be packed, or what is held over has no
-    /// dimension as its size, or is more than 2^31-1 insertions; and want of memory.
+    /// The page may only be dropped behind an error. The errors, in this order: `WrongBox` where the box of a class that an
+    /// insertion joins is an \hbox; `SizeOutOfRange` and `TooDeep` where what is held over or a box can't be packed, or what is
+    /// held over has no dimension as its size, or is more than 2^31-1 insertions; and want of memory.
     #[tactic(auto, unfolding(crate::specs::Fired::fired))]
     pub fn fire(&mut self, alloc: Global, params: &PageParams) -> Result<Fired, PageError>
         ensures fired { IfOk result (λ f. spec.fired self.old params.now ≡ Ok f) }

@@ -16,7 +16,7 @@ use crate::sizes::{
 };
 use tx_insert::{Break, Kind, SplitError, glue_fits, shrinks_endlessly, vbreak, with_elastic};
 use tx_node::{InsertHead, Node, Plain};
-use tx_num::Glue;
+use tx_num::{GREATEST_DIMENSION, Glue};
 
 /// By how much a size in a class's box makes the goal fall, in sp.
 fn scaled(count: i32, size: i32) -> i64
@@ -229,7 +229,7 @@ fn open_size(measures: &Measures, params: &ClassParams) -> i64
     ensures { result ≡ spec.open_size measures.now params.now }
 {
     if params.count <= 0 {
-        1_073_741_823
+        GREATEST_DIMENSION
     } else if params.count == 1000 {
         free(measures)
     } else {

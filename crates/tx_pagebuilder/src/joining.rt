@@ -11,6 +11,7 @@ use crate::error::PageError;
 use std::alloc::{AllocError, Global};
 use tx_list::Items;
 use tx_node::{BoxNode, Direction, Insertion, Node, Nodes};
+use tx_num::GREATEST_DIMENSION;
 use tx_pack::{Goal, PackError, PackParams, Packed, vpack};
 
 impl From<PackError> for PageError {
@@ -33,10 +34,10 @@ pub(crate) fn packed_naturally(alloc: Global, list: Nodes) -> Result<Packed, Pac
 {
     let silent = PackParams {
         badness: 10_000,
-        fuzz: 1_073_741_823,
+        fuzz: GREATEST_DIMENSION,
         overfull_rule: 0,
     };
-    vpack(alloc, list, Goal::Natural, 1_073_741_823, &silent)
+    vpack(alloc, list, Goal::Natural, GREATEST_DIMENSION, &silent)
 }
 
 /// What of the list of an insertion at a place of the page joins the box of its class.

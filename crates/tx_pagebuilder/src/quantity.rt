@@ -8,6 +8,7 @@ ghost use Rattle.tx_pagebuilder.specs.Quantities as spec;
 use crate::measures::{Contents, Measures};
 use crate::sizes::{narrow, narrow_integer};
 use tx_insert::Sums;
+use tx_num::GREATEST_DIMENSION;
 use tx_prim::PageQuantity;
 
 /// A quantity as it stands.
@@ -32,7 +33,7 @@ fn unset(q: PageQuantity, measures: &Measures) -> i64
     ensures { result ≡ spec.unset q measures.now }
 {
     match q {
-        PageQuantity::Goal => 1_073_741_823,
+        PageQuantity::Goal => GREATEST_DIMENSION,
         PageQuantity::Total => 0,
         PageQuantity::Stretch => 0,
         PageQuantity::FilStretch => 0,

@@ -5,6 +5,7 @@ ghost use Rattle.tx_pagebuilder.specs.Inserts.{integer};
 ghost use Rattle.tx_pagebuilder.specs.Placing.{dimension};
 
 use crate::error::PageError;
+use tx_num::fits;
 
 /// A size in 64 bits.
 pub(crate) fn wide(size: i32) -> i64
@@ -88,7 +89,7 @@ pub(crate) fn dimension(size: i64) -> Result<i32, PageError>
     ensures value { result ≡ dimension size }
     ensures small { IfOk result IsDimension }
 {
-    if size.unsigned_abs() < 1 << 30 {
+    if fits(size) {
         Ok(narrow(size))
     } else {
         Err(PageError::SizeOutOfRange)

@@ -12,7 +12,7 @@ use Rattle.tx_pack.specs.declared.types.Packed.{Packed}
 use Rattle.tx_pack.specs.declared.types.PackError.{PackError}
 use Rattle.tx_pack.specs.declared.types.PackError.TheVariants as packing
 use Rattle.tx_pack.specs.Packing.{hpacked}
-use Rattle.tx_pack.specs.Sums.{fits}
+use Rattle.tx_num.specs.Limits.{fits}
 use Rattle.tx_nest.specs.declared.leading.NestError.{NestError}
 use Rattle.tx_nest.specs.declared.leading.NestError.TheVariants as leading
 use Rattle.tx_nest.specs.declared.list.ModeList.{ModeList}

@@ -3,8 +3,8 @@ use tx_bytes::Bytes;
 use tx_linebreak::Chosen;
 use tx_node::Nodes;
 
-/// A paragraph's lines: what the vertical list gets, the breaks between them, \prevdepth in sp behind the last one, how bad that one
-/// is, and the transcript's lines of their boxes in order.
+/// A paragraph's lines: what the vertical list gets, the breaks between them, \prevdepth in sp behind the last one, how bad that
+/// one is, and the transcript's lines of their boxes in order.
 #[derive(Drop)]
 pub struct Lines {
     pub nodes: Nodes,

@@ -7,12 +7,10 @@ ghost use Rattle.tx_par.specs.Pieces as spec;
 use std::alloc::{AllocError, Global};
 use tx_linebreak::{Discretionary as Break, Piece, Pieces};
 use tx_node::{Direction, Discretionary, KernKind, Node, Plain, Shared, side};
+use tx_num::GREATEST_DIMENSION;
 
 /// The penalty that forces the last break.
 const FORCING: i32 = -10_000;
-
-/// The greatest dimension, in sp.
-const GREATEST: i64 = 1_073_741_823;
 
 /// What a kern is, of so many sp.
 fn kern_piece(kind: KernKind, size: i32) -> Piece
@@ -57,8 +55,8 @@ fn further(width: i64, node: &Node) -> i64
     ensures dimension { IsDimension result }
 {
     (width + node.advance(Direction::Horizontal))
-        .min(GREATEST)
-        .max(-GREATEST)
+        .min(GREATEST_DIMENSION)
+        .max(-GREATEST_DIMENSION)
 }
 
 /// How far a text reaches, in sp, held within the range of dimensions.

@@ -176,13 +176,13 @@ fn set(
     Ok(told(so_far, chosen))
 }
 
-/// Sets a paragraph's list as lines: it is ended, broken by `tx_linebreak`, and each line packed and put behind the one before, with
-/// what follows it and the penalty before the next (TeX: The Program, part 39; The TeXbook, chapter 14). There is a shape, and
+/// Sets a paragraph's list as lines: it is ended, broken by `tx_linebreak`, and each line packed and put behind the one before,
+/// with what follows it and the penalty before the next (TeX: The Program, part 39; The TeXbook, chapter 14). There is a shape, and
 /// \overfullrule is a dimension.
 ///
 /// Its errors are glue of the ended list, or at the ends of its lines, that shrinks infinitely, which is looked for before any line
-/// is set; the first size, leading or penalty of the lines in order that leaves its range, a line's width and indent among them; the
-/// first line, in this order, whose box would nest more than 500 deep; and want of memory.
+/// is set; the first size, leading or penalty of the lines in order that leaves its range, a line's width and indent among them;
+/// the first line, in this order, whose box would nest more than 500 deep; and want of memory.
 pub fn paragraph(
     alloc: Global,
     list: Nodes,
@@ -202,8 +202,8 @@ pub fn paragraph(
     set(alloc, &items, &pieces, shape, params, chosen)
 }
 
-/// Sets a paragraph's list as `paragraph` does where the first pass breaks it; None where this pass isn't made, or has no chain. There
-/// is a shape, and \overfullrule is a dimension. Its errors are those of `paragraph`.
+/// Sets a paragraph's list as `paragraph` does where the first pass breaks it; None where this pass isn't made, or has no chain.
+/// There is a shape, and \overfullrule is a dimension. Its errors are those of `paragraph`.
 pub fn first_lines(
     alloc: Global,
     list: &Nodes,

@@ -8,7 +8,7 @@ use Rattle.tx_nest.specs.declared.state.ModeState.{ModeState}
 use Rattle.tx_nest.specs.declared.state.ModeState.TheVariants.{Vertical, InternalVertical, Horizontal, RestrictedHorizontal, Math, DisplayMath}
 use Rattle.tx_nest.specs.Changed.{with_factor, with_items}
 use Rattle.tx_nest.specs.Factors.{plain_factor}
-use Rattle.tx_nest.specs.States.{begun}
+use Rattle.tx_nest.specs.States.{begun, mode_of}
 use Rattle.tx_node.specs.declared.head.Direction.TheVariants as direction
 use Rattle.tx_node.specs.declared.head.Setting.TheVariants.{Natural}
 use Rattle.tx_node.specs.declared.plain.Plain.TheVariants as small
@@ -18,6 +18,8 @@ use Rattle.tx_prim.specs.declared.family.Indentation.{Indentation}
 use Rattle.tx_prim.specs.declared.family.Indentation.TheVariants.{Indented, Flush}
 use Rattle.tx_prim.specs.declared.glue.GlueParameter.TheVariants.{Parskip}
 use Rattle.tx_prim.specs.declared.modes.Mode.TheVariants as mode
+use Rattle.tx_prim.specs.declared.modes.ModeTest.TheVariants as test
+use Rattle.tx_prim.specs.Modes.{holds}
 use Rattle.tx_seen.specs.declared.place.Place.TheVariants.{Dimension, Glue}
 use Rattle.tx_box.specs.declared.parts.Lists.{Lists}
 use Rattle.tx_box.specs.Formulas.{with_box}
@@ -25,12 +27,7 @@ use Rattle.tx_box.specs.Placing.{with_list}
 
 -- in which lists a paragraph begins: vertical ones
 abbrev pub begins_paragraph : ModeState → Bool
-begins_paragraph (Vertical depth) = true
-begins_paragraph (InternalVertical depth) = true
-begins_paragraph (Horizontal factor) = false
-begins_paragraph (RestrictedHorizontal factor) = false
-begins_paragraph Math = false
-begins_paragraph DisplayMath = false
+begins_paragraph state = holds test.Vertical (mode_of state)
 
 -- an empty box as wide as \parindent, which isn't shifted
 abbrev pub indent_packed : Table → PackedBox

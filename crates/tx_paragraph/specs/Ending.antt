@@ -10,7 +10,7 @@ use Rattle.tx_nest.specs.Changed.{with_depth, with_items}
 use Rattle.tx_nest.specs.Grafs.{raised_graf, with_graf}
 use Rattle.tx_nest.specs.States.{prev_depth}
 use Rattle.tx_node.specs.Items.{Item}
-use Rattle.tx_pack.specs.Sums.{fits}
+use Rattle.tx_num.specs.Limits.{fits}
 use Rattle.tx_par.specs.declared.error.ParError.{ParError}
 use Rattle.tx_par.specs.declared.error.ParError.TheVariants as par
 use Rattle.tx_par.specs.declared.lines.Lines.{Lines as Set}

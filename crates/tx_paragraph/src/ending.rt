@@ -284,10 +284,10 @@ fn leave(
     end_list(alloc, fonts, known, lists, table, prev_graf, nodes)
 }
 
-/// Ends the paragraph that is open, as at the end of a vertical box: its list is set as lines at the end of the list around, unless it
-/// is empty, and the next paragraph has the plain shape. Words are hyphenated where the first pass makes no lines of it, and `known`
-/// keeps that a second pass began. Where no paragraph is open, nothing happens. The answer is what the transcript gets: a line for each
-/// hyphen that was put in and that its font lacks, then what is told of the lines.
+/// Ends the paragraph that is open, as at the end of a vertical box: its list is set as lines at the end of the list around, unless
+/// it is empty, and the next paragraph has the plain shape. Words are hyphenated where the first pass makes no lines of it, and
+/// `known` keeps that a second pass began. Where no paragraph is open, nothing happens. The answer is what the transcript gets: a
+/// line for each hyphen that was put in and that its font lacks, then what is told of the lines.
 /// Its errors are those of the lines, and want of memory, after which lists, table and `known` may only be dropped.
 pub fn close_paragraph(
     alloc: Global,

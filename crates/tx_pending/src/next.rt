@@ -1,4 +1,4 @@
-//! What reading the pending input answers.
+//! What reading the pending input answers (TeX: The Program, section 357).
 ghost use Rattle.std.specs.Prelude.{◌≡◌};
 ghost use Rattle.tx_pending.specs.Elements.{closing_after};
 ghost use Rattle.tx_pending.specs.Steps.{is_used};

@@ -1,4 +1,4 @@
-//! The pending input.
+//! The pending input (TeX: The Program, sections 321 to 331 and 357).
 ghost use Rattle.std.specs.Prelude.{◌≡◌, ◌↔◌, ◌++◌, ◌-◌, drop, false, map, take, true, IsTrue, IfOk, IfSome, OnOk, OnErr};
 ghost use Rattle.tx_pending.specs.Elements as spec;
 ghost use Rattle.tx_toklist.specs.Bodies.{argument, filled, filled_from};

@@ -1,4 +1,4 @@
-//! The sources of pending input.
+//! The sources of pending input (TeX: The Program, sections 301 to 307 and 323 to 325).
 ghost use Rattle.std.specs.Prelude.{◌≡◌, ◌≢◌, ◌↔◌, ◌<◌, [], None, Some, length, slice_get, IsTrue, IfOk, IfSome};
 ghost use Rattle.tx_pending.specs.Elements.{Given as Element_given, Held as Element_held, PartEnd as Element_part, Unread, begins_entry, list_elements};
 ghost use Rattle.tx_pending.specs.Plain.{passed};

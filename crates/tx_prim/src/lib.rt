@@ -4,7 +4,8 @@
 //! Proved: each primitive's name and modes are those of one table, and the name leads back to it. Only tested: that the
 //! table is Knuth's, against `tex -ini`.
 //!
-//! Read `modes`, `family`, `integer`, `dimension`, `glue` and `tokens`, then `primitive`, and `expandable`, those that are expanded.
+//! Read `modes`, `family`, `integer`, `dimension`, `glue` and `tokens`, then `primitive`, and `expandable`, those that are
+//! expanded.
 #![tactic(auto)]
 
 mod dimension;

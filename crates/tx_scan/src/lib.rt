@@ -6,8 +6,8 @@
 //! Proved: each scan answers exactly what its grammar gives of all tokens and values that were taken; an integer's answers
 //! are final. Only tested: that the grammars are Knuth's, on numbers, keywords and names that his program reads alike.
 //!
-//! Read `scans`, `beginnings` and `lists`, then `integer`, `quantity`, `dimension`, `keyword`, `glue` and `grammars`; `spellings`, `control_name` and
-//! `file_name`; and `giving_back` and `laws`.
+//! Read `scans`, `beginnings` and `lists`, then `integer`, `quantity`, `dimension`, `keyword`, `glue` and `grammars`; `spellings`,
+//! `control_name` and `file_name`; and `giving_back` and `laws`. `outers`, `units`, `fraction` and `clones` are parts of these.
 #![tactic(auto)]
 
 mod beginnings;

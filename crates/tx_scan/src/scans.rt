@@ -288,8 +288,8 @@ pub enum DimenStage {
     TrueUnit(u32, Portion),
     /// An optional space behind the unit.
     AfterUnit(u32, UnitName),
-    /// This size of the current font, which is needed as the unit; whether a token was taken behind the unit's name that isn't part of
-    /// it.
+    /// This size of the current font, which is needed as the unit; whether a token was taken behind the unit's name that isn't part
+    /// of it.
     FontUnit(u32, FontSize, bool),
     /// Spaces behind `fil`, and letters that make it more infinite.
     AfterFil(u32, Order),

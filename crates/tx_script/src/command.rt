@@ -1,3 +1,4 @@
+//! What a script asks for.
 use tx_files::{Edit, Name};
 use tx_list::Items;
 

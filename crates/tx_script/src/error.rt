@@ -1,3 +1,4 @@
+//! Why a script is refused, and where.
 ghost use Rattle.std.specs.Prelude.{◌≡◌};
 ghost use Rattle.tx_script.specs.Numbers.{number_of};
 ghost use Rattle.tx_script.specs.declared.error.Fault.TheVariants as faults;

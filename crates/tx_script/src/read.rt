@@ -1,3 +1,4 @@
+//! A script, read from its text.
 ghost use Rattle.std.specs.Prelude.{◌≡◌, IfOk, IfErr, List};
 ghost use Rattle.tx_script.specs.Reading.{Gives, command_at, edit_at};
 ghost use Rattle.tx_script.specs.Text.{IsTextOf};

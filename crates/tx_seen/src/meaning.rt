@@ -93,7 +93,8 @@ impl Kept for Meaning {
     }
 }
 
-/// Whether both are the same primitive: no two have the same name, and primitives have no numbers.
+/// Whether both are the same primitive. No two have the same name, which tells them apart without a match of all pairs; numbers they
+/// have none.
 pub(crate) fn same_primitive(one: Primitive, other: Primitive) -> bool
     ensures { IsTrue result ↔ (one ≡ other) }
 {

@@ -29,7 +29,7 @@ pub enum FontSize {
     XHeight,
 }
 
-/// A place of the table (TeX: The Program, part 17).
+/// A place of the table (TeX: The Program, part 17), or of what is being built. Sizes are in sp.
 #[derive(Drop)]
 pub enum Place {
     /// The meaning of a control sequence.
@@ -38,7 +38,7 @@ pub enum Place {
     Active(u8),
     /// A register of \count.
     Count(u8),
-    /// A register of \dimen.
+    /// A register of \dimen, in sp.
     Dimen(u8),
     /// A register of \skip.
     Skip(u8),
@@ -52,7 +52,7 @@ pub enum Place {
     Code(CharacterCode, u8),
     /// An integer parameter.
     Integer(IntegerParameter),
-    /// A dimension parameter.
+    /// A dimension parameter, in sp.
     Dimension(DimensionParameter),
     /// A glue parameter.
     Glue(GlueParameter),
@@ -60,23 +60,24 @@ pub enum Place {
     Tokens(TokenParameter),
     /// A box register.
     Box(u8),
-    /// \wd, \ht or \dp of a box register.
+    /// \wd, \ht or \dp of a box register, in sp.
     BoxSize(BoxSide, u8),
     /// What \ifvoid and its kin test of a box register.
     BoxTest(BoxTest, u8),
     /// \lastpenalty, \lastkern or \lastskip, of the list that is being built, and no place of the table.
     Last(ItemKind),
-    /// \badness of the box that was packed last, and no place of the table either.
+    /// \badness of the box that was packed last, 1000000 where that was overfull, and no place of the table either.
     Badness,
-    /// \prevdepth of the list that is being built.
+    /// \prevdepth of the list that is being built, in sp.
     PrevDepth,
     /// \mag where `true` stands before a unit (TeX: The Program, section 457).
     Magnification,
     /// The number of the current font.
     Font,
-    /// A size of the current font, and no place of the table.
+    /// A size of the current font, in sp, and no place of the table.
     FontSize(FontSize),
-    /// The \fontdimen of this number of a font, and no place of the table; 0 stands for all numbers that no parameter can have.
+    /// The \fontdimen of this number of a font, in sp, and no place of the table; 0 stands for all numbers that no parameter can
+    /// have.
     FontDimen(FontName, u16),
     /// \hyphenchar or \skewchar of a font, and no place of the table.
     FontInteger(FontNumber, FontName),
@@ -88,7 +89,7 @@ pub enum Place {
     PrevGraf,
     /// \parshape, whose number is how many lines it has.
     ParShape,
-    /// \pagegoal and its kin, of the page that is being built.
+    /// \pagegoal and its kin, of the page that is being built: sizes in sp, and \insertpenalties, a number.
     Page(PageQuantity),
     /// \deadcycles.
     DeadCycles,

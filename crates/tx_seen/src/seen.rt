@@ -90,8 +90,8 @@ impl Seen {
         }
     }
 
-    /// The font that it tells where a font is needed: \font the current one, and a name that means a font that one (TeX: The Program,
-    /// section 577).
+    /// The font that it tells where a font is needed: \font the current one, and a name that means a font that one (TeX: The
+    /// Program, section 577).
     pub fn font_name(&self) -> Option<FontName>
         ensures { result ≡ spec.font_name self.now }
     {

@@ -1,3 +1,4 @@
+//! What a session keeps of a run.
 use tx_bytes::Bytes;
 use tx_checkpoint::Rows;
 

@@ -1,3 +1,5 @@
+//! What is reported of an edit.
+
 /// What came of an edit that was accepted, in pages: those that were resumed after, those that were formatted and those
 /// that were reused make up all.
 #[derive(Clone, Copy)]

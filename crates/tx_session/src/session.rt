@@ -1,3 +1,4 @@
+//! The session: a document, what the run on it gave, and edits of it.
 ghost use Rattle.std.specs.Prelude.{◌≡◌, ℕ, ◌<◌, ◌≤◌, ◌+◌, ◌*◌, length, take, IfOk, OnOk, OnErr};
 ghost use Rattle.tx_dvi.specs.Dvi.{dvi};
 ghost use Rattle.tx_files.specs.Edits.{IsAnswerTo};
@@ -36,10 +37,15 @@ fn report_of(pages: usize, resumed: usize, reused: usize) -> Report
 pub struct Session<M: Machine> {
     alloc: Global,
     machine: M,
+    /// The files as they are edited by now.
     files: FileSet,
+    /// The name of the main file.
     main: Name,
+    /// The moment that the document sees.
     date: Date,
+    /// How far its runs may go.
     limits: Limits,
+    /// What the run on these files gave.
     made: Made<M::State>,
 }
 

@@ -6,7 +6,8 @@
 //! Only tested: that the grammars are TeX's, on documents that Knuth's TeX reads alike.
 //!
 //! Read `types`; `scans`, `words` and `letters`, how far a scan is; `next` and `amount`, numbers and sizes with what follows
-//! them; `goal` and `boxes`, the parts of a box; `settings`, what is set; `loading`, what \font takes; last `stage`, whole rests, and `clones`. Scans of numbers are tx_scan's.
+//! them; `goal` and `boxes`, the parts of a box; `elastic`, glue; `settings`, what is set; `loading`, what \font takes; last
+//! `stage`, whole rests, and `clones`. Scans of numbers are tx_scan's.
 #![tactic(auto)]
 
 mod amount;

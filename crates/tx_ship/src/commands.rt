@@ -201,7 +201,8 @@ pub fn open(body: &mut Vec<u8>) -> Result<usize, AllocError>
     Ok(body.as_slice().len())
 }
 
-/// Puts the pop of a box at the end; the push, which is the last command before `start`, is dropped instead where nothing follows it.
+/// Puts the pop of a box at the end; the push, which is the last command before `start`, is dropped instead where nothing follows
+/// it.
 pub fn close(body: &mut Vec<u8>, start: usize) -> Result<(), AllocError>
     ensures { OnOk result (body.new.items ≡ (if length body.old.items == start then take (start - 1) body.old.items else body.old.items ++ 142 ∷ [])) }
 {

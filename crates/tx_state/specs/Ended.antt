@@ -14,12 +14,12 @@ use Rattle.tx_command.specs.declared.types.Head.{Head}
 use Rattle.tx_command.specs.declared.types.Head.TheVariants.{Fresh}
 use Rattle.tx_box.specs.Placing.{with_list}
 use Rattle.tx_box.specs.Sources.{appended}
-use Rattle.tx_state.specs.Outcomes.{Outcome, Fails, leaves}
+use Rattle.tx_state.specs.Outcomes.{Outcome, fails, leaves}
 use Rattle.tx_state.specs.State.{TexState}
 
 -- the table changes, if the assignment can be carried out; behind the name that \chardef or its kin defines its value is to follow
 abbrev pub naming : TexState → Head → Result Eqtb TexError → Outcome
-naming s head (Err e) = Fails e
+naming s head (Err e) = fails e
 naming s head (Ok table) = leaves (record s { table = table; head = head })
 
 -- an assignment is done: what \afterassignment keeps is read next (TeX: The Program, section 1269)
@@ -32,7 +32,7 @@ assigned s = with_after (record s { head = Fresh; taken = [] }) s.after_assignme
 
 -- the table changes, if the assignment can be carried out
 abbrev pub assigning : TexState → Result Eqtb TexError → Outcome
-assigning s (Err e) = Fails e
+assigning s (Err e) = fails e
 assigning s (Ok table) = leaves (assigned (record s { table = table }))
 
 -- the list that is being built changes

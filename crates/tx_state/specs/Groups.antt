@@ -1,5 +1,5 @@
 -- Groups begin and end, and what \aftergroup keeps is read behind them (TeX: The Program, sections 269 to 284 and 326).
-use Rattle.std.specs.Prelude.{ℕ, ◌==◌, nat_lt, List, [], ◌∷◌, length, Option, Some, None, if◌then◌else◌}
+use Rattle.std.specs.Prelude.{◌≡◌, ℕ, ◌==◌, Bool, true, false, nat_lt, List, [], ◌∷◌, length, Option, Some, None, if◌then◌else◌}
 use Rattle.tx_char.specs.declared.tokens.Token.{Token}
 use Rattle.tx_eqtb.specs.declared.groups.GroupKind.{GroupKind}
 use Rattle.tx_eqtb.specs.Stack.{opened, closed}
@@ -7,12 +7,17 @@ use Rattle.tx_expand.specs.Turns.{put_back}
 use Rattle.tx_seen.specs.declared.error.TexError.TheVariants.{TooManyGroups}
 use Rattle.tx_state.specs.declared.parts.KeptToken.{KeptToken}
 use Rattle.tx_state.specs.State.{TexState}
-use Rattle.tx_state.specs.Outcomes.{Outcome, Fails, leaves}
+use Rattle.tx_state.specs.Outcomes.{Outcome, fails, leaves}
 
 -- a group, if fewer than 255 are open
 abbrev pub opening : TexState → GroupKind → TexState → Outcome
 opening s kind inside =
-    if nat_lt (length s.table.groups) 255 then leaves (record inside { table = opened s.table kind }) else Fails TooManyGroups
+    if nat_lt (length s.table.groups) 255 then leaves (record inside { table = opened s.table kind }) else fails TooManyGroups
+
+-- whether one could be opened, and what it leaves then
+abbrev pub IsOpened : GroupKind → TexState → Bool → TexState → Type 0
+IsOpened kind s true new = (nat_lt (length s.table.groups) 255 ≡ true) × (new ≡ record s { table = opened s.table kind })
+IsOpened kind s false new = nat_lt (length s.table.groups) 255 ≡ false
 
 -- what \aftergroup keeps for the end of the innermost of so many groups, the last of those that are left
 abbrev pub kept_for : List KeptToken → ℕ → Option Token

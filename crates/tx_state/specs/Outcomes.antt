@@ -9,25 +9,27 @@ use Rattle.tx_seen.specs.declared.error.TexError.{TexError}
 use Rattle.tx_seen.specs.Errors.{number_of}
 use Rattle.tx_state.specs.State.{TexState, Meaning, Runs, Waits, Stops}
 
--- a turn leaves a state and adds to the transcript, asks, ships a page, or ends the run: by an error, perhaps behind what it adds to
--- the transcript, or as \end does
+-- a turn leaves a state and adds to the transcript, asks, ships a page, or ends the run: by an error, behind what it had told before
+-- it met that, or as \end does
 pub data Outcome : Type 0 where
   Leaves : TexState → List ℕ → Outcome
   Asks : Ask → TexState → Outcome
   Ships : Page → TexState → Outcome
-  Fails : TexError → Outcome
-  FailsTelling : TexError → List ℕ → Outcome
+  Fails : TexError → List ℕ → Outcome
   Ends : Outcome
 
 -- nothing is said
 abbrev pub leaves : TexState → Outcome
 leaves s = Leaves s []
 
+-- nothing was told before the error
+abbrev pub fails : TexError → Outcome
+fails error = Fails error []
+
 -- what the outside sees of it
 abbrev pub stepped : Outcome → Stepped Meaning
 stepped (Leaves s said) = record { event = Went; next = Runs s; said = said }
 stepped (Asks ask s) = record { event = Event_asks ask; next = Waits (kind_of ask) s; said = [] }
 stepped (Ships page s) = record { event = Shipped page; next = Runs s; said = [] }
-stepped (Fails error) = record { event = Stopped (Error (number_of error)); next = Stops; said = [] }
-stepped (FailsTelling error said) = record { event = Stopped (Error (number_of error)); next = Stops; said = said }
+stepped (Fails error said) = record { event = Stopped (Error (number_of error)); next = Stops; said = said }
 stepped Ends = record { event = Stopped End; next = Stops; said = [] }

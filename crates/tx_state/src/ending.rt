@@ -5,7 +5,7 @@ ghost use Rattle.tx_machine.specs.Machine.{kind_of};
 ghost use Rattle.tx_node.specs.Nodes.{item_of};
 ghost use Rattle.tx_state.specs.Ended as spec;
 ghost use Rattle.tx_state.specs.Meanings.{IsStepped, state_of};
-ghost use Rattle.tx_state.specs.Outcomes.{Asks, Fails, Ends, leaves};
+ghost use Rattle.tx_state.specs.Outcomes.{Asks, Ends, fails, leaves};
 
 use crate::parts::Phase;
 use crate::state::State;
@@ -19,7 +19,7 @@ use tx_seen::TexError;
 
 /// The run ends by an error.
 pub fn fail(s: &mut State, error: TexError) -> Event
-    ensures { IsStepped (Fails error) s.old result s.new }
+    ensures { IsStepped (fails error) s.old result s.new }
 {
     s.phase = Phase::Halted;
     Event::Stopped(Stop::Error(error.number()))
@@ -65,8 +65,13 @@ pub fn end_assignment(s: &mut State) -> Result<Event, AllocError>
     Ok(Event::Went)
 }
 
-/// An assignment, global by its prefixes or not. Its only further error is want of memory.
-pub fn assign_so(s: &mut State, assignment: Assignment, global: bool) -> Result<Event, AllocError>
+/// An assignment is carried out, global by its prefixes or not, and ends the turn. Err is want of memory; the event ends the run
+/// where the assignment is refused.
+pub fn carry_out_assignment(
+    s: &mut State,
+    assignment: Assignment,
+    global: bool,
+) -> Result<Event, AllocError>
     requires { s.old.phase ≡ Phase.Running }
     ensures { IfOk result (λ event. IsStepped (spec.assigning (state_of s.old) (carried_out s.old.table assignment global)) s.old event s.new) }
 {

@@ -18,15 +18,28 @@ use tx_machine::Event;
 use tx_pending::Pending;
 use tx_seen::TexError;
 
-/// Opens a group of this kind.
+/// Opens a group of this kind, unless 255 are open; the answer is whether it did. Err is want of memory.
+pub fn open_group(s: &mut State, kind: GroupKind) -> Result<bool, AllocError>
+    ensures opened { IfOk result (λ opened. spec.IsOpened kind (state_of s.old) opened (state_of s.new)) }
+    ensures phase { OnOk result (s.new.phase ≡ s.old.phase) }
+    ensures said { OnOk result (s.new.said ≡ s.old.said) }
+{
+    match s.table.open_group(kind) {
+        Ok(()) => Ok(true),
+        Err(OpenError::TooMany) => Ok(false),
+        Err(OpenError::OutOfMemory) => Err(AllocError),
+    }
+}
+
+/// The same, and nothing else; the run ends by `TooManyGroups` exactly where 255 are open. Err is want of memory.
 pub fn open(s: &mut State, kind: GroupKind) -> Result<Event, AllocError>
     requires { s.old.phase ≡ Phase.Running }
     ensures { IfOk result (λ event. IsStepped (spec.opening (state_of s.old) kind (state_of s.old)) s.old event s.new) }
 {
-    match s.table.open_group(kind) {
-        Ok(()) => Ok(Event::Went),
-        Err(OpenError::TooMany) => Ok(fail(s, TexError::TooManyGroups)),
-        Err(OpenError::OutOfMemory) => Err(AllocError),
+    if open_group(s, kind)? {
+        Ok(Event::Went)
+    } else {
+        Ok(fail(s, TexError::TooManyGroups))
     }
 }
 

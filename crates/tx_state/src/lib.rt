@@ -2,7 +2,11 @@
 //! and end.
 //!
 //! Proved: a copy means what the state does, `same_state` is exactly equality of meanings, what the text that is being taken
-//! makes of one more token, and that what ends a turn is the defined outcome; in `specs/` also what comes of a turn.
+//! makes of one more token, and that what ends a turn is the defined outcome; in `specs/` also what comes of a turn. Only tested:
+//! that this is TeX's, on documents that Knuth's TeX reads alike.
+//!
+//! A turn's event may end the run by an error; what the turn had put on the transcript before it met that stays there. After
+//! `Err(AllocError)`, here and in the crates that carry commands out on the state, the state may only be dropped.
 //!
 //! Read `parts`, `text`, `state`, `ending`, `groups` and `standing`; last `kept`, `share` and `same`.
 #![tactic(auto)]
@@ -17,8 +21,8 @@ mod standing;
 mod state;
 mod text;
 
-pub use ending::{add, ask, assign_so, end_assignment, fail, finish, finish_assignment};
-pub use groups::{leave_group, open};
+pub use ending::{add, ask, carry_out_assignment, end_assignment, fail, finish, finish_assignment};
+pub use groups::{leave_group, open, open_group};
 pub use parts::{Due, FontRequest, KeptToken, OpenText, Phase};
 pub use same::same_state;
 pub use share::share_state;

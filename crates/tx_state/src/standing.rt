@@ -6,7 +6,8 @@ ghost use Rattle.tx_state.specs.Standing as spec;
 use crate::state::State;
 use tx_command::Head;
 
-/// The level of braces where no alignment is read, or a row or an entry is to begin.
+/// The level of braces where no alignment is read, or a row or an entry is to begin: so far from 0 that no braces of a document
+/// reach that, at which entries end (`align_state` of TeX: The Program, sections 309 and 331).
 pub const OUTSIDE: i64 = 1_000_000;
 
 /// The next command stands in the mode of the list that is being built, behind this.

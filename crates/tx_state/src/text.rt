@@ -1,4 +1,5 @@
-//! Texts that are being taken: definitions, lists of tokens, and what \message and its kin absorb (TeX: The Program, sections 473 to 482).
+//! Texts that are being taken: definitions, lists of tokens, and what \message and its kin absorb (TeX: The Program, sections 473
+//! to 482).
 ghost use Rattle.std.specs.Prelude.{◌≡◌, IfOk, OnOk};
 ghost use Rattle.tx_state.specs.Texts as spec;
 ghost use Rattle.tx_state.specs.Texts.{IsTextFed};

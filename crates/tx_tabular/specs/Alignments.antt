@@ -1,5 +1,5 @@
 -- What is known of an alignment while it is read (TeX: The Program, sections 770 to 772).
-use Rattle.std.specs.Prelude.{◌≡◌, ℕ, ℤ, Bool, false, [], None, Result}
+use Rattle.std.specs.Prelude.{◌≡◌, ℤ, false, [], None, Result}
 use Rattle.tx_align.specs.declared.error.AlignError.{AlignError}
 use Rattle.tx_align.specs.Preambles.{nothing_read as no_preamble}
 use Rattle.tx_box.specs.declared.parts.Lists.{Lists}

@@ -1,5 +1,5 @@
 -- Alignments end (TeX: The Program, sections 800 to 812).
-use Rattle.std.specs.Prelude.{◌≡◌, ℕ, ℤ, List, [], ◌∷◌, Option, None, Some, Result, Ok, Err, if◌then◌else◌}
+use Rattle.std.specs.Prelude.{◌≡◌, ℕ, List, [], ◌∷◌, Option, None, Some, Result, Ok, Err, if◌then◌else◌}
 use Rattle.tx_align.specs.declared.aligned.Aligned.{Aligned}
 use Rattle.tx_align.specs.declared.error.AlignError.{AlignError}
 use Rattle.tx_align.specs.declared.error.AlignError.TheVariants.{MisplacedAlignment, SizeOutOfRange}
@@ -11,12 +11,12 @@ use Rattle.tx_box.specs.Placing.{with_list}
 use Rattle.tx_nest.specs.declared.list.ModeList.{ModeList}
 use Rattle.tx_nest.specs.declared.nest.Nest.{Nest}
 use Rattle.tx_nest.specs.declared.state.ModeState.{ModeState}
-use Rattle.tx_nest.specs.Changed.{with_depth, with_items}
+use Rattle.tx_nest.specs.Changed.{with_items}
 use Rattle.tx_nest.specs.States.{prev_depth}
 use Rattle.tx_node.specs.Items.{Item}
 use Rattle.tx_pack.specs.declared.types.Goal.{Goal}
 use Rattle.tx_pack.specs.declared.types.PackParams.{PackParams}
-use Rattle.tx_pack.specs.Sums.{fits}
+use Rattle.tx_num.specs.Limits.{fits}
 use Rattle.tx_tabular.specs.declared.alignment.Alignment.{Alignment}
 use Rattle.tx_tabular.specs.Lists.{between, from_depth}
 use Rattle.tx_tabular.specs.Rows.{pushing}

@@ -1,5 +1,5 @@
 -- Entries begin and end (TeX: The Program, sections 786 to 796).
-use Rattle.std.specs.Prelude.{ℕ, suc, pos, Bool, true, false, List, [], ◌∷◌, ◌++◌, is_some, Option, None, Some, Result, Ok, Err, if◌then◌else◌}
+use Rattle.std.specs.Prelude.{suc, pos, Bool, true, false, List, [], ◌∷◌, ◌++◌, is_some, Option, None, Some, Result, Ok, Err, if◌then◌else◌}
 use Rattle.tx_char.specs.declared.tokens.Token.{Token}
 use Rattle.tx_align.specs.declared.error.AlignError.{AlignError}
 use Rattle.tx_align.specs.declared.error.AlignError.TheVariants.{MisplacedAlignment}
@@ -12,7 +12,6 @@ use Rattle.tx_box.specs.Building.{left_list}
 use Rattle.tx_box.specs.Placing.{with_list}
 use Rattle.tx_nest.specs.declared.nest.Nest.{Nest}
 use Rattle.tx_nest.specs.Changed.{with_nodes}
-use Rattle.tx_node.specs.Items.{Item}
 use Rattle.tx_par.specs.declared.line.Line.{Line}
 use Rattle.tx_par.specs.LineLists.{line_of}
 use Rattle.tx_pending.specs.declared.next.ColumnPart.{ColumnPart}
@@ -20,7 +19,7 @@ use Rattle.tx_pending.specs.declared.next.ColumnPart.TheVariants.{U, V}
 use Rattle.tx_prim.specs.declared.family.EntryEnd.{EntryEnd}
 use Rattle.tx_prim.specs.declared.family.EntryEnd.TheVariants as end
 use Rattle.tx_tabular.specs.declared.alignment.Alignment.{Alignment}
-use Rattle.tx_tabular.specs.Alignments.{Laid, Laying}
+use Rattle.tx_tabular.specs.Alignments.{Laying}
 use Rattle.tx_tabular.specs.Lists.{between, entering}
 
 -- a row begins with its first entry; what stood before it is kept (section 786)

@@ -1,5 +1,5 @@
 -- Rows end (TeX: The Program, sections 679, 799 and 801).
-use Rattle.std.specs.Prelude.{ℤ, pos, Bool, true, List, [], ◌∷◌, Option, None, Some, Result, Ok, Err}
+use Rattle.std.specs.Prelude.{ℤ, pos, true, List, [], ◌∷◌, Option, Result, Ok, Err}
 use Rattle.std.specs.Int.{int_max}
 use Rattle.tx_align.specs.declared.error.AlignError.{AlignError}
 use Rattle.tx_align.specs.declared.error.AlignError.TheVariants.{SizeOutOfRange}
@@ -22,7 +22,7 @@ use Rattle.tx_pack.specs.declared.types.Extent.{Extent}
 use Rattle.tx_pack.specs.declared.types.PackError.{PackError}
 use Rattle.tx_pack.specs.Packing.{extent_of}
 use Rattle.tx_tabular.specs.declared.alignment.Alignment.{Alignment}
-use Rattle.tx_tabular.specs.Alignments.{Laid, Laying}
+use Rattle.tx_tabular.specs.Alignments.{Laying}
 
 -- a row is as high and as deep as the highest and the deepest of its entries
 abbrev pub no_extent : Extent

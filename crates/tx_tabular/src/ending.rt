@@ -81,8 +81,8 @@ fn stand_in(lists: &mut Lists, state: ModeState, made: Aligned) -> Result<Bytes,
 }
 
 /// An alignment ends, between rows: what it becomes stands in the list around, and \badness is how bad its preamble's box is. The
-/// answer is what the transcript gets. The errors are those of `Rows::finish`; `MisplacedAlignment` also where no list waits around.
-/// After an error the lists may only be dropped.
+/// answer is what the transcript gets. The errors are those of `Rows::finish`; `MisplacedAlignment` also where no list waits
+/// around. After an error the lists may only be dropped.
 pub fn end_alignment(
     alloc: Global,
     lists: &mut Lists,

@@ -44,8 +44,8 @@ pub fn begin_entry(alignment: &mut Alignment, omitted: bool)
     alignment.ending = None;
 }
 
-/// What the column of the entry has before its text, or behind it; nothing where the entry begins with \omit. Its only error is that
-/// no more owners can be counted.
+/// What the column of the entry has before its text, or behind it; nothing where the entry begins with \omit. Its only error is
+/// that no more owners can be counted.
 pub fn part_of(
     alloc: Global,
     alignment: &Alignment,
@@ -124,8 +124,8 @@ pub fn join_columns(alignment: &mut Alignment) -> Result<(), AllocError>
     Ok(())
 }
 
-/// An entry is whole: its list ends, and what leaves a box of it is kept beside; \badness is 0. `MisplacedAlignment` exactly where no
-/// list waits around. After an error both may only be dropped.
+/// An entry is whole: its list ends, and what leaves a box of it is kept beside; \badness is 0. `MisplacedAlignment` exactly where
+/// no list waits around. After an error both may only be dropped.
 pub fn end_entry(
     alloc: Global,
     lists: &mut Lists,

@@ -121,8 +121,8 @@ fn stand_behind(
     Ok(())
 }
 
-/// A row ends, whose entries are whole. `SizeOutOfRange` and `TooDeep` where an entry can't be packed, or the leading before the row
-/// is no dimension. After an error both may only be dropped.
+/// A row ends, whose entries are whole. `SizeOutOfRange` and `TooDeep` where an entry can't be packed, or the leading before the
+/// row is no dimension. After an error both may only be dropped.
 pub fn end_row(
     alloc: Global,
     lists: &mut Lists,

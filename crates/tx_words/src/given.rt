@@ -1,3 +1,4 @@
+//! What the words of a call ask for.
 ghost use Rattle.std.specs.Prelude.{◌≡◌, ◌∷◌, ◌++◌, [], OnOk, OnErr};
 
 use std::alloc::{AllocError, Global};

@@ -1,3 +1,4 @@
+//! The values of options: numbers, dates and names.
 ghost use Rattle.std.specs.Prelude.{◌≡◌, ◌≤◌, true, length, drop, map, Some, None, if◌then◌else◌, IfOk, IfSome};
 ghost use Rattle.std.specs.Char.{is_ascii_digit};
 ghost use Rattle.std.specs.List.{list_all, list_any};

@@ -1,3 +1,4 @@
+//! The words of a call, as `clap` has read them.
 ghost use Rattle.std.specs.Prelude.{◌≡◌, ◌≤◌, true, map, option_map, IfOk, IfSome, IsErr};
 ghost use Rattle.clap.specs.Words.{rows_of, found_of, subcommand_name_of, subcommand_rows_of, first_of, all_of};
 ghost use Rattle.tx_machine.specs.Ranges.{IsDate, AreLimits};

@@ -1,3 +1,4 @@
+//! The words of the command line.
 ghost use Rattle.std.specs.Prelude.{◌≡◌, ◌≢◌, [], IsErr, IsOkAnd};
 ghost use Rattle.std.specs.IoError.{error_kind};
 

@@ -1,3 +1,4 @@
+//! The second look, where not all went well.
 use std::alloc::{AllocError, Global};
 use std::rt::Files;
 use tx_causes::causes::{

@@ -16,7 +16,7 @@ use Rattle.vortex_cmd.specs.declared.trouble.Interruption.{Interruption}
 use Rattle.vortex_cmd.specs.declared.trouble.Interruption.TheVariants.{Trouble as Interrupted, RefusedEdit}
 use Rattle.tx_words.specs.declared.given.Asked.{Asked}
 use Rattle.vortex_cmd.specs.declared.scripted.Scripted.{Scripted}
-use Rattle.vortex_cmd.specs.Scripts.{Reads, ForScript, Read, Unread}
+use Rattle.vortex_cmd.specs.Scripts.{ForScript, Read, Unread}
 use Rattle.tx_words.specs.Words.{script_asked, words_meant}
 use Rattle.vortex_cmd.specs.Outcome.{Outcome, saying, made_pieces, making, session_outcome, outcome, asked_outcome, most_turns, ForHeld, Leaves}
 use Rattle.vortex_cmd.specs.Replay.{Replays, opened, turns_from}

@@ -1,16 +1,16 @@
 -- A script's file has one reading.
-use Rattle.std.proofs.Common.{◌≡◌, ℕ, ◌<◌, ◌≤◌, flat_map, List, [], ◌∷◌, ◌++◌, length, take, Option, Some, None, refl, sym, ap, ◌∙◌, subst, arith, append-nil}
-use Rattle.std.specs.Prelude.{codes, slice_get, IfSome}
+use Rattle.std.proofs.Common.{◌≡◌, ℕ, ◌<◌, flat_map, List, [], ◌∷◌, ◌++◌, take, Option, Some, None, refl, sym, ap, ◌∙◌, subst, arith, append-nil}
+use Rattle.std.specs.Prelude.{codes, IfSome}
 use Rattle.std.proofs.lemmas.Grind.{flat_map-append}
 use Rattle.tx_bytes.specs.Files.{Files, content}
 use Rattle.tx_script.specs.declared.command.Command.{Command}
 use Rattle.tx_script.specs.declared.command.Command.TheVariants.{Save}
 use Rattle.tx_script.specs.declared.error.Rule.{Rule}
 use Rattle.tx_script.specs.declared.error.Rule.TheVariants.{File}
-use Rattle.tx_script.specs.Text.{bytes_of, elements, rules, text, IsScript, IsTextOf, IsNextRule, IsRefusal}
+use Rattle.tx_script.specs.Text.{bytes_of, elements, text, IsScript, IsTextOf, IsNextRule, IsRefusal}
 use Rattle.vortex_cmd.specs.declared.scripted.Scripted.{Scripted}
 use Rattle.vortex_cmd.specs.declared.scripted.Scripted.TheVariants.{Plays, Refused}
-use Rattle.vortex_cmd.specs.Scripts.{IsReading, ReadsFile, Reads, HasNoScript, NamesNoScript, HoldsNoScript}
+use Rattle.vortex_cmd.specs.Scripts.{IsReading, Reads, HasNoScript, NamesNoScript, HoldsNoScript}
 
 -- a script with one command more
 abbrev saved : Command

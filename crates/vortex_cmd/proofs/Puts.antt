@@ -1,7 +1,7 @@
 -- Pieces that are put out behind others.
-use Rattle.std.proofs.Common.{◌≡◌, ℕ, List, [], ◌∷◌, ◌++◌, length, true, false, Option, Result, Ok, Err, sym, ap, ◌∙◌, subst, append-nil}
+use Rattle.std.proofs.Common.{◌≡◌, List, [], ◌++◌, true, false, Option, Result, Ok, Err, sym, ap, ◌∙◌, subst, append-nil}
 use Rattle.std.specs.Prelude.{IsErr}
-use Rattle.tx_io.specs.Output.{Output, Piece, Say, told}
+use Rattle.tx_io.specs.Output.{Output, Piece, told}
 use Rattle.tx_io.specs.Cut.{IsCutShort}
 use Rattle.tx_io.proofs.Told.{told-append}
 use Rattle.tx_io.proofs.CutShort.{cut-behind, cut-longer}

@@ -1,5 +1,5 @@
 -- The first line, the commands, and what is saved at last, one after the other.
-use Rattle.std.proofs.Common.{◌≡◌, List, [], ◌∷◌, ◌++◌, ℕ, Option, Some, Result, Ok, Err, refl, sym, ap, ◌∙◌, subst}
+use Rattle.std.proofs.Common.{◌≡◌, List, [], ◌∷◌, ◌++◌, ℕ, Option, Result, Ok, Err, ap, ◌∙◌, subst}
 use Rattle.std.specs.Prelude.{IsErrAnd, option_map}
 use Rattle.tx_io.specs.Output.{Output, Piece, told}
 use Rattle.tx_io.specs.Cut.{IsCutShort}
@@ -8,8 +8,7 @@ use Rattle.tx_io.proofs.CutShort.{cut-behind, cut-longer}
 use Rattle.vortex_cmd.specs.declared.trouble.Trouble.{Trouble}
 use Rattle.vortex_cmd.specs.declared.trouble.Interruption.{Interruption}
 use Rattle.vortex_cmd.specs.declared.trouble.Interruption.TheVariants.{Trouble as Interrupted, RefusedEdit}
-use Rattle.vortex_cmd.specs.Replay.{Replays, IsRefused}
-use Rattle.vortex_cmd.specs.Trouble.{PutsOut}
+use Rattle.vortex_cmd.specs.Replay.{Replays}
 use Rattle.vortex_cmd.proofs.Replayed.{on-err}
 
 module _ (first : Piece) (middle last : List Piece) (refusal : ℕ → Option (List Piece)) (before : Option Output) where

@@ -1,10 +1,9 @@
 -- What the commands of a script put out, one after the other, over a session.
-use Rattle.std.specs.Prelude.{◌≡◌, ℕ, ◌+◌, Bool, true, false, List, [], ◌∷◌, ◌++◌, length, take, slice_get, fold, codes, Option, Some, None, Result, Ok, Err, if◌then◌else◌}
-use Rattle.tx_io.specs.Output.{Output, Piece, Say, Save, told}
+use Rattle.std.specs.Prelude.{◌≡◌, ℕ, ◌+◌, Bool, true, false, List, [], ◌∷◌, ◌++◌, take, slice_get, fold, Option, Some, None, Result, Ok, Err, if◌then◌else◌}
+use Rattle.tx_io.specs.Output.{Output, Piece, Say, told}
 use Rattle.tx_io.specs.Cut.{IsCutShort}
 use Rattle.tx_files.specs.Edits.{fits_in, length_of}
 use Rattle.tx_files.specs.declared.edit.Edit.{Edit as FileEdit}
-use Rattle.tx_machine.specs.declared.types.Ran.{Ran}
 use Rattle.tx_machine.specs.declared.types.End.{End as RunEnd}
 use Rattle.tx_machine.specs.declared.types.End.TheVariants.{End, Error, Budget, PageLimit}
 use Rattle.tx_machine.specs.Machine.{Formatter}

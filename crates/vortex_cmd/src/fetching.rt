@@ -1,3 +1,4 @@
+//! The files that the words list are fetched.
 ghost use Rattle.std.specs.Prelude.{◌≡◌, OnOk, IfOk, true};
 ghost use Rattle.std.specs.FinMap.{empty};
 ghost use Rattle.vortex_cmd.specs.Outcome.{with_listed, ForHeld};

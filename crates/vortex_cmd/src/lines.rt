@@ -1,3 +1,4 @@
+//! The lines that are said: of runs, of edits, and of what is made or refused.
 ghost use Rattle.std.specs.Prelude.{◌≡◌, ◌++◌, OnOk, IfOk};
 ghost use Rattle.std.specs.Fmt.{decimal};
 ghost use Rattle.vortex_cmd.specs.Lines.{place_text, end_text, run_line, edit_text, report_text, edit_line, outside_line, memory_line, script_refusal_line, gen_line, help_text, run_help_text, gen_help_text, version_line};
@@ -8,6 +9,7 @@ use tx_machine::End;
 use tx_script::Rule;
 use tx_session::Report;
 
+/// A number in decimal digits.
 fn append_number(alloc: Global, text: &mut Bytes, number: u64) -> Result<(), AllocError>
     ensures { OnOk result (text.new ≡ text.old ++ decimal number) }
 {

@@ -1,3 +1,4 @@
+//! What is put out of a document: its DVI file and its transcript.
 ghost use Rattle.std.specs.Prelude.{◌≡◌, ◌∷◌, ◌++◌, [], IfOk};
 ghost use Rattle.tx_io.specs.Output.{Say, Save};
 ghost use Rattle.tx_session.specs.Held.{fresh};

@@ -1,10 +1,9 @@
-ghost use Rattle.std.specs.Prelude.{◌≡◌, ◌∷◌, [], ◌+◌, ◌<◌, ◌≤◌, ◌^◌, length, IfOk, OnOk, IsErrOf};
+//! The commands of a script, one by one.
+ghost use Rattle.std.specs.Prelude.{◌≡◌, ◌∷◌, [], ◌+◌, ◌<◌, ◌≤◌, ◌^◌, IfOk, OnOk, IsErrOf};
 ghost use Rattle.tx_io.specs.Output.{Say};
 ghost use Rattle.tx_machine.specs.Steps.{raised};
 ghost use Rattle.tx_script.specs.declared.command.Command.TheVariants as command;
-ghost use Rattle.tx_session.specs.Held.{fresh};
 ghost use Rattle.tx_session.specs.Report.{turns_of_edit};
-ghost use Rattle.vortex_cmd.specs.Pieces.{saved_pieces};
 ghost use Rattle.vortex_cmd.specs.Replay.{Puts, Replays, IsEdit, opened, next_moment, moment_after, line_of, pieces_at, pieces_from, turns_at, turns_from, refused_pieces, refusal_at};
 ghost use Rattle.vortex_cmd.specs.Tally.{moment};
 ghost use Rattle.vortex_cmd.specs.Trouble.{PutsOut, SinkCauses, EditCauses};

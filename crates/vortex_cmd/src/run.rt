@@ -1,3 +1,4 @@
+//! A run as a whole: files are fetched, the main one is run, commands are carried out, and the rest is saved.
 ghost use Rattle.std.specs.Prelude.{◌≡◌, ◌<◌, ◌≤◌, ◌⊎◌, ℕ, IfOk, OnOk, IsErrOf};
 ghost use Rattle.std.specs.FinMap.{empty};
 ghost use Rattle.tx_machine.specs.Steps.{raised};

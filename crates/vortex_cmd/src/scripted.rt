@@ -1,3 +1,4 @@
+//! What a script's file is read as.
 use tx_script::{Rule, Script};
 
 /// What is read of a script's file.

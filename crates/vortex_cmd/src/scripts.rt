@@ -1,3 +1,4 @@
+//! The script is fetched and read.
 ghost use Rattle.std.specs.Prelude.{◌≡◌, Some, IfOk};
 ghost use Rattle.vortex_cmd.specs.Scripts.{IsReading, ReadsFile, Reads};
 ghost use Rattle.vortex_cmd.specs.declared.scripted.Scripted.{Scripted};

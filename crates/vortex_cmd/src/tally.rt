@@ -1,3 +1,5 @@
+//! What is counted of the edits of a script.
+
 /// How many edits were read, and whether one of them went past the end of its file.
 #[derive(Clone, Copy)]
 pub struct Tally {

@@ -1,3 +1,4 @@
+//! What cuts a call short.
 ghost use Rattle.std.specs.Prelude.{◌≡◌};
 ghost use Rattle.vortex_cmd.specs.declared.trouble.Trouble.TheVariants.{Memory};
 ghost use Rattle.vortex_cmd.specs.declared.trouble.Interruption.TheVariants as interruption;

@@ -1,3 +1,4 @@
+//! The top call.
 ghost use Rattle.std.specs.Prelude.{◌≡◌, ◌≢◌, ◌+◌, ◌<◌, ◌≤◌, ◌⊎◌};
 ghost use Rattle.tx_io.specs.Faults.{Rose};
 ghost use Rattle.tx_main.specs.Turns.{tex};

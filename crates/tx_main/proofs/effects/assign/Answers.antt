@@ -8,4 +8,4 @@ returns-then-is_text c =
 
 pub returns-else-is_text : goal.returns-else-is_text
 returns-else-is_text c =
-    assigns c.args.s.now c.assign_so.new.s c.args.assignment c.prefixes-global.result c.assign_so.result (sym c.is_preamble.ensures ∙ c.if-is_preamble.false) (sym c.is_text.ensures ∙ c.if-is_text.false) c.prefixes-global.ensures c.assign_so.ensures
+    assigns c.args.s.now c.carry_out_assignment.new.s c.args.assignment c.prefixes-global.result c.carry_out_assignment.result (sym c.is_preamble.ensures ∙ c.if-is_preamble.false) (sym c.is_text.ensures ∙ c.if-is_text.false) c.prefixes-global.ensures c.carry_out_assignment.ensures

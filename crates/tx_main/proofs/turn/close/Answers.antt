@@ -1,13 +1,13 @@
 use Rattle.tx_machine.specs.declared.types.Ask.TheVariants.{Close}
 use Rattle.tx_state.specs.Meanings.{state_of}
-use Rattle.tx_state.specs.Outcomes.{Asks, Fails}
+use Rattle.tx_state.specs.Outcomes.{Asks, fails}
 use Rattle.tx_main.specs.Turns.{closes}
 use Rattle.tx_main.proofs.Closing.{closes-asked, closes-refused, stepped-as}
 use Rattle.tx_main.proofs.turn.close.Goals as goal
 
 pub returns-in-Some : goal.returns-in-Some
 returns-in-Some c =
-    stepped-as (closes (state_of c.args.s.now)) (Fails c.in-Some.error) c.args.s.now c.fail.result c.fail.new.s
+    stepped-as (closes (state_of c.args.s.now)) (fails c.in-Some.error) c.args.s.now c.fail.result c.fail.new.s
     (closes-refused (state_of c.args.s.now) c.is_some.result c.ended.result c.in-Some.error c.is_some.ensures c.ended.ensures c.in-Some.is)
     c.fail.ensures
 

@@ -1,4 +1,3 @@
-use Rattle.std.proofs.Common.{rules}
 use Rattle.tx_session.specs.Held.{fresh}
 use Rattle.vortex_cmd.specs.Pieces.{dvi_pieces, log_pieces}
 use Rattle.vortex_cmd.proofs.Puts.{puts-first, puts-behind}

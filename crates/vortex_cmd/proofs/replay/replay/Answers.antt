@@ -1,7 +1,7 @@
-use Rattle.std.proofs.Common.{◌≡◌, rules, Result, Err, ap, ◌∙◌}
+use Rattle.std.proofs.Common.{rules, ◌∙◌}
 use Rattle.vortex_cmd.specs.declared.tally.Tally.{Tally}
 use Rattle.vortex_cmd.specs.Replay.{Replays, opened, pieces_from, refusal_at}
-use Rattle.vortex_cmd.proofs.Replayed.{replayed-on, replayed-cut, replayed-most, on-err}
+use Rattle.vortex_cmd.proofs.Replayed.{replayed-on, replayed-cut, on-err}
 use Rattle.vortex_cmd.proofs.replay.replay.Goals as goal
 
 pub returns-in_err-run_command-clause-puts : goal.returns-in_err-run_command-clause-puts

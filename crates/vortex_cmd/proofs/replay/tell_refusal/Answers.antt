@@ -1,5 +1,5 @@
-use Rattle.std.proofs.Common.{◌≡◌, ◌+◌, ◌∷◌, [], List, Option, ℕ, ap, rules, subst}
-use Rattle.tx_io.specs.Output.{Output, Say, told}
+use Rattle.std.proofs.Common.{◌≡◌, ◌+◌, ◌∷◌, [], List, ℕ, rules, subst}
+use Rattle.tx_io.specs.Output.{Say, told}
 use Rattle.tx_io.specs.Cut.{IsCutShort}
 use Rattle.tx_session.specs.Held.{fresh}
 use Rattle.vortex_cmd.specs.Lines.{memory_line}

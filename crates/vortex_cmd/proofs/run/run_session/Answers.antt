@@ -1,5 +1,4 @@
-use Rattle.std.proofs.Common.{◌≡◌, ap, rules, List}
-use Rattle.tx_io.specs.Output.{Piece}
+use Rattle.std.proofs.Common.{ap}
 use Rattle.tx_session.specs.Held.{fresh}
 use Rattle.vortex_cmd.specs.declared.tally.Tally.{Tally}
 use Rattle.vortex_cmd.specs.Outcome.{first_piece}

@@ -1,4 +1,4 @@
-use Rattle.std.proofs.Common.{[], ap, ◌∙◌}
+use Rattle.std.proofs.Common.{ap}
 use Rattle.std.specs.Prelude.{reverse}
 use Rattle.tx_list.proofs.Reversed.{none-reversed}
 use Rattle.tx_list.proofs.stack.Stack.is_empty.Goals as goal

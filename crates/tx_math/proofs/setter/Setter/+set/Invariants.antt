@@ -1,4 +1,4 @@
-use Rattle.std.proofs.Common.{◌≡◌, ◌+◌, ◌*◌, ◌++◌, drop, Ok}
+use Rattle.std.proofs.Common.{◌≡◌, ◌+◌, ◌*◌, drop}
 use Rattle.tx_math.specs.Converting.{entries_in, pieces_in}
 use Rattle.tx_math.specs.Formula.{inward, pieces_of}
 use Rattle.tx_math.specs.Setters.{math_in}

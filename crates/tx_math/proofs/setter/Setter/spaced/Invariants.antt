@@ -1,4 +1,4 @@
-use Rattle.std.proofs.Common.{◌≡◌, length, None, Ok}
+use Rattle.std.proofs.Common.{◌≡◌, length, None}
 use Rattle.tx_math.specs.Boxes.{with_more}
 use Rattle.tx_math.specs.Converting.{pieces_in}
 use Rattle.tx_math.specs.Setters.{math_in}

@@ -9,6 +9,6 @@ pub returns-in_ok-with_part-in-Some : goal.returns-in_ok-with_part-in-Some
 returns-in_ok-with_part-in-Some c =
     let whole : c.args.self.now ≡ c.pop.new.self ++ math_of c.in-Some.noad ∷ [] = c.in-Some.ensures in
     let put : spec.filled c.args.place (part_of c.args.part) c.args.self.now ≡ c.pop.new.self ++ math_of c.in_ok-with_part-in-Some.field-0 ∷ [] =
-        changed_last (spec.with_part c.args.place (part_of c.args.part)) c.args.self.now c.pop.new.self (math_of c.in-Some.noad) whole
-        ∙ ap (λ item. c.pop.new.self ++ item ∷ []) (sym c.in_ok-with_part-in-Some.ensures) in
+    changed_last (spec.with_part c.args.place (part_of c.args.part)) c.args.self.now c.pop.new.self (math_of c.in-Some.noad) whole
+    ∙ ap (λ item. c.pop.new.self ++ item ∷ []) (sym c.in_ok-with_part-in-Some.ensures) in
     subst (λ (list : List MathItem). OnOk c.push.result (c.push.new.self ≡ list)) (sym put) c.push.ensures.ok
