@@ -1,5 +1,5 @@
 //! The list.
-ghost use Rattle.std.specs.Prelude.{◌≡◌, ◌↔◌, ◌∷◌, ◌++◌, ◌<◌, ◌-◌, [], if◌then◌else◌, length, slice_index_or, slice_set, take, IsTrue, IfOk, OnOk, OnErr, MatchOption};
+ghost use Rattle.std.specs.Prelude.{◌≡◌, ◌↔◌, ◌∷◌, ◌++◌, ◌<◌, ◌-◌, [], length, slice_index_or, slice_set, take, IsTrue, IfOk, OnOk, OnErr, MatchOption};
 ghost use Rattle.std.specs.Borrow.{sem};
 
 use crate::kept::Kept;
