@@ -127,8 +127,8 @@ fn alone_in(mode: Mode, meaning: &Meaning) -> Option<AtOnce>
 
 impl CommandScan {
     /// The command that this token is by itself, where nothing of a command is taken and nothing stands before it. Where it isn't
-    /// carried out in the mode, since it is refused there or a paragraph begins or ends before it, the answer is None. It is put into
-    /// the turn as a whole, since most tokens of a document pass here.
+    /// carried out in the mode, since it is refused there or a paragraph begins or ends before it, the answer is None. It is put
+    /// into the turn as a whole, since most tokens of a document pass here.
     #[inline(always)]
     pub fn at_once(&self, seen: &Seen) -> Option<AtOnce>
         ensures { IfSome result (λ found. spec.IsWhole self.now seen.now found) }

@@ -10,8 +10,8 @@ use std::mem::replace;
 use tx_assign::{AssignScan, Assignment, Change};
 use tx_seen::Place;
 
-/// Where a whole command is put until it is carried out, so that no token moves one. An assignment stands apart from all others, and
-/// comes there straight from its scan. Contracts see the command.
+/// Where a whole command is put until it is carried out, so that no token moves one. An assignment stands apart from all others,
+/// and comes there straight from its scan. Contracts see the command.
 #[derive(Drop)]
 pub struct CommandBuffer {
     /// Which of both it is.

@@ -91,8 +91,8 @@ impl TakenItems {
         self.part = NamePart::Equals;
     }
 
-    /// Puts the last tokens, so many of them, at the front of the input, in their order, and keeps no item. Its only error is want of
-    /// memory.
+    /// Puts the last tokens, so many of them, at the front of the input, in their order, and keeps no item. Its only error is want
+    /// of memory.
     #[inline(never)]
     pub(crate) fn put_back(&mut self, input: &mut Pending, back: usize) -> Result<(), AllocError>
         ensures given { OnOk result (input.new ≡ given_back input.old (tokens_of (last back self.old))) }

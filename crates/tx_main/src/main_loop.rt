@@ -1,8 +1,9 @@
 //! Many turns at one go: as long as tokens are read, no work is due, and what comes of them is nothing that the outside has to know
 //! (TeX: The Program, section 1030). Characters are taken without what goes before other tokens: in the main loop those that follow
-//! one another join the open word of a horizontal list, and spaces between them end it (sections 1034 to 1041); so characters join a
-//! text that is open, within its braces (sections 473 and 477), an argument (section 392), or text that is skipped (section 494), as long as
-//! nothing of these ends; and a command that is begun, such as the number of an assignment, up to the one behind which it is whole.
+//! one another join the open word of a horizontal list, and spaces between them end it (sections 1034 to 1041); so characters join
+//! a text that is open, within its braces (sections 473 and 477), an argument (section 392), or text that is skipped (section 494),
+//! as long as nothing of these ends; and a command that is begun, such as the number of an assignment, up to the one behind which
+//! it is whole.
 ghost use Rattle.std.specs.Prelude.{◌≡◌, ◌<◌, ◌≤◌, ◌∷◌, [], true, None, Some, length, IsTrue, IfOk, IfSome, OnOk, OnErr};
 ghost use Rattle.tx_machine.specs.Machine.{Ready};
 ghost use Rattle.tx_machine.specs.Plain.{HasPassed, HasRunOn, IsLast, last_turns, turns_of};

@@ -93,8 +93,8 @@ impl Kept for Meaning {
     }
 }
 
-/// Whether both are the same primitive. No two have the same name, which tells them apart without a match of all pairs; numbers they
-/// have none.
+/// Whether both are the same primitive. No two have the same name, which tells them apart without a match of all pairs; primitives
+/// have no numbers.
 pub(crate) fn same_primitive(one: Primitive, other: Primitive) -> bool
     ensures { IsTrue result ↔ (one ≡ other) }
 {
