@@ -92,13 +92,17 @@ abbrev pub wanted_by : TexState → Option OpenText → Wanted
 wanted_by s None = record { want = want_of (command s.mode s.head s.taken); text = is_preamble s.head; takes_the = false; names = is_naming s.head s.taken; peeks = is_peeking s.head }
 wanted_by s (Some text) = text_wanted text
 
+-- whether a text is open, or a preamble, which is one too
+abbrev pub takes_text : TexState → Bool
+takes_text s = is_some s.text || is_preamble s.head
+
 -- the innermost file has ended: it is closed, unless something is open within which no file may end (section 336)
 abbrev pub closed_unless : TexState → Option TexError → Outcome
 closed_unless s (Some error) = fails error
 closed_unless s None = Asks Close s
 
 abbrev pub closes : TexState → Outcome
-closes s = closed_unless s (file_ended (is_some s.text || is_preamble s.head) s.reader)
+closes s = closed_unless s (file_ended (takes_text s) s.reader)
 
 -- the v-part of an entry is read to its end: a command that is open goes on up to it, and stays in front of it; else the entry ends,
 -- and the word that is open before it

@@ -169,13 +169,20 @@ fn wanted(s: &State) -> Wanted
     }
 }
 
+/// Whether a text is open, or a preamble, which is one too.
+fn takes_text(s: &State) -> bool
+    ensures { result ≡ turns.takes_text (state_of s.now) }
+{
+    s.text.is_some() || s.scan.is_preamble()
+}
+
 /// The innermost file has ended: the ask for it to be closed, if it may end here.
 #[inline(never)]
 fn close(s: &mut State) -> Event
     requires { s.old.phase ≡ Phase.Running }
     ensures { IsStepped (turns.closes (state_of s.old)) s.old result s.new }
 {
-    match s.expander.ended(s.text.is_some() || s.scan.is_preamble()) {
+    match s.expander.ended(takes_text(s)) {
         Some(error) => fail(s, error),
         None => ask(s, AskKind::Close, Ask::Close),
     }

@@ -8,11 +8,11 @@ use Rattle.tx_main.proofs.turn.close.Goals as goal
 pub returns-in-Some : goal.returns-in-Some
 returns-in-Some c =
     stepped-as (closes (state_of c.args.s.now)) (fails c.in-Some.error) c.args.s.now c.fail.result c.fail.new.s
-    (closes-refused (state_of c.args.s.now) c.is_some.result c.ended.result c.in-Some.error c.is_some.ensures c.ended.ensures c.in-Some.is)
+    (closes-refused (state_of c.args.s.now) c.takes_text.result c.ended.result c.in-Some.error c.takes_text.ensures c.ended.ensures c.in-Some.is)
     c.fail.ensures
 
 pub returns-in-None : goal.returns-in-None
 returns-in-None c =
     stepped-as (closes (state_of c.args.s.now)) (Asks Close (state_of c.args.s.now)) c.args.s.now c.ask.result c.ask.new.s
-    (closes-asked (state_of c.args.s.now) c.is_some.result c.ended.result c.is_some.ensures c.ended.ensures c.in-None.is)
+    (closes-asked (state_of c.args.s.now) c.takes_text.result c.ended.result c.takes_text.ensures c.ended.ensures c.in-None.is)
     c.ask.ensures
