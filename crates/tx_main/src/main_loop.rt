@@ -240,7 +240,6 @@ fn go_on(alloc: Global, s: &mut State, going: Going) -> Result<bool, AllocError>
 }
 
 /// Takes turns of characters, at most so many, counts them, and answers how many there were. Its only error is want of memory.
-#[inline(never)]
 fn run_plain(
     alloc: Global,
     s: &mut State,

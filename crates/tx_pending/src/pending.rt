@@ -196,7 +196,7 @@ impl Pending {
     /// nothing but dropped characters is left is at the front, which is taken away, or nothing is pending; `InvalidCharacter`
     /// exactly where the line at the front has a character of category Invalid next. A name that is known takes no memory. Its
     /// only error is want of memory.
-    #[inline(always)]
+    #[inline(never)]
     pub fn next<K: KnownNames>(
         &mut self,
         alloc: Global,
