@@ -35,7 +35,7 @@ fn read_part(
 {
     let tokens = part_of(alloc, alignment, part)?;
     s.input.push_part_end(part)?;
-    s.input.push_list(tokens)?;
+    s.input.push_list(tokens, false)?;
     Ok(())
 }
 

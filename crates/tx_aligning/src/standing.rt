@@ -33,7 +33,7 @@ pub(crate) fn read_everycr(s: &mut State) -> Result<(), AllocError>
     ensures said { OnOk result (s.new.said ≡ s.old.said) }
 {
     let every = s.table.tokens(&Place::Tokens(TokenParameter::Everycr))?;
-    s.input.push_list(every)?;
+    s.input.push_list(every, false)?;
     Ok(())
 }
 

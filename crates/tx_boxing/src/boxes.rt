@@ -155,7 +155,7 @@ fn read_every(s: &mut State, kind: BoxKind) -> Result<(), AllocError>
     ensures said { OnOk result (s.new.said ≡ s.old.said) }
 {
     let every = s.table.tokens(&Place::Tokens(every_in(kind)))?;
-    s.input.push_list(every)?;
+    s.input.push_list(every, false)?;
     Ok(())
 }
 

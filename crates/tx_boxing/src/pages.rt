@@ -59,7 +59,7 @@ fn take_page(s: &mut State, next: Next) -> Result<Event, AllocError>
         }
         Next::Reads(tokens, badness) => {
             s.lists.badness = badness;
-            s.input.push_marked(tokens)?;
+            s.input.push_list(tokens, true)?;
             s.scan.begin_behind(Head::Opening(Opener::Output));
             Ok(Event::Went)
         }
@@ -200,11 +200,11 @@ pub(crate) fn take_marker(alloc: Global, s: &mut State) -> Result<bool, AllocErr
     ensures phase { OnOk result (s.new.phase ≡ s.old.phase) }
     ensures said { OnOk result (s.new.said ≡ s.old.said) }
 {
-    match s.input.next(alloc, s.table.categories(), &s.table)? {
+    match s.input.next_known(alloc, s.table.categories(), &s.table)? {
         Pending_next::Marker => Ok(true),
         Pending_next::Token(_) | Pending_next::Held(_) => Ok(false),
         Pending_next::PartEnd(_) => Ok(false),
-        Pending_next::Used { .. } | Pending_next::InvalidCharacter => Ok(false),
+        Pending_next::Used { .. } | Pending_next::E1 => Ok(false),
     }
 }
 

@@ -32,7 +32,7 @@ fn read_every_par(s: &mut State, begins: bool) -> Result<(), AllocError>
 {
     if begins {
         let every = s.table.tokens(&Place::Tokens(TokenParameter::Everypar))?;
-        s.input.push_list(every)?;
+        s.input.push_list(every, false)?;
     }
     Ok(())
 }

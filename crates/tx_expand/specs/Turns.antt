@@ -529,7 +529,7 @@ front_read w wanted r (front.PartEnd U) = Goes answer.Went r
 front_read w wanted r (front.PartEnd V) = part_ended w wanted r
 front_read w wanted r (front.Used false) = Goes answer.LineUsed r
 front_read w wanted r (front.Used true) = Goes answer.FileUsed r
-front_read w wanted r front.InvalidCharacter = Fails InvalidCharacter
+front_read w wanted r front.E1 = Fails InvalidCharacter
 
 abbrev pub with_front : World → Wanted → Reader → Step → Turn
 with_front w wanted r next = front_read w wanted (with_input next.left r) next.next

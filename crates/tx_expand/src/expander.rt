@@ -87,7 +87,7 @@ impl Expander {
         if self.is_opening() {
             return Ok(Expanded::LineUsed);
         }
-        match input.next(alloc, known.table.categories(), known.table)? {
+        match input.next_known(alloc, known.table.categories(), known.table)? {
             Next::Token(token) => {
                 let meaning = known.table.meaning(&token)?;
                 let seen = Seen { token, meaning };
@@ -102,7 +102,7 @@ impl Expander {
             Next::PartEnd(part) => self.part_ends(alloc, input, known, wanted, part),
             Next::Used { close: false } => Ok(Expanded::LineUsed),
             Next::Used { close: true } => Ok(Expanded::FileUsed),
-            Next::InvalidCharacter => Ok(Expanded::Wrong(TexError::InvalidCharacter)),
+            Next::E1 => Ok(Expanded::Wrong(TexError::InvalidCharacter)),
         }
     }
 }

@@ -264,7 +264,7 @@ impl Expander {
     ) -> Result<Expanded, AllocError>
         ensures { IfOk result (IsTurned (replaced tokens (reader_of self.old input.old)) (reader_of self.new input.new)) }
     {
-        input.push_list(TokList::from_toks(alloc, tokens)?)?;
+        input.push_list(TokList::from_toks(alloc, tokens)?, false)?;
         self.went(input)
     }
 
@@ -339,7 +339,7 @@ impl Expander {
         let tokens = known.table.tokens(place)?;
         match to {
             Destination::Input => {
-                input.push_list(tokens)?;
+                input.push_list(tokens, false)?;
                 self.went(input)
             }
             Destination::Text => {
@@ -712,7 +712,7 @@ impl Expander {
         ensures { (any : Any_mode) → IfOk result (IsTurned (turns.marked ((world_of (lent known.now) any).mark kind) (reader_of self.old input.old)) (reader_of self.new input.new)) }
     {
         if let Some(tokens) = known.pages.marks.get(kind)? {
-            input.push_list(tokens)?;
+            input.push_list(tokens, false)?;
         }
         self.went(input)
     }

@@ -35,7 +35,7 @@ fn begin_inside(alloc: Global, s: &mut State) -> Result<Event, AllocError>
     ensures { IfOk result (λ event. IsStepped (leaves (spec.begun_text (state_of s.old))) s.old event s.new) }
 {
     let every = s.table.tokens(&Place::Tokens(TokenParameter::Everymath))?;
-    s.input.push_list(every)?;
+    s.input.push_list(every, false)?;
     s.table
         .assign(Place::Integer(IntegerParameter::Fam), Entry::Number(-1))?;
     begin(alloc, s)?;

@@ -165,7 +165,8 @@ fn change_letters(
     ensures { IfOk result (λ event. IsStepped (spec.lettering (state_of s.old) kind tokens) s.old event s.new) }
 {
     let changed = with_letters(alloc, &s.table, kind, tokens)?;
-    s.input.push_list(TokList::from_toks(alloc, changed)?)?;
+    s.input
+        .push_list(TokList::from_toks(alloc, changed)?, false)?;
     Ok(Event::Went)
 }
 

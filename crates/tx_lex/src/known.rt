@@ -12,6 +12,16 @@ pub trait KnownNames {
         ensures same { IfSome (option_copied result) (λ name. name ≡ letters.now) };
 }
 
+/// No name is known, so each that is read takes memory of its own.
+#[derive(Clone, Copy)]
+pub struct NoNames;
+
+impl KnownNames for NoNames {
+    fn find(&self, _letters: &[u8]) -> Option<&ControlName> {
+        None
+    }
+}
+
 /// The name of these letters: the known one, of which one more owner is answered, or else a new one. Its only error is want of
 /// memory.
 pub(crate) fn name_of<K: KnownNames>(

@@ -7,7 +7,7 @@ ghost use Rattle.tx_lex.specs.Rules.{IsReading};
 ghost use Rattle.tx_lex.specs.Reading.{IsWithin, end_reading, meant, reading};
 
 use crate::characters::first_kept;
-use crate::known::KnownNames;
+use crate::known::{KnownNames, NoNames};
 use crate::names::read_name;
 use crate::types::{Lexed, ReadState};
 use std::alloc::{AllocError, Global};
@@ -16,21 +16,16 @@ use tx_char::{Cat, Codes, ControlName, Token};
 /// Reads the unread rest of a line up to its first token, in this state. `LineDone` comes exactly where nothing but
 /// dropped characters was left, `E1` exactly where a character of category Invalid is read. Its only error is want of
 /// memory.
-pub fn lex<K: KnownNames>(
-    alloc: Global,
-    rest: &[u8],
-    state: ReadState,
-    codes: &Codes,
-    known: &K,
-) -> Result<Lexed, AllocError>
+pub fn lex(alloc: Global, rest: &[u8], state: ReadState, codes: &Codes) -> Result<Lexed, AllocError>
     ensures reading { IfOk result (λ lexed. meant rest.now lexed ≡ reading codes.now state rest.now) }
     ensures rules { IfOk result (λ lexed. IsReading codes.now state rest.now (meant rest.now lexed)) }
     ensures within { IfOk result (λ lexed. IsWithin rest.now lexed) }
 {
-    lex_on(alloc, None, rest, state, codes, known)
+    lex_on(alloc, None, rest, state, codes, &NoNames)
 }
 
-/// Does the same for a line of which an answer has left a character in front of the bytes that aren't used.
+/// Does the same for a line of which an answer has left a character in front of the bytes that aren't used; a name that is
+/// known takes no memory.
 pub fn lex_on<K: KnownNames>(
     alloc: Global,
     front: Option<u8>,

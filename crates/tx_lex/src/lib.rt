@@ -17,7 +17,7 @@ mod plain;
 mod rules;
 mod types;
 
-pub use known::KnownNames;
+pub use known::{KnownNames, NoNames};
 pub use lexer::{lex, lex_on};
 pub use line::line_text;
 pub use plain::first_plain;

@@ -7,7 +7,7 @@ use Rattle.tx_char.specs.declared.category.Cat.{Cat}
 use Rattle.tx_pending.specs.declared.next.ColumnPart.{ColumnPart}
 use Rattle.tx_pending.specs.declared.next.ColumnPart.TheVariants.{U, V}
 use Rattle.tx_pending.specs.declared.next.Next.{Next}
-use Rattle.tx_pending.specs.declared.next.Next.TheVariants.{Token, Held, Marker, PartEnd, Used, InvalidCharacter}
+use Rattle.tx_pending.specs.declared.next.Next.TheVariants.{Token, Held, Marker, PartEnd, Used, E1}
 use Rattle.tx_pending.specs.declared.source.Source.{Source}
 use Rattle.tx_pending.specs.declared.source.Source.TheVariants as source
 use Rattle.tx_pending.specs.Elements.{Element, Given as Element_given, Held as Element_held, Mark, PartEnd as Element_part, Unread, begins_entry, behind_part, step_of, stepped}
@@ -36,7 +36,7 @@ left-none (Held t) left used = absurd (cc)
 left-none Marker left used = absurd (cc)
 left-none (PartEnd part) left used = absurd (cc)
 left-none (Used close) left used = refl
-left-none InvalidCharacter left used = absurd (cc)
+left-none E1 left used = absurd (cc)
 
 left-all : (next : Next) (left : List Element) → is_used next ≡ false → left_of next left ≡ left
 left-all (Token t) left other = refl
@@ -44,7 +44,7 @@ left-all (Held t) left other = refl
 left-all Marker left other = refl
 left-all (PartEnd part) left other = refl
 left-all (Used close) left other = absurd (cc)
-left-all InvalidCharacter left other = refl
+left-all E1 left other = refl
 
 -- what the innermost source gives, the whole gives
 pub takes-top : (codes : List Cat) (closing : Bool) (stack : List Source) (i : ℕ) (from to : Source) (next : Next) → length stack ≡ i + 1 → from ≡ get_or stack i from → Gives codes closing (elements_of from) next (elements_of to) → is_used next ≡ false → Takes codes closing (stack_elements stack) next (stack_elements (set stack i to))

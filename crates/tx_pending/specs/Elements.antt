@@ -10,7 +10,7 @@ use Rattle.tx_lex.specs.Reading.{Reading, Read, Nothing, Refused, reading}
 use Rattle.tx_pending.specs.declared.next.ColumnPart.{ColumnPart}
 use Rattle.tx_pending.specs.declared.next.ColumnPart.TheVariants.{U, V}
 use Rattle.tx_pending.specs.declared.next.Next.{Next}
-use Rattle.tx_pending.specs.declared.next.Next.TheVariants.{Token as Next_token, Held as Next_held, Marker, PartEnd as Next_part, Used, InvalidCharacter}
+use Rattle.tx_pending.specs.declared.next.Next.TheVariants.{Token as Next_token, Held as Next_held, Marker, PartEnd as Next_part, Used, E1}
 
 -- an element of the pending input: a token; a token that \noexpand holds (TeX: The Program, sections 358 and 369); a marker; the
 -- end of the u- or the v-part of an alignment's column (sections 307 and 324); or a line with its unread rest and its reading state
@@ -149,7 +149,7 @@ stepped closing level left next = record { next = next; left = record { elements
 abbrev pub line_step : Bool → ℤ → Element → List Element → Reading → Step
 line_step closing level line behind (Read token unread state) = stepped closing level (Unread unread state ∷ behind) (Next_token token)
 line_step closing level line behind Nothing = stepped closing level behind (Used closing)
-line_step closing level line behind Refused = stepped closing level (line ∷ behind) InvalidCharacter
+line_step closing level line behind Refused = stepped closing level (line ∷ behind) E1
 
 -- what comes next where these elements are pending
 abbrev pub step_of : List Cat → Bool → ℤ → List Element → Step

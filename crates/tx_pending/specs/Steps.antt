@@ -6,7 +6,7 @@ use Rattle.tx_lex.specs.declared.types.PlainToken.{PlainToken}
 use Rattle.tx_lex.specs.Plain.{Begins, IsSet, plain_token}
 use Rattle.tx_lex.specs.Reading.{Read, Nothing, Refused, reading}
 use Rattle.tx_pending.specs.declared.next.Next.{Next}
-use Rattle.tx_pending.specs.declared.next.Next.TheVariants.{Token, Held, Marker, PartEnd, Used, InvalidCharacter}
+use Rattle.tx_pending.specs.declared.next.Next.TheVariants.{Token, Held, Marker, PartEnd, Used, E1}
 use Rattle.tx_pending.specs.Tails.{ListTail, LineTail}
 use Rattle.tx_pending.specs.Elements.{Element, Given, Held as Element_held, Mark, PartEnd as Element_part, Unread, step_of, stepped}
 
@@ -17,7 +17,7 @@ IsListStep from (Held token) to = ⊥
 IsListStep from Marker to = (from ≡ record { left = []; marked = true }) × (to ≡ record { left = []; marked = false })
 IsListStep from (PartEnd part) to = ⊥
 IsListStep from (Used close) to = ⊥
-IsListStep from InvalidCharacter to = ⊥
+IsListStep from E1 to = ⊥
 
 -- a line gives what the reading of its rest is; where it is used up it tells whether \endinput came; all stays where that is no token
 abbrev pub IsLineStep : List Cat → Bool → LineTail → Next → LineTail → Type 0
@@ -26,7 +26,7 @@ IsLineStep codes closing from (Held token) to = ⊥
 IsLineStep codes closing from Marker to = ⊥
 IsLineStep codes closing from (PartEnd part) to = ⊥
 IsLineStep codes closing from (Used close) to = (reading codes from.state from.unread ≡ Nothing) × ((close ≡ closing) × (to ≡ from))
-IsLineStep codes closing from InvalidCharacter to = (reading codes from.state from.unread ≡ Refused) × (to ≡ from)
+IsLineStep codes closing from E1 to = (reading codes from.state from.unread ≡ Refused) × (to ≡ from)
 
 -- a token that a line would give as it stands, and a list that begins with it
 abbrev pub IsPlainly : List Cat → Any_token → PlainToken → Type 0

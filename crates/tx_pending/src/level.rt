@@ -40,7 +40,7 @@ pub(crate) fn level_after(level: i64, next: &Next) -> Result<i64, AllocError>
         Next::Token(token) | Next::Held(token) => level_behind(level, token),
         Next::PartEnd(ColumnPart::U) => Ok(0),
         Next::PartEnd(ColumnPart::V) | Next::Marker => Ok(level),
-        Next::Used { .. } | Next::InvalidCharacter => Ok(level),
+        Next::Used { .. } | Next::E1 => Ok(level),
     }
 }
 

@@ -74,7 +74,7 @@ impl LineReading {
                 Ok(Next::Token(token))
             }
             Lexed::LineDone => Ok(Next::Used { close: closing }),
-            Lexed::E1 => Ok(Next::InvalidCharacter),
+            Lexed::E1 => Ok(Next::E1),
         }
     }
 

@@ -28,7 +28,7 @@ pub enum Next {
     /// The line is used up, or there is none; whether \endinput came since the last such answer.
     Used { close: bool },
     /// Error 1: a character of category Invalid was read.
-    InvalidCharacter,
+    E1,
 }
 
 impl Next {

@@ -17,7 +17,7 @@ use std::alloc::{AllocError, Global};
 use std::marker::Model;
 use tx_bytes::Bytes;
 use tx_char::{Codes, Token};
-use tx_lex::{KnownNames, PlainToken, ReadState};
+use tx_lex::{KnownNames, NoNames, PlainToken, ReadState};
 use tx_toklist::{Macro, Slot, TokList};
 
 /// What is read before another line is asked for. Contracts see one list of tokens, markers and lines, whether \endinput
@@ -52,22 +52,17 @@ impl Pending {
         }
     }
 
-    /// Puts a list at the front. No token is copied. After want of memory nothing has changed.
-    pub fn push_list(&mut self, list: TokList) -> Result<(), AllocError>
-        ensures ok { OnOk result (self.new ≡ with_list self.old list false) }
+    /// Puts a list at the front, and a marker behind it if it is marked. No token is copied. After want of memory nothing has
+    /// changed.
+    pub fn push_list(&mut self, list: TokList, marked: bool) -> Result<(), AllocError>
+        ensures ok { OnOk result (self.new ≡ with_list self.old list marked) }
         ensures err { OnErr result (self.new ≡ self.old) }
     {
         drop_spent(&mut self.stack);
-        put(&mut self.stack, Source::List(ListReading::new(list, false)))
-    }
-
-    /// Puts a list at the front, and a marker behind it. No token is copied. After want of memory nothing has changed.
-    pub fn push_marked(&mut self, list: TokList) -> Result<(), AllocError>
-        ensures ok { OnOk result (self.new ≡ with_list self.old list true) }
-        ensures err { OnErr result (self.new ≡ self.old) }
-    {
-        drop_spent(&mut self.stack);
-        put(&mut self.stack, Source::List(ListReading::new(list, true)))
+        put(
+            &mut self.stack,
+            Source::List(ListReading::new(list, marked)),
+        )
     }
 
     /// Puts the end of a part of an alignment's column at the front: what the part has is put there next. After want of memory
@@ -193,11 +188,18 @@ impl Pending {
     }
 
     /// Takes what comes next. `Marker` and `PartEnd` come exactly where such is at the front; `Used` exactly where a line of which
-    /// nothing but dropped characters is left is at the front, which is taken away, or nothing is pending; `InvalidCharacter`
-    /// exactly where the line at the front has a character of category Invalid next. A name that is known takes no memory. Its
-    /// only error is want of memory.
+    /// nothing but dropped characters is left is at the front, which is taken away, or nothing is pending; `E1` exactly where the
+    /// line at the front has a character of category Invalid next. Its only error is want of memory.
+    pub fn next(&mut self, alloc: Global, codes: &Codes) -> Result<Next, AllocError>
+        ensures next { IfOk result (λ next. next ≡ (step codes.now self.old).next) }
+        ensures left { OnOk result (self.new ≡ (step codes.now self.old).left) }
+    {
+        self.next_known(alloc, codes, &NoNames)
+    }
+
+    /// Takes what comes next, as `next` does; a name that is known takes no memory. Its only error is want of memory.
     #[inline(never)]
-    pub fn next<K: KnownNames>(
+    pub fn next_known<K: KnownNames>(
         &mut self,
         alloc: Global,
         codes: &Codes,

@@ -93,6 +93,8 @@ impl Tfm {
         None
     }
 
+    /// Where the program of ligatures and kerns begins for what stands on the left, a character or, where None is given, the left
+    /// boundary; None where it has none (TeX: The Program, section 545).
     pub fn start_of(&self, left: Option<u8>) -> Option<usize>
         ensures value { result ≡ start_of self.now left }
         ensures bound { IfSome result (λ k. k < 2 ^ 16) }

@@ -22,6 +22,7 @@ impl Metrics {
         scale(self.size, self.file.word(place))
     }
 
+    /// The next larger character of the one with this code; None where its tag names none (TeX: The Program, section 544).
     pub fn successor(&self, code: u8) -> Option<u8>
         ensures { result ≡ successor_of self.now code }
     {
@@ -29,6 +30,8 @@ impl Metrics {
         if info.tag() == 2 { Some(info.d) } else { None }
     }
 
+    /// The word of the recipe by which the character of this code is built of pieces; None where its tag names none (TeX: The
+    /// Program, section 546).
     pub fn recipe(&self, code: u8) -> Option<Word>
         ensures { result ≡ recipe_of self.now code }
     {
@@ -43,6 +46,8 @@ impl Metrics {
         }
     }
 
+    /// The parameter of this number, counted from 1, in sp, the slant in multiples of 2^-16; 0 where the file has none of it (TeX: The
+    /// Program, section 547).
     pub fn parameter(&self, number: u16) -> i64
         requires size_in { self.now.size < 2 ^ 27 }
         requires some { 1 ≤ number }
@@ -59,12 +64,14 @@ impl Metrics {
         }
     }
 
+    /// How many parameters the file has.
     pub fn file_parameters(&self) -> u16
         ensures { result ≡ self.now.file.lengths.parameters }
     {
         self.file.lengths.parameters
     }
 
+    /// How many parameters the font has: those of the file, and at least the first seven.
     pub fn parameter_count(&self) -> u16
         ensures { result ≡ parameter_count_of self.now }
     {
@@ -75,6 +82,7 @@ impl Metrics {
         }
     }
 
+    /// The kern, in sp, that a command of the program of ligatures and kerns names (TeX: The Program, section 545).
     pub fn kern(&self, command: Word) -> i64
         requires size_in { self.now.size < 2 ^ 27 }
         requires is_kern { 128 ≤ command.c }

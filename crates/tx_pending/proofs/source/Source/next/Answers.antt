@@ -1,7 +1,7 @@
 use Rattle.std.proofs.Common.{Bool, Result, Ok, Err, IfOk, List, ◌∷◌, ◌++◌, ◌≡◌, ap, sym, ◌∙◌}
 use Rattle.tx_char.specs.declared.category.Cat.{Cat}
 use Rattle.tx_pending.specs.declared.next.Next.{Next}
-use Rattle.tx_pending.specs.declared.next.Next.TheVariants.{Token, Held, Marker, PartEnd, Used, InvalidCharacter}
+use Rattle.tx_pending.specs.declared.next.Next.TheVariants.{Token, Held, Marker, PartEnd, Used, E1}
 use Rattle.tx_pending.specs.declared.source.Source.{Source}
 use Rattle.tx_pending.specs.declared.source.Source.TheVariants as source
 use Rattle.tx_pending.specs.Elements.{Unread, line_step, list_elements, step_of, stepped}
@@ -24,7 +24,7 @@ list-gives codes closing s from to (Ok Marker) is k = record {
 }
 list-gives codes closing s from to (Ok (PartEnd part)) is k = absurd k
 list-gives codes closing s from to (Ok (Used close)) is k = absurd k
-list-gives codes closing s from to (Ok InvalidCharacter) is k = absurd k
+list-gives codes closing s from to (Ok E1) is k = absurd k
 list-gives codes closing s from to (Err e) is k = tt
 
 -- and what a line gives
@@ -43,11 +43,11 @@ line-gives codes closing s from to (Ok (Used close)) is k = record {
       ∙ ap (line_step closing level (Unread from.unread from.state) behind) k.0
       ∙ ap (λ (told : Bool). stepped closing level behind (Used told)) (sym k.1.0);
 }
-line-gives codes closing s from to (Ok InvalidCharacter) is k = record {
+line-gives codes closing s from to (Ok E1) is k = record {
   steps = λ level behind.
       ap (λ (x : Source). step_of codes closing level (elements_of x ++ behind)) is
       ∙ ap (line_step closing level (Unread from.unread from.state) behind) k.0
-      ∙ ap (λ (l : LineTail). stepped closing level (Unread l.unread l.state ∷ behind) InvalidCharacter) (sym k.1);
+      ∙ ap (λ (l : LineTail). stepped closing level (Unread l.unread l.state ∷ behind) E1) (sym k.1);
 }
 line-gives codes closing s from to (Err e) is k = tt
 
