@@ -46,8 +46,8 @@ impl Metrics {
         }
     }
 
-    /// The parameter of this number, counted from 1, in sp, the slant in multiples of 2^-16; 0 where the file has none of it (TeX: The
-    /// Program, section 547).
+    /// The parameter of this number, counted from 1, in sp, the slant in multiples of 2^-16; 0 where the file has none of it
+    /// (TeX: The Program, section 547).
     pub fn parameter(&self, number: u16) -> i64
         requires size_in { self.now.size < 2 ^ 27 }
         requires some { 1 ≤ number }
