@@ -2,6 +2,7 @@
 use Rattle.std.proofs.Common.{◌≡◌, ◌≤◌, pos, suc, Bool, true, false, ◌&&◌, List, [], ◌∷◌, ◌++◌, take, refl, sym, ap, arith, true≢false, subst}
 use Rattle.tx_node.specs.declared.head.BoxHead.{BoxHead}
 use Rattle.tx_node.specs.declared.head.Setting.{Setting}
+use Rattle.tx_node.specs.declared.head.Setting.TheVariants.{Natural}
 use Rattle.tx_node.specs.Counts.{nesting_of}
 use Rattle.tx_node.specs.Items.{Item, items_of}
 use Rattle.tx_node.specs.Nodes.{IsBox}
@@ -16,6 +17,11 @@ box_back (item ∷ rest) = ap (λ more. item ∷ more) (box_back rest)
 both : (a b : Bool) → (a && b) ≡ true → (a ≡ true) × (b ≡ true)
 both true b h = (refl, h)
 both false b h = absurd (true≢false (sym h))
+
+-- of glue that is left natural nothing is summed
+pub natural_fits : (list : List Item) → sums_fit Natural (pos 0) (items_of list) ≡ true
+natural_fits [] = refl
+natural_fits (item ∷ rest) = natural_fits rest
 
 -- a box whose list is a character and a kern may have the character alone
 first_sums : (s : Setting) (a : Item) (rest : List Item) → sums_fit s (pos 0) (items_of (a ∷ rest)) ≡ true → sums_fit s (pos 0) (items_of (a ∷ [])) ≡ true

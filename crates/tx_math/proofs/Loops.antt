@@ -1,7 +1,8 @@
 -- One turn more of what the definitions do by recursion.
 use Rattle.std.proofs.Common.{◌≡◌, ◌<◌, ◌-◌, ℕ, zero, suc, Bool, false, List, [], ◌∷◌, ◌++◌, Ok, ◌∙◌, refl, ap, sym, append_assoc, arith}
 use Rattle.tx_mlist.specs.declared.kinds.AtomKind.{AtomKind}
-use Rattle.tx_mlist.specs.Items.{MathItem, gathered}
+use Rattle.tx_mlist.specs.Items.{MathItem, gathered, listed}
+use Rattle.tx_mlist.proofs.Equal.{list-back}
 use Rattle.tx_math.specs.Composing.{composed_within, step}
 use Rattle.tx_math.specs.Converting.{IsStep}
 use Rattle.tx_math.specs.Entries.{Entry, entries_of}
@@ -50,3 +51,7 @@ pub list_none : (n : ℕ) (m : Math) (penalties : Bool) (style : ℕ) (list : Li
 unfolding list_in
 list_none zero m penalties style list told h = refl
 list_none (suc n) m penalties style list told h = absurd (omega arith)
+
+-- the items of a part are the list that they were made of
+pub listed_back : (list : List MathItem) → listed (gathered list) ≡ list
+listed_back list = list-back list

@@ -64,7 +64,7 @@ empty_box width = record { head = record { direction = Horizontal; width = width
 abbrev pub vertical_head : ℤ → ℤ → ℤ → BoxHead
 vertical_head width height depth = record { direction = Vertical; width = width; height = height; depth = depth; setting = setting.Natural }
 
-abbrev pub framed : ℤ → ℤ → ℤ → List Item → Result PackedBox MathError
+unfoldable pub framed : ℤ → ℤ → ℤ → List Item → Result PackedBox MathError
 framed width height depth list =
     if fits width && (fits height && fits depth)
     then (if nat_le (suc (nesting_of (items_of list))) 500 then Ok (record { head = vertical_head width height depth; list = list }) else Err TooDeep)

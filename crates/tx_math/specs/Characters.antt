@@ -17,7 +17,7 @@ use Rattle.tx_math.specs.Parameters.{Math, family_font}
 use Rattle.tx_math.specs.Styles.{size_of}
 
 -- a character of the font of a number; None where the font lacks it, which is reported. \nullfont is no font of a family (section 722)
-abbrev pub fetched_from : Math → ℕ → ℕ → List ℕ → Result (Option CharacterItem × List ℕ) MathError
+unfoldable pub fetched_from : Math → ℕ → ℕ → List ℕ → Result (Option CharacterItem × List ℕ) MathError
 fetched_from m font code told =
     if font == 0 then Err NoFont
     else if has_character m.fonts font code then Ok (Some (character_of m.fonts font code), told)

@@ -43,7 +43,7 @@ abbrev pub Inward : Type 0
 Inward = ℕ → List MathItem → Telling (List Item)
 
 -- a character as a nucleus, behind which one of its family stands or not, and which has a subscript or not
-abbrev pub fetched_nucleus : Math → ℕ → Bool → Bool → MathCharacter → Telling Nucleus
+unfoldable pub fetched_nucleus : Math → ℕ → Bool → Bool → MathCharacter → Telling Nucleus
 fetched_nucleus m style joined subscripted c = and_then (fetched m style c) (λ found. given (letter_nucleus m joined subscripted found))
 
 -- a part by itself, as a list in a style
@@ -54,7 +54,7 @@ part_list inward m style (packed shift b) = given (box_item shift b ∷ [])
 part_list inward m style (formula items) = inward style (listed items)
 
 -- a part in a box (section 720)
-abbrev pub cleaned : Inward → Math → ℕ → Part → Telling PackedBox
+unfoldable pub cleaned : Inward → Math → ℕ → Part → Telling PackedBox
 cleaned inward m style part = and_then (part_list inward m style part) (λ list. checked (cleaned_list m list))
 
 -- a box as a nucleus
@@ -66,7 +66,7 @@ box_nucleus shift b = record {
 }
 
 -- a list in a box of its own, as a nucleus
-abbrev pub list_nucleus : Math → List Item → Result Nucleus MathError
+unfoldable pub list_nucleus : Math → List Item → Result Nucleus MathError
 list_nucleus m list = passed (hbox m list) (λ b. Ok (box_nucleus (pos 0) b))
 
 -- the nucleus of an atom, behind which a character of its family stands or not, and which has a subscript or not (section 754)
@@ -77,10 +77,10 @@ nucleus_of inward m style joined subscripted (packed shift b) = given (box_nucle
 nucleus_of inward m style joined subscripted (formula items) = and_then (inward style (listed items)) (λ list. checked (list_nucleus m list))
 
 -- the box of a script (sections 757 and 758)
-abbrev pub script_of : Math → List Item → Result PackedBox MathError
+unfoldable pub script_of : Math → List Item → Result PackedBox MathError
 script_of m list = passed (cleaned_list m list) (spaced_script m)
 
-abbrev pub script_box : Inward → Math → ℕ → Part → Telling PackedBox
+unfoldable pub script_box : Inward → Math → ℕ → Part → Telling PackedBox
 script_box inward m style part = and_then (part_list inward m style part) (λ list. checked (script_of m list))
 
 -- a nucleus with scripts behind it
@@ -108,7 +108,7 @@ both_scripts inward m style n sup sub =
     and_then (script_box inward m (superscript_style style) sup) (λ x.
     and_then (script_box inward m (subscript_style style) sub) (λ y. checked (with_both m style n x y)))
 
-abbrev pub with_scripts : Inward → Math → ℕ → Part → Part → Nucleus → Telling (List Item)
+unfoldable pub with_scripts : Inward → Math → ℕ → Part → Part → Nucleus → Telling (List Item)
 with_scripts inward m style sup sub n =
     if is_empty sup
     then (if is_empty sub then given n.nodes else subscript_alone inward m style n sub)
@@ -141,7 +141,7 @@ remade m style Over x = overlined m style x
 remade m style Under x = underlined m style x
 remade m style Center x = vcentred m style x
 
-abbrev pub remade_nucleus : Math → ℕ → AtomKind → List Item → Result Nucleus MathError
+unfoldable pub remade_nucleus : Math → ℕ → AtomKind → List Item → Result Nucleus MathError
 remade_nucleus m style kind list = passed (cleaned_list m list) (λ x. passed (remade m style kind x) (λ b. Ok (box_nucleus (pos 0) b)))
 
 abbrev pub boxed_list : Inward → Math → ℕ → AtomKind → Part → Part → Part → Telling (List Item)
@@ -155,7 +155,7 @@ abbrev pub operator_box : Math → ℕ → ℤ → PackedBox → Result Operator
 operator_box m style correction x =
     passed (stored (about_axis m style x)) (λ shift. Ok (record { shift = shift; inner = x; correction = correction }))
 
-abbrev pub operator_by : Math → ℕ → Bool → Option CharacterItem → Result OperatorBox MathError
+unfoldable pub operator_by : Math → ℕ → Bool → Option CharacterItem → Result OperatorBox MathError
 operator_by m style narrow found =
     passed (cleaned_list m (letter_nucleus m false false found).nodes) (λ x.
     passed (narrowed narrow (operator_correction m found) x) (operator_box m style (operator_correction m found)))
@@ -177,7 +177,7 @@ correction_of None = pos 0
 correction_of (Some operator) = operator.correction
 
 -- with its limits above and below it; the upper one is set first (section 750)
-abbrev pub limits_box : Math → ℕ → ℤ → Bool → Bool → PackedBox → PackedBox → PackedBox → Telling (List Item)
+unfoldable pub limits_box : Math → ℕ → ℤ → Bool → Bool → PackedBox → PackedBox → PackedBox → Telling (List Item)
 limits_box m style correction has_upper has_lower x y z =
     and_then (evened m (widest x y z) x y z) (λ boxes.
     and_then (checked (limits_of m style correction has_upper has_lower (widest x y z) boxes)) (λ b. given (box_item (pos 0) b ∷ [])))
@@ -197,10 +197,10 @@ abbrev pub scripted_operator : Inward → Math → ℕ → Part → Part → Par
 scripted_operator inward m style nucleus sup sub operator =
     and_then (nucleus_of inward m style false false (part_or nucleus operator)) (λ n. with_scripts inward m style sup sub (offset_by (correction_of operator) n))
 
-abbrev pub limited : Inward → Math → ℕ → Part → Part → Part → Telling (List Item)
+unfoldable pub limited : Inward → Math → ℕ → Part → Part → Part → Telling (List Item)
 limited inward m style nucleus sup sub = and_then (operator_of m style false nucleus) (limits_list inward m style nucleus sup sub)
 
-abbrev pub unlimited : Inward → Math → ℕ → Part → Part → Part → Telling (List Item)
+unfoldable pub unlimited : Inward → Math → ℕ → Part → Part → Part → Telling (List Item)
 unlimited inward m style nucleus sup sub =
     and_then (operator_of m style (not (is_empty sub)) nucleus) (scripted_operator inward m style nucleus sup sub)
 
@@ -227,12 +227,12 @@ atom_list inward m style joined Under nucleus sup sub = boxed_list inward m styl
 atom_list inward m style joined Center nucleus sup sub = boxed_list inward m style Center nucleus sup sub
 
 -- a fraction (section 743)
-abbrev pub lined_up : Math → ℕ → ℤ → PackedBox → PackedBox → Telling (List Item)
+unfoldable pub lined_up : Math → ℕ → ℤ → PackedBox → PackedBox → Telling (List Item)
 lined_up m style thickness x z =
     and_then (even_boxes m x z) (λ boxes.
     and_then (checked (fraction_of m style thickness boxes.0 boxes.1)) (λ b. given (box_item (pos 0) b ∷ [])))
 
-abbrev pub fraction_items : Inward → Math → ℕ → ℤ → MathItems → MathItems → Telling (List Item)
+unfoldable pub fraction_items : Inward → Math → ℕ → ℤ → MathItems → MathItems → Telling (List Item)
 fraction_items inward m style thickness above below =
     and_then (cleaned inward m (numerator_style style) (formula above)) (λ x.
     and_then (cleaned inward m (denominator_style style) (formula below)) (λ z. lined_up m style thickness x z))

@@ -16,7 +16,7 @@ abbrev pub thickness_of : Math → ℕ → Option ℤ → ℤ
 thickness_of m style told = unwrap_or told (rule_thickness m style)
 
 -- the numerator and the denominator, the narrower of which is centred to the width of the other (section 744)
-abbrev pub even_boxes : Math → PackedBox → PackedBox → Telling (PackedBox × PackedBox)
+unfoldable pub even_boxes : Math → PackedBox → PackedBox → Telling (PackedBox × PackedBox)
 even_boxes m x z =
     if int_lt x.head.width z.head.width
     then and_then (reboxed m z.head.width x) (λ wide. given (wide, z))
@@ -53,10 +53,14 @@ space_below m style thickness z down = (axis m style -ℤ half thickness) -ℤ (
 abbrev pub grown : ℤ → ℤ → ℤ
 grown size lacking = size +ℤ int_max (pos 0) lacking
 
+abbrev pub raised_off : Math → ℕ → ℤ → PackedBox → ℤ → ℤ
+raised_off m style thickness x up = grown up (clearance style thickness -ℤ space_above m style thickness x up)
+
+abbrev pub lowered_off : Math → ℕ → ℤ → PackedBox → ℤ → ℤ
+lowered_off m style thickness z down = grown down (clearance style thickness -ℤ space_below m style thickness z down)
+
 abbrev pub lined_shifts : Math → ℕ → ℤ → PackedBox → PackedBox → Shifts → Shifts
-lined_shifts m style thickness x z s = shifts_of
-    (grown s.up (clearance style thickness -ℤ space_above m style thickness x s.up))
-    (grown s.down (clearance style thickness -ℤ space_below m style thickness z s.down))
+lined_shifts m style thickness x z s = shifts_of (raised_off m style thickness x s.up) (lowered_off m style thickness z s.down)
 
 abbrev pub fraction_shifts : Math → ℕ → ℤ → PackedBox → PackedBox → Shifts
 fraction_shifts m style thickness x z =
@@ -75,10 +79,10 @@ lined_list m style thickness s x z =
     passed (stored (space_above m style t x s.up)) (λ above.
     Ok (box_item (pos 0) x ∷ kern above ∷ line t ∷ kern below ∷ box_item (pos 0) z ∷ []))))
 
-abbrev pub fraction_list : Math → ℕ → ℤ → Shifts → PackedBox → PackedBox → Result (List Item) MathError
+unfoldable pub fraction_list : Math → ℕ → ℤ → Shifts → PackedBox → PackedBox → Result (List Item) MathError
 fraction_list m style thickness s x z = if is_nothing thickness then lineless_list s x z else lined_list m style thickness s x z
 
-abbrev pub fraction_box : Math → ℕ → ℤ → Shifts → PackedBox → PackedBox → Result PackedBox MathError
+unfoldable pub fraction_box : Math → ℕ → ℤ → Shifts → PackedBox → PackedBox → Result PackedBox MathError
 fraction_box m style thickness s x z =
     passed (fraction_list m style thickness s x z) (framed x.head.width (s.up +ℤ x.head.height) (z.head.depth +ℤ s.down))
 

@@ -13,7 +13,7 @@ abbrev pub mu : Math → ℕ → ℤ
 mu m style = int_div (quad m style) (pos 18)
 
 -- a size in mu, in units of 2^-16: whole points of 1mu are multiplied as they are, and their fraction is rounded towards zero
-abbrev pub times_mu : ℤ → ℤ → ℤ
+unfoldable pub times_mu : ℤ → ℤ → ℤ
 times_mu unit size =
     int_div_euclid unit (pos 65536) *ℤ size +ℤ int_div (size *ℤ int_rem_euclid unit (pos 65536)) (pos 65536)
 
@@ -32,8 +32,8 @@ abbrev pub glue_fits : GlueSpec → Bool
 glue_fits g = fits g.width && (fits g.stretch && fits g.shrink)
 
 -- glue, and a kern, in a style; their sizes have to be dimensions
-abbrev pub math_glue : Math → ℕ → GlueSpec → Result GlueSpec MathError
+unfoldable pub math_glue : Math → ℕ → GlueSpec → Result GlueSpec MathError
 math_glue m style g = if glue_fits (glue_in_points (mu m style) g) then Ok (glue_in_points (mu m style) g) else Err SizeOutOfRange
 
-abbrev pub math_kern : Math → ℕ → ℤ → Result ℤ MathError
+unfoldable pub math_kern : Math → ℕ → ℤ → Result ℤ MathError
 math_kern m style size = stored (times_mu (mu m style) size)

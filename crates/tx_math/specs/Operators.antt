@@ -54,7 +54,7 @@ abbrev pub widest : PackedBox → PackedBox → PackedBox → ℤ
 widest x y z = int_max (int_max y.head.width x.head.width) z.head.width
 
 -- each is centred to this width
-abbrev pub evened : Math → ℤ → PackedBox → PackedBox → PackedBox → Telling Limited
+unfoldable pub evened : Math → ℤ → PackedBox → PackedBox → PackedBox → Telling Limited
 evened m width x y z =
     and_then (reboxed m width x) (λ upper.
     and_then (reboxed m width y) (λ operator.
@@ -71,7 +71,7 @@ below_operator m style z = int_max (big_op_spacing4 m style -ℤ z.head.height) 
 abbrev pub no_limit : Limit
 no_limit = record { nodes = []; reach = pos 0 }
 
-abbrev pub upper_limit : Math → ℕ → ℤ → Bool → PackedBox → Result Limit MathError
+unfoldable pub upper_limit : Math → ℕ → ℤ → Bool → PackedBox → Result Limit MathError
 upper_limit m style correction is_there x =
     if is_there
     then passed (stored (big_op_spacing5 m style)) (λ beyond.
@@ -80,7 +80,7 @@ upper_limit m style correction is_there x =
     Ok (record { nodes = kern beyond ∷ item ∷ kern space ∷ []; reach = beyond +ℤ x.head.height +ℤ x.head.depth +ℤ space }))))
     else Ok no_limit
 
-abbrev pub lower_limit : Math → ℕ → ℤ → Bool → PackedBox → Result Limit MathError
+unfoldable pub lower_limit : Math → ℕ → ℤ → Bool → PackedBox → Result Limit MathError
 lower_limit m style correction is_there z =
     if is_there
     then passed (stored (below_operator m style z)) (λ space.

@@ -52,10 +52,10 @@ abbrev pub both_shifts : Math → ℕ → Shifts → PackedBox → PackedBox →
 both_shifts m style s x y = set_apart m style x (pos 4 *ℤ rule_thickness m style -ℤ gap s x y) s
 
 -- a subscript alone, and a superscript alone
-abbrev pub subscript_item : Math → ℕ → Shifts → PackedBox → Result Item MathError
+unfoldable pub subscript_item : Math → ℕ → Shifts → PackedBox → Result Item MathError
 subscript_item m style s x = shifted (lowered m style s.down x) x
 
-abbrev pub superscript_item : Math → ℕ → Shifts → PackedBox → Result Item MathError
+unfoldable pub superscript_item : Math → ℕ → Shifts → PackedBox → Result Item MathError
 superscript_item m style s x = shifted (neg_ℤ (raised m style s.up x)) x
 
 -- both, one below the other, the upper one further to the right by so much

@@ -124,6 +124,7 @@ pub fn empty_box(alloc: Global, width: i32) -> Result<BoxNode, AllocError>
 
 /// A list in a vertical box of sizes of its own, in sp. `SizeOutOfRange` exactly where one of these is no dimension, else `TooDeep`
 /// exactly where boxes would nest more than 500 deep.
+#[tactic(auto, unfolding(crate::specs::Boxes::framed))]
 pub fn framed(
     alloc: Global,
     width: i64,

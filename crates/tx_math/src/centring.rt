@@ -10,6 +10,7 @@ ghost use Rattle.tx_math.specs.declared.error.MathError.TheVariants.{OutOfMemory
 use crate::boxes::{boxed, kern, single, stored, with_width};
 use crate::error::MathError;
 use crate::setter::Setter;
+use crate::sums::minus;
 use std::alloc::{AllocError, Global};
 use tx_bytes::Bytes;
 use tx_node::{BoxNode, Direction, Node, Nodes, Plain};
@@ -64,7 +65,7 @@ fn append_lost_kern(list: &mut Nodes, width: i32, own: Option<i32>) -> Result<()
     ensures error { IfErr result (λ e. e ≢ OutOfMemory → spec.with_more list.old (spec.lost_kern width own) ≡ Err e) }
 {
     match own {
-        Some(own) => append_kern(list, i64::from(width) - i64::from(own)),
+        Some(own) => append_kern(list, minus(i64::from(width), i64::from(own))),
         None => Ok(()),
     }
 }
@@ -104,6 +105,13 @@ fn centred(alloc: Global, inner: BoxNode) -> Result<Nodes, MathError>
     Ok(list)
 }
 
+/// Whether a box stays as it is where it is to have this width, in sp.
+fn keeps_list(width: i32, inner: &BoxNode) -> bool
+    ensures { result ≡ spec.keeps_list width inner.now }
+{
+    minus(i64::from(inner.width()), i64::from(width)) == 0 || inner.list().len() == 0
+}
+
 impl Setter<'_> {
     /// A box of this width, in sp, in which what was in it is centred, and what is told of it.
     #[tactic(auto, unfolding(crate::specs::Boxes::reboxed))]
@@ -118,8 +126,7 @@ impl Setter<'_> {
         ensures made { IfOk result (λ made. spec.reboxed (math_in self.now) width inner report.old ≡ Ok (made, report.new)) }
         ensures error { IfErr result (λ e. e ≢ OutOfMemory → spec.reboxed (math_in self.now) width inner report.old ≡ Err e) }
     {
-        let excess = i64::from(inner.width()) - i64::from(width);
-        if excess == 0 || inner.list().len() == 0 {
+        if keeps_list(width, &inner) {
             return with_width(inner, i64::from(width));
         }
         let list = centred(alloc, inner)?;

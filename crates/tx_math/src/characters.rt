@@ -94,6 +94,7 @@ fn corrected(
 impl Setter<'_> {
     /// A character of a family in a style; None where its font lacks it, which is told. `NoFont` exactly where the family has no
     /// font.
+    #[tactic(auto, unfolding(crate::specs::Characters::fetched_from))]
     pub fn fetched(
         &self,
         style: u8,

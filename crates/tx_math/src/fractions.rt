@@ -11,6 +11,7 @@ use crate::parameters::half;
 use crate::scripts::gap;
 use crate::setter::Setter;
 use crate::shifts::Shifts;
+use crate::sums::{greater, minus, negated, plus, times};
 use std::alloc::Global;
 use tx_bytes::Bytes;
 use tx_node::{BoxNode, Node, Nodes};
@@ -24,8 +25,8 @@ fn moved_by(by: i64, shifts: Shifts) -> Shifts
 {
     if 0 < by {
         Shifts {
-            up: shifts.up + by,
-            down: shifts.down + by,
+            up: plus(shifts.up, by),
+            down: plus(shifts.down, by),
         }
     } else {
         shifts
@@ -38,7 +39,11 @@ fn clearance(style: u8, thickness: i64) -> i64
     ensures value { result ≡ spec.clearance style thickness }
     ensures bound { unsigned_abs result ≤ 2 ^ 33 }
 {
-    if style < 2 { 3 * thickness } else { thickness }
+    if style < 2 {
+        times(3, thickness)
+    } else {
+        thickness
+    }
 }
 
 /// A size that grows by what is lacking, in sp.
@@ -48,7 +53,7 @@ fn grown(size: i64, lacking: i64) -> i64
     ensures value { result ≡ spec.grown size lacking }
     ensures near { IsNear result }
 {
-    size + lacking.max(0)
+    plus(size, greater(0, lacking))
 }
 
 /// What stands in the box of a fraction without a line.
@@ -81,6 +86,7 @@ impl Setter<'_> {
     }
 
     /// The numerator and the denominator, the narrower of which is centred, and what is told of that.
+    #[tactic(auto, unfolding(crate::specs::Fractions::even_boxes))]
     pub fn even_boxes(
         &self,
         alloc: Global,
@@ -133,9 +139,9 @@ impl Setter<'_> {
         ensures bound { unsigned_abs result ≤ 2 ^ 34 }
     {
         if style < 2 {
-            7 * self.extension_in(style, 8)
+            times(7, self.extension_in(style, 8))
         } else {
-            3 * self.extension_in(style, 8)
+            times(3, self.extension_in(style, 8))
         }
     }
 
@@ -146,9 +152,9 @@ impl Setter<'_> {
         ensures value { result ≡ spec.space_above (math_in self.now) style thickness upper.now up }
         ensures bound { unsigned_abs result ≤ unsigned_abs up + 2 ^ 34 }
     {
-        let bottom = up - i64::from(upper.depth());
-        let edge = self.symbol_in(style, 22) + half(thickness);
-        bottom - edge
+        let bottom = minus(up, i64::from(upper.depth()));
+        let edge = plus(self.symbol_in(style, 22), half(thickness));
+        minus(bottom, edge)
     }
 
     /// The space below the line, in sp.
@@ -158,9 +164,9 @@ impl Setter<'_> {
         ensures value { result ≡ spec.space_below (math_in self.now) style thickness lower.now down }
         ensures bound { unsigned_abs result ≤ unsigned_abs down + 2 ^ 34 }
     {
-        let edge = self.symbol_in(style, 22) - half(thickness);
-        let top = i64::from(lower.height()) - down;
-        edge - top
+        let edge = minus(self.symbol_in(style, 22), half(thickness));
+        let top = minus(i64::from(lower.height()), down);
+        minus(edge, top)
     }
 
     /// How far both are moved without a line.
@@ -169,7 +175,30 @@ impl Setter<'_> {
         ensures value { result ≡ spec.lineless_shifts (math_in self.now) style upper.now lower.now shifts }
         ensures near { AreNear result }
     {
-        moved_by(half(self.apart(style) - gap(shifts, upper, lower)), shifts)
+        let lacking = minus(self.apart(style), gap(shifts, upper, lower));
+        moved_by(half(lacking), shifts)
+    }
+
+    /// How far the numerator is raised with a line of this thickness, in sp.
+    fn raised_off(&self, style: u8, thickness: i64, upper: &BoxNode, up: i64) -> i64
+        requires thickness { unsigned_abs thickness ≤ 2 ^ 31 }
+        requires up { unsigned_abs up ≤ 2 ^ 34 }
+        ensures value { result ≡ spec.raised_off (math_in self.now) style thickness upper.now up }
+        ensures near { IsNear result }
+    {
+        let space = self.space_above(style, thickness, upper, up);
+        grown(up, minus(clearance(style, thickness), space))
+    }
+
+    /// How far the denominator is lowered with a line of this thickness, in sp.
+    fn lowered_off(&self, style: u8, thickness: i64, lower: &BoxNode, down: i64) -> i64
+        requires thickness { unsigned_abs thickness ≤ 2 ^ 31 }
+        requires down { unsigned_abs down ≤ 2 ^ 34 }
+        ensures value { result ≡ spec.lowered_off (math_in self.now) style thickness lower.now down }
+        ensures near { IsNear result }
+    {
+        let space = self.space_below(style, thickness, lower, down);
+        grown(down, minus(clearance(style, thickness), space))
     }
 
     /// How far both are moved with a line of this thickness.
@@ -186,12 +215,9 @@ impl Setter<'_> {
         ensures value { result ≡ spec.lined_shifts (math_in self.now) style thickness upper.now lower.now shifts }
         ensures near { AreNear result }
     {
-        let clear = clearance(style, thickness);
-        let above = clear - self.space_above(style, thickness, upper, shifts.up);
-        let below = clear - self.space_below(style, thickness, lower, shifts.down);
         Shifts {
-            up: grown(shifts.up, above),
-            down: grown(shifts.down, below),
+            up: self.raised_off(style, thickness, upper, shifts.up),
+            down: self.lowered_off(style, thickness, lower, shifts.down),
         }
     }
 
@@ -228,6 +254,7 @@ impl Setter<'_> {
         ensures error { IfErr result (λ e. e ≢ OutOfMemory → spec.lined_list (math_in self.now) style thickness shifts upper lower ≡ Err e) }
     {
         let rule = stored(thickness)?;
+        let thickness = i64::from(rule);
         let below = stored(self.space_below(style, thickness, &lower, shifts.down))?;
         let above = stored(self.space_above(style, thickness, &upper, shifts.up))?;
         let upper = boxed(alloc, upper)?;
@@ -238,6 +265,7 @@ impl Setter<'_> {
     }
 
     /// What stands in the box of a fraction.
+    #[tactic(auto, unfolding(crate::specs::Fractions::fraction_list))]
     fn fraction_list(
         &self,
         alloc: Global,
@@ -260,6 +288,7 @@ impl Setter<'_> {
     }
 
     /// The box of a fraction, without what stands on both sides.
+    #[tactic(auto, unfolding(crate::specs::Fractions::fraction_box))]
     fn fraction_box(
         &self,
         alloc: Global,
@@ -275,8 +304,8 @@ impl Setter<'_> {
         ensures error { IfErr result (λ e. e ≢ OutOfMemory → spec.fraction_box (math_in self.now) style thickness shifts upper lower ≡ Err e) }
     {
         let width = i64::from(upper.width());
-        let height = shifts.up + i64::from(upper.height());
-        let depth = i64::from(lower.depth()) + shifts.down;
+        let height = plus(shifts.up, i64::from(upper.height()));
+        let depth = plus(i64::from(lower.depth()), shifts.down);
         let list = self.fraction_list(alloc, style, thickness, shifts, upper, lower)?;
         framed(alloc, width, height, depth, list)
     }
@@ -287,7 +316,7 @@ impl Setter<'_> {
         ensures error { IfErr result (λ e. e ≢ OutOfMemory → spec.null_delimiter (math_in self.now) style ≡ Err e) }
     {
         let inner = empty_box(alloc, self.params.null_delimiter_space)?;
-        shifted(alloc, -self.symbol_in(style, 22), inner)
+        shifted(alloc, negated(self.symbol_in(style, 22)), inner)
     }
 
     /// The box of a fraction with what stands on both sides.

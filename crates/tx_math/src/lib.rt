@@ -7,7 +7,7 @@
 //! Proved: a formula becomes exactly the list that the definitions make of it, with what is told of it, and each error comes
 //! exactly where they have it. Only tested: that the definitions are TeX's.
 //!
-//! Modules in reading order: `params`, `error`, `packing`, `formula`; `setter`, `styles`, `parameters`, `mu`; `boxes`, `centring`;
+//! Modules in reading order: `params`, `error`, `packing`, `formula`; `setter`, `styles`, `sums`, `parameters`, `mu`; `boxes`, `centring`;
 //! `nucleus`, `characters`, `shifts`, `scripts`, `lines`, `operators`, `limits`, `fractions`; `entry`, `laying`, `kinds`, `pairs`,
 //! `stacks`, `composing`, `classes`; `piece`, `spacing`; `setting`.
 #![tactic(auto)]
@@ -40,6 +40,7 @@ mod shifts;
 mod spacing;
 mod stacks;
 mod styles;
+mod sums;
 
 pub use error::MathError;
 pub use formula::Formula;

@@ -1,5 +1,5 @@
 //! Large operators and their limits (TeX: The Program, sections 749 to 751).
-ghost use Rattle.std.specs.Prelude.{◌≡◌, ◌≢◌, ◌≤◌, ◌^◌, Some, unsigned_abs, IfOk, IfErr, Ok, Err};
+ghost use Rattle.std.specs.Prelude.{◌≡◌, ◌≢◌, ◌≤◌, ◌^◌, ◌+ℤ◌, Some, unsigned_abs, IfOk, IfErr, Ok, Err};
 ghost use Rattle.tx_math.specs.Operators as spec;
 ghost use Rattle.tx_math.specs.Formula as formula;
 ghost use Rattle.tx_math.specs.Setters.{IsSetter, math_in};
@@ -11,6 +11,7 @@ use crate::error::MathError;
 use crate::operators::{Limit, Limited, OperatorBox};
 use crate::parameters::half;
 use crate::setter::Setter;
+use crate::sums::{greater, minus, negated, plus};
 use std::alloc::Global;
 use tx_bytes::Bytes;
 use tx_mlist::Limits;
@@ -54,7 +55,7 @@ fn narrowed(subscripted: bool, correction: i64, inner: BoxNode) -> Result<BoxNod
     ensures { result ≡ spec.narrowed subscripted correction inner }
 {
     if subscripted {
-        let width = i64::from(inner.width()) - correction;
+        let width = minus(i64::from(inner.width()), correction);
         with_width(inner, width)
     } else {
         Ok(inner)
@@ -74,8 +75,8 @@ fn limited_box(
     ensures made { IfOk result (λ made. spec.limited_box width operator upper lower ≡ Ok made) }
     ensures error { IfErr result (λ e. e ≢ OutOfMemory → spec.limited_box width operator upper lower ≡ Err e) }
 {
-    let height = i64::from(operator.height()) + upper.reach;
-    let depth = i64::from(operator.depth()) + lower.reach;
+    let height = plus(i64::from(operator.height()), upper.reach);
+    let depth = plus(i64::from(operator.depth()), lower.reach);
     let Limit {
         nodes: mut list,
         ..
@@ -87,6 +88,15 @@ fn limited_box(
     list.push(boxed(alloc, operator)?)?;
     list.append(&mut behind)?;
     framed(alloc, i64::from(width), height, depth, list)
+}
+
+/// How far a limit of this height and depth reaches with the spaces about it, in sp.
+fn reach_of(beyond: i32, height: i32, depth: i32, space: i32) -> i64
+    ensures value { result ≡ beyond +ℤ height +ℤ depth +ℤ space }
+    ensures near { unsigned_abs result ≤ 2 ^ 34 }
+{
+    let size = plus(plus(i64::from(beyond), i64::from(height)), i64::from(depth));
+    plus(size, i64::from(space))
 }
 
 /// No limit; takes no memory.
@@ -125,11 +135,12 @@ impl Setter<'_> {
     fn about_axis(&self, style: u8, inner: &BoxNode) -> i64
         ensures { result ≡ spec.about_axis (math_in self.now) style inner.now }
     {
-        let excess = i64::from(inner.height()) - i64::from(inner.depth());
-        half(excess) - self.symbol_in(style, 22)
+        let excess = minus(i64::from(inner.height()), i64::from(inner.depth()));
+        minus(half(excess), self.symbol_in(style, 22))
     }
 
     /// The box of an operator that is this character, if its font has it; it is to be narrower by its correction, or not.
+    #[tactic(auto, unfolding(crate::specs::Formula::operator_by))]
     pub fn operator_by(
         &self,
         alloc: Global,
@@ -156,6 +167,7 @@ impl Setter<'_> {
     }
 
     /// An operator and its limits, centred to a width, in sp, and what is told of them.
+    #[tactic(auto, unfolding(crate::specs::Operators::evened))]
     pub fn evened(
         &self,
         alloc: Global,
@@ -179,7 +191,24 @@ impl Setter<'_> {
         })
     }
 
+    /// The space between an operator and what stands above it, in sp.
+    fn above_operator(&self, style: u8, upper: &BoxNode) -> i64
+        ensures { result ≡ spec.above_operator (math_in self.now) style upper.now }
+    {
+        let least = minus(self.extension_in(style, 11), i64::from(upper.depth()));
+        greater(least, self.extension_in(style, 9))
+    }
+
+    /// The space between an operator and what stands below it, in sp.
+    fn below_operator(&self, style: u8, lower: &BoxNode) -> i64
+        ensures { result ≡ spec.below_operator (math_in self.now) style lower.now }
+    {
+        let least = minus(self.extension_in(style, 12), i64::from(lower.height()));
+        greater(least, self.extension_in(style, 10))
+    }
+
     /// The limit above an operator of this correction, in sp, with the spaces about it, if it is there.
+    #[tactic(auto, unfolding(crate::specs::Operators::upper_limit))]
     fn upper_limit(
         &self,
         alloc: Global,
@@ -196,19 +225,19 @@ impl Setter<'_> {
         if !is_there {
             return Ok(no_limit(alloc));
         }
-        let size = i64::from(upper.height()) + i64::from(upper.depth());
-        let space = self.extension_in(style, 11) - i64::from(upper.depth());
-        let space = space.max(self.extension_in(style, 9));
+        let (height, depth) = (upper.height(), upper.depth());
+        let space = self.above_operator(style, &upper);
         let beyond = stored(self.extension_in(style, 13))?;
         let upper = shifted(alloc, half(correction), upper)?;
         let space = stored(space)?;
         Ok(Limit {
             nodes: triple(alloc, kern(beyond), upper, kern(space))?,
-            reach: i64::from(beyond) + size + i64::from(space),
+            reach: reach_of(beyond, height, depth, space),
         })
     }
 
     /// The limit below an operator of this correction, in sp, with the spaces about it, if it is there.
+    #[tactic(auto, unfolding(crate::specs::Operators::lower_limit))]
     fn lower_limit(
         &self,
         alloc: Global,
@@ -225,14 +254,13 @@ impl Setter<'_> {
         if !is_there {
             return Ok(no_limit(alloc));
         }
-        let size = i64::from(lower.height()) + i64::from(lower.depth());
-        let space = self.extension_in(style, 12) - i64::from(lower.height());
-        let space = stored(space.max(self.extension_in(style, 10)))?;
-        let lower = shifted(alloc, -half(correction), lower)?;
+        let (height, depth) = (lower.height(), lower.depth());
+        let space = stored(self.below_operator(style, &lower))?;
+        let lower = shifted(alloc, negated(half(correction)), lower)?;
         let beyond = stored(self.extension_in(style, 13))?;
         Ok(Limit {
             nodes: triple(alloc, kern(space), lower, kern(beyond))?,
-            reach: i64::from(beyond) + size + i64::from(space),
+            reach: reach_of(beyond, height, depth, space),
         })
     }
 

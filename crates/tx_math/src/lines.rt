@@ -8,6 +8,7 @@ use crate::boxes::{boxed, kern, line, stored, triple, with_height};
 use crate::error::MathError;
 use crate::parameters::half;
 use crate::setter::Setter;
+use crate::sums::{minus, plus, times};
 use std::alloc::Global;
 use tx_node::BoxNode;
 
@@ -15,8 +16,10 @@ use tx_node::BoxNode;
 fn rebased(thickness: i32, height: i32, inner: BoxNode) -> Result<BoxNode, MathError>
     ensures { result ≡ spec.rebased thickness height inner }
 {
-    let reach = i64::from(inner.height()) + i64::from(inner.depth()) + i64::from(thickness);
-    with_height(inner, i64::from(height), reach - i64::from(height))
+    let size = plus(i64::from(inner.height()), i64::from(inner.depth()));
+    let reach = plus(size, i64::from(thickness));
+    let height = i64::from(height);
+    with_height(inner, height, minus(reach, height))
 }
 
 impl Setter<'_> {
@@ -28,7 +31,7 @@ impl Setter<'_> {
         ensures error { IfErr result (λ e. e ≢ OutOfMemory → spec.overlined (math_in self.now) style inner ≡ Err e) }
     {
         let thickness = stored(self.extension_in(style, 8))?;
-        let space = stored(3 * i64::from(thickness))?;
+        let space = stored(times(3, i64::from(thickness)))?;
         let mut list = triple(alloc, kern(thickness), line(alloc, thickness)?, kern(space))?;
         list.push(boxed(alloc, inner)?)?;
         self.vbox(alloc, list)
@@ -43,7 +46,7 @@ impl Setter<'_> {
     {
         let height = inner.height();
         let thickness = stored(self.extension_in(style, 8))?;
-        let space = stored(3 * i64::from(thickness))?;
+        let space = stored(times(3, i64::from(thickness)))?;
         let inner = boxed(alloc, inner)?;
         let list = triple(alloc, inner, kern(space), line(alloc, thickness)?)?;
         rebased(thickness, height, self.vbox(alloc, list)?)
@@ -54,8 +57,8 @@ impl Setter<'_> {
     pub fn vcentred(&self, style: u8, inner: BoxNode) -> Result<BoxNode, MathError>
         ensures { result ≡ spec.vcentred (math_in self.now) style inner }
     {
-        let size = i64::from(inner.height()) + i64::from(inner.depth());
-        let height = self.symbol_in(style, 22) + half(size);
-        with_height(inner, height, size - height)
+        let size = plus(i64::from(inner.height()), i64::from(inner.depth()));
+        let height = plus(self.symbol_in(style, 22), half(size));
+        with_height(inner, height, minus(size, height))
     }
 }

@@ -1,5 +1,6 @@
 //! Sizes in mu (TeX: The Program, sections 716 and 717).
-ghost use Rattle.std.specs.Prelude.{◌≡◌, ◌≤◌, ◌^◌, unsigned_abs};
+ghost use Rattle.std.specs.Prelude.{◌≡◌, ◌<◌, ◌≤◌, ◌^◌, pos, unsigned_abs};
+ghost use Rattle.std.specs.Int.{int_div_euclid, int_rem_euclid};
 ghost use Rattle.tx_num.specs.Glue.{IsDimension};
 ghost use Rattle.tx_math.specs.Mu as spec;
 ghost use Rattle.tx_math.specs.Setters.{math_in};
@@ -7,15 +8,37 @@ ghost use Rattle.tx_math.specs.Setters.{math_in};
 use crate::boxes::stored;
 use crate::error::MathError;
 use crate::setter::Setter;
+use crate::sums::{plus, quotient, times};
 use tx_num::{Glue, fits};
 
+/// How many whole points so many sp are.
+#[tactic(auto, using(crate::proofs::Bounds::points_small))]
+fn whole_points(size: i64) -> i64
+    requires { unsigned_abs size ≤ 2 ^ 31 }
+    ensures value { result ≡ int_div_euclid size (pos 65536) }
+    ensures bound { unsigned_abs result ≤ 2 ^ 16 }
+{
+    size.div_euclid(65_536)
+}
+
+/// How many sp they are beyond whole points.
+fn part_of_point(size: i64) -> i64
+    ensures value { result ≡ int_rem_euclid size (pos 65536) }
+    ensures bound { unsigned_abs result < 2 ^ 16 }
+{
+    size.rem_euclid(65_536)
+}
+
 /// A size in mu as one in sp, where 1mu is so many sp.
+#[tactic(auto, unfolding(crate::specs::Mu::times_mu))]
 fn times_mu(unit: i64, size: i64) -> i64
     requires unit { unsigned_abs unit ≤ 2 ^ 31 }
     requires size { unsigned_abs size ≤ 2 ^ 31 }
     ensures { result ≡ spec.times_mu unit size }
 {
-    unit.div_euclid(65_536) * size + size * unit.rem_euclid(65_536) / 65_536
+    let whole = times(whole_points(unit), size);
+    let part = quotient(times(size, part_of_point(unit)), 65_536);
+    plus(whole, part)
 }
 
 /// The same of a stretch or shrink, unless it is infinite.
@@ -37,10 +60,11 @@ impl Setter<'_> {
         ensures value { result ≡ spec.mu (math_in self.now) style }
         ensures bound { unsigned_abs result ≤ 2 ^ 31 }
     {
-        self.symbol_in(style, 6) / 18
+        quotient(self.symbol_in(style, 6), 18)
     }
 
     /// Glue that is told in mu. `SizeOutOfRange` exactly where a size of it is no dimension.
+    #[tactic(auto, unfolding(crate::specs::Mu::math_glue))]
     pub fn math_glue(&self, style: u8, glue: &Glue) -> Result<Glue, MathError>
         ensures { result ≡ spec.math_glue (math_in self.now) style glue.now }
     {
@@ -62,6 +86,7 @@ impl Setter<'_> {
     }
 
     /// A kern that is told in mu, in sp. `SizeOutOfRange` exactly where this is no dimension.
+    #[tactic(auto, unfolding(crate::specs::Mu::math_kern))]
     pub fn math_kern(&self, style: u8, size: i32) -> Result<i32, MathError>
         ensures { result ≡ spec.math_kern (math_in self.now) style size }
     {

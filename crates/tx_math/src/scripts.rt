@@ -11,6 +11,7 @@ use crate::parameters::{four_fifths, quarter};
 use crate::setter::Setter;
 use crate::shifts::Shifts;
 use crate::styles::script_size;
+use crate::sums::{greater, minus, negated, plus, times};
 use std::alloc::Global;
 use tx_node::{BoxNode, Node};
 
@@ -20,9 +21,9 @@ pub fn gap(shifts: Shifts, upper: &BoxNode, lower: &BoxNode) -> i64
     ensures value { result ≡ spec.gap shifts upper.now lower.now }
     ensures near { unsigned_abs result ≤ unsigned_abs shifts.up + unsigned_abs shifts.down + 2 ^ 32 }
 {
-    let bottom = shifts.up - i64::from(upper.depth());
-    let top = i64::from(lower.height()) - shifts.down;
-    bottom - top
+    let bottom = minus(shifts.up, i64::from(upper.depth()));
+    let top = minus(i64::from(lower.height()), shifts.down);
+    minus(bottom, top)
 }
 
 /// Both raised by so many sp, if that is something.
@@ -34,8 +35,8 @@ fn both_raised(by: i64, shifts: Shifts) -> Shifts
 {
     if 0 < by {
         Shifts {
-            up: shifts.up + by,
-            down: shifts.down - by,
+            up: plus(shifts.up, by),
+            down: minus(shifts.down, by),
         }
     } else {
         shifts
@@ -52,8 +53,8 @@ impl Setter<'_> {
         match edges {
             None => Shifts { up: 0, down: 0 },
             Some((height, depth)) => Shifts {
-                up: height - self.symbol(script_size(style), 18),
-                down: depth + self.symbol(script_size(style), 19),
+                up: minus(height, self.symbol(script_size(style), 18)),
+                down: plus(depth, self.symbol(script_size(style), 19)),
             },
         }
     }
@@ -62,7 +63,10 @@ impl Setter<'_> {
     pub fn spaced_script(&self, inner: BoxNode) -> Result<BoxNode, MathError>
         ensures { result ≡ spec.spaced_script (math_in self.now) inner }
     {
-        let width = i64::from(inner.width()) + i64::from(self.params.script_space);
+        let width = plus(
+            i64::from(inner.width()),
+            i64::from(self.params.script_space),
+        );
         with_width(inner, width)
     }
 
@@ -71,8 +75,11 @@ impl Setter<'_> {
         requires { unsigned_abs down ≤ 2 ^ 34 }
         ensures { result ≡ spec.lowered (math_in self.now) style down lower.now }
     {
-        let most = i64::from(lower.height()) - four_fifths(self.symbol_in(style, 5));
-        down.max(self.symbol_in(style, 16)).max(most)
+        let most = minus(
+            i64::from(lower.height()),
+            four_fifths(self.symbol_in(style, 5)),
+        );
+        greater(greater(down, self.symbol_in(style, 16)), most)
     }
 
     /// How far a superscript is raised at least, in sp.
@@ -95,8 +102,8 @@ impl Setter<'_> {
         ensures value { result ≡ spec.raised (math_in self.now) style up upper.now }
         ensures near { unsigned_abs result ≤ 2 ^ 34 }
     {
-        let least = i64::from(upper.depth()) + quarter(self.symbol_in(style, 5));
-        up.max(self.least_raise(style)).max(least)
+        let least = plus(i64::from(upper.depth()), quarter(self.symbol_in(style, 5)));
+        greater(greater(up, self.least_raise(style)), least)
     }
 
     /// How far both scripts are moved that lack so many sp of the space between them.
@@ -107,12 +114,12 @@ impl Setter<'_> {
         ensures near { AreNear result }
     {
         if 0 < lacking {
-            let bottom = shifts.up - i64::from(upper.depth());
+            let bottom = minus(shifts.up, i64::from(upper.depth()));
             let lower = Shifts {
                 up: shifts.up,
-                down: shifts.down + lacking,
+                down: plus(shifts.down, lacking),
             };
-            both_raised(four_fifths(self.symbol_in(style, 5)) - bottom, lower)
+            both_raised(minus(four_fifths(self.symbol_in(style, 5)), bottom), lower)
         } else {
             shifts
         }
@@ -124,11 +131,15 @@ impl Setter<'_> {
         ensures value { result ≡ spec.both_shifts (math_in self.now) style shifts upper.now lower.now }
         ensures near { AreNear result }
     {
-        let lacking = 4 * self.extension_in(style, 8) - gap(shifts, upper, lower);
+        let lacking = minus(
+            times(4, self.extension_in(style, 8)),
+            gap(shifts, upper, lower),
+        );
         self.set_apart(style, upper, lacking, shifts)
     }
 
     /// A subscript alone, as a node.
+    #[tactic(auto, unfolding(crate::specs::Scripts::subscript_item))]
     pub fn subscript_item(
         &self,
         alloc: Global,
@@ -145,6 +156,7 @@ impl Setter<'_> {
     }
 
     /// A superscript alone, as a node.
+    #[tactic(auto, unfolding(crate::specs::Scripts::superscript_item))]
     pub fn superscript_item(
         &self,
         alloc: Global,
@@ -157,7 +169,7 @@ impl Setter<'_> {
         ensures error { IfErr result (λ e. e ≢ OutOfMemory → spec.superscript_item (math_in self.now) style shifts upper ≡ Err e) }
     {
         let up = self.raised(style, shifts.up, &upper);
-        shifted(alloc, -up, upper)
+        shifted(alloc, negated(up), upper)
     }
 
     /// Both scripts, one above the other, so many sp further to the right than the other.
@@ -200,7 +212,7 @@ impl Setter<'_> {
     {
         let first = Shifts {
             up: self.raised(style, shifts.up, &upper),
-            down: shifts.down.max(self.symbol_in(style, 17)),
+            down: greater(shifts.down, self.symbol_in(style, 17)),
         };
         let both = self.both_shifts(style, first, &upper, &lower);
         self.stacked(alloc, offset, both, upper, lower)

@@ -3,7 +3,7 @@ ghost use Rattle.std.specs.Prelude.{◌≡◌, ◌≢◌, ◌≤◌, ◌^◌, �
 ghost use Rattle.tx_num.specs.Glue.{IsDimension};
 ghost use Rattle.tx_node.specs.Items.{box_item};
 ghost use Rattle.tx_node.specs.Nodes.{item_of};
-ghost use Rattle.tx_mlist.specs.Items.{gathered};
+ghost use Rattle.tx_mlist.specs.Items.{formula, gathered};
 ghost use Rattle.tx_mlist.specs.Noads.{mlist_of, part_of};
 ghost use Rattle.tx_math.specs.Converting.{entries_in, entry_of, piece_in, pieces_in};
 ghost use Rattle.tx_math.specs.Formula as spec;
@@ -28,10 +28,11 @@ use crate::stacks::stacked;
 use crate::styles::{
     cramped, denominator_style, numerator_style, subscript_style, superscript_style,
 };
+use crate::sums::{greater, minus, plus};
 use std::alloc::{AllocError, Global};
 use tx_bytes::Bytes;
 use tx_list::Items;
-use tx_mlist::{Atom, AtomKind, Field, Fraction, MathCharacter, Mlist, Noad, PlainNoad};
+use tx_mlist::{Atom, AtomKind, Field, Fraction, InnerList, MathCharacter, Mlist, Noad, PlainNoad};
 use tx_node::{BoxNode, KernKind, Node, Nodes, Plain};
 use tx_num::Glue;
 use tx_tfm::Fonts;
@@ -41,11 +42,11 @@ fn box_nucleus(alloc: Global, shift: i32, inner: BoxNode) -> Result<Nucleus, All
     ensures value { IfOk result (λ made. made ≡ spec.box_nucleus shift inner) }
     ensures near { IfOk result IsNucleus }
 {
-    let height = i64::from(inner.height()) - i64::from(shift);
-    let depth = i64::from(inner.depth()) + i64::from(shift);
+    let height = minus(i64::from(inner.height()), i64::from(shift));
+    let depth = plus(i64::from(inner.depth()), i64::from(shift));
     Ok(Nucleus {
         nodes: single(alloc, Node::from_box(alloc, shift, inner)?)?,
-        edges: Some((height.max(0), depth.max(0))),
+        edges: Some((greater(height, 0), greater(depth, 0))),
         offset: 0,
     })
 }
@@ -188,6 +189,7 @@ impl Setter<'_> {
     }
 
     /// A list in a box of its own, as a nucleus.
+    #[tactic(auto, unfolding(crate::specs::Formula::list_nucleus))]
     fn list_nucleus(&self, alloc: Global, list: Nodes) -> Result<Nucleus, MathError>
         requires { IsSetter self.now }
         ensures made { IfOk result (λ made. spec.list_nucleus (math_in self.now) list ≡ Ok made) }
@@ -199,6 +201,7 @@ impl Setter<'_> {
     }
 
     /// The box of a script that has been set as a list.
+    #[tactic(auto, unfolding(crate::specs::Formula::script_of))]
     fn script_of(&self, alloc: Global, list: Nodes) -> Result<BoxNode, MathError>
         requires { IsSetter self.now }
         ensures made { IfOk result (λ made. spec.script_of (math_in self.now) list ≡ Ok made) }
@@ -209,6 +212,7 @@ impl Setter<'_> {
     }
 
     /// A nucleus that has been set as a list, in a box of another kind.
+    #[tactic(auto, unfolding(crate::specs::Formula::remade_nucleus))]
     fn remade_nucleus(
         &self,
         alloc: Global,
@@ -227,6 +231,7 @@ impl Setter<'_> {
     }
 
     /// A character as a nucleus, and what is told of it.
+    #[tactic(auto, unfolding(crate::specs::Formula::fetched_nucleus))]
     fn fetched_nucleus(
         &self,
         alloc: Global,
@@ -268,6 +273,7 @@ impl Setter<'_> {
     }
 
     /// An operator of this correction, in sp, between its limits, as a list, and what is told of it.
+    #[tactic(auto, unfolding(crate::specs::Formula::limits_box))]
     fn limits_box(
         &self,
         alloc: Global,
@@ -292,6 +298,7 @@ impl Setter<'_> {
     }
 
     /// A fraction with a line of this thickness, in sp, as a list, and what is told of it.
+    #[tactic(auto, unfolding(crate::specs::Formula::lined_up))]
     fn lined_up(
         &self,
         alloc: Global,
@@ -400,6 +407,7 @@ impl Setter<'_> {
 
     /// What a fraction becomes, and what is told of it.
     #[cycle(set)]
+    #[tactic(auto, unfolding(crate::specs::Formula::fraction_items))]
     fn fraction_items(
         &self,
         alloc: Global,
@@ -413,26 +421,10 @@ impl Setter<'_> {
         ensures error { IfErr result (λ e. e ≢ OutOfMemory → spec.fraction_items (spec.inward levels (math_in self.now)) (math_in self.now) style (thickness_in (math_in self.now) style fraction.now.thickness) (gathered fraction.now.numerator) (gathered fraction.now.denominator) report.old ≡ Err e) }
     {
         let thickness = self.thickness_of(style, fraction.thickness);
-        let numerator = fraction.numerator.as_slice();
-        let upper = self.list_in(
-            alloc,
-            levels,
-            false,
-            numerator_style(style),
-            numerator,
-            report,
-        )?;
-        let upper = self.cleaned_list(alloc, upper)?;
-        let denominator = fraction.denominator.as_slice();
-        let lower = self.list_in(
-            alloc,
-            levels,
-            false,
-            denominator_style(style),
-            denominator,
-            report,
-        )?;
-        let lower = self.cleaned_list(alloc, lower)?;
+        let upper = numerator_style(style);
+        let upper = self.cleaned_inner(alloc, levels, upper, &fraction.numerator, report)?;
+        let lower = denominator_style(style);
+        let lower = self.cleaned_inner(alloc, levels, lower, &fraction.denominator, report)?;
         self.lined_up(alloc, style, thickness, upper, lower, report)
     }
 
@@ -490,6 +482,7 @@ impl Setter<'_> {
 
     /// What an operator becomes whose limits stand above and below it, and what is told of it.
     #[cycle(set)]
+    #[tactic(auto, unfolding(crate::specs::Formula::limited))]
     fn limits_list(
         &self,
         alloc: Global,
@@ -506,13 +499,10 @@ impl Setter<'_> {
         let correction = correction_of(&operator);
         let nucleus = part_or(&atom.nucleus, operator)?;
         let upper = superscript_style(style);
-        let upper = self.part_list(alloc, levels, upper, &atom.superscript, report)?;
-        let upper = self.cleaned_list(alloc, upper)?;
-        let middle = self.part_list(alloc, levels, style, &nucleus, report)?;
-        let middle = self.cleaned_list(alloc, middle)?;
+        let upper = self.cleaned(alloc, levels, upper, &atom.superscript, report)?;
+        let middle = self.cleaned(alloc, levels, style, &nucleus, report)?;
         let lower = subscript_style(style);
-        let lower = self.part_list(alloc, levels, lower, &atom.subscript, report)?;
-        let lower = self.cleaned_list(alloc, lower)?;
+        let lower = self.cleaned(alloc, levels, lower, &atom.subscript, report)?;
         self.limits_box(
             alloc,
             style,
@@ -528,6 +518,7 @@ impl Setter<'_> {
 
     /// What an operator becomes whose limits stand behind it, and what is told of it.
     #[cycle(set)]
+    #[tactic(auto, unfolding(crate::specs::Formula::unlimited))]
     fn scripted_operator(
         &self,
         alloc: Global,
@@ -552,6 +543,7 @@ impl Setter<'_> {
     /// The nucleus of an atom, behind which a character of its family stands or not, and which has a subscript or not, and what is
     /// told of it.
     #[cycle(set)]
+    #[tactic(auto, using(crate::proofs::Loops::listed_back))]
     fn nucleus_of(
         &self,
         alloc: Global,
@@ -582,6 +574,7 @@ impl Setter<'_> {
 
     /// A nucleus with the scripts of its atom behind it, and what is told of these.
     #[cycle(set)]
+    #[tactic(auto, unfolding(crate::specs::Formula::with_scripts))]
     fn with_scripts(
         &self,
         alloc: Global,
@@ -602,22 +595,77 @@ impl Setter<'_> {
             if atom.subscript.is_empty() {
                 return Ok(nucleus.nodes);
             }
-            let lower = self.part_list(alloc, levels, lower, &atom.subscript, report)?;
-            let lower = self.script_of(alloc, lower)?;
+            let lower = self.script_box(alloc, levels, lower, &atom.subscript, report)?;
             return self.with_subscript(alloc, style, nucleus, lower);
         }
-        let upper = self.part_list(alloc, levels, upper, &atom.superscript, report)?;
-        let upper = self.script_of(alloc, upper)?;
+        let upper = self.script_box(alloc, levels, upper, &atom.superscript, report)?;
         if atom.subscript.is_empty() {
             return self.with_superscript(alloc, style, nucleus, upper);
         }
-        let lower = self.part_list(alloc, levels, lower, &atom.subscript, report)?;
-        let lower = self.script_of(alloc, lower)?;
+        let lower = self.script_box(alloc, levels, lower, &atom.subscript, report)?;
         self.with_both(alloc, style, nucleus, upper, lower)
+    }
+
+    /// A part in a box, in a style, and what is told of it.
+    #[cycle(set)]
+    #[tactic(auto, unfolding(crate::specs::Formula::cleaned))]
+    fn cleaned(
+        &self,
+        alloc: Global,
+        levels: u16,
+        style: u8,
+        part: &Field,
+        report: &mut Bytes,
+    ) -> Result<BoxNode, MathError>
+        requires { IsSetter self.now }
+        ensures made { IfOk result (λ made. spec.cleaned (spec.inward levels (math_in self.now)) (math_in self.now) style (part_of part.now) report.old ≡ Ok (made, report.new)) }
+        ensures error { IfErr result (λ e. e ≢ OutOfMemory → spec.cleaned (spec.inward levels (math_in self.now)) (math_in self.now) style (part_of part.now) report.old ≡ Err e) }
+    {
+        let list = self.part_list(alloc, levels, style, part, report)?;
+        self.cleaned_list(alloc, list)
+    }
+
+    /// A list that a noad has in a box, in a style, and what is told of it.
+    #[cycle(set)]
+    #[tactic(auto, using(crate::proofs::Loops::listed_back), unfolding(crate::specs::Formula::cleaned))]
+    fn cleaned_inner(
+        &self,
+        alloc: Global,
+        levels: u16,
+        style: u8,
+        list: &InnerList,
+        report: &mut Bytes,
+    ) -> Result<BoxNode, MathError>
+        requires { IsSetter self.now }
+        ensures made { IfOk result (λ made. spec.cleaned (spec.inward levels (math_in self.now)) (math_in self.now) style (formula (gathered list.now)) report.old ≡ Ok (made, report.new)) }
+        ensures error { IfErr result (λ e. e ≢ OutOfMemory → spec.cleaned (spec.inward levels (math_in self.now)) (math_in self.now) style (formula (gathered list.now)) report.old ≡ Err e) }
+    {
+        let list = self.list_in(alloc, levels, false, style, list.as_slice(), report)?;
+        self.cleaned_list(alloc, list)
+    }
+
+    /// The box of a script, in a style, and what is told of it.
+    #[cycle(set)]
+    #[tactic(auto, unfolding(crate::specs::Formula::script_box))]
+    fn script_box(
+        &self,
+        alloc: Global,
+        levels: u16,
+        style: u8,
+        part: &Field,
+        report: &mut Bytes,
+    ) -> Result<BoxNode, MathError>
+        requires { IsSetter self.now }
+        ensures made { IfOk result (λ made. spec.script_box (spec.inward levels (math_in self.now)) (math_in self.now) style (part_of part.now) report.old ≡ Ok (made, report.new)) }
+        ensures error { IfErr result (λ e. e ≢ OutOfMemory → spec.script_box (spec.inward levels (math_in self.now)) (math_in self.now) style (part_of part.now) report.old ≡ Err e) }
+    {
+        let list = self.part_list(alloc, levels, style, part, report)?;
+        self.script_of(alloc, list)
     }
 
     /// A part by itself, as a list in a style, and what is told of it.
     #[cycle(set)]
+    #[tactic(auto, using(crate::proofs::Loops::listed_back))]
     fn part_list(
         &self,
         alloc: Global,

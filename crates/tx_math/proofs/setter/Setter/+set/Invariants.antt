@@ -15,28 +15,37 @@ abbrev pub decreases-list_in : goal.decreases-list_in
 decreases-list_in l = 16 * l.levels
 
 abbrev pub decreases-pieces_of : goal.decreases-pieces_of
-decreases-pieces_of l = 16 * l.levels + 10
+decreases-pieces_of l = 16 * l.levels + 11
 
 abbrev pub decreases-piece_of : goal.decreases-piece_of
-decreases-piece_of l = 16 * l.levels + 9
+decreases-piece_of l = 16 * l.levels + 10
 
 abbrev pub decreases-fraction_items : goal.decreases-fraction_items
-decreases-fraction_items l = 16 * l.levels + 8
+decreases-fraction_items l = 16 * l.levels + 9
 
 abbrev pub decreases-atom_list : goal.decreases-atom_list
-decreases-atom_list l = 16 * l.levels + 8
+decreases-atom_list l = 16 * l.levels + 9
 
 abbrev pub decreases-limits_list : goal.decreases-limits_list
-decreases-limits_list l = 16 * l.levels + 7
+decreases-limits_list l = 16 * l.levels + 8
 
 abbrev pub decreases-scripted_operator : goal.decreases-scripted_operator
-decreases-scripted_operator l = 16 * l.levels + 7
+decreases-scripted_operator l = 16 * l.levels + 8
 
 abbrev pub decreases-with_scripts : goal.decreases-with_scripts
-decreases-with_scripts l = 16 * l.levels + 6
+decreases-with_scripts l = 16 * l.levels + 7
 
 abbrev pub decreases-nucleus_of : goal.decreases-nucleus_of
 decreases-nucleus_of l = 16 * l.levels + 6
 
 abbrev pub decreases-part_list : goal.decreases-part_list
 decreases-part_list l = 16 * l.levels + 5
+
+abbrev pub decreases-cleaned : goal.decreases-cleaned
+decreases-cleaned l = 16 * l.levels + 6
+
+abbrev pub decreases-cleaned_inner : goal.decreases-cleaned_inner
+decreases-cleaned_inner l = 16 * l.levels + 6
+
+abbrev pub decreases-script_box : goal.decreases-script_box
+decreases-script_box l = 16 * l.levels + 6
