@@ -5,4 +5,3 @@ pub mod Chosen
 pub mod Loops
 pub mod Telling
 mod Worked
-pub mod Widths

@@ -79,7 +79,7 @@ with_height b height depth =
     passed (stored height) (λ h. passed (stored depth) (λ d. Ok (record b { head = record b.head { height = h; depth = d } })))
 
 -- a box in a list, shifted by so much
-abbrev pub shifted : ℤ → PackedBox → Result Item MathError
+unfoldable pub shifted : ℤ → PackedBox → Result Item MathError
 shifted shift b = passed (stored shift) (λ s. Ok (box_item s b))
 
 -- the items of a box, as a list
@@ -185,16 +185,19 @@ abbrev pub centred_by : Direction → PackedBox → Result (List Item) MathError
 centred_by Horizontal b = horizontal_list b
 centred_by Vertical b = Ok (box_item (pos 0) b ∷ [])
 
-abbrev pub centred : PackedBox → Result (List Item) MathError
+unfoldable pub centred : PackedBox → Result (List Item) MathError
 centred b = passed (centred_by b.head.direction b) (λ list. Ok (plain (Glue ss_glue) ∷ list ++ plain (Glue ss_glue) ∷ []))
 
 -- a list in a horizontal box of this width, which has to be a dimension
-abbrev pub set_to : Math → ℤ → List Item → Telling PackedBox
+unfoldable pub set_to : Math → ℤ → List Item → Telling PackedBox
 set_to m width list = and_then (checked (stored width)) (λ w. reported (hpacked list (To w) m.params.packing))
 
 -- a box of this width, in which what was in it is centred; a box that is so wide, or is empty, stays (section 715)
 abbrev pub keeps_list : ℤ → PackedBox → Bool
 keeps_list width b = is_nothing (b.head.width -ℤ width) || (length b.list == 0)
 
+unfoldable pub centred_to : Math → ℤ → PackedBox → Telling PackedBox
+centred_to m width b = and_then (checked (centred b)) (set_to m width)
+
 unfoldable pub reboxed : Math → ℤ → PackedBox → Telling PackedBox
-reboxed m width b = if keeps_list width b then checked (with_width b width) else and_then (checked (centred b)) (set_to m width)
+reboxed m width b = if keeps_list width b then checked (with_width b width) else centred_to m width b

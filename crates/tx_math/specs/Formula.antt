@@ -144,7 +144,7 @@ remade m style Center x = vcentred m style x
 unfoldable pub remade_nucleus : Math → ℕ → AtomKind → List Item → Result Nucleus MathError
 remade_nucleus m style kind list = passed (cleaned_list m list) (λ x. passed (remade m style kind x) (λ b. Ok (box_nucleus (pos 0) b)))
 
-abbrev pub boxed_list : Inward → Math → ℕ → AtomKind → Part → Part → Part → Telling (List Item)
+unfoldable pub boxed_list : Inward → Math → ℕ → AtomKind → Part → Part → Part → Telling (List Item)
 boxed_list inward m style kind nucleus sup sub =
     and_then (part_list inward m (boxing_style kind style) nucleus) (λ list.
     and_then (checked (remade_nucleus m style kind list)) (with_scripts inward m style sup sub))
@@ -182,7 +182,7 @@ limits_box m style correction has_upper has_lower x y z =
     and_then (evened m (widest x y z) x y z) (λ boxes.
     and_then (checked (limits_of m style correction has_upper has_lower (widest x y z) boxes)) (λ b. given (box_item (pos 0) b ∷ [])))
 
-abbrev pub limits_list : Inward → Math → ℕ → Part → Part → Part → Option OperatorBox → Telling (List Item)
+unfoldable pub limits_list : Inward → Math → ℕ → Part → Part → Part → Option OperatorBox → Telling (List Item)
 limits_list inward m style nucleus sup sub operator =
     and_then (cleaned inward m (superscript_style style) sup) (λ x.
     and_then (cleaned inward m style (part_or nucleus operator)) (λ y.
@@ -193,7 +193,7 @@ limits_list inward m style nucleus sup sub operator =
 abbrev pub offset_by : ℤ → Nucleus → Nucleus
 offset_by offset n = record n { offset = offset }
 
-abbrev pub scripted_operator : Inward → Math → ℕ → Part → Part → Part → Option OperatorBox → Telling (List Item)
+unfoldable pub scripted_operator : Inward → Math → ℕ → Part → Part → Part → Option OperatorBox → Telling (List Item)
 scripted_operator inward m style nucleus sup sub operator =
     and_then (nucleus_of inward m style false false (part_or nucleus operator)) (λ n. with_scripts inward m style sup sub (offset_by (correction_of operator) n))
 
@@ -209,7 +209,7 @@ operator_list inward m style limits nucleus sup sub =
     if has_limits limits style then limited inward m style nucleus sup sub else unlimited inward m style nucleus sup sub
 
 -- an atom of any other kind
-abbrev pub scripted : Inward → Math → ℕ → Bool → Part → Part → Part → Telling (List Item)
+unfoldable pub scripted : Inward → Math → ℕ → Bool → Part → Part → Part → Telling (List Item)
 scripted inward m style joined nucleus sup sub =
     and_then (nucleus_of inward m style joined (not (is_empty sub)) nucleus) (with_scripts inward m style sup sub)
 

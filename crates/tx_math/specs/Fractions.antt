@@ -44,10 +44,10 @@ lineless_shifts m style x z s = moved_by (half (apart m style -ℤ gap s x z)) s
 abbrev pub clearance : ℕ → ℤ → ℤ
 clearance style thickness = if is_display style then pos 3 *ℤ thickness else thickness
 
-abbrev pub space_above : Math → ℕ → ℤ → PackedBox → ℤ → ℤ
+unfoldable pub space_above : Math → ℕ → ℤ → PackedBox → ℤ → ℤ
 space_above m style thickness x up = (up -ℤ x.head.depth) -ℤ (axis m style +ℤ half thickness)
 
-abbrev pub space_below : Math → ℕ → ℤ → PackedBox → ℤ → ℤ
+unfoldable pub space_below : Math → ℕ → ℤ → PackedBox → ℤ → ℤ
 space_below m style thickness z down = (axis m style -ℤ half thickness) -ℤ (z.head.height -ℤ down)
 
 abbrev pub grown : ℤ → ℤ → ℤ
@@ -82,9 +82,15 @@ lined_list m style thickness s x z =
 unfoldable pub fraction_list : Math → ℕ → ℤ → Shifts → PackedBox → PackedBox → Result (List Item) MathError
 fraction_list m style thickness s x z = if is_nothing thickness then lineless_list s x z else lined_list m style thickness s x z
 
+unfoldable pub fraction_height : Shifts → PackedBox → ℤ
+fraction_height s x = s.up +ℤ x.head.height
+
+unfoldable pub fraction_depth : Shifts → PackedBox → ℤ
+fraction_depth s z = z.head.depth +ℤ s.down
+
 unfoldable pub fraction_box : Math → ℕ → ℤ → Shifts → PackedBox → PackedBox → Result PackedBox MathError
 fraction_box m style thickness s x z =
-    passed (fraction_list m style thickness s x z) (framed x.head.width (s.up +ℤ x.head.height) (z.head.depth +ℤ s.down))
+    passed (fraction_list m style thickness s x z) (framed x.head.width (fraction_height s x) (fraction_depth s z))
 
 -- an empty box of \nulldelimiterspace stands on both sides, raised to the axis (sections 706 and 748)
 abbrev pub null_delimiter : Math → ℕ → Result Item MathError

@@ -18,10 +18,10 @@ times_mu unit size =
     int_div_euclid unit (pos 65536) *ℤ size +ℤ int_div (size *ℤ int_rem_euclid unit (pos 65536)) (pos 65536)
 
 -- only what isn't infinite is told in mu
-abbrev pub elastic_in_points : ℤ → ℤ → ℕ → ℤ
+unfoldable pub elastic_in_points : ℤ → ℤ → ℕ → ℤ
 elastic_in_points unit size order = if order == 0 then times_mu unit size else size
 
-abbrev pub glue_in_points : ℤ → GlueSpec → GlueSpec
+unfoldable pub glue_in_points : ℤ → GlueSpec → GlueSpec
 glue_in_points unit g = record g {
   width = times_mu unit g.width;
   stretch = elastic_in_points unit g.stretch g.stretch_order;
@@ -32,8 +32,11 @@ abbrev pub glue_fits : GlueSpec → Bool
 glue_fits g = fits g.width && (fits g.stretch && fits g.shrink)
 
 -- glue, and a kern, in a style; their sizes have to be dimensions
+unfoldable pub fitting : GlueSpec → Result GlueSpec MathError
+fitting g = if glue_fits g then Ok g else Err SizeOutOfRange
+
 unfoldable pub math_glue : Math → ℕ → GlueSpec → Result GlueSpec MathError
-math_glue m style g = if glue_fits (glue_in_points (mu m style) g) then Ok (glue_in_points (mu m style) g) else Err SizeOutOfRange
+math_glue m style g = fitting (glue_in_points (mu m style) g)
 
 unfoldable pub math_kern : Math → ℕ → ℤ → Result ℤ MathError
 math_kern m style size = stored (times_mu (mu m style) size)

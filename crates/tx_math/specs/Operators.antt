@@ -50,7 +50,7 @@ abbrev pub narrowed : Bool → ℤ → PackedBox → Result PackedBox MathError
 narrowed subscripted correction x = if subscripted then with_width x (x.head.width -ℤ correction) else Ok x
 
 -- the width of the three boxes, the operator and its limits
-abbrev pub widest : PackedBox → PackedBox → PackedBox → ℤ
+unfoldable pub widest : PackedBox → PackedBox → PackedBox → ℤ
 widest x y z = int_max (int_max y.head.width x.head.width) z.head.width
 
 -- each is centred to this width
@@ -61,13 +61,17 @@ evened m width x y z =
     and_then (reboxed m width z) (λ lower. given (record { upper = upper; operator = operator; lower = lower }))))
 
 -- the space between an operator and what stands above it, and below it
-abbrev pub above_operator : Math → ℕ → PackedBox → ℤ
+unfoldable pub above_operator : Math → ℕ → PackedBox → ℤ
 above_operator m style x = int_max (big_op_spacing3 m style -ℤ x.head.depth) (big_op_spacing1 m style)
 
-abbrev pub below_operator : Math → ℕ → PackedBox → ℤ
+unfoldable pub below_operator : Math → ℕ → PackedBox → ℤ
 below_operator m style z = int_max (big_op_spacing4 m style -ℤ z.head.height) (big_op_spacing2 m style)
 
--- a limit with the spaces about it, and how far it reaches, if it is there
+-- how far a limit of this height and depth reaches with the spaces about it
+unfoldable pub reach_of : ℤ → ℤ → ℤ → ℤ → ℤ
+reach_of beyond height depth space = beyond +ℤ height +ℤ depth +ℤ space
+
+-- a limit with these spaces, if it is there
 abbrev pub no_limit : Limit
 no_limit = record { nodes = []; reach = pos 0 }
 
@@ -77,7 +81,7 @@ upper_limit m style correction is_there x =
     then passed (stored (big_op_spacing5 m style)) (λ beyond.
     passed (shifted (half correction) x) (λ item.
     passed (stored (above_operator m style x)) (λ space.
-    Ok (record { nodes = kern beyond ∷ item ∷ kern space ∷ []; reach = beyond +ℤ x.head.height +ℤ x.head.depth +ℤ space }))))
+    Ok (record { nodes = kern beyond ∷ item ∷ kern space ∷ []; reach = reach_of beyond x.head.height x.head.depth space }))))
     else Ok no_limit
 
 unfoldable pub lower_limit : Math → ℕ → ℤ → Bool → PackedBox → Result Limit MathError
@@ -86,13 +90,20 @@ lower_limit m style correction is_there z =
     then passed (stored (below_operator m style z)) (λ space.
     passed (shifted (neg_ℤ (half correction)) z) (λ item.
     passed (stored (big_op_spacing5 m style)) (λ beyond.
-    Ok (record { nodes = kern space ∷ item ∷ kern beyond ∷ []; reach = beyond +ℤ z.head.height +ℤ z.head.depth +ℤ space }))))
+    Ok (record { nodes = kern space ∷ item ∷ kern beyond ∷ []; reach = reach_of beyond z.head.height z.head.depth space }))))
     else Ok no_limit
+
+-- how high and how deep an operator is with its limits
+unfoldable pub limited_height : PackedBox → Limit → ℤ
+limited_height y upper = y.head.height +ℤ upper.reach
+
+unfoldable pub limited_depth : PackedBox → Limit → ℤ
+limited_depth y lower = y.head.depth +ℤ lower.reach
 
 -- the operator between those limits that are there, in a vertical box whose baseline is the operator's (section 751)
 abbrev pub limited_box : ℤ → PackedBox → Limit → Limit → Result PackedBox MathError
 limited_box width y upper lower =
-    framed width (y.head.height +ℤ upper.reach) (y.head.depth +ℤ lower.reach) (upper.nodes ++ box_item (pos 0) y ∷ lower.nodes)
+    framed width (limited_height y upper) (limited_depth y lower) (upper.nodes ++ box_item (pos 0) y ∷ lower.nodes)
 
 unfoldable pub limits_of : Math → ℕ → ℤ → Bool → Bool → ℤ → Limited → Result PackedBox MathError
 limits_of m style correction has_upper has_lower width boxes =

@@ -23,18 +23,30 @@ abbrev pub spaced_script : Math → PackedBox → Result PackedBox MathError
 spaced_script m b = with_width b (b.head.width +ℤ m.params.script_space)
 
 -- how far a subscript alone is lowered: its top is not above four fifths of the x-height (section 757)
+unfoldable pub first_lowered : Math → ℕ → ℤ → ℤ
+first_lowered m style down = int_max down (sub1 m style)
+
+unfoldable pub below_top : Math → ℕ → PackedBox → ℤ
+below_top m style x = x.head.height -ℤ four_fifths (x_height m style)
+
 abbrev pub lowered : Math → ℕ → ℤ → PackedBox → ℤ
-lowered m style down x = int_max (int_max down (sub1 m style)) (x.head.height -ℤ four_fifths (x_height m style))
+lowered m style down x = int_max (first_lowered m style down) (below_top m style x)
 
 -- how far a superscript is raised: its bottom is not below a quarter of the x-height (section 758)
 abbrev pub least_raise : Math → ℕ → ℤ
 least_raise m style = if is_cramped style then sup3 m style else if is_display style then sup1 m style else sup2 m style
 
+unfoldable pub first_raised : Math → ℕ → ℤ → ℤ
+first_raised m style up = int_max up (least_raise m style)
+
+unfoldable pub above_bottom : Math → ℕ → PackedBox → ℤ
+above_bottom m style x = x.head.depth +ℤ quarter (x_height m style)
+
 abbrev pub raised : Math → ℕ → ℤ → PackedBox → ℤ
-raised m style up x = int_max (int_max up (least_raise m style)) (x.head.depth +ℤ quarter (x_height m style))
+raised m style up x = int_max (first_raised m style up) (above_bottom m style x)
 
 -- the space between the bottom of what is raised and the top of what is lowered
-abbrev pub gap : Shifts → PackedBox → PackedBox → ℤ
+unfoldable pub gap : Shifts → PackedBox → PackedBox → ℤ
 gap s x y = (s.up -ℤ x.head.depth) -ℤ (y.head.height -ℤ s.down)
 
 -- a superscript and a subscript are four lines apart at least: the subscript is lowered; and then both are raised so that the
@@ -59,11 +71,12 @@ unfoldable pub superscript_item : Math → ℕ → Shifts → PackedBox → Resu
 superscript_item m style s x = shifted (neg_ℤ (raised m style s.up x)) x
 
 -- both, one below the other, the upper one further to the right by so much
-abbrev pub stacked : Math → ℤ → Shifts → PackedBox → PackedBox → Result Item MathError
-stacked m offset s x y =
-    passed (shifted offset x) (λ upper.
-    passed (stored (gap s x y)) (λ space.
-    passed (vbox m (upper ∷ kern space ∷ box_item (pos 0) y ∷ [])) (λ b. shifted s.down b)))
+unfoldable pub stack_box : Math → ℤ → Shifts → PackedBox → PackedBox → Result PackedBox MathError
+stack_box m offset s x y =
+    passed (shifted offset x) (λ upper. passed (stored (gap s x y)) (λ space. vbox m (upper ∷ kern space ∷ box_item (pos 0) y ∷ [])))
+
+unfoldable pub stacked : Math → ℤ → Shifts → PackedBox → PackedBox → Result Item MathError
+stacked m offset s x y = passed (stack_box m offset s x y) (shifted s.down)
 
 unfoldable pub scripts_item : Math → ℕ → ℤ → Shifts → PackedBox → PackedBox → Result Item MathError
 scripts_item m style offset s x y =

@@ -57,6 +57,7 @@ pub fn boxed(alloc: Global, inner: BoxNode) -> Result<Node, AllocError>
 }
 
 /// A box that is shifted by so many sp, as a node. `SizeOutOfRange` exactly where the shift is no dimension.
+#[tactic(auto, unfolding(crate::specs::Boxes::shifted))]
 pub fn shifted(alloc: Global, shift: i64, inner: BoxNode) -> Result<Node, MathError>
     ensures made { IfOk result (λ node. spec.shifted shift inner ≡ Ok (item_of node)) }
     ensures error { IfErr result (λ e. e ≢ OutOfMemory → spec.shifted shift inner ≡ Err e) }

@@ -94,6 +94,7 @@ fn centred_list(alloc: Global, inner: BoxNode) -> Result<Nodes, MathError>
 }
 
 /// The same between \hss on both sides.
+#[tactic(auto, unfolding(crate::specs::Boxes::centred))]
 fn centred(alloc: Global, inner: BoxNode) -> Result<Nodes, MathError>
     ensures made { IfOk result (λ list. spec.centred inner ≡ Ok list) }
     ensures error { IfErr result (λ e. e ≢ OutOfMemory → spec.centred inner ≡ Err e) }
@@ -129,11 +130,28 @@ impl Setter<'_> {
         if keeps_list(width, &inner) {
             return with_width(inner, i64::from(width));
         }
+        self.centred_to(alloc, width, inner, report)
+    }
+
+    /// What is in a box centred to a width, in sp, and what is told of it.
+    #[tactic(auto, unfolding(crate::specs::Boxes::centred_to))]
+    fn centred_to(
+        &self,
+        alloc: Global,
+        width: i32,
+        inner: BoxNode,
+        report: &mut Bytes,
+    ) -> Result<BoxNode, MathError>
+        requires { IsSetter self.now }
+        ensures made { IfOk result (λ made. spec.centred_to (math_in self.now) width inner report.old ≡ Ok (made, report.new)) }
+        ensures error { IfErr result (λ e. e ≢ OutOfMemory → spec.centred_to (math_in self.now) width inner report.old ≡ Err e) }
+    {
         let list = centred(alloc, inner)?;
         self.set_to(alloc, i64::from(width), list, report)
     }
 
     /// A list in a horizontal box of this width, in sp, and what is told of it.
+    #[tactic(auto, unfolding(crate::specs::Boxes::set_to))]
     fn set_to(
         &self,
         alloc: Global,

@@ -56,6 +56,24 @@ fn grown(size: i64, lacking: i64) -> i64
     plus(size, greater(0, lacking))
 }
 
+/// How high a fraction is, in sp.
+#[tactic(auto, unfolding(crate::specs::Fractions::fraction_height))]
+fn fraction_height(shifts: Shifts, upper: &BoxNode) -> i64
+    requires { AreNear shifts }
+    ensures { result ≡ spec.fraction_height shifts upper.now }
+{
+    plus(shifts.up, i64::from(upper.height()))
+}
+
+/// How deep it is, in sp.
+#[tactic(auto, unfolding(crate::specs::Fractions::fraction_depth))]
+fn fraction_depth(shifts: Shifts, lower: &BoxNode) -> i64
+    requires { AreNear shifts }
+    ensures { result ≡ spec.fraction_depth shifts lower.now }
+{
+    plus(i64::from(lower.depth()), shifts.down)
+}
+
 /// What stands in the box of a fraction without a line.
 fn lineless_list(
     alloc: Global,
@@ -146,6 +164,7 @@ impl Setter<'_> {
     }
 
     /// The space above the line, in sp.
+    #[tactic(auto, unfolding(crate::specs::Fractions::space_above))]
     fn space_above(&self, style: u8, thickness: i64, upper: &BoxNode, up: i64) -> i64
         requires thickness { unsigned_abs thickness ≤ 2 ^ 31 }
         requires up { unsigned_abs up ≤ 2 ^ 40 }
@@ -158,6 +177,7 @@ impl Setter<'_> {
     }
 
     /// The space below the line, in sp.
+    #[tactic(auto, unfolding(crate::specs::Fractions::space_below))]
     fn space_below(&self, style: u8, thickness: i64, lower: &BoxNode, down: i64) -> i64
         requires thickness { unsigned_abs thickness ≤ 2 ^ 31 }
         requires down { unsigned_abs down ≤ 2 ^ 40 }
@@ -304,8 +324,8 @@ impl Setter<'_> {
         ensures error { IfErr result (λ e. e ≢ OutOfMemory → spec.fraction_box (math_in self.now) style thickness shifts upper lower ≡ Err e) }
     {
         let width = i64::from(upper.width());
-        let height = plus(shifts.up, i64::from(upper.height()));
-        let depth = plus(i64::from(lower.depth()), shifts.down);
+        let height = fraction_height(shifts, &upper);
+        let depth = fraction_depth(shifts, &lower);
         let list = self.fraction_list(alloc, style, thickness, shifts, upper, lower)?;
         framed(alloc, width, height, depth, list)
     }

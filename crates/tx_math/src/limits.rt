@@ -1,5 +1,5 @@
 //! Large operators and their limits (TeX: The Program, sections 749 to 751).
-ghost use Rattle.std.specs.Prelude.{◌≡◌, ◌≢◌, ◌≤◌, ◌^◌, ◌+ℤ◌, Some, unsigned_abs, IfOk, IfErr, Ok, Err};
+ghost use Rattle.std.specs.Prelude.{◌≡◌, ◌≢◌, ◌≤◌, ◌^◌, Some, unsigned_abs, IfOk, IfErr, Ok, Err};
 ghost use Rattle.tx_math.specs.Operators as spec;
 ghost use Rattle.tx_math.specs.Formula as formula;
 ghost use Rattle.tx_math.specs.Setters.{IsSetter, math_in};
@@ -43,6 +43,7 @@ fn larger(fonts: &Fonts, character: Character) -> Character
 }
 
 /// The width of an operator and its limits, in sp.
+#[tactic(auto, unfolding(crate::specs::Operators::widest))]
 pub fn widest(upper: &BoxNode, operator: &BoxNode, lower: &BoxNode) -> i32
     ensures { result ≡ spec.widest upper.now operator.now lower.now }
 {
@@ -62,6 +63,24 @@ fn narrowed(subscripted: bool, correction: i64, inner: BoxNode) -> Result<BoxNod
     }
 }
 
+/// How high an operator is with the limit above it, in sp.
+#[tactic(auto, unfolding(crate::specs::Operators::limited_height))]
+fn limited_height(operator: &BoxNode, upper: &Limit) -> i64
+    requires { unsigned_abs upper.now.reach ≤ 2 ^ 34 }
+    ensures { result ≡ spec.limited_height operator.now upper.now }
+{
+    plus(i64::from(operator.height()), upper.reach)
+}
+
+/// How deep it is with the limit below it, in sp.
+#[tactic(auto, unfolding(crate::specs::Operators::limited_depth))]
+fn limited_depth(operator: &BoxNode, lower: &Limit) -> i64
+    requires { unsigned_abs lower.now.reach ≤ 2 ^ 34 }
+    ensures { result ≡ spec.limited_depth operator.now lower.now }
+{
+    plus(i64::from(operator.depth()), lower.reach)
+}
+
 /// An operator between its limits, in a box of this width, in sp.
 fn limited_box(
     alloc: Global,
@@ -75,8 +94,8 @@ fn limited_box(
     ensures made { IfOk result (λ made. spec.limited_box width operator upper lower ≡ Ok made) }
     ensures error { IfErr result (λ e. e ≢ OutOfMemory → spec.limited_box width operator upper lower ≡ Err e) }
 {
-    let height = plus(i64::from(operator.height()), upper.reach);
-    let depth = plus(i64::from(operator.depth()), lower.reach);
+    let height = limited_height(&operator, &upper);
+    let depth = limited_depth(&operator, &lower);
     let Limit {
         nodes: mut list,
         ..
@@ -91,8 +110,9 @@ fn limited_box(
 }
 
 /// How far a limit of this height and depth reaches with the spaces about it, in sp.
+#[tactic(auto, unfolding(crate::specs::Operators::reach_of))]
 fn reach_of(beyond: i32, height: i32, depth: i32, space: i32) -> i64
-    ensures value { result ≡ beyond +ℤ height +ℤ depth +ℤ space }
+    ensures value { result ≡ spec.reach_of beyond height depth space }
     ensures near { unsigned_abs result ≤ 2 ^ 34 }
 {
     let size = plus(plus(i64::from(beyond), i64::from(height)), i64::from(depth));
@@ -192,6 +212,7 @@ impl Setter<'_> {
     }
 
     /// The space between an operator and what stands above it, in sp.
+    #[tactic(auto, unfolding(crate::specs::Operators::above_operator))]
     fn above_operator(&self, style: u8, upper: &BoxNode) -> i64
         ensures { result ≡ spec.above_operator (math_in self.now) style upper.now }
     {
@@ -200,6 +221,7 @@ impl Setter<'_> {
     }
 
     /// The space between an operator and what stands below it, in sp.
+    #[tactic(auto, unfolding(crate::specs::Operators::below_operator))]
     fn below_operator(&self, style: u8, lower: &BoxNode) -> i64
         ensures { result ≡ spec.below_operator (math_in self.now) style lower.now }
     {

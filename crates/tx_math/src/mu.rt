@@ -1,7 +1,7 @@
 //! Sizes in mu (TeX: The Program, sections 716 and 717).
 ghost use Rattle.std.specs.Prelude.{◌≡◌, ◌<◌, ◌≤◌, ◌^◌, pos, unsigned_abs};
 ghost use Rattle.std.specs.Int.{int_div_euclid, int_rem_euclid};
-ghost use Rattle.tx_num.specs.Glue.{IsDimension};
+ghost use Rattle.tx_num.specs.Glue.{glue_of};
 ghost use Rattle.tx_math.specs.Mu as spec;
 ghost use Rattle.tx_math.specs.Setters.{math_in};
 
@@ -42,6 +42,7 @@ fn times_mu(unit: i64, size: i64) -> i64
 }
 
 /// The same of a stretch or shrink, unless it is infinite.
+#[tactic(auto, unfolding(crate::specs::Mu::elastic_in_points))]
 fn elastic_in_points(unit: i64, size: i64, order: u8) -> i64
     requires unit { unsigned_abs unit ≤ 2 ^ 31 }
     requires size { unsigned_abs size ≤ 2 ^ 31 }
@@ -52,6 +53,44 @@ fn elastic_in_points(unit: i64, size: i64, order: u8) -> i64
     } else {
         size
     }
+}
+
+/// Glue of these sizes, in sp. `SizeOutOfRange` exactly where one of them is no dimension.
+#[tactic(auto, unfolding(crate::specs::Mu::fitting))]
+fn fitting(
+    width: i64,
+    stretch: i64,
+    stretch_order: u8,
+    shrink: i64,
+    shrink_order: u8,
+) -> Result<Glue, MathError>
+    requires stretch_order { stretch_order ≤ 3 }
+    requires shrink_order { shrink_order ≤ 3 }
+    ensures { result ≡ spec.fitting (glue_of width stretch stretch_order shrink shrink_order) }
+{
+    if fits(width) && fits(stretch) && fits(shrink) {
+        Ok(Glue::new(width, stretch, stretch_order, shrink, shrink_order))
+    } else {
+        Err(MathError::SizeOutOfRange)
+    }
+}
+
+/// Glue that is told in mu, where 1mu is so many sp. `SizeOutOfRange` exactly where a size of it is no dimension.
+#[tactic(auto, unfolding(crate::specs::Mu::glue_in_points))]
+fn glue_in_points(unit: i64, glue: &Glue) -> Result<Glue, MathError>
+    requires { unsigned_abs unit ≤ 2 ^ 31 }
+    ensures { result ≡ spec.fitting (spec.glue_in_points unit glue.now) }
+{
+    let width = times_mu(unit, glue.width());
+    let stretch = elastic_in_points(unit, glue.stretch(), glue.stretch_order());
+    let shrink = elastic_in_points(unit, glue.shrink(), glue.shrink_order());
+    fitting(
+        width,
+        stretch,
+        glue.stretch_order(),
+        shrink,
+        glue.shrink_order(),
+    )
 }
 
 impl Setter<'_> {
@@ -68,21 +107,7 @@ impl Setter<'_> {
     pub fn math_glue(&self, style: u8, glue: &Glue) -> Result<Glue, MathError>
         ensures { result ≡ spec.math_glue (math_in self.now) style glue.now }
     {
-        let unit = self.mu(style);
-        let width = times_mu(unit, glue.width());
-        let stretch = elastic_in_points(unit, glue.stretch(), glue.stretch_order());
-        let shrink = elastic_in_points(unit, glue.shrink(), glue.shrink_order());
-        if fits(width) && fits(stretch) && fits(shrink) {
-            Ok(Glue::new(
-                width,
-                stretch,
-                glue.stretch_order(),
-                shrink,
-                glue.shrink_order(),
-            ))
-        } else {
-            Err(MathError::SizeOutOfRange)
-        }
+        glue_in_points(self.mu(style), glue)
     }
 
     /// A kern that is told in mu, in sp. `SizeOutOfRange` exactly where this is no dimension.

@@ -1,6 +1,8 @@
 //! Scripts (TeX: The Program, sections 756 to 759).
-ghost use Rattle.std.specs.Prelude.{◌≡◌, ◌≢◌, ◌≤◌, ◌+◌, ◌^◌, unsigned_abs, IfOk, IfErr, Ok, Err};
+ghost use Rattle.std.specs.Prelude.{◌≡◌, ◌≢◌, ◌≤◌, ◌+◌, ◌∷◌, ◌^◌, [], pos, unsigned_abs, IfOk, IfErr, Ok, Err};
+ghost use Rattle.tx_node.specs.Items.{box_item};
 ghost use Rattle.tx_node.specs.Nodes.{item_of};
+ghost use Rattle.tx_math.specs.Boxes as boxes;
 ghost use Rattle.tx_math.specs.Scripts as spec;
 ghost use Rattle.tx_math.specs.Setters.{AreEdges, AreNear, IsSetter, math_in};
 ghost use Rattle.tx_math.specs.declared.error.MathError.TheVariants.{OutOfMemory};
@@ -12,10 +14,11 @@ use crate::setter::Setter;
 use crate::shifts::Shifts;
 use crate::styles::script_size;
 use crate::sums::{greater, minus, negated, plus, times};
-use std::alloc::Global;
-use tx_node::{BoxNode, Node};
+use std::alloc::{AllocError, Global};
+use tx_node::{BoxNode, Node, Nodes};
 
 /// The space between the bottom of what is raised and the top of what is lowered, in sp.
+#[tactic(auto, unfolding(crate::specs::Scripts::gap))]
 pub fn gap(shifts: Shifts, upper: &BoxNode, lower: &BoxNode) -> i64
     requires { AreNear shifts }
     ensures value { result ≡ spec.gap shifts upper.now lower.now }
@@ -24,6 +27,14 @@ pub fn gap(shifts: Shifts, upper: &BoxNode, lower: &BoxNode) -> i64
     let bottom = minus(shifts.up, i64::from(upper.depth()));
     let top = minus(i64::from(lower.height()), shifts.down);
     minus(bottom, top)
+}
+
+/// A node, a space, in sp, and a box below it. Its only error is want of memory.
+fn stack_list(alloc: Global, upper: Node, space: i32, lower: BoxNode) -> Result<Nodes, AllocError>
+    ensures { IfOk result (λ list. list ≡ item_of upper ∷ boxes.kern space ∷ box_item (pos 0) lower ∷ []) }
+{
+    let lower = boxed(alloc, lower)?;
+    triple(alloc, upper, kern(space), lower)
 }
 
 /// Both raised by so many sp, if that is something.
@@ -75,11 +86,30 @@ impl Setter<'_> {
         requires { unsigned_abs down ≤ 2 ^ 34 }
         ensures { result ≡ spec.lowered (math_in self.now) style down lower.now }
     {
-        let most = minus(
-            i64::from(lower.height()),
-            four_fifths(self.symbol_in(style, 5)),
-        );
-        greater(greater(down, self.symbol_in(style, 16)), most)
+        greater(
+            self.first_lowered(style, down),
+            self.below_top(style, lower),
+        )
+    }
+
+    /// The greater of how far a subscript was lowered and how far it is at least, in sp.
+    #[tactic(auto, unfolding(crate::specs::Scripts::first_lowered))]
+    fn first_lowered(&self, style: u8, down: i64) -> i64
+        requires { unsigned_abs down ≤ 2 ^ 34 }
+        ensures value { result ≡ spec.first_lowered (math_in self.now) style down }
+        ensures near { unsigned_abs result ≤ 2 ^ 34 }
+    {
+        greater(down, self.symbol_in(style, 16))
+    }
+
+    /// How far a subscript is lowered whose top is at four fifths of the x-height, in sp.
+    #[tactic(auto, unfolding(crate::specs::Scripts::below_top))]
+    fn below_top(&self, style: u8, lower: &BoxNode) -> i64
+        ensures value { result ≡ spec.below_top (math_in self.now) style lower.now }
+        ensures near { unsigned_abs result ≤ 2 ^ 32 }
+    {
+        let height = i64::from(lower.height());
+        minus(height, four_fifths(self.symbol_in(style, 5)))
     }
 
     /// How far a superscript is raised at least, in sp.
@@ -102,8 +132,30 @@ impl Setter<'_> {
         ensures value { result ≡ spec.raised (math_in self.now) style up upper.now }
         ensures near { unsigned_abs result ≤ 2 ^ 34 }
     {
-        let least = plus(i64::from(upper.depth()), quarter(self.symbol_in(style, 5)));
-        greater(greater(up, self.least_raise(style)), least)
+        greater(
+            self.first_raised(style, up),
+            self.above_bottom(style, upper),
+        )
+    }
+
+    /// The greater of how far a superscript was raised and how far it is at least, in sp.
+    #[tactic(auto, unfolding(crate::specs::Scripts::first_raised))]
+    fn first_raised(&self, style: u8, up: i64) -> i64
+        requires { unsigned_abs up ≤ 2 ^ 34 }
+        ensures value { result ≡ spec.first_raised (math_in self.now) style up }
+        ensures near { unsigned_abs result ≤ 2 ^ 34 }
+    {
+        greater(up, self.least_raise(style))
+    }
+
+    /// How far a superscript is raised whose bottom is at a quarter of the x-height, in sp.
+    #[tactic(auto, unfolding(crate::specs::Scripts::above_bottom))]
+    fn above_bottom(&self, style: u8, upper: &BoxNode) -> i64
+        ensures value { result ≡ spec.above_bottom (math_in self.now) style upper.now }
+        ensures near { unsigned_abs result ≤ 2 ^ 32 }
+    {
+        let depth = i64::from(upper.depth());
+        plus(depth, quarter(self.symbol_in(style, 5)))
     }
 
     /// How far both scripts are moved that lack so many sp of the space between them.
@@ -173,6 +225,7 @@ impl Setter<'_> {
     }
 
     /// Both scripts, one above the other, so many sp further to the right than the other.
+    #[tactic(auto, unfolding(crate::specs::Scripts::stacked))]
     fn stacked(
         &self,
         alloc: Global,
@@ -186,12 +239,30 @@ impl Setter<'_> {
         ensures made { IfOk result (λ node. spec.stacked (math_in self.now) offset shifts upper lower ≡ Ok (item_of node)) }
         ensures error { IfErr result (λ e. e ≢ OutOfMemory → spec.stacked (math_in self.now) offset shifts upper lower ≡ Err e) }
     {
+        let inner = self.stack_box(alloc, offset, shifts, upper, lower)?;
+        shifted(alloc, shifts.down, inner)
+    }
+
+    /// The box of both.
+    #[tactic(auto, unfolding(crate::specs::Scripts::stack_box))]
+    fn stack_box(
+        &self,
+        alloc: Global,
+        offset: i64,
+        shifts: Shifts,
+        upper: BoxNode,
+        lower: BoxNode,
+    ) -> Result<BoxNode, MathError>
+        requires setter { IsSetter self.now }
+        requires near { AreNear shifts }
+        ensures made { IfOk result (λ made. spec.stack_box (math_in self.now) offset shifts upper lower ≡ Ok made) }
+        ensures error { IfErr result (λ e. e ≢ OutOfMemory → spec.stack_box (math_in self.now) offset shifts upper lower ≡ Err e) }
+    {
         let space = gap(shifts, &upper, &lower);
         let upper = shifted(alloc, offset, upper)?;
         let space = stored(space)?;
-        let list = triple(alloc, upper, kern(space), boxed(alloc, lower)?)?;
-        let inner = self.vbox(alloc, list)?;
-        shifted(alloc, shifts.down, inner)
+        let list = stack_list(alloc, upper, space, lower)?;
+        self.vbox(alloc, list)
     }
 
     /// Both scripts as a node, behind which the superscript stands so many sp further to the right.

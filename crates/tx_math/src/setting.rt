@@ -453,10 +453,7 @@ impl Setter<'_> {
                 }
             }
             AtomKind::Over | AtomKind::Under | AtomKind::Center => {
-                let own = boxing_style(kind, style);
-                let list = self.part_list(alloc, levels, own, &atom.nucleus, report)?;
-                let nucleus = self.remade_nucleus(alloc, style, kind, list)?;
-                self.with_scripts(alloc, levels, style, nucleus, atom, report)
+                self.boxed_list(alloc, levels, style, kind, atom, report)
             }
             AtomKind::Ord
             | AtomKind::Bin
@@ -464,20 +461,59 @@ impl Setter<'_> {
             | AtomKind::Open
             | AtomKind::Close
             | AtomKind::Punct
-            | AtomKind::Inner => {
-                let subscripted = !atom.subscript.is_empty();
-                let nucleus = self.nucleus_of(
-                    alloc,
-                    levels,
-                    style,
-                    joined,
-                    subscripted,
-                    &atom.nucleus,
-                    report,
-                )?;
-                self.with_scripts(alloc, levels, style, nucleus, atom, report)
-            }
+            | AtomKind::Inner => { self.scripted(alloc, levels, style, joined, atom, report) }
         }
+    }
+
+    /// What an atom becomes whose nucleus is put into a box of this kind, and what is told of it.
+    #[cycle(set)]
+    #[tactic(auto, unfolding(crate::specs::Formula::boxed_list))]
+    fn boxed_list(
+        &self,
+        alloc: Global,
+        levels: u16,
+        style: u8,
+        kind: AtomKind,
+        atom: &Atom,
+        report: &mut Bytes,
+    ) -> Result<Nodes, MathError>
+        requires { IsSetter self.now }
+        ensures made { IfOk result (λ list. spec.boxed_list (spec.inward levels (math_in self.now)) (math_in self.now) style kind (part_of atom.now.nucleus) (part_of atom.now.superscript) (part_of atom.now.subscript) report.old ≡ Ok (list, report.new)) }
+        ensures error { IfErr result (λ e. e ≢ OutOfMemory → spec.boxed_list (spec.inward levels (math_in self.now)) (math_in self.now) style kind (part_of atom.now.nucleus) (part_of atom.now.superscript) (part_of atom.now.subscript) report.old ≡ Err e) }
+    {
+        let own = boxing_style(kind, style);
+        let list = self.part_list(alloc, levels, own, &atom.nucleus, report)?;
+        let nucleus = self.remade_nucleus(alloc, style, kind, list)?;
+        self.with_scripts(alloc, levels, style, nucleus, atom, report)
+    }
+
+    /// What an atom of any other kind becomes, behind which a character of its family stands or not, and what is told of it.
+    #[cycle(set)]
+    #[tactic(auto, unfolding(crate::specs::Formula::scripted))]
+    fn scripted(
+        &self,
+        alloc: Global,
+        levels: u16,
+        style: u8,
+        joined: bool,
+        atom: &Atom,
+        report: &mut Bytes,
+    ) -> Result<Nodes, MathError>
+        requires { IsSetter self.now }
+        ensures made { IfOk result (λ list. spec.scripted (spec.inward levels (math_in self.now)) (math_in self.now) style joined (part_of atom.now.nucleus) (part_of atom.now.superscript) (part_of atom.now.subscript) report.old ≡ Ok (list, report.new)) }
+        ensures error { IfErr result (λ e. e ≢ OutOfMemory → spec.scripted (spec.inward levels (math_in self.now)) (math_in self.now) style joined (part_of atom.now.nucleus) (part_of atom.now.superscript) (part_of atom.now.subscript) report.old ≡ Err e) }
+    {
+        let subscripted = !atom.subscript.is_empty();
+        let nucleus = self.nucleus_of(
+            alloc,
+            levels,
+            style,
+            joined,
+            subscripted,
+            &atom.nucleus,
+            report,
+        )?;
+        self.with_scripts(alloc, levels, style, nucleus, atom, report)
     }
 
     /// What an operator becomes whose limits stand above and below it, and what is told of it.
@@ -496,6 +532,26 @@ impl Setter<'_> {
         ensures error { IfErr result (λ e. e ≢ OutOfMemory → spec.limited (spec.inward levels (math_in self.now)) (math_in self.now) style (part_of atom.now.nucleus) (part_of atom.now.superscript) (part_of atom.now.subscript) report.old ≡ Err e) }
     {
         let operator = self.operator_of(alloc, style, false, &atom.nucleus, report)?;
+        self.limits_about(alloc, levels, style, atom, operator, report)
+    }
+
+    /// An operator, whose box this is, if it has one, with its limits above and below it, and what is told of them.
+    #[cycle(set)]
+    #[tactic(auto, unfolding(crate::specs::Formula::limits_list))]
+    fn limits_about(
+        &self,
+        alloc: Global,
+        levels: u16,
+        style: u8,
+        atom: &Atom,
+        operator: Option<OperatorBox>,
+        report: &mut Bytes,
+    ) -> Result<Nodes, MathError>
+        requires setter { IsSetter self.now }
+        requires near { unsigned_abs (spec.correction_of operator) ≤ 2 ^ 31 }
+        ensures made { IfOk result (λ list. spec.limits_list (spec.inward levels (math_in self.now)) (math_in self.now) style (part_of atom.now.nucleus) (part_of atom.now.superscript) (part_of atom.now.subscript) operator report.old ≡ Ok (list, report.new)) }
+        ensures error { IfErr result (λ e. e ≢ OutOfMemory → spec.limits_list (spec.inward levels (math_in self.now)) (math_in self.now) style (part_of atom.now.nucleus) (part_of atom.now.superscript) (part_of atom.now.subscript) operator report.old ≡ Err e) }
+    {
         let correction = correction_of(&operator);
         let nucleus = part_or(&atom.nucleus, operator)?;
         let upper = superscript_style(style);
@@ -533,6 +589,26 @@ impl Setter<'_> {
     {
         let narrow = !atom.subscript.is_empty();
         let operator = self.operator_of(alloc, style, narrow, &atom.nucleus, report)?;
+        self.scripts_about(alloc, levels, style, atom, operator, report)
+    }
+
+    /// An operator, whose box this is, if it has one, with its limits behind it, and what is told of them.
+    #[cycle(set)]
+    #[tactic(auto, unfolding(crate::specs::Formula::scripted_operator))]
+    fn scripts_about(
+        &self,
+        alloc: Global,
+        levels: u16,
+        style: u8,
+        atom: &Atom,
+        operator: Option<OperatorBox>,
+        report: &mut Bytes,
+    ) -> Result<Nodes, MathError>
+        requires setter { IsSetter self.now }
+        requires near { unsigned_abs (spec.correction_of operator) ≤ 2 ^ 31 }
+        ensures made { IfOk result (λ list. spec.scripted_operator (spec.inward levels (math_in self.now)) (math_in self.now) style (part_of atom.now.nucleus) (part_of atom.now.superscript) (part_of atom.now.subscript) operator report.old ≡ Ok (list, report.new)) }
+        ensures error { IfErr result (λ e. e ≢ OutOfMemory → spec.scripted_operator (spec.inward levels (math_in self.now)) (math_in self.now) style (part_of atom.now.nucleus) (part_of atom.now.superscript) (part_of atom.now.subscript) operator report.old ≡ Err e) }
+    {
         let correction = correction_of(&operator);
         let nucleus = part_or(&atom.nucleus, operator)?;
         let mut made = self.nucleus_of(alloc, levels, style, false, false, &nucleus, report)?;

@@ -15,22 +15,34 @@ abbrev pub decreases-list_in : goal.decreases-list_in
 decreases-list_in l = 16 * l.levels
 
 abbrev pub decreases-pieces_of : goal.decreases-pieces_of
-decreases-pieces_of l = 16 * l.levels + 11
+decreases-pieces_of l = 16 * l.levels + 12
 
 abbrev pub decreases-piece_of : goal.decreases-piece_of
-decreases-piece_of l = 16 * l.levels + 10
+decreases-piece_of l = 16 * l.levels + 11
 
 abbrev pub decreases-fraction_items : goal.decreases-fraction_items
 decreases-fraction_items l = 16 * l.levels + 9
 
 abbrev pub decreases-atom_list : goal.decreases-atom_list
-decreases-atom_list l = 16 * l.levels + 9
+decreases-atom_list l = 16 * l.levels + 10
 
 abbrev pub decreases-limits_list : goal.decreases-limits_list
-decreases-limits_list l = 16 * l.levels + 8
+decreases-limits_list l = 16 * l.levels + 9
 
 abbrev pub decreases-scripted_operator : goal.decreases-scripted_operator
-decreases-scripted_operator l = 16 * l.levels + 8
+decreases-scripted_operator l = 16 * l.levels + 9
+
+abbrev pub decreases-limits_about : goal.decreases-limits_about
+decreases-limits_about l = 16 * l.levels + 8
+
+abbrev pub decreases-scripts_about : goal.decreases-scripts_about
+decreases-scripts_about l = 16 * l.levels + 8
+
+abbrev pub decreases-boxed_list : goal.decreases-boxed_list
+decreases-boxed_list l = 16 * l.levels + 8
+
+abbrev pub decreases-scripted : goal.decreases-scripted
+decreases-scripted l = 16 * l.levels + 8
 
 abbrev pub decreases-with_scripts : goal.decreases-with_scripts
 decreases-with_scripts l = 16 * l.levels + 7
