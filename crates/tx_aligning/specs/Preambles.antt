@@ -56,9 +56,9 @@ abbrev pub grouped : GroupKind → TexState → TexState → Outcome
 grouped kind s inside =
     if nat_lt (length s.table.groups) 255 then leaves (record inside { table = opened inside.table kind }) else fails TooManyGroups
 
--- \halign: the level of braces around is kept (section 772)
+-- \halign: the level of braces around is kept, and what is behind it is a command of its own (section 772)
 abbrev pub aligning : TexState → Outcome
-aligning s = leaves (record s { head = Aligning s.reader.input.level })
+aligning s = leaves (record s { head = Aligning s.reader.input.level; taken = [] })
 
 -- behind its begin-group token the preamble is read, in a group and a list of its own (sections 774 to 777)
 abbrev pub with_preamble : TexState → BoxGoal → TexState

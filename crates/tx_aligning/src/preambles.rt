@@ -1,5 +1,5 @@
 //! Alignments begin, and their preambles are read (TeX: The Program, sections 774 to 785).
-ghost use Rattle.std.specs.Prelude.{◌≡◌, [], IfOk};
+ghost use Rattle.std.specs.Prelude.{◌≡◌, ◌↔◌, [], IfOk, IsTrue};
 ghost use Rattle.tx_align.specs.Preambles.{takes};
 ghost use Rattle.tx_expand.specs.Turns.{entry_end as entry_end_of};
 ghost use Rattle.tx_state.specs.declared.parts.Phase.{Phase};
@@ -153,12 +153,20 @@ fn feed_to(
     }
 }
 
+/// Whether a preamble is read at this level outside of braces of its own.
+fn is_outside(level: i64) -> bool
+    ensures { IsTrue result ↔ (level ≡ spec.in_preamble) }
+{
+    level == IN_PREAMBLE
+}
+
 /// Any other token of a preamble. Err is want of memory; the event may end the run by an error, as `templating` says.
 pub fn feed_template(alloc: Global, s: &mut State, token: Seen) -> Result<Event, AllocError>
     requires { s.old.phase ≡ Phase.Running }
     ensures { IfOk result (λ event. IsStepped (spec.templating (state_of s.old) token) s.old event s.new) }
 {
-    let outside = s.input.level() == IN_PREAMBLE;
+    let level = s.input.level();
+    let outside = is_outside(level);
     feed(alloc, s, item_of(outside, token))
 }
 
