@@ -1,6 +1,7 @@
 use Rattle.std.proofs.Common.{◌≡◌, Bool, true, false, Option, Some, None, List, [], ◌∷◌, drop, refl, ap, sym, ◌∙◌}
 use Rattle.tx_char.specs.declared.tokens.Token.{Token}
 use Rattle.tx_lex.specs.declared.types.ReadState.{ReadState}
+use Rattle.tx_pending.specs.declared.next.ColumnPart.{ColumnPart}
 use Rattle.tx_pending.specs.declared.source.Source.{Source}
 use Rattle.tx_pending.specs.declared.source.Source.TheVariants as source
 use Rattle.tx_pending.specs.Elements.{list_elements}
@@ -35,6 +36,14 @@ passed-kept now (Some t) = refl
 passed-held : (now : ReadState) (s : Source) (t : Option Token) → s ≡ source.Held t → elements_of s ≡ passed now (elements_of s)
 passed-held now s t is = ap elements_of is ∙ passed-kept now t ∙ ap (λ (u : Source). passed now (elements_of u)) (sym is)
 
+-- and so does the end of a part
+passed-end : (now : ReadState) (part : Option ColumnPart) → elements_of (source.PartEnd part) ≡ passed now (elements_of (source.PartEnd part))
+passed-end now None = refl
+passed-end now (Some part) = refl
+
+passed-part : (now : ReadState) (s : Source) (part : Option ColumnPart) → s ≡ source.PartEnd part → elements_of s ≡ passed now (elements_of s)
+passed-part now s part is = ap elements_of is ∙ passed-end now part ∙ ap (λ (u : Source). passed now (elements_of u)) (sym is)
+
 pub returns-in-List : goal.returns-in-List
 returns-in-List c = passed-list c.args.state c.args.self.now c.in-List.list c.pass.new.self c.in-List.is c.pass.ensures
 
@@ -43,3 +52,6 @@ returns-in-Token c = passed-token c.args.state c.args.self.now c.in-Token.token 
 
 pub returns-in-Held : goal.returns-in-Held
 returns-in-Held c = passed-held c.args.state c.args.self.now c.in-Held.field-0 c.in-Held.is
+
+pub returns-in-PartEnd : goal.returns-in-PartEnd
+returns-in-PartEnd c = passed-part c.args.state c.args.self.now c.in-PartEnd.field-0 c.in-PartEnd.is
