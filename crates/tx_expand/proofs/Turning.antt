@@ -40,7 +40,7 @@ use Rattle.tx_expand.specs.Reader.{World, Reader, Fails}
 use Rattle.tx_scan.specs.Settled.{tokens_of}
 use Rattle.tx_expand.specs.Scans.{Scan, reading}
 use Rattle.tx_expand.specs.Taken.{IsPassedFirst, IsRead, IsReadBegun, IsReadFirst}
-use Rattle.tx_expand.specs.Turns.{at_entry, begins, come, counted, ended, ends_part, entry_end_in, expanded, finds, front_read, frozen, given_to, incomplete, is_finding, is_opening, is_scanning, is_skipping, joined, met, met_word, part_ended, put_back, read_on, reads, refused, skips_on, takes_characters, token_read, turn, wanted_by, wants_constant, with_begun, with_end, with_input, IsTurned}
+use Rattle.tx_expand.specs.Turns.{at_entry, begins, come, counted, ended, ends_part, entry_end_in, expanded, finds, front_read, frozen, given_to, incomplete, is_finding, is_opening, is_scanning, is_skipping, joined, met, met_word, part_ended, peeks_at, put_back, read_on, reads, refused, skips_on, takes_characters, token_read, turn, wanted_by, wants_constant, with_begun, with_end, with_input, IsTurned}
 
 pub reads-done : (w : World) (what : Scanned) (items : List Item) (r : Reader) (m : Made) (back : List Item) → reading what items ≡ Done m back → reads w what items r ≡ come w m (put_back (tokens_of back) r)
 reads-done w what items r m back is = ap (λ (read : Reading Made). read_on w (record { what = what; taken = items }) r read) is
@@ -240,9 +240,12 @@ part-turned w wanted e input behind codes given part closed same next left is =
 pub none-ended : (w : World) (wanted : Wanted) (t : Seen) (r : Reader) → entry_end_in r.input t.meaning ≡ None → met w wanted t r ≡ token_read w wanted t r
 none-ended w wanted t r none = rw none refl
 
--- a v-part ends where a token is wanted, as it stands or expanded, and no error comes before
-pub part-misplaced : (w : World) (wanted : Wanted) (r : Reader) → incomplete wanted.text r.begun ≡ None → wanted_by wanted r.begun ≡ Raw → part_ended w wanted r ≡ Fails MisplacedAlignment
-part-misplaced w wanted r none raw = rw (none, raw) refl
+-- a v-part ends where a token is wanted, as it stands, looked at or expanded, and no error comes before
+pub part-misplaced : (w : World) (wanted : Wanted) (r : Reader) → incomplete wanted.text r.begun ≡ None → wanted_by wanted r.begun ≡ Raw → peeks_at wanted r.begun ≡ false → part_ended w wanted r ≡ Fails MisplacedAlignment
+part-misplaced w wanted r none raw takes = rw (none, raw, takes) refl
+
+pub part-peeked : (w : World) (wanted : Wanted) (r : Reader) → incomplete wanted.text r.begun ≡ None → wanted_by wanted r.begun ≡ Raw → peeks_at wanted r.begun ≡ true → part_ended w wanted r ≡ ends_part w r r.begun
+part-peeked w wanted r none raw peeks = rw (none, raw, peeks) refl
 
 pub part-read : (w : World) (wanted : Wanted) (r : Reader) → incomplete wanted.text r.begun ≡ None → wanted_by wanted r.begun ≡ Expanded → part_ended w wanted r ≡ ends_part w r r.begun
 part-read w wanted r none expands = rw (none, expands) refl

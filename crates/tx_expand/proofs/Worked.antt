@@ -494,11 +494,11 @@ tab_in_braces = refl
 tab_in_number : answers_after 2 (in_entry (cs (codes "number") ∷ other 53 ∷ tab ∷ [])) ≡ answer.EndsEntry end.Tab
 tab_in_number = refl
 
--- a\number5 up to the end of the v-part: the number ends there, and so does the entry
+-- a\number up to the end of the v-part: no number is there, as before \cr
 abbrev in_part : List Token → Reader
 in_part tokens = record { input = record { elements = map Given tokens ++ PartEnd V ∷ []; closing = false; level = outside }; begun = []; conditionals = []; job = codes "texput.tex" }
 
-number_in_part : run 8 (in_part (letter 97 ∷ cs (codes "number") ∷ other 53 ∷ [])) ≡ All (letter 97 ∷ other 53 ∷ token.FrozenRelax ∷ [])
+number_in_part : run 8 (in_part (letter 97 ∷ cs (codes "number") ∷ [])) ≡ Stopped (letter 97 ∷ []) MissingNumber
 number_in_part = refl
 
 -- an argument doesn't go on behind it

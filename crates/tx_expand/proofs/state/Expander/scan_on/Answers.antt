@@ -1,4 +1,3 @@
-use Rattle.std.proofs.Common.{rules}
 use Rattle.tx_expand.specs.Expanding.{reader_of, world_of}
 use Rattle.tx_expand.proofs.Turning.{scanned-made, scanned-more, scanned-wrong}
 use Rattle.tx_expand.specs.Values.{lent}
