@@ -14,4 +14,4 @@ returns-in-Made c = λ any.
 
 pub returns-in-Wrong : goal.returns-in-Wrong
 returns-in-Wrong c = λ any.
-    scanned-wrong (world_of (lent c.args.known.now) any) c.args.token (reader_of c.args.self.now c.args.input.now) _ c.wants_constant.result c.feed_scan.new.begun c.feed_scan.new.input c.in-Wrong.error c.requires c.wants_constant.ensures (rw (c.in-Wrong.is, c.in_ok-count.ensures) at c.in_ok-feed_scan.ensures)
+    scanned-wrong (world_of (lent c.args.known.now) any) c.args.token (reader_of c.args.self.now c.args.input.now) _ c.wants_constant.result c.feed_scan.new.begun c.feed_scan.new.input c.in-Wrong.error c.requires c.wants_constant.ensures (rw c.in-Wrong.is at c.in_ok-feed_scan.ensures)
