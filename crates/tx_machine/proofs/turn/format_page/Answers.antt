@@ -1,7 +1,7 @@
 use Rattle.std.proofs.Common.{◌+◌, ◌≤◌, sym, ap, subst, arith}
 use Rattle.tx_machine.specs.Counts.{Closes, closing_turns}
 use Rattle.tx_machine.specs.Turn.{Place, stretch, place_of}
-use Rattle.tx_machine.proofs.Going.{Going, going-on, going-less, going-over, going-counted, going-reads, going-fits, going-fits_one}
+use Rattle.tx_machine.proofs.Going.{going-on, going-less, going-over, going-counted, going-reads, going-fits, going-fits_one}
 use Rattle.tx_machine.proofs.Passing.{counted-bound, going-behind, passed-fits, passed-less}
 use Rattle.tx_machine.proofs.turn.format_page.Goals as goal
 
