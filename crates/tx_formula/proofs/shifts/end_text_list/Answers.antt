@@ -1,0 +1,37 @@
+-- A list that ends is set in text style.
+use Rattle.std.proofs.Common.{◌≡◌, ◌≢◌, Bool, List, Result, Ok, Err, IfErr, IsErrAnd, ap, sym, subst, ◌∙◌}
+use Rattle.tx_box.specs.declared.parts.Lists.{Lists}
+use Rattle.tx_eqtb.specs.declared.table.Table.{Table}
+use Rattle.tx_math.specs.declared.error.MathError.{MathError}
+use Rattle.tx_math.specs.declared.formula.Formula.{Formula}
+use Rattle.tx_mlist.specs.Items.{MathItem}
+use Rattle.tx_nest.specs.declared.list.ModeList.{ModeList}
+use Rattle.tx_tfm.specs.declared.state.FontState.{FontState}
+use Rattle.tx_formula.specs.declared.error.FormulaError.TheVariants.{OutOfMemory}
+use Rattle.tx_formula.specs.Errors.{error_of, of_math}
+use Rattle.tx_formula.specs.Lists.{ended_list}
+use Rattle.tx_formula.specs.Shifts.{ended_text, is_paragraph, set_beside, set_list, text_by}
+use Rattle.tx_formula.proofs.shifts.end_text_list.Goals as goal
+
+-- what comes of the list is what is made of it
+ends-by : (fonts : List FontState) (table : Table) (lists left : Lists) (list : List MathItem) (innermost : ModeList) (breaks : Bool) (made : Result Formula MathError) → ended_list lists ≡ Ok (list, left) → innermost ≡ left.nest.innermost → breaks ≡ is_paragraph innermost.state → set_list fonts table breaks list ≡ made → ended_text fonts table lists ≡ set_beside left made
+ends-by fonts table lists left list innermost breaks made ended is_innermost breaks_is is =
+    ap (text_by fonts table) ended
+    ∙ ap (λ (l : ModeList). set_beside left (set_list fonts table (is_paragraph l.state) list)) (sym is_innermost)
+    ∙ ap (λ (b : Bool). set_beside left (set_list fonts table b list)) (sym breaks_is)
+    ∙ ap (set_beside left) is
+
+-- what is so of an error is so of the result that has it
+on-err : {T E : Type 0} (r : Result T E) (e : E) (IsSo : Result T E → Type 0) → IsErrAnd r (λ x. x ≡ e) → IsSo (Err e) → IsSo r
+on-err (Ok value) e IsSo same so = absurd same
+on-err (Err x) e IsSo same so = subst (λ y. IsSo (Err y)) (sym same) so
+
+pub returns-in_err-made-clause-error : goal.returns-in_err-made-clause-error
+returns-in_err-made-clause-error c =
+    on-err c.from_residual-in_err-made.result (of_math c.in_err-made.field-0.0) (λ r. IfErr r (λ e. e ≢ OutOfMemory → ended_text c.args.fonts.now c.args.table.now.table c.args.lists.now ≡ Err (error_of e))) c.from_residual-in_err-made.ensures.1
+    (λ not_memory. ends-by c.args.fonts.now c.args.table.now.table c.args.lists.now c.end_list.new.lists c.in_ok-list.list c.innermost.result.now c.is_paragraph-breaks.result (Err c.in_err-made.field-0.0) c.in_ok-list.ensures.made c.innermost.ensures c.is_paragraph-breaks.ensures
+    (c.in_err-made.ensures.error (λ memory. not_memory (ap of_math memory))))
+
+pub returns-clause-made : goal.returns-clause-made
+returns-clause-made c =
+    ends-by c.args.fonts.now c.args.table.now.table c.args.lists.now c.end_list.new.lists c.in_ok-list.list c.innermost.result.now c.is_paragraph-breaks.result (Ok c.in_ok-made.made) c.in_ok-list.ensures.made c.innermost.ensures c.is_paragraph-breaks.ensures c.in_ok-made.ensures.made
