@@ -1,3 +1,4 @@
+pub mod Between
 pub mod Bounds
 pub mod First
 pub mod Lists

@@ -29,11 +29,11 @@ use Rattle.tx_math.specs.Boxes.{centred, centred_to, cleaned_list, framed, kern,
 use Rattle.tx_math.specs.Characters.{fetched_from}
 use Rattle.tx_math.specs.Composing.{composed, composed_within, most_steps, step}
 use Rattle.tx_math.specs.Entries.{entries_of}
-use Rattle.tx_math.specs.Formula.{limits_list, scripted_operator, scripted, boxed_list, fetched_nucleus, cleaned, list_nucleus, script_of, script_box, with_scripts, remade_nucleus, operator_by, limits_box, limited, unlimited, lined_up, fraction_items, converted, hlist, list_in, math_with}
-use Rattle.tx_math.specs.Fractions.{even_boxes, fraction_box, fraction_depth, fraction_height, fraction_list, fraction_of, space_above, space_below}
+use Rattle.tx_math.specs.Formula.{limits_below, limits_list, scripted_operator, scripted, boxed_list, fetched_nucleus, cleaned, list_nucleus, script_of, script_box, with_scripts, remade_nucleus, operator_by, limits_box, limited, unlimited, lined_up, fraction_items, converted, hlist, list_in, math_with}
+use Rattle.tx_math.specs.Fractions.{even_boxes, fraction_box, fraction_depth, fraction_height, fraction_list, fraction_of, list_by_line, space_above, space_below}
 use Rattle.tx_math.specs.Mu.{elastic_in_points, fitting, glue_in_points, math_glue, math_kern, times_mu}
-use Rattle.tx_math.specs.Operators.{above_operator, below_operator, evened, limited_depth, limited_height, limits_of, lower_limit, reach_of, upper_limit, widest}
-use Rattle.tx_math.specs.Scripts.{above_bottom, below_top, first_lowered, first_raised, gap, scripts_item, stack_box, stacked, subscript_item, superscript_item}
+use Rattle.tx_math.specs.Operators.{above_operator, below_operator, evened, limited_depth, limited_height, limits_of, lower_from, lower_limit, moved_left, moved_right, reach_of, upper_from, upper_limit, widest}
+use Rattle.tx_math.specs.Scripts.{above_bottom, below_top, first_lowered, first_raised, gap, script_shifts, scripts_item, stack_box, stack_list, stacked, subscript_item, superscript_item}
 
 -- t.tfm, which has the characters a and b
 abbrev metric_file : List ℕ
@@ -98,55 +98,55 @@ space n = plain (horizontal.Glue (glue_of (pos (n * 36408)) (pos 0) 0 (pos 0) 0)
 
 -- $b\mathbin bb$: 3 times 5pt and twice 4mu of 36408sp, 1274304sp in all
 one-operation : set_in 2 (alone Ord b ∷ alone Bin b ∷ alone Ord b ∷ []) ≡ gives (character 98 ∷ space 4 ∷ character 98 ∷ space 4 ∷ character 98 ∷ [])
-unfolding word_at scaled command_of boundary_start boundary_code character_start found converted list_in entries_of composed composed_within most_steps step framed times_mu math_glue math_kern fetched_from subscript_item superscript_item even_boxes fraction_list fraction_box evened upper_limit lower_limit fetched_nucleus cleaned list_nucleus script_of script_box with_scripts remade_nucleus operator_by limits_box limited unlimited lined_up fraction_items first_lowered below_top first_raised above_bottom space_above space_below elastic_in_points glue_in_points fitting gap stacked stack_box shifted set_to centred centred_to above_operator below_operator widest reach_of limited_height limited_depth fraction_height fraction_depth limits_list scripted_operator scripted boxed_list
+unfolding word_at scaled command_of boundary_start boundary_code character_start found converted list_in entries_of composed composed_within most_steps step framed times_mu math_glue math_kern fetched_from subscript_item superscript_item even_boxes fraction_list fraction_box evened upper_limit lower_limit fetched_nucleus cleaned list_nucleus script_of script_box with_scripts remade_nucleus operator_by limits_box limited unlimited lined_up fraction_items first_lowered below_top first_raised above_bottom space_above space_below elastic_in_points glue_in_points fitting gap stacked stack_box shifted set_to centred centred_to above_operator below_operator widest reach_of limited_height limited_depth fraction_height fraction_depth limits_list scripted_operator scripted boxed_list stack_list moved_left moved_right upper_from lower_from script_shifts list_by_line limits_below
 one-operation = refl
 
 -- $-b$, with b for the sign: a Bin that is first is an Ord (The TeXbook, chapter 18)
 sign : set_in 2 (alone Bin b ∷ alone Ord b ∷ []) ≡ gives (character 98 ∷ character 98 ∷ [])
-unfolding word_at scaled command_of boundary_start boundary_code character_start found converted list_in entries_of composed composed_within most_steps step framed times_mu math_glue math_kern fetched_from subscript_item superscript_item even_boxes fraction_list fraction_box evened upper_limit lower_limit fetched_nucleus cleaned list_nucleus script_of script_box with_scripts remade_nucleus operator_by limits_box limited unlimited lined_up fraction_items first_lowered below_top first_raised above_bottom space_above space_below elastic_in_points glue_in_points fitting gap stacked stack_box shifted set_to centred centred_to above_operator below_operator widest reach_of limited_height limited_depth fraction_height fraction_depth limits_list scripted_operator scripted boxed_list
+unfolding word_at scaled command_of boundary_start boundary_code character_start found converted list_in entries_of composed composed_within most_steps step framed times_mu math_glue math_kern fetched_from subscript_item superscript_item even_boxes fraction_list fraction_box evened upper_limit lower_limit fetched_nucleus cleaned list_nucleus script_of script_box with_scripts remade_nucleus operator_by limits_box limited unlimited lined_up fraction_items first_lowered below_top first_raised above_bottom space_above space_below elastic_in_points glue_in_points fitting gap stacked stack_box shifted set_to centred centred_to above_operator below_operator widest reach_of limited_height limited_depth fraction_height fraction_depth limits_list scripted_operator scripted boxed_list stack_list moved_left moved_right upper_from lower_from script_shifts list_by_line limits_below
 sign = refl
 
 -- $b+=b$: a Bin before a Rel is an Ord
 before-relation : set_in 2 (alone Ord b ∷ alone Bin b ∷ alone Rel b ∷ alone Ord b ∷ []) ≡ gives (character 98 ∷ character 98 ∷ space 5 ∷ character 98 ∷ space 5 ∷ character 98 ∷ [])
-unfolding word_at scaled command_of boundary_start boundary_code character_start found converted list_in entries_of composed composed_within most_steps step framed times_mu math_glue math_kern fetched_from subscript_item superscript_item even_boxes fraction_list fraction_box evened upper_limit lower_limit fetched_nucleus cleaned list_nucleus script_of script_box with_scripts remade_nucleus operator_by limits_box limited unlimited lined_up fraction_items first_lowered below_top first_raised above_bottom space_above space_below elastic_in_points glue_in_points fitting gap stacked stack_box shifted set_to centred centred_to above_operator below_operator widest reach_of limited_height limited_depth fraction_height fraction_depth limits_list scripted_operator scripted boxed_list
+unfolding word_at scaled command_of boundary_start boundary_code character_start found converted list_in entries_of composed composed_within most_steps step framed times_mu math_glue math_kern fetched_from subscript_item superscript_item even_boxes fraction_list fraction_box evened upper_limit lower_limit fetched_nucleus cleaned list_nucleus script_of script_box with_scripts remade_nucleus operator_by limits_box limited unlimited lined_up fraction_items first_lowered below_top first_raised above_bottom space_above space_below elastic_in_points glue_in_points fitting gap stacked stack_box shifted set_to centred centred_to above_operator below_operator widest reach_of limited_height limited_depth fraction_height fraction_depth limits_list scripted_operator scripted boxed_list stack_list moved_left moved_right upper_from lower_from script_shifts list_by_line limits_below
 before-relation = refl
 
 -- $b=-b$: and one behind a Rel, between which and the Ord no space stands
 behind-relation : set_in 2 (alone Ord b ∷ alone Rel b ∷ alone Bin b ∷ alone Ord b ∷ []) ≡ gives (character 98 ∷ space 5 ∷ character 98 ∷ space 5 ∷ character 98 ∷ character 98 ∷ [])
-unfolding word_at scaled command_of boundary_start boundary_code character_start found converted list_in entries_of composed composed_within most_steps step framed times_mu math_glue math_kern fetched_from subscript_item superscript_item even_boxes fraction_list fraction_box evened upper_limit lower_limit fetched_nucleus cleaned list_nucleus script_of script_box with_scripts remade_nucleus operator_by limits_box limited unlimited lined_up fraction_items first_lowered below_top first_raised above_bottom space_above space_below elastic_in_points glue_in_points fitting gap stacked stack_box shifted set_to centred centred_to above_operator below_operator widest reach_of limited_height limited_depth fraction_height fraction_depth limits_list scripted_operator scripted boxed_list
+unfolding word_at scaled command_of boundary_start boundary_code character_start found converted list_in entries_of composed composed_within most_steps step framed times_mu math_glue math_kern fetched_from subscript_item superscript_item even_boxes fraction_list fraction_box evened upper_limit lower_limit fetched_nucleus cleaned list_nucleus script_of script_box with_scripts remade_nucleus operator_by limits_box limited unlimited lined_up fraction_items first_lowered below_top first_raised above_bottom space_above space_below elastic_in_points glue_in_points fitting gap stacked stack_box shifted set_to centred centred_to above_operator below_operator widest reach_of limited_height limited_depth fraction_height fraction_depth limits_list scripted_operator scripted boxed_list stack_list moved_left moved_right upper_from lower_from script_shifts list_by_line limits_below
 behind-relation = refl
 
 -- in script style these spaces are none
 small-spaces : set_in 4 (alone Ord b ∷ alone Rel b ∷ alone Ord b ∷ []) ≡ gives (character 98 ∷ character 98 ∷ character 98 ∷ [])
-unfolding word_at scaled command_of boundary_start boundary_code character_start found converted list_in entries_of composed composed_within most_steps step framed times_mu math_glue math_kern fetched_from subscript_item superscript_item even_boxes fraction_list fraction_box evened upper_limit lower_limit fetched_nucleus cleaned list_nucleus script_of script_box with_scripts remade_nucleus operator_by limits_box limited unlimited lined_up fraction_items first_lowered below_top first_raised above_bottom space_above space_below elastic_in_points glue_in_points fitting gap stacked stack_box shifted set_to centred centred_to above_operator below_operator widest reach_of limited_height limited_depth fraction_height fraction_depth limits_list scripted_operator scripted boxed_list
+unfolding word_at scaled command_of boundary_start boundary_code character_start found converted list_in entries_of composed composed_within most_steps step framed times_mu math_glue math_kern fetched_from subscript_item superscript_item even_boxes fraction_list fraction_box evened upper_limit lower_limit fetched_nucleus cleaned list_nucleus script_of script_box with_scripts remade_nucleus operator_by limits_box limited unlimited lined_up fraction_items first_lowered below_top first_raised above_bottom space_above space_below elastic_in_points glue_in_points fitting gap stacked stack_box shifted set_to centred centred_to above_operator below_operator widest reach_of limited_height limited_depth fraction_height fraction_depth limits_list scripted_operator scripted boxed_list stack_list moved_left moved_right upper_from lower_from script_shifts list_by_line limits_below
 small-spaces = refl
 
 -- two a that follow one another have their kern, and an operator's space stands before an a in all styles
 kerned : set_in 2 (alone Ord a ∷ alone Ord a ∷ []) ≡ gives (character 97 ∷ kern (pos 40960) ∷ character 97 ∷ [])
-unfolding word_at scaled command_of boundary_start boundary_code character_start found converted list_in entries_of composed composed_within most_steps step framed times_mu math_glue math_kern fetched_from subscript_item superscript_item even_boxes fraction_list fraction_box evened upper_limit lower_limit fetched_nucleus cleaned list_nucleus script_of script_box with_scripts remade_nucleus operator_by limits_box limited unlimited lined_up fraction_items first_lowered below_top first_raised above_bottom space_above space_below elastic_in_points glue_in_points fitting gap stacked stack_box shifted set_to centred centred_to above_operator below_operator widest reach_of limited_height limited_depth fraction_height fraction_depth limits_list scripted_operator scripted boxed_list
+unfolding word_at scaled command_of boundary_start boundary_code character_start found converted list_in entries_of composed composed_within most_steps step framed times_mu math_glue math_kern fetched_from subscript_item superscript_item even_boxes fraction_list fraction_box evened upper_limit lower_limit fetched_nucleus cleaned list_nucleus script_of script_box with_scripts remade_nucleus operator_by limits_box limited unlimited lined_up fraction_items first_lowered below_top first_raised above_bottom space_above space_below elastic_in_points glue_in_points fitting gap stacked stack_box shifted set_to centred centred_to above_operator below_operator widest reach_of limited_height limited_depth fraction_height fraction_depth limits_list scripted_operator scripted boxed_list stack_list moved_left moved_right upper_from lower_from script_shifts list_by_line limits_below
 kerned = refl
 
 -- \nonscript in script style: the glue behind it vanishes, and it is glue itself
 hidden : set_in 4 (alone Ord b ∷ small Nonscript ∷ small (Glue (mus 4)) ∷ alone Ord b ∷ []) ≡ gives (character 98 ∷ plain (horizontal.Glue zero_glue) ∷ character 98 ∷ [])
-unfolding word_at scaled command_of boundary_start boundary_code character_start found converted list_in entries_of composed composed_within most_steps step framed times_mu math_glue math_kern fetched_from subscript_item superscript_item even_boxes fraction_list fraction_box evened upper_limit lower_limit fetched_nucleus cleaned list_nucleus script_of script_box with_scripts remade_nucleus operator_by limits_box limited unlimited lined_up fraction_items first_lowered below_top first_raised above_bottom space_above space_below elastic_in_points glue_in_points fitting gap stacked stack_box shifted set_to centred centred_to above_operator below_operator widest reach_of limited_height limited_depth fraction_height fraction_depth limits_list scripted_operator scripted boxed_list
+unfolding word_at scaled command_of boundary_start boundary_code character_start found converted list_in entries_of composed composed_within most_steps step framed times_mu math_glue math_kern fetched_from subscript_item superscript_item even_boxes fraction_list fraction_box evened upper_limit lower_limit fetched_nucleus cleaned list_nucleus script_of script_box with_scripts remade_nucleus operator_by limits_box limited unlimited lined_up fraction_items first_lowered below_top first_raised above_bottom space_above space_below elastic_in_points glue_in_points fitting gap stacked stack_box shifted set_to centred centred_to above_operator below_operator widest reach_of limited_height limited_depth fraction_height fraction_depth limits_list scripted_operator scripted boxed_list stack_list moved_left moved_right upper_from lower_from script_shifts list_by_line limits_below
 hidden = refl
 
 shown : set_in 2 (alone Ord b ∷ small Nonscript ∷ small (Glue (mus 4)) ∷ alone Ord b ∷ []) ≡ gives (character 98 ∷ plain (horizontal.Glue zero_glue) ∷ space 4 ∷ character 98 ∷ [])
-unfolding word_at scaled command_of boundary_start boundary_code character_start found converted list_in entries_of composed composed_within most_steps step framed times_mu math_glue math_kern fetched_from subscript_item superscript_item even_boxes fraction_list fraction_box evened upper_limit lower_limit fetched_nucleus cleaned list_nucleus script_of script_box with_scripts remade_nucleus operator_by limits_box limited unlimited lined_up fraction_items first_lowered below_top first_raised above_bottom space_above space_below elastic_in_points glue_in_points fitting gap stacked stack_box shifted set_to centred centred_to above_operator below_operator widest reach_of limited_height limited_depth fraction_height fraction_depth limits_list scripted_operator scripted boxed_list
+unfolding word_at scaled command_of boundary_start boundary_code character_start found converted list_in entries_of composed composed_within most_steps step framed times_mu math_glue math_kern fetched_from subscript_item superscript_item even_boxes fraction_list fraction_box evened upper_limit lower_limit fetched_nucleus cleaned list_nucleus script_of script_box with_scripts remade_nucleus operator_by limits_box limited unlimited lined_up fraction_items first_lowered below_top first_raised above_bottom space_above space_below elastic_in_points glue_in_points fitting gap stacked stack_box shifted set_to centred centred_to above_operator below_operator widest reach_of limited_height limited_depth fraction_height fraction_depth limits_list scripted_operator scripted boxed_list stack_list moved_left moved_right upper_from lower_from script_shifts list_by_line limits_below
 shown = refl
 
 -- \mathchoice takes the list of the style, and a style that is changed in it goes on behind it: the Rel and the Ord are set in script style
 taken : set_in 2 (choice nothing (gathered (alone Ord b ∷ small (Style 4) ∷ [])) nothing nothing ∷ alone Rel b ∷ alone Ord b ∷ []) ≡ gives (character 98 ∷ character 98 ∷ character 98 ∷ [])
-unfolding word_at scaled command_of boundary_start boundary_code character_start found converted list_in entries_of composed composed_within most_steps step framed times_mu math_glue math_kern fetched_from subscript_item superscript_item even_boxes fraction_list fraction_box evened upper_limit lower_limit fetched_nucleus cleaned list_nucleus script_of script_box with_scripts remade_nucleus operator_by limits_box limited unlimited lined_up fraction_items first_lowered below_top first_raised above_bottom space_above space_below elastic_in_points glue_in_points fitting gap stacked stack_box shifted set_to centred centred_to above_operator below_operator widest reach_of limited_height limited_depth fraction_height fraction_depth limits_list scripted_operator scripted boxed_list
+unfolding word_at scaled command_of boundary_start boundary_code character_start found converted list_in entries_of composed composed_within most_steps step framed times_mu math_glue math_kern fetched_from subscript_item superscript_item even_boxes fraction_list fraction_box evened upper_limit lower_limit fetched_nucleus cleaned list_nucleus script_of script_box with_scripts remade_nucleus operator_by limits_box limited unlimited lined_up fraction_items first_lowered below_top first_raised above_bottom space_above space_below elastic_in_points glue_in_points fitting gap stacked stack_box shifted set_to centred centred_to above_operator below_operator widest reach_of limited_height limited_depth fraction_height fraction_depth limits_list scripted_operator scripted boxed_list stack_list moved_left moved_right upper_from lower_from script_shifts list_by_line limits_below
 taken = refl
 
 -- a character that its font lacks is told, and nothing is set; a family without a font is an error
 lacking : set_in 2 (alone Ord (letter (record { family = 0; code = 99 })) ∷ []) ≡ Ok (record { nodes = []; report = codes "missing character " ++ (decimal 99 ++ (codes " in " ++ (codes "t" ++ 10 ∷ []))) })
-unfolding word_at scaled command_of boundary_start boundary_code character_start found converted list_in entries_of composed composed_within most_steps step missing framed times_mu math_glue math_kern fetched_from subscript_item superscript_item even_boxes fraction_list fraction_box evened upper_limit lower_limit fetched_nucleus cleaned list_nucleus script_of script_box with_scripts remade_nucleus operator_by limits_box limited unlimited lined_up fraction_items first_lowered below_top first_raised above_bottom space_above space_below elastic_in_points glue_in_points fitting gap stacked stack_box shifted set_to centred centred_to above_operator below_operator widest reach_of limited_height limited_depth fraction_height fraction_depth limits_list scripted_operator scripted boxed_list
+unfolding word_at scaled command_of boundary_start boundary_code character_start found converted list_in entries_of composed composed_within most_steps step missing framed times_mu math_glue math_kern fetched_from subscript_item superscript_item even_boxes fraction_list fraction_box evened upper_limit lower_limit fetched_nucleus cleaned list_nucleus script_of script_box with_scripts remade_nucleus operator_by limits_box limited unlimited lined_up fraction_items first_lowered below_top first_raised above_bottom space_above space_below elastic_in_points glue_in_points fitting gap stacked stack_box shifted set_to centred centred_to above_operator below_operator widest reach_of limited_height limited_depth fraction_height fraction_depth limits_list scripted_operator scripted boxed_list stack_list moved_left moved_right upper_from lower_from script_shifts list_by_line limits_below
 lacking = refl
 
 no-font : set_in 2 (alone Ord (letter (record { family = 4; code = 98 })) ∷ []) ≡ Err NoFont
-unfolding word_at scaled command_of boundary_start boundary_code character_start found converted list_in entries_of composed composed_within most_steps step framed times_mu math_glue math_kern fetched_from subscript_item superscript_item even_boxes fraction_list fraction_box evened upper_limit lower_limit fetched_nucleus cleaned list_nucleus script_of script_box with_scripts remade_nucleus operator_by limits_box limited unlimited lined_up fraction_items first_lowered below_top first_raised above_bottom space_above space_below elastic_in_points glue_in_points fitting gap stacked stack_box shifted set_to centred centred_to above_operator below_operator widest reach_of limited_height limited_depth fraction_height fraction_depth limits_list scripted_operator scripted boxed_list
+unfolding word_at scaled command_of boundary_start boundary_code character_start found converted list_in entries_of composed composed_within most_steps step framed times_mu math_glue math_kern fetched_from subscript_item superscript_item even_boxes fraction_list fraction_box evened upper_limit lower_limit fetched_nucleus cleaned list_nucleus script_of script_box with_scripts remade_nucleus operator_by limits_box limited unlimited lined_up fraction_items first_lowered below_top first_raised above_bottom space_above space_below elastic_in_points glue_in_points fitting gap stacked stack_box shifted set_to centred centred_to above_operator below_operator widest reach_of limited_height limited_depth fraction_height fraction_depth limits_list scripted_operator scripted boxed_list stack_list moved_left moved_right upper_from lower_from script_shifts list_by_line limits_below
 no-font = refl
 
 -- without the fonts of all sizes no formula is set
@@ -169,16 +169,16 @@ abbrev stack : PackedBox
 stack = vbox_of (pos 327680) (pos 327680) (pos 0) (box_item (pos 0) box_b ∷ kern (pos 0) ∷ box_item (pos 0) box_b ∷ [])
 
 both-scripts : set_in 2 (atom Ord b b b ∷ []) ≡ gives (character 98 ∷ box_item (negsuc 98303) stack ∷ [])
-unfolding word_at scaled command_of boundary_start boundary_code character_start found converted list_in entries_of composed composed_within most_steps step cleaned_list scripts_item packed_box framed times_mu math_glue math_kern fetched_from subscript_item superscript_item even_boxes fraction_list fraction_box evened upper_limit lower_limit fetched_nucleus cleaned list_nucleus script_of script_box with_scripts remade_nucleus operator_by limits_box limited unlimited lined_up fraction_items first_lowered below_top first_raised above_bottom space_above space_below elastic_in_points glue_in_points fitting gap stacked stack_box shifted set_to centred centred_to above_operator below_operator widest reach_of limited_height limited_depth fraction_height fraction_depth limits_list scripted_operator scripted boxed_list
+unfolding word_at scaled command_of boundary_start boundary_code character_start found converted list_in entries_of composed composed_within most_steps step cleaned_list scripts_item packed_box framed times_mu math_glue math_kern fetched_from subscript_item superscript_item even_boxes fraction_list fraction_box evened upper_limit lower_limit fetched_nucleus cleaned list_nucleus script_of script_box with_scripts remade_nucleus operator_by limits_box limited unlimited lined_up fraction_items first_lowered below_top first_raised above_bottom space_above space_below elastic_in_points glue_in_points fitting gap stacked stack_box shifted set_to centred centred_to above_operator below_operator widest reach_of limited_height limited_depth fraction_height fraction_depth limits_list scripted_operator scripted boxed_list stack_list moved_left moved_right upper_from lower_from script_shifts list_by_line limits_below
 both-scripts = refl
 
 -- $b^b$ and $b_b$: 1.25pt up, and down by as much as the subscript's top would be above four fifths of the x-height, which is nothing
 superscript : set_in 2 (atom Ord b b empty ∷ []) ≡ gives (character 98 ∷ box_item (negsuc 81919) box_b ∷ [])
-unfolding word_at scaled command_of boundary_start boundary_code character_start found converted list_in entries_of composed composed_within most_steps step cleaned_list packed_box framed times_mu math_glue math_kern fetched_from subscript_item superscript_item even_boxes fraction_list fraction_box evened upper_limit lower_limit fetched_nucleus cleaned list_nucleus script_of script_box with_scripts remade_nucleus operator_by limits_box limited unlimited lined_up fraction_items first_lowered below_top first_raised above_bottom space_above space_below elastic_in_points glue_in_points fitting gap stacked stack_box shifted set_to centred centred_to above_operator below_operator widest reach_of limited_height limited_depth fraction_height fraction_depth limits_list scripted_operator scripted boxed_list
+unfolding word_at scaled command_of boundary_start boundary_code character_start found converted list_in entries_of composed composed_within most_steps step cleaned_list packed_box framed times_mu math_glue math_kern fetched_from subscript_item superscript_item even_boxes fraction_list fraction_box evened upper_limit lower_limit fetched_nucleus cleaned list_nucleus script_of script_box with_scripts remade_nucleus operator_by limits_box limited unlimited lined_up fraction_items first_lowered below_top first_raised above_bottom space_above space_below elastic_in_points glue_in_points fitting gap stacked stack_box shifted set_to centred centred_to above_operator below_operator widest reach_of limited_height limited_depth fraction_height fraction_depth limits_list scripted_operator scripted boxed_list stack_list moved_left moved_right upper_from lower_from script_shifts list_by_line limits_below
 superscript = refl
 
 subscript : set_in 2 (atom Ord b empty b ∷ []) ≡ gives (character 98 ∷ box_item (pos 0) box_b ∷ [])
-unfolding word_at scaled command_of boundary_start boundary_code character_start found converted list_in entries_of composed composed_within most_steps step cleaned_list packed_box framed times_mu math_glue math_kern fetched_from subscript_item superscript_item even_boxes fraction_list fraction_box evened upper_limit lower_limit fetched_nucleus cleaned list_nucleus script_of script_box with_scripts remade_nucleus operator_by limits_box limited unlimited lined_up fraction_items first_lowered below_top first_raised above_bottom space_above space_below elastic_in_points glue_in_points fitting gap stacked stack_box shifted set_to centred centred_to above_operator below_operator widest reach_of limited_height limited_depth fraction_height fraction_depth limits_list scripted_operator scripted boxed_list
+unfolding word_at scaled command_of boundary_start boundary_code character_start found converted list_in entries_of composed composed_within most_steps step cleaned_list packed_box framed times_mu math_glue math_kern fetched_from subscript_item superscript_item even_boxes fraction_list fraction_box evened upper_limit lower_limit fetched_nucleus cleaned list_nucleus script_of script_box with_scripts remade_nucleus operator_by limits_box limited unlimited lined_up fraction_items first_lowered below_top first_raised above_bottom space_above space_below elastic_in_points glue_in_points fitting gap stacked stack_box shifted set_to centred centred_to above_operator below_operator widest reach_of limited_height limited_depth fraction_height fraction_depth limits_list scripted_operator scripted boxed_list stack_list moved_left moved_right upper_from lower_from script_shifts list_by_line limits_below
 subscript = refl
 
 -- $\displaystyle\mathop b^b$: the operator is centred about the axis, so it stands 1.25pt higher, and its limit right above it
@@ -189,7 +189,7 @@ abbrev limited_b : PackedBox
 limited_b = vbox_of (pos 327680) (pos 409600) (pos 0) (kern (pos 0) ∷ box_item (pos 0) box_b ∷ kern (pos 0) ∷ box_item (pos 0) operator_b ∷ [])
 
 limits-above : set_in 0 (atom (Op Displayed) b b empty ∷ []) ≡ gives (box_item (pos 0) limited_b ∷ [])
-unfolding word_at scaled command_of boundary_start boundary_code character_start found converted list_in entries_of composed composed_within most_steps step cleaned_list packed_box reboxed limits_of framed times_mu math_glue math_kern fetched_from subscript_item superscript_item even_boxes fraction_list fraction_box evened upper_limit lower_limit fetched_nucleus cleaned list_nucleus script_of script_box with_scripts remade_nucleus operator_by limits_box limited unlimited lined_up fraction_items first_lowered below_top first_raised above_bottom space_above space_below elastic_in_points glue_in_points fitting gap stacked stack_box shifted set_to centred centred_to above_operator below_operator widest reach_of limited_height limited_depth fraction_height fraction_depth limits_list scripted_operator scripted boxed_list
+unfolding word_at scaled command_of boundary_start boundary_code character_start found converted list_in entries_of composed composed_within most_steps step cleaned_list packed_box reboxed limits_of framed times_mu math_glue math_kern fetched_from subscript_item superscript_item even_boxes fraction_list fraction_box evened upper_limit lower_limit fetched_nucleus cleaned list_nucleus script_of script_box with_scripts remade_nucleus operator_by limits_box limited unlimited lined_up fraction_items first_lowered below_top first_raised above_bottom space_above space_below elastic_in_points glue_in_points fitting gap stacked stack_box shifted set_to centred centred_to above_operator below_operator widest reach_of limited_height limited_depth fraction_height fraction_depth limits_list scripted_operator scripted boxed_list stack_list moved_left moved_right upper_from lower_from script_shifts list_by_line limits_below
 limits-above = refl
 
 -- ${b\over b}$ where lines have no thickness: both are moved by 1.25pt until they touch; the empty boxes on both sides stand at the axis
@@ -203,11 +203,11 @@ abbrev between : PackedBox
 between = hbox_of (pos 327680) (pos 245760) (pos 81920) (side ∷ box_item (pos 0) quotient ∷ side ∷ [])
 
 one-fraction : set_in 2 (fraction None (gathered (alone Ord b ∷ [])) (gathered (alone Ord b ∷ [])) ∷ []) ≡ gives (box_item (pos 0) between ∷ [])
-unfolding word_at scaled command_of boundary_start boundary_code character_start found converted list_in entries_of composed composed_within most_steps step cleaned_list packed_box reboxed fraction_of framed times_mu math_glue math_kern fetched_from subscript_item superscript_item even_boxes fraction_list fraction_box evened upper_limit lower_limit fetched_nucleus cleaned list_nucleus script_of script_box with_scripts remade_nucleus operator_by limits_box limited unlimited lined_up fraction_items first_lowered below_top first_raised above_bottom space_above space_below elastic_in_points glue_in_points fitting gap stacked stack_box shifted set_to centred centred_to above_operator below_operator widest reach_of limited_height limited_depth fraction_height fraction_depth limits_list scripted_operator scripted boxed_list
+unfolding word_at scaled command_of boundary_start boundary_code character_start found converted list_in entries_of composed composed_within most_steps step cleaned_list packed_box reboxed fraction_of framed times_mu math_glue math_kern fetched_from subscript_item superscript_item even_boxes fraction_list fraction_box evened upper_limit lower_limit fetched_nucleus cleaned list_nucleus script_of script_box with_scripts remade_nucleus operator_by limits_box limited unlimited lined_up fraction_items first_lowered below_top first_raised above_bottom space_above space_below elastic_in_points glue_in_points fitting gap stacked stack_box shifted set_to centred centred_to above_operator below_operator widest reach_of limited_height limited_depth fraction_height fraction_depth limits_list scripted_operator scripted boxed_list stack_list moved_left moved_right upper_from lower_from script_shifts list_by_line limits_below
 one-fraction = refl
 
 -- in a paragraph a penalty stands behind an operation and a relation, but not at the end
 penalties : hlist (math_with fonts params) 2 true (alone Ord b ∷ alone Bin b ∷ alone Ord b ∷ alone Rel b ∷ [])
     ≡ gives (character 98 ∷ space 4 ∷ character 98 ∷ plain (horizontal.Penalty (pos 700)) ∷ space 4 ∷ character 98 ∷ space 5 ∷ character 98 ∷ [])
-unfolding word_at scaled command_of boundary_start boundary_code character_start found converted list_in entries_of composed composed_within most_steps step framed times_mu math_glue math_kern fetched_from subscript_item superscript_item even_boxes fraction_list fraction_box evened upper_limit lower_limit fetched_nucleus cleaned list_nucleus script_of script_box with_scripts remade_nucleus operator_by limits_box limited unlimited lined_up fraction_items first_lowered below_top first_raised above_bottom space_above space_below elastic_in_points glue_in_points fitting gap stacked stack_box shifted set_to centred centred_to above_operator below_operator widest reach_of limited_height limited_depth fraction_height fraction_depth limits_list scripted_operator scripted boxed_list
+unfolding word_at scaled command_of boundary_start boundary_code character_start found converted list_in entries_of composed composed_within most_steps step framed times_mu math_glue math_kern fetched_from subscript_item superscript_item even_boxes fraction_list fraction_box evened upper_limit lower_limit fetched_nucleus cleaned list_nucleus script_of script_box with_scripts remade_nucleus operator_by limits_box limited unlimited lined_up fraction_items first_lowered below_top first_raised above_bottom space_above space_below elastic_in_points glue_in_points fitting gap stacked stack_box shifted set_to centred centred_to above_operator below_operator widest reach_of limited_height limited_depth fraction_height fraction_depth limits_list scripted_operator scripted boxed_list stack_list moved_left moved_right upper_from lower_from script_shifts list_by_line limits_below
 penalties = refl

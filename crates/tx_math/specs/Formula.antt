@@ -182,12 +182,15 @@ limits_box m style correction has_upper has_lower x y z =
     and_then (evened m (widest x y z) x y z) (λ boxes.
     and_then (checked (limits_of m style correction has_upper has_lower (widest x y z) boxes)) (λ b. given (box_item (pos 0) b ∷ [])))
 
-unfoldable pub limits_list : Inward → Math → ℕ → Part → Part → Part → Option OperatorBox → Telling (List Item)
-limits_list inward m style nucleus sup sub operator =
-    and_then (cleaned inward m (superscript_style style) sup) (λ x.
+unfoldable pub limits_below : Inward → Math → ℕ → Part → Part → Part → Option OperatorBox → PackedBox → Telling (List Item)
+limits_below inward m style nucleus sup sub operator x =
     and_then (cleaned inward m style (part_or nucleus operator)) (λ y.
     and_then (cleaned inward m (subscript_style style) sub) (λ z.
-    limits_box m style (correction_of operator) (not (is_empty sup)) (not (is_empty sub)) x y z)))
+    limits_box m style (correction_of operator) (not (is_empty sup)) (not (is_empty sub)) x y z))
+
+unfoldable pub limits_list : Inward → Math → ℕ → Part → Part → Part → Option OperatorBox → Telling (List Item)
+limits_list inward m style nucleus sup sub operator =
+    and_then (cleaned inward m (superscript_style style) sup) (limits_below inward m style nucleus sup sub operator)
 
 -- with them behind it, as scripts
 abbrev pub offset_by : ℤ → Nucleus → Nucleus

@@ -72,12 +72,14 @@ fraction_shifts m style thickness x z =
 abbrev pub lineless_list : Shifts → PackedBox → PackedBox → Result (List Item) MathError
 lineless_list s x z = passed (stored (gap s x z)) (λ space. Ok (box_item (pos 0) x ∷ kern space ∷ box_item (pos 0) z ∷ []))
 
-abbrev pub lined_list : Math → ℕ → ℤ → Shifts → PackedBox → PackedBox → Result (List Item) MathError
-lined_list m style thickness s x z =
-    passed (stored thickness) (λ t.
+unfoldable pub list_by_line : Math → ℕ → ℤ → Shifts → PackedBox → PackedBox → Result (List Item) MathError
+list_by_line m style t s x z =
     passed (stored (space_below m style t z s.down)) (λ below.
     passed (stored (space_above m style t x s.up)) (λ above.
-    Ok (box_item (pos 0) x ∷ kern above ∷ line t ∷ kern below ∷ box_item (pos 0) z ∷ []))))
+    Ok (box_item (pos 0) x ∷ kern above ∷ line t ∷ kern below ∷ box_item (pos 0) z ∷ [])))
+
+abbrev pub lined_list : Math → ℕ → ℤ → Shifts → PackedBox → PackedBox → Result (List Item) MathError
+lined_list m style thickness s x z = passed (stored thickness) (λ t. list_by_line m style t s x z)
 
 unfoldable pub fraction_list : Math → ℕ → ℤ → Shifts → PackedBox → PackedBox → Result (List Item) MathError
 fraction_list m style thickness s x z = if is_nothing thickness then lineless_list s x z else lined_list m style thickness s x z

@@ -71,27 +71,36 @@ below_operator m style z = int_max (big_op_spacing4 m style -ℤ z.head.height) 
 unfoldable pub reach_of : ℤ → ℤ → ℤ → ℤ → ℤ
 reach_of beyond height depth space = beyond +ℤ height +ℤ depth +ℤ space
 
+-- half of the correction moves the limit above to the right, and that below to the left
+unfoldable pub moved_right : ℤ → ℤ
+moved_right correction = half correction
+
+unfoldable pub moved_left : ℤ → ℤ
+moved_left correction = neg_ℤ (moved_right correction)
+
 -- a limit with these spaces, if it is there
 abbrev pub no_limit : Limit
 no_limit = record { nodes = []; reach = pos 0 }
 
+unfoldable pub upper_from : Math → ℕ → ℤ → ℤ → PackedBox → Result Limit MathError
+upper_from m style correction beyond x =
+    passed (shifted (moved_right correction) x) (λ item.
+    passed (stored (above_operator m style x)) (λ space.
+    Ok (record { nodes = kern beyond ∷ item ∷ kern space ∷ []; reach = reach_of beyond x.head.height x.head.depth space })))
+
 unfoldable pub upper_limit : Math → ℕ → ℤ → Bool → PackedBox → Result Limit MathError
 upper_limit m style correction is_there x =
-    if is_there
-    then passed (stored (big_op_spacing5 m style)) (λ beyond.
-    passed (shifted (half correction) x) (λ item.
-    passed (stored (above_operator m style x)) (λ space.
-    Ok (record { nodes = kern beyond ∷ item ∷ kern space ∷ []; reach = reach_of beyond x.head.height x.head.depth space }))))
-    else Ok no_limit
+    if is_there then passed (stored (big_op_spacing5 m style)) (λ beyond. upper_from m style correction beyond x) else Ok no_limit
+
+unfoldable pub lower_from : Math → ℕ → ℤ → ℤ → PackedBox → Result Limit MathError
+lower_from m style correction space z =
+    passed (shifted (moved_left correction) z) (λ item.
+    passed (stored (big_op_spacing5 m style)) (λ beyond.
+    Ok (record { nodes = kern space ∷ item ∷ kern beyond ∷ []; reach = reach_of beyond z.head.height z.head.depth space })))
 
 unfoldable pub lower_limit : Math → ℕ → ℤ → Bool → PackedBox → Result Limit MathError
 lower_limit m style correction is_there z =
-    if is_there
-    then passed (stored (below_operator m style z)) (λ space.
-    passed (shifted (neg_ℤ (half correction)) z) (λ item.
-    passed (stored (big_op_spacing5 m style)) (λ beyond.
-    Ok (record { nodes = kern space ∷ item ∷ kern beyond ∷ []; reach = reach_of beyond z.head.height z.head.depth space }))))
-    else Ok no_limit
+    if is_there then passed (stored (below_operator m style z)) (λ space. lower_from m style correction space z) else Ok no_limit
 
 -- how high and how deep an operator is with its limits
 unfoldable pub limited_height : PackedBox → Limit → ℤ

@@ -1,5 +1,5 @@
 -- Scripts (The TeXbook, appendix G, rule 18; TeX: The Program, sections 756 to 759).
-use Rattle.std.specs.Prelude.{ℕ, ℤ, pos, ◌+ℤ◌, ◌-ℤ◌, ◌*ℤ◌, neg_ℤ, int_lt, [], ◌∷◌, Option, Some, None, Result, if◌then◌else◌}
+use Rattle.std.specs.Prelude.{ℕ, ℤ, pos, ◌+ℤ◌, ◌-ℤ◌, ◌*ℤ◌, neg_ℤ, int_lt, List, [], ◌∷◌, Option, Some, None, Result, Ok, if◌then◌else◌}
 use Rattle.std.specs.Int.{int_max}
 use Rattle.tx_node.specs.Items.{Item, PackedBox, box_item}
 use Rattle.tx_math.specs.declared.error.MathError.{MathError}
@@ -71,13 +71,19 @@ unfoldable pub superscript_item : Math → ℕ → Shifts → PackedBox → Resu
 superscript_item m style s x = shifted (neg_ℤ (raised m style s.up x)) x
 
 -- both, one below the other, the upper one further to the right by so much
+unfoldable pub stack_list : ℤ → Shifts → PackedBox → PackedBox → Result (List Item) MathError
+stack_list offset s x y =
+    passed (shifted offset x) (λ upper. passed (stored (gap s x y)) (λ space. Ok (upper ∷ kern space ∷ box_item (pos 0) y ∷ [])))
+
 unfoldable pub stack_box : Math → ℤ → Shifts → PackedBox → PackedBox → Result PackedBox MathError
-stack_box m offset s x y =
-    passed (shifted offset x) (λ upper. passed (stored (gap s x y)) (λ space. vbox m (upper ∷ kern space ∷ box_item (pos 0) y ∷ [])))
+stack_box m offset s x y = passed (stack_list offset s x y) (vbox m)
 
 unfoldable pub stacked : Math → ℤ → Shifts → PackedBox → PackedBox → Result Item MathError
 stacked m offset s x y = passed (stack_box m offset s x y) (shifted s.down)
 
+unfoldable pub script_shifts : Math → ℕ → Shifts → PackedBox → PackedBox → Shifts
+script_shifts m style s x y = both_shifts m style (shifts_of (raised m style s.up x) (int_max s.down (sub2 m style))) x y
+
 unfoldable pub scripts_item : Math → ℕ → ℤ → Shifts → PackedBox → PackedBox → Result Item MathError
 scripts_item m style offset s x y =
-    stacked m offset (both_shifts m style (shifts_of (raised m style s.up x) (int_max s.down (sub2 m style))) x y) x y
+    stacked m offset (script_shifts m style s x y) x y

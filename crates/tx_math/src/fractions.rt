@@ -274,6 +274,24 @@ impl Setter<'_> {
         ensures error { IfErr result (λ e. e ≢ OutOfMemory → spec.lined_list (math_in self.now) style thickness shifts upper lower ≡ Err e) }
     {
         let rule = stored(thickness)?;
+        self.list_by_line(alloc, style, rule, shifts, upper, lower)
+    }
+
+    /// The same with a line that is so thick, in sp.
+    #[tactic(auto, unfolding(crate::specs::Fractions::list_by_line))]
+    fn list_by_line(
+        &self,
+        alloc: Global,
+        style: u8,
+        rule: i32,
+        shifts: Shifts,
+        upper: BoxNode,
+        lower: BoxNode,
+    ) -> Result<Nodes, MathError>
+        requires { AreNear shifts }
+        ensures made { IfOk result (λ list. spec.list_by_line (math_in self.now) style rule shifts upper lower ≡ Ok list) }
+        ensures error { IfErr result (λ e. e ≢ OutOfMemory → spec.list_by_line (math_in self.now) style rule shifts upper lower ≡ Err e) }
+    {
         let thickness = i64::from(rule);
         let below = stored(self.space_below(style, thickness, &lower, shifts.down))?;
         let above = stored(self.space_above(style, thickness, &upper, shifts.up))?;

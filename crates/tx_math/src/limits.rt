@@ -1,5 +1,6 @@
 //! Large operators and their limits (TeX: The Program, sections 749 to 751).
-ghost use Rattle.std.specs.Prelude.{◌≡◌, ◌≢◌, ◌≤◌, ◌^◌, Some, unsigned_abs, IfOk, IfErr, Ok, Err};
+ghost use Rattle.std.specs.Prelude.{◌≡◌, ◌≢◌, ◌≤◌, ◌^◌, ◌∷◌, ◌++◌, pos, Some, unsigned_abs, IfOk, IfErr, Ok, Err};
+ghost use Rattle.tx_node.specs.Items.{box_item};
 ghost use Rattle.tx_math.specs.Operators as spec;
 ghost use Rattle.tx_math.specs.Formula as formula;
 ghost use Rattle.tx_math.specs.Setters.{IsSetter, math_in};
@@ -12,7 +13,7 @@ use crate::operators::{Limit, Limited, OperatorBox};
 use crate::parameters::half;
 use crate::setter::Setter;
 use crate::sums::{greater, minus, negated, plus};
-use std::alloc::Global;
+use std::alloc::{AllocError, Global};
 use tx_bytes::Bytes;
 use tx_mlist::Limits;
 use tx_node::{BoxNode, Character, Nodes};
@@ -81,6 +82,23 @@ fn limited_depth(operator: &BoxNode, lower: &Limit) -> i64
     plus(i64::from(operator.depth()), lower.reach)
 }
 
+/// An operator between what its limits are. Its only error is want of memory.
+#[tactic(auto, using(crate::proofs::Between::between))]
+fn limited_list(
+    alloc: Global,
+    operator: BoxNode,
+    upper: Nodes,
+    lower: Nodes,
+) -> Result<Nodes, AllocError>
+    ensures { IfOk result (λ list. list ≡ upper ++ box_item (pos 0) operator ∷ lower) }
+{
+    let mut list = upper;
+    let mut behind = lower;
+    list.push(boxed(alloc, operator)?)?;
+    list.append(&mut behind)?;
+    Ok(list)
+}
+
 /// An operator between its limits, in a box of this width, in sp.
 fn limited_box(
     alloc: Global,
@@ -96,16 +114,7 @@ fn limited_box(
 {
     let height = limited_height(&operator, &upper);
     let depth = limited_depth(&operator, &lower);
-    let Limit {
-        nodes: mut list,
-        ..
-    } = upper;
-    let Limit {
-        nodes: mut behind,
-        ..
-    } = lower;
-    list.push(boxed(alloc, operator)?)?;
-    list.append(&mut behind)?;
+    let list = limited_list(alloc, operator, upper.nodes, lower.nodes)?;
     framed(alloc, i64::from(width), height, depth, list)
 }
 
@@ -117,6 +126,25 @@ fn reach_of(beyond: i32, height: i32, depth: i32, space: i32) -> i64
 {
     let size = plus(plus(i64::from(beyond), i64::from(height)), i64::from(depth));
     plus(size, i64::from(space))
+}
+
+/// How far the limit above an operator of this correction is moved to the right, in sp.
+#[tactic(auto, unfolding(crate::specs::Operators::moved_right))]
+fn moved_right(correction: i64) -> i64
+    requires { unsigned_abs correction ≤ 2 ^ 31 }
+    ensures value { result ≡ spec.moved_right correction }
+    ensures near { unsigned_abs result ≤ 2 ^ 31 }
+{
+    half(correction)
+}
+
+/// The same of the limit below it, which goes to the left.
+#[tactic(auto, unfolding(crate::specs::Operators::moved_left))]
+fn moved_left(correction: i64) -> i64
+    requires { unsigned_abs correction ≤ 2 ^ 31 }
+    ensures { result ≡ spec.moved_left correction }
+{
+    negated(moved_right(correction))
 }
 
 /// No limit; takes no memory.
@@ -247,10 +275,28 @@ impl Setter<'_> {
         if !is_there {
             return Ok(no_limit(alloc));
         }
+        let beyond = stored(self.extension_in(style, 13))?;
+        self.upper_from(alloc, style, correction, beyond, upper)
+    }
+
+    /// The same with this space beyond it, in sp.
+    #[tactic(auto, unfolding(crate::specs::Operators::upper_from))]
+    fn upper_from(
+        &self,
+        alloc: Global,
+        style: u8,
+        correction: i64,
+        beyond: i32,
+        upper: BoxNode,
+    ) -> Result<Limit, MathError>
+        requires { unsigned_abs correction ≤ 2 ^ 31 }
+        ensures made { IfOk result (λ limit. spec.upper_from (math_in self.now) style correction beyond upper ≡ Ok limit) }
+        ensures near { IfOk result (λ limit. unsigned_abs limit.reach ≤ 2 ^ 34) }
+        ensures error { IfErr result (λ e. e ≢ OutOfMemory → spec.upper_from (math_in self.now) style correction beyond upper ≡ Err e) }
+    {
         let (height, depth) = (upper.height(), upper.depth());
         let space = self.above_operator(style, &upper);
-        let beyond = stored(self.extension_in(style, 13))?;
-        let upper = shifted(alloc, half(correction), upper)?;
+        let upper = shifted(alloc, moved_right(correction), upper)?;
         let space = stored(space)?;
         Ok(Limit {
             nodes: triple(alloc, kern(beyond), upper, kern(space))?,
@@ -276,9 +322,27 @@ impl Setter<'_> {
         if !is_there {
             return Ok(no_limit(alloc));
         }
-        let (height, depth) = (lower.height(), lower.depth());
         let space = stored(self.below_operator(style, &lower))?;
-        let lower = shifted(alloc, negated(half(correction)), lower)?;
+        self.lower_from(alloc, style, correction, space, lower)
+    }
+
+    /// The same with this space above it, in sp.
+    #[tactic(auto, unfolding(crate::specs::Operators::lower_from))]
+    fn lower_from(
+        &self,
+        alloc: Global,
+        style: u8,
+        correction: i64,
+        space: i32,
+        lower: BoxNode,
+    ) -> Result<Limit, MathError>
+        requires { unsigned_abs correction ≤ 2 ^ 31 }
+        ensures made { IfOk result (λ limit. spec.lower_from (math_in self.now) style correction space lower ≡ Ok limit) }
+        ensures near { IfOk result (λ limit. unsigned_abs limit.reach ≤ 2 ^ 34) }
+        ensures error { IfErr result (λ e. e ≢ OutOfMemory → spec.lower_from (math_in self.now) style correction space lower ≡ Err e) }
+    {
+        let (height, depth) = (lower.height(), lower.depth());
+        let lower = shifted(alloc, moved_left(correction), lower)?;
         let beyond = stored(self.extension_in(style, 13))?;
         Ok(Limit {
             nodes: triple(alloc, kern(space), lower, kern(beyond))?,

@@ -1,8 +1,6 @@
 //! Scripts (TeX: The Program, sections 756 to 759).
-ghost use Rattle.std.specs.Prelude.{◌≡◌, ◌≢◌, ◌≤◌, ◌+◌, ◌∷◌, ◌^◌, [], pos, unsigned_abs, IfOk, IfErr, Ok, Err};
-ghost use Rattle.tx_node.specs.Items.{box_item};
+ghost use Rattle.std.specs.Prelude.{◌≡◌, ◌≢◌, ◌≤◌, ◌+◌, ◌^◌, unsigned_abs, IfOk, IfErr, Ok, Err};
 ghost use Rattle.tx_node.specs.Nodes.{item_of};
-ghost use Rattle.tx_math.specs.Boxes as boxes;
 ghost use Rattle.tx_math.specs.Scripts as spec;
 ghost use Rattle.tx_math.specs.Setters.{AreEdges, AreNear, IsSetter, math_in};
 ghost use Rattle.tx_math.specs.declared.error.MathError.TheVariants.{OutOfMemory};
@@ -14,7 +12,7 @@ use crate::setter::Setter;
 use crate::shifts::Shifts;
 use crate::styles::script_size;
 use crate::sums::{greater, minus, negated, plus, times};
-use std::alloc::{AllocError, Global};
+use std::alloc::Global;
 use tx_node::{BoxNode, Node, Nodes};
 
 /// The space between the bottom of what is raised and the top of what is lowered, in sp.
@@ -29,12 +27,24 @@ pub fn gap(shifts: Shifts, upper: &BoxNode, lower: &BoxNode) -> i64
     minus(bottom, top)
 }
 
-/// A node, a space, in sp, and a box below it. Its only error is want of memory.
-fn stack_list(alloc: Global, upper: Node, space: i32, lower: BoxNode) -> Result<Nodes, AllocError>
-    ensures { IfOk result (λ list. list ≡ item_of upper ∷ boxes.kern space ∷ box_item (pos 0) lower ∷ []) }
+/// What stands in the box of two scripts, the upper one so many sp further to the right.
+#[tactic(auto, unfolding(crate::specs::Scripts::stack_list))]
+fn stack_list(
+    alloc: Global,
+    offset: i64,
+    shifts: Shifts,
+    upper: BoxNode,
+    lower: BoxNode,
+) -> Result<Nodes, MathError>
+    requires { AreNear shifts }
+    ensures made { IfOk result (λ list. spec.stack_list offset shifts upper lower ≡ Ok list) }
+    ensures error { IfErr result (λ e. e ≢ OutOfMemory → spec.stack_list offset shifts upper lower ≡ Err e) }
 {
+    let space = gap(shifts, &upper, &lower);
+    let upper = shifted(alloc, offset, upper)?;
+    let space = stored(space)?;
     let lower = boxed(alloc, lower)?;
-    triple(alloc, upper, kern(space), lower)
+    Ok(triple(alloc, upper, kern(space), lower)?)
 }
 
 /// Both raised by so many sp, if that is something.
@@ -258,10 +268,7 @@ impl Setter<'_> {
         ensures made { IfOk result (λ made. spec.stack_box (math_in self.now) offset shifts upper lower ≡ Ok made) }
         ensures error { IfErr result (λ e. e ≢ OutOfMemory → spec.stack_box (math_in self.now) offset shifts upper lower ≡ Err e) }
     {
-        let space = gap(shifts, &upper, &lower);
-        let upper = shifted(alloc, offset, upper)?;
-        let space = stored(space)?;
-        let list = stack_list(alloc, upper, space, lower)?;
+        let list = stack_list(alloc, offset, shifts, upper, lower)?;
         self.vbox(alloc, list)
     }
 
@@ -281,11 +288,21 @@ impl Setter<'_> {
         ensures made { IfOk result (λ node. spec.scripts_item (math_in self.now) style offset shifts upper lower ≡ Ok (item_of node)) }
         ensures error { IfErr result (λ e. e ≢ OutOfMemory → spec.scripts_item (math_in self.now) style offset shifts upper lower ≡ Err e) }
     {
+        let both = self.script_shifts(style, shifts, &upper, &lower);
+        self.stacked(alloc, offset, both, upper, lower)
+    }
+
+    /// How far both scripts are moved that were moved so far at first.
+    #[tactic(auto, unfolding(crate::specs::Scripts::script_shifts))]
+    fn script_shifts(&self, style: u8, shifts: Shifts, upper: &BoxNode, lower: &BoxNode) -> Shifts
+        requires { (unsigned_abs shifts.up ≤ 2 ^ 34) × (unsigned_abs shifts.down ≤ 2 ^ 34) }
+        ensures value { result ≡ spec.script_shifts (math_in self.now) style shifts upper.now lower.now }
+        ensures near { AreNear result }
+    {
         let first = Shifts {
-            up: self.raised(style, shifts.up, &upper),
+            up: self.raised(style, shifts.up, upper),
             down: greater(shifts.down, self.symbol_in(style, 17)),
         };
-        let both = self.both_shifts(style, first, &upper, &lower);
-        self.stacked(alloc, offset, both, upper, lower)
+        self.both_shifts(style, first, upper, lower)
     }
 }

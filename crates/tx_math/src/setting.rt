@@ -552,10 +552,31 @@ impl Setter<'_> {
         ensures made { IfOk result (λ list. spec.limits_list (spec.inward levels (math_in self.now)) (math_in self.now) style (part_of atom.now.nucleus) (part_of atom.now.superscript) (part_of atom.now.subscript) operator report.old ≡ Ok (list, report.new)) }
         ensures error { IfErr result (λ e. e ≢ OutOfMemory → spec.limits_list (spec.inward levels (math_in self.now)) (math_in self.now) style (part_of atom.now.nucleus) (part_of atom.now.superscript) (part_of atom.now.subscript) operator report.old ≡ Err e) }
     {
-        let correction = correction_of(&operator);
-        let nucleus = part_or(&atom.nucleus, operator)?;
         let upper = superscript_style(style);
         let upper = self.cleaned(alloc, levels, upper, &atom.superscript, report)?;
+        self.limits_below(alloc, levels, style, atom, operator, upper, report)
+    }
+
+    /// The same with this box above it.
+    #[cycle(set)]
+    #[tactic(auto, unfolding(crate::specs::Formula::limits_below))]
+    fn limits_below(
+        &self,
+        alloc: Global,
+        levels: u16,
+        style: u8,
+        atom: &Atom,
+        operator: Option<OperatorBox>,
+        upper: BoxNode,
+        report: &mut Bytes,
+    ) -> Result<Nodes, MathError>
+        requires setter { IsSetter self.now }
+        requires near { unsigned_abs (spec.correction_of operator) ≤ 2 ^ 31 }
+        ensures made { IfOk result (λ list. spec.limits_below (spec.inward levels (math_in self.now)) (math_in self.now) style (part_of atom.now.nucleus) (part_of atom.now.superscript) (part_of atom.now.subscript) operator upper report.old ≡ Ok (list, report.new)) }
+        ensures error { IfErr result (λ e. e ≢ OutOfMemory → spec.limits_below (spec.inward levels (math_in self.now)) (math_in self.now) style (part_of atom.now.nucleus) (part_of atom.now.superscript) (part_of atom.now.subscript) operator upper report.old ≡ Err e) }
+    {
+        let correction = correction_of(&operator);
+        let nucleus = part_or(&atom.nucleus, operator)?;
         let middle = self.cleaned(alloc, levels, style, &nucleus, report)?;
         let lower = subscript_style(style);
         let lower = self.cleaned(alloc, levels, lower, &atom.subscript, report)?;

@@ -61,3 +61,6 @@ decreases-cleaned_inner l = 16 * l.levels + 6
 
 abbrev pub decreases-script_box : goal.decreases-script_box
 decreases-script_box l = 16 * l.levels + 6
+
+abbrev pub decreases-limits_below : goal.decreases-limits_below
+decreases-limits_below l = 16 * l.levels + 7
