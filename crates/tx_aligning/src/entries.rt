@@ -3,6 +3,7 @@ ghost use Rattle.std.specs.Prelude.{◌≡◌, ◌≢◌, Some, Ok, Err, IfOk, I
 ghost use Rattle.tx_align.specs.declared.error.AlignError.TheVariants.{OutOfMemory};
 ghost use Rattle.tx_eqtb.specs.Stack.{kind_of};
 ghost use Rattle.tx_state.specs.declared.parts.Phase.{Phase};
+ghost use Rattle.tx_state.specs.Groups.{IsOpened, closing};
 ghost use Rattle.tx_state.specs.Meanings.{IsStepped, state_of};
 ghost use Rattle.tx_tabular.specs.Entries as tabular;
 ghost use Rattle.tx_aligning.specs.Entries as spec;
@@ -179,7 +180,19 @@ fn end_cell(
     }
 }
 
-/// The group of an entry ends and that of the next one begins, with its list. Err is want of memory.
+/// The group of an entry ends and that of the next one begins; the answer is whether it could be opened. Its only error is want of
+/// memory.
+fn reopen(s: &mut State) -> Result<bool, AllocError>
+    requires { kind_of s.old.table ≡ Some GroupKind.Entry }
+    ensures opened { IfOk result (λ opened. IsOpened GroupKind.Entry (closing (state_of s.old)) opened (state_of s.new)) }
+    ensures phase { OnOk result (s.new.phase ≡ s.old.phase) }
+    ensures said { OnOk result (s.new.said ≡ s.old.said) }
+{
+    leave_group(s, GroupKind::Entry)?;
+    open_group(s, GroupKind::Entry)
+}
+
+/// The group of an entry ends, that of the next one begins, and in it the entry's list ends. Err is want of memory.
 fn regroup(
     alloc: Global,
     s: &mut State,
@@ -190,8 +203,7 @@ fn regroup(
     requires kind { kind_of s.old.table ≡ Some GroupKind.Entry }
     ensures { IfOk result (λ event. IsStepped (spec.regrouped (state_of s.old) word alignment s.old.alignments) s.old event s.new) }
 {
-    leave_group(s, GroupKind::Entry)?;
-    if !open_group(s, GroupKind::Entry)? {
+    if !reopen(s)? {
         return Ok(fail(s, TexError::TooManyGroups));
     }
     end_cell(alloc, s, alignment, word)
