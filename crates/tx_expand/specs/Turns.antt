@@ -469,7 +469,7 @@ primitive_ends other = None
 
 abbrev pub category_ends : Cat → Option EntryEnd
 category_ends AlignmentTab = Some end.Tab
-category_ends other = None
+category_ends _ = None
 
 abbrev pub entry_end : Meaning → Option EntryEnd
 entry_end (meaning.Character code kind) = category_ends kind

@@ -7,27 +7,32 @@
 //! are Knuth's, on cases worked out by hand, most of them seen in his program (`proofs/Worked.antt`).
 //!
 //! Read `known` and `values`, what expansions, tests and scans may ask for; `types` and `begun`; `part`, `mapping`, `feeding` and
-//! `scanning`; `step`, `using` and `printing`; then `state`, `expanding`, `kept` and `expander`.
+//! `scanning`; `step`, `using` and `printing`; then `state`, `innermost`, `expanding`, `taking`, `reading`,
+//! `entries`, `kept` and `expander`.
 #![tactic(auto)]
 
 mod begun;
+mod entries;
 mod expander;
 mod expanding;
 mod feeding;
+mod innermost;
 mod kept;
 mod known;
 mod mapping;
 mod part;
 mod printing;
+mod reading;
 mod scanning;
 mod state;
 mod step;
+mod taking;
 mod types;
 mod using;
 mod values;
 
 pub use begun::Begun;
-pub use expanding::{entry_end, part_end};
+pub use entries::{entry_end, part_end};
 pub use known::Known;
 pub use printing::escape_of;
 pub use scanning::Scanning;

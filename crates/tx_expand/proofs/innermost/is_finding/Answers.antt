@@ -1,6 +1,6 @@
 use Rattle.std.proofs.Common.{arith, sym, ◌∙◌}
 use Rattle.tx_expand.proofs.Turning.{finding-all, finding-here, finding-none, finding-on}
-use Rattle.tx_expand.proofs.expanding.is_finding.Goals as goal
+use Rattle.tx_expand.proofs.innermost.is_finding.Goals as goal
 
 pub loop-place-init : goal.loop-place-init
 loop-place-init c = record { within = omega arith; rest = finding-all c.args.begun.now }

@@ -1,7 +1,7 @@
 use Rattle.std.proofs.Common.{◌≡◌, ◌≤◌, length, take}
 use Rattle.std.specs.Prelude.{reverse}
 use Rattle.tx_expand.specs.Turns.{is_finding}
-use Rattle.tx_expand.proofs.expanding.is_finding.Given as goal
+use Rattle.tx_expand.proofs.innermost.is_finding.Given as goal
 
 -- none of those behind this place reads one
 abbrev pub invariant-loop-place : goal.invariant-loop-place

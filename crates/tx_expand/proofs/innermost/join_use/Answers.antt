@@ -1,6 +1,6 @@
 use Rattle.std.proofs.Common.{◌∙◌, sym}
 use Rattle.tx_expand.proofs.Joining.{joined-first}
-use Rattle.tx_expand.proofs.expanding.join_use.Goals as goal
+use Rattle.tx_expand.proofs.innermost.join_use.Goals as goal
 
 pub returns : goal.returns
 returns c =

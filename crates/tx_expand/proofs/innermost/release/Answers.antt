@@ -3,7 +3,7 @@ use Rattle.tx_expand.specs.declared.begun.Begun.{Begun}
 use Rattle.tx_expand.specs.Expanding.{reader}
 use Rattle.tx_expand.specs.Turns.{held_back}
 use Rattle.tx_expand.proofs.Releasing.{fewer-held, none-held, one-released}
-use Rattle.tx_expand.proofs.expanding.release.Goals as goal
+use Rattle.tx_expand.proofs.innermost.release.Goals as goal
 
 pub loop-token-preserved : goal.loop-token-preserved
 loop-token-preserved c =
