@@ -104,8 +104,9 @@ fn made_of(
     let mut behind_glue = false;
     let mut formula = false;
     for node in list.into_vec() {
-        let formula_behind = is_formula_behind(formula, &node);
-        if parts(formula, &node) {
+        let is_parted = parts(formula, &node);
+        formula = is_formula_behind(formula, &node);
+        if is_parted {
             let stretch = replace(&mut items, Nodes::new(alloc));
             finish(
                 alloc,
@@ -122,7 +123,6 @@ fn made_of(
         } else {
             items.push(node)?;
         }
-        formula = formula_behind;
     }
     finish(
         alloc,
