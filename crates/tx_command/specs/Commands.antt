@@ -13,7 +13,6 @@ use Rattle.tx_shape.specs.declared.types.Opener.TheVariants as opener
 use Rattle.tx_prim.specs.declared.family.DefinitionKind.{DefinitionKind}
 use Rattle.tx_node.specs.declared.rule.Rule.{Rule as Rule_sides}
 use Rattle.tx_prim.specs.declared.family.GlueForm.{GlueForm}
-use Rattle.tx_prim.specs.declared.glue.GlueParameter.{GlueParameter}
 use Rattle.tx_prim.specs.declared.glue.GlueParameter.TheVariants.{Tabskip}
 use Rattle.tx_prim.specs.declared.family.Indentation.TheVariants.{Indented}
 use Rattle.tx_prim.specs.declared.family.LeadersKind.{LeadersKind}
@@ -527,7 +526,7 @@ abbrev pub is_part_of : Cat → Bool
 is_part_of category.BeginGroup = true
 is_part_of category.Letter = true
 is_part_of category.Other = true
-is_part_of other = false
+is_part_of _ = false
 
 abbrev pub is_part : Meaning → Bool
 is_part (meaning.Character code category) = is_part_of category
@@ -577,7 +576,7 @@ word_start other = start.Entry
 abbrev pub character_start : Cat → RowStart
 character_start category.Space = start.Skipped
 character_start category.EndGroup = start.End
-character_start other = start.Entry
+character_start _ = start.Entry
 
 abbrev pub primitive_start : Primitive → RowStart
 primitive_start (primitive.AlignWord word) = word_start word
