@@ -37,8 +37,8 @@ pub returns-then-not-plain-clause-steps : goal.returns-then-not-plain-clause-ste
 returns-then-not-plain-clause-steps c =
     counted-behind c.loop-all.all c.args.steps.now c.loop-all.steps c.run_next.new.steps c.in_ok-turns.field-0 c.loop-all.invariant.run.steps c.in_ok-turns.ensures.steps
 
-pub loop-all-preserved : goal.loop-all-preserved
-loop-all-preserved c =
+pub loop-all-preserved-else-not-plain-5 : goal.loop-all-preserved-else-not-plain-5
+loop-all-preserved-else-not-plain-5 c =
     let is_plain = c.is_plain-plain.ensures c.if-not-plain.false in
     let silent : length c.run_next.new.s.said ≡ length c.loop-all.s.said = is_plain.1 ∙ c.len-told.ensures in
     record {
