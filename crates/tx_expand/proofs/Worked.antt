@@ -501,6 +501,10 @@ in_part tokens = record { input = record { elements = map Given tokens ++ PartEn
 number_in_part : run 8 (in_part (letter 97 ∷ cs (codes "number") ∷ [])) ≡ Stopped (letter 97 ∷ []) MissingNumber
 number_in_part = refl
 
+-- a\romannumeral5 up to there: the number ends, and what ended it stands behind its letter before the entry ends
+numeral_in_part : run 8 (in_part (letter 97 ∷ cs (codes "romannumeral") ∷ other 53 ∷ [])) ≡ All (letter 97 ∷ other 118 ∷ token.FrozenRelax ∷ [])
+numeral_in_part = refl
+
 -- an argument doesn't go on behind it
 argument_in_part : run 4 (in_part (cs (codes "b") ∷ [])) ≡ Stopped [] IncompleteText
 argument_in_part = refl
