@@ -1,10 +1,11 @@
 -- The innermost test, found from the inside, and the conditionals within it.
-use Rattle.std.proofs.Common.{◌≡◌, ℕ, zero, suc, ◌+◌, ◌<◌, ◌≤◌, true, false, ℤ, List, [], ◌∷◌, ◌++◌, length, take, drop, get_or, set, refl, sym, ◌∙◌, ap, arith, add-one, drop-cons}
+use Rattle.std.proofs.Common.{◌≡◌, ℕ, zero, suc, ◌+◌, ◌<◌, ◌≤◌, true, false, ℤ, List, [], ◌∷◌, ◌++◌, length, take, drop, get_or, set, None, Some, refl, sym, ◌∙◌, ap, arith, add-one, drop-cons}
+use Rattle.std.specs.Prelude.{slice_get}
 use Rattle.std.proofs.Math.Seq.{take-suc}
 use Rattle.std.proofs.lemmas.List.{take-set, drop-set}
 use Rattle.tx_cond.specs.declared.types.Conditional.{Conditional}
 use Rattle.tx_cond.specs.declared.types.Conditional.TheVariants.{Testing, AwaitingOr, AwaitingElse, Live, Ending, LastBranch}
-use Rattle.tx_cond.specs.Conditionals.{is_test, skips, is_skipped, within, within_all, decide}
+use Rattle.tx_cond.specs.Conditionals.{is_test, begins_with_test, is_skipped, within, within_all, decide}
 
 pub decide-inner : (branch : ℤ) (c : Conditional) (outer : List Conditional) → is_test c ≡ false → decide branch (c ∷ outer) ≡ within c (decide branch outer)
 decide-inner branch (Testing cases) outer h = cc
@@ -19,21 +20,32 @@ within_all-push [] c outer = refl
 within_all-push (x ∷ xs) c outer = ap (within x) (within_all-push xs c outer)
 
 -- the step of the search for the innermost test
-pub search-on : (branch : ℤ) (xs : List Conditional) (place : ℕ) (c : Conditional) → place < length xs → c ≡ get_or xs place c → is_test c ≡ false → decide branch xs ≡ within_all (take place xs) (decide branch (drop place xs)) → decide branch xs ≡ within_all (take (place + 1) xs) (decide branch (drop (place + 1) xs))
-search-on branch xs place c i at e h =
+pub search-on : (branch : ℤ) (xs : List Conditional) (place : ℕ) → place < length xs → begins_with_test (drop place xs) ≡ false → decide branch xs ≡ within_all (take place xs) (decide branch (drop place xs)) → decide branch xs ≡ within_all (take (place + 1) xs) (decide branch (drop (place + 1) xs))
+search-on branch xs place i e h =
+    let c = get_or xs place Ending in
+    let here : drop place xs ≡ c ∷ drop (suc place) xs = drop-cons xs place Ending i in
     h
-    ∙ rw (drop-cons xs place c, ← at) (ap (within_all (take place xs)) (decide-inner branch c (drop (suc place) xs) e))
+    ∙ ap (λ (ys : List Conditional). within_all (take place xs) (decide branch ys)) here
+    ∙ ap (within_all (take place xs)) (decide-inner branch c (drop (suc place) xs) (sym (ap begins_with_test here) ∙ e))
     ∙ sym (within_all-push (take place xs) c (decide branch (drop (suc place) xs)))
-    ∙ rw (add-one, take-suc xs place c, ← at) refl
+    ∙ rw (add-one, take-suc xs place Ending) refl
 
-pub skipped-at : (xs : List Conditional) (i : ℕ) (d : Conditional) → i < length xs → d ≡ get_or xs i d → skips d ≡ is_skipped (drop i xs)
-skipped-at xs i d l at = rw (drop-cons xs i d, ← at) refl
+-- the conditionals from a place on, by the one that stands there
+pub drop-at : (xs : List Conditional) (i : ℕ) (c : Conditional) → slice_get xs i ≡ Some c → drop i xs ≡ c ∷ drop (suc i) xs
+drop-at [] i c is = cc
+drop-at (x ∷ xs) zero c is = cc
+drop-at (x ∷ xs) (suc i) c is = drop-at xs i c is
 
-pub skipped-past : (xs : List Conditional) (i : ℕ) → length xs ≤ i → is_skipped (drop i xs) ≡ false
-skipped-past [] zero l = refl
-skipped-past [] (suc i) l = refl
-skipped-past (c ∷ xs) zero l = absurd (omega (arith, l))
-skipped-past (c ∷ xs) (suc i) l = skipped-past xs i (omega (arith, l))
+pub drop-past : (xs : List Conditional) (i : ℕ) → slice_get xs i ≡ None → drop i xs ≡ []
+drop-past [] zero is = refl
+drop-past [] (suc i) is = refl
+drop-past (x ∷ xs) zero is = cc
+drop-past (x ∷ xs) (suc i) is = drop-past xs i is
+
+pub place-within : (xs : List Conditional) (i : ℕ) (c : Conditional) → slice_get xs i ≡ Some c → i < length xs
+place-within [] i c is = cc
+place-within (x ∷ xs) zero c is = omega arith
+place-within (x ∷ xs) (suc i) c is = omega (arith, place-within xs i c is)
 
 within-next : (xs : List Conditional) (k : ℕ) (d : Conditional) → k < length xs → within_all (take (k + 1) xs) (drop (k + 1) xs) ≡ within_all (take k xs) (within (get_or xs k d) (drop (k + 1) xs))
 within-next xs k d l = rw (add-one, take-suc xs k d) (within_all-push (take k xs) (get_or xs k d) (drop (suc k) xs))
@@ -54,3 +66,20 @@ pass-live-suc xs k l e =
 
 pub pass-live : (xs : List Conditional) (k i : ℕ) → i ≡ k + 1 → i ≤ length xs → is_skipped (drop i xs) ≡ false → within_all (take k xs) (drop k xs) ≡ within_all (take i xs) (drop i xs)
 pass-live xs k i is l e = rw is (pass-live-suc xs k (omega (arith, is, l)) (rw is at e))
+
+-- at the place of a test no other conditional stands
+stands-test : (xs : List Conditional) (place : ℕ) (c : Conditional) → slice_get xs place ≡ Some c → begins_with_test (drop place xs) ≡ true → is_test c ≡ true
+stands-test xs place c is test = sym (ap begins_with_test (drop-at xs place c is)) ∙ test
+
+-- the test at a place has its value
+pub settles : (branch : ℤ) (xs : List Conditional) (place : ℕ) (c v : Conditional) → slice_get xs place ≡ Some c → begins_with_test (drop place xs) ≡ true → (is_test c ≡ true → (outer : List Conditional) → decide branch (c ∷ outer) ≡ v ∷ outer) → drop place (set xs place v) ≡ decide branch (drop place xs)
+settles branch xs place c v is test k =
+    let one : place + 1 ≡ suc place = omega arith in
+    drop-set xs place v (place-within xs place c is)
+    ∙ ap (λ (n : ℕ). v ∷ drop n xs) one
+    ∙ sym (ap (decide branch) (drop-at xs place c is) ∙ k (stands-test xs place c is test) (drop (suc place) xs))
+
+pub settles-none : (branch : ℤ) (xs : List Conditional) (place : ℕ) → slice_get xs place ≡ None → drop place xs ≡ decide branch (drop place xs)
+settles-none branch xs place is =
+    let none : drop place xs ≡ [] = drop-past xs place is in
+    none ∙ sym (ap (decide branch) none)

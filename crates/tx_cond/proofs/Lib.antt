@@ -1,4 +1,5 @@
 pub mod Comparands
+pub mod FromInside
 pub mod Decided
 pub mod Skipped
 pub mod Lefts

@@ -1,10 +1,23 @@
-//! One open conditional: what its test and its words make of it.
-ghost use Rattle.std.specs.Prelude.{◌≡◌, ◌↔◌, IsTrue, Some, None, IfOk, IfErr, option_to_list};
-ghost use Rattle.tx_cond.specs.Conditionals.{is_test, skips, decided, behind_word};
+//! One open conditional: what its test and its words make of it, and how it is kept.
+ghost use Rattle.std.specs.Prelude.{◌≡◌, ◌∷◌, List, IsTrue, Some, None, IfOk, IfErr, option_to_list};
+ghost use Rattle.tx_cond.specs.declared.types.Conditional.{Conditional};
+ghost use Rattle.tx_cond.specs.Conditionals.{is_test, skips, decide, decided, behind_word};
 
 use crate::types::Conditional;
+use std::alloc::AllocError;
+use tx_list::Kept;
 use tx_prim::CondWord;
 use tx_seen::TexError;
+
+impl Kept for Conditional {
+    fn share(&self) -> Result<Self, AllocError> {
+        Ok(*self)
+    }
+
+    fn same(&self, other: &Self) -> bool {
+        *self == *other
+    }
+}
 
 impl Conditional {
     /// Whether its test is being scanned.
@@ -28,13 +41,6 @@ impl Conditional {
         }
     }
 
-    /// Whether both wait for the same.
-    pub(crate) fn same(self, other: Conditional) -> bool
-        ensures { IsTrue result ↔ (self ≡ other) }
-    {
-        self == other
-    }
-
     /// The conditional whose test has this value.
     pub(crate) fn with_value(cases: bool, branch: i64) -> Conditional
         ensures { result ≡ decided cases branch }
@@ -54,6 +60,20 @@ impl Conditional {
             }
         } else {
             Conditional::AwaitingElse { cases: true }
+        }
+    }
+
+    /// What it is once its test has this value; as it is where its test isn't being scanned.
+    pub(crate) fn settled(self, branch: i64) -> Conditional
+        ensures { IsTrue (is_test self) → (outer : List Conditional) → decide branch (self ∷ outer) ≡ result ∷ outer }
+    {
+        match self {
+            Conditional::Testing { cases } => Conditional::with_value(cases, branch),
+            Conditional::AwaitingOr { .. }
+            | Conditional::AwaitingElse { .. }
+            | Conditional::Live { .. }
+            | Conditional::Ending
+            | Conditional::LastBranch => self,
         }
     }
 
