@@ -1,4 +1,4 @@
-use Rattle.std.proofs.Common.{◌≡◌, ◌⊎◌, ⊎_elim, arith, rules}
+use Rattle.std.proofs.Common.{◌≡◌, ⊎_elim, arith, rules}
 use Rattle.tx_main.specs.Turns.{tex}
 use Rattle.tx_main.specs.Lawful.{tex-lawful}
 use Rattle.vortex_cmd.specs.declared.trouble.Trouble.TheVariants.{Memory, Source, Sink}
