@@ -1,5 +1,5 @@
 -- A value that is given where one token at most is held, the one that was taken last.
-use Rattle.std.proofs.Common.{◌≡◌, ◌≤◌, ◌+◌, ℕ, zero, suc, List, [], ◌∷◌, ◌++◌, length, refl, ap, sym, ◌∙◌, arith}
+use Rattle.std.proofs.Common.{◌≡◌, ◌≤◌, ◌+◌, ℕ, zero, suc, List, [], ◌∷◌, ◌++◌, length, Result, Ok, Err, IfOk, refl, ap, sym, ◌∙◌, arith}
 use Rattle.tx_seen.specs.declared.fed.Fed.{Fed}
 use Rattle.tx_seen.specs.declared.fed.Fed.TheVariants as fed
 use Rattle.tx_seen.specs.declared.fed.Value.{Value}
@@ -58,6 +58,10 @@ behind-answers rest held reading old new taken v t (fed.Done value back) h few l
 behind-answers rest held reading old new taken v t (fed.Wrong error) h few l k =
     let was : last (held old) taken ≡ kept (held old) t = last-kept (held old) taken t few l in
     λ more. taken-on rest held reading old taken (Gave v) more h ∙ (ap (λ (behind : List Item). rest old behind (Gave v) more) was ∙ k more)
+
+pub behind-answers-ok : {S A E : Type 0} (rest : Rest S A) (held : S → ℕ) (reading : List Item → Reading A) (old new : S) (taken : List Item) (v : Value) (t : Seen) (answer : Result (Fed A) E) → HasTakenBy rest held reading old taken → held old ≤ 1 → last 1 taken ≡ Took t ∷ [] → IfOk answer (IsGivenBehind rest held old v t new) → IfOk answer (Answers reading (HasTakenBy rest held reading) (taken ++ Gave v ∷ []) new)
+behind-answers-ok rest held reading old new taken v t (Ok answer) h few l k = behind-answers rest held reading old new taken v t answer h few l k
+behind-answers-ok rest held reading old new taken v t (Err e) h few l k = tt
 
 -- what holds its tokens on, or gives them back
 held-alike : {n m : ℕ} (t : Seen) → n ≡ m → m ≤ 1 → kept m t ≡ ending n (kept m t)

@@ -1,6 +1,9 @@
 //! Names of control sequences that are spelled out, token by token (TeX: The Program, section 372).
-ghost use Rattle.std.specs.Prelude.{◌≡◌, [], IfOk};
-ghost use Rattle.tx_scan.specs.ControlNames.{begun_name, HasTaken, IsFed};
+ghost use Rattle.std.specs.Prelude.{◌≡◌, ◌∷◌, ◌++◌, [], List, IfOk};
+ghost use Rattle.tx_seen.specs.declared.item.Item.{Item};
+ghost use Rattle.tx_seen.specs.declared.item.Item.TheVariants.{Took};
+ghost use Rattle.tx_seen.specs.Readings.{Answers};
+ghost use Rattle.tx_scan.specs.ControlNames.{control_name, begun_name, HasTaken, IsFed};
 ghost use Rattle.tx_scan.specs.ControlNames as names;
 ghost use Rattle.tx_scan.specs.GrammarRests.{held_none};
 ghost use Rattle.tx_scan.specs.Rests.{IsFedBy};
@@ -53,6 +56,7 @@ impl ControlNameScan {
     /// Takes one token, at first and after More; it needs no value. The answer is what reading gives of all that was taken:
     /// the name, or that a token is no character and doesn't mean \endcsname either. Its only error is want of memory.
     pub fn feed(&mut self, alloc: Global, token: &Seen) -> Result<Fed<ControlName>, AllocError>
+        ensures answer { (taken : List Item) → HasTaken self.old taken → IfOk result (Answers control_name HasTaken (taken ++ Took token.now ∷ []) self.new) }
         ensures part { IfOk result (IsFedBy names.rest held_none self.old token.now self.new) }
         ensures fed { IfOk result (IsFed self.old token.now self.new) }
         ensures nothing { IfOk result NeedsNothing }

@@ -1,5 +1,5 @@
 //! Dimensions, token by token (TeX: The Program, sections 448 to 458).
-ghost use Rattle.std.specs.Prelude.{◌≡◌, ◌≤◌, ◌≤ℤ◌, ◌∷◌, ◌&&◌, [], ℕ, pos, neg_ℤ, unsigned_abs, List, IfOk};
+ghost use Rattle.std.specs.Prelude.{◌≡◌, ◌≤◌, ◌≤ℤ◌, ◌∷◌, ◌++◌, ◌&&◌, [], ℕ, pos, neg_ℤ, unsigned_abs, List, IfOk};
 ghost use Rattle.tx_num.specs.Decimals.{fraction_of};
 ghost use Rattle.tx_num.specs.Fractions.{signed};
 ghost use Rattle.tx_num.specs.Units.{size_of};
@@ -7,12 +7,13 @@ ghost use Rattle.tx_seen.specs.Seen.{is_point};
 ghost use Rattle.tx_seen.specs.declared.item.Item.{Item};
 ghost use Rattle.tx_seen.specs.declared.item.Item.TheVariants.{Took, Gave};
 ghost use Rattle.tx_seen.specs.declared.seen.Seen.{Seen};
-ghost use Rattle.tx_seen.specs.Readings.{next};
-ghost use Rattle.tx_scan.specs.Dimensions.{ended_with, sized, in_mu, is_decimal, numbered_unit, quantified, spelled, unit_ended, unit_name};
+ghost use Rattle.tx_seen.specs.Readings.{Answers, next};
+ghost use Rattle.tx_scan.specs.Dimensions.{dimension, ended_with, sized, in_mu, is_decimal, numbered_unit, quantified, spelled, unit_ended, unit_name};
 ghost use Rattle.tx_scan.specs.Dimensions as spec;
 ghost use Rattle.tx_scan.specs.Dimensions.{True_unit};
 ghost use Rattle.tx_scan.specs.Integers.{given, integer, IsInRange};
 ghost use Rattle.tx_scan.specs.IntegerRests as integers;
+ghost use Rattle.tx_scan.specs.declared.scans.Units.{Units as Units_of_size};
 ghost use Rattle.tx_scan.specs.Rests.{IsFedBy, IsGivenBy, IsEnd};
 ghost use Rattle.tx_scan.specs.Supplied.{NeedsFewer, NeedsNoMore};
 ghost use Rattle.tx_scan.specs.DimensionRests.{count_held, HasTaken, IsFed, IsMeasuring, IsSize, IsUnit, begun_size, begun_size_behind, held, held_items, more_needed, name_ended, part_of, rest};
@@ -89,6 +90,7 @@ impl DimenScan {
     /// Takes one token, at first and after More. The answer is what reading gives of all that was taken. Its only error is
     /// want of memory.
     pub fn feed(&mut self, token: &Seen) -> Result<Fed<Measure>, AllocError>
+        ensures answer { (units : Units_of_size) → (taken : List Item) → HasTaken units self.old taken → IfOk result (Answers (dimension units) (HasTaken units) (taken ++ Took token.now ∷ []) self.new) }
         ensures part { IfOk result (IsFedBy rest held self.old token.now self.new) }
         ensures fed { IfOk result (IsFed self.old token.now self.new) }
         ensures size { IfOk result IsSize }
@@ -132,6 +134,16 @@ impl DimenScan {
     /// Takes the value that it needs. The answer is what reading gives of all that was taken. Its only error is want of
     /// memory.
     pub fn give(&mut self, value: &Value) -> Result<Fed<Measure>, AllocError>
+        ensures answer { (units : Units_of_size) → (taken : List Item) → HasTaken units self.old taken → IfOk result (Answers (dimension units) (HasTaken units) (taken ++ Gave value.now ∷ []) self.new) }
+        ensures part { IfOk result (IsGivenBy rest held self.old value.now self.new) }
+        ensures size { IfOk result IsSize }
+        ensures fewer { IfOk result (NeedsFewer (more_needed self.old) (more_needed self.new)) }
+    {
+        self.behind_value(value)
+    }
+
+    /// What it is behind a value. Its only error is want of memory.
+    fn behind_value(&mut self, value: &Value) -> Result<Fed<Measure>, AllocError>
         ensures part { IfOk result (IsGivenBy rest held self.old value.now self.new) }
         ensures size { IfOk result IsSize }
         ensures fewer { IfOk result (NeedsFewer (more_needed self.old) (more_needed self.new)) }

@@ -1,6 +1,9 @@
 //! Names of files, token by token (TeX: The Program, sections 511 to 531).
-ghost use Rattle.std.specs.Prelude.{◌≡◌, [], IfOk, OnOk};
-ghost use Rattle.tx_scan.specs.FileNames.{begun_file, has_dot, HasTaken, IsFed};
+ghost use Rattle.std.specs.Prelude.{◌≡◌, ◌∷◌, ◌++◌, [], List, IfOk, OnOk};
+ghost use Rattle.tx_seen.specs.declared.item.Item.{Item};
+ghost use Rattle.tx_seen.specs.declared.item.Item.TheVariants.{Took};
+ghost use Rattle.tx_seen.specs.Readings.{Answers};
+ghost use Rattle.tx_scan.specs.FileNames.{file_name, begun_file, has_dot, HasTaken, IsFed};
 ghost use Rattle.tx_scan.specs.FileNames as files;
 ghost use Rattle.tx_scan.specs.GrammarRests.{held_none};
 ghost use Rattle.tx_scan.specs.Rests.{IsFedBy};
@@ -52,6 +55,7 @@ impl FileNameScan {
     /// Takes one token, at first and after More; it needs no value. The answer is what reading gives of all that was taken:
     /// the name as it is written, which may be empty. Its only error is want of memory.
     pub fn feed(&mut self, token: &Seen) -> Result<Fed<Bytes>, AllocError>
+        ensures answer { (taken : List Item) → HasTaken self.old taken → IfOk result (Answers file_name HasTaken (taken ++ Took token.now ∷ []) self.new) }
         ensures part { IfOk result (IsFedBy files.rest held_none self.old token.now self.new) }
         ensures fed { IfOk result (IsFed self.old token.now self.new) }
         ensures nothing { IfOk result NeedsNothing }

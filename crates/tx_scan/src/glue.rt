@@ -1,7 +1,8 @@
 //! Glue, token by token (TeX: The Program, section 461).
-ghost use Rattle.std.specs.Prelude.{◌≡◌, ◌≤◌, ◌<◌, ◌≤ℤ◌, ◌+◌, ◌∷◌, ◌++◌, [], ℕ, pos, neg_ℤ, List, length, IfOk};
+ghost use Rattle.std.specs.Prelude.{◌≡◌, ◌≤◌, ◌<◌, ◌≤ℤ◌, ◌+◌, ◌∷◌, ◌++◌, [], Bool, ℕ, pos, neg_ℤ, List, length, IfOk};
 ghost use Rattle.tx_seen.specs.declared.item.Item.{Item};
-ghost use Rattle.tx_seen.specs.declared.item.Item.TheVariants.{Took};
+ghost use Rattle.tx_seen.specs.declared.item.Item.TheVariants.{Took, Gave};
+ghost use Rattle.tx_seen.specs.Readings.{Answers, last};
 ghost use Rattle.tx_scan.specs.Glues as spec;
 ghost use Rattle.tx_scan.specs.Mapped.{fed_if, settled};
 ghost use Rattle.tx_scan.specs.declared.scans.Beginning.TheVariants as begin;
@@ -48,6 +49,16 @@ impl GlueScan {
     /// Takes one token, at first and after More. The answer is what reading gives of all that was taken. Its only error is
     /// want of memory.
     pub fn feed(&mut self, token: &Seen) -> Result<Fed<Glue>, AllocError>
+        ensures answer { (mu : Bool) → (taken : List Item) → HasTaken mu self.old taken → IfOk result (Answers (spec.glue mu) (HasTaken mu) (taken ++ Took token.now ∷ []) self.new) }
+        ensures part { IfOk result (IsFedBy rest held self.old token.now self.new) }
+        ensures needed { IfOk result (NeedsNoMore (more_needed self.old) (more_needed self.new)) }
+        ensures waits { IfOk result (IsWaiting self.new) }
+    {
+        self.behind(token)
+    }
+
+    /// What it is behind one more token. Its only error is want of memory.
+    fn behind(&mut self, token: &Seen) -> Result<Fed<Glue>, AllocError>
         ensures part { IfOk result (IsFedBy rest held self.old token.now self.new) }
         ensures needed { IfOk result (NeedsNoMore (more_needed self.old) (more_needed self.new)) }
         ensures waits { IfOk result (IsWaiting self.new) }
@@ -67,6 +78,18 @@ impl GlueScan {
     /// Takes the value that a size needs, where this token was taken last. The answer is what reading gives of all that was
     /// taken. Its only error is want of memory.
     pub fn give(&mut self, value: &Value, behind: &Seen) -> Result<Fed<Glue>, AllocError>
+        requires sizing { IsSizing self.old.stage }
+        requires few { held self.old ≤ 1 }
+        ensures answer { (mu : Bool) → (taken : List Item) → HasTaken mu self.old taken → last 1 taken ≡ Took behind.now ∷ [] → IfOk result (Answers (spec.glue mu) (HasTaken mu) (taken ++ Gave value.now ∷ []) self.new) }
+        ensures given { IfOk result (IsGivenBehind rest held self.old value.now behind.now self.new) }
+        ensures fewer { IfOk result (NeedsFewer (more_needed self.old) (more_needed self.new)) }
+        ensures waits { IfOk result (IsWaiting self.new) }
+    {
+        self.behind_value(value, behind)
+    }
+
+    /// What it is behind a value. Its only error is want of memory.
+    fn behind_value(&mut self, value: &Value, behind: &Seen) -> Result<Fed<Glue>, AllocError>
         requires sizing { IsSizing self.old.stage }
         requires few { held self.old ≤ 1 }
         ensures given { IfOk result (IsGivenBehind rest held self.old value.now behind.now self.new) }

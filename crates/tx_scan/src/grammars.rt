@@ -1,9 +1,12 @@
 //! An optional equals sign, a begin-group token, a name and a font, token by token (TeX: The Program, sections 403 to 405, 577 and
 //! 1215).
-ghost use Rattle.std.specs.Prelude.{◌≡◌, [], IfOk};
+ghost use Rattle.std.specs.Prelude.{◌≡◌, ◌∷◌, ◌++◌, [], List, IfOk};
+ghost use Rattle.tx_seen.specs.declared.item.Item.{Item};
+ghost use Rattle.tx_seen.specs.declared.item.Item.TheVariants.{Took};
+ghost use Rattle.tx_seen.specs.Readings.{Answers};
 ghost use Rattle.tx_scan.specs.Grammars.{equals, left_brace, name};
-ghost use Rattle.tx_scan.specs.Rests.{HasTakenBy, IsFedBy};
-ghost use Rattle.tx_scan.specs.GrammarRests.{IsEqualsFed, IsBraceFed, IsFontFed, IsNameFed, equals_rest, brace_rest, font_rest, name_rest, held_none};
+ghost use Rattle.tx_scan.specs.Rests.{IsFedBy};
+ghost use Rattle.tx_scan.specs.GrammarRests.{HasTakenEquals, HasTakenBrace, HasTakenFont, HasTakenName, IsEqualsFed, IsBraceFed, IsFontFed, IsNameFed, equals_rest, brace_rest, font_rest, name_rest, held_none};
 ghost use Rattle.tx_scan.specs.FontNames.{font, place_of_font};
 ghost use Rattle.tx_scan.specs.Supplied.{NeedsNothing};
 
@@ -15,14 +18,24 @@ use tx_seen::{Fed, FontName, Place, Seen, TexError, Want};
 impl EqualsScan {
     /// The scan of an optional `=` of which nothing is read.
     pub fn new() -> EqualsScan
-        ensures { HasTakenBy equals_rest held_none equals result [] }
+        ensures { HasTakenEquals result [] }
     {
         EqualsScan {}
     }
 
-    /// Takes one token, at first and after More; it needs no value. The answer says what reading on gives.
+    /// Takes one token, at first and after More; it needs no value. The answer is what reading gives of all that was taken.
     pub fn feed(&mut self, token: &Seen) -> Fed<bool>
+        ensures answer { (taken : List Item) → HasTakenEquals self.old taken → Answers equals HasTakenEquals (taken ++ Took token.now ∷ []) self.new result }
+        ensures part { IsFedBy equals_rest held_none self.old token.now self.new result }
         ensures fed { IsEqualsFed self.new token.now result }
+        ensures nothing { NeedsNothing result }
+    {
+        self.behind(token)
+    }
+
+    /// What it is behind one more token.
+    fn behind(&self, token: &Seen) -> Fed<bool>
+        ensures fed { IsEqualsFed self.now token.now result }
         ensures nothing { NeedsNothing result }
     {
         if token.is_undefined() {
@@ -42,14 +55,24 @@ impl EqualsScan {
 impl BraceScan {
     /// The scan of a begin-group token of which nothing is read.
     pub fn new() -> BraceScan
-        ensures { HasTakenBy brace_rest held_none left_brace result [] }
+        ensures { HasTakenBrace result [] }
     {
         BraceScan {}
     }
 
-    /// Takes one token, at first and after More; it needs no value. The answer says what reading on gives.
+    /// Takes one token, at first and after More; it needs no value. The answer is what reading gives of all that was taken.
     pub fn feed(&mut self, token: &Seen) -> Fed<()>
+        ensures answer { (taken : List Item) → HasTakenBrace self.old taken → Answers left_brace HasTakenBrace (taken ++ Took token.now ∷ []) self.new result }
+        ensures part { IsFedBy brace_rest held_none self.old token.now self.new result }
         ensures fed { IsBraceFed self.new token.now result }
+        ensures nothing { NeedsNothing result }
+    {
+        self.behind(token)
+    }
+
+    /// What it is behind one more token.
+    fn behind(&self, token: &Seen) -> Fed<()>
+        ensures fed { IsBraceFed self.now token.now result }
         ensures nothing { NeedsNothing result }
     {
         if token.is_undefined() {
@@ -69,15 +92,25 @@ impl BraceScan {
 impl NameScan {
     /// The scan of a name of which nothing is read.
     pub fn new() -> NameScan
-        ensures { HasTakenBy name_rest held_none name result [] }
+        ensures { HasTakenName result [] }
     {
         NameScan {}
     }
 
-    /// Takes one token, at first and after More; it needs no value. The answer says what reading on gives: the place where the
-    /// name's meaning stands. Its only error is that no more owners of a name can be counted.
+    /// Takes one token, at first and after More; it needs no value. The answer is what reading gives of all that was taken:
+    /// the place where the name's meaning stands. Its only error is that no more owners of a name can be counted.
     pub fn feed(&mut self, token: &Seen) -> Result<Fed<Place>, AllocError>
+        ensures answer { (taken : List Item) → HasTakenName self.old taken → IfOk result (Answers name HasTakenName (taken ++ Took token.now ∷ []) self.new) }
+        ensures part { IfOk result (IsFedBy name_rest held_none self.old token.now self.new) }
         ensures fed { IfOk result (IsNameFed self.new token.now) }
+        ensures nothing { IfOk result NeedsNothing }
+    {
+        self.behind(token)
+    }
+
+    /// What it is behind one more token. Its only error is that no more owners of a name can be counted.
+    fn behind(&self, token: &Seen) -> Result<Fed<Place>, AllocError>
+        ensures fed { IfOk result (IsNameFed self.now token.now) }
         ensures nothing { IfOk result NeedsNothing }
     {
         match &token.token {
@@ -94,13 +127,14 @@ impl NameScan {
 impl FontScan {
     /// The scan of a font of which nothing is read.
     pub fn new() -> FontScan
-        ensures { HasTakenBy font_rest held_none font result [] }
+        ensures { HasTakenFont result [] }
     {
         FontScan {}
     }
 
-    /// Takes one token, at first and after More; it needs no value. The answer says what reading on gives.
+    /// Takes one token, at first and after More; it needs no value. The answer is what reading gives of all that was taken.
     pub fn feed(&mut self, token: &Seen) -> Fed<FontName>
+        ensures answer { (taken : List Item) → HasTakenFont self.old taken → Answers font HasTakenFont (taken ++ Took token.now ∷ []) self.new result }
         ensures part { IsFedBy font_rest held_none self.old token.now self.new result }
         ensures fed { IsFontFed self.new token.now result }
         ensures nothing { NeedsNothing result }

@@ -1,8 +1,11 @@
 //! Keywords, token by token (TeX: The Program, section 407).
-ghost use Rattle.std.specs.Prelude.{◌≡◌, ◌↔◌, ◌<◌, ◌≤◌, ◌+◌, length, ◌^◌, ◌∷◌, [], ℕ, List, drop, IfSome, IsTrue, MatchOption};
+ghost use Rattle.std.specs.Prelude.{◌≡◌, ◌↔◌, ◌<◌, ◌≤◌, ◌+◌, length, ◌^◌, ◌∷◌, ◌++◌, [], ℕ, List, drop, IfSome, IsTrue, MatchOption};
+ghost use Rattle.tx_seen.specs.declared.item.Item.{Item};
+ghost use Rattle.tx_seen.specs.declared.item.Item.TheVariants.{Took};
+ghost use Rattle.tx_seen.specs.Readings.{Answers};
 ghost use Rattle.tx_scan.specs.Rests.{IsFedBy};
 ghost use Rattle.tx_scan.specs.Supplied.{NeedsNothing};
-ghost use Rattle.tx_scan.specs.Keywords.{begun_word, skips, HasTaken, IsGone, IsReadOn, IsSpelled};
+ghost use Rattle.tx_scan.specs.Keywords.{keyword, begun_word, skips, HasTaken, IsGone, IsReadOn, IsSpelled};
 ghost use Rattle.tx_scan.specs.Keywords as words;
 
 use crate::scans::KeyScan;
@@ -25,8 +28,20 @@ impl KeyScan {
     }
 
     /// Takes one token of this word of small letters, the same each time, at first and after More; a word needs no value. The
-    /// answer says what reading on gives.
+    /// answer is what reading gives of all that was taken.
     pub fn feed(&mut self, word: &[u8], token: &Seen) -> Fed<bool>
+        ensures answer { (taken : List Item) → HasTaken word.now self.old taken → Answers (keyword word.now) (HasTaken word.now) (taken ++ Took token.now ∷ []) self.new result }
+        ensures part { IsFedBy (words.rest word.now) words.held self.old token.now self.new result }
+        ensures nothing { NeedsNothing result }
+        ensures reading { self.old.read < length word.now → IsReadOn word.now self.new result }
+        ensures gone { IsGone word.now self.old token.now self.new result }
+        ensures spelled { IsSpelled word.now self.old token.now self.new result }
+    {
+        self.behind(word, token)
+    }
+
+    /// What it is behind one more token.
+    fn behind(&mut self, word: &[u8], token: &Seen) -> Fed<bool>
         ensures part { IsFedBy (words.rest word.now) words.held self.old token.now self.new result }
         ensures nothing { NeedsNothing result }
         ensures reading { self.old.read < length word.now → IsReadOn word.now self.new result }

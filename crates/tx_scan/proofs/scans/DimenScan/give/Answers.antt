@@ -1,13 +1,8 @@
-use Rattle.tx_scan.proofs.FontUnits.{font-given}
-use Rattle.tx_scan.proofs.Mathematical.{mu-given}
+use Rattle.tx_scan.specs.Dimensions.{dimension}
+use Rattle.tx_scan.specs.DimensionRests.{rest, held}
+use Rattle.tx_scan.proofs.Answering.{given-answers-ok}
 use Rattle.tx_scan.proofs.scans.DimenScan.give.Goals as goal
 
-pub returns-in-Mathematical-clause-part : goal.returns-in-Mathematical-clause-part
-returns-in-Mathematical-clause-part c =
-    mu-given c.args.self.now c.give-fed.new.self c.in-Mathematical.amount c.args.value.now c.give-fed.result c.mathematical.result
-    c.in-Mathematical.is c.give-fed.ensures.part c.mathematical.ensures.answer
-
-pub returns-in-FontUnit-clause-part : goal.returns-in-FontUnit-clause-part
-returns-in-FontUnit-clause-part c =
-    font-given c.args.self.now c.args.self.now c.in-FontUnit.whole c.in-FontUnit.field-1 c.in-FontUnit.held c.args.value.now c.give_font_unit.result
-    c.in-FontUnit.is c.give_font_unit.ensures.end
+pub returns-clause-answer : goal.returns-clause-answer
+returns-clause-answer c = λ units taken h.
+    given-answers-ok rest held (dimension units) c.args.self.now c.behind_value.new.self taken c.args.value.now c.behind_value.result h c.behind_value.ensures.part

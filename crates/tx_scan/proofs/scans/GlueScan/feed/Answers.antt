@@ -1,12 +1,8 @@
-use Rattle.tx_scan.proofs.GlueBegins.{internal-fed, internal-waits}
+use Rattle.tx_scan.specs.Glues.{glue}
+use Rattle.tx_scan.specs.GlueRests.{rest, held}
+use Rattle.tx_scan.proofs.Answering.{fed-answers-ok}
 use Rattle.tx_scan.proofs.scans.GlueScan.feed.Goals as goal
 
-pub returns-in_ok-fed-in-Quantity-clause-part : goal.returns-in_ok-fed-in-Quantity-clause-part
-returns-in_ok-fed-in-Quantity-clause-part c =
-    internal-fed c.args.self.now c.feed.new.self c.in-Quantity.negative c.args.token.now c.in_ok-fed-in-Quantity.fed c.internal.result
-    c.in-Quantity.is c.in_ok-fed-in-Quantity.ensures.part c.internal.ensures
-
-pub returns-in_ok-fed-in-Quantity-clause-waits : goal.returns-in_ok-fed-in-Quantity-clause-waits
-returns-in_ok-fed-in-Quantity-clause-waits c =
-    internal-waits c.args.self.now c.feed.new.self c.in-Quantity.negative c.args.token.now c.in_ok-fed-in-Quantity.fed c.internal.result
-    c.in-Quantity.is c.in_ok-fed-in-Quantity.ensures.fed c.internal.ensures
+pub returns-clause-answer : goal.returns-clause-answer
+returns-clause-answer c = λ mu taken h.
+    fed-answers-ok rest held (glue mu) c.args.self.now c.behind.new.self taken c.args.token.now c.behind.result h c.behind.ensures.part
