@@ -3,14 +3,14 @@ use Rattle.std.proofs.Common.{◌≡◌, ◌≤◌, ◌+◌, ℕ, zero, suc, ℤ
 use Rattle.tx_seen.specs.declared.place.Place.{Place}
 use Rattle.tx_seen.specs.declared.seen.Seen.{Seen}
 use Rattle.tx_seen.specs.declared.item.Item.{Item}
-use Rattle.tx_seen.specs.declared.item.Item.TheVariants.{Took}
+use Rattle.tx_seen.specs.declared.item.Item.TheVariants.{Took, Gave}
 use Rattle.tx_seen.specs.declared.fed.Fed.{Fed}
 use Rattle.tx_seen.specs.declared.fed.Fed.TheVariants as fed
 use Rattle.tx_prim.specs.declared.family.Numbered.{Numbered}
 use Rattle.tx_prim.specs.declared.family.Operation.{Operation}
 use Rattle.tx_seen.specs.Places.{is_muglue, place_of}
 use Rattle.tx_seen.specs.Seen.{is_undefined}
-use Rattle.tx_seen.specs.Readings.{Reading, Done, next, ending}
+use Rattle.tx_seen.specs.Readings.{Answers, Reading, Done, next, ending, last}
 use Rattle.tx_scan.specs.declared.scans.IntScan.{IntScan}
 use Rattle.tx_scan.specs.declared.scans.DimenScan.{DimenScan}
 use Rattle.tx_scan.specs.declared.scans.GlueScan.{GlueScan}
@@ -22,20 +22,21 @@ use Rattle.tx_scan.specs.IntegerRests as integers
 use Rattle.tx_scan.specs.DimensionRests as sizes
 use Rattle.tx_scan.specs.Glues.{glue}
 use Rattle.tx_scan.specs.GlueRests as glues
-use Rattle.tx_scan.proofs.Answering.{answer-part, ending-all, fed-part, same-answer}
-use Rattle.tx_scan.proofs.Behind.{given-behind, read-one}
+use Rattle.tx_scan.proofs.Answering.{answer-part, ending-all, fed-answers, fed-part, same-answer}
+use Rattle.tx_scan.proofs.Behind.{behind-answers, given-behind, read-one}
 use Rattle.tx_scan.proofs.Mappings.{same-read}
 use Rattle.tx_assign.specs.declared.scan.AssignScan.{AssignScan}
 use Rattle.tx_assign.specs.declared.scan.AssignStage.{AssignStage}
 use Rattle.tx_assign.specs.declared.scan.AssignStage.TheVariants as stage
+use Rattle.tx_assign.specs.declared.types.Assigning.{Assigning}
 use Rattle.tx_assign.specs.declared.types.Assignment.{Assignment}
 use Rattle.tx_assign.specs.declared.types.Purpose.{Purpose}
 use Rattle.tx_assign.specs.declared.types.Variable.{Variable}
 use Rattle.tx_assign.specs.declared.types.Variable.TheVariants.{Standing}
 use Rattle.tx_assign.specs.Beginnings.{variable_of, is_changeable}
 use Rattle.tx_assign.specs.Targets.{takes_glue, takes_list, takes_size}
-use Rattle.tx_assign.specs.Assignments.{arithmetic, behind_number, behind_place, elastic, left_side, list_value, number_value, sized, value, valued}
-use Rattle.tx_assign.specs.Rests.{rest, held, made, told, IsAssigning, IsBehind, IsFed, IsGiven, IsSeldom}
+use Rattle.tx_assign.specs.Assignments.{arithmetic, assignment, behind_number, behind_place, elastic, left_side, list_value, number_value, sized, value, valued}
+use Rattle.tx_assign.specs.Rests.{rest, held, made, told, HasTaken, IsAssigning, IsBehind, IsFed, IsGiven, IsSeldom}
 
 -- what a stage reads of a token is what reading on gives
 pub fed-at : {E : Type 0} (few : ℕ) (reading : List Item → Reading Assignment) (old new : AssignScan) (t : Seen) (answer : Result (Fed (Unit {0})) E) → few ≤ 1 → ((behind more : List Item) → rest old behind (Took t) more ≡ reading more) → IfOk answer (IsAssigning few reading t new) → IfOk answer (IsFed old t new)
@@ -134,6 +135,15 @@ operand-side operation side t new answer u v h k =
 pub given-behind-ok : {E : Type 0} (old new : AssignScan) (v : Value) (t : Seen) (answer : Result (Fed (Unit {0})) E) → held old ≤ 1 → IfOk answer (λ a. IsGivenBy rest held old v new (told new a)) → IfOk answer (IsGiven old v t new)
 given-behind-ok old new v t (Ok answer) h k = given-behind rest held old new v t (told new answer) h k
 given-behind-ok old new v t (Err e) h k = tt
+
+-- the answer, with what the scan has made, is what reading gives of all that was taken
+pub took-answers : {E : Type 0} (assigning : Assigning) (old new : AssignScan) (taken : List Item) (t : Seen) (answer : Result (Fed (Unit {0})) E) → HasTaken assigning old taken → IfOk answer (IsFed old t new) → IfOk answer (λ fed. Answers (assignment assigning) (HasTaken assigning) (taken ++ Took t ∷ []) new (told new fed))
+took-answers assigning old new taken t (Ok answer) h k = fed-answers rest held (assignment assigning) old new taken t (told new answer) h k
+took-answers assigning old new taken t (Err e) h k = tt
+
+pub gave-answers : {E : Type 0} (assigning : Assigning) (old new : AssignScan) (taken : List Item) (v : Value) (t : Seen) (answer : Result (Fed (Unit {0})) E) → HasTaken assigning old taken → held old ≤ 1 → last 1 taken ≡ Took t ∷ [] → IfOk answer (IsGiven old v t new) → IfOk answer (λ fed. Answers (assignment assigning) (HasTaken assigning) (taken ++ Gave v ∷ []) new (told new fed))
+gave-answers assigning old new taken v t (Ok answer) h few l k = behind-answers rest held (assignment assigning) old new taken v t (told new answer) h few l k
+gave-answers assigning old new taken v t (Err e) h few l k = tt
 
 -- a stage that few tokens meet
 pub seldom : (s : AssignStage) → ((kind : Numbered) (operation : Option Operation) → s ≡ stage.Number kind operation → ⊥) → ((purpose : Purpose) → s ≡ stage.Equals purpose → ⊥) → ((purpose : Purpose) → s ≡ stage.Integer purpose → ⊥) → IsSeldom s

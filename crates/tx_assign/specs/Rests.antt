@@ -11,7 +11,7 @@ use Rattle.tx_seen.specs.declared.fed.Value.{Value}
 use Rattle.tx_seen.specs.Readings.{Reading, Wrong, next}
 use Rattle.tx_scan.specs.Grammars.{name}
 use Rattle.tx_scan.specs.Mapped.{mapped}
-use Rattle.tx_scan.specs.Rests.{IsAnswer, IsFedBy, IsGivenBehind, IsRead}
+use Rattle.tx_scan.specs.Rests.{HasTakenBy, IsAnswer, IsFedBy, IsGivenBehind, IsRead}
 use Rattle.tx_scan.specs.IntegerRests as integers
 use Rattle.tx_scan.specs.Dimensions.{lengths}
 use Rattle.tx_scan.specs.DimensionRests as sizes
@@ -77,6 +77,10 @@ stage_needed _ scan = integers.waiting scan.integer
 
 abbrev pub more_needed : AssignScan → ℕ
 more_needed scan = stage_needed scan.stage scan
+
+-- the scan that has taken these items reads on as the assignment that begins with them
+abbrev pub HasTaken : Assigning → AssignScan → List Item → Type 0
+HasTaken assigning scan taken = HasTakenBy rest held (assignment assigning) scan taken
 
 -- a scan of which nothing is read
 abbrev pub IsBegun : Assigning → AssignScan → Type 0

@@ -1,8 +1,13 @@
 //! The values that an assignment needs while it is read.
-ghost use Rattle.std.specs.Prelude.{◌≡◌, ◌≤◌, IfOk};
+ghost use Rattle.std.specs.Prelude.{◌≡◌, ◌≤◌, ◌∷◌, ◌++◌, [], List, IfOk};
+ghost use Rattle.tx_seen.specs.declared.item.Item.{Item};
+ghost use Rattle.tx_seen.specs.declared.item.Item.TheVariants.{Gave, Took};
+ghost use Rattle.tx_seen.specs.Readings.{Answers, last};
 ghost use Rattle.tx_scan.specs.Rests.{IsGivenBy};
 ghost use Rattle.tx_scan.specs.Supplied.{NeedsFewer};
-ghost use Rattle.tx_assign.specs.Rests.{IsGiven, IsWaiting, WaitsIfNeeded, held, more_needed, rest, told};
+ghost use Rattle.tx_assign.specs.Assignments.{assignment};
+ghost use Rattle.tx_assign.specs.declared.types.Assigning.{Assigning};
+ghost use Rattle.tx_assign.specs.Rests.{HasTaken, IsGiven, IsWaiting, WaitsIfNeeded, held, more_needed, rest, told};
 
 use crate::scan::{AssignScan, AssignStage};
 use crate::types::Purpose;
@@ -11,9 +16,21 @@ use tx_prim::{Numbered, Operation};
 use tx_seen::{Fed, Seen, TexError, Value};
 
 impl AssignScan {
-    /// Takes the value that it needs, where this token was taken last. The answer, with what the scan has made, says what reading
-    /// on gives. Its only error is want of memory.
+    /// Takes the value that it needs, where this token was taken last. The answer, with what the scan has made, is what reading
+    /// gives of all that was taken. Its only error is want of memory.
+    #[inline(always)]
     pub fn give(&mut self, value: &Value, behind: &Seen) -> Result<Fed<()>, AllocError>
+        requires waits { IsWaiting self.old }
+        ensures answer { (assigning : Assigning) → (taken : List Item) → HasTaken assigning self.old taken → last 1 taken ≡ Took behind.now ∷ [] → IfOk result (λ fed. Answers (assignment assigning) (HasTaken assigning) (taken ++ Gave value.now ∷ []) self.new (told self.new fed)) }
+        ensures part { IfOk result (IsGiven self.old value.now behind.now self.new) }
+        ensures fewer { IfOk result (NeedsFewer (more_needed self.old) (more_needed self.new)) }
+        ensures waits { IfOk result (WaitsIfNeeded self.new) }
+    {
+        self.behind_value(value, behind)
+    }
+
+    /// What it is behind a value. Its only error is want of memory.
+    fn behind_value(&mut self, value: &Value, behind: &Seen) -> Result<Fed<()>, AllocError>
         requires waits { IsWaiting self.old }
         ensures part { IfOk result (IsGiven self.old value.now behind.now self.new) }
         ensures fewer { IfOk result (NeedsFewer (more_needed self.old) (more_needed self.new)) }

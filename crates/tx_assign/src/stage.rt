@@ -1,11 +1,14 @@
 //! Assignments, token by token (The TeXbook, chapter 24; TeX: The Program, part 49).
-ghost use Rattle.std.specs.Prelude.{◌≡◌, ◌≤◌, ◌∷◌, Some, None, IfOk};
+ghost use Rattle.std.specs.Prelude.{◌≡◌, ◌≤◌, ◌∷◌, ◌++◌, [], List, Some, None, IfOk};
+ghost use Rattle.tx_seen.specs.declared.item.Item.{Item};
 ghost use Rattle.tx_seen.specs.declared.item.Item.TheVariants.{Took};
 ghost use Rattle.tx_seen.specs.declared.seen.Seen.{Seen};
+ghost use Rattle.tx_seen.specs.Readings.{Answers};
 ghost use Rattle.tx_scan.specs.Supplied.{NeedsNoMore};
 ghost use Rattle.tx_scan.specs.IntegerRests.{begun_integer, waiting};
-ghost use Rattle.tx_assign.specs.Assignments.{arithmetic, behind_place, given, left_side};
-ghost use Rattle.tx_assign.specs.Rests.{IsAssigning, IsBegun, IsBehind, IsFed, IsSeldom, WaitsIfNeeded, by_rest, made, more_needed, no_assignment};
+ghost use Rattle.tx_assign.specs.Assignments.{assignment, arithmetic, behind_place, given, left_side};
+ghost use Rattle.tx_assign.specs.declared.types.Assigning.{Assigning};
+ghost use Rattle.tx_assign.specs.Rests.{HasTaken, IsAssigning, IsBegun, IsBehind, IsFed, IsSeldom, WaitsIfNeeded, by_rest, made, more_needed, no_assignment, told};
 
 use crate::scan::{AssignScan, AssignStage};
 use crate::types::{Assigning, Assignment, Change, Purpose, Variable};
@@ -40,6 +43,7 @@ impl AssignScan {
     /// Begins the assignment behind this command, in the memory that the scan has; what was read before is forgotten.
     pub fn begin(&mut self, assigning: Assigning)
         ensures begun { IsBegun assigning self.new }
+        ensures taken { HasTaken assigning self.new [] }
         ensures needed { more_needed self.new ≤ 1 }
     {
         match assigning {
@@ -57,6 +61,7 @@ impl AssignScan {
     /// Begins the assignment to this left side, in the memory that the scan has.
     pub fn begin_variable(&mut self, variable: Variable)
         ensures begun { IsBegun (Assigning.Variable variable) self.new }
+        ensures taken { HasTaken (Assigning.Variable variable) self.new [] }
         ensures needed { more_needed self.new ≤ 1 }
     {
         match variable {
@@ -74,9 +79,20 @@ impl AssignScan {
         self.integer.restart();
     }
 
-    /// Takes one token, at first and after More. The answer, with what the scan has made, says what reading on gives. Its only
-    /// error is want of memory.
+    /// Takes one token, at first and after More. The answer, with what the scan has made, is what reading gives of all that was
+    /// taken. Its only error is want of memory.
+    #[inline(always)]
     pub fn feed(&mut self, token: &Seen) -> Result<Fed<()>, AllocError>
+        ensures answer { (assigning : Assigning) → (taken : List Item) → HasTaken assigning self.old taken → IfOk result (λ fed. Answers (assignment assigning) (HasTaken assigning) (taken ++ Took token.now ∷ []) self.new (told self.new fed)) }
+        ensures part { IfOk result (IsFed self.old token.now self.new) }
+        ensures needed { IfOk result (NeedsNoMore (more_needed self.old) (more_needed self.new)) }
+        ensures waits { IfOk result (WaitsIfNeeded self.new) }
+    {
+        self.behind(token)
+    }
+
+    /// What it is behind one more token. Its only error is want of memory.
+    fn behind(&mut self, token: &Seen) -> Result<Fed<()>, AllocError>
         ensures part { IfOk result (IsFed self.old token.now self.new) }
         ensures needed { IfOk result (NeedsNoMore (more_needed self.old) (more_needed self.new)) }
         ensures waits { IfOk result (WaitsIfNeeded self.new) }
