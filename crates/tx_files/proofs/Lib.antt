@@ -1,2 +1,4 @@
 mod FilesOf
 pub mod Restored
+pub mod Changing
+mod Copied

@@ -2,5 +2,8 @@ pub mod Names
 pub mod Lines
 pub mod Entries
 pub mod Edits
+pub mod Changes
+pub mod TakenBack
 pub mod Reads
 pub mod Shift
+pub mod Carry

@@ -1,9 +1,13 @@
--- What a stretch of a run reads of each file, and which edits can't change that.
+-- What a stretch of a run reads of each file, and which changes leave that as it is.
 use Rattle.std.specs.Prelude.{ℕ, Bool, true, false, ◌||◌, List, nat_le, max, Option, Some, None, fold}
+use Rattle.std.specs.List.{list_all, list_any}
 use Rattle.std.specs.Ordering.{nat_cmp}
 use Rattle.std.specs.Cmp.Lexicographic.{slice_cmp}
 use Rattle.std.specs.FinMap.{FinMap, get, insert, empty}
-use Rattle.tx_files.specs.declared.edit.Edit.{Edit}
+use Rattle.tx_files.specs.Changes.{name_of}
+use Rattle.tx_files.specs.declared.edit.Edit.{Edit as FileEdit}
+use Rattle.tx_files.specs.declared.edit.Change.{Change}
+use Rattle.tx_files.specs.declared.edit.Change.TheVariants.{Edit, Remove}
 use Rattle.tx_files.specs.declared.reads.Sight.{Sight}
 use Rattle.tx_files.specs.declared.reads.Sight.TheVariants.{Absent as NotThere, Opened, Line, End, Whole as Taken}
 use Rattle.tx_files.specs.declared.reads.Extent.{Extent}
@@ -69,8 +73,22 @@ leaves None place = true
 leaves (Some reads) place = lies_before reads.extent place
 
 -- whether an edit leaves what was read as it is: its file wasn't seen, or was read up to the edit's place at most
-abbrev pub untouched : Reads → Edit → Bool
-untouched reads e = leaves (get reads e.name) e.place
+abbrev pub untouched_by_edit : Reads → FileEdit → Bool
+untouched_by_edit reads e = leaves (get reads e.name) e.place
+
+-- whether a file wasn't seen
+abbrev pub is_unseen : Option FileReads → Bool
+is_unseen None = true
+is_unseen (Some reads) = false
+
+-- whether a change leaves what was read as it is: to take a file away does exactly where it wasn't seen
+abbrev pub untouched_by : Reads → Change → Bool
+untouched_by reads (Edit e) = untouched_by_edit reads e
+untouched_by reads (Remove name) = is_unseen (get reads name)
+
+-- whether each change of a list does
+abbrev pub untouched : Reads → List Change → Bool
+untouched reads changes = list_all (λ c. untouched_by reads c) changes
 
 -- whether a file was asked for by its name, to be opened or taken whole
 abbrev pub was_asked : Option FileReads → Bool
@@ -79,3 +97,7 @@ was_asked (Some reads) = reads.asked
 
 abbrev pub asks_for : Reads → List ℕ → Bool
 asks_for reads name = was_asked (get reads name)
+
+-- whether one of the files that are changed was
+abbrev pub asks_for_any : Reads → List Change → Bool
+asks_for_any reads changes = list_any (λ c. asks_for reads (name_of c)) changes

@@ -1,5 +1,6 @@
 //! Edits of files, and how they are taken back.
 ghost use Rattle.std.specs.Prelude.{◌≡◌};
+ghost use Rattle.tx_files.specs.declared.edit.BatchRefusal.TheVariants as batch;
 ghost use Rattle.tx_files.specs.declared.edit.Refusal.TheVariants.{OutOfMemory};
 
 use crate::name::Name;
@@ -15,6 +16,29 @@ pub struct Edit {
     pub place: u64,
     pub removed: u64,
     pub put: Bytes,
+}
+
+/// A clone is the same edit. Its only error is want of memory.
+impl Clone for Edit {
+    ghost is_clone = { λ source copy. copy ≡ source };
+
+    fn clone(&self) -> Result<Self, AllocError> {
+        Ok(Edit {
+            name: self.name.clone()?,
+            place: self.place,
+            removed: self.removed,
+            put: self.put.clone()?,
+        })
+    }
+}
+
+/// A change of a set of files.
+#[derive(Drop)]
+pub enum Change {
+    /// A file is edited.
+    Edit(Edit),
+    /// The file of this name is taken away; where there is none, nothing changes.
+    Remove(Name),
 }
 
 /// How an edit that was made is taken back: what its file held before.
@@ -44,5 +68,25 @@ impl From<AllocError> for Refusal {
 
     fn from(_: AllocError) -> Refusal {
         Refusal::OutOfMemory
+    }
+}
+
+/// Why a list of changes wasn't made. Nothing has changed then.
+#[derive(Clone, Copy, Debug, Error)]
+pub enum BatchRefusal {
+    /// The change of this number, counted from 1, goes past the end of its file, which has `len` bytes as the changes before
+    /// it leave it; an absent file has none.
+    #[error("change {index} outside, file has {len} bytes")]
+    Outside { index: u64, len: u64 },
+    /// There was no memory left.
+    #[error("out of memory")]
+    OutOfMemory,
+}
+
+impl From<AllocError> for BatchRefusal {
+    ghost from_gives = { λ _ e. e ≡ batch.OutOfMemory };
+
+    fn from(_: AllocError) -> BatchRefusal {
+        BatchRefusal::OutOfMemory
     }
 }

@@ -184,8 +184,17 @@ impl FileSet {
         }
     }
 
+    /// A copy of all files. Its only error is want of memory.
+    pub(crate) fn copied(&self) -> Result<FileSet, AllocError>
+        ensures { IfOk result (λ copy. copy ≡ self.now) }
+    {
+        Ok(FileSet {
+            files: self.files.clone()?,
+        })
+    }
+
     /// Takes the file of this name away, and answers what it held; takes no memory.
-    fn remove(&mut self, name: &[u8]) -> Option<Bytes>
+    pub(crate) fn remove(&mut self, name: &[u8]) -> Option<Bytes>
         ensures { self.new ≡ remove self.old name.now }
     {
         self.files.swap_remove(name)

@@ -1,12 +1,13 @@
 //! What a run saw of files.
 ghost use Rattle.std.specs.Prelude.{◌≡◌, true, false, ℕ, List, OnOk, OnErr};
 ghost use Rattle.std.specs.FinMap.{empty, get};
+ghost use Rattle.tx_files.specs.Changes.{name_of};
 ghost use Rattle.tx_files.specs.Reads as reads;
 ghost use Rattle.tx_files.specs.Reads.{noted, seen_more, lies_before, leaves, was_asked};
 ghost use Rattle.tx_files.specs.Shift.{CanShiftExtent, CanShiftReads, shifted_extent};
 ghost use Rattle.tx_files.specs.Shift as shift;
 
-use crate::edit::Edit;
+use crate::edit::{Change, Edit};
 use crate::reads::{Extent, FileReads, Sight};
 use indexmap::IndexMap;
 use std::alloc::{AllocError, Global};
@@ -188,9 +189,8 @@ impl Seen {
 }
 
 /// Whether an edit leaves all that was read as it is: its file wasn't seen, or was read up to the edit's place at most.
-/// It takes no memory.
-pub fn untouched(seen: &Seen, e: &Edit) -> bool
-    ensures { result ≡ reads.untouched seen.now e.now }
+fn untouched_by_edit(seen: &Seen, e: &Edit) -> bool
+    ensures { result ≡ reads.untouched_by_edit seen.now e.now }
 {
     if seen.is_before(e.place) {
         return true;
@@ -199,6 +199,33 @@ pub fn untouched(seen: &Seen, e: &Edit) -> bool
         None => true,
         Some(reads) => lies_before(reads.extent, e.place),
     }
+}
+
+/// Whether the file of this name wasn't seen.
+fn is_unseen(seen: &Seen, name: &[u8]) -> bool
+    ensures { result ≡ reads.is_unseen (get seen.now name.now) }
+{
+    match seen.get(name) {
+        None => true,
+        Some(_) => false,
+    }
+}
+
+/// Whether a change leaves all that was read as it is; to take a file away does so where the file wasn't seen.
+fn untouched_by(seen: &Seen, change: &Change) -> bool
+    ensures { result ≡ reads.untouched_by seen.now change.now }
+{
+    match change {
+        Change::Edit(e) => untouched_by_edit(seen, e),
+        Change::Remove(name) => is_unseen(seen, name.as_slice()),
+    }
+}
+
+/// Whether each of these changes leaves all that was read as it is. It takes no memory.
+pub fn untouched(seen: &Seen, changes: &[Change]) -> bool
+    ensures { result ≡ reads.untouched seen.now changes.now }
+{
+    changes.iter().all(|change| untouched_by(seen, change))
 }
 
 /// Whether this file was asked for by its name, to be opened or taken whole. It takes no memory.
@@ -212,4 +239,18 @@ pub fn asks_for(seen: &Seen, name: &[u8]) -> bool
         None => false,
         Some(reads) => reads.asked,
     }
+}
+
+/// Whether the file that is changed was asked for by its name.
+fn asks_for_changed(seen: &Seen, change: &Change) -> bool
+    ensures { result ≡ reads.asks_for seen.now (name_of change.now) }
+{
+    asks_for(seen, change.name().as_slice())
+}
+
+/// Whether one of the files that are changed was asked for by its name, to be opened or taken whole. It takes no memory.
+pub fn asks_for_any(seen: &Seen, changes: &[Change]) -> bool
+    ensures { result ≡ reads.asks_for_any seen.now changes.now }
+{
+    changes.iter().any(|change| asks_for_changed(seen, change))
 }
