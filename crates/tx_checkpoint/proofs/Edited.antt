@@ -8,7 +8,8 @@ use Rattle.std.proofs.lemmas.Bool.{leb-true}
 use Rattle.std.proofs.lemmas.Map.Text.{is_eq-slice_cmp}
 use Rattle.std.proofs.lemmas.List.{take-append-drop, take-append-le}
 use Rattle.tx_bytes.specs.Files.{Files, content}
-use Rattle.tx_files.specs.declared.edit.Edit.{Edit}
+use Rattle.tx_files.specs.declared.edit.Edit.{Edit as FileEdit}
+use Rattle.tx_files.specs.declared.edit.Change.TheVariants.{Edit}
 use Rattle.tx_files.specs.declared.line.NextLine.{NextLine}
 use Rattle.tx_files.specs.declared.line.NextLine.TheVariants.{Line as LineTo, End as AtEnd}
 use Rattle.tx_files.specs.declared.reads.Note.{Note}
@@ -23,22 +24,22 @@ use Rattle.tx_machine.specs.declared.types.Reply.TheVariants.{Line as Told}
 use Rattle.tx_machine.specs.Notes.{notes_of, line_notes, line_sight, found_sight}
 use Rattle.tx_machine.specs.Opens.{bytes_of, innermost, moved_to, opening, reading_on, reading, whole, reply_to}
 use Rattle.tx_checkpoint.proofs.Lines.{SameLine, line_in_front}
-use Rattle.tx_checkpoint.proofs.Untouched.{AreLeft}
+use Rattle.tx_checkpoint.proofs.Untouched.{AreLeftBy}
 
 -- the files before and after an edit that fits
-pub record Edited (before after : Files) (e : Edit) : Type 0 where
+pub record Edited (before after : Files) (e : FileEdit) : Type 0 where
   pub here : content after e.name ≡ Some (spliced (bytes_of before e.name) e.place e.removed e.put)
   pub others : (name : List ℕ) → name ≢ e.name → content after name ≡ content before name
   pub place : e.place ≤ length (bytes_of before e.name)
 
-known : (a b : List ℕ) → (a ≡ b) ⊎ (a ≢ b)
+pub known : (a b : List ℕ) → (a ≡ b) ⊎ (a ≢ b)
 known a b = by (bytes_eq a b) refl
   where
     by : (c : Bool) → bytes_eq a b ≡ c → (a ≡ b) ⊎ (a ≢ b)
     by true e = inl (same_text a b (sym e))
     by false e = inr (λ same. true≢false (sym ((bytes_decides a b).1 same) ∙ e))
 
-pub edited-is : (files : Files) (e : Edit) → fits_in files e ≡ true → Edited files (edited files e) e
+pub edited-is : (files : Files) (e : FileEdit) → fits_in files e ≡ true → Edited files (edited files e) e
 edited-is files e fits =
     let put : List ℕ = spliced (bytes_of files e.name) e.place e.removed e.put in
     record {
@@ -51,8 +52,13 @@ edited-is files e fits =
     not_it put name other true is = absurd (other (same_text name e.name (sym (sym (is_eq-slice_cmp name e.name) ∙ is))))
     not_it put name other false is = refl
 
+-- the reply to an ask, and what it shows, are the same
+pub record SameAsk (before after : Files) (opens : List OpenFile) (ask : Ask) : Type 0 where
+  pub reply : reply_to after opens ask ≡ reply_to before opens ask
+  pub notes : notes_of after opens ask ≡ notes_of before opens ask
+
 -- the bytes before the place are the same
-module _ {before after : Files} {e : Edit} (edit : Edited before after e) where
+module _ {before after : Files} {e : FileEdit} (edit : Edited before after e) where
   abbrev front : List ℕ
   front = take e.place (bytes_of before e.name)
 
@@ -90,15 +96,10 @@ module _ {before after : Files} {e : Edit} (edit : Edited before after e) where
       let same : SameLine (front ++ old) (front ++ new) file.offset end = line_in_front front old new file.offset end is within in
       (ap (reading_on opens file (front ++ new)) same.line ∙ ap (λ bytes. record { reply = Told bytes; opens = moved_to opens file end }) same.bytes, same.line)
 
-  -- the replies and the sights that an edit leaves
-  pub record SameAsk (opens : List OpenFile) (ask : Ask) : Type 0 where
-    pub reply : reply_to after opens ask ≡ reply_to before opens ask
-    pub notes : notes_of after opens ask ≡ notes_of before opens ask
-
-  same_open : (opens : List OpenFile) (name : List ℕ) → AreLeft e (notes_of before opens (Open name)) → SameAsk opens (Open name)
+  same_open : (opens : List OpenFile) (name : List ℕ) → AreLeftBy (Edit e) (notes_of before opens (Open name)) → SameAsk before after opens (Open name)
   same_open opens name left = ⊎_elim it other (known name e.name)
     where
-      it : name ≡ e.name → SameAsk opens (Open name)
+      it : name ≡ e.name → SameAsk before after opens (Open name)
       it same =
           let there : content after name ≡ Some (front ++ e.put ++ drop (e.place + e.removed) (bytes_of before e.name)) = ap (content after) same ∙ edit.here in
           let both = open_same opens name (front ++ e.put ++ drop (e.place + e.removed) (bytes_of before e.name)) (content before name) (left.0 same) in
@@ -107,25 +108,25 @@ module _ {before after : Files} {e : Edit} (edit : Edited before after e) where
             notes = λ i. record { name = name; sight = (ap (found_sight Opened) there ∙ both.1) i } ∷ [];
           }
 
-      other : name ≢ e.name → SameAsk opens (Open name)
+      other : name ≢ e.name → SameAsk before after opens (Open name)
       other not = record {
         reply = ap (opening opens name) (edit.others name not);
         notes = ap (λ held. record { name = name; sight = found_sight Opened held } ∷ []) (edit.others name not);
       }
 
-  same_whole : (opens : List OpenFile) (name : List ℕ) → AreLeft e (notes_of before opens (Whole name)) → SameAsk opens (Whole name)
+  same_whole : (opens : List OpenFile) (name : List ℕ) → AreLeftBy (Edit e) (notes_of before opens (Whole name)) → SameAsk before after opens (Whole name)
   same_whole opens name left = ⊎_elim it other (known name e.name)
     where
-      it : name ≡ e.name → SameAsk opens (Whole name)
+      it : name ≡ e.name → SameAsk before after opens (Whole name)
       it same = absurd (never_whole (content before name) (left.0 same))
 
-      other : name ≢ e.name → SameAsk opens (Whole name)
+      other : name ≢ e.name → SameAsk before after opens (Whole name)
       other not = record {
         reply = ap (whole opens) (edit.others name not);
         notes = ap (λ held. record { name = name; sight = found_sight WholeSeen held } ∷ []) (edit.others name not);
       }
 
-  same_line : (opens : List OpenFile) (file : Option OpenFile) → AreLeft e (line_notes before file) → (reading after opens file ≡ reading before opens file) × (line_notes after file ≡ line_notes before file)
+  same_line : (opens : List OpenFile) (file : Option OpenFile) → AreLeftBy (Edit e) (line_notes before file) → (reading after opens file ≡ reading before opens file) × (line_notes after file ≡ line_notes before file)
   same_line opens None left = (refl, refl)
   same_line opens (Some file) left = ⊎_elim it other (known file.name e.name)
     where
@@ -150,7 +151,7 @@ module _ {before after : Files} {e : Edit} (edit : Edited before after e) where
             ap (λ bytes. record { name = file.name; sight = line_sight (next_line_at bytes file.offset) } ∷ []) same,
           )
 
-  pub same-ask : (opens : List OpenFile) (ask : Ask) → AreLeft e (notes_of before opens ask) → SameAsk opens ask
+  pub same-ask : (opens : List OpenFile) (ask : Ask) → AreLeftBy (Edit e) (notes_of before opens ask) → SameAsk before after opens ask
   same-ask opens (Open name) left = same_open opens name left
   same-ask opens Line left = let both = same_line opens (innermost opens) left in record { reply = both.0; notes = both.1 }
   same-ask opens Close left = record { reply = refl; notes = refl }

@@ -1,6 +1,9 @@
 pub mod Untouched
 pub mod Lines
 pub mod Edited
+pub mod Removed
+pub mod Within
+pub mod Spared
 pub mod Stretches
 pub mod Standing
 pub mod Keeping

@@ -1,14 +1,13 @@
--- Rows whose reads an edit leaves stand on the edited files, a run goes on from any of its rows, and where all reads are
--- left all of it stands, its end included.
-use Rattle.std.proofs.Common.{◌≡◌, ℕ, zero, suc, ◌+◌, ◌-◌, ◌<◌, ◌≤◌, Bool, true, false, cond, ◌&&◌, List, [], ◌∷◌, length, take, slice_index_or, Option, Some, None, refl, sym, ap, subst, ◌∙◌, arith, true≢false, unwrap_or, nat_eq}
+-- Rows whose reads changes leave stand on the changed files, a run goes on from any of its rows, and where all reads are left
+-- all of it stands, its end included.
+use Rattle.std.proofs.Common.{◌≡◌, ℕ, zero, suc, ◌+◌, ◌-◌, ◌<◌, ◌≤◌, Bool, true, false, cond, ◌&&◌, List, [], ◌∷◌, length, take, Option, Some, None, refl, sym, ap, subst, ◌∙◌, arith, true≢false, unwrap_or, nat_eq}
 use Rattle.std.specs.List.{prefix_len, list_all}
 use Rattle.std.proofs.lemmas.Bool.{eqb-true, eq-eqb}
 use Rattle.std.proofs.lemmas.List.{length-take, length-take-le, length-map, take-map, take_all}
 use Rattle.std.proofs.lemmas.List.Sums.{prefix_len-le-length}
-use Rattle.std.proofs.lemmas.Option.{slice_get_within, get_or_from_slice_get}
 use Rattle.tx_bytes.specs.Files.{Files}
-use Rattle.tx_files.specs.declared.edit.Edit.{Edit}
-use Rattle.tx_files.specs.Edits.{fits_in, edited}
+use Rattle.tx_files.specs.declared.edit.Change.{Change}
+use Rattle.tx_files.specs.Changes.{all_fit, all_changed}
 use Rattle.tx_files.specs.Lines.{line_count}
 use Rattle.tx_machine.specs.declared.types.Close.{Close}
 use Rattle.tx_machine.specs.declared.types.Close.TheVariants.{Page, Halt, Spent}
@@ -29,8 +28,9 @@ use Rattle.tx_checkpoint.specs.Rows.{History, PageRow, page_row, rows_in, last_o
 use Rattle.tx_checkpoint.specs.Resume.{stays, resume, all_stay, stands, Begun, after_rows, run_behind}
 use Rattle.tx_checkpoint.specs.Laws.{AreUntouched, IsLastUntouched}
 use Rattle.tx_checkpoint.proofs.Untouched.{AreLeft, untouched-left}
-use Rattle.tx_checkpoint.proofs.Edited.{Edited, edited-is, same-read}
-use Rattle.tx_checkpoint.proofs.Stretches.{IsWithin, AreWithin, within-stretch, same-stretch}
+use Rattle.tx_checkpoint.proofs.Within.{AreWithin, none-within}
+use Rattle.tx_checkpoint.proofs.Spared.{Spared, spared-all}
+use Rattle.tx_checkpoint.proofs.Stretches.{within-stretch, same-stretch}
 
 -- where the next page begins behind some pages
 abbrev pub after_pages : {S : Type 0} → Begun S → List (PageRow S) → Begun S
@@ -78,13 +78,13 @@ module _ {X : Type 0} (p : X → Bool) where
           sym is ∙ eq-eqb (prefix_len p xs) (length xs) (omega arith)
 
 -- so the row at which formatting resumes tells whether everything stands
-pub stands-by : {S : Type 0} (rows : List (Row S)) (last : Last) (e : Edit) (kept len : ℕ) → kept ≡ resume rows e → len ≡ length rows → (nat_eq kept len && untouched last.seen e) ≡ all_stay rows last e
-stands-by rows last e kept len resumes all = (λ i. nat_eq (resumes i) (all i) && untouched last.seen e) ∙ ap (λ b. b && untouched last.seen e) (all-front (stays e) rows)
+pub stands-by : {S : Type 0} (rows : List (Row S)) (last : Last) (changes : List Change) (kept len : ℕ) → kept ≡ resume rows changes → len ≡ length rows → (nat_eq kept len && untouched last.seen changes) ≡ all_stay rows last changes
+stands-by rows last changes kept len resumes all = (λ i. nat_eq (resumes i) (all i) && untouched last.seen changes) ∙ ap (λ b. b && untouched last.seen changes) (all-front (stays changes) rows)
 
-pub resumes-last : {S : Type 0} (rows : List (Row S)) (e : Edit) → IsLastUntouched rows (resume rows e) e
-resumes-last rows e = record {
-  untouched = record { within = prefix_len-le-length (stays e) rows; stay = front_passes (stays e) rows };
-  last = λ k are. longest_front (stays e) rows k are.within are.stay;
+pub resumes-last : {S : Type 0} (rows : List (Row S)) (changes : List Change) → IsLastUntouched rows (resume rows changes) changes
+resumes-last rows changes = record {
+  untouched = record { within = prefix_len-le-length (stays changes) rows; stay = front_passes (stays changes) rows };
+  last = λ k are. longest_front (stays changes) rows k are.within are.stay;
 }
 
 module _ {S : Type 0} (m : Formatter S) (files : Files) (budget : ℕ) where
@@ -135,24 +135,24 @@ module _ {S : Type 0} (m : Formatter S) (files : Files) (budget : ℕ) where
       let t : Progress S = stretch m files (page_start state opens budget) in
       split_stretch pages k state opens t (unwrap_or t.close Spent) within (splits pages k t.place.state t.place.opens)
 
-module _ {S : Type 0} (m : Formatter S) (budget : ℕ) {e : Edit} {before after : Files} (edit : Edited before after e) where
+module _ {S : Type 0} (m : Formatter S) (budget : ℕ) {changes : List Change} {before after : Files} (spare : Spared before after changes) where
   -- the first rows
   row_left : (pages k : ℕ) (t : Progress S) (close : Close) → suc k ≤ length (rows_in (from_stretch m before budget pages t close).pages)
-      → list_all (stays e) (take (suc k) (rows_in (from_stretch m before budget pages t close).pages)) ≡ true → AreLeft e t.log
-  row_left pages k t (Page body) within stay = untouched-left t.log e (both (stays e (page_row t body).row) _ stay).0
+      → list_all (stays changes) (take (suc k) (rows_in (from_stretch m before budget pages t close).pages)) ≡ true → AreLeft changes t.log
+  row_left pages k t (Page body) within stay = untouched-left t.log changes (both (stays changes (page_row t body).row) _ stay).0
   row_left pages k t (Halt stop) within stay = absurd (omega arith)
   row_left pages k t Spent within stay = absurd (omega arith)
 
   first_rows : (pages k : ℕ) (t : Progress S) (close : Close) → suc k ≤ length (rows_in (from_stretch m before budget pages t close).pages)
-      → list_all (stays e) (take (suc k) (rows_in (from_stretch m before budget pages t close).pages)) ≡ true
-      → (k ≤ length (rows_in (behind_stretch m before budget pages t).pages) → list_all (stays e) (take k (rows_in (behind_stretch m before budget pages t).pages)) ≡ true
+      → list_all (stays changes) (take (suc k) (rows_in (from_stretch m before budget pages t close).pages)) ≡ true
+      → (k ≤ length (rows_in (behind_stretch m before budget pages t).pages) → list_all (stays changes) (take k (rows_in (behind_stretch m before budget pages t).pages)) ≡ true
       → take k (behind_stretch m after budget pages t).pages ≡ take k (behind_stretch m before budget pages t).pages)
       → take (suc k) (from_stretch m after budget pages t close).pages ≡ take (suc k) (from_stretch m before budget pages t close).pages
-  first_rows pages k t (Page body) within stay there = ap (λ later. page_row t body ∷ later) (there (omega arith) (both (stays e (page_row t body).row) _ stay).1)
+  first_rows pages k t (Page body) within stay there = ap (λ later. page_row t body ∷ later) (there (omega arith) (both (stays changes (page_row t body).row) _ stay).1)
   first_rows pages k t (Halt stop) within stay there = absurd (omega arith)
   first_rows pages k t Spent within stay there = absurd (omega arith)
 
-  pub prefix-stands : (pages k : ℕ) (state : S) (opens : List OpenFile) → AreUntouched (rows_in (rows_from m before budget pages state opens).pages) k e
+  pub prefix-stands : (pages k : ℕ) (state : S) (opens : List OpenFile) → AreUntouched (rows_in (rows_from m before budget pages state opens).pages) k changes
       → take k (rows_from m after budget pages state opens).pages ≡ take k (rows_from m before budget pages state opens).pages
   unfolding rows_from
   prefix-stands pages zero state opens are = refl
@@ -161,11 +161,11 @@ module _ {S : Type 0} (m : Formatter S) (budget : ℕ) {e : Edit} {before after 
       let start : Place S = page_start state opens budget in
       let t : Progress S = stretch m before start in
       let close : Close = unwrap_or t.close Spent in
-      let left : AreLeft e t.log = row_left pages k t close are.within are.stay in
-      ap (λ (u : Progress S). take (suc k) (from_stretch m after budget pages u (unwrap_or u.close Spent)).pages) (same-stretch m e edit start left)
+      let left : AreLeft changes t.log = row_left pages k t close are.within are.stay in
+      ap (λ (u : Progress S). take (suc k) (from_stretch m after budget pages u (unwrap_or u.close Spent)).pages) (same-stretch m changes spare start left)
       ∙ first_rows pages k t close are.within are.stay (λ inside left_too. prefix-stands pages k t.place.state t.place.opens (record { within = inside; stay = left_too }))
 
-  pub resumes : (pages k : ℕ) (state : S) (opens : List OpenFile) → AreUntouched (rows_in (rows_from m before budget pages state opens).pages) k e
+  pub resumes : (pages k : ℕ) (state : S) (opens : List OpenFile) → AreUntouched (rows_in (rows_from m before budget pages state opens).pages) k changes
       → rows_from m after budget pages state opens ≡ split_at m after budget pages k (record { state = state; opens = opens }) (take k (rows_from m before budget pages state opens).pages)
   resumes pages k state opens are =
       let same : take k (rows_from m after budget pages state opens).pages ≡ take k (rows_from m before budget pages state opens).pages = prefix-stands pages k state opens are in
@@ -176,7 +176,7 @@ module _ {S : Type 0} (m : Formatter S) (budget : ℕ) {e : Edit} {before after 
       splits m after budget pages k state opens within ∙ ap (split_at m after budget pages k (record { state = state; opens = opens })) same
 
   -- with the rows taken before, in place of the rows of the pages that are taken
-  pub resumes-behind : (pages k : ℕ) (state : S) (opens : List OpenFile) → AreUntouched (rows_in (rows_from m before budget pages state opens).pages) k e
+  pub resumes-behind : (pages k : ℕ) (state : S) (opens : List OpenFile) → AreUntouched (rows_in (rows_from m before budget pages state opens).pages) k changes
       → rows_from m after budget pages state opens ≡ behind (take k (rows_from m before budget pages state opens).pages)
       (rows_from m after budget (pages - k) (after_rows (record { state = state; opens = opens }) (take k (rows_in (rows_from m before budget pages state opens).pages))).state
       (after_rows (record { state = state; opens = opens }) (take k (rows_in (rows_from m before budget pages state opens).pages))).opens)
@@ -187,34 +187,31 @@ module _ {S : Type 0} (m : Formatter S) (budget : ℕ) {e : Edit} {before after 
       (sym (take-map (λ (page : PageRow S). page.row) k old))
 
   -- an error's line
-  error_same : (code : ℕ) (opens : List OpenFile) (file : Option OpenFile) → innermost opens ≡ file → AreWithin e opens → error_at after code file ≡ error_at before code file
+  error_same : (code : ℕ) (opens : List OpenFile) (file : Option OpenFile) → innermost opens ≡ file → AreWithin changes opens → error_at after code file ≡ error_at before code file
   error_same code opens None is within = refl
-  error_same code opens (Some file) is within =
-      let inside : length opens - 1 < length opens = slice_get_within opens (length opens - 1) file is in
-      let it : slice_index_or opens (length opens - 1) file ≡ file = get_or_from_slice_get opens (length opens - 1) file file is in
-      ap (λ read. Error code (Some file.name) (line_count read)) (same-read edit file.name file.offset (subst (IsWithin e) it (within (length opens - 1) file inside)))
+  error_same code opens (Some file) is within = ap (λ read. Error code (Some file.name) (line_count read)) (spare.reads opens file is within)
 
-  end_same : (opens : List OpenFile) (stop : Stop) → AreWithin e opens → end_of after opens stop ≡ end_of before opens stop
+  end_same : (opens : List OpenFile) (stop : Stop) → AreWithin changes opens → end_of after opens stop ≡ end_of before opens stop
   end_same opens StopEnd within = refl
   end_same opens (StopError code) within = error_same code opens (innermost opens) refl within
 
   -- all rows and the stretch after them
-  stretch_left : (pages : ℕ) (t : Progress S) (close : Close) → stands (from_stretch m before budget pages t close) e ≡ true → AreLeft e t.log
-  stretch_left pages t (Page body) stand = untouched-left t.log e (both (stays e (page_row t body).row) _ (both (list_all (stays e) (rows_in (from_stretch m before budget pages t (Page body)).pages)) _ stand).0).0
-  stretch_left pages t (Halt stop) stand = untouched-left t.log e stand
-  stretch_left pages t Spent stand = untouched-left t.log e stand
+  stretch_left : (pages : ℕ) (t : Progress S) (close : Close) → stands (from_stretch m before budget pages t close) changes ≡ true → AreLeft changes t.log
+  stretch_left pages t (Page body) stand = untouched-left t.log changes (both (stays changes (page_row t body).row) _ (both (list_all (stays changes) (rows_in (from_stretch m before budget pages t (Page body)).pages)) _ stand).0).0
+  stretch_left pages t (Halt stop) stand = untouched-left t.log changes stand
+  stretch_left pages t Spent stand = untouched-left t.log changes stand
 
-  stretch_stands : (pages : ℕ) (t : Progress S) (close : Close) → AreWithin e t.place.opens → stands (from_stretch m before budget pages t close) e ≡ true
-      → (stands (behind_stretch m before budget pages t) e ≡ true → behind_stretch m after budget pages t ≡ behind_stretch m before budget pages t)
+  stretch_stands : (pages : ℕ) (t : Progress S) (close : Close) → AreWithin changes t.place.opens → stands (from_stretch m before budget pages t close) changes ≡ true
+      → (stands (behind_stretch m before budget pages t) changes ≡ true → behind_stretch m after budget pages t ≡ behind_stretch m before budget pages t)
       → from_stretch m after budget pages t close ≡ from_stretch m before budget pages t close
   stretch_stands pages t (Page body) within stand there =
-      let parts = both (list_all (stays e) (rows_in (from_stretch m before budget pages t (Page body)).pages)) _ stand in
-      let rest = both (stays e (page_row t body).row) _ parts.0 in
+      let parts = both (list_all (stays changes) (rows_in (from_stretch m before budget pages t (Page body)).pages)) _ stand in
+      let rest = both (stays changes (page_row t body).row) _ parts.0 in
       ap (behind (page_row t body ∷ [])) (there (one_and _ _ rest.1 parts.1))
   stretch_stands pages t (Halt stop) within stand there = ap (λ end. only (last_of t end)) (end_same t.place.opens stop within)
   stretch_stands pages t Spent within stand there = refl
 
-  pub all-stands : (pages : ℕ) (state : S) (opens : List OpenFile) → AreWithin e opens → stands (rows_from m before budget pages state opens) e ≡ true
+  pub all-stands : (pages : ℕ) (state : S) (opens : List OpenFile) → AreWithin changes opens → stands (rows_from m before budget pages state opens) changes ≡ true
       → rows_from m after budget pages state opens ≡ rows_from m before budget pages state opens
   unfolding rows_from
   all-stands zero state opens within stand = refl
@@ -222,16 +219,16 @@ module _ {S : Type 0} (m : Formatter S) (budget : ℕ) {e : Edit} {before after 
       let start : Place S = page_start state opens budget in
       let t : Progress S = stretch m before start in
       let close : Close = unwrap_or t.close Spent in
-      let left : AreLeft e t.log = stretch_left pages t close stand in
-      let inside : AreWithin e t.place.opens = within-stretch m e before start within left in
-      ap (λ (u : Progress S). from_stretch m after budget pages u (unwrap_or u.close Spent)) (same-stretch m e edit start left)
+      let left : AreLeft changes t.log = stretch_left pages t close stand in
+      let inside : AreWithin changes t.place.opens = within-stretch m changes before start within left in
+      ap (λ (u : Progress S). from_stretch m after budget pages u (unwrap_or u.close Spent)) (same-stretch m changes spare start left)
       ∙ stretch_stands pages t close inside stand (λ later. all-stands pages t.place.state t.place.opens inside later)
 
--- the fresh run on the edited files, where everything stands and where formatting resumes
-module _ {S : Type 0} (m : Formatter S) (files : Files) (e : Edit) (main : List ℕ) (date : Date) (limits : Limits) (fits : fits_in files e ≡ true) where
-  pub fresh-stands : stands (fresh_rows m files main date limits) e ≡ true → fresh_rows m (edited files e) main date limits ≡ fresh_rows m files main date limits
-  fresh-stands stand = all-stands m limits.budget (edited-is files e fits) limits.pages (m.start date main) [] (λ k d below. absurd (omega arith)) stand
+-- the fresh run on the changed files, where everything stands and where formatting resumes
+module _ {S : Type 0} (m : Formatter S) (files : Files) (changes : List Change) (main : List ℕ) (date : Date) (limits : Limits) (fits : all_fit files changes ≡ true) where
+  pub fresh-stands : stands (fresh_rows m files main date limits) changes ≡ true → fresh_rows m (all_changed files changes) main date limits ≡ fresh_rows m files main date limits
+  fresh-stands stand = all-stands m limits.budget (spared-all changes files fits) limits.pages (m.start date main) [] (none-within changes) stand
 
-  pub fresh-resumes : (k : ℕ) → AreUntouched (rows_in (fresh_rows m files main date limits).pages) k e
-      → fresh_rows m (edited files e) main date limits ≡ behind (take k (fresh_rows m files main date limits).pages) (run_behind m (edited files e) (rows_in (fresh_rows m files main date limits).pages) k main date limits)
-  fresh-resumes k are = resumes-behind m limits.budget (edited-is files e fits) limits.pages k (m.start date main) [] are
+  pub fresh-resumes : (k : ℕ) → AreUntouched (rows_in (fresh_rows m files main date limits).pages) k changes
+      → fresh_rows m (all_changed files changes) main date limits ≡ behind (take k (fresh_rows m files main date limits).pages) (run_behind m (all_changed files changes) (rows_in (fresh_rows m files main date limits).pages) k main date limits)
+  fresh-resumes k are = resumes-behind m limits.budget (spared-all changes files fits) limits.pages k (m.start date main) [] are

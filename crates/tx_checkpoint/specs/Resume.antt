@@ -1,8 +1,8 @@
--- How far the rows of a run stand when one of its files is edited.
+-- How far the rows of a run stand when files are changed.
 use Rattle.std.specs.Prelude.{ℕ, ◌-◌, Bool, ◌&&◌, List, [], ◌∷◌, take}
 use Rattle.std.specs.List.{prefix_len, list_all}
 use Rattle.tx_files.specs.Reads.{untouched}
-use Rattle.tx_files.specs.declared.edit.Edit.{Edit}
+use Rattle.tx_files.specs.declared.edit.Change.{Change}
 use Rattle.tx_bytes.specs.Files.{Files}
 use Rattle.tx_machine.specs.declared.types.Date.{Date}
 use Rattle.tx_machine.specs.declared.types.Limits.{Limits}
@@ -12,21 +12,21 @@ use Rattle.tx_checkpoint.specs.declared.row.Row.{Row}
 use Rattle.tx_checkpoint.specs.declared.row.Last.{Last}
 use Rattle.tx_checkpoint.specs.Rows.{History, rows_in, rows_from}
 
--- whether an edit leaves what the turns of a row read as it is
-abbrev pub stays : {S : Type 0} → Edit → Row S → Bool
-stays e row = untouched row.seen e
+-- whether changes leave what the turns of a row read as it is
+abbrev pub stays : {S : Type 0} → List Change → Row S → Bool
+stays changes row = untouched row.seen changes
 
--- the row at which formatting resumes after an edit: the last one that the edit leaves with all rows before it, and 0, the
--- start, where it doesn't leave the first; each row is kept
-abbrev pub resume : {S : Type 0} → List (Row S) → Edit → ℕ
-resume rows e = prefix_len (stays e) rows
+-- the row at which formatting resumes after changes: the last one that they leave with all rows before it, and 0, the start,
+-- where they don't leave the first; each row is kept
+abbrev pub resume : {S : Type 0} → List (Row S) → List Change → ℕ
+resume rows changes = prefix_len (stays changes) rows
 
--- whether an edit leaves the reads of all rows and of the stretch after them, so that everything stands
-abbrev pub all_stay : {S : Type 0} → List (Row S) → Last → Edit → Bool
-all_stay rows last e = list_all (stays e) rows && untouched last.seen e
+-- whether changes leave the reads of all rows and of the stretch after them, so that everything stands
+abbrev pub all_stay : {S : Type 0} → List (Row S) → Last → List Change → Bool
+all_stay rows last changes = list_all (stays changes) rows && untouched last.seen changes
 
-abbrev pub stands : {S : Type 0} → History S → Edit → Bool
-stands h e = all_stay (rows_in h.pages) h.last e
+abbrev pub stands : {S : Type 0} → History S → List Change → Bool
+stands h changes = all_stay (rows_in h.pages) h.last changes
 
 -- a state and the open files, where the next page begins
 pub record Begun (S : Type 0) : Type 0 where

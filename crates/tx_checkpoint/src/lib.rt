@@ -1,5 +1,5 @@
-//! A run as rows, a page each: what its turns read of the files, and the state after it. After an edit, formatting resumes
-//! at the last row up to which the edit leaves all reads as they are, over any machine.
+//! A run as rows, a page each: what its turns read of the files, and the state after it. After changes of files, formatting
+//! resumes at the last row up to which they leave all reads as they are, over any machine.
 //!
 //! Proved: the laws by which formatting may resume, over any machine, and that `Rows::resume_at` and `Rows::stands` find
 //! exactly these places. Nothing is left to tests.

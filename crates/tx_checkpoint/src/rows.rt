@@ -3,17 +3,17 @@ ghost use Rattle.std.specs.Prelude.{◌≡◌};
 ghost use Rattle.tx_checkpoint.specs.Resume.{resume, stays, all_stay};
 
 use crate::row::{Row, Rows};
-use tx_files::{Edit, untouched};
+use tx_files::{Change, untouched};
 
 impl<S> Rows<S> {
-    /// The row at which formatting resumes after an edit: the last one that the edit leaves with all rows before it, 0
-    /// where it doesn't leave the first. It takes no memory.
-    pub fn resume_at(&self, e: &Edit) -> usize
-        ensures { result ≡ resume self.now.rows.items e.now }
+    /// The row at which formatting resumes after changes: the last one that they leave with all rows before it, 0 where they
+    /// don't leave the first. It takes no memory.
+    pub fn resume_at(&self, changes: &[Change]) -> usize
+        ensures { result ≡ resume self.now.rows.items changes.now }
     {
         let mut kept = 0;
         for row in &self.rows {
-            if !untouched(&row.seen, e) {
+            if !untouched(&row.seen, changes) {
                 return kept;
             }
             kept += 1;
@@ -21,12 +21,12 @@ impl<S> Rows<S> {
         kept
     }
 
-    /// Whether an edit leaves all that the run read as it is, so that everything stands, where formatting resumes at this row. It
+    /// Whether changes leave all that the run read as it is, so that everything stands, where formatting resumes at this row. It
     /// takes no memory.
-    pub fn stands(&self, kept: usize, e: &Edit) -> bool
-        requires { kept ≡ resume self.now.rows.items e.now }
-        ensures { result ≡ all_stay self.now.rows.items self.now.last e.now }
+    pub fn stands(&self, kept: usize, changes: &[Change]) -> bool
+        requires { kept ≡ resume self.now.rows.items changes.now }
+        ensures { result ≡ all_stay self.now.rows.items self.now.last changes.now }
     {
-        kept == self.rows.len() && untouched(&self.last.seen, e)
+        kept == self.rows.len() && untouched(&self.last.seen, changes)
     }
 }
