@@ -3,7 +3,7 @@ use Rattle.std.proofs.Common.{◌≡◌, ℕ, zero, suc, ◌+◌, ◌-◌, ◌�
 use Rattle.std.proofs.lemmas.List.{map-append, take-map, take-take, take-append-le, take_all, length-map, length-take-le}
 use Rattle.std.proofs.Math.Seq.{drop-append_seam}
 use Rattle.std.proofs.lemmas.List.Elements.{All-append, All-take}
-use Rattle.tx_files.specs.declared.edit.Edit.{Edit}
+use Rattle.tx_files.specs.declared.edit.Change.{Change}
 use Rattle.tx_machine.specs.Machine.{Formatter}
 use Rattle.tx_checkpoint.specs.declared.row.Row.{Row}
 use Rattle.tx_checkpoint.specs.declared.row.Last.{Last}
@@ -15,7 +15,7 @@ use Rattle.tx_quiesce.specs.declared.further.Further.TheVariants.{Goes, Stands}
 use Rattle.tx_quiesce.specs.declared.later.Later.{Later}
 use Rattle.tx_quiesce.specs.Further.{IsFurther, FurtherIsIdle}
 use Rattle.tx_quiesce.specs.Later.{IsLater, LaterIsIdle, AreReused, pages_of, pieces_of, rows_of, last_of}
-use Rattle.tx_quiesce.specs.Shift.{shifted_page, shifted_row}
+use Rattle.tx_quiesce.specs.Moves.{carried_page, carried_row}
 use Rattle.tx_quiesce.proofs.Found.{drop-map}
 
 -- a list of which a part is changed: what stands in front of it, and the part
@@ -57,42 +57,42 @@ map_same : {B : Type 0} (xs : List B) → map (λ x. x) xs ≡ xs
 map_same [] = refl
 map_same (x ∷ xs) = ap (λ rest. x ∷ rest) (map_same xs)
 
-module _ {S M : Type 0} (meaning : S → M) (e : Edit) where
-  shifted_meant : (rows : List (Row S)) → rows_meant meaning (map (shifted_row e) rows) ≡ map (shifted_row e) (rows_meant meaning rows)
-  shifted_meant [] = refl
-  shifted_meant (row ∷ rows) = ap (λ rest. shifted_row e (row_meant meaning row) ∷ rest) (shifted_meant rows)
+module _ {S M : Type 0} (meaning : S → M) (changes : List Change) where
+  carried_meant : (rows : List (Row S)) → rows_meant meaning (map (carried_row changes) rows) ≡ map (carried_row changes) (rows_meant meaning rows)
+  carried_meant [] = refl
+  carried_meant (row ∷ rows) = ap (λ rest. carried_row changes (row_meant meaning row) ∷ rest) (carried_meant rows)
 
   -- the lists of what comes further
-  further_pages : (last : Last) (h : History M) (f : Further S) → IsFurther meaning e last h f → pages_of f ≡ map (λ page. page.body) h.pages
+  further_pages : (last : Last) (h : History M) (f : Further S) → IsFurther meaning changes last h f → pages_of f ≡ map (λ page. page.body) h.pages
   further_pages last h (Goes rows) is = is.pages_are
   further_pages last h (Stands end) is = sym (ap (λ (it : History M). map (λ page. page.body) it.pages) is)
 
-  further_pieces : (last : Last) (h : History M) (f : Further S) → IsFurther meaning e last h f → pieces_of f ≡ map (λ page. page.piece) h.pages
+  further_pieces : (last : Last) (h : History M) (f : Further S) → IsFurther meaning changes last h f → pieces_of f ≡ map (λ page. page.piece) h.pages
   further_pieces last h (Goes rows) is = is.pieces_are
   further_pieces last h (Stands end) is = sym (ap (λ (it : History M). map (λ page. page.piece) it.pages) is)
 
-  further_rows : (last : Last) (h : History M) (f : Further S) → IsFurther meaning e last h f → rows_meant meaning (rows_of f) ≡ rows_in h.pages
+  further_rows : (last : Last) (h : History M) (f : Further S) → IsFurther meaning changes last h f → rows_meant meaning (rows_of f) ≡ rows_in h.pages
   further_rows last h (Goes rows) is = is.rows_are
   further_rows last h (Stands end) is = sym (ap (λ (it : History M). rows_in it.pages) is)
 
-  further_last : (last : Last) (h : History M) (f : Further S) → IsFurther meaning e last h f → last_of e last f ≡ h.last
+  further_last : (last : Last) (h : History M) (f : Further S) → IsFurther meaning changes last h f → last_of changes last f ≡ h.last
   further_last last h (Goes rows) is = is.last_is
   further_last last h (Stands end) is = sym (ap (λ (it : History M). it.last) is)
 
-  pub reused-rows : {old new : Rows S} {kept : ℕ} {h whole : History M} {later : Later S} → AreRows meaning old h → IsLater meaning e old h later whole → AreReused e old kept later new
+  pub reused-rows : {old new : Rows S} {kept : ℕ} {h whole : History M} {later : Later S} → AreRows meaning old h → IsLater meaning changes old h later whole → AreReused changes old kept later new
       → AreRows meaning new (behind (take kept h.pages) whole)
   reused-rows {old = old} {new = new} {kept = kept} {h = h} {whole = whole} {later = later} olds is are =
-      let middle : List (PageRow M) = take later.count (map (shifted_page e) (drop later.from h.pages)) in
+      let middle : List (PageRow M) = take later.count (map (carried_page changes) (drop later.from h.pages)) in
       let whole_pages : whole.pages ≡ is.formatted ++ (middle ++ is.more.pages) = ap (λ it. it.pages) is.whole_is in
       let bodies : map (λ (page : PageRow M). page.body) middle ≡ take later.count (drop later.from (map (λ (page : PageRow M). page.body) h.pages)) =
-      middle_is (λ (page : PageRow M). page.body) (shifted_page e) (λ x. x) (λ page. refl) later.count later.from h.pages ∙ map_same (take later.count (drop later.from (map (λ (page : PageRow M). page.body) h.pages))) in
+      middle_is (λ (page : PageRow M). page.body) (carried_page changes) (λ x. x) (λ page. refl) later.count later.from h.pages ∙ map_same (take later.count (drop later.from (map (λ (page : PageRow M). page.body) h.pages))) in
       let pieces : map (λ (page : PageRow M). page.piece) middle ≡ take later.count (drop later.from (map (λ (page : PageRow M). page.piece) h.pages)) =
-      middle_is (λ (page : PageRow M). page.piece) (shifted_page e) (λ x. x) (λ page. refl) later.count later.from h.pages ∙ map_same (take later.count (drop later.from (map (λ (page : PageRow M). page.piece) h.pages))) in
-      let rows : map (λ (page : PageRow M). page.row) middle ≡ map (shifted_row e) (take later.count (drop later.from (rows_in h.pages))) =
-      middle_is (λ (page : PageRow M). page.row) (shifted_page e) (shifted_row e) (λ page. refl) later.count later.from h.pages in
-      let moved : rows_meant meaning (map (shifted_row e) (take later.count (drop later.from old.rows.items))) ≡ map (shifted_row e) (take later.count (drop later.from (rows_in h.pages))) =
-      shifted_meant (take later.count (drop later.from old.rows.items))
-      ∙ ap (map (shifted_row e)) (sym (take-map (row_meant meaning) later.count (drop later.from old.rows.items)) ∙ ap (take later.count) (sym (drop-map (row_meant meaning) later.from old.rows.items)) ∙ ap (λ xs. take later.count (drop later.from xs)) olds.rows_are) in
+      middle_is (λ (page : PageRow M). page.piece) (carried_page changes) (λ x. x) (λ page. refl) later.count later.from h.pages ∙ map_same (take later.count (drop later.from (map (λ (page : PageRow M). page.piece) h.pages))) in
+      let rows : map (λ (page : PageRow M). page.row) middle ≡ map (carried_row changes) (take later.count (drop later.from (rows_in h.pages))) =
+      middle_is (λ (page : PageRow M). page.row) (carried_page changes) (carried_row changes) (λ page. refl) later.count later.from h.pages in
+      let moved : rows_meant meaning (map (carried_row changes) (take later.count (drop later.from old.rows.items))) ≡ map (carried_row changes) (take later.count (drop later.from (rows_in h.pages))) =
+      carried_meant (take later.count (drop later.from old.rows.items))
+      ∙ ap (map (carried_row changes)) (sym (take-map (row_meant meaning) later.count (drop later.from old.rows.items)) ∙ ap (take later.count) (sym (drop-map (row_meant meaning) later.from old.rows.items)) ∙ ap (λ xs. take later.count (drop later.from xs)) olds.rows_are) in
       record {
         pages_are = are.pages_are
             ∙ (λ i. take kept (olds.pages_are i) ++ (is.pages_are i ++ ((ap (λ xs. take later.count (drop later.from xs)) olds.pages_are ∙ sym bodies) i ++ further_pages old.last is.more later.further is.more_is i)))
@@ -101,24 +101,24 @@ module _ {S M : Type 0} (meaning : S → M) (e : Edit) where
             ∙ (λ i. take kept (olds.pieces_are i) ++ (is.pieces_are i ++ ((ap (λ xs. take later.count (drop later.from xs)) olds.pieces_are ∙ sym pieces) i ++ further_pieces old.last is.more later.further is.more_is i)))
             ∙ sym (four_parts (λ (page : PageRow M). page.piece) kept h.pages is.formatted middle is.more.pages) ∙ ap (λ pages. map (λ (page : PageRow M). page.piece) (take kept h.pages ++ pages)) (sym whole_pages);
         rows_are = ap (rows_meant meaning) are.rows_are
-            ∙ four_parts (row_meant meaning) kept old.rows.items later.front.rows.items (map (shifted_row e) (take later.count (drop later.from old.rows.items))) (rows_of later.further)
+            ∙ four_parts (row_meant meaning) kept old.rows.items later.front.rows.items (map (carried_row changes) (take later.count (drop later.from old.rows.items))) (rows_of later.further)
             ∙ (λ i. take kept (olds.rows_are i) ++ (is.rows_are i ++ ((moved ∙ sym rows) i ++ further_rows old.last is.more later.further is.more_is i)))
             ∙ sym (four_parts (λ (page : PageRow M). page.row) kept h.pages is.formatted middle is.more.pages) ∙ ap (λ pages. map (λ (page : PageRow M). page.row) (take kept h.pages ++ pages)) (sym whole_pages);
         last_is = are.last_is ∙ further_last old.last is.more later.further is.more_is ∙ sym (ap (λ it. it.last) is.whole_is);
       }
 
 -- the states stay idle
-module _ {S M : Type 0} (m : Formatter M) (meaning : S → M) (pending : S → List ℕ) (e : Edit) where
+module _ {S M : Type 0} (m : Formatter M) (meaning : S → M) (pending : S → List ℕ) (changes : List Change) where
   idle_drop : (n : ℕ) (rows : List (Row S)) → AreIdle m meaning pending rows → AreIdle m meaning pending (drop n rows)
   idle_drop zero rows idle = idle
   idle_drop (suc n) [] idle = idle
   idle_drop (suc n) (row ∷ rows) idle = idle_drop n rows (λ k d below. idle (suc k) d (omega arith))
 
-  idle_moved : (rows : List (Row S)) → AreIdle m meaning pending rows → AreIdle m meaning pending (map (shifted_row e) rows)
+  idle_moved : (rows : List (Row S)) → AreIdle m meaning pending rows → AreIdle m meaning pending (map (carried_row changes) rows)
   idle_moved [] idle = λ k d below. absurd (omega arith)
   idle_moved (row ∷ rows) idle = both (idle 0 row (omega arith)) (idle_moved rows (λ k d below. idle (suc k) d (omega arith)))
     where
-      both : IsIdle m meaning pending row.state → AreIdle m meaning pending (map (shifted_row e) rows) → AreIdle m meaning pending (shifted_row e row ∷ map (shifted_row e) rows)
+      both : IsIdle m meaning pending row.state → AreIdle m meaning pending (map (carried_row changes) rows) → AreIdle m meaning pending (carried_row changes row ∷ map (carried_row changes) rows)
       both first others zero d below = first
       both first others (suc k) d below = others k d (omega arith)
 
@@ -126,7 +126,7 @@ module _ {S M : Type 0} (m : Formatter M) (meaning : S → M) (pending : S → L
   idle_further (Goes rows) idle = idle
   idle_further (Stands end) idle = λ k d below. absurd (omega arith)
 
-  pub reused-idle : {old new : Rows S} {kept : ℕ} {later : Later S} → AreIdle m meaning pending old.rows.items → LaterIsIdle m meaning pending later → AreReused e old kept later new → AreIdle m meaning pending new.rows.items
+  pub reused-idle : {old new : Rows S} {kept : ℕ} {later : Later S} → AreIdle m meaning pending old.rows.items → LaterIsIdle m meaning pending later → AreReused changes old kept later new → AreIdle m meaning pending new.rows.items
   reused-idle {old = old} {kept = kept} {later = later} olds idle are =
       let IsSo : Row S → Type 0 = λ row. IsIdle m meaning pending row.state in
       let part : List (Row S) = take later.count (drop later.from old.rows.items) in
@@ -134,4 +134,4 @@ module _ {S M : Type 0} (m : Formatter M) (meaning : S → M) (pending : S → L
       subst (AreIdle m meaning pending) (sym are.rows_are)
       (All-append IsSo (take kept old.rows.items) _ (All-take IsSo kept old.rows.items olds)
       (All-append IsSo later.front.rows.items _ idle.0
-      (All-append IsSo (map (shifted_row e) part) (rows_of later.further) (idle_moved part part_idle) (idle_further later.further idle.1))))
+      (All-append IsSo (map (carried_row changes) part) (rows_of later.further) (idle_moved part part_idle) (idle_further later.further idle.1))))

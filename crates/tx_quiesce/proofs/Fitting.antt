@@ -4,6 +4,7 @@ use Rattle.std.specs.Prelude.{slice_get, IfSome}
 use Rattle.std.specs.List.{All}
 use Rattle.std.specs.Str.{bytes_eq}
 use Rattle.tx_files.specs.declared.edit.Edit.{Edit}
+use Rattle.tx_files.specs.declared.edit.Change.{Change}
 use Rattle.tx_files.specs.Shift.{shifted}
 use Rattle.tx_machine.specs.declared.types.OpenFile.{OpenFile}
 use Rattle.tx_quiesce.specs.Meeting.{file_fits, opens_fit}
@@ -13,18 +14,18 @@ never : (b : Bool) → b ≢ true → false ≡ b
 never true differ = absurd (differ refl)
 never false _ = refl
 
-as_many : (e : Edit) (olds news : List OpenFile) → opens_fit e olds news ≡ true → length olds ≡ length news
-as_many e [] [] fit = refl
-as_many e [] (new ∷ news) fit = absurd (true≢false (sym fit))
-as_many e (old ∷ olds) [] fit = absurd (true≢false (sym fit))
-as_many e (old ∷ olds) (new ∷ news) fit = ap suc (as_many e olds news (rest (file_fits e old new) fit))
+as_many : (changes : List Change) (olds news : List OpenFile) → opens_fit changes olds news ≡ true → length olds ≡ length news
+as_many changes [] [] fit = refl
+as_many changes [] (new ∷ news) fit = absurd (true≢false (sym fit))
+as_many changes (old ∷ olds) [] fit = absurd (true≢false (sym fit))
+as_many changes (old ∷ olds) (new ∷ news) fit = ap suc (as_many changes olds news (rest (file_fits changes old new) fit))
   where
-    rest : (b : Bool) → (b && opens_fit e olds news) ≡ true → opens_fit e olds news ≡ true
+    rest : (b : Bool) → (b && opens_fit changes olds news) ≡ true → opens_fit changes olds news ≡ true
     rest true both = both
     rest false both = absurd (true≢false (sym both))
 
-pub never-fit : (e : Edit) (olds news : List OpenFile) → length olds ≢ length news → false ≡ opens_fit e olds news
-never-fit e olds news differ = never (opens_fit e olds news) (λ fit. differ (as_many e olds news fit))
+pub never-fit : (changes : List Change) (olds news : List OpenFile) → length olds ≢ length news → false ≡ opens_fit changes olds news
+never-fit changes olds news differ = never (opens_fit changes olds news) (λ fit. differ (as_many changes olds news fit))
 
 drop_all : {X : Type 0} (k : ℕ) (xs : List X) → length xs ≤ k → drop k xs ≡ []
 drop_all zero [] short = refl
@@ -33,28 +34,28 @@ drop_all (suc k) [] short = refl
 drop_all (suc k) (x ∷ xs) short = drop_all k xs (omega arith)
 
 -- so far they fit
-fit_step : (e : Edit) (k : ℕ) (olds news : List OpenFile) (old new : OpenFile) → k < length olds → k < length news → old ≡ slice_index_or olds k old → new ≡ slice_index_or news k new
-    → opens_fit e (drop k olds) (drop k news) ≡ (file_fits e old new && opens_fit e (drop (suc k) olds) (drop (suc k) news))
-fit_step e k [] news old new below short is too = absurd (omega arith)
-fit_step e k (x ∷ olds) [] old new below short is too = absurd (omega arith)
-fit_step e zero (x ∷ olds) (y ∷ news) old new below short is too = λ i. file_fits e (sym is i) (sym too i) && opens_fit e olds news
-fit_step e (suc k) (x ∷ olds) (y ∷ news) old new below short is too = fit_step e k olds news old new (omega arith) (omega arith) is too
+fit_step : (changes : List Change) (k : ℕ) (olds news : List OpenFile) (old new : OpenFile) → k < length olds → k < length news → old ≡ slice_index_or olds k old → new ≡ slice_index_or news k new
+    → opens_fit changes (drop k olds) (drop k news) ≡ (file_fits changes old new && opens_fit changes (drop (suc k) olds) (drop (suc k) news))
+fit_step changes k [] news old new below short is too = absurd (omega arith)
+fit_step changes k (x ∷ olds) [] old new below short is too = absurd (omega arith)
+fit_step changes zero (x ∷ olds) (y ∷ news) old new below short is too = λ i. file_fits changes (sym is i) (sym too i) && opens_fit changes olds news
+fit_step changes (suc k) (x ∷ olds) (y ∷ news) old new below short is too = fit_step changes k olds news old new (omega arith) (omega arith) is too
 
-module _ (e : Edit) (k : ℕ) (olds news : List OpenFile) (as_long : length olds ≡ length news) (so_far : opens_fit e (drop k olds) (drop k news) ≡ opens_fit e olds news) where
-  pub fit-on : {old new : OpenFile} → k < length olds → old ≡ slice_index_or olds k old → new ≡ slice_index_or news k new → true ≡ file_fits e old new
-      → opens_fit e (drop (k + 1) olds) (drop (k + 1) news) ≡ opens_fit e olds news
+module _ (changes : List Change) (k : ℕ) (olds news : List OpenFile) (as_long : length olds ≡ length news) (so_far : opens_fit changes (drop k olds) (drop k news) ≡ opens_fit changes olds news) where
+  pub fit-on : {old new : OpenFile} → k < length olds → old ≡ slice_index_or olds k old → new ≡ slice_index_or news k new → true ≡ file_fits changes old new
+      → opens_fit changes (drop (k + 1) olds) (drop (k + 1) news) ≡ opens_fit changes olds news
   fit-on {old = old} {new = new} below is too fit =
       let next : k + 1 ≡ suc k = omega arith in
-      ap (λ n. opens_fit e (drop n olds) (drop n news)) next ∙ ap (λ b. b && opens_fit e (drop (suc k) olds) (drop (suc k) news)) fit
-      ∙ sym (fit_step e k olds news old new below (let other = as_long in omega arith) is too) ∙ so_far
+      ap (λ n. opens_fit changes (drop n olds) (drop n news)) next ∙ ap (λ b. b && opens_fit changes (drop (suc k) olds) (drop (suc k) news)) fit
+      ∙ sym (fit_step changes k olds news old new below (let other = as_long in omega arith) is too) ∙ so_far
 
-  pub fit-stops : {old new : OpenFile} → k < length olds → old ≡ slice_index_or olds k old → new ≡ slice_index_or news k new → false ≡ file_fits e old new → false ≡ opens_fit e olds news
+  pub fit-stops : {old new : OpenFile} → k < length olds → old ≡ slice_index_or olds k old → new ≡ slice_index_or news k new → false ≡ file_fits changes old new → false ≡ opens_fit changes olds news
   fit-stops {old = old} {new = new} below is too fit =
-      ap (λ b. b && opens_fit e (drop (suc k) olds) (drop (suc k) news)) fit
-      ∙ sym (fit_step e k olds news old new below (let other = as_long in omega arith) is too) ∙ so_far
+      ap (λ b. b && opens_fit changes (drop (suc k) olds) (drop (suc k) news)) fit
+      ∙ sym (fit_step changes k olds news old new below (let other = as_long in omega arith) is too) ∙ so_far
 
-  pub fit-all : length olds ≤ k → true ≡ opens_fit e olds news
-  fit-all all = sym ((λ i. opens_fit e (none_left olds all i) (none_left news (let other = as_long in omega arith) i))) ∙ so_far
+  pub fit-all : length olds ≤ k → true ≡ opens_fit changes olds news
+  fit-all all = sym ((λ i. opens_fit changes (none_left olds all i) (none_left news (let other = as_long in omega arith) i))) ∙ so_far
     where
       none_left : (xs : List OpenFile) → length xs ≤ k → drop k xs ≡ []
       none_left xs short = drop_all k xs short

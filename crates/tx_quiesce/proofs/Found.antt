@@ -1,12 +1,12 @@
--- What a meeting that was found is, and why the run on the edited files is then made of these parts.
+-- What a meeting that was found is, and why the run on the changed files is then made of these parts.
 use Rattle.std.proofs.Common.{◌≡◌, ℕ, zero, suc, ◌+◌, ◌-◌, ◌≤◌, Bool, true, false, cond, not, ◌&&◌, List, [], ◌∷◌, ◌++◌, length, map, take, drop, max, Option, Some, None, refl, sym, ap, ◌∙◌, subst, arith}
 use Rattle.std.proofs.lemmas.Bool.{and_parts, not-true}
 use Rattle.std.proofs.Common.{length-drop}
 use Rattle.std.proofs.lemmas.List.{length-map, length-take-le, take-map, drop-drop}
 use Rattle.std.proofs.Math.Seq.{drop-append_seam}
 use Rattle.tx_bytes.specs.Files.{Files}
-use Rattle.tx_files.specs.declared.edit.Edit.{Edit}
-use Rattle.tx_files.specs.Edits.{fits_in, edited}
+use Rattle.tx_files.specs.declared.edit.Change.{Change}
+use Rattle.tx_files.specs.Changes.{all_fit, all_changed}
 use Rattle.tx_machine.specs.declared.types.Date.{Date}
 use Rattle.tx_machine.specs.declared.types.Limits.{Limits}
 use Rattle.tx_machine.specs.Machine.{Formatter, IsLawful}
@@ -15,9 +15,8 @@ use Rattle.tx_checkpoint.specs.declared.row.Last.{Last}
 use Rattle.tx_checkpoint.specs.Laws.{AreUntouched}
 use Rattle.tx_checkpoint.specs.Resume.{Begun, after_rows, start_of, run_behind}
 use Rattle.tx_checkpoint.specs.Rows.{History, PageRow, rows_in, behind, rows_from, fresh_rows}
-use Rattle.tx_checkpoint.proofs.Edited.{edited-is}
 use Rattle.tx_checkpoint.proofs.Standing.{splits, fresh-resumes}
-use Rattle.tx_quiesce.specs.Meeting.{Meeting, opens_fit, row_fits, rest_asks, met, met_row, meeting_at, first_meeting}
+use Rattle.tx_quiesce.specs.Meeting.{Meeting, opens_fit, row_fits, rest_asks_any, met, met_row, meeting_at, first_meeting}
 use Rattle.tx_quiesce.specs.Reuse.{moved, moved_begun, reused, further, rest_of, reused_by, made_after}
 use Rattle.tx_quiesce.proofs.Reuse.{from-meeting}
 
@@ -43,24 +42,24 @@ drop-map f zero xs = refl
 drop-map f (suc n) [] = refl
 drop-map f (suc n) (x ∷ xs) = drop-map f n xs
 
-module _ {S : Type 0} (m : Formatter S) (e : Edit) (last : Last) where
+module _ {S : Type 0} (m : Formatter S) (changes : List Change) (last : Last) where
   -- an old row that was found
   pub record FoundOld (new : Row S) (olds : List (Row S)) (rows : ℕ) : Type 0 where
     pub old : Row S
     pub within : rows ≤ length olds
     pub some : 1 ≤ rows
-    pub fits : row_fits m e old new ≡ true
-    pub asks : rest_asks (drop rows olds) last e.name ≡ false
+    pub fits : row_fits m changes old new ≡ true
+    pub asks : rest_asks_any (drop rows olds) last changes ≡ false
     pub at : (begun : Begun S) → after_rows begun (take rows olds) ≡ row_begun old
 
-  pub found_old : (new : Row S) (number j : ℕ) (olds : List (Row S)) → met m e last new number olds ≡ Some j → (number ≤ j) × FoundOld new olds (j - number + 1)
+  pub found_old : (new : Row S) (number j : ℕ) (olds : List (Row S)) → met m changes last new number olds ≡ Some j → (number ≤ j) × FoundOld new olds (j - number + 1)
   found_old new number j [] is = absurd (let none : None ≡ Some j = is in cc)
-  found_old new number j (old ∷ olds) is = by (found_old new (number + 1) j olds) (row_fits m e old new && not (rest_asks olds last e.name)) refl is
+  found_old new number j (old ∷ olds) is = by (found_old new (number + 1) j olds) (row_fits m changes old new && not (rest_asks_any olds last changes)) refl is
     where
-      by : (met m e last new (number + 1) olds ≡ Some j → (number + 1 ≤ j) × FoundOld new olds (j - (number + 1) + 1))
-          → (b : Bool) → (row_fits m e old new && not (rest_asks olds last e.name)) ≡ b → cond b (Some number) (met m e last new (number + 1) olds) ≡ Some j → (number ≤ j) × FoundOld new (old ∷ olds) (j - number + 1)
+      by : (met m changes last new (number + 1) olds ≡ Some j → (number + 1 ≤ j) × FoundOld new olds (j - (number + 1) + 1))
+          → (b : Bool) → (row_fits m changes old new && not (rest_asks_any olds last changes)) ≡ b → cond b (Some number) (met m changes last new (number + 1) olds) ≡ Some j → (number ≤ j) × FoundOld new (old ∷ olds) (j - number + 1)
       by further_on true fit here =
-          let parts = and_parts (row_fits m e old new) (not (rest_asks olds last e.name)) fit in
+          let parts = and_parts (row_fits m changes old new) (not (rest_asks_any olds last changes)) fit in
           let same : number ≡ j = (let found : Some number ≡ Some j = here in cc) in
           let one : j - number + 1 ≡ 1 = omega arith in (
             omega arith,
@@ -69,7 +68,7 @@ module _ {S : Type 0} (m : Formatter S) (e : Edit) (last : Last) where
               within = omega arith;
               some = omega arith;
               fits = parts.0;
-              asks = ap (λ n. rest_asks (drop n (old ∷ olds)) last e.name) one ∙ not-true (rest_asks olds last e.name) parts.1;
+              asks = ap (λ n. rest_asks_any (drop n (old ∷ olds)) last changes) one ∙ not-true (rest_asks_any olds last changes) parts.1;
               at = λ begun. ap (λ n. after_rows begun (take n (old ∷ olds))) one;
             },
           )
@@ -84,12 +83,12 @@ module _ {S : Type 0} (m : Formatter S) (e : Edit) (last : Last) where
               within = omega arith;
               some = omega arith;
               fits = later.1.fits;
-              asks = ap (λ n. rest_asks (drop n (old ∷ olds)) last e.name) next ∙ later.1.asks;
+              asks = ap (λ n. rest_asks_any (drop n (old ∷ olds)) last changes) next ∙ later.1.asks;
               at = λ begun. ap (λ n. after_rows begun (take n (old ∷ olds))) next ∙ later.1.at (row_begun old);
             },
           )
 
-  pub found_row : (olds : List (Row S)) (resumed : ℕ) (new : Row S) (j : ℕ) → met_row m e olds last resumed new ≡ Some j → FoundOld new olds j
+  pub found_row : (olds : List (Row S)) (resumed : ℕ) (new : Row S) (j : ℕ) → met_row m changes olds last resumed new ≡ Some j → FoundOld new olds j
   found_row olds resumed new j is =
       let p : ℕ = max resumed 1 - 1 in
       let found = found_old new (max resumed 1) j (drop p olds) is in
@@ -102,7 +101,7 @@ module _ {S : Type 0} (m : Formatter S) (e : Edit) (last : Last) where
         within = omega arith;
         some = omega arith;
         fits = found.1.fits;
-        asks = ap (λ rows. rest_asks rows last e.name) (sym (drop-drop (j - max resumed 1 + 1) p olds ∙ ap (λ n. drop n olds) sum)) ∙ found.1.asks;
+        asks = ap (λ rows. rest_asks_any rows last changes) (sym (drop-drop (j - max resumed 1 + 1) p olds ∙ ap (λ n. drop n olds) sum)) ∙ found.1.asks;
         at = λ begun. ap (λ n. after_rows begun (take n olds)) (sym sum) ∙ ap (after_rows begun) (take-split p (j - max resumed 1 + 1) olds) ∙ after-append begun (take p olds) (take (j - max resumed 1 + 1) (drop p olds)) ∙ found.1.at (after_rows begun (take p olds));
       }
 
@@ -110,15 +109,15 @@ module _ {S : Type 0} (m : Formatter S) (e : Edit) (last : Last) where
   pub record FoundNew (olds : List (Row S)) (resumed : ℕ) (news : List (Row S)) (meeting : Meeting) : Type 0 where
     pub new : Row S
     pub within : meeting.formatted ≤ length news
-    pub meets : met_row m e olds last resumed new ≡ Some meeting.old
+    pub meets : met_row m changes olds last resumed new ≡ Some meeting.old
     pub at : (begun : Begun S) → after_rows begun (take meeting.formatted news) ≡ row_begun new
 
-  pub found_new : (olds : List (Row S)) (resumed : ℕ) (news : List (Row S)) (meeting : Meeting) → first_meeting m e olds last resumed news ≡ Some meeting → FoundNew olds resumed news meeting
+  pub found_new : (olds : List (Row S)) (resumed : ℕ) (news : List (Row S)) (meeting : Meeting) → first_meeting m changes olds last resumed news ≡ Some meeting → FoundNew olds resumed news meeting
   found_new olds resumed [] meeting is = absurd (let none : None ≡ Some meeting = is in cc)
-  found_new olds resumed (new ∷ news) meeting is = by (found_new olds resumed news) (met_row m e olds last resumed new) (first_meeting m e olds last resumed news) refl refl is
+  found_new olds resumed (new ∷ news) meeting is = by (found_new olds resumed news) (met_row m changes olds last resumed new) (first_meeting m changes olds last resumed news) refl refl is
     where
-      by : ((first : Meeting) → first_meeting m e olds last resumed news ≡ Some first → FoundNew olds resumed news first)
-          → (o : Option ℕ) (later : Option Meeting) → met_row m e olds last resumed new ≡ o → first_meeting m e olds last resumed news ≡ later → meeting_at o later ≡ Some meeting → FoundNew olds resumed (new ∷ news) meeting
+      by : ((first : Meeting) → first_meeting m changes olds last resumed news ≡ Some first → FoundNew olds resumed news first)
+          → (o : Option ℕ) (later : Option Meeting) → met_row m changes olds last resumed new ≡ o → first_meeting m changes olds last resumed news ≡ later → meeting_at o later ≡ Some meeting → FoundNew olds resumed (new ∷ news) meeting
       by further_on (Some j) later here there found =
           let same : record { formatted = 1; old = j } ≡ meeting = (let it : Some (record { formatted = 1; old = j }) ≡ Some meeting = found in cc) in
           subst (FoundNew olds resumed (new ∷ news)) same (record { new = new; within = omega arith; meets = here; at = λ begun. refl })
@@ -136,10 +135,10 @@ module _ {S : Type 0} (m : Formatter S) (e : Edit) (last : Last) where
           })
 
   -- the new row of a meeting is one of these, and the old one isn't before the row at which formatting resumed
-  pub first-within : (olds : List (Row S)) (resumed : ℕ) (news : List (Row S)) (meeting : Meeting) → first_meeting m e olds last resumed news ≡ Some meeting → meeting.formatted ≤ length news
+  pub first-within : (olds : List (Row S)) (resumed : ℕ) (news : List (Row S)) (meeting : Meeting) → first_meeting m changes olds last resumed news ≡ Some meeting → meeting.formatted ≤ length news
   first-within olds resumed news meeting is = (found_new olds resumed news meeting is).within
 
-  pub first-past : (olds : List (Row S)) (resumed : ℕ) (news : List (Row S)) (meeting : Meeting) → first_meeting m e olds last resumed news ≡ Some meeting → resumed ≤ meeting.old
+  pub first-past : (olds : List (Row S)) (resumed : ℕ) (news : List (Row S)) (meeting : Meeting) → first_meeting m changes olds last resumed news ≡ Some meeting → resumed ≤ meeting.old
   first-past olds resumed news meeting is =
       let there = found_new olds resumed news meeting is in
       let above : max resumed 1 ≤ meeting.old = (found_old there.new (max resumed 1) meeting.old (drop (max resumed 1 - 1) olds) there.meets).0 in
@@ -160,12 +159,12 @@ old_rest {S = S} m files main date limits j within begun is =
       last = ap (λ h. h.last) whole i;
     }
 
-module _ {S : Type 0} (m : Formatter S) (lawful : IsLawful m) (files : Files) (e : Edit) (main : List ℕ) (date : Date) (limits : Limits) (fits : fits_in files e ≡ true) where
+module _ {S : Type 0} (m : Formatter S) (lawful : IsLawful m) (files : Files) (changes : List Change) (main : List ℕ) (date : Date) (limits : Limits) (fits : all_fit files changes ≡ true) where
   abbrev old : History S
   old = fresh_rows m files main date limits
 
   abbrev after : Files
-  after = edited files e
+  after = all_changed files changes
 
   module _ (k : ℕ) where
     abbrev new : History S
@@ -174,29 +173,29 @@ module _ {S : Type 0} (m : Formatter S) (lawful : IsLawful m) (files : Files) (e
     abbrev begun : Begun S
     begun = after_rows (start_of m main date) (take k (rows_in old.pages))
 
-    pub tail_is : (o : Option Meeting) → first_meeting m e (rows_in old.pages) old.last k (rows_in new.pages) ≡ o → new ≡ reused_by m after e (start_of m main date) limits.budget (limits.pages - k) old new o
+    pub tail_is : (o : Option Meeting) → first_meeting m changes (rows_in old.pages) old.last k (rows_in new.pages) ≡ o → new ≡ reused_by m after changes (start_of m main date) limits.budget (limits.pages - k) old new o
     tail_is None is = refl
     tail_is (Some meeting) is =
-        let there = found_new m e old.last (rows_in old.pages) k (rows_in new.pages) meeting is in
-        let here = found_row m e old.last (rows_in old.pages) k there.new meeting.old there.meets in
-        let fit = and_parts (opens_fit e here.old.opens there.new.opens) (m.same there.new.state here.old.state) here.fits in
+        let there = found_new m changes old.last (rows_in old.pages) k (rows_in new.pages) meeting is in
+        let here = found_row m changes old.last (rows_in old.pages) k there.new meeting.old there.meets in
+        let fit = and_parts (opens_fit changes here.old.opens there.new.opens) (m.same there.new.state here.old.state) here.fits in
         let inside : meeting.formatted ≤ length new.pages = subst (λ n. meeting.formatted ≤ n) (length-map new.pages (λ page. page.row)) there.within in
         let within : meeting.old ≤ length old.pages = subst (λ n. meeting.old ≤ n) (length-map old.pages (λ page. page.row)) here.within in
         let new_at : after_rows begun (rows_in (take meeting.formatted new.pages)) ≡ row_begun there.new =
         ap (after_rows begun) (sym (take-map (λ (page : PageRow S). page.row) meeting.formatted new.pages)) ∙ there.at begun in
         let old_at = here.at (start_of m main date) in
         let rest : rest_of old meeting.old ≡ rows_from m files limits.budget (limits.pages - meeting.old) here.old.state here.old.opens = old_rest m files main date limits meeting.old within (row_begun here.old) old_at in
-        let asks : rest_asks (rows_in (rest_of old meeting.old).pages) old.last e.name ≡ false = ap (λ rows. rest_asks rows old.last e.name) (sym (drop-map (λ (page : PageRow S). page.row) meeting.old old.pages)) ∙ here.asks in
+        let asks : rest_asks_any (rows_in (rest_of old meeting.old).pages) old.last changes ≡ false = ap (λ rows. rest_asks_any rows old.last changes) (sym (drop-map (λ (page : PageRow S). page.row) meeting.old old.pages)) ∙ here.asks in
         let left : ℕ = limits.pages - k - meeting.formatted in
-        let product : Begun S → History S → History S = λ b h. behind (take (reused left (moved after e h)) (moved after e h).pages) (further m after limits.budget left (moved_begun e b) (moved after e h)) in
+        let product : Begun S → History S → History S = λ b h. behind (take (reused left (moved after changes h)) (moved after changes h).pages) (further m after limits.budget left (moved_begun changes b) (moved after changes h)) in
         splits m after limits.budget (limits.pages - k) meeting.formatted begun.state begun.opens inside
         ∙ ap (λ (b : Begun S). behind (take meeting.formatted new.pages) (rows_from m after limits.budget left b.state b.opens)) new_at
         ∙ ap (behind (take meeting.formatted new.pages))
-        (from-meeting m limits.budget (edited-is files e fits) (limits.pages - meeting.old) left (row_begun here.old) (row_begun there.new) fit.0 ((lawful.tells there.new.state here.old.state).0 fit.1)
-        (subst (λ (h : History S). rest_asks (rows_in h.pages) h.last e.name ≡ false) rest asks)
+        (from-meeting m limits.budget files changes fits (limits.pages - meeting.old) left (row_begun here.old) (row_begun there.new) fit.0 ((lawful.tells there.new.state here.old.state).0 fit.1)
+        (subst (λ (h : History S). rest_asks_any (rows_in h.pages) h.last changes ≡ false) rest asks)
         ∙ (λ i. product (sym old_at i) (sym rest i)))
 
-    pub reuse-is : AreUntouched (rows_in old.pages) k e → fresh_rows m after main date limits ≡ made_after m after e main date limits k old
+    pub reuse-is : AreUntouched (rows_in old.pages) k changes → fresh_rows m after main date limits ≡ made_after m after changes main date limits k old
     reuse-is are =
-        fresh-resumes m files e main date limits fits k are
-        ∙ ap (behind (take k old.pages)) (tail_is (first_meeting m e (rows_in old.pages) old.last k (rows_in new.pages)) refl)
+        fresh-resumes m files changes main date limits fits k are
+        ∙ ap (behind (take k old.pages)) (tail_is (first_meeting m changes (rows_in old.pages) old.last k (rows_in new.pages)) refl)

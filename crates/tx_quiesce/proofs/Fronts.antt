@@ -1,6 +1,6 @@
 -- The pages before the first meeting, and what is formatted up to it.
 use Rattle.std.proofs.Common.{◌≡◌, ℕ, zero, suc, ◌+◌, List, [], ◌∷◌, ◌++◌, length, take, Option, Some, None, refl, sym, ap, ◌∙◌, arith}
-use Rattle.tx_files.specs.declared.edit.Edit.{Edit}
+use Rattle.tx_files.specs.declared.edit.Change.{Change}
 use Rattle.tx_machine.specs.Machine.{Formatter}
 use Rattle.tx_checkpoint.specs.declared.row.Row.{Row}
 use Rattle.tx_checkpoint.specs.declared.row.Last.{Last}
@@ -11,12 +11,12 @@ use Rattle.tx_quiesce.specs.Meeting.{Meeting, met_row, one_later, meeting_at, fi
 some_is : {X : Type 0} (x : X) → None ≡ Some x → ⊥
 some_is x is = let none : None ≡ Some x = is in cc
 
-module _ {S : Type 0} (m : Formatter S) (e : Edit) (olds : List (Row S)) (last : Last) (resumed : ℕ) where
+module _ {S : Type 0} (m : Formatter S) (changes : List Change) (olds : List (Row S)) (last : Last) (resumed : ℕ) where
   abbrev pub first : List (PageRow S) → Option Meeting
-  first pages = first_meeting m e olds last resumed (rows_in pages)
+  first pages = first_meeting m changes olds last resumed (rows_in pages)
 
   abbrev pub here : PageRow S → Option ℕ
-  here page = met_row m e olds last resumed page.row
+  here page = met_row m changes olds last resumed page.row
 
   -- no meeting so far: none at the first page, and none at the others
   one_none : (o : Option Meeting) → one_later o ≡ None → o ≡ None

@@ -7,6 +7,12 @@ pub mod KinRows
 pub mod Goes
 pub mod Suffix
 pub mod Moved
+mod TakenAway
+mod Behind
+mod Moving
+mod Carrying
+mod Places
+mod Origins
 pub mod Inside
 pub mod Fitting
 pub mod Searching

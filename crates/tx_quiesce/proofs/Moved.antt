@@ -5,7 +5,8 @@ use Rattle.std.specs.List.{All, AllZip}
 use Rattle.std.specs.Str.{bytes_eq}
 use Rattle.std.proofs.lemmas.List.{drop-drop, length-take-le}
 use Rattle.tx_bytes.specs.Files.{Files, content}
-use Rattle.tx_files.specs.declared.edit.Edit.{Edit}
+use Rattle.tx_files.specs.declared.edit.Edit.{Edit as FileEdit}
+use Rattle.tx_files.specs.declared.edit.Change.TheVariants.{Edit}
 use Rattle.tx_files.specs.declared.reads.Note.{Note}
 use Rattle.tx_files.specs.declared.reads.Sight.TheVariants.{Line, End}
 use Rattle.tx_files.specs.Edits.{spliced}
@@ -17,7 +18,8 @@ use Rattle.tx_checkpoint.specs.declared.row.Last.{Last}
 use Rattle.tx_checkpoint.specs.Rows.{History, PageRow, rows_in, rows_from}
 use Rattle.tx_checkpoint.proofs.Edited.{Edited}
 use Rattle.tx_quiesce.specs.Meeting.{rest_asks}
-use Rattle.tx_quiesce.specs.Shift.{end_now, shifted_file, shifted_opens, shifted_page, last_now}
+use Rattle.tx_quiesce.specs.Moves.{carried_page, last_now}
+use Rattle.tx_quiesce.specs.Shift.{end_now, shifted_file, shifted_opens}
 use Rattle.tx_quiesce.proofs.Kin.{IsKin}
 use Rattle.tx_quiesce.proofs.KinRows.{PageKin, LastKin, HistoryKin, kin-rows}
 use Rattle.tx_quiesce.proofs.Shifted.{shifted_sight, NoteShifts, ReadsShift, reads-shifted}
@@ -41,17 +43,25 @@ shifted_rest bytes put place removed offset inside behind =
     ∙ drop-drop (offset - removed - place) (place + removed) bytes ∙ ap (λ n. drop n bytes) sum
 
 -- an open file that stands behind the edit, and where it stands after it
-abbrev pub FileBehind : Edit → OpenFile → Type 0
+abbrev pub FileBehind : FileEdit → OpenFile → Type 0
 FileBehind e file = bytes_eq file.name e.name ≡ true → IsBehind e file.offset
 
-pub record FileShifts (e : Edit) (old new : OpenFile) : Type 0 where
+pub record FileShifts (e : FileEdit) (old new : OpenFile) : Type 0 where
   pub behind : FileBehind e old
   pub is : new ≡ shifted_file e old
 
-abbrev pub IsOther : Edit → List ℕ → Type 0
-IsOther e name = bytes_eq name e.name ≡ false
+abbrev pub IsOther : List ℕ → List ℕ → Type 0
+IsOther changed name = bytes_eq name changed ≡ false
 
-module _ (e : Edit) where
+-- where a run doesn't ask for a file, it asks for others alone
+pub others-asked : {S : Type 0} (h : History S) (changed : List ℕ) → rest_asks (rows_in h.pages) h.last changed ≡ false → (name : List ℕ) → rest_asks (rows_in h.pages) h.last name ≡ true → IsOther changed name
+others-asked h changed none name asks = by (bytes_eq name changed) refl
+  where
+    by : (b : Bool) → bytes_eq name changed ≡ b → bytes_eq name changed ≡ false
+    by true is = absurd (true≢false (sym asks ∙ ap (rest_asks (rows_in h.pages) h.last) ((bytes_decides name changed).0 is) ∙ none))
+    by false is = is
+
+module _ (e : FileEdit) where
   abbrev by_name : OpenFile → Bool → OpenFile
   by_name file b = cond b (record file { offset = shifted e file.offset }) file
 
@@ -91,7 +101,7 @@ module _ (e : Edit) where
         same_other : (name : List ℕ) → bytes_eq name e.name ≡ false → content after name ≡ content before name
         same_other name other = edit.others name (λ same. true≢false (sym ((bytes_decides name e.name).1 same) ∙ other))
 
-    shift_kin : IsKin before after (FileShifts e) (NoteShifts e) (IsOther e)
+    shift_kin : IsKin before after (FileShifts e) (NoteShifts e) (IsOther e.name)
     shift_kin = record {
       names = λ o p r. ap (λ (f : OpenFile). f.name) r.is ∙ name_same o (bytes_eq o.name e.name);
       rests = λ o p r. ap (λ (f : OpenFile). drop f.offset (bytes_of after f.name)) r.is ∙ rests_by o (bytes_eq o.name e.name) refl r.behind;
@@ -124,12 +134,12 @@ module _ (e : Edit) where
     opens_shifted olds news zip = zip-is (FileShifts e) (shifted_file e) (λ o p r. r.is) olds news zip
 
     module _ {S : Type 0} (m : Formatter S) (budget : ℕ) where
-      page_shifted : (p q : PageRow S) → PageKin (FileShifts e) (ReadsShift e) p q → q ≡ shifted_page e p
+      page_shifted : (p q : PageRow S) → PageKin (FileShifts e) (ReadsShift e) p q → q ≡ carried_page (Edit e ∷ []) p
       page_shifted p q same =
           let opens : q.row.opens ≡ shifted_opens e p.row.opens = opens_shifted p.row.opens q.row.opens same.opens in
           λ i. record { body = same.body i; piece = same.piece i; row = record { turns = same.turns i; seen = same.seen.0 i; opens = opens i; state = same.state i } }
 
-      last_shifted : (l k : Last) → LastKin (FileShifts e) (ReadsShift e) after l k → k ≡ last_now after e l
+      last_shifted : (l k : Last) → LastKin (FileShifts e) (ReadsShift e) after l k → k ≡ last_now after (Edit e ∷ []) l
       last_shifted l k same =
           let opens : k.opens ≡ shifted_opens e l.opens = opens_shifted l.opens k.opens same.opens in
           let end = same.end ∙ ap (λ now. (last_with now).end) opens in
@@ -138,26 +148,19 @@ module _ (e : Edit) where
           last_with : List OpenFile → Last
           last_with now = record l { end = end_now after now l.end }
 
-      others_asked : (h : History S) → rest_asks (rows_in h.pages) h.last e.name ≡ false → (name : List ℕ) → rest_asks (rows_in h.pages) h.last name ≡ true → IsOther e name
-      others_asked h none name asks = by (bytes_eq name e.name) refl
-        where
-          by : (b : Bool) → bytes_eq name e.name ≡ b → bytes_eq name e.name ≡ false
-          by true is = absurd (true≢false (sym asks ∙ ap (rest_asks (rows_in h.pages) h.last) ((bytes_decides name e.name).0 is) ∙ none))
-          by false is = is
-
       -- the run behind the edit
       pub moved-kin : (pages : ℕ) (state : S) (opens : List OpenFile) → All (FileBehind e) opens → rest_asks (rows_in (rows_from m before budget pages state opens).pages) (rows_from m before budget pages state opens).last e.name ≡ false
           → HistoryKin (FileShifts e) (ReadsShift e) after (rows_from m before budget pages state opens) (rows_from m after budget pages state (shifted_opens e opens))
       moved-kin pages state opens behind none =
           kin-rows m shift_kin (ReadsShift e) (λ log later zip. reads-shifted e log later zip) budget pages state state opens (shifted_opens e opens) refl (zip_shifted opens behind)
-          (others_asked (rows_from m before budget pages state opens) none)
+          (others-asked (rows_from m before budget pages state opens) e.name none)
 
       pub moved-rows : (pages : ℕ) (state : S) (opens : List OpenFile) → All (FileBehind e) opens → rest_asks (rows_in (rows_from m before budget pages state opens).pages) (rows_from m before budget pages state opens).last e.name ≡ false
           → rows_from m after budget pages state (shifted_opens e opens)
-          ≡ record { pages = map (shifted_page e) (rows_from m before budget pages state opens).pages; last = last_now after e (rows_from m before budget pages state opens).last }
+          ≡ record { pages = map (carried_page (Edit e ∷ [])) (rows_from m before budget pages state opens).pages; last = last_now after (Edit e ∷ []) (rows_from m before budget pages state opens).last }
       moved-rows pages state opens behind none =
           let kin = moved-kin pages state opens behind none in
           λ i. record {
-            pages = zip-is (PageKin (FileShifts e) (ReadsShift e)) (shifted_page e) page_shifted _ _ kin.pages i;
+            pages = zip-is (PageKin (FileShifts e) (ReadsShift e)) (carried_page (Edit e ∷ [])) page_shifted _ _ kin.pages i;
             last = last_shifted _ _ kin.last i;
           }

@@ -13,7 +13,7 @@ use Rattle.tx_files.specs.declared.reads.FileReads.{FileReads}
 use Rattle.tx_files.specs.declared.reads.Note.{Note}
 use Rattle.tx_files.specs.declared.reads.Sight.{Sight}
 use Rattle.tx_files.specs.declared.reads.Sight.TheVariants.{Absent as NotThere, Opened, Line, End, Whole as Taken}
-use Rattle.tx_files.specs.Reads.{Reads, together, extent_of, is_asked, seen_more, noted, noting, reads_of}
+use Rattle.tx_files.specs.Reads.{Reads, together, extent_of, is_asked, seen_more, noted, noting, reads_of, was_asked, asks_for}
 use Rattle.tx_files.specs.Shift.{shifted, IsBehind, shifted_extent, shifted_by, shifted_reads}
 
 -- what a line shows of the edited file, moved
@@ -68,6 +68,18 @@ module _ (e : Edit) where
       by (Some held) is =
           get-insert nat_list_cmp_total reads e.name (record held { extent = shifted_extent e held.extent }) q
           ∙ ap (λ b. cond b (Some (record held { extent = shifted_extent e held.extent })) (get reads q)) (told q e.name)
+
+  -- the same files were asked for
+  held_asked : (held : Option FileReads) → was_asked (shifted_held e held) ≡ was_asked held
+  held_asked None = refl
+  held_asked (Some held) = refl
+
+  pub asks-shifted : (reads : Reads) (q : List ℕ) → asks_for (shifted_reads e reads) q ≡ asks_for reads q
+  asks-shifted reads q = ap was_asked (get_shifted reads q) ∙ by (bytes_eq q e.name) refl
+    where
+      by : (b : Bool) → bytes_eq q e.name ≡ b → was_asked (cond b (shifted_held e (get reads e.name)) (get reads q)) ≡ was_asked (get reads q)
+      by true is = held_asked (get reads e.name) ∙ ap (λ name. was_asked (get reads name)) (sym ((bytes_decides q e.name).0 is))
+      by false is = refl
 
   -- to see more of the edited file
   together_shifted : (first later : Extent) → together (shifted_extent e first) (shifted_extent e later) ≡ shifted_extent e (together first later)

@@ -57,3 +57,10 @@ module _ {X Y : Type 0} (R : X → Y → Type 0) where
   zip-is f is (x ∷ xs) (y ∷ ys) zip = λ i. is x y zip.0 i ∷ zip-is f is xs ys zip.1 i
   zip-is f is [] (y ∷ ys) zip = absurd zip
   zip-is f is (x ∷ xs) [] zip = absurd zip
+
+-- where related elements are equal, the lists are
+pub zip-same : {X : Type 0} (R : X → X → Type 0) → ((x y : X) → R x y → y ≡ x) → (xs ys : List X) → AllZip R xs ys → ys ≡ xs
+zip-same R is [] [] zip = refl
+zip-same R is (x ∷ xs) (y ∷ ys) zip = λ i. is x y zip.0 i ∷ zip-same R is xs ys zip.1 i
+zip-same R is [] (y ∷ ys) zip = absurd zip
+zip-same R is (x ∷ xs) [] zip = absurd zip

@@ -1,4 +1,4 @@
--- What is formatted after an edit up to the first meeting, or to the run's end where none comes.
+-- What is formatted after changes up to the first meeting, or to the run's end where none comes.
 use Rattle.std.specs.Prelude.{◌≡◌, ℕ, List, [], map, take, Option, Some, None}
 use Rattle.tx_checkpoint.specs.Meant.{rows_meant}
 use Rattle.tx_checkpoint.specs.Rows.{History, PageRow, rows_in, turns_of, all_turns}

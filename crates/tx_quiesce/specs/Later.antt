@@ -1,10 +1,10 @@
--- What comes behind the rows that an edit leaves, in code: pages that were formatted, then old rows that are reused, moved, and
+-- What comes behind the rows that changes leave, in code: pages that were formatted, then old rows that are reused, moved, and
 -- what comes further.
 use Rattle.std.specs.Prelude.{◌≡◌, ℕ, ◌+◌, ◌-◌, ◌≤◌, List, [], ◌++◌, length, map, take, drop, Option, Some, None}
 use Rattle.std.specs.List.{All}
 use Rattle.tx_bytes.specs.Files.{Files}
 use Rattle.tx_dvi.specs.declared.page.PageBody.{PageBody}
-use Rattle.tx_files.specs.declared.edit.Edit.{Edit}
+use Rattle.tx_files.specs.declared.edit.Change.{Change}
 use Rattle.tx_machine.specs.declared.types.Date.{Date}
 use Rattle.tx_machine.specs.declared.types.Limits.{Limits}
 use Rattle.tx_machine.specs.Machine.{Formatter}
@@ -21,44 +21,44 @@ use Rattle.tx_quiesce.specs.declared.later.Part.{Part}
 use Rattle.tx_quiesce.specs.Further.{IsFurther, FurtherIsIdle, further_turns}
 use Rattle.tx_quiesce.specs.Meeting.{Meeting}
 use Rattle.tx_quiesce.specs.Reuse.{moved, moved_begun, rest_of, further, meeting_behind}
-use Rattle.tx_quiesce.specs.Shift.{shifted_page, shifted_row, shifted_last, CanShiftRow, CanShiftLast}
+use Rattle.tx_quiesce.specs.Moves.{carried_page, carried_row, carried_last, CanCarryRow, CanCarryLast}
 
 -- some pages, then so many pages of an old run behind one of its rows, moved, and what comes further, are these
-pub record IsLater {S M : Type 0} (meaning : S → M) (e : Edit) (old : Rows S) (h : History M) (later : Later S) (whole : History M) : Type 0 where
+pub record IsLater {S M : Type 0} (meaning : S → M) (changes : List Change) (old : Rows S) (h : History M) (later : Later S) (whole : History M) : Type 0 where
   pub formatted : List (PageRow M)
   pub more : History M
   pub pages_are : later.front.pages.items ≡ map (λ page. page.body) formatted
   pub pieces_are : later.front.pieces.items ≡ map (λ page. page.piece) formatted
   pub rows_are : rows_meant meaning later.front.rows.items ≡ rows_in formatted
-  pub more_is : IsFurther meaning e old.last more later.further
-  pub whole_is : whole ≡ behind formatted (behind (take later.count (map (shifted_page e) (drop later.from h.pages))) more)
+  pub more_is : IsFurther meaning changes old.last more later.further
+  pub whole_is : whole ≡ behind formatted (behind (take later.count (map (carried_page changes) (drop later.from h.pages))) more)
 
--- the old last stretch, where it is reused, stands behind the edit
-abbrev pub CanShiftFurther : {S : Type 0} → Edit → Last → Further S → Type 0
-CanShiftFurther e last (Goes rows) = Unit {0}
-CanShiftFurther e last (Stands end) = CanShiftLast e last
+-- the old last stretch, where it is reused, stands behind the changes
+abbrev pub CanCarryFurther : {S : Type 0} → List Change → Last → Further S → Type 0
+CanCarryFurther changes last (Goes rows) = Unit {0}
+CanCarryFurther changes last (Stands end) = CanCarryLast changes last
 
--- what is reused stands behind the rows that are kept, and behind the edit
-pub record FitsBehind {S : Type 0} (e : Edit) (kept : ℕ) (old : Rows S) (later : Later S) : Type 0 where
+-- what is reused stands behind the rows that are kept, and behind the changes
+pub record FitsBehind {S : Type 0} (changes : List Change) (kept : ℕ) (old : Rows S) (later : Later S) : Type 0 where
   pub order : kept ≤ later.from
   pub within : later.from + later.count ≤ length old.rows.items
-  pub rows_can : All (CanShiftRow e) (take later.count (drop later.from old.rows.items))
-  pub last_can : CanShiftFurther e old.last later.further
+  pub rows_can : All (CanCarryRow changes) (take later.count (drop later.from old.rows.items))
+  pub last_can : CanCarryFurther changes old.last later.further
 
 abbrev pub LaterIsIdle : {S M : Type 0} → Formatter M → (S → M) → (S → List ℕ) → Later S → Type 0
 LaterIsIdle m meaning pending later = AreIdle m meaning pending later.front.rows.items × FurtherIsIdle m meaning pending later.further
 
 -- the turns that it takes: those of what is formatted up to a meeting, and of what is formatted behind the rows that are reused
-abbrev pub turns_with : {S : Type 0} → Formatter S → Files → Edit → Begun S → ℕ → ℕ → History S → History S → Option Meeting → ℕ
-turns_with m files e start budget most old new None = all_turns new
-turns_with m files e start budget most old new (Some meeting) =
+abbrev pub turns_with : {S : Type 0} → Formatter S → Files → List Change → Begun S → ℕ → ℕ → History S → History S → Option Meeting → ℕ
+turns_with m files changes start budget most old new None = all_turns new
+turns_with m files changes start budget most old new (Some meeting) =
     turns_of (take meeting.formatted new.pages)
-    + further_turns old.last (further m files budget (most - meeting.formatted) (moved_begun e (after_rows start (take meeting.old (rows_in old.pages)))) (moved files e (rest_of old meeting.old)))
+    + further_turns old.last (further m files budget (most - meeting.formatted) (moved_begun changes (after_rows start (take meeting.old (rows_in old.pages)))) (moved files changes (rest_of old meeting.old)))
 
-abbrev pub turns_behind : {S : Type 0} → Formatter S → Files → Edit → List ℕ → Date → Limits → ℕ → History S → ℕ
-turns_behind m files e main date limits kept old =
-    turns_with m files e (start_of m main date) limits.budget (limits.pages - kept) old (run_behind m files (rows_in old.pages) kept main date limits)
-    (meeting_behind m files e (rows_in old.pages) old.last kept main date limits)
+abbrev pub turns_behind : {S : Type 0} → Formatter S → Files → List Change → List ℕ → Date → Limits → ℕ → History S → ℕ
+turns_behind m files changes main date limits kept old =
+    turns_with m files changes (start_of m main date) limits.budget (limits.pages - kept) old (run_behind m files (rows_in old.pages) kept main date limits)
+    (meeting_behind m files changes (rows_in old.pages) old.last kept main date limits)
 
 -- three lists of one length
 pub record AreOfOneLength {S : Type 0} (rows : Rows S) : Type 0 where
@@ -66,10 +66,10 @@ pub record AreOfOneLength {S : Type 0} (rows : Rows S) : Type 0 where
   pub pieces_are : length rows.pieces.items ≡ length rows.rows.items
 
 -- the first pages, then some, then old ones, moved, and some at the end; the last stretch stays
-pub record AreSpliced {S : Type 0} (e : Edit) (old : Rows S) (kept : ℕ) (front : Part S) (from count : ℕ) (more : Part S) (new : Rows S) : Type 0 where
+pub record AreSpliced {S : Type 0} (changes : List Change) (old : Rows S) (kept : ℕ) (front : Part S) (from count : ℕ) (more : Part S) (new : Rows S) : Type 0 where
   pub pages_are : new.pages.items ≡ take kept old.pages.items ++ (front.pages.items ++ (take count (drop from old.pages.items) ++ more.pages.items))
   pub pieces_are : new.pieces.items ≡ take kept old.pieces.items ++ (front.pieces.items ++ (take count (drop from old.pieces.items) ++ more.pieces.items))
-  pub rows_are : new.rows.items ≡ take kept old.rows.items ++ (front.rows.items ++ (map (shifted_row e) (take count (drop from old.rows.items)) ++ more.rows.items))
+  pub rows_are : new.rows.items ≡ take kept old.rows.items ++ (front.rows.items ++ (map (carried_row changes) (take count (drop from old.rows.items)) ++ more.rows.items))
   pub last_is : new.last ≡ old.last
 
 -- the lists of what comes further
@@ -85,13 +85,13 @@ abbrev pub rows_of : {S : Type 0} → Further S → List (Row S)
 rows_of (Goes rows) = rows.rows.items
 rows_of (Stands end) = []
 
-abbrev pub last_of : {S : Type 0} → Edit → Last → Further S → Last
-last_of e last (Goes rows) = rows.last
-last_of e last (Stands end) = record (shifted_last e last) { end = end }
+abbrev pub last_of : {S : Type 0} → List Change → Last → Further S → Last
+last_of changes last (Goes rows) = rows.last
+last_of changes last (Stands end) = record (carried_last changes last) { end = end }
 
 -- rows in code of which the first are kept, and what comes later stands behind them
-pub record AreReused {S : Type 0} (e : Edit) (old : Rows S) (kept : ℕ) (later : Later S) (new : Rows S) : Type 0 where
+pub record AreReused {S : Type 0} (changes : List Change) (old : Rows S) (kept : ℕ) (later : Later S) (new : Rows S) : Type 0 where
   pub pages_are : new.pages.items ≡ take kept old.pages.items ++ (later.front.pages.items ++ (take later.count (drop later.from old.pages.items) ++ pages_of later.further))
   pub pieces_are : new.pieces.items ≡ take kept old.pieces.items ++ (later.front.pieces.items ++ (take later.count (drop later.from old.pieces.items) ++ pieces_of later.further))
-  pub rows_are : new.rows.items ≡ take kept old.rows.items ++ (later.front.rows.items ++ (map (shifted_row e) (take later.count (drop later.from old.rows.items)) ++ rows_of later.further))
-  pub last_is : new.last ≡ last_of e old.last later.further
+  pub rows_are : new.rows.items ≡ take kept old.rows.items ++ (later.front.rows.items ++ (map (carried_row changes) (take later.count (drop later.from old.rows.items)) ++ rows_of later.further))
+  pub last_is : new.last ≡ last_of changes old.last later.further

@@ -1,4 +1,5 @@
 pub mod Shift
+pub mod Moves
 pub mod Meeting
 pub mod Front
 pub mod Limits

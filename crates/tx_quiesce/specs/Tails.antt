@@ -1,13 +1,16 @@
 -- Old rows are found by how far their innermost file was read.
-use Rattle.std.specs.Prelude.{◌≡◌, ◌≢◌, ◌+◌, ◌^◌, ◌<◌, ◌≤◌, Bool, ◌||◌, ◌==◌, ℕ, List, [], ◌∷◌, map, length, slice_index_or, Option, Some, None, if◌then◌else◌}
+use Rattle.std.specs.Prelude.{◌≡◌, ◌≢◌, ◌+◌, ◌<◌, ◌≤◌, true, ◌==◌, ℕ, List, [], ◌∷◌, map, length, slice_index_or, Option, Some, None, if◌then◌else◌}
 use Rattle.std.specs.List.Sorted.{IsNonDecreasing}
-use Rattle.tx_files.specs.declared.edit.Edit.{Edit}
+use Rattle.tx_files.specs.Carry.{carried_place, place_after}
+use Rattle.tx_files.specs.Shift.{shifted, IsBehind}
+use Rattle.tx_files.specs.declared.edit.Edit.{Edit as FileEdit}
+use Rattle.tx_files.specs.declared.edit.Change.{Change}
 use Rattle.tx_machine.specs.declared.types.OpenFile.{OpenFile}
 use Rattle.tx_machine.specs.Opens.{innermost}
 use Rattle.tx_checkpoint.specs.declared.row.Row.{Row}
 use Rattle.tx_quiesce.specs.declared.tails.Offsets.{Offsets}
 use Rattle.tx_quiesce.specs.declared.tails.Offsets.TheVariants.{Unread, Ascending, Mixed}
-use Rattle.tx_quiesce.specs.Meeting.{offset_fits}
+use Rattle.tx_quiesce.specs.Meeting.{opens_fit}
 
 abbrev pub offset_of : Option OpenFile → ℕ
 offset_of None = 0
@@ -26,18 +29,34 @@ AreOffsets rows Unread = Unit {0}
 AreOffsets rows (Ascending numbers) = (numbers.items ≡ offsets_of rows) × IsNonDecreasing numbers.items
 AreOffsets rows (Mixed numbers) = numbers.items ≡ offsets_of rows
 
--- whether these can be offsets of files that fit, whatever the files: the same offset, or one that has moved with the edit
-abbrev pub may_fit : Edit → ℕ → ℕ → Bool
-may_fit e old new = new == old || offset_fits e old new
+-- the only place of a file that an edit moves here, if there is one; None where that isn't known
+abbrev pub IsMovedFrom : FileEdit → ℕ → Option ℕ → Type 0
+IsMovedFrom e here None = Unit {0}
+IsMovedFrom e here (Some from) = (old : ℕ) → IsBehind e old → shifted e old ≡ here → old ≡ from
 
--- how many old offsets from the first one on can't be those of a file that fits one read up to here
-abbrev pub skipped : Edit → ℕ → List ℕ → ℕ
-skipped e here [] = 0
-skipped e here (old ∷ olds) = if may_fit e old here then 0 else 1 + skipped e here olds
+-- the only one that a change leads here, and that changes do
+abbrev pub IsLedFrom : Change → List ℕ → ℕ → Option ℕ → Type 0
+IsLedFrom c name here None = Unit {0}
+IsLedFrom c name here (Some from) = (old : ℕ) → place_after c name old ≡ Some here → old ≡ from
 
--- beside the same offset this is the only old one that may fit
-abbrev pub IsMovedFrom : Edit → ℕ → ℕ → Type 0
-IsMovedFrom e here old = (offset : ℕ) → offset < 2 ^ 64 → may_fit e offset here ≡ (here == offset || old == offset)
+abbrev pub IsCarriedFrom : List Change → List ℕ → ℕ → Option ℕ → Type 0
+IsCarriedFrom changes name here None = Unit {0}
+IsCarriedFrom changes name here (Some from) = (old : ℕ) → carried_place changes name old ≡ Some here → old ≡ from
+
+-- the only offset that the innermost of open files can have which fit these, if there are any; None where that isn't known
+abbrev pub IsOrigin : List Change → List OpenFile → Option ℕ → Type 0
+IsOrigin changes news None = Unit {0}
+IsOrigin changes news (Some origin) = (olds : List OpenFile) → opens_fit changes olds news ≡ true → innermost_offset olds ≡ origin
+
+-- how many of some offsets, from the first one on, aren't this one
+abbrev pub unequal : ℕ → List ℕ → ℕ
+unequal origin [] = 0
+unequal origin (old ∷ olds) = if old == origin then 0 else 1 + unequal origin olds
+
+-- how many old offsets, from the first one on, can't be those of open files that fit
+abbrev pub skipped : Option ℕ → List ℕ → ℕ
+skipped None olds = 0
+skipped (Some origin) olds = unequal origin olds
 
 -- the place, from one on, that has lesser numbers than this before it and none behind it
 pub record IsFirstNotLess (numbers : List ℕ) (from value at : ℕ) : Type 0 where

@@ -1,4 +1,4 @@
-//! Formatting after an edit, up to the first new row that meets an old one.
+//! Formatting after changes, up to the first new row that meets an old one.
 ghost use Rattle.std.specs.Prelude.{◌≡◌, ◌≤◌, ◌++◌, ◌∷◌, [], IfOk, OnOk};
 ghost use Rattle.tx_machine.specs.Steps.{raised};
 ghost use Rattle.tx_checkpoint.specs.Meant.{IsIdle, AreIdle, rows_meant};
@@ -14,7 +14,7 @@ use std::mem;
 use tx_bytes::Bytes;
 use tx_checkpoint::{Formatted, Last, Row, Rows, format_row};
 use tx_dvi::PageBody;
-use tx_files::{Edit, FileSet, Seen};
+use tx_files::{Change, FileSet, Seen};
 use tx_machine::spot::Spot;
 use tx_machine::{End, Machine, Opens, Steps};
 
@@ -83,7 +83,7 @@ fn format_front<M: Machine>(
     machine: &M,
     files: &FileSet,
     old: &Rows<M::State>,
-    e: &Edit,
+    changes: &[Change],
     resumed: usize,
     spot: &mut Spot<M::State>,
     offsets: &mut Offsets,
@@ -95,18 +95,18 @@ fn format_front<M: Machine>(
     requires idle { IsIdle M.formatter M.meaning M.pending spot.old.state }
     requires offsets { AreOffsets old.now.rows.items offsets.old }
     requires empty { IsEmpty front.old }
-    ensures reaches { OnOk result (let whole = rows_from M.formatter files.now budget most (M.meaning spot.old.state) spot.old.opens in Reaches M.meaning whole (first_meeting M.formatter e.now (rows_meant M.meaning old.now.rows.items) old.now.last resumed (rows_in whole.pages)) front.new) }
+    ensures reaches { OnOk result (let whole = rows_from M.formatter files.now budget most (M.meaning spot.old.state) spot.old.opens in Reaches M.meaning whole (first_meeting M.formatter changes.now (rows_meant M.meaning old.now.rows.items) old.now.last resumed (rows_in whole.pages)) front.new) }
     ensures idle { OnOk result (AreIdle M.formatter M.meaning M.pending front.new.rows.items) }
-    ensures counted { OnOk result (let whole = rows_from M.formatter files.now budget most (M.meaning spot.old.state) spot.old.opens in steps.new ≡ raised steps.old (turns_to whole (first_meeting M.formatter e.now (rows_meant M.meaning old.now.rows.items) old.now.last resumed (rows_in whole.pages)))) }
+    ensures counted { OnOk result (let whole = rows_from M.formatter files.now budget most (M.meaning spot.old.state) spot.old.opens in steps.new ≡ raised steps.old (turns_to whole (first_meeting M.formatter changes.now (rows_meant M.meaning old.now.rows.items) old.now.last resumed (rows_in whole.pages)))) }
 
     // Also where memory was wanting.
-    ensures bound { let whole = rows_from M.formatter files.now budget most (M.meaning spot.old.state) spot.old.opens in steps.new ≤ raised steps.old (turns_to whole (first_meeting M.formatter e.now (rows_meant M.meaning old.now.rows.items) old.now.last resumed (rows_in whole.pages))) }
+    ensures bound { let whole = rows_from M.formatter files.now budget most (M.meaning spot.old.state) spot.old.opens in steps.new ≤ raised steps.old (turns_to whole (first_meeting M.formatter changes.now (rows_meant M.meaning old.now.rows.items) old.now.last resumed (rows_in whole.pages))) }
 {
     for _page in 0..most {
         spot.left = budget;
         match format_row(alloc, machine, files, spot, steps)? {
             Formatted::Page { body, piece, row } => {
-                let met = met_row(machine, old, offsets, e, resumed, &row);
+                let met = met_row(machine, old, offsets, changes, resumed, &row);
                 front.push(body, piece, row)?;
                 if let Some(number) = met {
                     front.stopped = Stopped::Met(number);
@@ -132,7 +132,7 @@ pub fn format_until_met<M: Machine>(
     machine: &M,
     files: &FileSet,
     old: &Rows<M::State>,
-    e: &Edit,
+    changes: &[Change],
     resumed: usize,
     mut spot: Spot<M::State>,
     budget: u64,
@@ -140,12 +140,12 @@ pub fn format_until_met<M: Machine>(
     steps: &mut Steps,
 ) -> Result<Front<M::State>, AllocError>
     requires { IsIdle M.formatter M.meaning M.pending spot.state }
-    ensures reaches { IfOk result (let whole = rows_from M.formatter files.now budget most (M.meaning spot.state) spot.opens in Reaches M.meaning whole (first_meeting M.formatter e.now (rows_meant M.meaning old.now.rows.items) old.now.last resumed (rows_in whole.pages))) }
+    ensures reaches { IfOk result (let whole = rows_from M.formatter files.now budget most (M.meaning spot.state) spot.opens in Reaches M.meaning whole (first_meeting M.formatter changes.now (rows_meant M.meaning old.now.rows.items) old.now.last resumed (rows_in whole.pages))) }
     ensures idle { IfOk result (λ front. AreIdle M.formatter M.meaning M.pending front.rows.items) }
-    ensures counted { OnOk result (let whole = rows_from M.formatter files.now budget most (M.meaning spot.state) spot.opens in steps.new ≡ raised steps.old (turns_to whole (first_meeting M.formatter e.now (rows_meant M.meaning old.now.rows.items) old.now.last resumed (rows_in whole.pages)))) }
+    ensures counted { OnOk result (let whole = rows_from M.formatter files.now budget most (M.meaning spot.state) spot.opens in steps.new ≡ raised steps.old (turns_to whole (first_meeting M.formatter changes.now (rows_meant M.meaning old.now.rows.items) old.now.last resumed (rows_in whole.pages)))) }
 
     // Also where memory was wanting.
-    ensures bound { let whole = rows_from M.formatter files.now budget most (M.meaning spot.state) spot.opens in steps.new ≤ raised steps.old (turns_to whole (first_meeting M.formatter e.now (rows_meant M.meaning old.now.rows.items) old.now.last resumed (rows_in whole.pages))) }
+    ensures bound { let whole = rows_from M.formatter files.now budget most (M.meaning spot.state) spot.opens in steps.new ≤ raised steps.old (turns_to whole (first_meeting M.formatter changes.now (rows_meant M.meaning old.now.rows.items) old.now.last resumed (rows_in whole.pages))) }
 {
     let mut offsets = Offsets::Unread;
     let mut front = Front::new(alloc);
@@ -154,7 +154,7 @@ pub fn format_until_met<M: Machine>(
         machine,
         files,
         old,
-        e,
+        changes,
         resumed,
         &mut spot,
         &mut offsets,

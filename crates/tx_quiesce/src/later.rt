@@ -1,4 +1,4 @@
-//! What comes behind the rows that an edit leaves.
+//! What comes behind the rows that changes leave.
 ghost use Rattle.std.specs.Prelude.{◌≡◌, ◌≤◌, ◌-◌, [], length, IfSome, IfOk, OnOk};
 ghost use Rattle.tx_machine.specs.Ranges.{IsDate};
 ghost use Rattle.tx_machine.specs.Steps.{raised};
@@ -16,7 +16,7 @@ use std::alloc::{AllocError, Global};
 use tx_bytes::Bytes;
 use tx_checkpoint::{Last, Row, Rows, spot_behind};
 use tx_dvi::PageBody;
-use tx_files::{Edit, FileSet, Name};
+use tx_files::{Change, FileSet, Name};
 use tx_machine::{Date, Limits, Machine, Steps};
 
 /// Some pages, with their pieces of the transcript and their rows, in three lists of one length.
@@ -27,7 +27,7 @@ pub struct Part<S> {
     pub rows: Vec<Row<S>>,
 }
 
-/// What comes behind the rows that an edit leaves: pages that were formatted, then old ones, of which `count` behind the number
+/// What comes behind the rows that changes leave: pages that were formatted, then old ones, of which `count` behind the number
 /// `from` are reused, and what comes further.
 #[derive(Drop)]
 pub struct Later<S> {
@@ -65,7 +65,7 @@ fn front_behind<M: Machine>(
     alloc: Global,
     machine: &M,
     files: &FileSet,
-    e: &Edit,
+    changes: &[Change],
     old: &Rows<M::State>,
     kept: u32,
     main: &Name,
@@ -77,12 +77,12 @@ fn front_behind<M: Machine>(
     requires within { kept ≤ length old.now.rows.items }
     requires fewer { kept ≤ limits.now.pages }
     requires idle { AreIdle M.formatter M.meaning M.pending old.now.rows.items }
-    ensures reaches { IfOk result (Reaches M.meaning (run_behind M.formatter files.now (rows_meant M.meaning old.now.rows.items) kept main.now date.now limits.now) (meeting_behind M.formatter files.now e.now (rows_meant M.meaning old.now.rows.items) old.now.last kept main.now date.now limits.now)) }
+    ensures reaches { IfOk result (Reaches M.meaning (run_behind M.formatter files.now (rows_meant M.meaning old.now.rows.items) kept main.now date.now limits.now) (meeting_behind M.formatter files.now changes.now (rows_meant M.meaning old.now.rows.items) old.now.last kept main.now date.now limits.now)) }
     ensures idle { IfOk result (λ front. AreIdle M.formatter M.meaning M.pending front.rows.items) }
-    ensures counted { OnOk result (steps.new ≡ raised steps.old (turns_to (run_behind M.formatter files.now (rows_meant M.meaning old.now.rows.items) kept main.now date.now limits.now) (meeting_behind M.formatter files.now e.now (rows_meant M.meaning old.now.rows.items) old.now.last kept main.now date.now limits.now))) }
+    ensures counted { OnOk result (steps.new ≡ raised steps.old (turns_to (run_behind M.formatter files.now (rows_meant M.meaning old.now.rows.items) kept main.now date.now limits.now) (meeting_behind M.formatter files.now changes.now (rows_meant M.meaning old.now.rows.items) old.now.last kept main.now date.now limits.now))) }
 
     // Also where memory was wanting.
-    ensures bound { steps.new ≤ raised steps.old (turns_to (run_behind M.formatter files.now (rows_meant M.meaning old.now.rows.items) kept main.now date.now limits.now) (meeting_behind M.formatter files.now e.now (rows_meant M.meaning old.now.rows.items) old.now.last kept main.now date.now limits.now)) }
+    ensures bound { steps.new ≤ raised steps.old (turns_to (run_behind M.formatter files.now (rows_meant M.meaning old.now.rows.items) kept main.now date.now limits.now) (meeting_behind M.formatter files.now changes.now (rows_meant M.meaning old.now.rows.items) old.now.last kept main.now date.now limits.now)) }
 {
     let spot = spot_behind(
         alloc,
@@ -97,7 +97,7 @@ fn front_behind<M: Machine>(
         machine,
         files,
         old,
-        e,
+        changes,
         kept as usize,
         spot,
         limits.budget,
@@ -106,13 +106,13 @@ fn front_behind<M: Machine>(
     )
 }
 
-/// Makes what comes behind the first rows after an edit, beside the old rows: formats up to the first new row that meets an old
+/// Makes what comes behind the first rows after changes, beside the old rows: formats up to the first new row that meets an old
 /// one, and behind the rows that are then reused. Each turn raises `steps` by one. Its only error is want of memory.
 pub fn format_later<M: Machine>(
     alloc: Global,
     machine: &M,
     files: &FileSet,
-    e: &Edit,
+    changes: &[Change],
     old: &Rows<M::State>,
     kept: u32,
     main: &Name,
@@ -124,15 +124,15 @@ pub fn format_later<M: Machine>(
     requires within { kept ≤ length old.now.rows.items }
     requires fewer { kept ≤ limits.now.pages }
     requires idle { AreIdle M.formatter M.meaning M.pending old.now.rows.items }
-    requires can { IfSome (meeting_behind M.formatter files.now e.now (rows_meant M.meaning old.now.rows.items) old.now.last kept main.now date.now limits.now) (λ meeting. CanReuse e.now meeting.old old.now.rows.items old.now.last) }
-    ensures later { IfOk result (λ later. (h : History M.Meaning) → AreRows M.meaning old.now h → IsLater M.meaning e.now old.now h later (made_behind M.formatter files.now e.now main.now date.now limits.now kept h)) }
-    ensures count { IfOk result (λ later. later.count ≡ reused_rows limits.now.pages (length old.now.rows.items) kept (meeting_behind M.formatter files.now e.now (rows_meant M.meaning old.now.rows.items) old.now.last kept main.now date.now limits.now)) }
-    ensures fits { IfOk result (FitsBehind e.now kept old.now) }
+    requires can { IfSome (meeting_behind M.formatter files.now changes.now (rows_meant M.meaning old.now.rows.items) old.now.last kept main.now date.now limits.now) (λ meeting. CanReuse changes.now meeting.old old.now.rows.items old.now.last) }
+    ensures later { IfOk result (λ later. (h : History M.Meaning) → AreRows M.meaning old.now h → IsLater M.meaning changes.now old.now h later (made_behind M.formatter files.now changes.now main.now date.now limits.now kept h)) }
+    ensures count { IfOk result (λ later. later.count ≡ reused_rows limits.now.pages (length old.now.rows.items) kept (meeting_behind M.formatter files.now changes.now (rows_meant M.meaning old.now.rows.items) old.now.last kept main.now date.now limits.now)) }
+    ensures fits { IfOk result (FitsBehind changes.now kept old.now) }
     ensures idle { IfOk result (LaterIsIdle M.formatter M.meaning M.pending) }
-    ensures counted { OnOk result ((h : History M.Meaning) → AreRows M.meaning old.now h → steps.new ≡ raised steps.old (turns_behind M.formatter files.now e.now main.now date.now limits.now kept h)) }
+    ensures counted { OnOk result ((h : History M.Meaning) → AreRows M.meaning old.now h → steps.new ≡ raised steps.old (turns_behind M.formatter files.now changes.now main.now date.now limits.now kept h)) }
 
     // Also where memory was wanting.
-    ensures bound { (h : History M.Meaning) → AreRows M.meaning old.now h → steps.new ≤ raised steps.old (turns_behind M.formatter files.now e.now main.now date.now limits.now kept h) }
+    ensures bound { (h : History M.Meaning) → AreRows M.meaning old.now h → steps.new ≤ raised steps.old (turns_behind M.formatter files.now changes.now main.now date.now limits.now kept h) }
 {
     let Front {
         pages,
@@ -140,7 +140,7 @@ pub fn format_later<M: Machine>(
         rows,
         stopped,
     } = front_behind(
-        alloc, machine, files, e, old, kept, main, date, limits, steps,
+        alloc, machine, files, changes, old, kept, main, date, limits, steps,
     )?;
     let formatted = rows.len();
     let front = Part {
@@ -162,7 +162,7 @@ pub fn format_later<M: Machine>(
                 alloc,
                 machine,
                 files,
-                e,
+                changes,
                 old,
                 number,
                 limits.budget,

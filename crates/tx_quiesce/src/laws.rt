@@ -11,7 +11,7 @@ pub fn suffix_law<M: Machine>()
     ensures { SuffixLaw M.formatter }
 {}
 
-/// The run on the edited files is the rows that are kept, what is formatted behind them up to the first meeting, and then the
+/// The run on the changed files is the rows that are kept, what is formatted behind them up to the first meeting, and then the
 /// rest of the old run, moved: cut at the page limit, and gone on with where the old run was cut off there too early.
 pub fn reuse_law<M: Machine>()
     ensures { ReuseLaw M.formatter }

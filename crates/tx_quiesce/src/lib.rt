@@ -1,13 +1,13 @@
-//! Why an edit is done at some page, and how: from a new row that meets an old one on, the rest comes out the same, and is reused
-//! with its offsets moved.
+//! Why a list of changes is done at some page, and how: from a new row that meets an old one on, the rest comes out the same, and
+//! is reused with its offsets moved.
 //!
-//! Proved: the laws that equal states with files that read on alike give the same rest, and that the run on the edited files is
-//! made of the rows that an edit leaves, new ones up to the first meeting and old ones, moved; `meets` exactly as defined,
+//! Proved: the laws that equal states with files that read on alike give the same rest, and that the run on the changed files is
+//! made of the rows that the changes leave, new ones up to the first meeting and old ones, moved; `meets` exactly as defined,
 //! `relocate` exactly the shift, formatting exactly up to the first meeting, and the rows that are then made. Nothing is left to
 //! tests.
 //!
 //! Read `meeting` (when two rows meet), `tails`, `search` and `front` (formatting until they do), `moving` (how the reused rows
-//! move with an edit), `further` and `later` (what comes behind them), `splice` and `carry` (the rows after an edit), and `laws`
+//! move with changes), `further` and `later` (what comes behind them), `splice` and `carry` (the rows after changes), and `laws`
 //! (why that is right); the definitions are in specs/.
 #![tactic(auto)]
 

@@ -2,11 +2,11 @@
 ghost use Rattle.std.specs.Prelude.{◌≡◌, ◌+◌, ◌≤◌, length, drop, IfOk, OnOk};
 ghost use Rattle.std.specs.List.Sorted.{IsNonDecreasing};
 ghost use Rattle.tx_quiesce.specs.Tails as spec;
-ghost use Rattle.tx_quiesce.specs.Tails.{AreOffsets, IsFirstNotLess, IsNextEqual, IsMovedFrom, offsets_of, skipped};
+ghost use Rattle.tx_quiesce.specs.Tails.{AreOffsets, IsFirstNotLess, IsNextEqual, IsMovedFrom, IsLedFrom, IsCarriedFrom, IsOrigin, offsets_of, skipped, unequal};
 
 use std::alloc::{AllocError, Global};
 use tx_checkpoint::Row;
-use tx_files::Edit;
+use tx_files::{Change, Edit};
 use tx_machine::Opens;
 
 /// How far the innermost file of each old row was read, as far as that is written down.
@@ -63,33 +63,70 @@ pub fn write_down<S>(
     }
 }
 
-/// The old offset that stands here after the edit; where there is none, this one.
-fn moved_from(here: u64, e: &Edit) -> u64
+/// The old offset that stands here after the edit, if there is one; None where that isn't known.
+fn moved_from(e: &Edit, here: u64) -> Option<u64>
     ensures { IsMovedFrom e.now here result }
 {
     let put = e.put.len() as u64;
     if here < put {
-        return here;
+        return Some(here);
     }
-    let left = here - put;
-    if left < e.place {
-        return here;
-    }
-    match left.checked_add(e.removed) {
-        Some(old) => old,
-        None => here,
+    match (here - put).checked_add(e.removed) {
+        Some(old) => Some(old),
+        None => None,
     }
 }
 
-/// The first row from a place on that may fit a new one, whose innermost file was read up to here.
-fn next_row<S>(rows: &[Row<S>], from: usize, e: &Edit, here: u64) -> usize
-    ensures { result ≡ from + skipped e.now here (drop from (offsets_of rows.now)) }
+/// The offset in the file of this name that stands here after a change, if there is one; None where that isn't known.
+fn led_from(change: &Change, name: &[u8], here: u64) -> Option<u64>
+    ensures { IsLedFrom change.now name.now here result }
 {
-    let moved = moved_from(here, e);
+    match change {
+        Change::Edit(e) => {
+            if name == e.name.as_slice() {
+                moved_from(e, here)
+            } else {
+                Some(here)
+            }
+        }
+        Change::Remove(_) => Some(here),
+    }
+}
+
+/// The offset in the file of this name that stands here after a list of changes, if there is one; None where that isn't known.
+fn carried_from(name: &[u8], here: u64, changes: &[Change]) -> Option<u64>
+    ensures { IsCarriedFrom changes.now name.now here result }
+{
+    let mut from = here;
+    let mut left = changes.len();
+    while left > 0 {
+        match led_from(&changes[left - 1], name, from) {
+            Some(old) => from = old,
+            None => return None,
+        }
+        left -= 1;
+    }
+    Some(from)
+}
+
+/// How far the innermost open file was read in the old run if its open files fit these; None where that isn't known.
+pub fn origin_of(opens: &Opens, changes: &[Change]) -> Option<u64>
+    ensures { IsOrigin changes.now opens.now result }
+{
+    match opens.innermost() {
+        None => Some(0),
+        Some(file) => carried_from(file.name.as_slice(), file.offset, changes),
+    }
+}
+
+/// The first row from a place on whose innermost file was read up to this offset.
+fn next_row<S>(rows: &[Row<S>], from: usize, origin: u64) -> usize
+    ensures { result ≡ from + unequal origin (drop from (offsets_of rows.now)) }
+{
     let mut at = from;
     while at < rows.len() {
         let old = innermost_offset(&rows[at].opens);
-        if old == here || old == moved {
+        if old == origin {
             return at;
         }
         at += 1;
@@ -97,15 +134,14 @@ fn next_row<S>(rows: &[Row<S>], from: usize, e: &Edit, here: u64) -> usize
     at
 }
 
-/// The first of these offsets from a place on that may fit this one.
-fn next_offset(numbers: &[u64], from: usize, e: &Edit, here: u64) -> usize
-    ensures { result ≡ from + skipped e.now here (drop from numbers.now) }
+/// The first place from one on where this offset stands.
+fn next_offset(numbers: &[u64], from: usize, origin: u64) -> usize
+    ensures { result ≡ from + unequal origin (drop from numbers.now) }
 {
-    let moved = moved_from(here, e);
     let mut at = from;
     while at < numbers.len() {
         let old = numbers[at];
-        if old == here || old == moved {
+        if old == origin {
             return at;
         }
         at += 1;
@@ -146,36 +182,40 @@ fn next_equal(numbers: &[u64], from: usize, value: u64) -> usize
 }
 
 /// The same as `next_offset` where no offset is less than the one before.
-fn next_ascending(numbers: &[u64], from: usize, e: &Edit, here: u64) -> usize
+fn next_ascending(numbers: &[u64], from: usize, origin: u64) -> usize
     requires { IsNonDecreasing numbers.now }
-    ensures { result ≡ from + skipped e.now here (drop from numbers.now) }
+    ensures { result ≡ from + unequal origin (drop from numbers.now) }
 {
     if from >= numbers.len() {
         return from;
     }
-    let moved = moved_from(here, e);
-    let unmoved = next_equal(numbers, from, here);
-    let behind = next_equal(numbers, from, moved);
-    if behind < unmoved {
-        return behind;
-    }
-    unmoved
+    next_equal(numbers, from, origin)
 }
 
-/// The first old row from a place on that may fit a new one, whose innermost file was read up to here.
+/// The first old row from a place on whose innermost file was read up to this offset.
+fn next_from<S>(rows: &[Row<S>], offsets: &Offsets, from: usize, origin: u64) -> usize
+    requires { AreOffsets rows.now offsets.now }
+    ensures { result ≡ from + unequal origin (drop from (offsets_of rows.now)) }
+{
+    match offsets {
+        Offsets::Unread => next_row(rows, from, origin),
+        Offsets::Ascending(numbers) => next_ascending(numbers.as_slice(), from, origin),
+        Offsets::Mixed(numbers) => next_offset(numbers.as_slice(), from, origin),
+    }
+}
+
+/// The first old row from a place on that may fit: the next one with this innermost offset, or any where that isn't known.
 pub fn next_candidate<S>(
     rows: &[Row<S>],
     offsets: &Offsets,
     from: usize,
-    e: &Edit,
-    here: u64,
+    origin: Option<u64>,
 ) -> usize
     requires { AreOffsets rows.now offsets.now }
-    ensures { result ≡ from + skipped e.now here (drop from (offsets_of rows.now)) }
+    ensures { result ≡ from + skipped origin (drop from (offsets_of rows.now)) }
 {
-    match offsets {
-        Offsets::Unread => next_row(rows, from, e, here),
-        Offsets::Ascending(numbers) => next_ascending(numbers.as_slice(), from, e, here),
-        Offsets::Mixed(numbers) => next_offset(numbers.as_slice(), from, e, here),
+    match origin {
+        None => from,
+        Some(number) => next_from(rows, offsets, from, number),
     }
 }

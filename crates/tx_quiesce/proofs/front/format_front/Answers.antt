@@ -21,7 +21,7 @@ loop-page-init g c =
     record {
       so_far = keeping-begins g.M.Machine.formatter c.args.files.now c.args.budget c.args.most (c.args.most - 0) (g.M.Machine.meaning c.args.spot.now.state) c.args.spot.now.opens _ _ _ c.args.steps.now
           (omega arith) c.requires.empty.no_pages c.requires.empty.no_pieces no_rows;
-      none = ap (first_meeting g.M.Machine.formatter c.args.e.now (rows_meant g.M.Machine.meaning c.args.old.now.rows.items) c.args.old.now.last c.args.resumed) no_rows;
+      none = ap (first_meeting g.M.Machine.formatter c.args.changes.now (rows_meant g.M.Machine.meaning c.args.old.now.rows.items) c.args.old.now.last c.args.resumed) no_rows;
       idle = c.requires.idle;
       kept = λ k d below. absurd (omega (arith, below, ap length c.requires.empty.no_rows));
       offsets = c.requires.offsets;
@@ -29,33 +29,33 @@ loop-page-init g c =
 
 pub returns-in_err-body-clause-bound : goal.returns-in_err-body-clause-bound
 returns-in_err-body-clause-bound g c =
-    until-bound c.args.e.now (rows_meant g.M.Machine.meaning c.args.old.now.rows.items) c.args.old.now.last c.args.resumed c.loop-page.invariant.so_far c.loop-page.invariant.none _ (one_fewer _ _ c.loop-page-test.true) c.format_row.ensures.bound
+    until-bound c.args.changes.now (rows_meant g.M.Machine.meaning c.args.old.now.rows.items) c.args.old.now.last c.args.resumed c.loop-page.invariant.so_far c.loop-page.invariant.none _ (one_fewer _ _ c.loop-page-test.true) c.format_row.ensures.bound
 
 pub returns-in_err-push-in-Page-clause-bound : goal.returns-in_err-push-in-Page-clause-bound
 returns-in_err-push-in-Page-clause-bound g c =
-    until-bound c.args.e.now (rows_meant g.M.Machine.meaning c.args.old.now.rows.items) c.args.old.now.last c.args.resumed c.loop-page.invariant.so_far c.loop-page.invariant.none _ (one_fewer _ _ c.loop-page-test.true) c.format_row.ensures.bound
+    until-bound c.args.changes.now (rows_meant g.M.Machine.meaning c.args.old.now.rows.items) c.args.old.now.last c.args.resumed c.loop-page.invariant.so_far c.loop-page.invariant.none _ (one_fewer _ _ c.loop-page-test.true) c.format_row.ensures.bound
 
 pub returns-in_err-write_down-in-Page-clause-bound : goal.returns-in_err-write_down-in-Page-clause-bound
 returns-in_err-write_down-in-Page-clause-bound g c =
-    until-bound c.args.e.now (rows_meant g.M.Machine.meaning c.args.old.now.rows.items) c.args.old.now.last c.args.resumed c.loop-page.invariant.so_far c.loop-page.invariant.none _ (one_fewer _ _ c.loop-page-test.true) c.format_row.ensures.bound
+    until-bound c.args.changes.now (rows_meant g.M.Machine.meaning c.args.old.now.rows.items) c.args.old.now.last c.args.resumed c.loop-page.invariant.so_far c.loop-page.invariant.none _ (one_fewer _ _ c.loop-page-test.true) c.format_row.ensures.bound
 
 pub returns-in-Some-clause-bound : goal.returns-in-Some-clause-bound
 returns-in-Some-clause-bound g c =
-    until-bound c.args.e.now (rows_meant g.M.Machine.meaning c.args.old.now.rows.items) c.args.old.now.last c.args.resumed c.loop-page.invariant.so_far c.loop-page.invariant.none _ (one_fewer _ _ c.loop-page-test.true) c.format_row.ensures.bound
+    until-bound c.args.changes.now (rows_meant g.M.Machine.meaning c.args.old.now.rows.items) c.args.old.now.last c.args.resumed c.loop-page.invariant.so_far c.loop-page.invariant.none _ (one_fewer _ _ c.loop-page-test.true) c.format_row.ensures.bound
 
 pub returns-in-Over-clause-bound : goal.returns-in-Over-clause-bound
 returns-in-Over-clause-bound g c =
-    until-bound c.args.e.now (rows_meant g.M.Machine.meaning c.args.old.now.rows.items) c.args.old.now.last c.args.resumed c.loop-page.invariant.so_far c.loop-page.invariant.none _ (one_fewer _ _ c.loop-page-test.true) c.format_row.ensures.bound
+    until-bound c.args.changes.now (rows_meant g.M.Machine.meaning c.args.old.now.rows.items) c.args.old.now.last c.args.resumed c.loop-page.invariant.so_far c.loop-page.invariant.none _ (one_fewer _ _ c.loop-page-test.true) c.format_row.ensures.bound
 
 pub returns-in-Some-clause-reaches : goal.returns-in-Some-clause-reaches
 returns-in-Some-clause-reaches g c =
-    (stops-met g.M.Machine.meaning c.args.e.now (rows_meant g.M.Machine.meaning c.args.old.now.rows.items) c.args.old.now.last c.args.resumed c.loop-page.front c.loop-page.invariant.so_far c.loop-page.invariant.none _ (one_fewer _ _ c.loop-page-test.true) c.in_ok-body.ensures.formatted c.in-Page.is c.met_row-met.ensures
+    (stops-met g.M.Machine.meaning c.args.changes.now (rows_meant g.M.Machine.meaning c.args.old.now.rows.items) c.args.old.now.last c.args.resumed c.loop-page.front c.loop-page.invariant.so_far c.loop-page.invariant.none _ (one_fewer _ _ c.loop-page-test.true) c.in_ok-body.ensures.formatted c.in-Page.is c.met_row-met.ensures
     (record { pages = c.push.new.self.pages; pieces = c.push.new.self.pieces; rows = c.push.new.self.rows; stopped = Met c.in-Some.number })
     c.in_ok-push-in-Page.ensures.pages c.in_ok-push-in-Page.ensures.pieces c.in_ok-push-in-Page.ensures.rows c.in-Some.is refl c.in_ok-body.ensures.counted).reaches
 
 pub returns-in-Some-clause-counted : goal.returns-in-Some-clause-counted
 returns-in-Some-clause-counted g c =
-    (stops-met g.M.Machine.meaning c.args.e.now (rows_meant g.M.Machine.meaning c.args.old.now.rows.items) c.args.old.now.last c.args.resumed c.loop-page.front c.loop-page.invariant.so_far c.loop-page.invariant.none _ (one_fewer _ _ c.loop-page-test.true) c.in_ok-body.ensures.formatted c.in-Page.is c.met_row-met.ensures
+    (stops-met g.M.Machine.meaning c.args.changes.now (rows_meant g.M.Machine.meaning c.args.old.now.rows.items) c.args.old.now.last c.args.resumed c.loop-page.front c.loop-page.invariant.so_far c.loop-page.invariant.none _ (one_fewer _ _ c.loop-page-test.true) c.in_ok-body.ensures.formatted c.in-Page.is c.met_row-met.ensures
     (record { pages = c.push.new.self.pages; pieces = c.push.new.self.pieces; rows = c.push.new.self.rows; stopped = Met c.in-Some.number })
     c.in_ok-push-in-Page.ensures.pages c.in_ok-push-in-Page.ensures.pieces c.in_ok-push-in-Page.ensures.rows c.in-Some.is refl c.in_ok-body.ensures.counted).counted
 
@@ -68,13 +68,13 @@ returns-in-Some-clause-idle g c =
 
 pub returns-in-Over-clause-reaches : goal.returns-in-Over-clause-reaches
 returns-in-Over-clause-reaches g c =
-    (stops-over g.M.Machine.meaning c.args.e.now (rows_meant g.M.Machine.meaning c.args.old.now.rows.items) c.args.old.now.last c.args.resumed c.loop-page.front c.loop-page.invariant.so_far c.loop-page.invariant.none _ (one_fewer _ _ c.loop-page-test.true) c.in_ok-body.ensures.formatted c.in-Over.is
+    (stops-over g.M.Machine.meaning c.args.changes.now (rows_meant g.M.Machine.meaning c.args.old.now.rows.items) c.args.old.now.last c.args.resumed c.loop-page.front c.loop-page.invariant.so_far c.loop-page.invariant.none _ (one_fewer _ _ c.loop-page-test.true) c.in_ok-body.ensures.formatted c.in-Over.is
     (record { pages = c.loop-page.front.pages; pieces = c.loop-page.front.pieces; rows = c.loop-page.front.rows; stopped = Over c.in-Over.last })
     refl refl refl refl c.in_ok-body.ensures.counted).reaches
 
 pub returns-in-Over-clause-counted : goal.returns-in-Over-clause-counted
 returns-in-Over-clause-counted g c =
-    (stops-over g.M.Machine.meaning c.args.e.now (rows_meant g.M.Machine.meaning c.args.old.now.rows.items) c.args.old.now.last c.args.resumed c.loop-page.front c.loop-page.invariant.so_far c.loop-page.invariant.none _ (one_fewer _ _ c.loop-page-test.true) c.in_ok-body.ensures.formatted c.in-Over.is
+    (stops-over g.M.Machine.meaning c.args.changes.now (rows_meant g.M.Machine.meaning c.args.old.now.rows.items) c.args.old.now.last c.args.resumed c.loop-page.front c.loop-page.invariant.so_far c.loop-page.invariant.none _ (one_fewer _ _ c.loop-page-test.true) c.in_ok-body.ensures.formatted c.in-Over.is
     (record { pages = c.loop-page.front.pages; pieces = c.loop-page.front.pieces; rows = c.loop-page.front.rows; stopped = Over c.in-Over.last })
     refl refl refl refl c.in_ok-body.ensures.counted).counted
 
@@ -83,8 +83,8 @@ loop-page-preserved g c =
     let t : Progress g.M.Machine.Meaning = stretch g.M.Machine.formatter c.args.files.now (page_start (g.M.Machine.meaning c.loop-page.spot.state) c.loop-page.spot.opens c.args.budget) in
     let idle = page-idle g.M.Machine.formatter g.M.Machine.meaning g.M.Machine.pending c.args.files.now t c.in_ok-body.field-0 c.in-Page.is c.in_ok-body.ensures.idle in
     record {
-      so_far = goes-on g.M.Machine.meaning c.args.e.now (rows_meant g.M.Machine.meaning c.args.old.now.rows.items) c.args.old.now.last c.args.resumed c.loop-page.front c.loop-page.invariant.so_far c.loop-page.invariant.none _ (one_fewer _ _ c.loop-page-test.true) c.in_ok-body.ensures.formatted c.in-Page.is c.met_row-met.ensures c.push.new.self c.in_ok-push-in-Page.ensures.pages c.in_ok-push-in-Page.ensures.pieces c.in_ok-push-in-Page.ensures.rows c.in_default.is c.in_ok-body.ensures.place c.in_ok-body.ensures.counted;
-      none = none-so_far g.M.Machine.meaning c.args.e.now (rows_meant g.M.Machine.meaning c.args.old.now.rows.items) c.args.old.now.last c.args.resumed c.loop-page.front c.loop-page.invariant.so_far c.loop-page.invariant.none _ (one_fewer _ _ c.loop-page-test.true) c.in_ok-body.ensures.formatted c.in-Page.is c.met_row-met.ensures c.push.new.self c.in_ok-push-in-Page.ensures.pages c.in_ok-push-in-Page.ensures.pieces c.in_ok-push-in-Page.ensures.rows c.in_default.is;
+      so_far = goes-on g.M.Machine.meaning c.args.changes.now (rows_meant g.M.Machine.meaning c.args.old.now.rows.items) c.args.old.now.last c.args.resumed c.loop-page.front c.loop-page.invariant.so_far c.loop-page.invariant.none _ (one_fewer _ _ c.loop-page-test.true) c.in_ok-body.ensures.formatted c.in-Page.is c.met_row-met.ensures c.push.new.self c.in_ok-push-in-Page.ensures.pages c.in_ok-push-in-Page.ensures.pieces c.in_ok-push-in-Page.ensures.rows c.in_default.is c.in_ok-body.ensures.place c.in_ok-body.ensures.counted;
+      none = none-so_far g.M.Machine.meaning c.args.changes.now (rows_meant g.M.Machine.meaning c.args.old.now.rows.items) c.args.old.now.last c.args.resumed c.loop-page.front c.loop-page.invariant.so_far c.loop-page.invariant.none _ (one_fewer _ _ c.loop-page-test.true) c.in_ok-body.ensures.formatted c.in-Page.is c.met_row-met.ensures c.push.new.self c.in_ok-push-in-Page.ensures.pages c.in_ok-push-in-Page.ensures.pieces c.in_ok-push-in-Page.ensures.rows c.in_default.is;
       idle = idle.1;
       kept = subst (AreIdle g.M.Machine.formatter g.M.Machine.meaning g.M.Machine.pending) (sym c.in_ok-push-in-Page.ensures.rows)
           (idle-push g.M.Machine.formatter g.M.Machine.meaning g.M.Machine.pending c.loop-page.front.rows.items c.in-Page.row c.loop-page.invariant.kept idle.0);
@@ -93,19 +93,19 @@ loop-page-preserved g c =
 
 pub returns-clause-reaches : goal.returns-clause-reaches
 returns-clause-reaches g c =
-    (stops-limit g.M.Machine.meaning c.args.e.now (rows_meant g.M.Machine.meaning c.args.old.now.rows.items) c.args.old.now.last c.args.resumed c.loop-page.front c.loop-page.invariant.so_far c.loop-page.invariant.none (none_left _ _ c.loop-page-test.false)
+    (stops-limit g.M.Machine.meaning c.args.changes.now (rows_meant g.M.Machine.meaning c.args.old.now.rows.items) c.args.old.now.last c.args.resumed c.loop-page.front c.loop-page.invariant.so_far c.loop-page.invariant.none (none_left _ _ c.loop-page-test.false)
     (record { pages = c.loop-page.front.pages; pieces = c.loop-page.front.pieces; rows = c.loop-page.front.rows; stopped = Over c.last_at_limit.result })
     refl refl refl (ap Over (search rules))).reaches
 
 pub returns-clause-counted : goal.returns-clause-counted
 returns-clause-counted g c =
-    (stops-limit g.M.Machine.meaning c.args.e.now (rows_meant g.M.Machine.meaning c.args.old.now.rows.items) c.args.old.now.last c.args.resumed c.loop-page.front c.loop-page.invariant.so_far c.loop-page.invariant.none (none_left _ _ c.loop-page-test.false)
+    (stops-limit g.M.Machine.meaning c.args.changes.now (rows_meant g.M.Machine.meaning c.args.old.now.rows.items) c.args.old.now.last c.args.resumed c.loop-page.front c.loop-page.invariant.so_far c.loop-page.invariant.none (none_left _ _ c.loop-page-test.false)
     (record { pages = c.loop-page.front.pages; pieces = c.loop-page.front.pieces; rows = c.loop-page.front.rows; stopped = Over c.last_at_limit.result })
     refl refl refl (ap Over (search rules))).counted
 
 pub returns-clause-bound : goal.returns-clause-bound
 returns-clause-bound g c =
-    let all = (stops-limit g.M.Machine.meaning c.args.e.now (rows_meant g.M.Machine.meaning c.args.old.now.rows.items) c.args.old.now.last c.args.resumed c.loop-page.front c.loop-page.invariant.so_far c.loop-page.invariant.none (none_left _ _ c.loop-page-test.false)
+    let all = (stops-limit g.M.Machine.meaning c.args.changes.now (rows_meant g.M.Machine.meaning c.args.old.now.rows.items) c.args.old.now.last c.args.resumed c.loop-page.front c.loop-page.invariant.so_far c.loop-page.invariant.none (none_left _ _ c.loop-page-test.false)
     (record { pages = c.loop-page.front.pages; pieces = c.loop-page.front.pieces; rows = c.loop-page.front.rows; stopped = Over c.last_at_limit.result })
     refl refl refl (ap Over (search rules))).counted in
     omega arith

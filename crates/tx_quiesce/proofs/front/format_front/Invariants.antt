@@ -10,7 +10,7 @@ abbrev pub invariant-loop-page : goal.invariant-loop-page
 invariant-loop-page g l = record {
   so_far : Keeping g.M.Machine.formatter l.files l.budget (rows_from g.M.Machine.formatter l.files l.budget l.most (g.M.Machine.meaning l.initial.spot.state) l.initial.spot.opens)
       (l.most - l._page) (g.M.Machine.meaning l.spot.state) l.spot.opens l.front.pages.items l.front.pieces.items (rows_meant g.M.Machine.meaning l.front.rows.items) l.initial.steps l.steps;
-  none : first_meeting g.M.Machine.formatter l.e (rows_meant g.M.Machine.meaning l.old.rows.items) l.old.last l.resumed (rows_meant g.M.Machine.meaning l.front.rows.items) ≡ None;
+  none : first_meeting g.M.Machine.formatter l.changes (rows_meant g.M.Machine.meaning l.old.rows.items) l.old.last l.resumed (rows_meant g.M.Machine.meaning l.front.rows.items) ≡ None;
   idle : IsIdle g.M.Machine.formatter g.M.Machine.meaning g.M.Machine.pending l.spot.state;
   kept : AreIdle g.M.Machine.formatter g.M.Machine.meaning g.M.Machine.pending l.front.rows.items;
   offsets : AreOffsets l.old.rows.items l.offsets;

@@ -10,7 +10,7 @@ moved_opens-requires g c = lent-opens c.as_slice-rows.ensures.value c.requires.c
 
 pub returns-then-most-rest-clause-further : goal.returns-then-most-rest-clause-further
 returns-then-most-rest-clause-further g c h start are =
-    subst (AreRows g.M.Machine.meaning c.at_limit.result) (sym (lent-cut g.M.Machine.meaning c.args.e.now c.args.files.now are start c.args.number g.M.Machine.formatter c.args.budget c.args.most c.as_slice-rows.ensures.value c.requires.can c.if-most-rest.true c.index-rows-number.is))
+    subst (AreRows g.M.Machine.meaning c.at_limit.result) (sym (lent-cut g.M.Machine.meaning c.args.changes.now c.args.files.now are start c.args.number g.M.Machine.formatter c.args.budget c.args.most c.as_slice-rows.ensures.value c.requires.can c.if-most-rest.true c.index-rows-number.is))
     (record {
       pages_are = c.at_limit.ensures.pages;
       pieces_are = c.at_limit.ensures.pieces;
@@ -23,16 +23,16 @@ goes_on-requires-clause-opens g c = last-opens c.as_slice-rows.ensures.value c.r
 
 pub returns-in_err-later-clause-bound : goal.returns-in_err-later-clause-bound
 returns-in_err-later-clause-bound g c h start are =
-    subst (λ turns. c.goes_on.new.steps ≤ raised c.args.steps.now turns) (lent-turns g.M.Machine.meaning c.args.e.now c.args.files.now are start c.args.number g.M.Machine.formatter c.args.budget c.args.most c.as_slice-rows.ensures.value c.requires.can c.if-most-rest.false c.in-PageLimit.is c.index-rows-rows.is) c.goes_on.ensures.bound
+    subst (λ turns. c.goes_on.new.steps ≤ raised c.args.steps.now turns) (lent-turns g.M.Machine.meaning c.args.changes.now c.args.files.now are start c.args.number g.M.Machine.formatter c.args.budget c.args.most c.as_slice-rows.ensures.value c.requires.can c.if-most-rest.false c.in-PageLimit.is c.index-rows-rows.is) c.goes_on.ensures.bound
 
 pub returns-in-PageLimit-clause-further : goal.returns-in-PageLimit-clause-further
 returns-in-PageLimit-clause-further g c h start are =
-    subst (AreRows g.M.Machine.meaning c.in_ok-later.later) (sym (lent-goes g.M.Machine.meaning c.args.e.now c.args.files.now are start c.args.number g.M.Machine.formatter c.args.budget c.args.most c.as_slice-rows.ensures.value c.requires.can c.if-most-rest.false c.in-PageLimit.is c.index-rows-rows.is)) c.in_ok-later.ensures.rows
+    subst (AreRows g.M.Machine.meaning c.in_ok-later.later) (sym (lent-goes g.M.Machine.meaning c.args.changes.now c.args.files.now are start c.args.number g.M.Machine.formatter c.args.budget c.args.most c.as_slice-rows.ensures.value c.requires.can c.if-most-rest.false c.in-PageLimit.is c.index-rows-rows.is)) c.in_ok-later.ensures.rows
 
 pub returns-in-PageLimit-clause-counted : goal.returns-in-PageLimit-clause-counted
 returns-in-PageLimit-clause-counted g c h start are =
-    c.in_ok-later.ensures.counted ∙ ap (raised c.args.steps.now) (lent-turns g.M.Machine.meaning c.args.e.now c.args.files.now are start c.args.number g.M.Machine.formatter c.args.budget c.args.most c.as_slice-rows.ensures.value c.requires.can c.if-most-rest.false c.in-PageLimit.is c.index-rows-rows.is)
+    c.in_ok-later.ensures.counted ∙ ap (raised c.args.steps.now) (lent-turns g.M.Machine.meaning c.args.changes.now c.args.files.now are start c.args.number g.M.Machine.formatter c.args.budget c.args.most c.as_slice-rows.ensures.value c.requires.can c.if-most-rest.false c.in-PageLimit.is c.index-rows-rows.is)
 
 pub returns-in-PageLimit-clause-bound : goal.returns-in-PageLimit-clause-bound
 returns-in-PageLimit-clause-bound g c h start are =
-    subst (λ turns. c.goes_on.new.steps ≤ raised c.args.steps.now turns) (lent-turns g.M.Machine.meaning c.args.e.now c.args.files.now are start c.args.number g.M.Machine.formatter c.args.budget c.args.most c.as_slice-rows.ensures.value c.requires.can c.if-most-rest.false c.in-PageLimit.is c.index-rows-rows.is) c.goes_on.ensures.bound
+    subst (λ turns. c.goes_on.new.steps ≤ raised c.args.steps.now turns) (lent-turns g.M.Machine.meaning c.args.changes.now c.args.files.now are start c.args.number g.M.Machine.formatter c.args.budget c.args.most c.as_slice-rows.ensures.value c.requires.can c.if-most-rest.false c.in-PageLimit.is c.index-rows-rows.is) c.goes_on.ensures.bound

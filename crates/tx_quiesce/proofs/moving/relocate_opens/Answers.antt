@@ -1,16 +1,15 @@
-use Rattle.std.proofs.Common.{◌<◌, length, sym, ap, ◌∙◌, subst}
-use Rattle.tx_quiesce.specs.Shift.{CanShiftFile, shifted_file}
-use Rattle.tx_quiesce.proofs.Fitting.{mapped-step, mapped-length, mapped-still}
+use Rattle.std.proofs.Common.{arith}
+use Rattle.tx_quiesce.proofs.Carrying.{carrying-begun, carrying-can, carrying-on, carrying-all}
 use Rattle.tx_quiesce.proofs.moving.relocate_opens.Goals as goal
 
-pub relocate_file-requires-clause-within : goal.relocate_file-requires-clause-within
-relocate_file-requires-clause-within c =
-    subst (λ n. c.loop-at.at < n)
-    (ap length c.as_slice-at-end.ensures ∙ sym (ap length c.loop-at.invariant ∙ mapped-length (shifted_file c.args.e.now) c.loop-at.at c.args.opens.now)) c.loop-at-test.true
+pub loop-at-init : goal.loop-at-init
+loop-at-init c = carrying-begun c.requires
 
-pub relocate_file-requires-clause-can : goal.relocate_file-requires-clause-can
-relocate_file-requires-clause-can c = mapped-still (shifted_file c.args.e.now) (CanShiftFile c.args.e.now) c.loop-at.at c.args.opens.now c.loop-at.invariant c.requires
+pub move_opens-requires : goal.move_opens-requires
+move_opens-requires c = carrying-can c.loop-at.invariant c.loop-at-test.true c.index-changes-at.is
 
 pub loop-at-preserved : goal.loop-at-preserved
-loop-at-preserved c =
-    mapped-step (shifted_file c.args.e.now) c.loop-at.at c.args.opens.now c.loop-at.invariant (subst (λ n. c.loop-at.at < n) (ap length c.as_slice-at-end.ensures) c.loop-at-test.true) c.relocate_file.ensures
+loop-at-preserved c = carrying-on c.loop-at.invariant c.loop-at-test.true c.index-changes-at.is c.move_opens.ensures
+
+pub returns : goal.returns
+returns c = carrying-all c.loop-at.invariant (omega (arith, c.loop-at-test.false))

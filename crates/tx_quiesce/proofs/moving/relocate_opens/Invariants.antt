@@ -1,7 +1,6 @@
-use Rattle.std.proofs.Common.{◌≡◌}
-use Rattle.tx_quiesce.specs.Shift.{shifted_file}
-use Rattle.tx_quiesce.proofs.Fitting.{mapped_to}
+use Rattle.tx_quiesce.specs.Moves.{opens_by, CanMoveOpens}
+use Rattle.tx_quiesce.proofs.Carrying.{Carrying}
 use Rattle.tx_quiesce.proofs.moving.relocate_opens.Given as goal
 
 abbrev pub invariant-loop-at : goal.invariant-loop-at
-invariant-loop-at l = l.opens ≡ mapped_to (shifted_file l.e) l.at l.initial.opens
+invariant-loop-at l = Carrying opens_by CanMoveOpens l.changes l.initial.opens l.opens l.at
