@@ -1,4 +1,5 @@
 mod Replaying
 pub mod Reusing
 mod Saying
+mod Refusing
 mod Showing

@@ -1,10 +1,10 @@
--- The turns of an edit, and how many pages it reuses, by the parts of which the new run is made.
+-- The turns of changes, and how many pages they reuse, by the parts of which the new run is made.
 use Rattle.std.proofs.Common.{◌≡◌, ℕ, zero, suc, ◌+◌, ◌-◌, ◌≤◌, Bool, true, false, cond, List, [], ◌∷◌, ◌++◌, length, take, drop, min, Option, Some, None, refl, sym, ap, ◌∙◌, arith, length-drop}
 use Rattle.std.specs.Prelude.{IfSome}
 use Rattle.std.proofs.lemmas.List.{length-append, length-map, length-take-le, drop-drop}
 use Rattle.std.proofs.Math.Seq.{drop-append_seam}
 use Rattle.tx_bytes.specs.Files.{Files}
-use Rattle.tx_files.specs.declared.edit.Edit.{Edit}
+use Rattle.tx_files.specs.declared.edit.Change.{Change}
 use Rattle.tx_machine.specs.Machine.{Formatter}
 use Rattle.tx_checkpoint.specs.Resume.{Begun, after_rows, stands}
 use Rattle.tx_checkpoint.specs.Rows.{History, PageRow, rows_in, behind, turns_of, all_turns}
@@ -12,7 +12,7 @@ use Rattle.tx_quiesce.specs.Later.{turns_with}
 use Rattle.tx_quiesce.specs.Limits.{is_page_limit}
 use Rattle.tx_quiesce.specs.Meeting.{Meeting}
 use Rattle.tx_quiesce.specs.Reuse.{moved, moved_begun, reused, reused_rows, rest_of, further, reused_by}
-use Rattle.tx_quiesce.specs.Shift.{shifted_page}
+use Rattle.tx_quiesce.specs.Moves.{carried_page}
 use Rattle.tx_session.specs.Report.{turns_from, formatted_turns, resumed_at, meeting_of, work_by}
 
 pub seam_at : {X : Type 0} (n : ℕ) (xs ys : List X) → length xs ≡ n → drop n (xs ++ ys) ≡ ys
@@ -44,12 +44,12 @@ turns-parts (suc first) between (page ∷ pages) =
     let less : turns_of (take first pages) + turns_of (drop (first + between) pages) ≤ turns_of pages = turns-parts first between pages in
     omega arith
 
--- the work of an edit is no more than all turns of the new run
-pub work-least : {S : Type 0} (m : Formatter S) (e : Edit) (limit : ℕ) (old new : History S) → work_by m e limit old new ≤ all_turns new
-work-least {S = S} m e limit old new = by (stands old e) (meeting_of m e old new)
+-- the work of changes is no more than all turns of the new run
+pub work-least : {S : Type 0} (m : Formatter S) (changes : List Change) (limit : ℕ) (old new : History S) → work_by m changes limit old new ≤ all_turns new
+work-least {S = S} m changes limit old new = by (stands old changes) (meeting_of m changes old new)
   where
     k : ℕ
-    k = resumed_at old e
+    k = resumed_at old changes
 
     behind_it : turns_of (drop k new.pages) ≤ turns_of new.pages
     behind_it = turns-drop k new.pages
@@ -70,23 +70,23 @@ work-least {S = S} m e limit old new = by (stands old e) (meeting_of m e old new
     by false None = omega (arith, behind_it)
     by false (Some meeting) = parts meeting (reused_rows limit (length old.pages) k (Some meeting)) (is_page_limit old.last.end)
 
-module _ {S : Type 0} (m : Formatter S) (files : Files) (e : Edit) (start : Begun S) (budget limit kept : ℕ) (old rest : History S) (front : List (PageRow S)) (size : length front ≡ kept) where
+module _ {S : Type 0} (m : Formatter S) (files : Files) (changes : List Change) (start : Begun S) (budget limit kept : ℕ) (old rest : History S) (front : List (PageRow S)) (size : length front ≡ kept) where
   abbrev pub whole : History S
   whole = behind front rest
 
   -- the parts behind a meeting
-  module _ (meeting : Meeting) (is : rest ≡ reused_by m files e start budget (limit - kept) old rest (Some meeting)) (within : meeting.formatted ≤ length rest.pages) where
+  module _ (meeting : Meeting) (is : rest ≡ reused_by m files changes start budget (limit - kept) old rest (Some meeting)) (within : meeting.formatted ≤ length rest.pages) where
     abbrev moved_rest : History S
-    moved_rest = moved files e (rest_of old meeting.old)
+    moved_rest = moved files changes (rest_of old meeting.old)
 
     abbrev many : ℕ
     many = reused_rows limit (length old.pages) kept (Some meeting)
 
     abbrev tail : History S
-    tail = further m files budget (limit - kept - meeting.formatted) (moved_begun e (after_rows start (take meeting.old (rows_in old.pages)))) moved_rest
+    tail = further m files budget (limit - kept - meeting.formatted) (moved_begun changes (after_rows start (take meeting.old (rows_in old.pages)))) moved_rest
 
     rest_size : length moved_rest.pages ≡ length old.pages - meeting.old
-    rest_size = length-map (drop meeting.old old.pages) (shifted_page e) ∙ length-drop meeting.old old.pages
+    rest_size = length-map (drop meeting.old old.pages) (carried_page changes) ∙ length-drop meeting.old old.pages
 
     many_is : reused (limit - kept - meeting.formatted) moved_rest ≡ many
     many_is = ap (min (limit - kept - meeting.formatted)) rest_size
@@ -112,7 +112,7 @@ module _ {S : Type 0} (m : Formatter S) (files : Files) (e : Edit) (start : Begu
         let pages : drop (kept + meeting.formatted + many) whole.pages ≡ tail.pages = ap (λ n. drop n whole.pages) sum ∙ past_seam kept (meeting.formatted + many) front rest.pages size ∙ tail_pages in
         λ i. turns_of (pages i) + (ap (λ h. h.last.turns) is) i
 
-    met-turns : formatted_turns kept many old whole (Some meeting) ≡ turns_with m files e start budget (limit - kept) old rest (Some meeting)
+    met-turns : formatted_turns kept many old whole (Some meeting) ≡ turns_with m files changes start budget (limit - kept) old rest (Some meeting)
     met-turns = λ i. turns_of (take meeting.formatted (seam_at kept front rest.pages size i)) + cond (is_page_limit old.last.end) (tail_turns i) 0
 
     met-few : kept + many ≤ length whole.pages
@@ -125,12 +125,12 @@ module _ {S : Type 0} (m : Formatter S) (files : Files) (e : Edit) (start : Begu
         let of_front : length front ≡ kept = size in
         omega arith
 
-  pub turns-are : (o : Option Meeting) → rest ≡ reused_by m files e start budget (limit - kept) old rest o → IfSome o (λ meeting. meeting.formatted ≤ length rest.pages)
-      → formatted_turns kept (reused_rows limit (length old.pages) kept o) old whole o ≡ turns_with m files e start budget (limit - kept) old rest o
+  pub turns-are : (o : Option Meeting) → rest ≡ reused_by m files changes start budget (limit - kept) old rest o → IfSome o (λ meeting. meeting.formatted ≤ length rest.pages)
+      → formatted_turns kept (reused_rows limit (length old.pages) kept o) old whole o ≡ turns_with m files changes start budget (limit - kept) old rest o
   turns-are None is within = ap (λ pages. turns_of pages + rest.last.turns) (seam_at kept front rest.pages size)
   turns-are (Some meeting) is within = met-turns meeting is within
 
-  pub reused-few : (o : Option Meeting) → rest ≡ reused_by m files e start budget (limit - kept) old rest o → IfSome o (λ meeting. meeting.formatted ≤ length rest.pages)
+  pub reused-few : (o : Option Meeting) → rest ≡ reused_by m files changes start budget (limit - kept) old rest o → IfSome o (λ meeting. meeting.formatted ≤ length rest.pages)
       → kept + reused_rows limit (length old.pages) kept o ≤ length whole.pages
   reused-few None is within =
       let all : length whole.pages ≡ length front + length rest.pages = length-append front rest.pages in

@@ -1,11 +1,11 @@
--- What a session keeps shows the fresh run on its files, and after an edit the one on the edited files.
+-- What a session keeps shows the fresh run on its files, and after changes the one on the changed files.
 use Rattle.std.proofs.Common.{◌≡◌, ℕ, ◌+◌, ◌-◌, ◌*◌, ◌^◌, ◌<◌, ◌≤◌, true, false, cond, List, [], length, get_or, take, drop, Option, Some, None, refl, sym, ap, subst, ◌∙◌, arith}
 use Rattle.std.specs.Prelude.{IfSome}
 use Rattle.std.proofs.lemmas.List.{length-map, length-take-le}
 use Rattle.std.proofs.lemmas.List.Sums.{prefix_len-le-length}
 use Rattle.tx_bytes.specs.Files.{Files}
-use Rattle.tx_files.specs.declared.edit.Edit.{Edit}
-use Rattle.tx_files.specs.Edits.{fits_in, edited, bytes_of}
+use Rattle.tx_files.specs.declared.edit.Change.{Change}
+use Rattle.tx_files.specs.Changes.{all_fit, all_changed, AreSmall}
 use Rattle.tx_machine.specs.Machine.{Formatter, IsLawful}
 use Rattle.tx_machine.specs.Steps.{raised}
 use Rattle.tx_dvi.specs.Page.{Page}
@@ -29,7 +29,7 @@ use Rattle.tx_quiesce.proofs.Found.{first-within, tail_is}
 use Rattle.tx_quiesce.proofs.Reusable.{can-reuse, can-unmeant}
 use Rattle.tx_session.proofs.Reusing.{seam_at, turns-are, reused-few, work-least}
 use Rattle.tx_session.specs.declared.kept.Made.{Made}
-use Rattle.tx_session.specs.Held.{Held, fresh, rows_of, body_of, transcript, joined_with, with_files, edited_session}
+use Rattle.tx_session.specs.Held.{Held, fresh, rows_of, body_of, transcript, joined_with, with_files, changed_session}
 use Rattle.tx_session.specs.Made.{Becomes, IsSaid}
 use Rattle.tx_session.specs.Report.{report_of, resumed_at, meeting_of, formatted_turns, report, work}
 use Rattle.tx_session.specs.Shows.{Shows}
@@ -81,15 +81,15 @@ module _ {S M : Type 0} {m : Formatter M} {meaning : S → M} {pending : S → L
   pieces_length : length made.rows.pieces.items ≡ length (rows_of m held).pages
   pieces_length = ap length shows.rows.pieces_are ∙ length-map (rows_of m held).pages (λ page. page.piece)
 
-  module _ (e : Edit) where
+  module _ (changes : List Change) where
     abbrev kept : ℕ
-    kept = resume made.rows.rows.items e
+    kept = resume made.rows.rows.items changes
 
-    kept_is : kept ≡ resume (rows_in (rows_of m held).pages) e
-    kept_is = resume-rows meaning e shows.rows
+    kept_is : kept ≡ resume (rows_in (rows_of m held).pages) changes
+    kept_is = resume-rows meaning changes shows.rows
 
     pub kept-rows : kept ≤ length made.rows.rows.items
-    kept-rows = prefix_len-le-length (stays e) made.rows.rows.items
+    kept-rows = prefix_len-le-length (stays changes) made.rows.rows.items
 
     pub kept-pieces : kept ≤ length made.rows.pieces.items
     kept-pieces = let within : kept ≤ length made.rows.rows.items = kept-rows in let rows = rows_length in let pieces = pieces_length in omega arith
@@ -100,21 +100,21 @@ module _ {S M : Type 0} {m : Formatter M} {meaning : S → M} {pending : S → L
     pub kept-small : kept < 2 ^ 32
     kept-small = let fewer : kept ≤ held.limits.pages = kept-fewer in omega (arith, shows.limited.pages.1)
 
-    module _ {files : Files} (fits : fits_in held.files e ≡ true) (changed : files ≡ edited held.files e) where
+    module _ {files : Files} (fits : all_fit held.files changes ≡ true) (changed : files ≡ all_changed held.files changes) where
       abbrev old : History M
       old = rows_of m held
 
       abbrev edited_run : History M
-      edited_run = rows_of m (edited_session held e)
+      edited_run = rows_of m (changed_session held changes)
 
       -- everything stands
-      standing : all_stay made.rows.rows.items made.rows.last e ≡ true → stands (rows_of m held) e ≡ true
-      standing stay = sym (stands-rows meaning e shows.rows) ∙ stay
+      standing : all_stay made.rows.rows.items made.rows.last changes ≡ true → stands (rows_of m held) changes ≡ true
+      standing stay = sym (stands-rows meaning changes shows.rows) ∙ stay
 
-      still : all_stay made.rows.rows.items made.rows.last e ≡ true → rows_of m (with_files held files) ≡ rows_of m held
-      still stay = ap (λ now. rows_of m (with_files held now)) changed ∙ fresh-stands m held.files e held.main held.date held.limits fits (standing stay)
+      still : all_stay made.rows.rows.items made.rows.last changes ≡ true → rows_of m (with_files held files) ≡ rows_of m held
+      still stay = ap (λ now. rows_of m (with_files held now)) changed ∙ fresh-stands m held.files changes held.main held.date held.limits fits (standing stay)
 
-      pub shows-still : all_stay made.rows.rows.items made.rows.last e ≡ true → Shows m meaning pending (with_files held files) made
+      pub shows-still : all_stay made.rows.rows.items made.rows.last changes ≡ true → Shows m meaning pending (with_files held files) made
       shows-still stay = record {
         dated = shows.dated;
         limited = shows.limited;
@@ -123,34 +123,34 @@ module _ {S M : Type 0} {m : Formatter M} {meaning : S → M} {pending : S → L
         said = shows.said;
       }
 
-      pub work-still : all_stay made.rows.rows.items made.rows.last e ≡ true → work m held e ≡ 0
-      work-still stay = ap (λ b. cond b 0 (formatted_turns (resumed_at old e) (reused_rows held.limits.pages (length old.pages) (resumed_at old e) (meeting_of m e old edited_run)) old edited_run (meeting_of m e old edited_run))) (standing stay)
+      pub work-still : all_stay made.rows.rows.items made.rows.last changes ≡ true → work m held changes ≡ 0
+      work-still stay = ap (λ b. cond b 0 (formatted_turns (resumed_at old changes) (reused_rows held.limits.pages (length old.pages) (resumed_at old changes) (meeting_of m changes old edited_run)) old edited_run (meeting_of m changes old edited_run))) (standing stay)
 
       pages_after : (new : Made S) → Shows m meaning pending (with_files held files) new → length new.rows.pages.items ≡ length edited_run.pages
       pages_after new shown = ap length shown.rows.pages_are ∙ length-map (rows_of m (with_files held files)).pages (λ page. page.body) ∙ ap (λ now. length (rows_of m (with_files held now)).pages) changed
 
-      pub report-still : all_stay made.rows.rows.items made.rows.last e ≡ true → report_of (length made.rows.pages.items) (length made.rows.pages.items) 0 ≡ report m held e
+      pub report-still : all_stay made.rows.rows.items made.rows.last changes ≡ true → report_of (length made.rows.pages.items) (length made.rows.pages.items) 0 ≡ report m held changes
       report-still stay =
           let pages : length made.rows.pages.items ≡ length edited_run.pages = pages_after made (shows-still stay) in
           (λ i. report_of (pages i) (pages i) 0)
-          ∙ sym (ap (λ b. cond b (report_of (length edited_run.pages) (length edited_run.pages) 0) (report_of (length edited_run.pages) (resumed_at old e) (reused_rows held.limits.pages (length old.pages) (resumed_at old e) (meeting_of m e old edited_run)))) (standing stay))
+          ∙ sym (ap (λ b. cond b (report_of (length edited_run.pages) (length edited_run.pages) 0) (report_of (length edited_run.pages) (resumed_at old changes) (reused_rows held.limits.pages (length old.pages) (resumed_at old changes) (meeting_of m changes old edited_run)))) (standing stay))
 
       -- formatting resumes, and goes on until a new row meets an old one
       abbrev rest : History M
       rest = run_behind m files (rows_in old.pages) kept held.main held.date held.limits
 
       abbrev its_meeting : Option Meeting
-      its_meeting = meeting_behind m files e (rows_in old.pages) old.last kept held.main held.date held.limits
+      its_meeting = meeting_behind m files changes (rows_in old.pages) old.last kept held.main held.date held.limits
 
       -- as the rows in code tell it
       abbrev meeting_told : Option Meeting
-      meeting_told = meeting_behind m files e (rows_meant meaning made.rows.rows.items) made.rows.last kept held.main held.date held.limits
+      meeting_told = meeting_behind m files changes (rows_meant meaning made.rows.rows.items) made.rows.last kept held.main held.date held.limits
 
       told_is : meeting_told ≡ its_meeting
-      told_is = λ i. meeting_behind m files e (shows.rows.rows_are i) (shows.rows.last_is i) kept held.main held.date held.limits
+      told_is = λ i. meeting_behind m files changes (shows.rows.rows_are i) (shows.rows.last_is i) kept held.main held.date held.limits
 
-      untouched_rows : AreUntouched (rows_in old.pages) kept e
-      untouched_rows = subst (λ i. AreUntouched (rows_in old.pages) i e) (sym kept_is) (resumes-last (rows_in old.pages) e).untouched
+      untouched_rows : AreUntouched (rows_in old.pages) kept changes
+      untouched_rows = subst (λ i. AreUntouched (rows_in old.pages) i changes) (sym kept_is) (resumes-last (rows_in old.pages) changes).untouched
 
       kept_length : length (take kept old.pages) ≡ kept
       kept_length = length-take-le kept old.pages (let within : kept ≤ length made.rows.rows.items = kept-rows in let rows = rows_length in omega arith)
@@ -158,23 +158,23 @@ module _ {S M : Type 0} {m : Formatter M} {meaning : S → M} {pending : S → L
       resumes : rows_of m (with_files held files) ≡ behind (take kept old.pages) rest
       resumes =
           ap (λ now. rows_of m (with_files held now)) changed
-          ∙ fresh-resumes m held.files e held.main held.date held.limits fits kept untouched_rows
+          ∙ fresh-resumes m held.files changes held.main held.date held.limits fits kept untouched_rows
           ∙ ap (λ now. behind (take kept old.pages) (run_behind m now (rows_in old.pages) kept held.main held.date held.limits)) (sym changed)
 
       edited_is : edited_run ≡ behind (take kept old.pages) rest
       edited_is = ap (λ now. rows_of m (with_files held now)) (sym changed) ∙ resumes
 
-      not_standing : all_stay made.rows.rows.items made.rows.last e ≡ false → stands old e ≡ false
-      not_standing stay = sym (stands-rows meaning e shows.rows) ∙ stay
+      not_standing : all_stay made.rows.rows.items made.rows.last changes ≡ false → stands old changes ≡ false
+      not_standing stay = sym (stands-rows meaning changes shows.rows) ∙ stay
 
-      meeting_is : meeting_of m e old edited_run ≡ its_meeting
+      meeting_is : meeting_of m changes old edited_run ≡ its_meeting
       meeting_is =
-          (λ i. first_meeting m e (rows_in old.pages) old.last (sym kept_is i) (rows_in (drop (sym kept_is i) (edited_is i).pages)))
-          ∙ ap (λ pages. first_meeting m e (rows_in old.pages) old.last kept (rows_in pages)) (seam_at kept (take kept old.pages) rest.pages kept_length)
+          (λ i. first_meeting m changes (rows_in old.pages) old.last (sym kept_is i) (rows_in (drop (sym kept_is i) (edited_is i).pages)))
+          ∙ ap (λ pages. first_meeting m changes (rows_in old.pages) old.last kept (rows_in pages)) (seam_at kept (take kept old.pages) rest.pages kept_length)
 
       formatted_within : (o : Option Meeting) → its_meeting ≡ o → IfSome o (λ meeting. meeting.formatted ≤ length rest.pages)
       formatted_within None is = tt
-      formatted_within (Some meeting) is = subst (λ n. meeting.formatted ≤ n) (length-map rest.pages (λ page. page.row)) (first-within m e old.last (rows_in old.pages) kept (rows_in rest.pages) meeting is)
+      formatted_within (Some meeting) is = subst (λ n. meeting.formatted ≤ n) (length-map rest.pages (λ page. page.row)) (first-within m changes old.last (rows_in old.pages) kept (rows_in rest.pages) meeting is)
 
       abbrev many : ℕ
       many = reused_rows held.limits.pages (length old.pages) kept its_meeting
@@ -183,14 +183,14 @@ module _ {S M : Type 0} {m : Formatter M} {meaning : S → M} {pending : S → L
       reused-told = λ i. reused_rows held.limits.pages (rows_length i) kept (told_is i)
 
       module _ (lawful : IsLawful m) where
-        rest_is : rest ≡ reused_by m files e (start_of m held.main held.date) held.limits.budget (held.limits.pages - kept) old rest its_meeting
-        rest_is = subst (λ now. run_behind m now (rows_in old.pages) kept held.main held.date held.limits ≡ reused_by m now e (start_of m held.main held.date) held.limits.budget (held.limits.pages - kept) old (run_behind m now (rows_in old.pages) kept held.main held.date held.limits) (meeting_behind m now e (rows_in old.pages) old.last kept held.main held.date held.limits))
-            (sym changed) (tail_is m lawful held.files e held.main held.date held.limits fits kept (meeting_behind m (edited held.files e) e (rows_in old.pages) old.last kept held.main held.date held.limits) refl)
+        rest_is : rest ≡ reused_by m files changes (start_of m held.main held.date) held.limits.budget (held.limits.pages - kept) old rest its_meeting
+        rest_is = subst (λ now. run_behind m now (rows_in old.pages) kept held.main held.date held.limits ≡ reused_by m now changes (start_of m held.main held.date) held.limits.budget (held.limits.pages - kept) old (run_behind m now (rows_in old.pages) kept held.main held.date held.limits) (meeting_behind m now changes (rows_in old.pages) old.last kept held.main held.date held.limits))
+            (sym changed) (tail_is m lawful held.files changes held.main held.date held.limits fits kept (meeting_behind m (all_changed held.files changes) changes (rows_in old.pages) old.last kept held.main held.date held.limits) refl)
 
-        remade : rows_of m (with_files held files) ≡ made_after m files e held.main held.date held.limits kept old
+        remade : rows_of m (with_files held files) ≡ made_after m files changes held.main held.date held.limits kept old
         remade = resumes ∙ ap (behind (take kept old.pages)) rest_is
 
-        pub shows-on : (new : Made S) → Becomes meaning made.rows (made_after m files e held.main held.date held.limits kept) new.rows → AreIdle m meaning pending new.rows.rows.items → IsSaid new → Shows m meaning pending (with_files held files) new
+        pub shows-on : (new : Made S) → Becomes meaning made.rows (made_after m files changes held.main held.date held.limits kept) new.rows → AreIdle m meaning pending new.rows.rows.items → IsSaid new → Shows m meaning pending (with_files held files) new
         shows-on new becomes idle said = record {
           dated = shows.dated;
           limited = shows.limited;
@@ -199,43 +199,43 @@ module _ {S M : Type 0} {m : Formatter M} {meaning : S → M} {pending : S → L
           said = said;
         }
 
-        pub work-on : all_stay made.rows.rows.items made.rows.last e ≡ false → work m held e ≡ turns_behind m files e held.main held.date held.limits kept old
+        pub work-on : all_stay made.rows.rows.items made.rows.last changes ≡ false → work m held changes ≡ turns_behind m files changes held.main held.date held.limits kept old
         work-on stay =
-            ap (λ b. cond b 0 (formatted_turns (resumed_at old e) (reused_rows held.limits.pages (length old.pages) (resumed_at old e) (meeting_of m e old edited_run)) old edited_run (meeting_of m e old edited_run))) (not_standing stay)
+            ap (λ b. cond b 0 (formatted_turns (resumed_at old changes) (reused_rows held.limits.pages (length old.pages) (resumed_at old changes) (meeting_of m changes old edited_run)) old edited_run (meeting_of m changes old edited_run))) (not_standing stay)
             ∙ (λ i. formatted_turns (sym kept_is i) (reused_rows held.limits.pages (length old.pages) (sym kept_is i) (meeting_is i)) old (edited_is i) (meeting_is i))
-            ∙ turns-are m files e (start_of m held.main held.date) held.limits.budget held.limits.pages kept old rest (take kept old.pages) kept_length its_meeting rest_is (formatted_within its_meeting refl)
+            ∙ turns-are m files changes (start_of m held.main held.date) held.limits.budget held.limits.pages kept old rest (take kept old.pages) kept_length its_meeting rest_is (formatted_within its_meeting refl)
 
         pub reused-within : (new : Made S) → Shows m meaning pending (with_files held files) new → kept + many ≤ length new.rows.pages.items
         reused-within new shown =
             subst (λ n. kept + many ≤ n) (sym (ap length shown.rows.pages_are ∙ length-map (rows_of m (with_files held files)).pages (λ page. page.body) ∙ ap (λ h. length h.pages) resumes))
-            (reused-few m files e (start_of m held.main held.date) held.limits.budget held.limits.pages kept old rest (take kept old.pages) kept_length its_meeting rest_is (formatted_within its_meeting refl))
+            (reused-few m files changes (start_of m held.main held.date) held.limits.budget held.limits.pages kept old rest (take kept old.pages) kept_length its_meeting rest_is (formatted_within its_meeting refl))
 
-      pub report-on : all_stay made.rows.rows.items made.rows.last e ≡ false → (new : Made S) → Shows m meaning pending (with_files held files) new
-          → report_of (length new.rows.pages.items) kept many ≡ report m held e
+      pub report-on : all_stay made.rows.rows.items made.rows.last changes ≡ false → (new : Made S) → Shows m meaning pending (with_files held files) new
+          → report_of (length new.rows.pages.items) kept many ≡ report m held changes
       report-on stay new shown =
           (λ i. report_of (pages_after new shown i) (kept_is i) (reused_rows held.limits.pages (length old.pages) (kept_is i) (sym meeting_is i)))
-          ∙ sym (ap (λ b. cond b (report_of (length edited_run.pages) (length edited_run.pages) 0) (report_of (length edited_run.pages) (resumed_at old e) (reused_rows held.limits.pages (length old.pages) (resumed_at old e) (meeting_of m e old edited_run)))) (not_standing stay))
+          ∙ sym (ap (λ b. cond b (report_of (length edited_run.pages) (length edited_run.pages) 0) (report_of (length edited_run.pages) (resumed_at old changes) (reused_rows held.limits.pages (length old.pages) (resumed_at old changes) (meeting_of m changes old edited_run)))) (not_standing stay))
 
       -- what is reused can be
-      pub can-be : length (bytes_of files e.name) < 2 ^ 64 → IfSome meeting_told (λ meeting. CanReuse e meeting.old made.rows.rows.items made.rows.last)
+      pub can-be : AreSmall held.files changes → IfSome meeting_told (λ meeting. CanReuse changes meeting.old made.rows.rows.items made.rows.last)
       can-be small = by meeting_told refl
         where
-          by : (o : Option Meeting) → meeting_told ≡ o → IfSome o (λ meeting. CanReuse e meeting.old made.rows.rows.items made.rows.last)
+          by : (o : Option Meeting) → meeting_told ≡ o → IfSome o (λ meeting. CanReuse changes meeting.old made.rows.rows.items made.rows.last)
           by None is = tt
           by (Some meeting) is =
-              let can : CanReuse e meeting.old (rows_in old.pages) old.last =
-              can-reuse m held.files e held.main held.date held.limits fits (subst (λ now. length (bytes_of now e.name) < 2 ^ 64) changed small) kept meeting
-              (ap (λ now. meeting_behind m now e (rows_in old.pages) old.last kept held.main held.date held.limits) (sym changed) ∙ sym told_is ∙ is) in
-              can-unmeant meaning e meeting.old made.rows.rows.items made.rows.last
-              (subst (λ (last : Last). CanReuse e meeting.old (rows_meant meaning made.rows.rows.items) last) (sym shows.rows.last_is) (subst (λ (rows : List (Row M)). CanReuse e meeting.old rows old.last) (sym shows.rows.rows_are) can))
+              let can : CanReuse changes meeting.old (rows_in old.pages) old.last =
+              can-reuse m held.files changes held.main held.date held.limits fits small kept meeting
+              (ap (λ now. meeting_behind m now changes (rows_in old.pages) old.last kept held.main held.date held.limits) (sym changed) ∙ sym told_is ∙ is) in
+              can-unmeant meaning changes meeting.old made.rows.rows.items made.rows.last
+              (subst (λ (last : Last). CanReuse changes meeting.old (rows_meant meaning made.rows.rows.items) last) (sym shows.rows.last_is) (subst (λ (rows : List (Row M)). CanReuse changes meeting.old rows old.last) (sym shows.rows.rows_are) can))
 
       pub one-length : AreOfOneLength made.rows
       one-length = record { pages_are = (ap length shows.rows.pages_are ∙ length-map old.pages (λ page. page.body)) ∙ sym rows_length; pieces_are = pieces_length ∙ sym rows_length }
 
-      -- the work is within all turns of the run on the edited files
-      pub work-bound : IsLawful m → work m held e ≤ (length (fresh m (edited_session held e)).ran.pages + 1) * held.limits.budget
+      -- the work is within all turns of the run on the changed files
+      pub work-bound : IsLawful m → work m held changes ≤ (length (fresh m (changed_session held changes)).ran.pages + 1) * held.limits.budget
       work-bound lawful =
-          let least : work m held e ≤ all_turns edited_run = work-least m e held.limits.pages old edited_run in
-          let same : all_turns edited_run ≡ (fresh m (edited_session held e)).turns = fresh-turns m (edited_session held e) in
-          let most : (fresh m (edited_session held e)).turns ≤ (length (fresh m (edited_session held e)).ran.pages + 1) * held.limits.budget = fresh-bound m (edited_session held e) lawful in
+          let least : work m held changes ≤ all_turns edited_run = work-least m changes held.limits.pages old edited_run in
+          let same : all_turns edited_run ≡ (fresh m (changed_session held changes)).turns = fresh-turns m (changed_session held changes) in
+          let most : (fresh m (changed_session held changes)).turns ≤ (length (fresh m (changed_session held changes)).ran.pages + 1) * held.limits.budget = fresh-bound m (changed_session held changes) lawful in
           omega arith

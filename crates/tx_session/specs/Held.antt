@@ -2,8 +2,10 @@
 use Rattle.std.specs.Prelude.{ℕ, ◌-◌, List, [], ◌∷◌, ◌++◌, slice_get}
 use Rattle.std.specs.Option.{option_map_or}
 use Rattle.tx_bytes.specs.Files.{Files}
+use Rattle.tx_files.specs.Changes.{all_changed, after_changes}
 use Rattle.tx_files.specs.Edits.{edited, after_edit, replay}
 use Rattle.tx_files.specs.declared.edit.Edit.{Edit}
+use Rattle.tx_files.specs.declared.edit.Change.{Change}
 use Rattle.tx_dvi.specs.Page.{Page}
 use Rattle.tx_machine.specs.declared.types.Date.{Date}
 use Rattle.tx_machine.specs.declared.types.Limits.{Limits}
@@ -43,6 +45,13 @@ body_of pages n = option_map_or (λ page. page.body) (slice_get pages (n - 1)) [
 -- a session with other files
 abbrev pub with_files : Held → Files → Held
 with_files held files = record held { files = files }
+
+-- after changes that can be made, and after some that are refused where they can't
+abbrev pub changed_session : Held → List Change → Held
+changed_session held changes = with_files held (all_changed held.files changes)
+
+abbrev pub after_all : Held → List Change → Held
+after_all held changes = with_files held (after_changes held.files changes)
 
 -- after an edit that fits, after one that is refused where it doesn't, and after some of these
 abbrev pub edited_session : Held → Edit → Held

@@ -1,3 +1,4 @@
+pub mod Refusals
 pub mod Held
 pub mod HeldCode
 pub mod Report

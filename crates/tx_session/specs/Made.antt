@@ -22,7 +22,7 @@ IsSaid made = made.said ≡ joined_with made.rows.pieces.items made.rows.last.pi
 abbrev pub Becomes : {S M : Type 0} → (S → M) → Rows S → (History M → History M) → Rows S → Type 0
 Becomes {M = M} meaning old makes new = (h : History M) → AreRows meaning old h → AreRows meaning new (makes h)
 
--- the pieces after an edit: those that are kept, those of what was formatted, those that are reused, and those of what comes further
+-- the pieces after changes: those that are kept, those of what was formatted, those that are reused, and those of what comes further
 abbrev pub pieces_after : {S : Type 0} → Rows S → ℕ → Later S → List (List ℕ)
 pieces_after rows kept later =
     take kept rows.pieces.items ++ (later.front.pieces.items ++ (take later.count (drop later.from rows.pieces.items) ++ pieces_of later.further))

@@ -1,17 +1,18 @@
-//! A document that is edited: a session holds its files and what the run on them gave, and after each edit that is
-//! accepted it has what a fresh run on the edited files gives. It stands over any machine, and knows nothing of TeX.
+//! A document that is edited: a session holds its files and what the run on them gave, and after each list of changes that is
+//! accepted it has what a fresh run on the changed files gives. It stands over any machine, and knows nothing of TeX.
 //!
-//! Proved: after any edits all that it shows is that of the fresh run on the edited files; report and turns are exact. Only
+//! Proved: after any changes all that it shows is that of the fresh run on the changed files; report and turns are exact. Only
 //! tested: sessions over a machine of a few lines.
 //!
-//! Read `report`, `kept` and `made` (a run by its rows, with its joined transcript), then `session`.
+//! Read `report`, `refusal`, `kept` and `made` (a run by its rows, with its joined transcript), then `session`.
 #![tactic(auto)]
 
 mod kept;
 mod made;
+pub mod refusal;
 pub mod report;
 pub mod session;
 
+pub use refusal::Refusal;
 pub use report::Report;
 pub use session::Session;
-pub use tx_files::Refusal;

@@ -1,6 +1,5 @@
 //! How a run is made anew, or made of what an edit leaves of it, with its transcript as one text.
-ghost use Rattle.std.specs.Prelude.{◌≡◌, ◌≤◌, ◌<◌, ◌+◌, ◌^◌, ◌++◌, length, IfSome, IfOk, OnOk, OnErr};
-ghost use Rattle.tx_files.specs.Edits.{bytes_of};
+ghost use Rattle.std.specs.Prelude.{◌≡◌, ◌≤◌, ◌+◌, ◌++◌, length, IfSome, IfOk, OnOk, OnErr};
 ghost use Rattle.tx_machine.specs.Ranges.{IsDate};
 ghost use Rattle.tx_machine.specs.Steps.{raised};
 ghost use Rattle.tx_checkpoint.specs.Meant.{AreRows, AreIdle, AreSame, rows_meant};
@@ -16,7 +15,7 @@ use crate::kept::Made;
 use std::alloc::{AllocError, Global};
 use tx_bytes::Bytes;
 use tx_checkpoint::{Rows, fresh_rows};
-use tx_files::{Edit, FileSet, Name};
+use tx_files::{Change, FileSet, Name};
 use tx_machine::{Date, Limits, Machine, Steps};
 use tx_quiesce::{Further, Later, format_later, reuse_rows};
 
@@ -78,7 +77,7 @@ fn append_further<S>(said: &mut Bytes, last: &Bytes, further: &Further<S>) -> Re
     }
 }
 
-/// The whole transcript after an edit: some pieces are kept, others come behind them, then some that are reused, and others.
+/// The whole transcript after changes: some pieces are kept, others come behind them, then some that are reused, and others.
 fn transcript_after<S>(
     alloc: Global,
     rows: &Rows<S>,
@@ -98,14 +97,14 @@ fn transcript_after<S>(
     Ok(said)
 }
 
-/// Makes an edit in a run of which the first pages are kept, on these files, which are the edited ones: formats until a new row
+/// Makes changes in a run of which the first pages are kept, on these files, which are the changed ones: formats until a new row
 /// meets an old one, and takes the rest over. Answers how many pages were taken over. After want of memory the run stands as
 /// before.
 pub fn make_after<M: Machine>(
     alloc: Global,
     machine: &M,
     files: &FileSet,
-    e: &Edit,
+    changes: &[Change],
     made: &mut Made<M::State>,
     kept: u32,
     main: &Name,
@@ -118,24 +117,22 @@ pub fn make_after<M: Machine>(
     requires within { kept ≤ length made.old.rows.rows.items }
     requires fewer { kept ≤ limits.now.pages }
     requires idle { AreIdle M.formatter M.meaning M.pending made.old.rows.rows.items }
-    requires can { length (bytes_of files.now e.now.name) < 2 ^ 64 → IfSome (meeting_behind M.formatter files.now e.now (rows_meant M.meaning made.old.rows.rows.items) made.old.rows.last kept main.now date.now limits.now) (λ meeting. CanReuse e.now meeting.old made.old.rows.rows.items made.old.rows.last) }
-    ensures goes { OnOk result (Becomes M.meaning made.old.rows (made_after M.formatter files.now e.now main.now date.now limits.now kept) made.new.rows) }
+    requires can { IfSome (meeting_behind M.formatter files.now changes.now (rows_meant M.meaning made.old.rows.rows.items) made.old.rows.last kept main.now date.now limits.now) (λ meeting. CanReuse changes.now meeting.old made.old.rows.rows.items made.old.rows.last) }
+    ensures goes { OnOk result (Becomes M.meaning made.old.rows (made_after M.formatter files.now changes.now main.now date.now limits.now kept) made.new.rows) }
     ensures idle { OnOk result (AreIdle M.formatter M.meaning M.pending made.new.rows.rows.items) }
     ensures said { OnOk result (IsSaid made.new) }
-    ensures reused { IfOk result (λ reused. reused ≡ reused_rows limits.now.pages (length made.old.rows.rows.items) kept (meeting_behind M.formatter files.now e.now (rows_meant M.meaning made.old.rows.rows.items) made.old.rows.last kept main.now date.now limits.now)) }
+    ensures reused { IfOk result (λ reused. reused ≡ reused_rows limits.now.pages (length made.old.rows.rows.items) kept (meeting_behind M.formatter files.now changes.now (rows_meant M.meaning made.old.rows.rows.items) made.old.rows.last kept main.now date.now limits.now)) }
     ensures same { OnErr result (AreSame made.old.rows made.new.rows) }
     ensures unsaid { OnErr result (made.new.said ≡ made.old.said) }
-    ensures counted { OnOk result ((h : History M.Meaning) → AreRows M.meaning made.old.rows h → steps.new ≡ raised steps.old (turns_behind M.formatter files.now e.now main.now date.now limits.now kept h)) }
-    ensures bound { (h : History M.Meaning) → AreRows M.meaning made.old.rows h → steps.new ≤ raised steps.old (turns_behind M.formatter files.now e.now main.now date.now limits.now kept h) }
+    ensures counted { OnOk result ((h : History M.Meaning) → AreRows M.meaning made.old.rows h → steps.new ≡ raised steps.old (turns_behind M.formatter files.now changes.now main.now date.now limits.now kept h)) }
+    ensures bound { (h : History M.Meaning) → AreRows M.meaning made.old.rows h → steps.new ≤ raised steps.old (turns_behind M.formatter files.now changes.now main.now date.now limits.now kept h) }
 {
-    // An offset tells of each place in the edited file, so of those that move with the edit.
-    let _size = files.bytes_of(e.name.as_slice()).len();
     let later = format_later(
-        alloc, machine, files, e, &made.rows, kept, main, date, limits, steps,
+        alloc, machine, files, changes, &made.rows, kept, main, date, limits, steps,
     )?;
     let said = transcript_after(alloc, &made.rows, kept as usize, &later)?;
     let reused = later.count;
-    reuse_rows(alloc, &mut made.rows, kept as usize, later, e)?;
+    reuse_rows(alloc, &mut made.rows, kept as usize, later, changes)?;
     made.said = said;
     Ok(reused)
 }

@@ -1,6 +1,6 @@
 //! What is reported of an edit.
 
-/// What came of an edit that was accepted, in pages: those that were resumed after, those that were formatted and those
+/// What came of changes that were accepted, in pages: those that were resumed after, those that were formatted and those
 /// that were reused make up all.
 #[derive(Clone, Copy)]
 pub struct Report {
@@ -8,7 +8,7 @@ pub struct Report {
     pub pages: usize,
     /// The first pages, after which formatting resumed.
     pub resumed: usize,
-    /// Pages that were formatted for this edit.
+    /// Pages that were formatted for them.
     pub formatted: usize,
     /// The last pages, which were taken over as they were.
     pub reused: usize,

@@ -1,24 +1,28 @@
 //! The session: a document, what the run on it gave, and edits of it.
-ghost use Rattle.std.specs.Prelude.{◌≡◌, ℕ, ◌<◌, ◌≤◌, ◌+◌, ◌*◌, length, take, IfOk, OnOk, OnErr};
+ghost use Rattle.std.specs.Prelude.{◌≡◌, ◌∷◌, [], ℕ, ◌<◌, ◌≤◌, ◌+◌, ◌*◌, length, take, IfOk, OnOk, OnErr};
 ghost use Rattle.tx_dvi.specs.Dvi.{dvi};
-ghost use Rattle.tx_files.specs.Edits.{IsAnswerTo};
+ghost use Rattle.tx_files.specs.Changes.{IsOutside as IsPast};
+ghost use Rattle.tx_files.specs.declared.edit.Change.TheVariants as change;
 ghost use Rattle.tx_machine.specs.Ranges.{IsDate, AreLimits};
 ghost use Rattle.tx_machine.specs.Steps.{raised};
-ghost use Rattle.tx_session.specs.Held.{fresh, transcript, body_of, edited_session, after, replayed};
+ghost use Rattle.tx_session.specs.Held.{fresh, transcript, body_of, changed_session, edited_session, after, replayed};
+ghost use Rattle.tx_session.specs.Refusals.{IsEditAnswer, IsBatchAnswer, IsOutside};
 ghost use Rattle.tx_session.specs.Report as spec;
-ghost use Rattle.tx_session.specs.Report.{report, work, turns_of_edit, turns_of_edits, IsOutside};
+ghost use Rattle.tx_session.specs.Report.{report, work, turns_of_edit, turns_of_edits};
 
 use crate::kept::Made;
 use crate::made::{make_after, make_anew};
+use crate::refusal::Refusal;
 use crate::report::Report;
 use std::alloc::{AllocError, Global};
 use std::marker::Model;
+use std::slice;
 use tx_bytes::Bytes;
 use tx_dvi::assemble;
-use tx_files::{Edit, FileSet, Name, Refusal};
+use tx_files::{Change, Edit, FileSet, Name};
 use tx_machine::{Date, End, Limits, Machine, Steps};
 
-/// The report of an edit, by how many pages there are, after how many formatting resumed, and how many were reused.
+/// The report of changes, by how many pages there are, after how many formatting resumed, and how many were reused.
 fn report_of(pages: usize, resumed: usize, reused: usize) -> Report
     requires { resumed + reused ≤ pages }
     ensures { result ≡ spec.report_of pages resumed reused }
@@ -97,25 +101,25 @@ impl<M: Machine> Session<M> {
         })
     }
 
-    /// Makes an edit: its answer is what came of it, or why it was refused. Where it leaves all that the run read,
-    /// everything stands, and no turn is taken. Else formatting resumes after the last page up to which it leaves all reads, and
-    /// goes on until a new page meets an old one, from which on the old ones are reused. What is formatted is made beside the old
-    /// pages, and replaces them in the end. After a refusal everything is as before.
-    pub fn edit(&mut self, e: &Edit, steps: &mut Steps) -> Result<Report, Refusal>
-        ensures answer { IsAnswerTo self.old.files e.now result }
-        ensures held { OnOk result (self.new ≡ edited_session self.old e.now) }
-        ensures report { IfOk result (λ answer. answer ≡ report M.formatter self.old e.now) }
-        ensures counted { OnOk result (steps.new ≡ raised steps.old (work M.formatter self.old e.now)) }
+    /// Makes a list of changes, all or none: its answer is what came of it, or why it was refused. Where they leave all that the
+    /// run read, everything stands, and no turn is taken. Else formatting resumes after the last page up to which they leave all
+    /// reads, and goes on until a new page meets an old one, from which on the old ones are reused. What is formatted is made
+    /// beside the old pages, and replaces them in the end. After a refusal everything is as before.
+    pub fn batch(&mut self, changes: &[Change], steps: &mut Steps) -> Result<Report, Refusal>
+        ensures answer { IsBatchAnswer self.old.files changes.now result }
+        ensures held { OnOk result (self.new ≡ changed_session self.old changes.now) }
+        ensures report { IfOk result (λ answer. answer ≡ report M.formatter self.old changes.now) }
+        ensures counted { OnOk result (steps.new ≡ raised steps.old (work M.formatter self.old changes.now)) }
         ensures refused { OnErr result (self.new ≡ self.old) }
         ensures outside { IsOutside result → steps.new ≡ steps.old }
 
         // Whatever the files say, and also where memory was wanting.
-        ensures most { steps.new ≤ raised steps.old (work M.formatter self.old e.now) }
-        ensures bound { steps.new ≤ steps.old + (length (fresh M.formatter (edited_session self.old e.now)).ran.pages + 1) * self.old.limits.budget }
+        ensures most { steps.new ≤ raised steps.old (work M.formatter self.old changes.now) }
+        ensures bound { steps.new ≤ steps.old + (length (fresh M.formatter (changed_session self.old changes.now)).ran.pages + 1) * self.old.limits.budget }
     {
-        let undo = self.files.change(e)?;
-        let kept = self.made.rows.resume_at(e);
-        if self.made.rows.stands(kept, e) {
+        let before = self.files.change_all(changes)?;
+        let kept = self.made.rows.resume_at(changes);
+        if self.made.rows.stands(kept, changes) {
             let pages = self.made.rows.pages.as_slice().len();
             return Ok(report_of(pages, pages, 0));
         }
@@ -123,7 +127,7 @@ impl<M: Machine> Session<M> {
             self.alloc,
             &self.machine,
             &self.files,
-            e,
+            changes,
             &mut self.made,
             kept as u32,
             &self.main,
@@ -136,10 +140,39 @@ impl<M: Machine> Session<M> {
                 Ok(report_of(pages, kept, reused))
             }
             Err(_) => {
-                self.files.restore(&e.name, undo);
+                self.files.take_back(before);
                 Err(Refusal::OutOfMemory)
             }
         }
+    }
+
+    /// How long the file of an edit is, where the edit goes past its end.
+    fn outside(&self, e: &Edit) -> Option<u64>
+        ensures { IsPast self.now.files e.now result }
+    {
+        self.files.outside(e)
+    }
+
+    /// Makes an edit: it is a batch of one change, but where it goes past the end of its file the answer says so of the edit.
+    pub fn edit(&mut self, e: &Edit, steps: &mut Steps) -> Result<Report, Refusal>
+        ensures answer { IsEditAnswer self.old.files e.now result }
+        ensures held { OnOk result (self.new ≡ edited_session self.old e.now) }
+        ensures report { IfOk result (λ answer. answer ≡ report M.formatter self.old (change.Edit e.now ∷ [])) }
+        ensures counted { OnOk result (steps.new ≡ raised steps.old (work M.formatter self.old (change.Edit e.now ∷ []))) }
+        ensures refused { OnErr result (self.new ≡ self.old) }
+        ensures outside { IsOutside result → steps.new ≡ steps.old }
+
+        // Whatever the files say, and also where memory was wanting.
+        ensures most { steps.new ≤ raised steps.old (work M.formatter self.old (change.Edit e.now ∷ [])) }
+        ensures bound { steps.new ≤ steps.old + (length (fresh M.formatter (edited_session self.old e.now)).ran.pages + 1) * self.old.limits.budget }
+    {
+        let outside = self.outside(e);
+        if let Some(len) = outside {
+            return Err(Refusal::Outside { len });
+        }
+        let copy = e.clone()?;
+        let change = Change::Edit(copy);
+        self.batch(slice::from_ref(&change), steps)
     }
 
     /// Makes an edit, or leaves it out where it doesn't fit.
@@ -152,6 +185,7 @@ impl<M: Machine> Session<M> {
             Ok(_) => Ok(()),
             Err(Refusal::Outside { .. }) => Ok(()),
             Err(Refusal::OutOfMemory) => Err(AllocError),
+            Err(Refusal::BatchOutside { .. }) => unreachable!(),
         }
     }
 

@@ -1,0 +1,31 @@
+-- What a list of changes is answered, and an edit that is all of a list.
+use Rattle.std.proofs.Common.{◌≡◌, ℕ, true, ◌&&◌, List, [], ◌∷◌, Result, Ok, Err, sym, ap, ◌∙◌, subst, true≢false}
+use Rattle.std.specs.Result.{IsErrAnd}
+use Rattle.tx_bytes.specs.Files.{Files}
+use Rattle.tx_files.specs.Changes.{IsAnswerToAll}
+use Rattle.tx_files.specs.Edits.{fits_in}
+use Rattle.tx_files.specs.declared.before.Before.{Before}
+use Rattle.tx_files.specs.declared.edit.BatchRefusal.{BatchRefusal}
+use Rattle.tx_files.specs.declared.edit.BatchRefusal.TheVariants as lists
+use Rattle.tx_files.specs.declared.edit.Change.{Change}
+use Rattle.tx_files.specs.declared.edit.Change.TheVariants.{Edit}
+use Rattle.tx_files.specs.declared.edit.Edit.{Edit as FileEdit}
+use Rattle.tx_session.specs.Refusals.{refused, IsEditAnswer, IsBatchAnswer}
+use Rattle.tx_session.specs.declared.refusal.Refusal.{Refusal}
+use Rattle.tx_session.specs.declared.refusal.Refusal.TheVariants.{Outside, OutOfMemory, BatchOutside}
+
+refused_so : (T : Type 0) (files : Files) (changes : List Change) (refusal : BatchRefusal) → IsAnswerToAll {T = Before} files changes (Err refusal) → IsBatchAnswer {T = T} files changes (Err (refused refusal))
+refused_so T files changes (lists.Outside index len) answer = answer
+refused_so T files changes lists.OutOfMemory answer = tt
+
+pub batch-refused : {T : Type 0} (files : Files) (changes : List Change) (r : Result T Refusal) (refusal : BatchRefusal) → IsErrAnd r (λ x. x ≡ refused refusal) → IsAnswerToAll {T = Before} files changes (Err refusal)
+    → IsBatchAnswer files changes r
+batch-refused files changes (Ok value) refusal same answer = absurd same
+batch-refused {T = T} files changes (Err x) refusal same answer = subst (λ (y : Refusal). IsBatchAnswer {T = T} files changes (Err y)) (sym same) (refused_so T files changes refusal answer)
+
+-- an edit that fits is answered as the list of it alone
+pub edit-answer : {T : Type 0} (files : Files) (e : FileEdit) (r : Result T Refusal) → fits_in files e ≡ true → IsBatchAnswer files (Edit e ∷ []) r → IsEditAnswer files e r
+edit-answer files e (Ok value) fit answer = fit
+edit-answer files e (Err (Outside len)) fit answer = answer
+edit-answer files e (Err OutOfMemory) fit answer = fit
+edit-answer files e (Err (BatchOutside index len)) fit answer = absurd (true≢false (sym (ap (λ b. b && true) fit) ∙ answer.0))
