@@ -41,7 +41,7 @@ Ended : Option ℕ → ℕ → Type 0
 Ended None d = ⊥
 Ended (Some v) d = 0 < v → greatest < 10 * v + d
 
-none_or_some : {A : Type 0} (x : A) → Some x ≡ None → ⊥
+pub none_or_some : {A : Type 0} (x : A) → Some x ≡ None → ⊥
 none_or_some x e = cc
 
 grown : (s : Option ℕ) (c x : ℕ) → with_byte s c ≡ Some x → IsInRange 48 57 c × Grows s (c - 48) x
@@ -81,14 +81,14 @@ middle [] c more = refl
 middle (x ∷ a) c more = middle a c more
 
 -- a byte among a number's digits is a digit
-among : (v : ℕ) → v ≤ greatest → (a : List ℕ) (c : ℕ) (more : List ℕ) → decimal v ≡ a ++ c ∷ more → IsInRange 48 57 c
+pub among : (v : ℕ) → v ≤ greatest → (a : List ℕ) (c : ℕ) (more : List ℕ) → decimal v ≡ a ++ c ∷ more → IsInRange 48 57 c
 among v h a c more e =
     let digits = (decimal_is_IsNumeral v (omega arith)).0.1 in
     let long : length a < length (decimal v) = omega (arith, ap length e, length-append a (c ∷ more)) in
     subst (λ (x : ℕ). IsInRange 48 57 x) (ap (λ (x : List ℕ). get_or x (length a) 0) e ∙ middle a c more) (digit_at (decimal v) (length a) digits long)
 
 -- the digits of a number begin with those of a smaller one
-front_below : (v w c : ℕ) (more : List ℕ) → v ≤ greatest → w ≤ greatest → IsInRange 48 57 c → decimal v ≡ decimal w ++ c ∷ more → 10 * w + (c - 48) ≤ v
+pub front_below : (v w c : ℕ) (more : List ℕ) → v ≤ greatest → w ≤ greatest → IsInRange 48 57 c → decimal v ≡ decimal w ++ c ∷ more → 10 * w + (c - 48) ≤ v
 front_below v w c more hv hw digit e =
     let value : digits_value 10 (decimal v) ≡ v = (decimal_is_IsNumeral v (omega arith)).1 in
     let value_w : digits_value 10 (decimal w) ≡ w = (decimal_is_IsNumeral w (omega arith)).1 in
@@ -99,15 +99,15 @@ front_below v w c more hv hw digit e =
     subst (λ (x : List ℕ). digits_value 10 x ≤ digits_value 10 (decimal v)) front (digits_value-take-le 10 (decimal v) (length (decimal w) + 1) (omega arith)) in
     omega (arith, part, digits_value_push 10 (decimal w) c, digit_value_digit c digit, value, value_w)
 
-Good : Option ℕ → Type 0
+pub Good : Option ℕ → Type 0
 Good None = Unit {0}
 Good (Some v) = v ≤ greatest
 
-shown : Option ℕ → List ℕ
+pub shown : Option ℕ → List ℕ
 shown None = []
 shown (Some v) = decimal v
 
-goes : (s : Option ℕ) (c : ℕ) (s' : Option ℕ) → Good s → further_number s c ≡ Some s' → Good s' × (shown s' ≡ shown s ++ c ∷ [])
+pub goes : (s : Option ℕ) (c : ℕ) (s' : Option ℕ) → Good s → further_number s c ≡ Some s' → Good s' × (shown s' ≡ shown s ++ c ∷ [])
 unfolding Good shown Grows
 goes s c s' good e = by (with_byte s c) refl e
   where
@@ -127,7 +127,7 @@ goes s c s' good e = by (with_byte s c) refl e
         let j = step s good x k.0 k.1 in
         subst (λ (z : Option ℕ). Good z × (shown z ≡ shown s ++ c ∷ [])) (some_is (Some x) s' e) (j.0, j.1)
 
-gone : (s : Option ℕ) (c v : ℕ) (more : List ℕ) → Good s → further_number s c ≡ None → v ≤ greatest → decimal v ≡ shown s ++ c ∷ more → ⊥
+pub gone : (s : Option ℕ) (c v : ℕ) (more : List ℕ) → Good s → further_number s c ≡ None → v ≤ greatest → decimal v ≡ shown s ++ c ∷ more → ⊥
 unfolding Good shown Ended
 gone s c v more good e fits eq = by (with_byte s c) refl e
   where

@@ -3,6 +3,10 @@ mod Forms
 mod Literals
 mod Scans
 mod Digits
+mod Counts
 mod Names
+mod Words
+mod Changes
 mod Commands
+mod Batches
 mod Scripts

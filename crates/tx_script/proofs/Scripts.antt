@@ -4,8 +4,9 @@ use Rattle.std.specs.Prelude.{Some, Ok, Err, slice_get}
 use Rattle.std.specs.List.{flat_map}
 use Rattle.std.proofs.lemmas.Grind.{flat_map-append}
 use Rattle.std.proofs.lemmas.List.{append-nil, length-append, take_at}
+use Rattle.tx_files.specs.declared.edit.Change.TheVariants.{Edit, Remove}
 use Rattle.tx_script.specs.declared.command.Command.{Command}
-use Rattle.tx_script.specs.declared.command.Command.TheVariants.{Edit, Save}
+use Rattle.tx_script.specs.declared.command.Command.TheVariants.{Change as Lone, Batch, Save}
 use Rattle.tx_script.specs.declared.error.Broken.{Broken}
 use Rattle.tx_script.specs.declared.error.Rule.{Rule}
 use Rattle.tx_script.specs.Text.{bytes_of, elements, rules, rules_of, text, IsCommand, IsScript, IsTextOf, BeginsScript, IsNextRule, IsRefusal}
@@ -28,7 +29,9 @@ length-rules a = length-rules_of (flat_map elements a)
 
 -- a command's text isn't empty
 some_text : (c : Command) → 0 < length (bytes_of (elements c))
-some_text (Edit e) = omega arith
+some_text (Lone (Edit e)) = omega arith
+some_text (Lone (Remove name)) = omega arith
+some_text (Batch changes) = omega arith
 some_text (Save name) = omega arith
 
 IsScript-append : (a b : List Command) → IsScript a → IsScript b → IsScript (a ++ b)

@@ -1,18 +1,22 @@
 -- Reading a script's text element by element, up to the first byte that no script has there.
-use Rattle.std.specs.Prelude.{◌≡◌, ℕ, ◌+◌, ◌-◌, ◌*◌, ◌==◌, ◌&&◌, if◌then◌else◌, Bool, false, nat_le, nat_lt, List, [], ◌∷◌, ◌++◌, length, take, drop, codes, Option, Some, None, option_map, Result, Ok, Err}
+use Rattle.std.specs.Prelude.{◌≡◌, ℕ, zero, suc, ◌+◌, ◌-◌, ◌*◌, ◌==◌, ◌&&◌, if◌then◌else◌, Bool, false, nat_le, nat_lt, List, [], ◌∷◌, ◌++◌, length, take, drop, codes, Option, Some, None, option_map, Result, Ok, Err}
 use Rattle.std.specs.Char.{is_ascii_digit}
 use Rattle.tx_files.specs.Names.{is_name, is_visible}
 use Rattle.tx_files.specs.declared.edit.Edit.{Edit as FileEdit}
+use Rattle.tx_files.specs.declared.edit.Change.{Change}
+use Rattle.tx_files.specs.declared.edit.Change.TheVariants.{Edit, Remove}
 use Rattle.tx_script.specs.declared.command.Command.{Command}
-use Rattle.tx_script.specs.declared.command.Command.TheVariants.{Edit, Save}
+use Rattle.tx_script.specs.declared.command.Command.TheVariants.{Change as Lone, Batch, Save}
+use Rattle.tx_script.specs.declared.element.ChangeWord.{ChangeWord}
+use Rattle.tx_script.specs.declared.element.ChangeWord.TheVariants as changing
 use Rattle.tx_script.specs.declared.element.CommandWord.{CommandWord}
 use Rattle.tx_script.specs.declared.element.CommandWord.TheVariants as words
 use Rattle.tx_script.specs.declared.error.Broken.{Broken}
 use Rattle.tx_script.specs.declared.error.Fault.{Fault}
 use Rattle.tx_script.specs.declared.error.Fault.TheVariants as faults
 use Rattle.tx_script.specs.declared.error.Rule.{Rule}
-use Rattle.tx_script.specs.declared.error.Rule.TheVariants.{Word, Number, Name, Put, LineFeed}
-use Rattle.tx_script.specs.Text.{greatest}
+use Rattle.tx_script.specs.declared.error.Rule.TheVariants.{Word, Number, Name, Put, LineFeed, Count}
+use Rattle.tx_script.specs.Text.{greatest, is_count}
 
 -- what stands at the front of bytes, and the bytes after it; or where reading ended
 abbrev pub Read : Type 0 → Type 0
@@ -75,6 +79,21 @@ whole_number known = known
 unfoldable pub number_at : List ℕ → Read ℕ
 number_at bytes = scan Number 32 whole_number further_number None bytes
 
+-- how many changes a batch has, with one byte more
+abbrev pub if_count : Option ℕ → Option ℕ
+if_count None = None
+if_count (Some value) = if is_count value then Some value else None
+
+abbrev pub with_count : Option ℕ → ℕ → Option ℕ
+with_count number byte = if_count (with_byte number byte)
+
+abbrev pub further_count : Option ℕ → ℕ → Option (Option ℕ)
+further_count known byte = option_map Some (with_count known byte)
+
+-- that number and LF
+unfoldable pub count_at : List ℕ → Read ℕ
+count_at bytes = scan Count 10 whole_number further_count None bytes
+
 -- a name, if these bytes are one
 abbrev pub whole_name : List ℕ → Option (List ℕ)
 whole_name front = if is_name front then Some front else None
@@ -91,16 +110,28 @@ name_at bytes = scan Name 10 whole_name with_letter [] bytes
 unfoldable pub put_at : ℕ → List ℕ → Read (List ℕ)
 put_at size bytes = if nat_le size (length bytes) then Ok (take size bytes, drop size bytes) else stopped Put []
 
--- the word that begins a command, and a space
-abbrev pub begins_save : List ℕ → Bool
-begins_save [] = false
-begins_save (b ∷ bytes) = b == 115
+-- whether bytes begin with this one
+abbrev pub begins_with : ℕ → List ℕ → Bool
+begins_with first [] = false
+begins_with first (b ∷ bytes) = b == first
 
+-- the word that begins a command, and a space
 unfoldable pub word_at : List ℕ → Read CommandWord
 word_at bytes =
-    if begins_save bytes
+    if begins_with 115 bytes
     then (literal_at Word (codes "save ") bytes >>= λ rest. Ok (words.Save, rest))
+    else if begins_with 98 bytes
+    then (literal_at Word (codes "batch ") bytes >>= λ rest. Ok (words.Batch, rest))
+    else if begins_with 114 bytes
+    then (literal_at Word (codes "remove ") bytes >>= λ rest. Ok (words.Remove, rest))
     else (literal_at Word (codes "edit ") bytes >>= λ rest. Ok (words.Edit, rest))
+
+-- the word that begins a command of a batch, and a space
+unfoldable pub change_word_at : List ℕ → Read ChangeWord
+change_word_at bytes =
+    if begins_with 114 bytes
+    then (literal_at Word (codes "remove ") bytes >>= λ rest. Ok (changing.Remove, rest))
+    else (literal_at Word (codes "edit ") bytes >>= λ rest. Ok (changing.Edit, rest))
 
 -- an edit, after its word
 unfoldable pub edit_at : List ℕ → Read FileEdit
@@ -113,9 +144,35 @@ edit_at bytes = do
   rest ← literal_at LineFeed (10 ∷ []) put.1
   Ok (record { name = name.0; place = place.0; removed = removed.0; put = put.0 }, rest)
 
+-- a change: what follows its word, and all of it
+abbrev pub after_change_word : ChangeWord → List ℕ → Read Change
+after_change_word changing.Edit bytes = edit_at bytes >>= λ e. Ok (Edit e.0, e.1)
+after_change_word changing.Remove bytes = name_at bytes >>= λ name. Ok (Remove name.0, name.1)
+
+unfoldable pub change_at : List ℕ → Read Change
+change_at bytes = do
+  word ← change_word_at bytes
+  after_change_word word.0 word.1
+
+-- so many changes
+unfoldable pub changes_at : ℕ → List ℕ → Read (List Change)
+changes_at zero bytes = Ok ([], bytes)
+changes_at (suc n) bytes = do
+  c ← change_at bytes
+  changes ← changes_at n c.1
+  Ok (c.0 ∷ changes.0, changes.1)
+
+-- a batch, after its word
+unfoldable pub batch_at : List ℕ → Read (List Change)
+batch_at bytes = do
+  count ← count_at bytes
+  changes_at count.0 count.1
+
 -- what follows a word
 abbrev pub after_word : CommandWord → List ℕ → Read Command
-after_word words.Edit bytes = edit_at bytes >>= λ e. Ok (Edit e.0, e.1)
+after_word words.Edit bytes = edit_at bytes >>= λ e. Ok (Lone (Edit e.0), e.1)
+after_word words.Remove bytes = name_at bytes >>= λ name. Ok (Lone (Remove name.0), name.1)
+after_word words.Batch bytes = batch_at bytes >>= λ changes. Ok (Batch changes.0, changes.1)
 after_word words.Save bytes = name_at bytes >>= λ name. Ok (Save name.0, name.1)
 
 -- a command

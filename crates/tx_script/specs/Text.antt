@@ -1,13 +1,15 @@
 -- The text of a script, and what begins one.
-use Rattle.std.specs.Prelude.{◌≡◌, ℕ, ◌<◌, ◌≤◌, IsTrue, List, [], ◌∷◌, ◌++◌, length, take, replicate, slice_get, codes, Some}
+use Rattle.std.specs.Prelude.{◌≡◌, ℕ, ◌<◌, ◌≤◌, nat_le, Bool, true, ◌&&◌, IsTrue, List, [], ◌∷◌, ◌++◌, length, take, replicate, slice_get, codes, Some}
 use Rattle.std.specs.Fmt.{decimal}
 use Rattle.std.specs.List.{flat_map, AllByRecursion}
 use Rattle.tx_files.specs.Names.{is_name}
 use Rattle.tx_files.specs.declared.edit.Edit.{Edit as FileEdit}
+use Rattle.tx_files.specs.declared.edit.Change.{Change}
+use Rattle.tx_files.specs.declared.edit.Change.TheVariants.{Edit, Remove}
 use Rattle.tx_script.specs.declared.command.Command.{Command}
-use Rattle.tx_script.specs.declared.command.Command.TheVariants.{Edit, Save}
+use Rattle.tx_script.specs.declared.command.Command.TheVariants.{Change as Lone, Batch, Save}
 use Rattle.tx_script.specs.declared.error.Rule.{Rule}
-use Rattle.tx_script.specs.declared.error.Rule.TheVariants.{Word, Number, Name, Put, LineFeed}
+use Rattle.tx_script.specs.declared.error.Rule.TheVariants.{Word, Number, Name, Put, LineFeed, Count}
 
 -- a number in decimal digits, 0 or without a leading zero, and a space
 abbrev pub number : ℕ → Rule × List ℕ
@@ -22,9 +24,23 @@ named name = (Name, name ++ 10 ∷ [])
 abbrev pub edit_elements : FileEdit → List (Rule × List ℕ)
 edit_elements e = number e.place ∷ number e.removed ∷ number (length e.put) ∷ named e.name ∷ (Put, e.put) ∷ (LineFeed, 10 ∷ []) ∷ []
 
--- the elements of a command, each with its bytes
+-- the elements of a change, each with its bytes
+abbrev pub change_elements : Change → List (Rule × List ℕ)
+change_elements (Edit e) = (Word, codes "edit ") ∷ edit_elements e
+change_elements (Remove name) = (Word, codes "remove ") ∷ named name ∷ []
+
+-- how many changes a batch has, without a leading zero, and LF
+abbrev pub counted : ℕ → Rule × List ℕ
+counted n = (Count, decimal n ++ 10 ∷ [])
+
+-- what a batch is made of after its word: how many changes it has, and those
+abbrev pub batch_elements : List Change → List (Rule × List ℕ)
+batch_elements changes = counted (length changes) ∷ flat_map change_elements changes
+
+-- the elements of a command
 abbrev pub elements : Command → List (Rule × List ℕ)
-elements (Edit e) = (Word, codes "edit ") ∷ edit_elements e
+elements (Lone c) = change_elements c
+elements (Batch changes) = (Word, codes "batch ") ∷ batch_elements changes
 elements (Save name) = (Word, codes "save ") ∷ named name ∷ []
 
 -- the bytes that elements are written with
@@ -54,9 +70,24 @@ pub record IsEdit (e : FileEdit) : Type 0 where
   pub put : length e.put ≤ greatest
   pub is_named : IsTrue (is_name e.name)
 
+-- a change that a script may hold
+abbrev pub IsChange : Change → Type 0
+IsChange (Edit e) = IsEdit e
+IsChange (Remove name) = IsTrue (is_name name)
+
+-- a batch has 1 to 100 of them
+abbrev pub is_count : ℕ → Bool
+is_count n = nat_le 1 n && nat_le n 100
+
+pub record IsBatch (changes : List Change) : Type 0 where
+  pub some : 1 ≤ length changes
+  pub few : length changes ≤ 100
+  pub each : AllByRecursion IsChange changes
+
 -- a command that a script may hold
 abbrev pub IsCommand : Command → Type 0
-IsCommand (Edit e) = IsEdit e
+IsCommand (Lone c) = IsChange c
+IsCommand (Batch changes) = IsBatch changes
 IsCommand (Save name) = IsTrue (is_name name)
 
 -- a script is a list of these

@@ -1,12 +1,14 @@
 //! What a script asks for.
-use tx_files::{Edit, Name};
+use tx_files::{Change, Name};
 use tx_list::Items;
 
 /// What a script asks for.
 #[derive(Drop)]
 pub enum Command {
-    /// This edit is to be made.
-    Edit(Edit),
+    /// This change is to be made: it is a list of one change.
+    Change(Change),
+    /// These changes are to be made together.
+    Batch(Items<Change>),
     /// What there is at this point is to be saved under this name.
     Save(Name),
 }

@@ -1,7 +1,8 @@
 //! The elements of a command, each read at the front of the bytes. Each answers what it read and the bytes after it.
 
 ghost use Rattle.std.specs.Prelude.{◌≡◌, ◌∷◌, [], length};
-ghost use Rattle.tx_script.specs.Reading.{Gives, literal_at, name_at, number_at, put_at, with_byte, word_at};
+ghost use Rattle.tx_script.specs.Reading.{Gives, change_word_at, count_at, literal_at, name_at, number_at, put_at, with_byte, with_count, word_at};
+ghost use Rattle.tx_script.specs.Text as texts;
 
 use crate::error::{Broken, Fault, Rule};
 use std::alloc::Global;
@@ -12,11 +13,23 @@ use tx_files::Name;
 #[derive(Clone, Copy)]
 pub(crate) enum CommandWord {
     Edit,
+    Remove,
+    Batch,
     Save,
+}
+
+/// The word that begins a command of a batch.
+#[derive(Clone, Copy)]
+pub(crate) enum ChangeWord {
+    Edit,
+    Remove,
 }
 
 /// The greatest number that a script may hold.
 const GREATEST: u64 = 4_294_967_295;
+
+/// The most changes that a batch may have.
+const MOST_CHANGES: u64 = 100;
 
 /// The bytes after a text that has to stand there.
 fn literal<'a>(bytes: &'a [u8], text: &[u8], rule: Rule) -> Result<&'a [u8], Fault>
@@ -54,7 +67,20 @@ pub(crate) fn word(bytes: &[u8]) -> Result<(CommandWord, &[u8]), Fault>
 {
     match bytes {
         [b's', ..] => Ok((CommandWord::Save, literal(bytes, b"save ", Rule::Word)?)),
+        [b'b', ..] => Ok((CommandWord::Batch, literal(bytes, b"batch ", Rule::Word)?)),
+        [b'r', ..] => Ok((CommandWord::Remove, literal(bytes, b"remove ", Rule::Word)?)),
         _ => Ok((CommandWord::Edit, literal(bytes, b"edit ", Rule::Word)?)),
+    }
+}
+
+/// The word that begins a command of a batch, and a space.
+#[tactic(auto, unfolding(crate::specs::Reading::change_word_at))]
+pub(crate) fn change_word(bytes: &[u8]) -> Result<(ChangeWord, &[u8]), Fault>
+    ensures { Gives (λ x. (x.0, x.1.now)) result (change_word_at bytes.now) }
+{
+    match bytes {
+        [b'r', ..] => Ok((ChangeWord::Remove, literal(bytes, b"remove ", Rule::Word)?)),
+        _ => Ok((ChangeWord::Edit, literal(bytes, b"edit ", Rule::Word)?)),
     }
 }
 
@@ -91,6 +117,43 @@ pub(crate) fn number(bytes: &[u8]) -> Result<(u64, &[u8]), Fault>
         }
     }
     Err(stop(&[], Rule::Number))
+}
+
+/// Whether a batch may have so many changes.
+fn is_count(value: u64) -> bool
+    ensures { result ≡ texts.is_count value }
+{
+    1 <= value && value <= MOST_CHANGES
+}
+
+/// The number of changes of which one more byte has been read; None where no such number goes on so.
+fn with_count(number: Option<u64>, byte: u8) -> Option<u64>
+    ensures { result ≡ with_count number byte }
+{
+    match with_byte(number, byte) {
+        Some(value) => { if is_count(value) { Some(value) } else { None } }
+        None => None,
+    }
+}
+
+/// How many changes a batch has, and LF.
+pub(crate) fn count(bytes: &[u8]) -> Result<(u64, &[u8]), Fault>
+    ensures { Gives (λ x. (x.0, x.1.now)) result (count_at bytes.now) }
+{
+    let mut known = None;
+    for (at, byte) in bytes.iter().enumerate() {
+        if *byte == b'\n' {
+            return match known {
+                Some(value) => Ok((value, &bytes[at + 1..])),
+                None => Err(stop(&bytes[at..], Rule::Count)),
+            };
+        }
+        match with_count(known, *byte) {
+            Some(value) => known = Some(value),
+            None => return Err(stop(&bytes[at..], Rule::Count)),
+        }
+    }
+    Err(stop(&[], Rule::Count))
 }
 
 /// A name and LF.

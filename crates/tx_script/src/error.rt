@@ -22,10 +22,12 @@ pub enum Rule {
     Put,
     /// The LF after those.
     LineFeed,
+    /// How many changes a batch has, and the LF after it.
+    Count,
 }
 
 impl Rule {
-    /// The number by which a refusal names the rule: 1 to 6, in their order.
+    /// The number by which a refusal names the rule: 1 to 7, in their order.
     pub fn number(self) -> u8
         ensures { result ≡ number_of self }
     {
@@ -36,6 +38,7 @@ impl Rule {
             Rule::Name => 4,
             Rule::Put => 5,
             Rule::LineFeed => 6,
+            Rule::Count => 7,
         }
     }
 }

@@ -1,4 +1,5 @@
-//! Scripts of edits: lists of commands, each of which edits a file or saves what there is, read from their texts.
+//! Scripts of edits: lists of commands, each of which edits a file, takes one away, does several of these together, or saves
+//! what there is, read from their texts.
 //! `specs/Text.antt` says which bytes are the text of a script, and what the refusal of any others names.
 //!
 //! Proved: exactly the texts of scripts are read, each in the only way there is, and a refusal names the furthest place

@@ -1,15 +1,16 @@
 //! A script, read from its text.
 ghost use Rattle.std.specs.Prelude.{◌≡◌, IfOk, IfErr, List};
-ghost use Rattle.tx_script.specs.Reading.{Gives, command_at, edit_at};
+ghost use Rattle.tx_script.specs.Reading.{Gives, batch_at, change_at, changes_at, command_at, edit_at};
 ghost use Rattle.tx_script.specs.Text.{IsTextOf};
 ghost use Rattle.tx_script.specs.Causes.{IsCause};
 ghost use Rattle.tx_script.specs.declared.command.Command.{Command};
 
 use crate::command::{Command, Script};
-use crate::element::{self, CommandWord};
+use crate::element::{self, ChangeWord, CommandWord};
 use crate::error::{Fault, ScriptError};
 use std::alloc::Global;
-use tx_files::Edit;
+use tx_files::{Change, Edit};
+use tx_list::Items;
 
 /// An edit, after its word.
 #[tactic(auto, unfolding(crate::specs::Reading::edit_at))]
@@ -31,6 +32,47 @@ fn edit(alloc: Global, bytes: &[u8]) -> Result<(Edit, &[u8]), Fault>
     Ok((edit, rest))
 }
 
+/// A change, and the bytes after it.
+#[tactic(auto, unfolding(crate::specs::Reading::change_at))]
+fn change(alloc: Global, bytes: &[u8]) -> Result<(Change, &[u8]), Fault>
+    ensures { Gives (λ x. (x.0, x.1.now)) result (change_at bytes.now) }
+{
+    let (word, rest) = element::change_word(bytes)?;
+    match word {
+        ChangeWord::Edit => {
+            let (edit, rest) = edit(alloc, rest)?;
+            Ok((Change::Edit(edit), rest))
+        }
+        ChangeWord::Remove => {
+            let (name, rest) = element::name(alloc, rest)?;
+            Ok((Change::Remove(name), rest))
+        }
+    }
+}
+
+/// So many changes, and the bytes after them.
+fn changes(alloc: Global, count: u64, bytes: &[u8]) -> Result<(Items<Change>, &[u8]), Fault>
+    ensures { Gives (λ x. (x.0, x.1.now)) result (changes_at count bytes.now) }
+{
+    let mut changes = Items::new(alloc);
+    let mut rest = bytes;
+    for _at in 0..count {
+        let (change, after) = change(alloc, rest)?;
+        changes.push(change)?;
+        rest = after;
+    }
+    Ok((changes, rest))
+}
+
+/// A batch, after its word.
+#[tactic(auto, unfolding(crate::specs::Reading::batch_at))]
+fn batch(alloc: Global, bytes: &[u8]) -> Result<(Items<Change>, &[u8]), Fault>
+    ensures { Gives (λ x. (x.0, x.1.now)) result (batch_at bytes.now) }
+{
+    let (count, rest) = element::count(bytes)?;
+    changes(alloc, count, rest)
+}
+
 /// A command, and the bytes after it.
 #[tactic(auto, unfolding(crate::specs::Reading::command_at))]
 fn command(alloc: Global, bytes: &[u8]) -> Result<(Command, &[u8]), Fault>
@@ -40,7 +82,15 @@ fn command(alloc: Global, bytes: &[u8]) -> Result<(Command, &[u8]), Fault>
     match word {
         CommandWord::Edit => {
             let (edit, rest) = edit(alloc, rest)?;
-            Ok((Command::Edit(edit), rest))
+            Ok((Command::Change(Change::Edit(edit)), rest))
+        }
+        CommandWord::Remove => {
+            let (name, rest) = element::name(alloc, rest)?;
+            Ok((Command::Change(Change::Remove(name)), rest))
+        }
+        CommandWord::Batch => {
+            let (changes, rest) = batch(alloc, rest)?;
+            Ok((Command::Batch(changes), rest))
         }
         CommandWord::Save => {
             let (name, rest) = element::name(alloc, rest)?;
