@@ -1,8 +1,8 @@
 -- What a list of changes is answered, and an edit that is all of a list.
-use Rattle.std.proofs.Common.{◌≡◌, ℕ, true, ◌&&◌, List, [], ◌∷◌, Result, Ok, Err, sym, ap, ◌∙◌, subst, true≢false}
+use Rattle.std.proofs.Common.{◌≡◌, ℕ, Bool, true, false, cond, ◌&&◌, List, [], ◌∷◌, Result, Ok, Err, refl, sym, ap, ◌∙◌, subst, true≢false}
 use Rattle.std.specs.Result.{IsErrAnd}
 use Rattle.tx_bytes.specs.Files.{Files}
-use Rattle.tx_files.specs.Changes.{IsAnswerToAll}
+use Rattle.tx_files.specs.Changes.{all_fit, IsAnswerToAll}
 use Rattle.tx_files.specs.Edits.{fits_in}
 use Rattle.tx_files.specs.declared.before.Before.{Before}
 use Rattle.tx_files.specs.declared.edit.BatchRefusal.{BatchRefusal}
@@ -10,6 +10,9 @@ use Rattle.tx_files.specs.declared.edit.BatchRefusal.TheVariants as lists
 use Rattle.tx_files.specs.declared.edit.Change.{Change}
 use Rattle.tx_files.specs.declared.edit.Change.TheVariants.{Edit}
 use Rattle.tx_files.specs.declared.edit.Edit.{Edit as FileEdit}
+use Rattle.tx_machine.specs.Machine.{Formatter}
+use Rattle.tx_session.specs.Held.{Held}
+use Rattle.tx_session.specs.Report.{work, turns_of_changes, turns_of_edit}
 use Rattle.tx_session.specs.Refusals.{refused, IsEditAnswer, IsBatchAnswer}
 use Rattle.tx_session.specs.declared.refusal.Refusal.{Refusal}
 use Rattle.tx_session.specs.declared.refusal.Refusal.TheVariants.{Outside, OutOfMemory, BatchOutside}
@@ -29,3 +32,14 @@ edit-answer files e (Ok value) fit answer = fit
 edit-answer files e (Err (Outside len)) fit answer = answer
 edit-answer files e (Err OutOfMemory) fit answer = fit
 edit-answer files e (Err (BatchOutside index len)) fit answer = absurd (true≢false (sym (ap (λ b. b && true) fit) ∙ answer.0))
+
+-- the turns of a list that can be made, and of one that is an edit
+pub made-turns : {S : Type 0} (m : Formatter S) (held : Held) (changes : List Change) → all_fit held.files changes ≡ true → work m held changes ≡ turns_of_changes m held changes
+made-turns m held changes fit = sym (ap (λ b. cond b (work m held changes) 0) fit)
+
+pub edit-turns : {S : Type 0} (m : Formatter S) (held : Held) (e : FileEdit) → turns_of_changes m held (Edit e ∷ []) ≡ turns_of_edit m held e
+edit-turns m held e = by (fits_in held.files e)
+  where
+    by : (b : Bool) → cond (b && true) (work m held (Edit e ∷ [])) 0 ≡ cond b (work m held (Edit e ∷ [])) 0
+    by true = refl
+    by false = refl

@@ -8,7 +8,7 @@ ghost use Rattle.tx_machine.specs.Steps.{raised};
 ghost use Rattle.tx_session.specs.Held.{fresh, transcript, body_of, changed_session, edited_session, after, replayed};
 ghost use Rattle.tx_session.specs.Refusals.{IsEditAnswer, IsBatchAnswer, IsOutside};
 ghost use Rattle.tx_session.specs.Report as spec;
-ghost use Rattle.tx_session.specs.Report.{report, work, turns_of_edit, turns_of_edits};
+ghost use Rattle.tx_session.specs.Report.{report, work, turns_of_changes, turns_of_edit, turns_of_edits};
 
 use crate::kept::Made;
 use crate::made::{make_after, make_anew};
@@ -114,7 +114,7 @@ impl<M: Machine> Session<M> {
         ensures outside { IsOutside result → steps.new ≡ steps.old }
 
         // Whatever the files say, and also where memory was wanting.
-        ensures most { steps.new ≤ raised steps.old (work M.formatter self.old changes.now) }
+        ensures most { steps.new ≤ raised steps.old (turns_of_changes M.formatter self.old changes.now) }
         ensures bound { steps.new ≤ steps.old + (length (fresh M.formatter (changed_session self.old changes.now)).ran.pages + 1) * self.old.limits.budget }
     {
         let before = self.files.change_all(changes)?;
@@ -163,7 +163,7 @@ impl<M: Machine> Session<M> {
         ensures outside { IsOutside result → steps.new ≡ steps.old }
 
         // Whatever the files say, and also where memory was wanting.
-        ensures most { steps.new ≤ raised steps.old (work M.formatter self.old (change.Edit e.now ∷ [])) }
+        ensures most { steps.new ≤ raised steps.old (turns_of_edit M.formatter self.old e.now) }
         ensures bound { steps.new ≤ steps.old + (length (fresh M.formatter (edited_session self.old e.now)).ran.pages + 1) * self.old.limits.budget }
     {
         let outside = self.outside(e);

@@ -12,7 +12,7 @@ use Rattle.tx_machine.specs.Machine.{Formatter}
 use Rattle.tx_machine.specs.Steps.{raised}
 use Rattle.tx_machine.proofs.Going.{raised-raised, raised-le}
 use Rattle.tx_script.specs.declared.command.Command.{Command}
-use Rattle.tx_script.specs.declared.command.Command.TheVariants.{Edit, Save as SaveAs}
+use Rattle.tx_script.specs.declared.command.Command.TheVariants.{Change as Lone, Batch, Save as SaveAs}
 use Rattle.vortex_cmd.specs.declared.trouble.Interruption.{Interruption}
 use Rattle.vortex_cmd.specs.declared.trouble.Interruption.TheVariants.{Trouble as Interrupted, RefusedEdit}
 use Rattle.vortex_cmd.specs.Replay.{Moment, IsEdit, next_moment, moment_after, pieces_at, pieces_from, turns_at, turns_from, refused_pieces, refusal_at, refusal_of, Puts, Replays}
@@ -22,6 +22,12 @@ pub record Replayed {S : Type 0} (m : Formatter S) (begun here : Moment) (comman
   pub puts : sink ≡ told before (pieces_from m begun (take k commands))
   pub counted : raised now (turns_from m here (drop k commands)) ≡ raised steps (turns_from m begun commands)
   pub edits : here.edits ≤ begun.edits + k
+
+-- where memory refuses a command that makes changes, these pieces are put out
+refusal-is : (c : Command) (pieces : List Piece) → IsEdit c → refusal_of (Some c) pieces ≡ Some pieces
+refusal-is (Lone change) pieces is = refl
+refusal-is (Batch changes) pieces is = refl
+refusal-is (SaveAs name) pieces is = absurd is
 
 module _ {S : Type 0} (m : Formatter S) where
   pieces-append : (t : Moment) (first later : List Command) → pieces_from m t (first ++ later) ≡ pieces_from m t first ++ pieces_from m (moment_after t first) later
@@ -78,15 +84,15 @@ module _ {S : Type 0} (m : Formatter S) where
       subst (λ (ps : List Piece). IsCutShort before ps after) whole
       (cut-behind before first (pieces_at m here c ++ later) after
       (cut-longer (told before first) (pieces_at m here c) later after (subst (λ (o : Option Output). IsCutShort o (pieces_at m here c) after) so_far.puts puts)))
-  replayed-cut T U out {begun = begun} {here = here} {commands = commands} {k = k} {before = before} after (Edit e) RefusedEdit so_far more is puts edit = record {
+  replayed-cut T U out {begun = begun} {here = here} {commands = commands} {k = k} {before = before} after c RefusedEdit so_far more is puts edit = record {
     made = k;
     pieces = pieces_from m begun (take k commands) ++ refused_pieces m out (moment_after begun (take k commands));
-    are = ap (λ at. refusal_of at (pieces_from m begun (take k commands) ++ refused_pieces m out (moment_after begun (take k commands)))) (slice_get-there commands k (Edit e) more is);
+    are = ap (λ at. refusal_of at (pieces_from m begun (take k commands) ++ refused_pieces m out (moment_after begun (take k commands)))) (slice_get-there commands k c more is)
+        ∙ refusal-is c (pieces_from m begun (take k commands) ++ refused_pieces m out (moment_after begun (take k commands))) (edit refl);
     cut = cut-behind before (pieces_from m begun (take k commands)) (refused_pieces m out (moment_after begun (take k commands))) after
         (subst (λ (t : Moment). IsCutShort (told before (pieces_from m begun (take k commands))) (refused_pieces m out t) after) so_far.moment
         (subst (λ (o : Option Output). IsCutShort o (refused_pieces m out here) after) so_far.puts puts));
   }
-  replayed-cut T U out after (SaveAs name) RefusedEdit so_far more is puts edit = absurd (edit refl)
 
 -- what is so of an error is so of the result that has it
 pub on-err : {U E : Type 0} (r : Result U E) (e : E) (IsSo : Result U E → Type 0) → IsErrAnd r (λ x. x ≡ e) → IsSo (Err e) → IsSo r

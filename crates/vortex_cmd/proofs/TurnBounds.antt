@@ -3,17 +3,17 @@ use Rattle.std.proofs.Common.{◌≡◌, ℕ, ◌+◌, ◌*◌, ◌≤◌, Bool,
 use Rattle.std.proofs.Math.Nat.{mul-le-mul_right}
 use Rattle.std.specs.FinMap.{empty}
 use Rattle.tx_bytes.specs.Files.{Files}
-use Rattle.tx_files.specs.Edits.{fits_in}
-use Rattle.tx_files.specs.declared.edit.Edit.{Edit as FileEdit}
+use Rattle.tx_files.specs.Changes.{all_fit}
+use Rattle.tx_files.specs.declared.edit.Change.{Change}
 use Rattle.tx_machine.specs.Machine.{Formatter, IsLawful}
 use Rattle.tx_machine.proofs.Running.{turns-run}
 use Rattle.tx_machine.proofs.PageCounts.{pages-run_from}
 use Rattle.tx_checkpoint.specs.Rows.{all_turns}
 use Rattle.tx_checkpoint.proofs.Standing.{rows-tell}
 use Rattle.tx_script.specs.declared.command.Command.{Command}
-use Rattle.tx_script.specs.declared.command.Command.TheVariants.{Edit, Save as SaveAs}
-use Rattle.tx_session.specs.Held.{Held, fresh, rows_of, edited_session}
-use Rattle.tx_session.specs.Report.{work, turns_of_edit}
+use Rattle.tx_script.specs.declared.command.Command.TheVariants.{Change as Lone, Batch, Save as SaveAs}
+use Rattle.tx_session.specs.Held.{Held, fresh, rows_of, changed_session}
+use Rattle.tx_session.specs.Report.{work, turns_of_changes}
 use Rattle.tx_session.proofs.Reusing.{work-least}
 use Rattle.tx_words.specs.declared.given.Asked.{Asked}
 use Rattle.tx_words.specs.declared.given.Asked.TheVariants.{Run, Gen, Help, RunHelp, GenHelp, Version, Nothing}
@@ -44,21 +44,22 @@ module _ {S : Type 0} (m : Formatter S) (lawful : IsLawful m) where
       let same : (fresh m held).turns ≡ all_turns (rows_of m held) = ap (λ c. c.turns) (rows-tell m held.files held.limits.budget held.limits.pages (m.start held.date held.main) []) in
       omega (arith, same, fresh-most held)
 
-  work-most : (held : Held) (e : FileEdit) → work m held e ≤ most_of held
-  work-most held e =
-      le_trans (work m held e) (all_turns (rows_of m (edited_session held e))) (most_of held)
-      (work-least m e held.limits.pages (rows_of m held) (rows_of m (edited_session held e))) (rows-most (edited_session held e))
+  work-most : (held : Held) (changes : List Change) → work m held changes ≤ most_of held
+  work-most held changes =
+      le_trans (work m held changes) (all_turns (rows_of m (changed_session held changes))) (most_of held)
+      (work-least m changes held.limits.pages (rows_of m held) (rows_of m (changed_session held changes))) (rows-most (changed_session held changes))
 
-  edit-most : (held : Held) (e : FileEdit) → turns_of_edit m held e ≤ most_of held
-  edit-most held e = go (fits_in held.files e)
+  changes-most : (held : Held) (changes : List Change) → turns_of_changes m held changes ≤ most_of held
+  changes-most held changes = go (all_fit held.files changes)
     where
-      go : (b : Bool) → cond b (work m held e) 0 ≤ most_of held
-      go true = work-most held e
+      go : (b : Bool) → cond b (work m held changes) 0 ≤ most_of held
+      go true = work-most held changes
       go false = omega arith
 
   commands-most : (t : Moment) (commands : List Command) → turns_from m t commands ≤ most_of_edits (most_of t.held) commands
   commands-most t [] = omega arith
-  commands-most t (Edit e ∷ commands) = both_most _ _ _ _ (edit-most t.held e) (commands-most (next_moment t (Edit e)) commands)
+  commands-most t (Lone c ∷ commands) = both_most _ _ _ _ (changes-most t.held (c ∷ [])) (commands-most (next_moment t (Lone c)) commands)
+  commands-most t (Batch changes ∷ commands) = both_most _ _ _ _ (changes-most t.held changes) (commands-most (next_moment t (Batch changes)) commands)
   commands-most t (SaveAs name ∷ commands) = let less : turns_from m t commands ≤ most_of_edits (most_of t.held) commands = commands-most t commands in omega (arith, less)
 
   pub turns-most : (asked : Asked) (scripted : Scripted) (held : Files) → (asked_outcome m asked scripted held).turns ≤ most_turns asked scripted

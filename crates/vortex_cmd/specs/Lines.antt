@@ -33,12 +33,16 @@ report_text report =
     decimal report.pages ++ codes " pages, resumed " ++ decimal report.resumed ++ codes ", formatted "
     ++ decimal report.formatted ++ codes ", reused " ++ decimal report.reused
 
--- the lines of an edit that was made, of one that goes past the end of its file, and of one that memory refused
+-- the lines of an edit that was made, of one that goes past the end of its file, of a batch of which a change does, and of an
+-- edit that memory refused
 unfoldable pub edit_line : ℕ → Report → RunEnd → List ℕ
 edit_line number report end = edit_text number ++ report_text report ++ codes ", " ++ end_text end ++ codes "\n"
 
 unfoldable pub outside_line : ℕ → ℕ → List ℕ
 outside_line number len = edit_text number ++ codes "outside, file has " ++ decimal len ++ codes " bytes\n"
+
+unfoldable pub batch_outside_line : ℕ → ℕ → ℕ → List ℕ
+batch_outside_line number index len = edit_text number ++ codes "change " ++ decimal index ++ codes " outside, file has " ++ decimal len ++ codes " bytes\n"
 
 unfoldable pub memory_line : ℕ → List ℕ
 memory_line number = edit_text number ++ codes "memory\n"

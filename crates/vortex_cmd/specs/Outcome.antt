@@ -8,7 +8,7 @@ use Rattle.tx_machine.specs.declared.types.Ran.{Ran}
 use Rattle.tx_machine.specs.Machine.{Formatter}
 use Rattle.tx_machine.specs.Steps.{raised}
 use Rattle.tx_script.specs.declared.command.Command.{Command}
-use Rattle.tx_script.specs.declared.command.Command.TheVariants.{Edit, Save as SaveAs}
+use Rattle.tx_script.specs.declared.command.Command.TheVariants.{Change as Lone, Batch, Save as SaveAs}
 use Rattle.tx_session.specs.Held.{Held, fresh}
 use Rattle.tx_words.specs.declared.given.Given.{Given}
 use Rattle.tx_words.specs.declared.given.Asked.{Asked}
@@ -92,7 +92,8 @@ outcome m words scripted held = asked_outcome m (words_meant words) scripted hel
 -- how many turns edits may take, each no more than so many
 abbrev pub most_of_edits : ℕ → List Command → ℕ
 most_of_edits each [] = 0
-most_of_edits each (Edit e ∷ commands) = each + most_of_edits each commands
+most_of_edits each (Lone c ∷ commands) = each + most_of_edits each commands
+most_of_edits each (Batch changes ∷ commands) = each + most_of_edits each commands
 most_of_edits each (SaveAs name ∷ commands) = most_of_edits each commands
 
 -- how many turns a call may take, whatever the files say: the opening and each edit the budget of each page, and of what

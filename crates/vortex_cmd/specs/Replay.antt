@@ -2,21 +2,22 @@
 use Rattle.std.specs.Prelude.{◌≡◌, ℕ, ◌+◌, Bool, true, false, List, [], ◌∷◌, ◌++◌, take, slice_get, fold, Option, Some, None, Result, Ok, Err, if◌then◌else◌}
 use Rattle.tx_io.specs.Output.{Output, Piece, Say, told}
 use Rattle.tx_io.specs.Cut.{IsCutShort}
-use Rattle.tx_files.specs.Edits.{fits_in, length_of}
-use Rattle.tx_files.specs.declared.edit.Edit.{Edit as FileEdit}
+use Rattle.tx_files.specs.Changes.{all_fit, first_outside}
+use Rattle.tx_files.specs.declared.edit.Change.{Change}
 use Rattle.tx_machine.specs.declared.types.End.{End as RunEnd}
 use Rattle.tx_machine.specs.declared.types.End.TheVariants.{End, Error, Budget, PageLimit}
 use Rattle.tx_machine.specs.Machine.{Formatter}
 use Rattle.tx_script.specs.declared.command.Command.{Command}
-use Rattle.tx_script.specs.declared.command.Command.TheVariants.{Edit, Save as SaveAs}
-use Rattle.tx_session.specs.Held.{Held, fresh, after}
-use Rattle.tx_session.specs.Report.{report, turns_of_edit}
+use Rattle.tx_script.specs.declared.command.Command.TheVariants.{Change as Lone, Batch, Save as SaveAs}
+use Rattle.tx_session.specs.Held.{Held, fresh, after_all}
+use Rattle.tx_session.specs.Report.{report, turns_of_changes}
 use Rattle.vortex_cmd.specs.declared.trouble.Interruption.{Interruption}
 use Rattle.vortex_cmd.specs.declared.trouble.Interruption.TheVariants.{Trouble as Interrupted, RefusedEdit}
-use Rattle.vortex_cmd.specs.Lines.{edit_line, outside_line, memory_line}
+use Rattle.vortex_cmd.specs.Lines.{edit_line, outside_line, batch_outside_line, memory_line}
 use Rattle.vortex_cmd.specs.Pieces.{saved_pieces}
 
--- where a replay stands: the document, how many edits were read, and whether one of them went past the end of its file
+-- where a replay stands: the document, how many edits were read, and whether one of them went past the end of its file; a
+-- batch is one edit, and so is a removal
 pub record Moment : Type 0 where
   pub held : Held
   pub edits : ℕ
@@ -27,32 +28,45 @@ abbrev pub opened : Held → Moment
 opened held = record { held = held; edits = 0; outside = false }
 
 abbrev pub IsEdit : Command → Type 0
-IsEdit (Edit e) = Unit {0}
+IsEdit (Lone c) = Unit {0}
+IsEdit (Batch changes) = Unit {0}
 IsEdit (SaveAs name) = ⊥
 
--- the moment after a command
-abbrev pub next_moment : Moment → Command → Moment
-next_moment t (Edit e) = record {
-  held = after t.held e;
+-- the moment after a list of changes, which are left out as a whole where they can't be made, and after a command
+abbrev pub next_made : Moment → List Change → Moment
+next_made t changes = record {
+  held = after_all t.held changes;
   edits = t.edits + 1;
-  outside = if fits_in t.held.files e then t.outside else true;
+  outside = if all_fit t.held.files changes then t.outside else true;
 }
+
+abbrev pub next_moment : Moment → Command → Moment
+next_moment t (Lone c) = next_made t (c ∷ [])
+next_moment t (Batch changes) = next_made t changes
 next_moment t (SaveAs name) = t
 
--- what is said of an edit
-abbrev pub line_of : {S : Type 0} → Formatter S → Moment → FileEdit → List ℕ
-line_of m t e =
-    if fits_in t.held.files e
-    then edit_line (t.edits + 1) (report m t.held e) (fresh m (after t.held e)).ran.end
-    else outside_line (t.edits + 1) (length_of t.held.files e.name)
+-- what is said where the change of this number goes past the end of its file, which has so many bytes then: of a batch, or of
+-- a change alone
+abbrev pub refused_line : Bool → ℕ → ℕ × ℕ → List ℕ
+refused_line together number first = if together then batch_outside_line number first.0 first.1 else outside_line number first.1
+
+-- what is said of a list of changes, by the first of them that can't be made
+abbrev pub line_by : {S : Type 0} → Formatter S → Moment → Bool → List Change → Option (ℕ × ℕ) → List ℕ
+line_by m t together changes None = edit_line (t.edits + 1) (report m t.held changes) (fresh m (after_all t.held changes)).ran.end
+line_by m t together changes (Some first) = refused_line together (t.edits + 1) first
+
+abbrev pub line_of : {S : Type 0} → Formatter S → Moment → Bool → List Change → List ℕ
+line_of m t together changes = line_by m t together changes (first_outside t.held.files changes)
 
 -- what a command puts out, and the turns that it takes
 abbrev pub pieces_at : {S : Type 0} → Formatter S → Moment → Command → List Piece
-pieces_at m t (Edit e) = Say (line_of m t e) ∷ []
+pieces_at m t (Lone c) = Say (line_of m t false (c ∷ [])) ∷ []
+pieces_at m t (Batch changes) = Say (line_of m t true changes) ∷ []
 pieces_at m t (SaveAs name) = saved_pieces name (fresh m t.held).ran
 
 abbrev pub turns_at : {S : Type 0} → Formatter S → Moment → Command → ℕ
-turns_at m t (Edit e) = turns_of_edit m t.held e
+turns_at m t (Lone c) = turns_of_changes m t.held (c ∷ [])
+turns_at m t (Batch changes) = turns_of_changes m t.held changes
 turns_at m t (SaveAs name) = 0
 
 -- the same of commands one after the other
@@ -82,7 +96,8 @@ Puts pieces refused (Err RefusedEdit) before after = IsCutShort before refused a
 abbrev pub refusal_of : Option Command → List Piece → Option (List Piece)
 refusal_of None pieces = None
 refusal_of (Some (SaveAs name)) pieces = None
-refusal_of (Some (Edit e)) pieces = Some pieces
+refusal_of (Some (Lone c)) pieces = Some pieces
+refusal_of (Some (Batch changes)) pieces = Some pieces
 
 abbrev pub refusal_at : {S : Type 0} → Formatter S → List ℕ → Moment → List Command → ℕ → Option (List Piece)
 refusal_at m out t commands made =

@@ -1,7 +1,7 @@
 //! The lines that are said: of runs, of edits, and of what is made or refused.
 ghost use Rattle.std.specs.Prelude.{◌≡◌, ◌++◌, OnOk, IfOk};
 ghost use Rattle.std.specs.Fmt.{decimal};
-ghost use Rattle.vortex_cmd.specs.Lines.{place_text, end_text, run_line, edit_text, report_text, edit_line, outside_line, memory_line, script_refusal_line, gen_line, help_text, run_help_text, gen_help_text, version_line};
+ghost use Rattle.vortex_cmd.specs.Lines.{place_text, end_text, run_line, edit_text, report_text, edit_line, outside_line, batch_outside_line, memory_line, script_refusal_line, gen_line, help_text, run_help_text, gen_help_text, version_line};
 
 use std::alloc::{AllocError, Global};
 use tx_bytes::Bytes;
@@ -111,6 +111,26 @@ pub fn outside_line(alloc: Global, number: u64, len: u64) -> Result<Bytes, Alloc
 {
     let mut line = edit_text(alloc, number)?;
     line.append(b"outside, file has ")?;
+    append_number(alloc, &mut line, len)?;
+    line.append(b" bytes\n")?;
+    Ok(line)
+}
+
+/// The line of a batch of which this change, counted from 1, is the first that goes past the end of its file,
+/// `edit I: change J outside, file has L bytes` and LF.
+#[tactic(auto, unfolding(crate::specs::Lines::batch_outside_line))]
+pub fn batch_outside_line(
+    alloc: Global,
+    number: u64,
+    index: u64,
+    len: u64,
+) -> Result<Bytes, AllocError>
+    ensures { IfOk result (λ line. line ≡ batch_outside_line number index len) }
+{
+    let mut line = edit_text(alloc, number)?;
+    line.append(b"change ")?;
+    append_number(alloc, &mut line, index)?;
+    line.append(b" outside, file has ")?;
     append_number(alloc, &mut line, len)?;
     line.append(b" bytes\n")?;
     Ok(line)

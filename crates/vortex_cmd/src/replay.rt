@@ -2,22 +2,23 @@
 ghost use Rattle.std.specs.Prelude.{◌≡◌, ◌∷◌, [], ◌+◌, ◌<◌, ◌≤◌, ◌^◌, IfOk, OnOk, IsErrOf};
 ghost use Rattle.tx_io.specs.Output.{Say};
 ghost use Rattle.tx_machine.specs.Steps.{raised};
-ghost use Rattle.tx_script.specs.declared.command.Command.TheVariants as command;
-ghost use Rattle.tx_session.specs.Report.{turns_of_edit};
-ghost use Rattle.vortex_cmd.specs.Replay.{Puts, Replays, IsEdit, opened, next_moment, moment_after, line_of, pieces_at, pieces_from, turns_at, turns_from, refused_pieces, refusal_at};
+ghost use Rattle.tx_session.specs.Report.{turns_of_changes};
+ghost use Rattle.vortex_cmd.specs.Replay.{Puts, Replays, IsEdit, opened, next_made, next_moment, moment_after, line_of, refused_line, pieces_at, pieces_from, turns_at, turns_from, refused_pieces, refusal_at};
 ghost use Rattle.vortex_cmd.specs.Tally.{moment};
 ghost use Rattle.vortex_cmd.specs.Trouble.{PutsOut, SinkCauses, EditCauses};
 
-use crate::lines::{edit_line, memory_line, outside_line};
+use crate::lines::{batch_outside_line, edit_line, memory_line, outside_line};
 use crate::outputs::{save_session, say};
 use crate::tally::Tally;
 use crate::trouble::{Interruption, Trouble};
-use std::alloc::Global;
-use tx_files::{Edit, Name, Refusal};
+use std::alloc::{AllocError, Global};
+use std::slice;
+use tx_bytes::Bytes;
+use tx_files::{Change, Name};
 use tx_io::Sink;
 use tx_machine::{Machine, Steps};
 use tx_script::Command;
-use tx_session::Session;
+use tx_session::{Refusal, Session};
 
 /// Tells that memory refused the next edit, and saves what there was before it. The first of these outputs that can't be
 /// made is the last one.
@@ -37,34 +38,52 @@ fn tell_refusal<M: Machine, K: Sink>(
     save_session(alloc, out, session, sink)
 }
 
-/// Makes an edit and says what came of it.
-fn run_edit<M: Machine, K: Sink>(
+/// What is said of a change that goes past the end of its file, the first of its batch or one alone.
+fn refused(
+    alloc: Global,
+    together: bool,
+    number: u64,
+    index: u64,
+    len: u64,
+) -> Result<Bytes, AllocError>
+    ensures { IfOk result (λ line. line ≡ refused_line together number (index, len)) }
+{
+    if together {
+        batch_outside_line(alloc, number, index, len)
+    } else {
+        outside_line(alloc, number, len)
+    }
+}
+
+/// Makes a list of changes, which are those of a batch or one change alone, and says what came of it.
+fn run_changes<M: Machine, K: Sink>(
     alloc: Global,
     out: &Name,
-    e: &Edit,
+    together: bool,
+    changes: &[Change],
     session: &mut Session<M>,
     tally: &mut Tally,
     sink: &mut K,
     steps: &mut Steps,
 ) -> Result<(), Interruption>
     requires { tally.old.edits + 1 < 2 ^ 64 }
-    ensures moment { OnOk result (moment session.new tally.new ≡ next_moment (moment session.old tally.old) (command.Edit e.now)) }
-    ensures puts { Puts (Say (line_of M.formatter (moment session.old tally.old) e.now) ∷ []) (refused_pieces M.formatter out.now (moment session.old tally.old)) result (K.output sink.old) (K.output sink.new) }
-    ensures counted { OnOk result (steps.new ≡ raised steps.old (turns_of_edit M.formatter session.old e.now)) }
-    ensures most { steps.new ≤ raised steps.old (turns_of_edit M.formatter session.old e.now) }
+    ensures moment { OnOk result (moment session.new tally.new ≡ next_made (moment session.old tally.old) changes.now) }
+    ensures puts { Puts (Say (line_of M.formatter (moment session.old tally.old) together changes.now) ∷ []) (refused_pieces M.formatter out.now (moment session.old tally.old)) result (K.output sink.old) (K.output sink.new) }
+    ensures counted { OnOk result (steps.new ≡ raised steps.old (turns_of_changes M.formatter session.old changes.now)) }
+    ensures most { steps.new ≤ raised steps.old (turns_of_changes M.formatter session.old changes.now) }
     ensures causes { EditCauses result (K.faults sink.old) (K.faults sink.new) }
 {
-    match session.edit(e, steps) {
+    match session.batch(changes, steps) {
         Ok(report) => {
             tally.edits += 1;
             let line = edit_line(alloc, tally.edits, &report, session.end())?;
             say(sink, line.as_slice())?;
             Ok(())
         }
-        Err(Refusal::Outside { len }) => {
+        Err(Refusal::BatchOutside { index, len }) => {
             tally.edits += 1;
             tally.outside = true;
-            let line = outside_line(alloc, tally.edits, len)?;
+            let line = refused(alloc, together, tally.edits, index, len)?;
             say(sink, line.as_slice())?;
             Ok(())
         }
@@ -72,10 +91,11 @@ fn run_edit<M: Machine, K: Sink>(
             let _told = tell_refusal(alloc, out, *tally, session, sink);
             Err(Interruption::RefusedEdit)
         }
+        Err(Refusal::Outside { .. }) => unreachable!(),
     }
 }
 
-/// Carries out a command: makes an edit and says what came of it, or saves what there is.
+/// Carries out a command: makes its changes and says what came of it, or saves what there is.
 fn run_command<M: Machine, K: Sink>(
     alloc: Global,
     out: &Name,
@@ -95,7 +115,14 @@ fn run_command<M: Machine, K: Sink>(
     ensures causes { EditCauses result (K.faults sink.old) (K.faults sink.new) }
 {
     match command {
-        Command::Edit(e) => run_edit(alloc, out, e, session, tally, sink, steps),
+        Command::Change(change) => {
+            let changes = slice::from_ref(change);
+            run_changes(alloc, out, false, changes, session, tally, sink, steps)
+        }
+        Command::Batch(batch) => {
+            let changes = batch.as_slice();
+            run_changes(alloc, out, true, changes, session, tally, sink, steps)
+        }
         Command::Save(name) => {
             save_session(alloc, name, session, sink)?;
             Ok(())

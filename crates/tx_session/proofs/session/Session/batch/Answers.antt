@@ -9,10 +9,10 @@ use Rattle.tx_quiesce.specs.Meeting.{Meeting}
 use Rattle.tx_quiesce.specs.Reuse.{meeting_behind, made_after, reused_rows}
 use Rattle.tx_session.specs.Held.{Held, fresh, rows_of, changed_session}
 use Rattle.tx_session.specs.Made.{Becomes}
-use Rattle.tx_session.specs.Report.{report_of, report, work}
+use Rattle.tx_session.specs.Report.{report_of, report, work, turns_of_changes}
 use Rattle.tx_session.specs.Refusals.{IsBatchAnswer}
 use Rattle.tx_session.specs.declared.report.Report.{Report}
-use Rattle.tx_session.proofs.Refusing.{batch-refused}
+use Rattle.tx_session.proofs.Refusing.{batch-refused, made-turns}
 use Rattle.tx_session.proofs.Showing.{raised-within, kept-rows, kept-fewer, kept-small, shows-still, report-still, work-still, shows-on, reused-told, reused-within, report-on, work-on, can-be, one-length, work-bound}
 use Rattle.tx_session.proofs.session.Session.batch.Goals as goal
 
@@ -99,7 +99,9 @@ returns-in-Ok-clause-most g c =
     let old = rows_of g.M.Machine.formatter (record { files = c.self.inside.files; main = c.self.inside.main; date = c.self.inside.date; limits = c.self.inside.limits }) in
     subst (λ turns. c.make_after.new.steps ≤ raised c.args.steps.now turns)
     (ap (λ n. turns_behind g.M.Machine.formatter c.change_all.new.self c.args.changes.now c.self.inside.main c.self.inside.date c.self.inside.limits n old) c.resume_at-kept.ensures
-    ∙ sym (work-on c.self.invariant c.args.changes.now c.in_ok-before.ensures.answer.0 c.in_ok-before.ensures.ok g.met.M.Machine.lawful (sym c.if-stands.ensures)) ∙ ap (λ (held : Held). work g.M.Machine.formatter held c.args.changes.now) c.self.view_is)
+    ∙ sym (work-on c.self.invariant c.args.changes.now c.in_ok-before.ensures.answer.0 c.in_ok-before.ensures.ok g.met.M.Machine.lawful (sym c.if-stands.ensures))
+    ∙ made-turns g.M.Machine.formatter (record { files = c.self.inside.files; main = c.self.inside.main; date = c.self.inside.date; limits = c.self.inside.limits }) c.args.changes.now c.in_ok-before.ensures.answer.0
+    ∙ ap (λ (held : Held). turns_of_changes g.M.Machine.formatter held c.args.changes.now) c.self.view_is)
     (c.make_after.ensures.bound old c.self.invariant.rows)
 
 pub returns-in-Ok-clause-bound : goal.returns-in-Ok-clause-bound
@@ -117,7 +119,9 @@ returns-in-Err-clause-most g c =
     let old = rows_of g.M.Machine.formatter (record { files = c.self.inside.files; main = c.self.inside.main; date = c.self.inside.date; limits = c.self.inside.limits }) in
     subst (λ turns. c.make_after.new.steps ≤ raised c.args.steps.now turns)
     (ap (λ n. turns_behind g.M.Machine.formatter c.change_all.new.self c.args.changes.now c.self.inside.main c.self.inside.date c.self.inside.limits n old) c.resume_at-kept.ensures
-    ∙ sym (work-on c.self.invariant c.args.changes.now c.in_ok-before.ensures.answer.0 c.in_ok-before.ensures.ok g.met.M.Machine.lawful (sym c.if-stands.ensures)) ∙ ap (λ (held : Held). work g.M.Machine.formatter held c.args.changes.now) c.self.view_is)
+    ∙ sym (work-on c.self.invariant c.args.changes.now c.in_ok-before.ensures.answer.0 c.in_ok-before.ensures.ok g.met.M.Machine.lawful (sym c.if-stands.ensures))
+    ∙ made-turns g.M.Machine.formatter (record { files = c.self.inside.files; main = c.self.inside.main; date = c.self.inside.date; limits = c.self.inside.limits }) c.args.changes.now c.in_ok-before.ensures.answer.0
+    ∙ ap (λ (held : Held). turns_of_changes g.M.Machine.formatter held c.args.changes.now) c.self.view_is)
     (c.make_after.ensures.bound old c.self.invariant.rows)
 
 pub returns-in-Err-clause-bound : goal.returns-in-Err-clause-bound

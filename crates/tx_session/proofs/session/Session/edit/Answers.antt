@@ -8,8 +8,8 @@ use Rattle.tx_files.specs.declared.edit.Edit.{Edit as FileEdit}
 use Rattle.tx_machine.specs.Steps.{raised}
 use Rattle.tx_session.specs.Held.{fresh, changed_session}
 use Rattle.tx_session.specs.Refusals.{IsBatchAnswer}
-use Rattle.tx_session.specs.Report.{report, work}
-use Rattle.tx_session.proofs.Refusing.{edit-answer}
+use Rattle.tx_session.specs.Report.{report, work, turns_of_changes}
+use Rattle.tx_session.proofs.Refusing.{edit-answer, edit-turns}
 use Rattle.tx_session.proofs.session.Session.edit.Goals as goal
 
 pub returns-in-Some-clause-answer : goal.returns-in-Some-clause-answer
@@ -35,7 +35,8 @@ returns-clause-counted g c =
 
 pub returns-clause-most : goal.returns-clause-most
 returns-clause-most g c =
-    subst (λ (changes : List Change). c.batch.new.steps ≤ raised c.args.steps.now (work g.M.Machine.formatter c.args.self.now changes)) (c.from_ref.ensures.value ∙ ap (λ (copy : FileEdit). Edit copy ∷ []) c.in_ok-copy.ensures.cases) c.batch.ensures.most
+    subst (λ turns. c.batch.new.steps ≤ raised c.args.steps.now turns) (edit-turns g.M.Machine.formatter c.args.self.now c.args.e.now)
+    (subst (λ (changes : List Change). c.batch.new.steps ≤ raised c.args.steps.now (turns_of_changes g.M.Machine.formatter c.args.self.now changes)) (c.from_ref.ensures.value ∙ ap (λ (copy : FileEdit). Edit copy ∷ []) c.in_ok-copy.ensures.cases) c.batch.ensures.most)
 
 pub returns-clause-bound : goal.returns-clause-bound
 returns-clause-bound g c =
