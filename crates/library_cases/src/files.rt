@@ -1,9 +1,12 @@
 //! Cases of tx_files.
+use crate::edits::changes_of;
 use std::alloc::{AllocError, Global};
+use std::slice;
 use tx_bytes::Bytes;
 use tx_cases::{bytes_of, first_word, write_bytes};
 use tx_files::{
-    Edit, FileSet, Name, NextLine, Refusal, Seen, Sight, line_count, next_line, untouched,
+    BatchRefusal, Change, Edit, FileSet, Name, NextLine, Refusal, Seen, Sight, line_count,
+    next_line, untouched,
 };
 
 /// Files, and what was seen of some.
@@ -52,7 +55,9 @@ fn name_of(alloc: Global, text: &str) -> Result<Option<Name>, AllocError> {
 /// - `put NAME TEXT`, which puts a file in; `show NAME`, its bytes;
 /// - `edit NAME PLACE REMOVED TEXT`, which is made; `try NAME PLACE REMOVED TEXT`, which is made, shown and taken back;
 /// - `sees NAME SIGHT`, which notes that so much of it was seen: `opened`, `absent`, `end`, `whole`, or where a line ended;
-/// - `leaves NAME PLACE`, whether an edit there leaves what was seen; `asked NAME`, whether it was asked for by its name.
+/// - `batch CHANGES`, between which bars stand, `NAME PLACE REMOVED TEXT` or, where the file is taken away, `NAME`;
+/// - `leaves NAME PLACE`, whether an edit there leaves what was seen; `loses NAME`, whether it does to take the file away;
+/// - `asked NAME`, whether it was asked for by its name.
 pub fn write_play(alloc: Global, text: &mut String, lines: &str) -> Result<(), AllocError> {
     let mut desk = Desk {
         files: FileSet::new(alloc),
@@ -81,6 +86,9 @@ fn write_step(
     line: &str,
 ) -> Result<(), AllocError> {
     let (word, rest) = first_word(line);
+    if word == "batch" {
+        return write_batch(alloc, text, &mut desk.files, rest);
+    }
     let (name, rest) = first_word(rest);
     match name_of(alloc, name)? {
         Some(name) => write_act(alloc, text, desk, word, &name, rest),
@@ -103,6 +111,7 @@ fn write_act(
         "try" => write_try(alloc, text, &mut desk.files, name, rest),
         "sees" => write_noted(alloc, text, &mut desk.seen, name, rest),
         "leaves" => write_leaves(alloc, text, &desk.seen, name, rest),
+        "loses" => write_left(text, &desk.seen, &Change::Remove(name.clone()?)),
         "asked" => write_asked(text, &desk.seen, name),
         _ => text.push_str("malformed"),
     }
@@ -181,6 +190,22 @@ fn write_refusal(text: &mut String, refusal: Refusal) -> Result<(), AllocError> 
     }
 }
 
+fn write_batch(
+    alloc: Global,
+    text: &mut String,
+    files: &mut FileSet,
+    rest: &str,
+) -> Result<(), AllocError> {
+    let changes = changes_of(alloc, rest)?;
+    match files.apply_all(changes.as_slice()) {
+        Ok(()) => text.push_str("made"),
+        Err(BatchRefusal::Outside { index, len }) => {
+            write!(text, "change {index} outside {len}")
+        }
+        Err(BatchRefusal::OutOfMemory) => Err(AllocError),
+    }
+}
+
 fn write_try(
     alloc: Global,
     text: &mut String,
@@ -231,13 +256,16 @@ fn write_leaves(
     rest: &str,
 ) -> Result<(), AllocError> {
     match rest.parse::<u64>() {
-        Ok(place) => write_left(text, seen, &edit_at(alloc, name, place, 0, "")?),
+        Ok(place) => {
+            let e = edit_at(alloc, name, place, 0, "")?;
+            write_left(text, seen, &Change::Edit(e))
+        }
         Err(_) => text.push_str("malformed"),
     }
 }
 
-fn write_left(text: &mut String, seen: &Seen, e: &Edit) -> Result<(), AllocError> {
-    text.push_str(if untouched(seen, e) {
+fn write_left(text: &mut String, seen: &Seen, change: &Change) -> Result<(), AllocError> {
+    text.push_str(if untouched(seen, slice::from_ref(change)) {
         "left"
     } else {
         "touched"

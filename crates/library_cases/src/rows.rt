@@ -1,10 +1,11 @@
 //! Cases of tx_checkpoint.
 use crate::edits::edit_of;
 use std::alloc::{AllocError, Global};
+use std::slice;
 use tx_bytes::Bytes;
 use tx_cases::{integers, malformed};
 use tx_checkpoint::{Last, Row, Rows};
-use tx_files::{Seen, Sight};
+use tx_files::{Change, Seen, Sight};
 use tx_machine::{End, Opens};
 
 /// `resume PLACE LAST ROW ..`, the row at which formatting resumes after an edit at this place of a file, and whether
@@ -23,8 +24,10 @@ fn resumed(alloc: Global, place: u64, rows: &Rows<u32>) -> Result<String, AllocE
     let Some(e) = edit_of(alloc, "a.tex", place, 0, "")? else {
         return malformed(alloc);
     };
-    let row = rows.resume_at(&e);
-    match rows.stands(row, &e) {
+    let change = Change::Edit(e);
+    let changes = slice::from_ref(&change);
+    let row = rows.resume_at(changes);
+    match rows.stands(row, changes) {
         true => format!(in alloc; "{row}, all stands"),
         false => format!(in alloc; "{row}"),
     }

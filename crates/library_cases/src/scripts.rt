@@ -1,6 +1,7 @@
 //! Cases of tx_script.
 use std::alloc::{AllocError, Global};
 use tx_cases::{bytes_of, first_word, write_bytes};
+use tx_files::Change;
 use tx_script::{Command, ScriptError, read_script};
 
 /// `script TEXT`, its commands or where and by which rule it is refused; `front LENGTH TEXT`, the same of so many bytes.
@@ -48,7 +49,30 @@ fn write_command(text: &mut String, command: &Command) -> Result<(), AllocError>
             text.push_str("save ")?;
             write_bytes(text, name.as_slice())
         }
-        Command::Edit(e) => {
+        Command::Change(change) => write_change(text, change),
+        Command::Batch(changes) => {
+            write!(text, "batch {}:", changes.len())?;
+            write_changes(text, changes.as_slice())
+        }
+    }
+}
+
+/// Writes changes, with a space before each.
+fn write_changes(text: &mut String, changes: &[Change]) -> Result<(), AllocError> {
+    for change in changes {
+        text.push(' ')?;
+        write_change(text, change)?;
+    }
+    Ok(())
+}
+
+fn write_change(text: &mut String, change: &Change) -> Result<(), AllocError> {
+    match change {
+        Change::Remove(name) => {
+            text.push_str("remove ")?;
+            write_bytes(text, name.as_slice())
+        }
+        Change::Edit(e) => {
             text.push_str("edit ")?;
             write_bytes(text, e.name.as_slice())?;
             write!(text, " at {} for {} put:", e.place, e.removed)?;

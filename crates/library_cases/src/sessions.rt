@@ -2,7 +2,7 @@
 //! each page, each space at a line's beginning, each line that leads to another file or back, and one to stop; an edit takes
 //! those of the pages that it formats alone.
 use crate::documents::{main_name, put, set_of};
-use crate::edits::edit_of;
+use crate::edits::{changes_of, edit_of};
 use crate::runs::write_end;
 use line_machine::LineMachine;
 use std::alloc::{AllocError, Global};
@@ -92,6 +92,9 @@ fn append_answer(text: &mut String, answer: Result<Report, Refusal>) -> Result<(
             },
         ) => write!(text, "{pages} = {resumed} + {formatted} + {reused}: "),
         Err(Refusal::Outside { len }) => write!(text, "outside {len}: "),
+        Err(Refusal::BatchOutside { index, len }) => {
+            write!(text, "change {index} outside {len}: ")
+        }
         Err(Refusal::OutOfMemory) => Err(AllocError),
     }
 }
@@ -116,7 +119,7 @@ fn edit_in(alloc: Global, name: &str, line: &str) -> Result<Edit, AllocError> {
     }
 }
 
-/// What the edit of a line is answered, and what there is then.
+/// What the edit of a line is answered, or what `batch` and changes are, between which bars stand; and what there is then.
 fn append_edit(
     alloc: Global,
     text: &mut String,
@@ -124,8 +127,13 @@ fn append_edit(
     line: &str,
     steps: &mut Steps,
 ) -> Result<(), AllocError> {
-    let e = edit(alloc, line)?;
-    append_answer(text, session.edit(&e, steps))?;
+    if let Some(rest) = line.strip_prefix("batch ") {
+        let changes = changes_of(alloc, rest)?;
+        append_answer(text, session.batch(changes.as_slice(), steps))?;
+    } else {
+        let e = edit(alloc, line)?;
+        append_answer(text, session.edit(&e, steps))?;
+    }
     append_all(text, session, steps)
 }
 

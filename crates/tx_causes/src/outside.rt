@@ -1,45 +1,94 @@
 //! Which edits went past the end of their file, and how long that was.
 use crate::run::text_of;
 use std::alloc::{AllocError, Global};
-use tx_files::Edit;
+use std::slice;
+use tx_files::{Change, Edit};
 use tx_script::{Command, Script, read_script};
 
-/// The number of an edit that lay outside, and the length of its file, as its line says.
-fn outside(line: &str) -> Option<(u64, &str)> {
-    let (number, behind) = line
-        .strip_prefix("edit ")?
-        .split_once(": outside, file has ")?;
-    Some((number.parse().ok()?, behind.strip_suffix(" bytes")?))
+/// An edit that lay outside, as its line says: its number, which of its changes it was if it is a batch, and how long the file is.
+#[derive(Clone, Copy)]
+struct Outside<'a> {
+    number: u64,
+    index: Option<u64>,
+    len: &'a str,
 }
 
-/// The edit of this number among the commands of a script, counted from 1.
-fn edit_of(commands: &[Command], number: u64) -> Option<&Edit> {
+/// How long the file is, as the end of a line says.
+fn len_of(behind: &str) -> Option<&str> {
+    behind
+        .strip_prefix("outside, file has ")?
+        .strip_suffix(" bytes")
+}
+
+fn outside(line: &str) -> Option<Outside<'_>> {
+    let (number, behind) = line.strip_prefix("edit ")?.split_once(": ")?;
+    let number = number.parse().ok()?;
+    match behind.strip_prefix("change ") {
+        None => Some(Outside {
+            number,
+            index: None,
+            len: len_of(behind)?,
+        }),
+        Some(rest) => {
+            let (index, behind) = rest.split_once(" ")?;
+            Some(Outside {
+                number,
+                index: Some(index.parse().ok()?),
+                len: len_of(behind)?,
+            })
+        }
+    }
+}
+
+/// The changes of a command; None where it makes none.
+fn changes_in(command: &Command) -> Option<&[Change]> {
+    match command {
+        Command::Change(change) => Some(slice::from_ref(change)),
+        Command::Batch(changes) => Some(changes.as_slice()),
+        Command::Save(_) => None,
+    }
+}
+
+/// The changes of the edit of this number among the commands of a script, counted from 1.
+fn changes_of(commands: &[Command], number: u64) -> Option<&[Change]> {
     let mut left = number;
     for command in commands {
-        if let Command::Edit(edit) = command {
+        if let Some(changes) = changes_in(command) {
             left = left.checked_sub(1)?;
             if left == 0 {
-                return Some(edit);
+                return Some(changes);
             }
         }
     }
     None
 }
 
-fn line_of(
-    alloc: Global,
-    edit: Option<&Edit>,
-    number: u64,
-    len: &str,
-) -> Result<String, AllocError> {
+/// What lay outside.
+fn edit_of<'a>(commands: &'a [Command], it: Outside<'_>) -> Option<&'a Edit> {
+    let at = it.index.unwrap_or(1).checked_sub(1)?;
+    match changes_of(commands, it.number)?.get(at as usize)? {
+        Change::Edit(edit) => Some(edit),
+        Change::Remove(_) => None,
+    }
+}
+
+/// What it was, in the middle of a line.
+fn named(alloc: Global, it: Outside<'_>) -> Result<String, AllocError> {
+    match it.index {
+        None => format!(in alloc; "edit {}: it", it.number),
+        Some(index) => format!(in alloc; "edit {}: its change {index}", it.number),
+    }
+}
+
+fn line_of(alloc: Global, edit: Option<&Edit>, it: Outside<'_>) -> Result<String, AllocError> {
+    let who = named(alloc, it)?;
+    let len = it.len;
     let Some(edit) = edit else {
-        return format!(in alloc;
-            "edit {number}: it goes past the end of its file, which has {len} bytes"
-        );
+        return format!(in alloc; "{who} goes past the end of its file, which has {len} bytes");
     };
     let (name, place) = (text_of(edit.name.as_slice()), edit.place);
     let end = place.saturating_add(edit.removed);
-    format!(in alloc; "edit {number}: it takes bytes {place} to {end} of {name}, which has {len}")
+    format!(in alloc; "{who} takes bytes {place} to {end} of {name}, which has {len}")
 }
 
 fn append_lines(
@@ -49,8 +98,8 @@ fn append_lines(
     commands: &[Command],
 ) -> Result<(), AllocError> {
     for line in said.lines() {
-        if let Some((number, len)) = outside(line) {
-            lines.push(line_of(alloc, edit_of(commands, number), number, len)?)?;
+        if let Some(it) = outside(line) {
+            lines.push(line_of(alloc, edit_of(commands, it), it)?)?;
         }
     }
     Ok(())

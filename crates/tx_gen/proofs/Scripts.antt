@@ -5,8 +5,9 @@ use Rattle.std.specs.Fmt.{decimal}
 use Rattle.std.specs.List.{flat_map, AllByRecursion}
 use Rattle.std.proofs.lemmas.Fmt.{decimal_digit}
 use Rattle.std.proofs.lemmas.Grind.{flat_map-append}
+use Rattle.tx_files.specs.declared.edit.Change.TheVariants.{Edit}
 use Rattle.tx_script.specs.declared.command.Command.{Command}
-use Rattle.tx_script.specs.declared.command.Command.TheVariants.{Edit}
+use Rattle.tx_script.specs.declared.command.Command.TheVariants.{Change as Lone}
 use Rattle.tx_script.specs.declared.error.Rule.{Rule}
 use Rattle.tx_script.specs.Text.{bytes_of, elements, text, greatest, IsCommand, IsScript}
 use Rattle.tx_gen.specs.Draws.{next, drawn, joined, with_more, times}
@@ -20,7 +21,7 @@ text-append : (a b : List Command) → text (a ++ b) ≡ text a ++ text b
 text-append a b = ap bytes_of (flat_map-append elements a b) ∙ flat_map-append (λ (e : Rule × List ℕ). e.1) (flat_map elements a) (flat_map elements b)
 
 -- an edit by its lines is the text of a script of it alone
-lines-are : (place code : ℕ) → lines_of place code ≡ text (Edit (replacing place code) ∷ [])
+lines-are : (place code : ℕ) → lines_of place code ≡ text (Lone (Edit (replacing place code)) ∷ [])
 lines-are place code =
     let one : decimal 1 ≡ 49 ∷ [] = decimal_digit 1 (omega arith) in
     ap (λ (t : List ℕ). codes "edit " ++ t)
@@ -40,7 +41,7 @@ script-lines start pages (suc count) state =
     let place : ℕ = start (drawn pages front.1) in
     let code : ℕ = letter (next front.1) in
     ap (λ (made : List ℕ × ℕ). with_more made (edit_text start pages)) (script-lines start pages count state)
-    ∙ paired (next (next front.1)) (ap (λ (t : List ℕ). text front.0 ++ t) (lines-are place code) ∙ sym (text-append front.0 (Edit (replacing place code) ∷ [])))
+    ∙ paired (next (next front.1)) (ap (λ (t : List ℕ). text front.0 ++ t) (lines-are place code) ∙ sym (text-append front.0 (Lone (Edit (replacing place code)) ∷ [])))
 
 -- edits of pages that begin at the same places
 edits-alike : (start other : ℕ → ℕ) (pages : ℕ) → ((number : ℕ) → number < pages → start number ≡ other number) → (count state : ℕ) → count ≤ pages
@@ -72,7 +73,7 @@ all-append P [] b first later = later
 all-append P (c ∷ a) b first later = (first.0, all-append P a b first.1 later)
 
 -- what is so of an edit of each page and letter is so of all commands
-all-edits : (P : Command → Type 0) (start : ℕ → ℕ) (pages : ℕ) → ((number state : ℕ) → number < pages → P (Edit (replacing (start number) (letter state)))) → (count state : ℕ) → count ≤ pages
+all-edits : (P : Command → Type 0) (start : ℕ → ℕ) (pages : ℕ) → ((number state : ℕ) → number < pages → P (Lone (Edit (replacing (start number) (letter state))))) → (count state : ℕ) → count ≤ pages
     → AllByRecursion P (times count (drawn_edit start pages) state).0
 unfolding times
 all-edits P start pages each zero state few = tt
@@ -85,7 +86,7 @@ all-edits P start pages each (suc count) state few =
 pub commands-script : (seed pages : ℕ) → pages ≤ 1000 → IsScript (commands_of seed pages)
 commands-script seed pages few = all-edits IsCommand (page_start seed) pages one pages (times pages page seed).1 (omega arith)
   where
-    one : (number state : ℕ) → number < pages → IsCommand (Edit (replacing (page_start seed number) (letter state)))
+    one : (number state : ℕ) → number < pages → IsCommand (Lone (Edit (replacing (page_start seed number) (letter state))))
     one number state below =
         let within : page_start seed number ≤ greatest = omega (arith, start-within seed number) in
         record { place = within; removed = omega arith; put = omega arith; is_named = refl }
@@ -94,7 +95,7 @@ commands-script seed pages few = all-edits IsCommand (page_start seed) pages one
 pub commands-replace : (seed pages : ℕ) → AllByRecursion (IsReplacement (book_of seed pages)) (commands_of seed pages)
 commands-replace seed pages = all-edits (IsReplacement (book_of seed pages)) (page_start seed) pages one pages (times pages page seed).1 (omega arith)
   where
-    one : (number state : ℕ) → number < pages → IsReplacement (book_of seed pages) (Edit (replacing (page_start seed number) (letter state)))
+    one : (number state : ℕ) → number < pages → IsReplacement (book_of seed pages) (Lone (Edit (replacing (page_start seed number) (letter state))))
     one number state below = record {
       name_is = refl;
       stands = letter-starts seed pages number below;

@@ -2,8 +2,10 @@
 use Rattle.std.specs.Prelude.{◌≡◌, ◌⊎◌, ℕ, List, [], ◌∷◌, ◌++◌, slice_get, codes, Some}
 use Rattle.std.specs.Fmt.{decimal}
 use Rattle.tx_files.specs.declared.edit.Edit.{Edit as FileEdit}
+use Rattle.tx_files.specs.declared.edit.Change.{Change}
+use Rattle.tx_files.specs.declared.edit.Change.TheVariants.{Edit, Remove}
 use Rattle.tx_script.specs.declared.command.Command.{Command}
-use Rattle.tx_script.specs.declared.command.Command.TheVariants.{Edit, Save}
+use Rattle.tx_script.specs.declared.command.Command.TheVariants.{Change as Lone, Batch, Save}
 use Rattle.tx_gen.specs.Draws.{next, drawn, times}
 use Rattle.tx_gen.specs.Book.{letter, page, page_start}
 
@@ -13,7 +15,7 @@ replacing place code = record { name = codes "book.tex"; place = place; removed 
 
 -- an edit by two draws, which page and which letter; the pages begin at these places
 abbrev pub drawn_edit : (ℕ → ℕ) → ℕ → ℕ → List Command × ℕ
-drawn_edit start pages state = (Edit (replacing (start (drawn pages state)) (letter (next state))) ∷ [], next (next state))
+drawn_edit start pages state = (Lone (Edit (replacing (start (drawn pages state)) (letter (next state)))) ∷ [], next (next state))
 
 -- the commands of the script; their draws follow those of the document
 abbrev pub commands_of : ℕ → ℕ → List Command
@@ -44,5 +46,7 @@ pub record ReplacesLetter (book : List ℕ) (e : FileEdit) : Type 0 where
 
 -- a command that is such an edit
 abbrev pub IsReplacement : List ℕ → Command → Type 0
-IsReplacement book (Edit e) = ReplacesLetter book e
+IsReplacement book (Lone (Edit e)) = ReplacesLetter book e
+IsReplacement book (Lone (Remove name)) = ⊥
+IsReplacement book (Batch changes) = ⊥
 IsReplacement book (Save name) = ⊥
