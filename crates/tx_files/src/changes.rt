@@ -110,7 +110,7 @@ impl FileSet {
         Ok(())
     }
 
-    /// Makes a list that is one edit, as `change` does.
+    /// Makes a list that is one edit, as `change` does; where it doesn't fit, that is answered before memory is asked for.
     fn change_one(&mut self, e: &Edit) -> Result<Before, BatchRefusal>
         ensures answer { spec.IsAnswerToAll self.old (change.Edit e.now ∷ []) result }
         ensures ok { OnOk result (self.new ≡ edited self.old e.now) }
@@ -119,6 +119,10 @@ impl FileSet {
         ensures can { IfOk result (CanTakeBack self.new) }
         ensures back { IfOk result (λ before. taken_back self.new before ≡ self.old) }
     {
+        let outside = self.outside(e);
+        if let Some(len) = outside {
+            return Err(BatchRefusal::Outside { index: 1, len });
+        }
         let name = e.name.clone()?;
         match self.change(e) {
             Ok(undo) => {
