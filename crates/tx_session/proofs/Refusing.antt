@@ -33,6 +33,11 @@ edit-answer files e (Err (Outside len)) fit answer = answer
 edit-answer files e (Err OutOfMemory) fit answer = fit
 edit-answer files e (Err (BatchOutside index len)) fit answer = absurd (true≢false (sym (ap (λ b. b && true) fit) ∙ answer.0))
 
+-- and for want of memory only where it fits
+pub edit-memory : {T : Type 0} (files : Files) (e : FileEdit) (r : Result T Refusal) → IsErrAnd r (λ x. x ≡ OutOfMemory) → fits_in files e ≡ true → IsEditAnswer files e r
+edit-memory files e (Ok value) same fit = absurd same
+edit-memory {T = T} files e (Err x) same fit = subst (λ (y : Refusal). IsEditAnswer {T = T} files e (Err y)) (sym same) fit
+
 -- the turns of a list that can be made, and of one that is an edit
 pub made-turns : {S : Type 0} (m : Formatter S) (held : Held) (changes : List Change) → all_fit held.files changes ≡ true → work m held changes ≡ turns_of_changes m held changes
 made-turns m held changes fit = sym (ap (λ b. cond b (work m held changes) 0) fit)

@@ -1,5 +1,6 @@
-use Rattle.std.proofs.Common.{◌≤◌, ◌<◌, ◌+◌, ◌*◌, ◌^◌, length, sym, ap, subst, ◌∙◌, arith}
+use Rattle.std.proofs.Common.{◌≡◌, ◌≤◌, ◌<◌, ◌+◌, ◌*◌, ◌^◌, true, length, None, sym, ap, subst, ◌∙◌, arith}
 use Rattle.std.specs.Prelude.{IfSome}
+use Rattle.tx_files.specs.Changes.{all_fit, first_outside}
 use Rattle.tx_machine.specs.Steps.{raised}
 use Rattle.tx_machine.proofs.Going.{raised-zero}
 use Rattle.tx_checkpoint.specs.Meant.{rows_meant}
@@ -138,3 +139,11 @@ pub returns-in_err-before-clause-answer : goal.returns-in_err-before-clause-answ
 returns-in_err-before-clause-answer g c =
     subst (λ (held : Held). IsBatchAnswer {T = Report} held.files c.args.changes.now c.from_residual.result) c.self.view_is
     (batch-refused c.self.inside.files c.args.changes.now c.from_residual.result c.in_err-before.field-0.0 c.from_residual.ensures.1 c.in_err-before.ensures.answer)
+
+pub returns-then-stands-clause-answer : goal.returns-then-stands-clause-answer
+returns-then-stands-clause-answer g c =
+    subst (λ (held : Held). (all_fit held.files c.args.changes.now ≡ true) × (first_outside held.files c.args.changes.now ≡ None)) c.self.view_is c.in_ok-before.ensures.answer
+
+pub returns-in-Ok-clause-answer : goal.returns-in-Ok-clause-answer
+returns-in-Ok-clause-answer g c =
+    subst (λ (held : Held). (all_fit held.files c.args.changes.now ≡ true) × (first_outside held.files c.args.changes.now ≡ None)) c.self.view_is c.in_ok-before.ensures.answer

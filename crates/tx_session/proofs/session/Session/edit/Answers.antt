@@ -9,11 +9,15 @@ use Rattle.tx_machine.specs.Steps.{raised}
 use Rattle.tx_session.specs.Held.{fresh, changed_session}
 use Rattle.tx_session.specs.Refusals.{IsBatchAnswer}
 use Rattle.tx_session.specs.Report.{report, work, turns_of_changes}
-use Rattle.tx_session.proofs.Refusing.{edit-answer, edit-turns}
+use Rattle.tx_session.proofs.Refusing.{edit-answer, edit-memory, edit-turns}
 use Rattle.tx_session.proofs.session.Session.edit.Goals as goal
 
 pub returns-in-Some-clause-answer : goal.returns-in-Some-clause-answer
 returns-in-Some-clause-answer g c = subst (IsPast c.args.self.now.files c.args.e.now) c.in-Some.is c.outside-outside.ensures
+
+pub returns-in_err-copy-clause-answer : goal.returns-in_err-copy-clause-answer
+returns-in_err-copy-clause-answer g c =
+    edit-memory c.args.self.now.files c.args.e.now c.from_residual.result c.from_residual.ensures.1 (subst (IsPast c.args.self.now.files c.args.e.now) c.in_default.is c.outside-outside.ensures)
 
 pub returns-clause-answer : goal.returns-clause-answer
 returns-clause-answer g c =
