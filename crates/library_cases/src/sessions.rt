@@ -151,8 +151,8 @@ fn append_edits(
     Ok(())
 }
 
-/// What there is of the document of the first line, with another file or none, and after each edit of the lines behind it: what
-/// the edit is answered, the pages, the transcript, the end, the size of the DVI file, and the turns so far.
+/// What there is of the document of the first line, with another file or none, and after each edit or batch of the lines behind it:
+/// what it is answered, the pages, the transcript, the end, the size of the DVI file, and the turns so far.
 pub fn edited(
     alloc: Global,
     more: &str,

@@ -1,5 +1,5 @@
 -- From a meeting on, the new run is the old rest, moved, up to the page limit.
-use Rattle.std.proofs.Common.{◌≡◌, ℕ, ◌-◌, ◌<◌, ◌≤◌, Bool, true, false, cond, List, length, take, min, sym, ap, ◌∙◌, arith, nat_le, append-nil}
+use Rattle.std.proofs.Common.{◌≡◌, ℕ, ◌-◌, ◌<◌, ◌≤◌, Bool, true, false, cond, List, length, take, min, refl, sym, ap, ◌∙◌, arith, nat_le, append-nil}
 use Rattle.std.proofs.lemmas.Bool.{leb-true, leb-false}
 use Rattle.std.proofs.lemmas.List.{take_all}
 use Rattle.tx_bytes.specs.Files.{Files}

@@ -29,7 +29,7 @@ batch-refused {T = T} files changes (Err x) refusal same answer = subst (λ (y :
 -- an edit that fits is answered as the list of it alone
 pub edit-answer : {T : Type 0} (files : Files) (e : FileEdit) (r : Result T Refusal) → fits_in files e ≡ true → IsBatchAnswer files (Edit e ∷ []) r → IsEditAnswer files e r
 edit-answer files e (Ok value) fit answer = fit
-edit-answer files e (Err (Outside len)) fit answer = answer
+edit-answer files e (Err (Outside len)) fit answer = absurd answer
 edit-answer files e (Err OutOfMemory) fit answer = fit
 edit-answer files e (Err (BatchOutside index len)) fit answer = absurd (true≢false (sym (ap (λ b. b && true) fit) ∙ answer.0))
 
