@@ -1,10 +1,11 @@
 -- The best chain of a pass, and the pass that is chosen.
-use Rattle.std.proofs.Common.{◌≡◌, ℕ, ℤ, ◌+◌, ◌<◌, Bool, true, false, cond, Option, Some, None, List, [], ◌∷◌, ◌++◌, map, length, take, get_or, ◌⊎◌, inl, inr, refl, sym, ap, subst, ◌∙◌, arith}
+use Rattle.std.proofs.Common.{◌≡◌, ℕ, ℤ, ◌+◌, ◌<◌, Bool, true, false, cond, Option, Some, None, List, [], ◌∷◌, ◌++◌, map, length, take, get_or, ◌⊎◌, inl, inr, refl, sym, ap, subst, ◌∙◌, arith, length-append}
 use Rattle.std.specs.Prelude.{All, Contains, IfNone, IfSome, ◌==◌, pos, int_le, int_lt}
 use Rattle.std.proofs.lemmas.Bool.Decides.{nat_tests}
 use Rattle.std.proofs.lemmas.Int.{ints}
 use Rattle.std.proofs.lemmas.List.Elements.{All-contains, All-more, All-weaker, Contains-get_or}
 use Rattle.tx_linebreak.specs.declared.answer.Chosen.{Chosen}
+use Rattle.tx_linebreak.specs.declared.found.Found.{Found}
 use Rattle.tx_linebreak.specs.declared.link.Link.{Link}
 use Rattle.tx_linebreak.specs.declared.params.BreakParams.{BreakParams}
 use Rattle.tx_linebreak.specs.declared.params.LineShape.{LineShape}
@@ -12,14 +13,16 @@ use Rattle.tx_linebreak.specs.declared.params.Pass.{Pass}
 use Rattle.tx_linebreak.specs.declared.params.Pass.TheVariants.{First, Second, Emergency}
 use Rattle.tx_linebreak.specs.declared.piece.Piece.{Piece}
 use Rattle.tx_linebreak.specs.Chains.{Chain, chains_of, is_last_pass}
-use Rattle.tx_linebreak.specs.Chosen.{IsAnswer, IsBest, IsBestAnswer, IsEnded, attempt, beats, first_succeeds, first_with_chain, is_empty, passes_of}
+use Rattle.tx_linebreak.specs.Chosen.{IsAnswer, IsAnswerOf, IsAsked, IsBest, IsEnded, answer_of, answers, attempt, beats, first_succeeds, first_to_answer, is_enough, line_count, passes_of}
 use Rattle.tx_linebreak.specs.Kept.{all_offered, last_chains, last_special}
 use Rattle.tx_linebreak.specs.Lines.{Attempt}
-use Rattle.tx_linebreak.specs.Shared.{chain_of}
+use Rattle.tx_linebreak.specs.Shared.{IsFound, chain_at, chain_of}
 use Rattle.tx_linebreak.proofs.Ending.{ends-some}
 use Rattle.tx_linebreak.proofs.Kept.{Stands, last-stands, offered-stands, top-stands}
 use Rattle.tx_linebreak.proofs.Members.{Member, contains-member, member-contains, member-map, member-of_map}
+use Rattle.tx_linebreak.proofs.Links.{comes}
 use Rattle.tx_linebreak.proofs.Order.{beats_both, beats_itself, not_beaten_through}
+use Rattle.tx_linebreak.proofs.Unique.{answers-found}
 
 -- ---- the best of some links
 
@@ -79,72 +82,107 @@ emptied (link ∷ links) n len e = let none = zero-left n e in absurd (omega ari
 
 -- ---- the pass
 
-pub has-one : (a : Attempt) (chain : Chain) → IsBest a chain → is_empty (chains_of a) ≡ false
-has-one a chain b = by (chains_of a) b.is_one
-  where
-    by : (list : List Chain) → Contains list chain → is_empty list ≡ false
-    by [] c = let h = c.1 in absurd (omega arith)
-    by (x ∷ list) c = refl
+-- what stands behind all chains is found
+pub found-behind : (a : Attempt) (chains : List Chain) (best asked : Link) (n : ℕ) → n ≡ length chains → IsBest a (chain_of chains best) → IsAsked a (chain_of chains best) (chain_of chains asked)
+    → IsFound a (chains ++ chain_of chains asked ∷ []) (record { chain = n; lines = asked.line.number; best = best.line.number })
+found-behind a chains best asked n behind b k =
+    let here : chain_at (chains ++ chain_of chains asked ∷ []) n ≡ chain_of chains asked = comes chains (chain_of chains asked) n behind in
+    let long : length (chains ++ chain_of chains asked ∷ []) ≡ length chains + 1 = length-append chains (chain_of chains asked ∷ []) in
+    record {
+      there = omega (arith, behind, long);
+      lines_are = sym (ap line_count here);
+      best = chain_of chains best;
+      best_has = refl;
+      is_best = b;
+      is_asked = subst (λ (x : Chain). IsAsked a (chain_of chains best) x) (sym here) k;
+    }
 
-pub has-none : (a : Attempt) → chains_of a ≡ [] → is_empty (chains_of a) ≡ true
-has-none a e = ap is_empty e
+-- what a pass found tells what the answer is, if it is enough
+pub found-gives : (a : Attempt) (chains : List Chain) (found : Found) (b : Bool) → IsFound a chains found → b ≡ is_enough a found.best found.lines → answers a ≡ b
+found-gives a chains found b f is = answers-found a chains found f ∙ sym is
 
-best-answer : {pieces : List Piece} {shape : List LineShape} {params : BreakParams} (a : Attempt) (found : Option Chosen) (chosen : Chosen) (pass : Pass) → a ≡ attempt pieces shape params pass → found ≡ Some chosen → IfSome found (IsBestAnswer a) → IsBestAnswer (attempt pieces shape params pass) chosen
-best-answer {pieces = pieces} {shape = shape} {params = params} a found chosen pass is found_is some =
-    subst (λ (x : Attempt). IsBestAnswer x chosen) is (subst (λ (o : Option Chosen). IfSome o (IsBestAnswer a)) found_is some)
+pub found-answer : (a : Attempt) (chains : List Chain) (found : Found) (chosen : Chosen) → IsFound a chains found → answers a ≡ true → chosen ≡ answer_of a.pass found.best (chain_at chains found.chain) → IsAnswerOf a chosen
+found-answer a chains found chosen f gives is = record {
+  gives = gives;
+  best = f.best;
+  chain = chain_at chains found.chain;
+  is_best = f.is_best;
+  is_asked = f.is_asked;
+  answer_is = is ∙ ap (λ (n : ℕ). answer_of a.pass n (chain_at chains found.chain)) f.best_has;
+}
+
+-- in the last pass any number of lines is enough
+pub last-enough : (a : Attempt) (best lines : ℕ) → is_last_pass a.params a.pass ≡ true → is_enough a best lines ≡ true
+last-enough a best lines last = rw last refl
+
+gives-some : (a b : Attempt) (found : Option Chosen) (chosen : Chosen) → a ≡ b → found ≡ Some chosen → IfSome found (IsAnswerOf a) → IsAnswerOf b chosen
+gives-some a b found chosen is found_is some =
+    subst (λ (x : Attempt). IsAnswerOf x chosen) is (subst (λ (o : Option Chosen). IfSome o (IsAnswerOf a)) found_is some)
+
+gives-none : (a b : Attempt) (found : Option Chosen) → a ≡ b → found ≡ None → IfNone found (answers a ≡ false) → answers b ≡ false
+gives-none a b found is found_is none =
+    subst (λ (x : Attempt). answers x ≡ false) is (subst (λ (o : Option Chosen). IfNone o (answers a ≡ false)) found_is none)
 
 pub positive : (z : ℤ) → int_le z (pos 0) ≡ false → int_lt (pos 0) z ≡ true
 positive z e = grind (arith, ints)
 
 module _ (pieces : List Piece) (shape : List LineShape) (params : BreakParams) where
-  -- the first pass isn't made, or has no chain
+  -- the first pass isn't made, or doesn't give the answer
   abbrev pub Passes : Type 0
-  Passes = (int_le (pos 0) params.pretolerance ≡ false) ⊎ (is_empty (chains_of (attempt pieces shape params First)) ≡ true)
+  Passes = (int_le (pos 0) params.pretolerance ≡ false) ⊎ (answers (attempt pieces shape params First) ≡ false)
 
-  pub passes-first : (rest : List Pass) → Passes → first_with_chain pieces shape params (cond (int_le (pos 0) params.pretolerance) (First ∷ []) [] ++ rest) ≡ first_with_chain pieces shape params rest
+  pub passes-first : (rest : List Pass) → Passes → first_to_answer pieces shape params (cond (int_le (pos 0) params.pretolerance) (First ∷ []) [] ++ rest) ≡ first_to_answer pieces shape params rest
   passes-first rest (inl skipped) = rw skipped refl
   passes-first rest (inr none) = by (int_le (pos 0) params.pretolerance)
     where
-      by : (b : Bool) → first_with_chain pieces shape params (cond b (First ∷ []) [] ++ rest) ≡ first_with_chain pieces shape params rest
+      by : (b : Bool) → first_to_answer pieces shape params (cond b (First ∷ []) [] ++ rest) ≡ first_to_answer pieces shape params rest
       by true = rw none refl
       by false = refl
 
-  pub second-chosen : Passes → is_empty (chains_of (attempt pieces shape params Second)) ≡ false → first_with_chain pieces shape params (passes_of params) ≡ Some Second
+  pub second-chosen : Passes → answers (attempt pieces shape params Second) ≡ true → first_to_answer pieces shape params (passes_of params) ≡ Some Second
   second-chosen passes some = passes-first (Second ∷ cond (int_lt (pos 0) params.emergency_stretch) (Emergency ∷ []) []) passes ∙ rw some refl
 
-  pub third-chosen : Passes → is_empty (chains_of (attempt pieces shape params Second)) ≡ true → int_lt (pos 0) params.emergency_stretch ≡ true → is_empty (chains_of (attempt pieces shape params Emergency)) ≡ false → first_with_chain pieces shape params (passes_of params) ≡ Some Emergency
+  pub third-chosen : Passes → answers (attempt pieces shape params Second) ≡ false → int_lt (pos 0) params.emergency_stretch ≡ true → answers (attempt pieces shape params Emergency) ≡ true → first_to_answer pieces shape params (passes_of params) ≡ Some Emergency
   third-chosen passes none so some = passes-first (Second ∷ cond (int_lt (pos 0) params.emergency_stretch) (Emergency ∷ []) []) passes ∙ rw (none, so, some) refl
 
-  -- the answers of the passes
-  pub second-answer : (a : Attempt) (found : Option Chosen) (chosen : Chosen) → a ≡ attempt pieces shape params Second → found ≡ Some chosen → IfSome found (IsBestAnswer a) → Passes → IsAnswer pieces shape params chosen
-  second-answer a found chosen is found_is some passes =
-      let best = best-answer a found chosen Second is found_is some in
-      (Second, best.0, record { is_first = second-chosen passes (has-one (attempt pieces shape params Second) best.0 best.1); is_best = best.1 }, best.2)
+  -- an answer of the pass that is the first to give one
+  chosen-answer : (pass : Pass) (chosen : Chosen) → first_to_answer pieces shape params (passes_of params) ≡ Some pass → IsAnswerOf (attempt pieces shape params pass) chosen → IsAnswer pieces shape params chosen
+  chosen-answer pass chosen first given = record {
+    pass = pass;
+    best = given.best;
+    chain = given.chain;
+    is_chosen = record { is_first = first; is_best = given.is_best; is_asked = given.is_asked };
+    answer_is = given.answer_is;
+  }
 
-  pub third-answer : (a b : Attempt) (first found : Option Chosen) (chosen : Chosen) → a ≡ attempt pieces shape params Second → first ≡ None → IfNone first (chains_of a ≡ []) → b ≡ attempt pieces shape params Emergency → found ≡ Some chosen → IfSome found (IsBestAnswer b) → int_lt (pos 0) params.emergency_stretch ≡ true → Passes → IsAnswer pieces shape params chosen
+  -- the answers of the passes
+  pub second-answer : (a : Attempt) (found : Option Chosen) (chosen : Chosen) → a ≡ attempt pieces shape params Second → found ≡ Some chosen → IfSome found (IsAnswerOf a) → Passes → IsAnswer pieces shape params chosen
+  second-answer a found chosen is found_is some passes =
+      let given = gives-some a (attempt pieces shape params Second) found chosen is found_is some in
+      chosen-answer Second chosen (second-chosen passes given.gives) given
+
+  pub third-answer : (a b : Attempt) (first found : Option Chosen) (chosen : Chosen) → a ≡ attempt pieces shape params Second → first ≡ None → IfNone first (answers a ≡ false) → b ≡ attempt pieces shape params Emergency → found ≡ Some chosen → IfSome found (IsAnswerOf b) → int_lt (pos 0) params.emergency_stretch ≡ true → Passes → IsAnswer pieces shape params chosen
   third-answer a b first found chosen a_is first_is none b_is found_is some so passes =
-      let best = best-answer b found chosen Emergency b_is found_is some in
-      let empty : chains_of (attempt pieces shape params Second) ≡ [] = subst (λ (x : Attempt). chains_of x ≡ []) a_is (subst (λ (o : Option Chosen). IfNone o (chains_of a ≡ [])) first_is none) in
-      (Emergency, best.0, record { is_first = third-chosen passes (has-none (attempt pieces shape params Second) empty) so (has-one (attempt pieces shape params Emergency) best.0 best.1); is_best = best.1 }, best.2)
+      let given = gives-some b (attempt pieces shape params Emergency) found chosen b_is found_is some in
+      chosen-answer Emergency chosen (third-chosen passes (gives-none a (attempt pieces shape params Second) first a_is first_is none) so given.gives) given
 
   -- the first pass isn't made, or finds nothing
-  pub passes-by : (a : Attempt) (found : Option Chosen) → a ≡ attempt pieces shape params First → found ≡ None → IfNone found (chains_of a ≡ []) → Passes
-  passes-by a found is found_is none =
-      inr (has-none (attempt pieces shape params First) (subst (λ (x : Attempt). chains_of x ≡ []) is (subst (λ (o : Option Chosen). IfNone o (chains_of a ≡ [])) found_is none)))
+  pub passes-by : (a : Attempt) (found : Option Chosen) → a ≡ attempt pieces shape params First → found ≡ None → IfNone found (answers a ≡ false) → Passes
+  passes-by a found is found_is none = inr (gives-none a (attempt pieces shape params First) found is found_is none)
 
-  -- the first pass is made: its answer, or that it has no chain
-  pub first-some : (a : Attempt) (found : Option Chosen) → a ≡ attempt pieces shape params First → int_le (pos 0) params.pretolerance ≡ true → IfSome found (IsBestAnswer a) → IfSome found (λ chosen. (first_succeeds pieces shape params ≡ true) × IsAnswer pieces shape params chosen)
+  -- the first pass is made: its answer, or that it gives none
+  pub first-some : (a : Attempt) (found : Option Chosen) → a ≡ attempt pieces shape params First → int_le (pos 0) params.pretolerance ≡ true → IfSome found (IsAnswerOf a) → IfSome found (λ chosen. (first_succeeds pieces shape params ≡ true) × IsAnswer pieces shape params chosen)
   first-some a None is made some = tt
   first-some a (Some chosen) is made some =
-      let best = best-answer a (Some chosen) chosen First is refl some in
-      let has = has-one (attempt pieces shape params First) best.0 best.1 in
-      (rw (made, has) refl, (First, best.0, record { is_first = rw (made, has) refl; is_best = best.1 }, best.2))
+      let given = gives-some a (attempt pieces shape params First) (Some chosen) chosen is refl some in
+      let has : answers (attempt pieces shape params First) ≡ true = given.gives in
+      (rw (made, has) refl, chosen-answer First chosen (rw (made, has) refl) given)
 
-  pub first-none : (a : Attempt) (found : Option Chosen) → a ≡ attempt pieces shape params First → int_le (pos 0) params.pretolerance ≡ true → IfNone found (chains_of a ≡ []) → IfNone found (first_succeeds pieces shape params ≡ false)
+  pub first-none : (a : Attempt) (found : Option Chosen) → a ≡ attempt pieces shape params First → int_le (pos 0) params.pretolerance ≡ true → IfNone found (answers a ≡ false) → IfNone found (first_succeeds pieces shape params ≡ false)
   first-none a (Some chosen) is made none = tt
   first-none a None is made none =
-      let empty = has-none (attempt pieces shape params First) (subst (λ (x : Attempt). chains_of x ≡ []) is none) in
-      rw (made, empty) refl
+      let not : answers (attempt pieces shape params First) ≡ false = gives-none a (attempt pieces shape params First) None is refl none in
+      rw (made, not) refl
 
   -- it isn't made
   pub first-skipped : int_le (pos 0) params.pretolerance ≡ false → first_succeeds pieces shape params ≡ false

@@ -1,6 +1,6 @@
 -- Keeping one chain for each candidate is enough, where those that go on alike are one.
-use Rattle.std.proofs.Common.{◌≡◌, ℕ, zero, suc, ◌-◌, min, ◌≤◌, ℤ, Bool, true, false, cond, Option, Some, None, List, [], ◌∷◌, ◌++◌, map, length, ◌⊎◌, inl, inr, refl, sym, ap, subst, ◌∙◌, arith}
-use Rattle.std.specs.Prelude.{filter, pos, ◌&&◌, ◌||◌, ◌==◌, not}
+use Rattle.std.proofs.Common.{◌≡◌, ℕ, zero, suc, ◌-◌, min, max, ◌≤◌, ℤ, Bool, true, false, cond, Option, Some, None, List, [], ◌∷◌, ◌++◌, map, length, ◌⊎◌, inl, inr, refl, sym, ap, subst, ◌∙◌, arith}
+use Rattle.std.specs.Prelude.{filter, pos, unsigned_abs, ◌&&◌, ◌||◌, ◌==◌, not}
 use Rattle.std.specs.List.{list_all}
 use Rattle.std.proofs.lemmas.Bool.{lt-ltb, le-ltb, eqb-true}
 use Rattle.tx_linebreak.specs.declared.line.Candidate.{Candidate}
@@ -198,9 +198,18 @@ pub record GoesOn (special : ℕ) (f : Candidate → Line) : Type 0 where
   pub number : (c : Candidate) → (f c).number ≡ suc c.lines
   pub sees : Sees special (λ c. unnumbered (f c))
 
+-- all shapes but the last one are those of special lines
+special-far : (a : Attempt) → length a.shape - 1 ≤ last_special a
+unfolding last_special
+special-far a = by (unsigned_abs a.params.looseness == 0)
+  where
+    by : (b : Bool) → length a.shape - 1 ≤ cond b (length a.shape - 1) (max (length a.shape - 1) (length a.pieces))
+    by true = omega arith
+    by false = omega arith
+
 fit-sees : (a : Attempt) (place : ℕ) → Sees (last_special a) (λ c. line_fit a c place)
 unfolding line_fit
-fit-sees a place c = ap (λ (w : ℤ). fit_of w (line_totals a c.place place)) (width-seen a.shape c.lines)
+fit-sees a place c = ap (λ (w : ℤ). fit_of w (line_totals a c.place place)) (width-seen a.shape c.lines (last_special a) (special-far a))
 
 feasible-sees : (a : Attempt) (place : ℕ) → Sees (last_special a) (λ c. is_feasible a c place)
 unfolding is_feasible

@@ -14,4 +14,6 @@ pub mod Reaching
 pub mod Adding
 pub mod Advancing
 pub mod Ending
+pub mod Asking
+pub mod Unique
 pub mod Choosing

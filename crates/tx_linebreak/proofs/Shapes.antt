@@ -16,14 +16,15 @@ width_at (s ∷ t ∷ r) (suc k) zero d h (inr e) = absurd (omega arith)
 width_at (s ∷ t ∷ r) (suc k) (suc n) d h (inl e) = width_at (t ∷ r) k n d (omega arith) (inl (omega arith))
 width_at (s ∷ t ∷ r) (suc k) (suc n) d h (inr e) = width_at (t ∷ r) k n d (omega arith) (inr (omega arith, omega arith))
 
--- it is the same behind the last line of special shape
-pub width-seen : (shape : List LineShape) (lines : ℕ) → line_width shape lines ≡ line_width shape (min lines (length shape - 1))
-width-seen [] lines = refl
-width-seen (s ∷ []) lines = refl
-width-seen (s ∷ t ∷ r) zero = let e : 0 ≡ min 0 (length (s ∷ t ∷ r) - 1) = omega arith in ap (line_width (s ∷ t ∷ r)) e
-width-seen (s ∷ t ∷ r) (suc n) =
-    let e : suc (min n (length (t ∷ r) - 1)) ≡ min (suc n) (length (s ∷ t ∷ r) - 1) = omega arith in
-    width-seen (t ∷ r) n ∙ ap (line_width (s ∷ t ∷ r)) e
+-- it is the same behind the last line of special shape, and behind any further one
+pub width-seen : (shape : List LineShape) (lines special : ℕ) → length shape - 1 ≤ special → line_width shape lines ≡ line_width shape (min lines special)
+width-seen [] lines special far = refl
+width-seen (s ∷ []) lines special far = refl
+width-seen (s ∷ t ∷ r) zero special far = let e : 0 ≡ min 0 special = omega arith in ap (line_width (s ∷ t ∷ r)) e
+width-seen (s ∷ t ∷ r) (suc n) special far =
+    let e : suc (min n (special - 1)) ≡ min (suc n) special = omega (arith, far) in
+    let less : length (t ∷ r) - 1 ≤ special - 1 = omega (arith, far) in
+    width-seen (t ∷ r) n (special - 1) less ∙ ap (line_width (s ∷ t ∷ r)) e
 
 -- the place of a line's shape
 pub shape_place : (n lines : ℕ) → 0 < n → (min lines (n - 1) ≡ lines) ⊎ ((min lines (n - 1) + 1 ≡ n) × (min lines (n - 1) ≤ lines))

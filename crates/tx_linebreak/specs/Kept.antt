@@ -1,6 +1,6 @@
 -- One chain for each candidate, where those that go on alike are one: the programme of dynamic steps, by which the best of all
 -- chains is found without looking at each. No public clause speaks of it.
-use Rattle.std.specs.Prelude.{◌≡◌, ℕ, zero, suc, ◌-◌, min, ◌==◌, ℤ, Bool, true, false, not, ◌&&◌, if◌then◌else◌, List, [], ◌∷◌, ◌++◌, filter, length, Option, None, Some}
+use Rattle.std.specs.Prelude.{◌≡◌, ℕ, zero, suc, ◌-◌, min, max, ◌==◌, ℤ, unsigned_abs, Bool, true, false, not, ◌&&◌, if◌then◌else◌, List, [], ◌∷◌, ◌++◌, filter, length, Option, None, Some}
 use Rattle.tx_linebreak.specs.declared.line.Candidate.{Candidate}
 use Rattle.tx_linebreak.specs.Breaks.{penalty_at}
 use Rattle.tx_linebreak.specs.Lines.{Attempt}
@@ -19,12 +19,15 @@ same_place (Some p) (Some q) = p == q
 abbrev pub same_candidate : Candidate → Candidate → Bool
 same_candidate c d = same_place c.place d.place && c.lines == d.lines && class_number c.class == class_number d.class
 
--- the number of the last line of special shape: all lines behind it have the same one (TeX: The Program, section 847)
-abbrev pub last_special : Attempt → ℕ
-last_special a = length a.shape - 1
+-- the number of the last special line: to all that may come behind it, it makes no difference how many lines there are (TeX: The
+-- Program, sections 847 and 848). Where \looseness is 0, that is the last line of special shape, since all further ones have the same
+-- one; else the number of lines counts, and no chain has more of them than there are pieces
+unfoldable pub last_special : Attempt → ℕ
+last_special a =
+    if unsigned_abs a.params.looseness == 0 then length a.shape - 1 else max (length a.shape - 1) (length a.pieces)
 
--- a candidate, as the lines behind it depend on it: it makes no difference how many lines come before it where there are so
--- many that all further ones have the same shape (TeX: The Program, section 835: easy_line)
+-- a candidate, as the lines behind it depend on it: it makes no difference how many lines come before it where there are as many
+-- as the last special one's number says (TeX: The Program, section 835: easy_line)
 abbrev pub as_seen : ℕ → Candidate → Candidate
 as_seen special c = record { place = c.place; lines = min c.lines special; class = c.class }
 

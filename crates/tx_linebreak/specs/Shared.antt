@@ -1,8 +1,10 @@
 -- Chains that share their beginnings, as a list of links. No public clause speaks of it.
 use Rattle.std.specs.Prelude.{◌≡◌, ℕ, suc, ◌*◌, ◌<◌, ◌≤◌, ◌^◌, unsigned_abs, List, [], ◌∷◌, ◌++◌, length, fold, slice_index_or}
+use Rattle.tx_linebreak.specs.declared.found.Found.{Found}
 use Rattle.tx_linebreak.specs.declared.link.Link.{Link}
 use Rattle.tx_linebreak.specs.Chains.{Chain}
-use Rattle.tx_linebreak.specs.Chosen.{total}
+use Rattle.tx_linebreak.specs.Chosen.{IsAsked, IsBest, line_count, total}
+use Rattle.tx_linebreak.specs.Lines.{Attempt}
 
 -- the chain of a number among chains
 abbrev pub chain_at : List Chain → ℕ → Chain
@@ -43,3 +45,12 @@ pub record IsShared (links : List Link) : Type 0 where
   pub length_is : length (chains_in links) ≡ suc (length links)
   pub start_is : chain_at (chains_in links) 0 ≡ []
   pub links_are : (k : ℕ) (d : Link) → k < length links → IsLinkOf (chains_in links) (suc k) (slice_index_or links k d)
+
+-- what a pass finds: one of the chains is the one that is asked for, and has so many lines, and the best one has so many
+pub record IsFound (a : Attempt) (chains : List Chain) (found : Found) : Type 0 where
+  pub there : found.chain < length chains
+  pub lines_are : found.lines ≡ line_count (chain_at chains found.chain)
+  pub best : Chain
+  pub best_has : found.best ≡ line_count best
+  pub is_best : IsBest a best
+  pub is_asked : IsAsked a best (chain_at chains found.chain)

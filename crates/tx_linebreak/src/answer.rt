@@ -14,4 +14,6 @@ pub struct Chosen {
     pub pass: u8,
     /// The places of the breaks to which no line fitted.
     pub forced: Places,
+    /// How many lines more it has than the best chain of its pass; less than 0 where it has fewer.
+    pub looseness: i128,
 }

@@ -1,12 +1,13 @@
-//! The best chain of a pass.
+//! The best chain of a pass, and what a pass finds.
 ghost use Rattle.std.specs.Prelude.{◌≡◌, ◌<◌, ◌∷◌, [], false, true, length, All, Contains, IfNone, IfSome, IfOk, IsSome};
 ghost use Rattle.tx_linebreak.specs.Chains.{chains_of, is_last_pass};
-ghost use Rattle.tx_linebreak.specs.Chosen.{IsBest, IsEnded, beats};
-ghost use Rattle.tx_linebreak.specs.Shared.{IsMade, chain_at, chain_of};
+ghost use Rattle.tx_linebreak.specs.Chosen.{IsEnded, beats};
+ghost use Rattle.tx_linebreak.specs.Shared.{IsFound, IsMade, chain_of};
 ghost use Rattle.tx_linebreak.specs.Tasks.{IsTask, attempt_of};
 
 use crate::attempt::Task;
 use crate::chains::Chains;
+use crate::found::Found;
 use crate::link::Link;
 use std::alloc::{AllocError, Global};
 
@@ -27,27 +28,32 @@ fn best(chains: &Chains, links: &[Link]) -> Link
 }
 
 impl Task<'_> {
-    /// The number of the best of all chains of a pass, None where there is none; there is one in the last pass.
-    pub(crate) fn best_chain(
+    /// What a pass finds, of all its chains the one that is asked for; None where there is none. There is one in the last pass.
+    pub(crate) fn find_chain(
         &self,
         alloc: Global,
         chains: &mut Chains,
-    ) -> Result<Option<usize>, AllocError>
+    ) -> Result<Option<Found>, AllocError>
         requires task { IsTask self.now }
         requires ended { IsEnded self.now.pieces.now }
         requires start { chains.old ≡ [] ∷ [] }
         ensures none { IfOk result (λ found. IfNone found (chains_of (attempt_of self.now) ≡ [])) }
-        ensures some { IfOk result (λ found. IfSome found (λ chain. IsBest (attempt_of self.now) (chain_at chains.new chain))) }
-        ensures there { IfOk result (λ found. IfSome found (λ chain. chain < length chains.new)) }
+        ensures some { IfOk result (λ found. IfSome found (IsFound (attempt_of self.now) chains.new)) }
         ensures last { is_last_pass self.now.params.now self.now.pass ≡ true → IfOk result (λ found. IsSome found) }
     {
         let links = self.ends(alloc, chains)?;
         if links.is_empty() {
             return Ok(None);
         }
-        let best = best(chains, links.as_slice());
+        let list = links.as_slice();
+        let best = best(chains, list);
+        let asked = self.asked(chains, &best, list);
         let chain = chains.len();
-        chains.push(best)?;
-        Ok(Some(chain))
+        chains.push(asked)?;
+        Ok(Some(Found {
+            chain,
+            lines: asked.line.number,
+            best: best.line.number,
+        }))
     }
 }

@@ -2,9 +2,10 @@
 ghost use Rattle.std.specs.Prelude.{◌≡◌, ◌↔◌, ◌<◌, ◌^◌, [], true, false, length, Err, IfNone, IfSome, IfOk, IsSome};
 ghost use Rattle.tx_linebreak.specs.declared.error.BreakError.TheVariants.{InfiniteShrink};
 ghost use Rattle.tx_linebreak.specs.declared.params.Pass.TheVariants.{Emergency};
-ghost use Rattle.tx_linebreak.specs.Chains.{chains_of, is_last_pass};
-ghost use Rattle.tx_linebreak.specs.Chosen.{IsAnswer, IsBestAnswer, IsEnded, attempt, first_succeeds, has_endless_shrink};
+ghost use Rattle.tx_linebreak.specs.Chains.{is_last_pass};
+ghost use Rattle.tx_linebreak.specs.Chosen.{IsAnswer, IsAnswerOf, IsEnded, answers, attempt, first_succeeds, has_endless_shrink};
 ghost use Rattle.tx_linebreak.specs.Lines.{background, skips};
+ghost use Rattle.tx_linebreak.specs.Shared.{IsFound};
 ghost use Rattle.tx_linebreak.specs.Sums.{AreStarts, AreSums};
 ghost use Rattle.tx_linebreak.specs.Tasks.{IsTask, attempt_of};
 ghost use Rattle.tx_linebreak.specs.Totals.{IsWithin};
@@ -14,6 +15,7 @@ use crate::attempt::Task;
 use crate::chains::Chains;
 use crate::endless::has_endless_shrink;
 use crate::error::BreakError;
+use crate::found::Found;
 use crate::params::{BreakParams, LineShape, Pass, Shape};
 use crate::piece::{Piece, Pieces};
 use crate::starts::running_starts;
@@ -76,23 +78,42 @@ impl<'a> Task<'a> {
         }
     }
 
-    /// What a pass finds: None where it has no chain; the last pass has one.
+    /// The answer of a pass that found this chain: None where a further pass is to be made.
+    fn answer(
+        &self,
+        alloc: Global,
+        chains: &Chains,
+        found: &Found,
+    ) -> Result<Option<Chosen>, AllocError>
+        requires { IsFound (attempt_of self.now) chains.now found.now }
+        ensures none { IfOk result (λ answer. IfNone answer (answers (attempt_of self.now) ≡ false)) }
+        ensures some { IfOk result (λ answer. IfSome answer (λ chosen. IsAnswerOf (attempt_of self.now) chosen)) }
+        ensures last { is_last_pass self.now.params.now self.now.pass ≡ true → IfOk result (λ answer. IsSome answer) }
+    {
+        if !self.is_enough(found) {
+            return Ok(None);
+        }
+        Ok(Some(told(alloc, chains, found, self.pass)?))
+    }
+
+    /// The answer of a pass: None where it has no chain, or none as long as is asked for and a further pass is made; the last pass
+    /// gives one.
     fn find(&self, alloc: Global) -> Result<Option<Chosen>, AllocError>
         requires task { IsTask self.now }
         requires ended { IsEnded self.now.pieces.now }
-        ensures none { IfOk result (λ found. IfNone found (chains_of (attempt_of self.now) ≡ [])) }
-        ensures some { IfOk result (λ found. IfSome found (λ chosen. IsBestAnswer (attempt_of self.now) chosen)) }
+        ensures none { IfOk result (λ found. IfNone found (answers (attempt_of self.now) ≡ false)) }
+        ensures some { IfOk result (λ found. IfSome found (λ chosen. IsAnswerOf (attempt_of self.now) chosen)) }
         ensures last { is_last_pass self.now.params.now self.now.pass ≡ true → IfOk result (λ found. IsSome found) }
     {
         let mut chains = Chains::new(alloc);
-        match self.best_chain(alloc, &mut chains)? {
+        match self.find_chain(alloc, &mut chains)? {
             None => Ok(None),
-            Some(chain) => Ok(Some(told(alloc, &chains, chain, self.pass)?)),
+            Some(found) => self.answer(alloc, &chains, &found),
         }
     }
 }
 
-/// What the first pass finds; None where it isn't made, or has no chain.
+/// The answer of the first pass; None where it isn't made, or gives none.
 fn find_first(
     alloc: Global,
     pieces: &[Piece],
@@ -115,7 +136,7 @@ fn find_first(
     first.find(alloc)
 }
 
-/// The answer of the first pass that has a chain.
+/// The answer of the first pass that gives one.
 fn choose(
     alloc: Global,
     pieces: &[Piece],
@@ -149,8 +170,9 @@ fn choose(
 }
 
 /// Breaks a paragraph's list into lines: of the first pass that has a chain, the chain of least demerits, and of equals the
-/// greatest (TeX: The Program, parts 38 and 39). The list ends with a penalty that forces a break, as
-/// `is_ended` tests, and there is a shape.
+/// greatest (TeX: The Program, parts 38 and 39). Where \looseness isn't 0, it is the best one of those with as many lines more or
+/// fewer, or as nearly so many as there are, and further passes are made as long as there aren't so many (sections 873 to 875). The
+/// list ends with a penalty that forces a break, as `is_ended` tests, and there is a shape.
 ///
 /// Its errors are glue in the list, or at the ends of its lines, that shrinks infinitely, which is looked for before any memory
 /// is taken, and want of memory.
@@ -175,8 +197,9 @@ pub fn breaks(
     Ok(choose(alloc, list, sums, starts, shape.as_slice(), params)?)
 }
 
-/// The breaks of the first pass alone, as `breaks` answers them; None where this pass isn't made, or has no chain, so that words
-/// are to be hyphenated for the others (TeX: The Program, section 863). The list ends as for `breaks`, and there is a shape.
+/// The breaks of the first pass alone, as `breaks` answers them; None where this pass isn't made, or doesn't give the answer, so
+/// that words are to be hyphenated for the others (TeX: The Program, section 863). The list ends as for `breaks`, and there is a
+/// shape.
 ///
 /// Its errors are those of `breaks`.
 pub fn first_breaks(

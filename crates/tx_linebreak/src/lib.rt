@@ -3,12 +3,13 @@
 //! nodes.
 //!
 //! `specs/` says what is chosen, as sets and chains: legal breaks, lines and how they fit, candidates and how long they live,
-//! all chains, and the one that is chosen. `breaks` finds it. Proved: its answer is that chain, of all chains of the first pass
-//! that has one; it is enough to keep the best chain of each candidate. Only tested: that the definitions are TeX's, on
-//! paragraphs that Knuth's program breaks at the same places.
+//! all chains, and the one that is chosen, by \looseness too. `breaks` finds it. Proved: its answer is that chain, of all chains of
+//! the first pass that has one as long as is asked for; it is enough to keep the best chain of each candidate. Only tested: that
+//! the definitions are TeX's, on paragraphs that Knuth's program breaks at the same places.
 //!
 //! Modules in reading order: `piece`, `params`, `answer`, `error`; `legal`, `totals`, `starts`, `fit`, `demerits`, `attempt`;
-//! `line`, `link`, `chains`, `offers`; `trial`, `trials`, `reach`, `advance`; `best`, `told`, `endless`, `ended`, `choice`; `law`.
+//! `line`, `link`, `chains`, `offers`; `trial`, `trials`, `reach`, `advance`; `found`, `loose`, `best`, `told`, `endless`, `ended`,
+//! `choice`; `law`.
 #![tactic(auto)]
 
 mod advance;
@@ -22,10 +23,12 @@ mod ended;
 mod endless;
 mod error;
 mod fit;
+mod found;
 mod law;
 mod legal;
 mod line;
 mod link;
+mod loose;
 mod offers;
 mod params;
 mod piece;

@@ -23,6 +23,7 @@ pub struct BreakParams {
     pub adj_demerits: i32,
     pub double_hyphen_demerits: i32,
     pub final_hyphen_demerits: i32,
+    pub looseness: i32,
     pub left_skip: Glue,
     pub right_skip: Glue,
 }

@@ -11,6 +11,7 @@ use crate::attempt::{Task, is_tolerable};
 use crate::chains::Chains;
 use crate::line::Line;
 use crate::link::Link;
+use crate::loose::asks_nothing;
 use crate::offers::offer;
 use crate::trial::Trial;
 use std::alloc::AllocError;
@@ -51,12 +52,18 @@ impl Task<'_> {
         line
     }
 
-    /// The number of the last line of special shape.
+    /// The number of the last special line: to what may come behind it, it makes no difference how many lines there are.
+    #[tactic(auto, unfolding(crate::specs::Kept::last_special))]
     fn last_special(&self) -> usize
         requires task { IsTask self.now }
         ensures { result ≡ last_special (attempt_of self.now) }
     {
-        self.shape.len() - 1
+        let special = self.shape.len() - 1;
+        if asks_nothing(self.params) {
+            special
+        } else {
+            special.max(self.pieces.len())
+        }
     }
 
     /// The chains that are made of those that are tried, with their lines to a break with this penalty: of those that go on
@@ -79,13 +86,14 @@ impl Task<'_> {
     {
         let stuck = self.is_stuck(trials, penalty);
         let tolerance = self.tolerance();
+        let special = self.last_special();
         links.clear();
         for trial in trials {
             let taken = stuck | is_tolerable(tolerance, trial.fit);
             if taken {
                 let line = self.line(trial, place, penalty, stuck);
                 let link = link(trial, line);
-                offer(chains, links, link, self.last_special())?;
+                offer(chains, links, link, special)?;
             }
         }
         Ok(())

@@ -1,10 +1,11 @@
 //! What is told of a chain.
-ghost use Rattle.std.specs.Prelude.{◌≡◌, ◌<◌, length, map, filter, IfOk};
-ghost use Rattle.tx_linebreak.specs.Chosen.{answer_of, pass_number};
+ghost use Rattle.std.specs.Prelude.{pos, ◌≡◌, ◌<◌, ◌-ℤ◌, length, map, filter, IfOk};
+ghost use Rattle.tx_linebreak.specs.Chosen.{answer_of, line_count, pass_number};
 ghost use Rattle.tx_linebreak.specs.Shared.{chain_at};
 
 use crate::answer::{Chosen, Places};
 use crate::chains::Chains;
+use crate::found::Found;
 use crate::params::Pass;
 use std::alloc::{AllocError, Global};
 
@@ -44,23 +45,32 @@ fn backwards(
     Ok((places, forced))
 }
 
-/// What is told of a chain that a pass found.
+/// How many lines more than so many there are.
+fn more_lines(best: usize, lines: usize) -> i128
+    ensures { result ≡ pos lines -ℤ pos best }
+{
+    lines as i128 - best as i128
+}
+
+/// What is told of the chain that a pass found.
 pub(crate) fn told(
     alloc: Global,
     chains: &Chains,
-    chain: usize,
+    found: &Found,
     pass: Pass,
 ) -> Result<Chosen, AllocError>
-    requires { chain < length chains.now }
-    ensures { IfOk result (λ chosen. chosen ≡ answer_of pass (chain_at chains.now chain)) }
+    requires there { found.now.chain < length chains.now }
+    requires lines { found.now.lines ≡ line_count (chain_at chains.now found.now.chain) }
+    ensures { IfOk result (λ chosen. chosen ≡ answer_of pass found.now.best (chain_at chains.now found.now.chain)) }
 {
-    let (mut places, mut forced) = backwards(alloc, chains, chain)?;
+    let (mut places, mut forced) = backwards(alloc, chains, found.chain)?;
     places.as_mut_slice().reverse();
     forced.as_mut_slice().reverse();
     Ok(Chosen {
         chain: Places::from_vec(places),
-        total: chains.total(chain),
+        total: chains.total(found.chain),
         pass: pass.number(),
         forced: Places::from_vec(forced),
+        looseness: more_lines(found.best, found.lines),
     })
 }

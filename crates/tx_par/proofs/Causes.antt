@@ -6,6 +6,7 @@ use Rattle.tx_linebreak.specs.declared.error.BreakError.TheVariants as breaking
 use Rattle.tx_linebreak.specs.declared.params.LineShape.{LineShape}
 use Rattle.tx_linebreak.specs.declared.piece.Piece.{Piece}
 use Rattle.tx_linebreak.specs.Chosen.{IsAnswer, first_succeeds, has_endless_shrink}
+use Rattle.tx_linebreak.proofs.Unique.{answer-found}
 use Rattle.tx_node.specs.Items.{Item}
 use Rattle.tx_par.specs.declared.error.ParError.{ParError}
 use Rattle.tx_par.specs.declared.error.ParError.TheVariants.{SizeOutOfRange, TooDeep, EndlessShrink, OutOfMemory}
@@ -15,7 +16,6 @@ use Rattle.tx_par.specs.Ended.{ended}
 use Rattle.tx_par.specs.Paragraphs.{IsOutcome, first_lines, if_first, lines_by, lines_by_trial, lines_of, paragraph, shrinks_endlessly}
 use Rattle.tx_par.specs.Pieces.{pieces_of}
 use Rattle.tx_par.specs.Setting.{IsOfLines}
-use Rattle.tx_par.proofs.Unique.{answer-found}
 
 -- where breaks are found, no glue shrinks infinitely
 is_ok_break : Result Chosen BreakError → Bool
@@ -85,7 +85,7 @@ paragraph-from list shape params items pieces chosen items_is pieces_is fin answ
     ∙ ap (λ (its : List Item). lines_by_trial its shape params) items_is
     ∙ sym (ap (λ (b : Bool). cond b (Err EndlessShrink) (lines_by_trial last shape params)) (subst (λ (ps : List Piece). has_endless_shrink ps params.breaking ≡ false) (pieces_is ∙ ap pieces_of items_is) fin))
 
--- the first pass has a chain: its lines are those of the list that was ended
+-- the first pass gives the answer: its lines are those of the list that was ended
 pub first-from : (list : List Item) (shape : List LineShape) (params : ParParams) (items : List Item) (pieces : List Piece) (chosen : Chosen)
     → items ≡ ended params.par_fill_skip list → pieces ≡ pieces_of items → has_endless_shrink pieces params.breaking ≡ false
     → first_succeeds pieces shape params.breaking ≡ true → IsAnswer pieces shape params.breaking chosen
@@ -102,7 +102,7 @@ first-from list shape params items pieces chosen items_is pieces_is fin succeeds
     (ap (λ (b : Bool). cond b (Some (Err EndlessShrink)) (if_first (first_succeeds (pieces_of last) shape params.breaking) (lines_by_trial last shape params))) finite
     ∙ ap (λ (b : Bool). if_first b (lines_by_trial last shape params)) first)
 
--- it has none
+-- it doesn't
 pub not-first : (list : List Item) (shape : List LineShape) (params : ParParams) (items : List Item) (pieces : List Piece)
     → items ≡ ended params.par_fill_skip list → pieces ≡ pieces_of items → has_endless_shrink pieces params.breaking ≡ false
     → first_succeeds pieces shape params.breaking ≡ false → first_lines list shape params ≡ None

@@ -4,6 +4,5 @@ pub mod Kept
 pub mod Firsts
 pub mod Between
 pub mod Ends
-pub mod Unique
 pub mod Causes
 mod Worked

@@ -9,7 +9,7 @@ use Rattle.tx_linebreak.specs.declared.params.LineShape.{LineShape}
 use Rattle.tx_linebreak.specs.Breaks.{penalty_at, start_of}
 use Rattle.tx_linebreak.specs.Lines.{demerits_of, line_fit, line_totals}
 use Rattle.tx_linebreak.specs.Chains.{chains_of, dies_at, ending_at, is_feasible, with_line, with_line_taken}
-use Rattle.tx_linebreak.specs.Chosen.{answer_by_trial, beats}
+use Rattle.tx_linebreak.specs.Chosen.{answer_by_trial, answers, beats, is_preferred}
 use Rattle.tx_node.specs.declared.head.BoxHead.{BoxHead}
 use Rattle.tx_node.specs.declared.head.Change.TheVariants.{Stretch}
 use Rattle.tx_node.specs.declared.head.Direction.TheVariants.{Horizontal}
@@ -50,6 +50,7 @@ initex par_fill_skip = record {
     adj_demerits = pos 0;
     double_hyphen_demerits = pos 0;
     final_hyphen_demerits = pos 0;
+    looseness = pos 0;
     left_skip = no_glue;
     right_skip = no_glue;
   };
@@ -68,7 +69,7 @@ abbrev wide : List LineShape
 wide = record { indent = pos 0; width = pt 90 } ∷ []
 
 abbrev answer_is : List ℕ → ℤ → ℕ → List ℕ → Chosen
-answer_is chain total pass forced = record { chain = chain; total = total; pass = pass; forced = forced }
+answer_is chain total pass forced = record { chain = chain; total = total; pass = pass; forced = forced; looseness = pos 0 }
 
 -- a horizontal box of this width and height
 abbrev head : ℤ → ℤ → Setting → BoxHead
@@ -89,7 +90,7 @@ abbrev bar : Item
 bar = shared (Rule (record { width = Some (pt 40); height = Some (pt 5); depth = Some (pos 0) }))
 
 one-answer : answer_by_trial (pieces_of (ended fil (bar ∷ []))) wide (initex fil).breaking ≡ Some (answer_is (3 ∷ []) (pos 0) 1 [])
-unfolding answer_by_trial beats chains_of ending_at with_line with_line_taken is_feasible dies_at demerits_of line_fit line_totals start_of penalty_at
+unfolding answer_by_trial answers is_preferred beats chains_of ending_at with_line with_line_taken is_feasible dies_at demerits_of line_fit line_totals start_of penalty_at
 one-answer = refl
 
 abbrev one_line : Item
@@ -110,7 +111,7 @@ abbrev by_two : Chosen
 by_two = answer_is (1 ∷ 7 ∷ []) (pos 100000000) 2 []
 
 two-answer : answer_by_trial (pieces_of (ended no_glue three_boxes)) wide (initex no_glue).breaking ≡ Some by_two
-unfolding answer_by_trial beats chains_of ending_at with_line with_line_taken is_feasible dies_at demerits_of line_fit line_totals start_of penalty_at
+unfolding answer_by_trial answers is_preferred beats chains_of ending_at with_line with_line_taken is_feasible dies_at demerits_of line_fit line_totals start_of penalty_at
 two-answer = refl
 
 abbrev first_line : Item
@@ -128,7 +129,7 @@ abbrev by_force : Chosen
 by_force = answer_is (3 ∷ []) (pos 0) 2 (3 ∷ [])
 
 forced-answer : answer_by_trial (pieces_of (ended no_glue (empty_box (pt 100) ∷ []))) wide (initex no_glue).breaking ≡ Some by_force
-unfolding answer_by_trial beats chains_of ending_at with_line with_line_taken is_feasible dies_at demerits_of line_fit line_totals start_of penalty_at
+unfolding answer_by_trial answers is_preferred beats chains_of ending_at with_line with_line_taken is_feasible dies_at demerits_of line_fit line_totals start_of penalty_at
 forced-answer = refl
 
 abbrev forced_line : Item

@@ -104,8 +104,8 @@ abbrev pub paragraph : List Item → List LineShape → ParParams → Result Lin
 paragraph list shape params =
     if shrinks_endlessly list params then Err EndlessShrink else lines_by_trial (ended params.par_fill_skip list) shape params
 
--- what the first pass makes of a list where it is made and has a chain (TeX: The Program, section 863); glue that shrinks infinitely
--- is looked for before
+-- what the first pass makes of a list where it is made and gives the answer (TeX: The Program, section 863); glue that shrinks
+-- infinitely is looked for before
 abbrev pub if_first : Bool → Result Lines ParError → Option (Result Lines ParError)
 if_first succeeds outcome = if succeeds then Some outcome else None
 

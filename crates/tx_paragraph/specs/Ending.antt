@@ -37,7 +37,7 @@ par_error par.EndlessShrink = InfiniteShrink
 par_error par.OutOfMemory = SizeOutOfRange
 
 -- the first pass goes over a list as it stands, behind so much \prevdepth and so many lines that have passed; None where it isn't
--- made, or finds no chain
+-- made, or doesn't give the answer
 unfoldable pub first_of : Table → ℤ → ℕ → List Item → Option (Result Set ParError)
 first_of table depth passed list = first_lines list (shape_of table passed list) (params_of table depth)
 

@@ -6,12 +6,12 @@ use Rattle.tx_linebreak.specs.declared.params.BreakParams.{BreakParams}
 use Rattle.tx_par.specs.declared.params.ParParams.{ParParams}
 use Rattle.tx_prim.specs.declared.dimension.DimensionParameter.TheVariants.{Emergencystretch}
 use Rattle.tx_prim.specs.declared.glue.GlueParameter.TheVariants.{Leftskip, Parfillskip, Rightskip}
-use Rattle.tx_prim.specs.declared.integer.IntegerParameter.TheVariants.{Adjdemerits, Brokenpenalty, Clubpenalty, Doublehyphendemerits, Exhyphenpenalty, Finalhyphendemerits, Hyphenpenalty, Interlinepenalty, Linepenalty, Pretolerance, Tolerance, Widowpenalty}
+use Rattle.tx_prim.specs.declared.integer.IntegerParameter.TheVariants.{Adjdemerits, Brokenpenalty, Clubpenalty, Doublehyphendemerits, Exhyphenpenalty, Finalhyphendemerits, Hyphenpenalty, Interlinepenalty, Linepenalty, Looseness, Pretolerance, Tolerance, Widowpenalty}
 use Rattle.tx_seen.specs.declared.place.Place.TheVariants.{Dimension, Glue, Integer}
 use Rattle.tx_box.specs.Building.{across}
 use Rattle.tx_box.specs.Placing.{leading_of}
 
--- how its lines are broken; \looseness is set and read by documents, but no paragraph is longer or shorter for it
+-- how its lines are broken
 abbrev pub breaking_of : Table → BreakParams
 breaking_of table = record {
   pretolerance = number_at table (Integer Pretolerance);
@@ -23,6 +23,7 @@ breaking_of table = record {
   adj_demerits = number_at table (Integer Adjdemerits);
   double_hyphen_demerits = number_at table (Integer Doublehyphendemerits);
   final_hyphen_demerits = number_at table (Integer Finalhyphendemerits);
+  looseness = number_at table (Integer Looseness);
   left_skip = glue_at table (Glue Leftskip);
   right_skip = glue_at table (Glue Rightskip);
 }

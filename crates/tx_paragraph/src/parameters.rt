@@ -22,6 +22,7 @@ fn breaking_of(table: &Eqtb) -> BreakParams
         adj_demerits: table.integer(IntegerParameter::Adjdemerits),
         double_hyphen_demerits: table.integer(IntegerParameter::Doublehyphendemerits),
         final_hyphen_demerits: table.integer(IntegerParameter::Finalhyphendemerits),
+        looseness: table.integer(IntegerParameter::Looseness),
         left_skip: table.glue_parameter(GlueParameter::Leftskip),
         right_skip: table.glue_parameter(GlueParameter::Rightskip),
     }

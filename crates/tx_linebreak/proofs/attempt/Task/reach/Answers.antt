@@ -38,7 +38,7 @@ loop-trial-preserved c =
     elim c.if-taken.branch [
       | then-taken+in_ok-offer w ↦
           reaching-takes a c.args.place (to_z w32 (of_z w32 c.args.penalty)) _ c.is_stuck-stuck.result c.is_tolerable.result _ c.args.chains.now c.loop-trial.links.items c.if-taken.links.items c.args.trials.now c.loop-trial.trial-index _ w.line-line.result w.link-link.result c.requires.trials c.loop-trial-test.true tolerable w.if-taken.true refl w.line-line.ensures.value (link-chain c.args.chains.now (get_or c.args.trials.now c.loop-trial.trial-index _) w.line-line.result w.link-link.result w.link-link.ensures.line w.link-link.ensures.before)
-          (ap (λ links. map (chain_of c.args.chains.now) links.items) w.links-is ∙ w.in_ok-offer.ensures.offered ∙ ap (λ special. offered special (map (chain_of c.args.chains.now) c.loop-trial.links.items) (chain_of c.args.chains.now w.link-link.result)) w.last_special.ensures)
+          (ap (λ links. map (chain_of c.args.chains.now) links.items) w.links-is ∙ w.in_ok-offer.ensures.offered ∙ ap (λ special. offered special (map (chain_of c.args.chains.now) c.loop-trial.links.items) (chain_of c.args.chains.now w.link-link.result)) c.last_special-special.ensures)
           (subst (λ links. All (IsMade c.args.chains.now) links.items) (sym w.links-is) w.in_ok-offer.ensures.made)
           (subst (λ links. All (λ link. link.line.place ≡ c.args.place) links.items) (sym w.links-is) (subst (λ place. All (λ link. link.line.place ≡ place) w.offer.new.links.items) (ap (λ line. line.place) w.link-link.ensures.line ∙ w.line-line.ensures.place) w.in_ok-offer.ensures.placed))
           c.loop-trial.invariant

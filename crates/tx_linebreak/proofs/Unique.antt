@@ -1,5 +1,5 @@
 -- There is but one chain to choose: two chains of a pass that don't beat each other have the same steps, and those with the same
--- steps are the same.
+-- steps are the same. So a pass has one best chain, and one that is asked for.
 use Rattle.std.proofs.Common.{◌≡◌, ℕ, zero, suc, ◌-◌, ℤ, Bool, true, false, cond, Option, Some, None, List, [], ◌∷◌, map, length, drop, ◌⊎◌, inl, inr, refl, sym, ap, subst, ◌∙◌, arith}
 use Rattle.std.specs.Prelude.{filter, ◌&&◌, ◌||◌, ◌==◌, nat_lt, int_lt, IfSome}
 use Rattle.std.specs.Ordering.{int_eq}
@@ -13,7 +13,10 @@ use Rattle.tx_linebreak.specs.declared.piece.Piece.{Piece}
 use Rattle.tx_linebreak.specs.Breaks.{penalty_at}
 use Rattle.tx_linebreak.specs.Lines.{Attempt, line_fit}
 use Rattle.tx_linebreak.specs.Chains.{Chain, candidate_of, chains_before, chains_of, ending_at, ending_by, from_living, is_feasible, is_stuck, lives_at, next_place, with_line, with_line_taken}
-use Rattle.tx_linebreak.specs.Chosen.{IsAnswer, IsBest, answer_by_trial, answer_from, answer_in, attempt, beats, best_of, better_of, is_below, steps_of, total}
+use Rattle.tx_linebreak.specs.declared.found.Found.{Found}
+use Rattle.tx_linebreak.specs.Chosen.{IsAnswer, IsAsked, IsBest, answer_by_trial, answer_from, answer_in, answer_of, answers, answers_by, asked_in, asked_of, attempt, beats, best_of, better_of, is_below, is_enough, is_preferred, line_count, lines_asked, steps_of, total}
+use Rattle.tx_linebreak.specs.Shared.{IsFound, chain_at}
+use Rattle.tx_linebreak.proofs.Asking.{IsAskedIn, asked-is_in, unbeaten-so}
 use Rattle.tx_linebreak.proofs.Kept.{ends-chains_before}
 use Rattle.tx_linebreak.proofs.Members.{Member, contains-member, member-cases, member-contains, member-of_filter, member-of_map}
 use Rattle.tx_linebreak.proofs.Reaching.{place-by}
@@ -178,7 +181,7 @@ found-is x (chain ∷ chains) (inr h) none others =
     by true e = refl
     by false e = ap Some (others chain (inl refl) e)
 
-best-found : (a : Attempt) (chain : Chain) → IsBest a chain → best_of (chains_of a) ≡ Some chain
+pub best-found : (a : Attempt) (chain : Chain) → IsBest a chain → best_of (chains_of a) ≡ Some chain
 best-found a chain best = found-is chain (chains_of a) there none others
   where
     there : Member (chains_of a) chain
@@ -190,12 +193,63 @@ best-found a chain best = found-is chain (chains_of a) there none others
     others : (y : Chain) → Member (chains_of a) y → beats chain y ≡ false → y ≡ chain
     others y h e = known-all a y chain h there (same-steps y chain (none y h) e)
 
+-- ---- the one that is asked for
+
+-- it is the one that is found by looking at every chain
+pub asked-found : (a : Attempt) (best chain : Chain) → IsBest a best → IsAsked a best chain → asked_in a best ≡ chain
+asked-found a best chain b k = known-all a found chain there one-there (same-steps found chain over under)
+  where
+    asked : ℕ
+    asked = lines_asked a.params.looseness (line_count best)
+
+    found : Chain
+    found = asked_of asked best (chains_of a)
+
+    is_in : IsAskedIn asked best (chains_of a) found
+    is_in = asked-is_in asked best (chains_of a)
+
+    there : Member (chains_of a) found
+    there = elim is_in.there [
+      | inl e ↦ subst (λ (x : Chain). Member (chains_of a) x) e (member-contains (chains_of a) best b.is_one)
+      | inr h ↦ h
+    ]
+
+    one-there : Member (chains_of a) chain
+    one-there = member-contains (chains_of a) chain k.is_one
+
+    not-found : is_preferred asked found chain ≡ false
+    not-found = k.unpreferred found (contains-member (chains_of a) found there)
+
+    not-one : is_preferred asked chain found ≡ false
+    not-one = is_in.unpreferred chain one-there
+
+    over : beats found chain ≡ false
+    over = unbeaten-so (line_count best) asked found chain is_in.between k.between not-found not-one
+
+    under : beats chain found ≡ false
+    under = unbeaten-so (line_count best) asked chain found k.between is_in.between not-one not-found
+
+-- a pass gives the answer where the lines of the chain that it finds are enough
+answers-by : (a : Attempt) (best chain : Chain) → IsBest a best → IsAsked a best chain → answers a ≡ is_enough a (line_count best) (line_count chain)
+unfolding answers
+answers-by a best chain b k =
+    ap (answers_by a) (best-found a best b) ∙ ap (λ (x : Chain). is_enough a (line_count best) (line_count x)) (asked-found a best chain b k)
+
+pub answers-found : (a : Attempt) (chains : List Chain) (found : Found) → IsFound a chains found → answers a ≡ is_enough a found.best found.lines
+answers-found a chains found f =
+    answers-by a f.best (chain_at chains found.chain) f.is_best f.is_asked
+    ∙ (λ i. is_enough a (sym f.best_has i) (sym f.lines_are i))
+
+pub answers-none : (a : Attempt) → chains_of a ≡ [] → answers a ≡ false
+unfolding answers
+answers-none a none = ap (λ (list : List Chain). answers_by a (best_of list)) none
+
 -- the answer is the one that is found by looking at every chain
 pub answer-found : (pieces : List Piece) (shape : List LineShape) (params : BreakParams) (answer : Chosen) → IsAnswer pieces shape params answer → answer_by_trial pieces shape params ≡ Some answer
 unfolding answer_by_trial
 answer-found pieces shape params answer h =
-    let pass : Pass = h.0 in
-    let chain : Chain = h.1 in
-    ap (answer_from pieces shape params) h.2.is_first
-    ∙ ap (answer_in pass) (best-found (attempt pieces shape params pass) chain h.2.is_best)
-    ∙ ap Some (sym h.3)
+    let a : Attempt = attempt pieces shape params h.pass in
+    ap (answer_from pieces shape params) h.is_chosen.is_first
+    ∙ ap (answer_in a) (best-found a h.best h.is_chosen.is_best)
+    ∙ ap (λ (x : Chain). Some (answer_of h.pass (line_count h.best) x)) (asked-found a h.best h.chain h.is_chosen.is_best h.is_chosen.is_asked)
+    ∙ ap Some (sym h.answer_is)
