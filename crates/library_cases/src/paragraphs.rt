@@ -31,7 +31,8 @@ impl From<AllocError> for Fault {
 /// empty one, and N pieces of no-break text, `hA,B,N` one that hyphenation made, `(N` and `)N` the ends of mathematics. All
 /// sizes are in points.
 ///
-/// The answer is the places of the breaks, the demerits, the pass, and the places to which no line fitted.
+/// The answer is the places of the breaks, the demerits, the pass, the places to which no line fitted, and how many lines more than
+/// the best chain it has, where that isn't 0.
 pub fn write_answer(alloc: Global, text: &mut String, rest: &str) -> Result<(), AllocError> {
     match broken(alloc, rest) {
         Ok(chosen) => write_chosen(text, &chosen),
@@ -76,6 +77,7 @@ fn initex() -> BreakParams {
         adj_demerits: 0,
         double_hyphen_demerits: 0,
         final_hyphen_demerits: 0,
+        looseness: 0,
         left_skip: Glue::zero(),
         right_skip: Glue::zero(),
     }
@@ -100,6 +102,7 @@ fn set(params: &mut BreakParams, name: &str, value: &str) -> Option<()> {
         "adjdemerits" => params.adj_demerits = value.parse().ok()?,
         "doublehyphendemerits" => params.double_hyphen_demerits = value.parse().ok()?,
         "finalhyphendemerits" => params.final_hyphen_demerits = value.parse().ok()?,
+        "looseness" => params.looseness = value.parse().ok()?,
         "leftskip" => params.left_skip = glue_of(value)?,
         "rightskip" => params.right_skip = glue_of(value)?,
         _ => return None,
@@ -184,7 +187,7 @@ fn dimension(text: &str) -> Option<i64>
     }
 }
 
-/// What was chosen, as `1 7 total 900 pass 2`, and ` forced 7` for each line that doesn't fit.
+/// What was chosen, as `1 7 total 900 pass 2`, ` forced 7` for each line that doesn't fit, and ` looseness 1`.
 fn write_chosen(text: &mut String, chosen: &Chosen) -> Result<(), AllocError> {
     let (total, pass) = (chosen.total, chosen.pass);
     for place in chosen.chain.as_slice() {
@@ -193,6 +196,10 @@ fn write_chosen(text: &mut String, chosen: &Chosen) -> Result<(), AllocError> {
     write!(text, "total {total} pass {pass}")?;
     for place in chosen.forced.as_slice() {
         write!(text, " forced {place}")?;
+    }
+    let looseness = chosen.looseness;
+    if looseness != 0 {
+        write!(text, " looseness {looseness}")?;
     }
     Ok(())
 }
