@@ -5,3 +5,4 @@ mod Steps
 pub mod Once
 pub mod Within
 pub mod Fronts
+mod Seaming

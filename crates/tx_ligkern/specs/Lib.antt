@@ -3,3 +3,4 @@ pub mod Composing
 pub mod Steps
 pub mod Composed
 pub mod Pairs
+pub mod Seams
