@@ -13,7 +13,7 @@ pub struct Seamed {
 
 impl Seamed {
     /// What the word becomes, alone.
-    pub(crate) fn into_items(self) -> Items
+    pub fn into_items(self) -> Items
         ensures { result ≡ self.items }
     {
         let Seamed { items, seams: _ } = self;

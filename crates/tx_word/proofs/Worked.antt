@@ -1,6 +1,7 @@
 -- The definitions at spaces, factors and words that Knuth's TeX sets so, as \showbox shows them, in the font t at its design size
 -- where nothing else is said: a space of 2.5pt plus 1.25pt minus 0.625pt, a kern of 0.625pt between two of its characters a.
 use Rattle.std.proofs.Common.{◌≡◌, ℕ, ℤ, pos, negsuc, false, true, List, [], ◌∷◌, Some, None, refl, arith}
+use Rattle.std.specs.Prelude.{Option, ◌==◌, if◌then◌else◌}
 use Rattle.std.specs.List.{flat_map}
 use Rattle.tx_ligkern.specs.declared.item.LigItem.TheVariants as lig
 use Rattle.tx_ligkern.specs.Composing.{Becomes, Last, Apart, Kerned}
@@ -17,8 +18,9 @@ use Rattle.tx_tfm.specs.Scaling.{scaled}
 use Rattle.tx_word.specs.declared.piece.WordParams.{WordParams}
 use Rattle.tx_word.specs.Collecting.{Collecting, breaking, collected, ended, without_word}
 use Rattle.tx_word.specs.Composed.{word_list}
-use Rattle.tx_word.specs.declared.seam.Seam.{Seam}
-use Rattle.tx_word.specs.Divisions.{Division, Whole, before_break, divided, hyphen_code}
+use Rattle.tx_ligkern.specs.declared.seam.Seam.{Seam}
+use Rattle.tx_word.specs.declared.division.Division.{Division}
+use Rattle.tx_word.specs.Divisions.{Parted, Whole, at_seam, before_break, divided, divisions_of, first_seam, hyphen_code, last_seam, parted}
 use Rattle.tx_word.specs.Factors.{factor_behind}
 use Rattle.tx_word.specs.Points.{hyphen_item, hyphen_lacking}
 use Rattle.tx_word.specs.Spaces.{at_factor, interword_glue}
@@ -196,12 +198,56 @@ lacks-none = refl
 
 -- aa with a place between its characters, where b is the hyphen: the kern is the no-break text
 abbrev seam : Seam
-seam = record { item = 1; replaced = 1 }
+seam = record { place = 1; item = 1; replaced = 1 }
 
-divided-aa : divided (before_break fonts 1 98) (seam ∷ []) 0 (lig.Char 97 ∷ lig.Kern (pos 40960) ∷ lig.Char 97 ∷ [])
-    ≡ Whole (lig.Char 97) ∷ Division (lig.Char 98 ∷ []) 1 ∷ Whole (lig.Kern (pos 40960)) ∷ Whole (lig.Char 97) ∷ []
+abbrev seams_aa : ℕ → Option Seam
+seams_aa place = if place == 0 then Some first_seam else if place == 1 then Some seam else None
+
+division-aa : divisions_of seams_aa (last_seam 2 3) (1 ∷ []) ≡ record { from = 1; place = 1; to = 1; item = 1; replaced = 1 } ∷ []
+division-aa = refl
+
+divided-aa : divided (parted fonts 1 (97 ∷ 97 ∷ []) true true 98) (at_seam seam ∷ []) 0 (lig.Char 97 ∷ lig.Kern (pos 40960) ∷ lig.Char 97 ∷ [])
+    ≡ Whole (lig.Char 97) ∷ Parted (lig.Char 98 ∷ []) [] 1 ∷ Whole (lig.Kern (pos 40960)) ∷ Whole (lig.Char 97) ∷ []
 unfolding word_at
 divided-aa = refl
+
+-- bab, where ab becomes a ligature b, with a place inside it: there is a seam before it, and the word's end behind it
+abbrev seams_bab : ℕ → Option Seam
+seams_bab place = if place == 0 then Some first_seam else if place == 1 then Some (record { place = 1; item = 1; replaced = 0 }) else None
+
+abbrev inside_bab : Division
+inside_bab = record { from = 1; place = 2; to = 3; item = 1; replaced = 1 }
+
+division-bab : divisions_of seams_bab (last_seam 3 2) (2 ∷ []) ≡ inside_bab ∷ []
+division-bab = refl
+
+divided-bab : divided (λ (d : Division). Parted (lig.Char 97 ∷ lig.Char 97 ∷ []) (lig.Char 98 ∷ []) d.replaced) (inside_bab ∷ []) 0 (lig.Char 98 ∷ lig.Lig 98 (97 ∷ 98 ∷ []) ∷ [])
+    ≡ Whole (lig.Char 98) ∷ Parted (lig.Char 97 ∷ lig.Char 97 ∷ []) (lig.Char 98 ∷ []) 1 ∷ Whole (lig.Lig 98 (97 ∷ 98 ∷ [])) ∷ []
+divided-bab = refl
+
+-- with a place at the seam too, that one comes first
+divisions-bab : divisions_of seams_bab (last_seam 3 2) (1 ∷ 2 ∷ []) ≡ record { from = 1; place = 1; to = 1; item = 1; replaced = 0 } ∷ inside_bab ∷ []
+divisions-bab = refl
+
+-- of three places in one ligature of four characters, in whatever order, the least counts
+abbrev seams_none : ℕ → Option Seam
+seams_none place = if place == 0 then Some first_seam else None
+
+least-of-three : divisions_of seams_none (last_seam 4 1) (1 ∷ 2 ∷ 3 ∷ []) ≡ record { from = 0; place = 1; to = 4; item = 0; replaced = 1 } ∷ []
+least-of-three = refl
+
+least-of-two : divisions_of seams_none (last_seam 4 1) (3 ∷ 2 ∷ []) ≡ record { from = 0; place = 2; to = 4; item = 0; replaced = 1 } ∷ []
+least-of-two = refl
+
+-- a kern behind the seam before it isn't part of the no-break text, and more than 255 items are none
+abbrev seams_kerned : ℕ → Option Seam
+seams_kerned place = if place == 0 then Some first_seam else if place == 1 then Some seam else if place == 3 then Some (record { place = 3; item = 4; replaced = 1 }) else None
+
+behind-kern : divisions_of seams_kerned (last_seam 4 6) (2 ∷ []) ≡ record { from = 1; place = 2; to = 3; item = 2; replaced = 2 } ∷ []
+behind-kern = refl
+
+too-many : divisions_of seams_none (last_seam 2 256) (1 ∷ []) ≡ []
+too-many = refl
 
 -- a hyphen that the font lacks leaves the text before the break empty
 lacking : before_break fonts 1 45 ≡ []

@@ -5,6 +5,7 @@ pub mod Words
 pub mod Composed
 pub mod Lists
 pub mod Divisions
+pub mod Dividing
 pub mod Points
 pub mod Collecting
 pub mod Italics

@@ -7,11 +7,14 @@
 //! size of some space's glue is no dimension; a word that is collected grows and ends as its definition says, all its characters
 //! being in its font. Only tested: that the rules are TeX's, on documents that his program sets alike.
 //!
-//! Read `piece`, `error`, `asked`, `factor`, `space`, `word`, `seam`, `divide`, `typeset`, `point`, `open`, `italic`.
+//! Read `piece`, `error`, `asked`, `factor`, `space`, `word`, `division`, `dividing`, `seam`, `divide`, `typeset`, `point`, `open`,
+//! `italic`.
 #![tactic(auto)]
 
 mod asked;
 mod divide;
+mod dividing;
+mod division;
 mod error;
 mod factor;
 mod italic;

@@ -6,10 +6,11 @@ ghost use Rattle.tx_tfm.specs.Fonts.{font_at, has_character};
 ghost use Rattle.tx_tfm.specs.Sound.{IsSound};
 ghost use Rattle.tx_ligkern.specs.Pairs.{is_ligature, kern_in};
 ghost use Rattle.tx_word.specs.Composed.{composed_in, left_items, word_list, IsPaired};
+ghost use Rattle.tx_word.specs.Dividing.{IsNoted};
 ghost use Rattle.tx_word.specs.Words as spec;
 
 use std::alloc::{AllocError, Global};
-use tx_ligkern::{Items, LigItem, Met, compose, pair_meets};
+use tx_ligkern::{Items, LigItem, Met, Seamed, Seams, compose, compose_with_seams, pair_meets};
 use tx_node::{Character, KernKind, Ligature, Node, Nodes, Plain, Shared};
 use tx_tfm::{Fonts, NamedFont};
 
@@ -148,6 +149,29 @@ pub(crate) fn composed(
     match fonts.get(font) {
         None => Ok(Items::new(alloc)),
         Some(named) => compose(alloc, &named.font, chars, left, right),
+    }
+}
+
+/// The same, with seams of the word.
+pub(crate) fn composed_with_seams(
+    alloc: Global,
+    fonts: &Fonts,
+    font: u8,
+    chars: &[u8],
+    left: bool,
+    right: bool,
+) -> Result<Seamed, AllocError>
+    requires { All (λ c. has_character fonts.now font c ≡ true) chars.now }
+    ensures made { IfOk result (λ made. spec.Composed (font_at fonts.now font) chars.now left right made.items) }
+    ensures value { IfOk result (λ made. made.items ≡ composed_in (font_at fonts.now font) chars.now left right) }
+    ensures noted { IfOk result (λ made. All (IsNoted fonts.now font chars.now left right made.items) made.seams) }
+{
+    match fonts.get(font) {
+        None => Ok(Seamed {
+            items: Items::new(alloc),
+            seams: Seams::new(alloc),
+        }),
+        Some(named) => compose_with_seams(alloc, &named.font, chars, left, right),
     }
 }
 
