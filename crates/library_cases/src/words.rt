@@ -4,7 +4,7 @@ use std::alloc::{AllocError, Global};
 use std::mem;
 use tx_bytes::Bytes;
 use tx_cases::{answered, first_word, malformed};
-use tx_node::{Character, Discretionary, Node, Plain, Shared};
+use tx_node::{Character, Discretionary, Ligature, Node, Plain, Shared};
 use tx_tfm::{Font, Fonts, NamedFont};
 use tx_word::{Piece, Places, WordError, WordParams, are_pieces, factor_behind, nodes};
 
@@ -158,15 +158,33 @@ fn write_discretionary(text: &mut String, item: &Discretionary) -> Result<(), Al
     text.push(']')
 }
 
-/// Writes the characters of a text of a discretionary by their codes.
+/// Writes a text of a discretionary: its characters by their codes, each ligature with the characters in whose stead it stands, as
+/// `z(ax)`, and its kerns as `+`.
 fn write_text(text: &mut String, list: &[Node]) -> Result<(), AllocError> {
     for node in list {
         match node {
             Node::Plain(Plain::Character(character)) => text.push(char::from(character.code))?,
+            Node::Plain(Plain::Kern(_, _)) => text.push('+')?,
+            Node::Shared(Shared::Ligature(ligature)) => write_ligature(text, ligature)?,
             _ => text.push('?')?,
         }
     }
     Ok(())
+}
+
+/// Writes a ligature by its code, and the characters in whose stead it stands.
+fn write_ligature(text: &mut String, ligature: &Ligature) -> Result<(), AllocError> {
+    text.push(char::from(ligature.character.code))?;
+    write_from(text, ligature)
+}
+
+/// Writes the characters in whose stead a ligature stands.
+fn write_from(text: &mut String, ligature: &Ligature) -> Result<(), AllocError> {
+    text.push('(')?;
+    for code in ligature.from.as_slice() {
+        text.push(char::from(*code))?;
+    }
+    text.push(')')
 }
 
 /// Writes a node behind those before it.
@@ -199,11 +217,7 @@ fn write_shared(text: &mut String, item: &Shared) -> Result<(), AllocError> {
     match item {
         Shared::Ligature(ligature) => {
             write_character(text, 'l', ligature.character)?;
-            text.push('(')?;
-            for code in ligature.from.as_slice() {
-                text.push(char::from(*code))?;
-            }
-            text.push(')')
+            write_from(text, ligature)
         }
         Shared::Rule(_) | Shared::Leaders(_) | Shared::Special(_) | Shared::Mark(_) => {
             text.push_str("other")
