@@ -1,8 +1,8 @@
 """Line breaking by its rules, read once more: the breaks of a paragraph with the least demerits, for check-paragraphs and check-english.
 
 A list is taken as Knuth's TeX shows it by \\showlists, where the paragraph ends; the parameters are those of a message beside it, and
-the list with its words hyphenated is what stands in the one endless line that the paragraph is ended as. Of that, a place within a
-ligature is none. Of chains of breaks with equal demerits the one wins whose places, line numbers and classes are greatest, the last
+the list with its words hyphenated is what stands in the one endless line that the paragraph is ended as. Of that, a kern at a place is
+the no-break text. Of chains of breaks with equal demerits the one wins whose places, line numbers and classes are greatest, the last
 line first; and where no line fits in the last pass, the lines of all candidates that die there are taken, without demerits.
 """
 import re
@@ -130,8 +130,8 @@ def divided(item, whole):
     return None
 
 
-def seams_only(items, given):
-    """A hyphenated list, in which places within ligatures are none and a kern at a place is the text of its discretionary; the
+def parted_at_kerns(items, given):
+    """A hyphenated list, in which a kern at a place is the text of its discretionary; those at places within ligatures and the
     discretionaries of the list that was given stay as they are."""
     texts = [(it.before, it.behind) for it in given if it.kind == "discretionary" and it.replaced]
     made, at = [], 0
@@ -146,7 +146,7 @@ def seams_only(items, given):
         else:
             whole = items[at:at + item.replaced]
             at += item.replaced
-            made += divided(item, whole) or whole
+            made += divided(item, whole) or [item, *whole]
     return made
 
 
@@ -160,7 +160,7 @@ def paragraphs_of(log, widths):
             # (without its box, and without the end that the list gets)
             knuths = items_of([it[1:] for it in line.split("\n")[2:-3]], widths)
             knuths += [items[-1]] if items[-1].kind == "glue" else []
-            found.append((parameters(told), items, seams_only(knuths, items), knuths))
+            found.append((parameters(told), items, parted_at_kerns(knuths, items), knuths))
     return found
 
 

@@ -86,7 +86,7 @@ def why_others(paragraphs, lines):
     """For what Knuth's TeX may set these lines, where the rules tell others; nothing where it may not."""
     as_knuth = [(params, items, hyphenated, hyphenated) for params, items, _, hyphenated in paragraphs]
     if lines_by_rules(as_knuth) == lines:
-        return "places in ligatures"
+        return "texts at hyphens"
     others = set()
     for params, items, hyphenated, _ in paragraphs + as_knuth:
         _, places, total, forced = breaking.breaks(items, hyphenated, params)
