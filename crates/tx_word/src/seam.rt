@@ -148,9 +148,7 @@ fn at_seam(seam: Seam) -> Division
 fn is_least(places: &[usize], from: usize, place: usize) -> bool
     ensures { result ≡ spec.is_least places.now from place }
 {
-    places
-        .iter()
-        .all(|other| *other <= from || place <= *other)
+    places.iter().all(|other| *other <= from || place <= *other)
 }
 
 /// The division at a place between two seams, None where more items stand between these than a no-break text can have.

@@ -1,7 +1,8 @@
 use Rattle.std.proofs.Common.{◌+◌, ◌++◌, drop, sym, ap, ◌∙◌}
 use Rattle.std.specs.List.{filter_map}
+use Rattle.std.proofs.lemmas.List.Elements.{All-get_or}
 use Rattle.tx_word.specs.Dividing.{last_in, seam_in}
-use Rattle.tx_word.specs.Divisions.{division_at}
+use Rattle.tx_word.specs.Divisions.{IsBetween, division_at}
 use Rattle.tx_word.proofs.Divided.{division-not, division-more, divisions-all}
 use Rattle.tx_word.proofs.dividing.Dividing.divisions.Goals as goal
 use Rattle.tx_word.proofs.dividing.Dividing.divisions.Goals.{in-None, in-Some+in_ok-push-in-Some}
@@ -10,6 +11,11 @@ pub returns : goal.returns
 returns c =
     let w = c.args.self.now in
     divisions-all (division_at (seam_in w) (last_in w) w.places.now) w.places.now c.loop-place.place-index c.loop-place.divisions _ c.loop-place-test.false c.loop-place.invariant
+
+pub division_at-requires-clause-within : goal.division_at-requires-clause-within
+division_at-requires-clause-within c =
+    let w = c.args.self.now in
+    (All-get_or (IsBetween w.chars.now) w.places.now c.loop-place.place-index _ c.loop-place-test.true c.requires.between).1
 
 pub loop-place-preserved : goal.loop-place-preserved
 loop-place-preserved c =

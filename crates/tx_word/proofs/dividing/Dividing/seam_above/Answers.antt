@@ -13,9 +13,10 @@ loop-at-init c =
 pub loop-at-preserved : goal.loop-at-preserved
 loop-at-preserved c =
     let w = c.args.self.now in
-    let below : c.loop-at.at < length w.chars.now = omega arith in
-    (omega (arith, below),
-    sym (from-more (seam_in w) (last_in w) c.loop-at.at (length w.chars.now) below (sym c.in_ok-found.ensures.value ∙ c.in_default-found.is)) ∙ c.loop-at.invariant.1)
+    let below : c.loop-at.at < length w.chars.now = omega arith in (
+      omega (arith, below),
+      sym (from-more (seam_in w) (last_in w) c.loop-at.at (length w.chars.now) below (sym c.in_ok-found.ensures.value ∙ c.in_default-found.is)) ∙ c.loop-at.invariant.1,
+    )
 
 pub returns-in-Some-found : goal.returns-in-Some-found
 returns-in-Some-found c =

@@ -1,4 +1,4 @@
-use Rattle.std.proofs.Common.{◌≡◌, ◌≤◌, ◌∙◌, Option, length, sym, ap, subst, arith}
+use Rattle.std.proofs.Common.{◌≡◌, ◌≤◌, ◌∙◌, Option, length, refl, sym, ap, subst, arith}
 use Rattle.std.specs.Prelude.{IfSome}
 use Rattle.tx_ligkern.specs.declared.seam.Seam.{Seam}
 use Rattle.tx_word.specs.Dividing.{seam_in}
@@ -6,10 +6,17 @@ use Rattle.tx_word.specs.Divisions.{seam_below}
 use Rattle.tx_word.proofs.Divided.{below-found, below-more}
 use Rattle.tx_word.proofs.dividing.Dividing.seam_below.Goals as goal
 
+pub loop-at-init : goal.loop-at-init
+loop-at-init c = (omega arith, refl)
+
+pub seam_of-requires-clause-within : goal.seam_of-requires-clause-within
+seam_of-requires-clause-within c = omega (arith, c.loop-at.invariant.0, c.requires.within)
+
 pub loop-at-preserved : goal.loop-at-preserved
-loop-at-preserved c =
-    (omega (arith, c.loop-at.invariant.0),
-    sym (below-more (seam_in c.args.self.now) c.loop-at.at (omega arith) (sym c.in_ok-found.ensures.value ∙ c.in_default-found.is)) ∙ c.loop-at.invariant.1)
+loop-at-preserved c = (
+  omega (arith, c.loop-at.invariant.0),
+  sym (below-more (seam_in c.args.self.now) c.loop-at.at (omega arith) (sym c.in_ok-found.ensures.value ∙ c.in_default-found.is)) ∙ c.loop-at.invariant.1,
+)
 
 pub returns-in-Some-found-clause-value : goal.returns-in-Some-found-clause-value
 returns-in-Some-found-clause-value c =
