@@ -1,5 +1,5 @@
 -- The chain that \looseness asks for: which one of two is preferred is an order, in which the kept chains have the greatest of all.
-use Rattle.std.proofs.Common.{◌≡◌, ℕ, zero, suc, ◌+◌, ◌-◌, ◌<◌, ◌≤◌, min, max, ℤ, Bool, true, false, cond, Option, Some, None, List, [], ◌∷◌, map, length, take, get_or, ◌⊎◌, inl, inr, refl, sym, ap, subst, ◌∙◌, arith}
+use Rattle.std.proofs.Common.{◌≡◌, ℕ, zero, suc, ◌+◌, ◌-◌, ◌<◌, ◌≤◌, min, max, ℤ, Bool, true, false, cond, Option, Some, None, List, [], ◌∷◌, map, length, take, get_or, ◌⊎◌, inl, inr, refl, sym, ap, subst, arith}
 use Rattle.std.specs.Prelude.{All, Contains, filter, unsigned_abs, int_lt, pos, ◌==◌, ◌&&◌, ◌||◌}
 use Rattle.std.proofs.lemmas.Bool.{eqb-true}
 use Rattle.std.proofs.lemmas.Bool.Decides.{nat_tests}
@@ -12,7 +12,7 @@ use Rattle.tx_linebreak.specs.Chosen.{IsAsked, IsBest, asked_of, beats, is_betwe
 use Rattle.tx_linebreak.specs.Kept.{all_offered, last_chains, last_special}
 use Rattle.tx_linebreak.specs.Lines.{Attempt, line_fit}
 use Rattle.tx_linebreak.specs.Shared.{chain_of}
-use Rattle.tx_linebreak.proofs.Kept.{AsGood, Stands, last-stands, offered-stands}
+use Rattle.tx_linebreak.proofs.Kept.{Stands, last-stands, offered-stands}
 use Rattle.tx_linebreak.proofs.Members.{Member, contains-member, member-cases, member-contains, member-map, member-of_filter, member-of_map}
 use Rattle.tx_linebreak.proofs.Order.{beats_both, beats_itself, not_beaten_through}
 use Rattle.tx_linebreak.proofs.Reaching.{number-by}

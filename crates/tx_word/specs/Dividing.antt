@@ -1,5 +1,5 @@
 -- A word that is divided, as the code has it. No public clause speaks of it.
-use Rattle.std.specs.Prelude.{◌≡◌, ◌<◌, ◌≤◌, ℕ, Bool, List, length, Option, Some, true}
+use Rattle.std.specs.Prelude.{◌≡◌, ◌≤◌, ℕ, Bool, List, length, Option, Some, true}
 use Rattle.std.specs.List.{All}
 use Rattle.tx_ligkern.specs.declared.item.LigItem.{LigItem}
 use Rattle.tx_ligkern.specs.declared.seam.Seam.{Seam}

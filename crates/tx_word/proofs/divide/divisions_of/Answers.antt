@@ -2,7 +2,6 @@ use Rattle.std.proofs.Common.{◌≡◌, ◌∙◌, List, length, sym, ap, subst
 use Rattle.std.specs.List.{All}
 use Rattle.std.proofs.lemmas.Result.{IfOk-weaker}
 use Rattle.tx_ligkern.specs.declared.item.LigItem.{LigItem}
-use Rattle.tx_ligkern.specs.declared.seam.Seam.{Seam}
 use Rattle.tx_word.specs.declared.division.Division.{Division}
 use Rattle.tx_word.specs.Dividing.{IsNoted}
 use Rattle.tx_word.specs.Divisions.{divisions_of, last_seam, seam_of}

@@ -1,9 +1,7 @@
-use Rattle.std.proofs.Common.{◌≡◌, List, Option, subst, ap, ◌∙◌, sym}
+use Rattle.std.proofs.Common.{◌≡◌, Option, subst, ap, ◌∙◌, sym}
 use Rattle.std.specs.Prelude.{IfOk}
 use Rattle.std.specs.List.{All}
 use Rattle.std.proofs.lemmas.List.Elements.{All-nil}
-use Rattle.tx_ligkern.specs.declared.item.LigItem.{LigItem}
-use Rattle.tx_ligkern.specs.declared.seam.Seam.{Seam}
 use Rattle.tx_ligkern.specs.Composed.{composed}
 use Rattle.tx_ligkern.specs.Seams.{IsSeam}
 use Rattle.tx_tfm.specs.declared.named.NamedFont.{NamedFont}

@@ -1,10 +1,9 @@
-use Rattle.std.proofs.Common.{◌≡◌, ◌++◌, ◌∙◌, List, ℕ, Bool, false, map, sym, ap, subst}
+use Rattle.std.proofs.Common.{◌≡◌, ◌++◌, ◌∙◌, List, ℕ, false, map, sym, ap, subst}
 use Rattle.std.specs.Prelude.{slice_range}
 use Rattle.std.proofs.lemmas.Result.{IfOk-weaker}
 use Rattle.tx_node.specs.Items.{Item}
 use Rattle.tx_tfm.specs.Fonts.{font_at}
 use Rattle.tx_word.specs.Composed.{composed_in}
-use Rattle.tx_word.specs.Dividing.{AreThere}
 use Rattle.tx_word.specs.Divisions.{hyphen_codes}
 use Rattle.tx_word.specs.Words.{word_item}
 use Rattle.tx_word.proofs.Divided.{AllIn, hyphened-there}
