@@ -23,7 +23,7 @@ fn lines_asked(params: &BreakParams, lines: usize) -> u128
     ensures { result ≡ spec.lines_asked params.now.looseness lines }
 {
     let lines = lines as u128;
-    let change = params.looseness.unsigned_abs() as u128;
+    let change = u128::from(params.looseness.unsigned_abs());
     if params.looseness < 0 {
         lines.saturating_sub(change)
     } else {
