@@ -36,8 +36,8 @@ pub fn compose(
     Ok(made.into_items())
 }
 
-/// The same, with seams of the word in their order: all places whose character, when it is met for the first time, meets no ligature
-/// command with what stands before it, and so mostly all seams. Its only error is want of memory.
+/// The same, with seams of the word in their order: all places whose character, when it is met for the first time, meets no
+/// ligature command with what stands before it, and so mostly all seams. Its only error is want of memory.
 pub fn compose_with_seams(
     alloc: Global,
     font: &Font,

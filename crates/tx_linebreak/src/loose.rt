@@ -67,8 +67,8 @@ fn preferred(chains: &Chains, asked: u128, best: &Link, links: &[Link]) -> Link
 }
 
 impl Task<'_> {
-    /// The one of the last links of a pass, of which this one has the best chain, whose chain is asked for. Where \looseness is 0, it
-    /// is that one, and the others aren't looked at.
+    /// The one of the last links of a pass, of which this one has the best chain, whose chain is asked for. Where \looseness is 0,
+    /// it is that one, and the others aren't looked at.
     pub(crate) fn asked(&self, chains: &Chains, best: &Link, links: &[Link]) -> Link
         requires some { 0 < length self.now.pieces.now }
         requires made { All (IsMade chains.now) links.now }

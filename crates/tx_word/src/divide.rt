@@ -229,9 +229,9 @@ fn append_with_hyphens(
     word.append_parts(alloc, list, divisions.as_slice(), made.into_items())
 }
 
-/// Puts what a word with places becomes at the end of a list: its items as its font composes them, and discretionaries at its places:
-/// at each that is a seam, and at the first of those that lie between the same two seams, inside a ligature; none where the hyphen
-/// character isn't in 0 to 255. Its only error is want of memory.
+/// Puts what a word with places becomes at the end of a list: its items as its font composes them, and discretionaries at its
+/// places: at each that is a seam, and at the first of those that lie between the same two seams, inside a ligature; none where the
+/// hyphen character isn't in 0 to 255. Its only error is want of memory.
 #[tactic(auto, using(crate::proofs::Made::without_breaks))]
 pub fn append_divided(
     alloc: Global,

@@ -13,8 +13,8 @@ pub(crate) struct Letters<'a> {
     pub hyphen: u8,
 }
 
-/// The same without the hyphen character, with what they become, the seams that were noted when they were composed, and the places at
-/// which a hyphen may be put in.
+/// The same without the hyphen character, with what they become, the seams that were noted when they were composed, and the places
+/// at which a hyphen may be put in.
 #[derive(Clone, Copy)]
 pub(crate) struct Dividing<'a> {
     pub fonts: &'a Fonts,
