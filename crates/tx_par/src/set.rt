@@ -203,7 +203,8 @@ pub fn paragraph(
 }
 
 /// Sets a paragraph's list as `paragraph` does where the first pass breaks it; None where this pass isn't made, has no chain, or
-/// has none as long as \looseness asks for. There is a shape, and \overfullrule is a dimension. Its errors are those of `paragraph`.
+/// has none as long as \looseness asks for. There is a shape, and \overfullrule is a dimension. Its errors are those of
+/// `paragraph`.
 pub fn first_lines(
     alloc: Global,
     list: &Nodes,
