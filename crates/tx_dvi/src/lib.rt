@@ -4,13 +4,15 @@
 //! Proved: the file is exactly the defined bytes, and each page's pointer names the place of the page before it. Only
 //! tested: the bytes against files worked out by hand and read by dvitype.
 //!
-//! Read `font` and `page`, then `file`.
+//! Read `font` and `page`, then `file`; `commands` tells the commands of a page apart.
 #![tactic(auto)]
 
+pub mod commands;
 pub mod file;
 pub mod font;
 pub mod page;
 
+pub use commands::{is_font_number, opcode_of, operands_of, signed_of};
 pub use file::{assemble, definition, four_bytes};
 pub use font::FontDefinition;
 pub use page::{DateParameters, PageBody, PageParts};
