@@ -11,7 +11,7 @@ use Rattle.tx_machine.proofs.PageCounts.{pages-run_from}
 use Rattle.tx_checkpoint.specs.Rows.{all_turns}
 use Rattle.tx_checkpoint.proofs.Standing.{rows-tell}
 use Rattle.tx_script.specs.declared.command.Command.{Command}
-use Rattle.tx_script.specs.declared.command.Command.TheVariants.{Change as Lone, Batch, Save as SaveAs}
+use Rattle.tx_script.specs.declared.command.Command.TheVariants.{Change as Lone, Batch, Save as SaveAs, Locate}
 use Rattle.tx_session.specs.Held.{Held, fresh, rows_of, changed_session}
 use Rattle.tx_session.specs.Report.{work, turns_of_changes}
 use Rattle.tx_session.proofs.Reusing.{work-least}
@@ -61,6 +61,8 @@ module _ {S : Type 0} (m : Formatter S) (lawful : IsLawful m) where
   commands-most t (Lone c ∷ commands) = both_most _ _ _ _ (changes-most t.held (c ∷ [])) (commands-most (next_moment t (Lone c)) commands)
   commands-most t (Batch changes ∷ commands) = both_most _ _ _ _ (changes-most t.held changes) (commands-most (next_moment t (Batch changes)) commands)
   commands-most t (SaveAs name ∷ commands) = let less : turns_from m t commands ≤ most_of_edits (most_of t.held) commands = commands-most t commands in omega (arith, less)
+  commands-most t (Locate at ∷ commands) =
+      let less : turns_from m (next_moment t (Locate at)) commands ≤ most_of_edits (most_of t.held) commands = commands-most (next_moment t (Locate at)) commands in omega (arith, less)
 
   pub turns-most : (asked : Asked) (scripted : Scripted) (held : Files) → (asked_outcome m asked scripted held).turns ≤ most_turns asked scripted
   turns-most (Run given) (Plays commands) held =

@@ -3,6 +3,8 @@ use Rattle.std.specs.Prelude.{ℕ, List, [], ◌++◌, codes, Option, Some, None
 use Rattle.std.specs.Fmt.{decimal}
 use Rattle.tx_script.specs.Numbers.{number_of}
 use Rattle.tx_script.specs.declared.error.Rule.{Rule}
+use Rattle.tx_checkpoint.specs.declared.located.Located.{Located}
+use Rattle.tx_checkpoint.specs.declared.located.Located.TheVariants.{Page, After, Nowhere}
 use Rattle.tx_session.specs.declared.report.Report.{Report}
 use Rattle.tx_machine.specs.declared.types.End.{End as RunEnd}
 use Rattle.tx_machine.specs.declared.types.End.TheVariants.{End, Error, Budget, PageLimit}
@@ -46,6 +48,16 @@ batch_outside_line number index len = edit_text number ++ codes "change " ++ dec
 
 unfoldable pub memory_line : ℕ → List ℕ
 memory_line number = edit_text number ++ codes "memory\n"
+
+-- by which page a place is first read, in a document of so many pages
+abbrev pub located_text : ℕ → Located → List ℕ
+located_text pages (Page k) = codes "page " ++ decimal k
+located_text pages After = codes "after page " ++ decimal pages
+located_text pages Nowhere = codes "none"
+
+-- the line of a place that is asked for, with its number among these, counted from 1
+unfoldable pub locate_line : ℕ → ℕ → Located → List ℕ
+locate_line number pages at = codes "locate " ++ decimal number ++ codes ": " ++ located_text pages at ++ codes "\n"
 
 -- the line where the words aren't those of a call
 abbrev pub refusal_line : List ℕ

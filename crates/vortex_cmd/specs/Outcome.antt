@@ -8,7 +8,7 @@ use Rattle.tx_machine.specs.declared.types.Ran.{Ran}
 use Rattle.tx_machine.specs.Machine.{Formatter}
 use Rattle.tx_machine.specs.Steps.{raised}
 use Rattle.tx_script.specs.declared.command.Command.{Command}
-use Rattle.tx_script.specs.declared.command.Command.TheVariants.{Change as Lone, Batch, Save as SaveAs}
+use Rattle.tx_script.specs.declared.command.Command.TheVariants.{Change as Lone, Batch, Save as SaveAs, Locate}
 use Rattle.tx_session.specs.Held.{Held, fresh}
 use Rattle.tx_words.specs.declared.given.Given.{Given}
 use Rattle.tx_words.specs.declared.given.Asked.{Asked}
@@ -95,6 +95,7 @@ most_of_edits each [] = 0
 most_of_edits each (Lone c ∷ commands) = each + most_of_edits each commands
 most_of_edits each (Batch changes ∷ commands) = each + most_of_edits each commands
 most_of_edits each (SaveAs name ∷ commands) = most_of_edits each commands
+most_of_edits each (Locate at ∷ commands) = most_of_edits each commands
 
 -- how many turns a call may take, whatever the files say: the opening and each edit the budget of each page, and of what
 -- follows the last one

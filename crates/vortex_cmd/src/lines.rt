@@ -1,10 +1,11 @@
 //! The lines that are said: of runs, of edits, and of what is made or refused.
 ghost use Rattle.std.specs.Prelude.{◌≡◌, ◌++◌, OnOk, IfOk};
 ghost use Rattle.std.specs.Fmt.{decimal};
-ghost use Rattle.vortex_cmd.specs.Lines.{place_text, end_text, run_line, edit_text, report_text, edit_line, outside_line, batch_outside_line, memory_line, script_refusal_line, gen_line, help_text, run_help_text, gen_help_text, version_line};
+ghost use Rattle.vortex_cmd.specs.Lines.{place_text, end_text, run_line, edit_text, report_text, edit_line, outside_line, batch_outside_line, memory_line, located_text, locate_line, script_refusal_line, gen_line, help_text, run_help_text, gen_help_text, version_line};
 
 use std::alloc::{AllocError, Global};
 use tx_bytes::Bytes;
+use tx_checkpoint::Located;
 use tx_machine::End;
 use tx_script::Rule;
 use tx_session::Report;
@@ -143,6 +144,46 @@ pub fn memory_line(alloc: Global, number: u64) -> Result<Bytes, AllocError>
 {
     let mut line = edit_text(alloc, number)?;
     line.append(b"memory\n")?;
+    Ok(line)
+}
+
+/// `page K`, `after page P` or `none`.
+fn append_located(
+    alloc: Global,
+    text: &mut Bytes,
+    pages: u64,
+    at: Located,
+) -> Result<(), AllocError>
+    ensures { OnOk result (text.new ≡ text.old ++ located_text pages at) }
+{
+    match at {
+        Located::Page(k) => {
+            text.append(b"page ")?;
+            append_number(alloc, text, k as u64)
+        }
+        Located::After => {
+            text.append(b"after page ")?;
+            append_number(alloc, text, pages)
+        }
+        Located::Nowhere => text.append(b"none"),
+    }
+}
+
+/// The line of a place that is asked for, `locate J: page K` and LF, or the like.
+#[tactic(auto, unfolding(crate::specs::Lines::locate_line))]
+pub fn locate_line(
+    alloc: Global,
+    number: u64,
+    pages: u64,
+    at: Located,
+) -> Result<Bytes, AllocError>
+    ensures { IfOk result (λ line. line ≡ locate_line number pages at) }
+{
+    let mut line = Bytes::from_slice(alloc, b"locate ")?;
+    append_number(alloc, &mut line, number)?;
+    line.append(b": ")?;
+    append_located(alloc, &mut line, pages, at)?;
+    line.append(b"\n")?;
     Ok(line)
 }
 
