@@ -1,4 +1,5 @@
 mod Comment
+pub mod Padding
 pub mod Pages
 mod Worked
 pub mod Reading

@@ -9,7 +9,9 @@ use Rattle.byteorder.specs.Endian.{big_number}
 use Rattle.byteorder.specs.Numbers.{big_number-reads_back}
 use Rattle.tx_dvi.specs.declared.font.FontDefinition.{FontDefinition}
 use Rattle.tx_dvi.specs.Dvi.{four_bytes, unsigned_bytes, definition_bytes, IsDefinable}
-use Rattle.tx_dvi.specs.Meaning.{Widths, Registers, ReaderFonts, Reader, Placed, operands, carried_out, when_whole, read, signed, right_by, down_by, rule_set, with_rule, with_special, character_set, set_character, is_font_number, is_known, choose, choosing, define, defining, definition_in}
+use Rattle.tx_dvi.specs.declared.placed.Placed.{Placed}
+use Rattle.tx_dvi.specs.declared.placed.Registers.{Registers}
+use Rattle.tx_dvi.specs.Meaning.{Widths, ReaderFonts, Reader, operands, carried_out, when_whole, read, signed, right_by, down_by, rule_set, with_rule, with_special, character_set, set_character, is_font_number, is_known, choose, choosing, define, defining, definition_in}
 
 -- the reader between two commands
 abbrev pub reader : Registers → ReaderFonts → List Registers → List Placed → Reader

@@ -1,3 +1,6 @@
 pub mod Page
 pub mod Dvi
 pub mod Meaning
+pub mod Rules
+pub mod Partial
+pub mod Files

@@ -21,6 +21,35 @@ pub fn is_font_number(opcode: u8) -> bool
     171 <= opcode && opcode <= 234
 }
 
+/// Whether a command is a movement, right1 to z4.
+pub(crate) fn is_movement(opcode: u8) -> bool
+    ensures { result ≡ spec.is_movement opcode }
+{
+    143 <= opcode && opcode <= 170
+}
+
+/// How many bytes follow the first one of a movement.
+pub(crate) fn movement_operands(opcode: u8) -> u8
+    requires least { 143 ≤ opcode }
+    requires most { opcode ≤ 170 }
+    ensures is { result ≡ spec.movement_operands opcode }
+    ensures bound { result ≤ 4 }
+{
+    if opcode <= 146 {
+        opcode - 142
+    } else if opcode <= 151 {
+        opcode - 147
+    } else if opcode <= 156 {
+        opcode - 152
+    } else if opcode <= 160 {
+        opcode - 156
+    } else if opcode <= 165 {
+        opcode - 161
+    } else {
+        opcode - 166
+    }
+}
+
 /// The number that the first bytes are, so many of them, in two's complement.
 pub fn signed_of(bytes: &[u8], size: usize) -> i64
     requires least { 1 ≤ size }
@@ -71,20 +100,8 @@ pub fn operands_of(bytes: &[u8]) -> Option<u128>
         Some(8)
     } else if opcode == 138 || opcode == 141 || opcode == 142 {
         Some(0)
-    } else if opcode < 143 {
-        None
-    } else if opcode <= 146 {
-        Some(u128::from(opcode - 142))
-    } else if opcode <= 151 {
-        Some(u128::from(opcode - 147))
-    } else if opcode <= 156 {
-        Some(u128::from(opcode - 152))
-    } else if opcode <= 160 {
-        Some(u128::from(opcode - 156))
-    } else if opcode <= 165 {
-        Some(u128::from(opcode - 161))
-    } else if opcode <= 170 {
-        Some(u128::from(opcode - 166))
+    } else if is_movement(opcode) {
+        Some(u128::from(movement_operands(opcode)))
     } else if opcode < 239 {
         None
     } else if opcode <= 242 {

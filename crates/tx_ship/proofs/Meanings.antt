@@ -18,7 +18,10 @@ use Rattle.tx_node.specs.Items.{Item, plain, shared, boxed, discretionary, adjus
 use Rattle.tx_node.specs.Setting.{Reach, begun}
 use Rattle.tx_dvi.specs.declared.font.FontDefinition.{FontDefinition}
 use Rattle.tx_dvi.specs.Dvi.{four_bytes, definition_bytes, IsDefinable}
-use Rattle.tx_dvi.specs.Meaning.{Widths, Registers, ReaderFonts, Reader, Placed, ruled, right_by, character_met, rule_met, special_met, is_known, choosing, defining, all_met, page_start, meaning}
+use Rattle.tx_dvi.specs.declared.placed.Placed.{Placed}
+use Rattle.tx_dvi.specs.declared.placed.Placed.TheVariants.{Ruled}
+use Rattle.tx_dvi.specs.declared.placed.Registers.{Registers}
+use Rattle.tx_dvi.specs.Meaning.{Widths, ReaderFonts, Reader, right_by, character_met, rule_met, special_met, is_known, choosing, defining, all_met, page_start, meaning}
 use Rattle.tx_dvi.proofs.Reading.{run, reader, run-append, run-push, run-pop, run-xxx1, run-xxx4, run-set_char, run-set1, run-fnt_num, run-fnt1, run-fnt_def1}
 use Rattle.tx_tfm.specs.declared.named.NamedFont.{NamedFont}
 use Rattle.tx_tfm.specs.declared.state.FontState.{FontState}
@@ -54,7 +57,7 @@ Takes widths now stack met pen end bytes new = run widths (here now pen.at pen.f
 hidden : (h v height width : ℤ) → (is_positive width && is_positive height) ≡ false → rule_met h v height width ≡ []
 hidden h v height width e = by (is_positive height) (is_positive width) e
   where
-    by : (a b : Bool) → (b && a) ≡ false → cond {A = List Placed} a (cond {A = List Placed} b (ruled (record { h = h; v = v; height = height; width = width }) ∷ []) []) [] ≡ []
+    by : (a b : Bool) → (b && a) ≡ false → cond {A = List Placed} a (cond {A = List Placed} b (Ruled (record { h = h; v = v; height = height; width = width }) ∷ []) []) [] ≡ []
     by true true f = absurd (cc)
     by true false f = refl
     by false b f = refl

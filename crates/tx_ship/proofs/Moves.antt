@@ -3,7 +3,9 @@ use Rattle.std.proofs.Common.{◌≡◌, ◌==◌, ℕ, ◌+◌, ◌-◌, ◌^�
 use Rattle.std.proofs.lemmas.Bool.{ltb-true, eqb-true}
 use Rattle.std.proofs.lemmas.Int.{ints}
 use Rattle.tx_dvi.specs.Dvi.{four_bytes}
-use Rattle.tx_dvi.specs.Meaning.{Widths, Registers, ReaderFonts, Placed, right_by, down_by, rule_set, with_rule}
+use Rattle.tx_dvi.specs.declared.placed.Placed.{Placed}
+use Rattle.tx_dvi.specs.declared.placed.Registers.{Registers}
+use Rattle.tx_dvi.specs.Meaning.{Widths, ReaderFonts, right_by, down_by, rule_set, with_rule}
 use Rattle.tx_dvi.proofs.Reading as dvi
 use Rattle.tx_dvi.proofs.Reading.{run, reader}
 use Rattle.tx_dvi.proofs.SignedBack.{signed-back1, signed-back2, signed-back3, signed-back4}

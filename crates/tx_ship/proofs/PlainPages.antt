@@ -28,12 +28,12 @@ use Rattle.tx_ship.specs.declared.places.Cursor.{Cursor}
 use Rattle.tx_ship.specs.declared.places.CornerRule.{CornerRule}
 use Rattle.tx_ship.specs.Characters.{definition_for, definition_commands, choice, is_chosen, font_commands, set_code}
 use Rattle.tx_ship.specs.Standing.{next, span_of, size_of, reference, upright, shifted, rule_sides, leaders_sides, frame_at, page_frame}
-use Rattle.tx_ship.specs.Commands.{Pen, pen_at, is_visible, cornered, page_pen, written_of, right, down, way, rule_bytes, rule_item, rule_commands, keeping_fonts, character_item, character_commands, plain_commands, shared_commands, behind_rule, special, special_item, cursor_at, framed, approach, entering, list_commands, item_commands}
+use Rattle.tx_ship.specs.Commands.{Pen, is_visible, cornered, page_pen, written_of, right, down, way, rule_bytes, rule_item, rule_commands, keeping_fonts, character_item, plain_commands, shared_commands, behind_rule, special, special_item, cursor_at, framed, approach, entering, list_commands, item_commands}
 use Rattle.tx_ship.specs.Registers.{registered, IsAsPlain}
 use Rattle.tx_ship.proofs.Meanings.{IsShort, short-parts, inside-short}
 use Rattle.tx_ship.proofs.Moves.{Sized, one, two, three, four, sized, moves, still}
 use Rattle.tx_ship.proofs.Rewritten.{registered-means}
-use Rattle.tx_ship.proofs.Scanned.{is_other, is_plain, scanned, scan, Plainly, plainly-append, scan-gathered}
+use Rattle.tx_ship.proofs.Scanned.{is_plain, scanned, scan, Plainly, plainly-append, scan-gathered}
 use Rattle.tx_ship.proofs.Turns.{plain-bound, no-longer}
 
 -- movements

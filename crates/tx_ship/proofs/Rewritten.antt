@@ -4,13 +4,15 @@ use Rattle.std.proofs.lemmas.Bool.{leb-true, leb-false, eqb-true}
 use Rattle.std.proofs.lemmas.Bool.Decides.{Decides-int_eq}
 use Rattle.std.proofs.lemmas.List.{append-nil, length-append, length-drop}
 use Rattle.std.specs.Ordering.{int_eq}
-use Rattle.tx_dvi.specs.Meaning.{Widths, Registers, Reader, Placed, Contents, signed, operands, is_font_number, right_by, down_by, moved, with_rule, with_special, with_registers, with_fonts, character_set, set_character, is_known, choosing, choose, definition_in, defining, define, rule_set, popped, carried_out, when_whole, read, all_met, page_start, meaning}
+use Rattle.tx_dvi.specs.declared.placed.Placed.{Placed}
+use Rattle.tx_dvi.specs.declared.placed.Registers.{Registers}
+use Rattle.tx_dvi.specs.Meaning.{Widths, Reader, Contents, signed, is_movement, movement_operands, operands, is_font_number, right_by, down_by, moved, with_rule, with_special, with_registers, with_fonts, character_set, set_character, is_known, choosing, choose, definition_in, defining, define, rule_set, popped, carried_out, when_whole, all_met, page_start, meaning}
 use Rattle.tx_dvi.specs.declared.font.FontDefinition.{FontDefinition}
 use Rattle.tx_dvi.specs.Meaning.{ReaderFonts}
 use Rattle.tx_dvi.proofs.Reading.{reader, run, run-append, gathered}
 use Rattle.tx_ship.specs.declared.amounts.Pair.{Pair}
 use Rattle.tx_ship.specs.declared.amounts.Amounts.{Amounts}
-use Rattle.tx_ship.specs.Registers.{by_setting, by_register, Writer, page_writer, copied, pushing, popping, is_right, is_down, moved_right, moved_down, taken, write, registered}
+use Rattle.tx_ship.specs.Registers.{by_register, Writer, page_writer, copied, pushing, popping, is_right, is_down, moved_right, moved_down, taken, write, registered}
 use Rattle.tx_ship.proofs.Scanned.{is_other, is_plain, scanned, scan, Plainly}
 use Rattle.tx_ship.proofs.Steps.{both}
 use Rattle.tx_ship.proofs.Turns.{at, opcode_in, Turn, right_waits, right_moves, down_waits, down_moves, pushes, pops, fails, other_waits, copies, turn, Few, none-few, right-few, down-few, few-behind, popping-made, popping-begun}
@@ -130,24 +132,24 @@ module _ (widths : Widths) where
 
   sets-right : (k : ℕ) (ops : List ℕ) → k < 4 → length ops ≡ 1 + k → SetsRight (143 + k) ops
   sets-right zero ops h e = record {
-    plain = λ q. ap (λ m. Some (with_registers (right_by (signed m ops) q.now) q)) e;
-    first = λ now fonts stack met. reads 148 1 ops now fonts stack met (λ bytes. refl) e ∙ ap (λ m. Some (reader (right_by (signed m ops) (record now { w = signed m ops })) fonts stack met)) e;
-    second = λ now fonts stack met. reads 153 1 ops now fonts stack met (λ bytes. refl) e ∙ ap (λ m. Some (reader (right_by (signed m ops) (record now { x = signed m ops })) fonts stack met)) e;
+    plain = λ q. refl;
+    first = λ now fonts stack met. reads 148 1 ops now fonts stack met (λ bytes. refl) e;
+    second = λ now fonts stack met. reads 153 1 ops now fonts stack met (λ bytes. refl) e;
   }
   sets-right (suc zero) ops h e = record {
-    plain = λ q. ap (λ m. Some (with_registers (right_by (signed m ops) q.now) q)) e;
-    first = λ now fonts stack met. reads 149 2 ops now fonts stack met (λ bytes. refl) e ∙ ap (λ m. Some (reader (right_by (signed m ops) (record now { w = signed m ops })) fonts stack met)) e;
-    second = λ now fonts stack met. reads 154 2 ops now fonts stack met (λ bytes. refl) e ∙ ap (λ m. Some (reader (right_by (signed m ops) (record now { x = signed m ops })) fonts stack met)) e;
+    plain = λ q. refl;
+    first = λ now fonts stack met. reads 149 2 ops now fonts stack met (λ bytes. refl) e;
+    second = λ now fonts stack met. reads 154 2 ops now fonts stack met (λ bytes. refl) e;
   }
   sets-right (suc (suc zero)) ops h e = record {
-    plain = λ q. ap (λ m. Some (with_registers (right_by (signed m ops) q.now) q)) e;
-    first = λ now fonts stack met. reads 150 3 ops now fonts stack met (λ bytes. refl) e ∙ ap (λ m. Some (reader (right_by (signed m ops) (record now { w = signed m ops })) fonts stack met)) e;
-    second = λ now fonts stack met. reads 155 3 ops now fonts stack met (λ bytes. refl) e ∙ ap (λ m. Some (reader (right_by (signed m ops) (record now { x = signed m ops })) fonts stack met)) e;
+    plain = λ q. refl;
+    first = λ now fonts stack met. reads 150 3 ops now fonts stack met (λ bytes. refl) e;
+    second = λ now fonts stack met. reads 155 3 ops now fonts stack met (λ bytes. refl) e;
   }
   sets-right (suc (suc (suc zero))) ops h e = record {
-    plain = λ q. ap (λ m. Some (with_registers (right_by (signed m ops) q.now) q)) e;
-    first = λ now fonts stack met. reads 151 4 ops now fonts stack met (λ bytes. refl) e ∙ ap (λ m. Some (reader (right_by (signed m ops) (record now { w = signed m ops })) fonts stack met)) e;
-    second = λ now fonts stack met. reads 156 4 ops now fonts stack met (λ bytes. refl) e ∙ ap (λ m. Some (reader (right_by (signed m ops) (record now { x = signed m ops })) fonts stack met)) e;
+    plain = λ q. refl;
+    first = λ now fonts stack met. reads 151 4 ops now fonts stack met (λ bytes. refl) e;
+    second = λ now fonts stack met. reads 156 4 ops now fonts stack met (λ bytes. refl) e;
   }
   sets-right (suc (suc (suc (suc k)))) ops h e = absurd (omega (arith, h))
 
@@ -161,24 +163,24 @@ module _ (widths : Widths) where
 
   sets-down : (k : ℕ) (ops : List ℕ) → k < 4 → length ops ≡ 1 + k → SetsDown (157 + k) ops
   sets-down zero ops h e = record {
-    plain = λ q. ap (λ m. Some (with_registers (down_by (signed m ops) q.now) q)) e;
-    first = λ now fonts stack met. reads 162 1 ops now fonts stack met (λ bytes. refl) e ∙ ap (λ m. Some (reader (down_by (signed m ops) (record now { y = signed m ops })) fonts stack met)) e;
-    second = λ now fonts stack met. reads 167 1 ops now fonts stack met (λ bytes. refl) e ∙ ap (λ m. Some (reader (down_by (signed m ops) (record now { z = signed m ops })) fonts stack met)) e;
+    plain = λ q. refl;
+    first = λ now fonts stack met. reads 162 1 ops now fonts stack met (λ bytes. refl) e;
+    second = λ now fonts stack met. reads 167 1 ops now fonts stack met (λ bytes. refl) e;
   }
   sets-down (suc zero) ops h e = record {
-    plain = λ q. ap (λ m. Some (with_registers (down_by (signed m ops) q.now) q)) e;
-    first = λ now fonts stack met. reads 163 2 ops now fonts stack met (λ bytes. refl) e ∙ ap (λ m. Some (reader (down_by (signed m ops) (record now { y = signed m ops })) fonts stack met)) e;
-    second = λ now fonts stack met. reads 168 2 ops now fonts stack met (λ bytes. refl) e ∙ ap (λ m. Some (reader (down_by (signed m ops) (record now { z = signed m ops })) fonts stack met)) e;
+    plain = λ q. refl;
+    first = λ now fonts stack met. reads 163 2 ops now fonts stack met (λ bytes. refl) e;
+    second = λ now fonts stack met. reads 168 2 ops now fonts stack met (λ bytes. refl) e;
   }
   sets-down (suc (suc zero)) ops h e = record {
-    plain = λ q. ap (λ m. Some (with_registers (down_by (signed m ops) q.now) q)) e;
-    first = λ now fonts stack met. reads 164 3 ops now fonts stack met (λ bytes. refl) e ∙ ap (λ m. Some (reader (down_by (signed m ops) (record now { y = signed m ops })) fonts stack met)) e;
-    second = λ now fonts stack met. reads 169 3 ops now fonts stack met (λ bytes. refl) e ∙ ap (λ m. Some (reader (down_by (signed m ops) (record now { z = signed m ops })) fonts stack met)) e;
+    plain = λ q. refl;
+    first = λ now fonts stack met. reads 164 3 ops now fonts stack met (λ bytes. refl) e;
+    second = λ now fonts stack met. reads 169 3 ops now fonts stack met (λ bytes. refl) e;
   }
   sets-down (suc (suc (suc zero))) ops h e = record {
-    plain = λ q. ap (λ m. Some (with_registers (down_by (signed m ops) q.now) q)) e;
-    first = λ now fonts stack met. reads 165 4 ops now fonts stack met (λ bytes. refl) e ∙ ap (λ m. Some (reader (down_by (signed m ops) (record now { y = signed m ops })) fonts stack met)) e;
-    second = λ now fonts stack met. reads 170 4 ops now fonts stack met (λ bytes. refl) e ∙ ap (λ m. Some (reader (down_by (signed m ops) (record now { z = signed m ops })) fonts stack met)) e;
+    plain = λ q. refl;
+    first = λ now fonts stack met. reads 165 4 ops now fonts stack met (λ bytes. refl) e;
+    second = λ now fonts stack met. reads 170 4 ops now fonts stack met (λ bytes. refl) e;
   }
   sets-down (suc (suc (suc (suc k)))) ops h e = absurd (omega (arith, h))
 
@@ -269,7 +271,7 @@ module _ (widths : Widths) where
       (cond {A = Option Reader} s (Some (record r { stack = r.now ∷ r.stack }))
       (cond {A = Option Reader} p (popped r.stack r)
       (cond {A = Option Reader} t (Some (with_special (drop (opcode - 238) bytes) r))
-      (Some (with_registers (moved opcode (signed (length bytes) bytes) r.now) r)))))))))))
+      (cond {A = Option Reader} (is_movement opcode) (Some (with_registers (moved opcode (signed (movement_operands opcode) bytes) r.now) r)) None)))))))))))
 
   keeps : (a b c d e f g h s p t : Bool) → s ≡ false → p ≡ false → (a || (b || (c || (d || (e || (f || (g || (h || t)))))))) ≡ true
       → (opcode : ℕ) (bytes : List ℕ) (w : Writer) (q r : Reader) → chain a b c d e f g h s p t opcode bytes q ≡ Some r → Keeps w q r (chain a b c d e f g h s p t opcode bytes (twin w q))

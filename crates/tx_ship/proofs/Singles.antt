@@ -2,7 +2,7 @@
 use Rattle.std.proofs.Common.{◌≡◌, ◌==◌, ℕ, ◌<◌, ◌≤◌, Bool, true, false, cond, nat_le, nat_lt, ◌&&◌, ◌||◌, List, [], ◌∷◌, ◌++◌, length, Option, Some, refl, sym, ap, ◌∙◌, arith, ◌⊎◌, inl, inr}
 use Rattle.std.proofs.lemmas.Bool.{and_left, and_right, lt-leb, ne_eqb, leb-true, ltb-true}
 use Rattle.tx_dvi.specs.Meaning.{operands, is_font_number}
-use Rattle.tx_ship.specs.Registers.{Writer, copied, pushing, popping, is_right, is_down, moved_right, moved_down, once_there, other, taken, write}
+use Rattle.tx_ship.specs.Registers.{Writer, copied, pushing, popping, is_right, is_down, moved_right, moved_down, once_there, other, write}
 use Rattle.tx_ship.proofs.Steps.{both}
 use Rattle.tx_ship.proofs.Turns.{at}
 

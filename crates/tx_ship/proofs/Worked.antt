@@ -18,7 +18,8 @@ use Rattle.tx_tfm.specs.declared.state.FontState.{FontState}
 use Rattle.tx_tfm.specs.Fonts.{loaded_state, null_state}
 use Rattle.tx_tfm.specs.Format.{tfm_of, word_at, design_size_of}
 use Rattle.tx_ship.specs.Characters.{font_commands, definition_commands, choice, set_code}
-use Rattle.tx_dvi.specs.Meaning.{Placed, lettered, ruled, noted}
+use Rattle.tx_dvi.specs.declared.placed.Placed.{Placed}
+use Rattle.tx_dvi.specs.declared.placed.Placed.TheVariants.{Lettered, Ruled, Noted}
 use Rattle.tx_ship.specs.Commands.{written_of, list_commands, character_item, rule_item, rule_bytes, way, movement, special}
 use Rattle.tx_ship.specs.Placing.{placed, placed_list}
 use Rattle.tx_ship.specs.Registers.{registered}
@@ -163,9 +164,9 @@ behind-pop = refl
 -- Glue that was rounded by itself would leave the last rule of each line off.
 abbrev rights : List Placed → List ℤ
 rights [] = []
-rights (lettered c ∷ rest) = c.h ∷ rights rest
-rights (ruled r ∷ rest) = r.h ∷ rights rest
-rights (noted s ∷ rest) = s.h ∷ rights rest
+rights (Lettered c ∷ rest) = c.h ∷ rights rest
+rights (Ruled r ∷ rest) = r.h ∷ rights rest
+rights (Noted s ∷ rest) = s.h ∷ rights rest
 
 abbrev line : Setting → List ℤ
 line setting = rights (placed (record { head = head Horizontal 3 1 0 setting; list = three }) (pos 0) (pos 0))
