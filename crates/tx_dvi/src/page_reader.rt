@@ -128,7 +128,7 @@ impl PageReader {
         self.begun.as_slice()
     }
 
-    /// A byte is put behind them. After want of memory nothing has changed.
+    /// A byte is put behind them.
     pub fn begin(&mut self, byte: u8) -> Result<(), AllocError>
         ensures { OnOk result (self.new ≡ record self.old { begun = self.old.begun ++ byte ∷ [] }) }
     {
