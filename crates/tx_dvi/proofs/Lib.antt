@@ -3,4 +3,5 @@ pub mod Padding
 pub mod Pages
 mod Worked
 pub mod Reading
+pub mod ReadPages
 pub mod SignedBack

@@ -4,3 +4,4 @@ pub mod Meaning
 pub mod Rules
 pub mod Partial
 pub mod Files
+pub mod ReadPages
