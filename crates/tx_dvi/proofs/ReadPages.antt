@@ -13,7 +13,7 @@ abbrev some_or : {A : Type 0} → A → Option A → A
 some_or d None = d
 some_or d (Some x) = x
 
-some-of : {A : Type 0} {x y : A} → Some x ≡ Some y → x ≡ y
+pub some-of : {A : Type 0} {x y : A} → Some x ≡ Some y → x ≡ y
 some-of {x = x} e = ap (some_or x) e
 
 both : (a b : Bool) → (a && b) ≡ true → (a ≡ true) × (b ≡ true)
@@ -21,7 +21,7 @@ both true true e = (refl, refl)
 both true false e = absurd (let no : false ≡ true = e in cc)
 both false b e = absurd (let no : false ≡ true = e in cc)
 
-no-bytes : (bytes : List ℕ) → length bytes ≡ 0 → bytes ≡ []
+pub no-bytes : (bytes : List ℕ) → length bytes ≡ 0 → bytes ≡ []
 no-bytes [] e = refl
 no-bytes (byte ∷ bytes) e = absurd (omega (arith, e))
 
@@ -80,7 +80,7 @@ eop-none r byte is =
     (gathered (wanted (r.begun ++ byte ∷ [])) (r.begun ++ byte ∷ []) r) None
 
 -- a byte of a command, by the reader of the file
-abbrev next-reader : Reader → ℕ → PageReader → Reader
+abbrev pub next-reader : Reader → ℕ → PageReader → Reader
 next-reader r byte x = record r { page = x; definitions = with_definition (r.page.begun ++ byte ∷ []) r.definitions }
 
 command-goes : (r : Reader) (x : PageReader) (byte : ℕ) → read_within r.page byte ≡ Some x → command_taken r byte ≡ Some (next-reader r byte x)
@@ -92,7 +92,7 @@ command-goes r x byte is = by (length r.page.begun == 0 && byte == 140) refl
     by true e = absurd (let no : None ≡ Some x = sym (eop-none r.page byte e) ∙ is in cc)
     by false e = ap (with_page (r.page.begun ++ byte ∷ []) r) is
 
-byte-goes : (place : ℕ) (r : Reader) (x : PageReader) (byte : ℕ) → r.element ≡ Command → read_within r.page byte ≡ Some x → taken place r byte ≡ Some (next-reader r byte x)
+pub byte-goes : (place : ℕ) (r : Reader) (x : PageReader) (byte : ℕ) → r.element ≡ Command → read_within r.page byte ≡ Some x → taken place r byte ≡ Some (next-reader r byte x)
 unfolding taken
 byte-goes place r x byte element is = ap (λ (e : DviRule). taken_by e place r byte) element ∙ command-goes r x byte is
 
@@ -123,19 +123,19 @@ reads-to place r q (byte ∷ body) rest element e = step (read_within r.page byt
         }
 
 -- eop, behind commands that are whole and popped what they pushed
-eop-goes : (place : ℕ) (r : Reader) → r.element ≡ Command → length r.page.begun ≡ 0 → length r.page.stack ≡ 0 → taken place r 140 ≡ Some (behind_eop r)
+pub eop-goes : (place : ℕ) (r : Reader) → r.element ≡ Command → length r.page.begun ≡ 0 → length r.page.stack ≡ 0 → taken place r 140 ≡ Some (behind_eop r)
 unfolding taken command_taken
 eop-goes place r element whole level =
     ap (λ (e : DviRule). taken_by e place r 140) element
     ∙ (λ i. cond {A = Option Reader} (whole i == 0 && true) (cond {A = Option Reader} (level i == 0) (Some (behind_eop r)) None) (with_page (r.page.begun ++ 140 ∷ []) r (read_within r.page 140)))
 
 -- what the commands bring
-record Brings (q : PageReader) (contents : Contents) : Type 0 where
-  whole : length q.begun ≡ 0
-  level : length q.stack ≡ 0
-  are : contents ≡ record { placed = q.met; fonts = q.fonts.defined }
+pub record Brings (q : PageReader) (contents : Contents) : Type 0 where
+  pub whole : length q.begun ≡ 0
+  pub level : length q.stack ≡ 0
+  pub are : contents ≡ record { placed = q.met; fonts = q.fonts.defined }
 
-brings : (q : PageReader) (contents : Contents) → all_met (Some q) ≡ Some contents → Brings q contents
+pub brings : (q : PageReader) (contents : Contents) → all_met (Some q) ≡ Some contents → Brings q contents
 brings q contents e = by (length q.stack + length q.begun == 0) refl e
   where
     by : (b : Bool) → (length q.stack + length q.begun == 0) ≡ b → cond {A = Option Contents} b (Some (record { placed = q.met; fonts = q.fonts.defined })) None ≡ Some contents → Brings q contents

@@ -5,3 +5,4 @@ pub mod Rules
 pub mod Partial
 pub mod Files
 pub mod ReadPages
+pub mod ReadBack

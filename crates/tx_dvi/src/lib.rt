@@ -3,8 +3,8 @@
 //! they mean, which is what the reader answers.
 //!
 //! Proved: the file is exactly the defined bytes, and each page's pointer names the place of the page before it; what is
-//! read of a file is its pages, or the place and the element at which it is refused, exactly as defined byte by byte; and
-//! what is read of a page is what its commands mean. Only tested: the bytes against files worked out by hand and read by dvitype.
+//! read of a file is its pages, or the place and the element at which it is refused, exactly as defined byte by byte; what
+//! is read of a page is what its commands mean; and a file that is assembled of pages is read back. Only tested: the bytes against files worked out by hand and read by dvitype.
 //!
 //! Read `font` and `page`, then `file`. For the reader read `placed`, `error` and `commands`, which tells the commands of a
 //! page apart; then `movement`, `page_reader`, `reader`, and `laws`.
@@ -25,7 +25,7 @@ pub use commands::{is_font_number, opcode_of, operands_of, signed_of};
 pub use error::{DviError, DviRule};
 pub use file::{assemble, definition, four_bytes};
 pub use font::FontDefinition;
-pub use laws::pages_are_read_by_their_meaning;
+pub use laws::{assembled_files_are_read_back, pages_are_read_by_their_meaning};
 pub use page::{DateParameters, PageBody, PageParts};
 pub use placed::{Placed, PlacedCharacter, PlacedRule, PlacedSpecial, Registers};
 pub use reader::{ReadPage, Reader};
