@@ -55,7 +55,7 @@ fn read(
 }
 
 /// The bytes of a real file, or those of which a file tells.
-fn contents(rt: &HostRuntime, name: &str, is_real: bool) -> io::Result<Vec<u8>> {
+pub fn contents(rt: &HostRuntime, name: &str, is_real: bool) -> io::Result<Vec<u8>> {
     if is_real {
         return fs::read(rt, name);
     }
@@ -84,7 +84,7 @@ fn append(bytes: &mut Vec<u8>, line: &str) -> Result<(), AllocError> {
 }
 
 /// Gives bytes at places new values; None where the text doesn't say so.
-fn change(bytes: &mut [u8], text: &str) -> Option<()> {
+pub fn change(bytes: &mut [u8], text: &str) -> Option<()> {
     let (place, rest) = first_word(text);
     let (value, rest) = first_word(rest);
     set(bytes, place, value)?;

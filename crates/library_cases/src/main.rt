@@ -5,11 +5,12 @@
 //! exceptions, `keep` keeps them, and `same` says whether they are those that were kept.
 //!
 //! Read `numbers`, `files`, `scripts`, `primitives`, `lists`, `boxes` and `packing`, `paragraphs`, and `outside`; then `fonts`,
-//! `ligatures`, `words` and `hyphenating`; then `documents` and `edits`, `rows`, `runs` and `sessions`.
+//! `dvi`, `ligatures`, `words` and `hyphenating`; then `documents` and `edits`, `rows`, `runs` and `sessions`.
 #![tactic(auto)]
 
 mod boxes;
 mod documents;
+mod dvi;
 mod edits;
 mod files;
 mod fonts;
@@ -49,6 +50,7 @@ impl Answers for Desk {
         let (word, rest) = first_word(line);
         match word {
             "font" => fonts::take(rt, &mut self.font, rest),
+            "dvi" => dvi::answer(rt, rest),
             "folder" => folder(rt, lines),
             "resume" | "edited" | "replayed" | "run" | "long" => Ok(ran(rt, word, rest, lines)?),
             _ => Ok(told(rt.alloc(), self, word, rest, lines)?),

@@ -49,6 +49,10 @@ fn write_command(text: &mut String, command: &Command) -> Result<(), AllocError>
             text.push_str("save ")?;
             write_bytes(text, name.as_slice())
         }
+        Command::Locate(at) => {
+            write!(text, "locate {} ", at.place)?;
+            write_bytes(text, at.name.as_slice())
+        }
         Command::Change(change) => write_change(text, change),
         Command::Batch(changes) => {
             write!(text, "batch {}:", changes.len())?;

@@ -1,6 +1,7 @@
 //! All that there is to tell of a call that ended badly.
 use crate::ends::{append_absent_causes, write_end_cause};
 use crate::faults::{write_put_cause, write_read_cause};
+use crate::listings::write_dvi_cause;
 use crate::memory::write_memory_cause;
 use crate::outside::append_outside_causes;
 use crate::run::{Run, text_of};
@@ -53,6 +54,13 @@ fn write_refused<S: Source>(
         Some(bytes) => write_script_cause(text, shown, said, Some(bytes.as_slice())),
         None => write_script_cause(text, shown, said, None),
     }
+}
+
+/// Why a DVI file was refused.
+pub fn refused_dvi(alloc: Global, name: &Name, said: &[u8]) -> Result<String, AllocError> {
+    let mut text = String::new(alloc);
+    write_dvi_cause(&mut text, text_of(name.as_slice()), text_of(said))?;
+    Ok(text)
 }
 
 /// Adds the edits that lay outside; the script is looked at once more.

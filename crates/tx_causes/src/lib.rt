@@ -3,13 +3,14 @@
 //! it is safe: the words are tested, by `tools/check-program`.
 //!
 //! Read `run` (what a call was to run), `ends` (how a run ended), `outside` (edits), `dates`, `names` and `refusals` (words),
-//! `scripts`, `faults` (the system's errors), `memory`, and then `causes` and `telling`.
+//! `scripts`, `listings` (DVI files), `faults` (the system's errors), `memory`, and then `causes` and `telling`.
 #![tactic(auto)]
 
 pub mod causes;
 mod dates;
 mod ends;
 mod faults;
+mod listings;
 mod memory;
 mod names;
 mod outside;

@@ -45,7 +45,7 @@ fn changes_in(command: &Command) -> Option<&[Change]> {
     match command {
         Command::Change(change) => Some(slice::from_ref(change)),
         Command::Batch(changes) => Some(changes.as_slice()),
-        Command::Save(_) => None,
+        Command::Save(_) | Command::Locate(_) => None,
     }
 }
 

@@ -67,8 +67,8 @@ fn write_kind(
 ) -> Result<(), AllocError> {
     match kind {
         ErrorKind::UnknownArgument => write!(text, "{thing}: no such option here"),
-        ErrorKind::InvalidSubcommand => write!(text, "{thing}: no such command, it is run or gen"),
-        ErrorKind::MissingSubcommand => text.push_str("no command is given, it is run or gen"),
+        ErrorKind::InvalidSubcommand => write!(text, "{thing}: no such command, it is run, gen or list"),
+        ErrorKind::MissingSubcommand => text.push_str("no command is given, it is run, gen or list"),
         ErrorKind::ArgumentConflict => write!(text, "{}: given twice", option_of(thing)),
         ErrorKind::InvalidValue => {
             write!(text, "{}: a value is missing behind it", option_of(thing))
@@ -121,6 +121,11 @@ fn write_gen_cause(text: &mut String, found: &ArgMatches<'_>) -> Result<(), Allo
     write_number(text, "PAGES", 1, 1000, found.get_str("pages"))
 }
 
+/// Writes what is wrong with the value that `list` is given, if something is.
+fn write_list_cause(text: &mut String, found: &ArgMatches<'_>) -> Result<(), AllocError> {
+    write_option(text, "FILE", found.get_str("file"))
+}
+
 /// Writes what is wrong with the values that `run` is given first, if something is.
 fn write_run_cause(text: &mut String, found: &ArgMatches<'_>) -> Result<(), AllocError> {
     if let Some(date) = found.get_str("date") {
@@ -142,7 +147,7 @@ fn write_help_cause(text: &mut String, words: &[String]) -> Result<(), AllocErro
     match words {
         [command] => write!(
             text,
-            "{}: no such command, it is run or gen",
+            "{}: no such command, it is run, gen or list",
             command.as_str()
         ),
         _ => text.push_str("help: it takes one command"),
@@ -162,6 +167,7 @@ fn write_fault(
             Err(error) => write_parser_cause(alloc, text, error),
             Ok(matches) => match matches.subcommand() {
                 Some((name, found)) if name == "gen" => write_gen_cause(text, found),
+                Some((name, found)) if name == "list" => write_list_cause(text, found),
                 Some((_, found)) => write_run_cause(text, found),
                 None => Ok(()),
             },
@@ -174,6 +180,7 @@ fn help_for(words: &[String]) -> &'static str {
     match words {
         [first, ..] if first.as_str() == "run" => "vortex run --help",
         [first, ..] if first.as_str() == "gen" => "vortex gen --help",
+        [first, ..] if first.as_str() == "list" => "vortex list --help",
         _ => "vortex --help",
     }
 }

@@ -9,3 +9,4 @@ pub mod Standing
 pub mod Keeping
 pub mod LastRow
 pub mod Resuming
+pub mod Locating

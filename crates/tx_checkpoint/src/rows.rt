@@ -1,11 +1,72 @@
 //! The rows of a run, and the greatest one up to which an edit leaves all reads as they are.
 ghost use Rattle.std.specs.Prelude.{◌≡◌};
+ghost use Rattle.std.specs.FinMap.{get};
+ghost use Rattle.std.specs.List.{prefix_len};
+ghost use Rattle.tx_checkpoint.specs.Locate as locate;
 ghost use Rattle.tx_checkpoint.specs.Resume.{resume, stays, all_stay};
+ghost use Rattle.tx_files.specs.Reads as reads;
 
+use crate::located::Located;
 use crate::row::{Row, Rows};
-use tx_files::{Change, untouched};
+use tx_files::{Change, Extent, Name, Seen, untouched};
+
+/// Whether all that was read of a file lies before a place in it.
+fn lies_before(extent: Extent, place: u64) -> bool
+    ensures { result ≡ reads.lies_before extent place }
+{
+    match extent {
+        Extent::Upto(n) => n <= place,
+        Extent::Absent | Extent::Whole => false,
+    }
+}
+
+/// Whether an edit at a place of the file of this name leaves what was read.
+fn leaves(seen: &Seen, name: &Name, place: u64) -> bool
+    ensures { result ≡ reads.leaves (get seen.now name.now) place }
+{
+    match seen.get(name.as_slice()) {
+        None => true,
+        Some(reads) => lies_before(reads.extent, place),
+    }
+}
+
+/// What an edit touches first that leaves the first of so many rows, so many, and perhaps the last stretch.
+fn located_at(passed: usize, rows: usize, left: bool) -> Located
+    ensures { result ≡ locate.located_at passed rows left }
+{
+    if passed < rows {
+        Located::Page(passed + 1)
+    } else if left {
+        Located::Nowhere
+    } else {
+        Located::After
+    }
+}
 
 impl<S> Rows<S> {
+    /// How many of the first rows an edit at a place of the file of this name leaves.
+    fn passed(&self, name: &Name, place: u64) -> usize
+        ensures { result ≡ prefix_len (locate.passes name.now place) self.now.rows.items }
+    {
+        let mut passed = 0;
+        for row in &self.rows {
+            if !leaves(&row.seen, name, place) {
+                return passed;
+            }
+            passed += 1;
+        }
+        passed
+    }
+
+    /// The first row whose reads an edit at a place of the file of this name touches. It takes no memory.
+    pub fn locate(&self, name: &Name, place: u64) -> Located
+        ensures { result ≡ locate.located_in self.now.rows.items self.now.last name.now place }
+    {
+        let passed = self.passed(name, place);
+        let left = leaves(&self.last.seen, name, place);
+        located_at(passed, self.rows.len(), left)
+    }
+
     /// The row at which formatting resumes after changes: the last one that they leave with all rows before it, 0 where they
     /// don't leave the first. It takes no memory.
     pub fn resume_at(&self, changes: &[Change]) -> usize

@@ -39,7 +39,7 @@ length-counts [] = refl
 length-counts (count ∷ counts) = omega (arith, length-counts counts)
 
 -- a page takes as many bytes as its size says, whatever its pointer
-size-page_bytes : (page : Page) (pointer : ℤ) → length page.counts ≡ 10 → length (page_bytes page pointer) ≡ page_size page
+pub size-page_bytes : (page : Page) (pointer : ℤ) → length page.counts ≡ 10 → length (page_bytes page pointer) ≡ page_size page
 unfolding four_bytes
 size-page_bytes page pointer ten =
     simp length-append (omega (arith, length-counts page.counts, ten))

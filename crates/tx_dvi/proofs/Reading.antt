@@ -9,7 +9,9 @@ use Rattle.byteorder.specs.Endian.{big_number}
 use Rattle.byteorder.specs.Numbers.{big_number-reads_back}
 use Rattle.tx_dvi.specs.declared.font.FontDefinition.{FontDefinition}
 use Rattle.tx_dvi.specs.Dvi.{four_bytes, unsigned_bytes, definition_bytes, IsDefinable}
-use Rattle.tx_dvi.specs.Meaning.{Widths, Registers, ReaderFonts, Reader, Placed, operands, carried_out, when_whole, read, signed, right_by, down_by, rule_set, with_rule, with_special, character_set, set_character, is_font_number, is_known, choose, choosing, define, defining, definition_in}
+use Rattle.tx_dvi.specs.declared.placed.Placed.{Placed}
+use Rattle.tx_dvi.specs.declared.placed.Registers.{Registers}
+use Rattle.tx_dvi.specs.Meaning.{Widths, ReaderFonts, Reader, operands, carried_out, when_whole, read, signed, right_by, down_by, rule_set, with_rule, with_special, character_set, set_character, is_font_number, is_known, choose, choosing, define, defining, definition_in}
 
 -- the reader between two commands
 abbrev pub reader : Registers → ReaderFonts → List Registers → List Placed → Reader
@@ -26,19 +28,19 @@ gt-leb : (m n : ℕ) → n < m → nat_le m n ≡ false
 gt-leb m n past = grind (arith, leb_tells)
 
 -- which commands are characters and fonts
-operands-character : (code : ℕ) (bytes : List ℕ) → code < 128 → operands code bytes ≡ Some 0
+pub operands-character : (code : ℕ) (bytes : List ℕ) → code < 128 → operands code bytes ≡ Some 0
 operands-character code bytes h = rw (lt-ltb code 128 h) refl
 
 carried-character : (widths : Widths) (code : ℕ) (bytes : List ℕ) (r : Reader) → code < 128 → carried_out widths code bytes r ≡ set_character widths code r.fonts.chosen r
 carried-character widths code bytes r h = rw (lt-ltb code 128 h) refl
 
-font-opcode : (number : ℕ) → number < 64 → is_font_number (171 + number) ≡ true
+pub font-opcode : (number : ℕ) → number < 64 → is_font_number (171 + number) ≡ true
 font-opcode number h = λ i. le-leb 171 (171 + number) (omega arith) i && le-leb (171 + number) 234 (omega arith) i
 
 no-character : (number : ℕ) → nat_lt (171 + number) 128 ≡ false
 no-character number = grind (arith, nat_tests)
 
-operands-font : (number : ℕ) (bytes : List ℕ) → number < 64 → operands (171 + number) bytes ≡ Some 0
+pub operands-font : (number : ℕ) (bytes : List ℕ) → number < 64 → operands (171 + number) bytes ≡ Some 0
 operands-font number bytes h = rw (no-character number, font-opcode number h) refl
 
 carried-font : (widths : Widths) (number : ℕ) (bytes : List ℕ) (r : Reader) → number < 64 → carried_out widths (171 + number) bytes r ≡ choose number r
@@ -94,7 +96,7 @@ module _ (widths : Widths) (now : Registers) (fonts : ReaderFonts) (stack : List
   run-put_rule height width = refl
 
   -- a reader in the midst of a command
-  abbrev half : List ℕ → Reader
+  abbrev pub half : List ℕ → Reader
   half bytes = record { now = now; fonts = fonts; stack = stack; met = met; begun = bytes }
 
   -- The bytes of a command whose first ones tell how many follow are gathered until all are there.
@@ -103,7 +105,7 @@ module _ (widths : Widths) (now : Registers) (fonts : ReaderFonts) (stack : List
     abbrev test : List ℕ → List ℕ → Bool → Option Reader
     test old bytes b = cond b (Some (half bytes)) (carried_out widths (get_or bytes 0 0) (drop 1 bytes) (reader now fonts stack met))
 
-    gathered : (old done text : List ℕ) → length header + (length done + length text) ≡ suc more
+    pub gathered : (old done text : List ℕ) → length header + (length done + length text) ≡ suc more
         → run widths (when_whole widths (Some more) (header ++ done) (half old)) text ≡ told (done ++ text)
     gathered old done [] h =
         ap (test old (header ++ done)) (let long = length-append header done in let past : more < length (header ++ done) = omega (arith, long, h) in gt-leb _ _ past)

@@ -4,50 +4,18 @@ use Rattle.std.specs.Int.{is_positive}
 use Rattle.std.specs.List.{list_any}
 use Rattle.byteorder.specs.Endian.{big_number, twos_complement}
 use Rattle.tx_dvi.specs.declared.font.FontDefinition.{FontDefinition}
+use Rattle.tx_dvi.specs.declared.placed.Placed.{Placed}
+use Rattle.tx_dvi.specs.declared.placed.Placed.TheVariants.{Lettered, Ruled, Noted}
+use Rattle.tx_dvi.specs.declared.placed.Registers.{Registers}
 
 -- how wide the characters of the fonts are: by the number of a font and a code
 abbrev pub Widths : Type 0
 Widths = ℕ → ℕ → ℤ
 
--- a character: the number of its font, its code, and how far right and down its reference point lies
-pub record PlacedCharacter : Type 0 where
-  pub font : ℕ
-  pub code : ℕ
-  pub h : ℤ
-  pub v : ℤ
-
--- a rule: how far right and down its lower left corner lies, how high and how wide it is
-pub record PlacedRule : Type 0 where
-  pub h : ℤ
-  pub v : ℤ
-  pub height : ℤ
-  pub width : ℤ
-
--- a special: how far right and down it stands, and its bytes
-pub record PlacedSpecial : Type 0 where
-  pub h : ℤ
-  pub v : ℤ
-  pub text : List ℕ
-
--- what the reader of a page meets
-pub data Placed : Type 0 where
-  lettered : PlacedCharacter → Placed
-  ruled : PlacedRule → Placed
-  noted : PlacedSpecial → Placed
-
 -- what a page brings: what its reader meets, in this order, and the fonts that it defines
 pub record Contents : Type 0 where
   pub placed : List Placed
   pub fonts : List FontDefinition
-
--- where the reader of a page is, and its four amounts of movement
-pub record Registers : Type 0 where
-  pub h : ℤ
-  pub v : ℤ
-  pub w : ℤ
-  pub x : ℤ
-  pub y : ℤ
-  pub z : ℤ
 
 -- what the reader knows of fonts: the one that was chosen last, the numbers of all that are defined, and the definitions of this
 -- page
@@ -83,6 +51,19 @@ definition_operands bytes = if nat_lt 15 (length bytes) then 15 + (get_or bytes 
 abbrev pub is_font_number : ℕ → Bool
 is_font_number opcode = nat_le 171 opcode && nat_le opcode 234
 
+-- the movements, from right1 to z4, and how many bytes follow their first ones
+abbrev pub is_movement : ℕ → Bool
+is_movement opcode = nat_le 143 opcode && nat_le opcode 170
+
+abbrev pub movement_operands : ℕ → ℕ
+movement_operands opcode =
+    if nat_le opcode 146 then opcode - 142
+    else if nat_le opcode 151 then opcode - 147
+    else if nat_le opcode 156 then opcode - 152
+    else if nat_le opcode 160 then opcode - 156
+    else if nat_le opcode 165 then opcode - 161
+    else opcode - 166
+
 -- how many bytes follow the first one of a command of which these bytes are there, None where it begins none of these:
 -- set_char_0 to set_char_127 from 0, and set1 128; fnt_num_0 to fnt_num_63 from 171, fnt1 235 and fnt_def1 243; set_rule 132, put_rule 137, nop 138, push 141, pop 142; right1 to right4 from 143, w0 to w4 from 147, x0 to x4 from 152,
 -- down1 to down4 from 157, y0 to y4 from 161, z0 to z4 from 166; xxx1 to xxx4, the specials, from 239
@@ -93,13 +74,7 @@ operands opcode bytes =
     else if opcode == 243 then Some (definition_operands bytes)
     else if opcode == 132 || opcode == 137 then Some 8
     else if opcode == 138 || opcode == 141 || opcode == 142 then Some 0
-    else if nat_lt opcode 143 then None
-    else if nat_le opcode 146 then Some (opcode - 142)
-    else if nat_le opcode 151 then Some (opcode - 147)
-    else if nat_le opcode 156 then Some (opcode - 152)
-    else if nat_le opcode 160 then Some (opcode - 156)
-    else if nat_le opcode 165 then Some (opcode - 161)
-    else if nat_le opcode 170 then Some (opcode - 166)
+    else if is_movement opcode then Some (movement_operands opcode)
     else if nat_lt opcode 239 then None
     else if nat_le opcode 242 then Some (special_operands (opcode - 238) bytes)
     else None
@@ -128,10 +103,10 @@ moved opcode size r =
 -- a rule is met where both its sides are positive
 abbrev pub rule_met : ℤ → ℤ → ℤ → ℤ → List Placed
 rule_met h v height width =
-    if is_positive height then (if is_positive width then ruled (record { h = h; v = v; height = height; width = width }) ∷ [] else []) else []
+    if is_positive height then (if is_positive width then Ruled (record { h = h; v = v; height = height; width = width }) ∷ [] else []) else []
 
 abbrev pub special_met : ℤ → ℤ → List ℕ → List Placed
-special_met h v text = noted (record { h = h; v = v; text = text }) ∷ []
+special_met h v text = Noted (record { h = h; v = v; text = text }) ∷ []
 
 abbrev pub with_rule : ℤ → ℤ → Reader → Reader
 with_rule height width r = record r { met = r.met ++ rule_met r.now.h r.now.v height width }
@@ -148,7 +123,7 @@ with_fonts fonts r = record r { fonts = fonts }
 -- a character is met in the font that was chosen last, and the reader moves to the right by its width; None where no font was
 -- chosen
 abbrev pub character_met : ℕ → ℕ → ℤ → ℤ → List Placed
-character_met font code h v = lettered (record { font = font; code = code; h = h; v = v }) ∷ []
+character_met font code h v = Lettered (record { font = font; code = code; h = h; v = v }) ∷ []
 
 abbrev pub with_character : ℕ → ℕ → Reader → Reader
 with_character font code r = record r { met = r.met ++ character_met font code r.now.h r.now.v }
@@ -211,7 +186,8 @@ carried_out widths opcode bytes r =
     else if opcode == 141 then Some (record r { stack = r.now ∷ r.stack })
     else if opcode == 142 then popped r.stack r
     else if nat_le 239 opcode then Some (with_special (drop (opcode - 238) bytes) r)
-    else Some (with_registers (moved opcode (signed (length bytes) bytes) r.now) r)
+    else if is_movement opcode then Some (with_registers (moved opcode (signed (movement_operands opcode) bytes) r.now) r)
+    else None
 
 -- the bytes of a command: it is carried out once all of them are there
 abbrev pub when_whole : Widths → Option ℕ → List ℕ → Reader → Option Reader

@@ -38,7 +38,7 @@ pub fn four_bytes(n: i32) -> [u8; 4]
 }
 
 #[tactic(auto, unfolding(crate::specs::Dvi::unsigned_bytes))]
-fn unsigned_bytes(n: u32) -> [u8; 4]
+pub(crate) fn unsigned_bytes(n: u32) -> [u8; 4]
     ensures { result ≡ spec.unsigned_bytes n }
 {
     let mut bytes = [0; 4];
@@ -75,7 +75,7 @@ pub fn definition(alloc: Global, font: &FontDefinition) -> Result<Bytes, AllocEr
 }
 
 #[tactic(auto, unfolding(crate::specs::Dvi::two_bytes))]
-fn two_bytes(n: u16) -> [u8; 2]
+pub(crate) fn two_bytes(n: u16) -> [u8; 2]
     ensures { result ≡ spec.two_bytes n }
 {
     let mut bytes = [0; 2];
@@ -91,7 +91,7 @@ fn two_digits(n: i32) -> [u8; 2]
 }
 
 #[tactic(auto, unfolding(crate::specs::Dvi::four_bytes))]
-fn units(mag: u16) -> [u8; 12]
+pub(crate) fn units(mag: u16) -> [u8; 12]
     ensures { result ≡ spec.units mag }
 {
     let mut bytes = [0; 12];

@@ -5,7 +5,7 @@ use Rattle.tx_files.specs.declared.edit.Edit.{Edit as FileEdit}
 use Rattle.tx_files.specs.declared.edit.Change.{Change}
 use Rattle.tx_files.specs.declared.edit.Change.TheVariants.{Edit, Remove}
 use Rattle.tx_script.specs.declared.command.Command.{Command}
-use Rattle.tx_script.specs.declared.command.Command.TheVariants.{Change as Lone, Batch, Save}
+use Rattle.tx_script.specs.declared.command.Command.TheVariants.{Change as Lone, Batch, Save, Locate}
 use Rattle.tx_gen.specs.Draws.{next, drawn, times}
 use Rattle.tx_gen.specs.Book.{letter, page, page_start}
 
@@ -50,3 +50,4 @@ IsReplacement book (Lone (Edit e)) = ReplacesLetter book e
 IsReplacement book (Lone (Remove name)) = ⊥
 IsReplacement book (Batch changes) = ⊥
 IsReplacement book (Save name) = ⊥
+IsReplacement book (Locate at) = ⊥

@@ -6,7 +6,7 @@ use Rattle.std.proofs.lemmas.Grind.{flat_map-append}
 use Rattle.std.proofs.lemmas.List.{append-nil, length-append, take_at}
 use Rattle.tx_files.specs.declared.edit.Change.TheVariants.{Edit, Remove}
 use Rattle.tx_script.specs.declared.command.Command.{Command}
-use Rattle.tx_script.specs.declared.command.Command.TheVariants.{Change as Lone, Batch, Save}
+use Rattle.tx_script.specs.declared.command.Command.TheVariants.{Change as Lone, Batch, Save, Locate}
 use Rattle.tx_script.specs.declared.error.Broken.{Broken}
 use Rattle.tx_script.specs.declared.error.Rule.{Rule}
 use Rattle.tx_script.specs.Text.{bytes_of, elements, rules, rules_of, text, IsCommand, IsScript, IsTextOf, BeginsScript, IsNextRule, IsRefusal}
@@ -33,6 +33,7 @@ some_text (Lone (Edit e)) = omega arith
 some_text (Lone (Remove name)) = omega arith
 some_text (Batch changes) = omega arith
 some_text (Save name) = omega arith
+some_text (Locate at) = omega arith
 
 IsScript-append : (a b : List Command) → IsScript a → IsScript b → IsScript (a ++ b)
 IsScript-append [] b ha hb = hb

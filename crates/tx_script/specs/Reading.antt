@@ -6,7 +6,8 @@ use Rattle.tx_files.specs.declared.edit.Edit.{Edit as FileEdit}
 use Rattle.tx_files.specs.declared.edit.Change.{Change}
 use Rattle.tx_files.specs.declared.edit.Change.TheVariants.{Edit, Remove}
 use Rattle.tx_script.specs.declared.command.Command.{Command}
-use Rattle.tx_script.specs.declared.command.Command.TheVariants.{Change as Lone, Batch, Save}
+use Rattle.tx_script.specs.declared.command.Command.TheVariants.{Change as Lone, Batch, Save, Locate}
+use Rattle.tx_script.specs.declared.command.FilePlace.{FilePlace}
 use Rattle.tx_script.specs.declared.element.ChangeWord.{ChangeWord}
 use Rattle.tx_script.specs.declared.element.ChangeWord.TheVariants as changing
 use Rattle.tx_script.specs.declared.element.CommandWord.{CommandWord}
@@ -124,6 +125,8 @@ word_at bytes =
     then (literal_at Word (codes "batch ") bytes >>= λ rest. Ok (words.Batch, rest))
     else if begins_with 114 bytes
     then (literal_at Word (codes "remove ") bytes >>= λ rest. Ok (words.Remove, rest))
+    else if begins_with 108 bytes
+    then (literal_at Word (codes "locate ") bytes >>= λ rest. Ok (words.Locate, rest))
     else (literal_at Word (codes "edit ") bytes >>= λ rest. Ok (words.Edit, rest))
 
 -- the word that begins a command of a batch, and a space
@@ -168,12 +171,20 @@ batch_at bytes = do
   count ← count_at bytes
   changes_at count.0 count.1
 
+-- a place of a file, after the word that asks for it
+unfoldable pub file_place_at : List ℕ → Read FilePlace
+file_place_at bytes = do
+  place ← number_at bytes
+  name ← name_at place.1
+  Ok (record { name = name.0; place = place.0 }, name.1)
+
 -- what follows a word
 abbrev pub after_word : CommandWord → List ℕ → Read Command
 after_word words.Edit bytes = edit_at bytes >>= λ e. Ok (Lone (Edit e.0), e.1)
 after_word words.Remove bytes = name_at bytes >>= λ name. Ok (Lone (Remove name.0), name.1)
 after_word words.Batch bytes = batch_at bytes >>= λ changes. Ok (Batch changes.0, changes.1)
 after_word words.Save bytes = name_at bytes >>= λ name. Ok (Save name.0, name.1)
+after_word words.Locate bytes = file_place_at bytes >>= λ at. Ok (Locate at.0, at.1)
 
 -- a command
 unfoldable pub command_at : List ℕ → Read Command

@@ -7,7 +7,8 @@ use Rattle.tx_files.specs.declared.edit.Edit.{Edit as FileEdit}
 use Rattle.tx_files.specs.declared.edit.Change.{Change}
 use Rattle.tx_files.specs.declared.edit.Change.TheVariants.{Edit, Remove}
 use Rattle.tx_script.specs.declared.command.Command.{Command}
-use Rattle.tx_script.specs.declared.command.Command.TheVariants.{Change as Lone, Batch, Save}
+use Rattle.tx_script.specs.declared.command.Command.TheVariants.{Change as Lone, Batch, Save, Locate}
+use Rattle.tx_script.specs.declared.command.FilePlace.{FilePlace}
 use Rattle.tx_script.specs.declared.error.Rule.{Rule}
 use Rattle.tx_script.specs.declared.error.Rule.TheVariants.{Word, Number, Name, Put, LineFeed, Count}
 
@@ -37,11 +38,16 @@ counted n = (Count, decimal n ++ 10 ∷ [])
 abbrev pub batch_elements : List Change → List (Rule × List ℕ)
 batch_elements changes = counted (length changes) ∷ flat_map change_elements changes
 
+-- what asks by which page a place is first read is made of after its word: the place, and its file's name and LF
+abbrev pub place_elements : FilePlace → List (Rule × List ℕ)
+place_elements at = number at.place ∷ named at.name ∷ []
+
 -- the elements of a command
 abbrev pub elements : Command → List (Rule × List ℕ)
 elements (Lone c) = change_elements c
 elements (Batch changes) = (Word, codes "batch ") ∷ batch_elements changes
 elements (Save name) = (Word, codes "save ") ∷ named name ∷ []
+elements (Locate at) = (Word, codes "locate ") ∷ place_elements at
 
 -- the bytes that elements are written with
 abbrev pub bytes_of : List (Rule × List ℕ) → List ℕ
@@ -84,11 +90,17 @@ pub record IsBatch (changes : List Change) : Type 0 where
   pub few : length changes ≤ 100
   pub each : AllByRecursion IsChange changes
 
+-- a place that a script may ask for
+pub record IsPlace (at : FilePlace) : Type 0 where
+  pub place : at.place ≤ greatest
+  pub is_named : IsTrue (is_name at.name)
+
 -- a command that a script may hold
 abbrev pub IsCommand : Command → Type 0
 IsCommand (Lone c) = IsChange c
 IsCommand (Batch changes) = IsBatch changes
 IsCommand (Save name) = IsTrue (is_name name)
+IsCommand (Locate at) = IsPlace at
 
 -- a script is a list of these
 abbrev pub IsScript : List Command → Type 0

@@ -2,6 +2,14 @@
 use tx_files::{Change, Name};
 use tx_list::Items;
 
+/// A place of a file: so many bytes behind its beginning.
+#[derive(Drop)]
+pub struct FilePlace {
+    /// The file's name.
+    pub name: Name,
+    pub place: u64,
+}
+
 /// What a script asks for.
 #[derive(Drop)]
 pub enum Command {
@@ -11,6 +19,8 @@ pub enum Command {
     Batch(Items<Change>),
     /// What there is at this point is to be saved under this name.
     Save(Name),
+    /// It is to be told by which page this place is first read.
+    Locate(FilePlace),
 }
 
 /// A list of commands, in their order. Contracts see the list.

@@ -16,6 +16,7 @@ pub(crate) enum CommandWord {
     Remove,
     Batch,
     Save,
+    Locate,
 }
 
 /// The word that begins a command of a batch.
@@ -69,6 +70,7 @@ pub(crate) fn word(bytes: &[u8]) -> Result<(CommandWord, &[u8]), Fault>
         [b's', ..] => Ok((CommandWord::Save, literal(bytes, b"save ", Rule::Word)?)),
         [b'b', ..] => Ok((CommandWord::Batch, literal(bytes, b"batch ", Rule::Word)?)),
         [b'r', ..] => Ok((CommandWord::Remove, literal(bytes, b"remove ", Rule::Word)?)),
+        [b'l', ..] => Ok((CommandWord::Locate, literal(bytes, b"locate ", Rule::Word)?)),
         _ => Ok((CommandWord::Edit, literal(bytes, b"edit ", Rule::Word)?)),
     }
 }

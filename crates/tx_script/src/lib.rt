@@ -1,5 +1,5 @@
-//! Scripts of edits: lists of commands, each of which edits a file, takes one away, does several of these together, or saves
-//! what there is, read from their texts.
+//! Scripts of edits: lists of commands, each of which edits a file, takes one away, does several of these together, saves what
+//! there is, or asks by which page a place of a file is first read; they are read from their texts.
 //! `specs/Text.antt` says which bytes are the text of a script, and what the refusal of any others names.
 //!
 //! Proved: exactly the texts of scripts are read, each in the only way there is, and a refusal names the furthest place
@@ -13,6 +13,6 @@ mod element;
 pub mod error;
 mod read;
 
-pub use command::{Command, Script};
+pub use command::{Command, FilePlace, Script};
 pub use error::{Rule, ScriptError};
 pub use read::read_script;

@@ -1,11 +1,11 @@
 //! A script, read from its text.
 ghost use Rattle.std.specs.Prelude.{◌≡◌, IfOk, IfErr, List};
-ghost use Rattle.tx_script.specs.Reading.{Gives, batch_at, change_at, changes_at, command_at, edit_at};
+ghost use Rattle.tx_script.specs.Reading.{Gives, batch_at, change_at, changes_at, command_at, edit_at, file_place_at};
 ghost use Rattle.tx_script.specs.Text.{IsTextOf};
 ghost use Rattle.tx_script.specs.Causes.{IsCause};
 ghost use Rattle.tx_script.specs.declared.command.Command.{Command};
 
-use crate::command::{Command, Script};
+use crate::command::{Command, FilePlace, Script};
 use crate::element::{self, ChangeWord, CommandWord};
 use crate::error::{Fault, ScriptError};
 use std::alloc::Global;
@@ -73,6 +73,16 @@ fn batch(alloc: Global, bytes: &[u8]) -> Result<(Items<Change>, &[u8]), Fault>
     changes(alloc, count, rest)
 }
 
+/// A place of a file, after the word that asks for it.
+#[tactic(auto, unfolding(crate::specs::Reading::file_place_at))]
+fn file_place(alloc: Global, bytes: &[u8]) -> Result<(FilePlace, &[u8]), Fault>
+    ensures { Gives (λ x. (x.0, x.1.now)) result (file_place_at bytes.now) }
+{
+    let (place, rest) = element::number(bytes)?;
+    let (name, rest) = element::name(alloc, rest)?;
+    Ok((FilePlace { name, place }, rest))
+}
+
 /// A command, and the bytes after it.
 #[tactic(auto, unfolding(crate::specs::Reading::command_at))]
 fn command(alloc: Global, bytes: &[u8]) -> Result<(Command, &[u8]), Fault>
@@ -95,6 +105,10 @@ fn command(alloc: Global, bytes: &[u8]) -> Result<(Command, &[u8]), Fault>
         CommandWord::Save => {
             let (name, rest) = element::name(alloc, rest)?;
             Ok((Command::Save(name), rest))
+        }
+        CommandWord::Locate => {
+            let (at, rest) = file_place(alloc, rest)?;
+            Ok((Command::Locate(at), rest))
         }
     }
 }

@@ -3,3 +3,4 @@ pub mod Reusing
 mod Saying
 mod Refusing
 mod Showing
+mod Locating

@@ -4,3 +4,4 @@ pub mod HeldCode
 pub mod Report
 pub mod Made
 pub mod Shows
+pub mod Locating

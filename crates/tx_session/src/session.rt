@@ -5,7 +5,9 @@ ghost use Rattle.tx_files.specs.Changes.{IsOutside as IsPast};
 ghost use Rattle.tx_files.specs.declared.edit.Change.TheVariants as change;
 ghost use Rattle.tx_machine.specs.Ranges.{IsDate, AreLimits};
 ghost use Rattle.tx_machine.specs.Steps.{raised};
-ghost use Rattle.tx_session.specs.Held.{fresh, transcript, body_of, changed_session, edited_session, after, replayed};
+ghost use Rattle.tx_checkpoint.specs.Locate.{located};
+ghost use Rattle.tx_session.specs.Held.{fresh, rows_of, transcript, body_of, changed_session, edited_session, after, replayed};
+ghost use Rattle.tx_session.specs.Locating.{AllLeaveBy};
 ghost use Rattle.tx_session.specs.Refusals.{IsEditAnswer, IsBatchAnswer, IsOutside};
 ghost use Rattle.tx_session.specs.Report as spec;
 ghost use Rattle.tx_session.specs.Report.{report, work, turns_of_changes, turns_of_edit, turns_of_edits};
@@ -18,6 +20,7 @@ use std::alloc::{AllocError, Global};
 use std::marker::Model;
 use std::slice;
 use tx_bytes::Bytes;
+use tx_checkpoint::Located;
 use tx_dvi::assemble;
 use tx_files::{Change, Edit, FileSet, Name};
 use tx_machine::{Date, End, Limits, Machine, Steps};
@@ -200,6 +203,16 @@ impl<M: Machine> Session<M> {
             self.edit_if_it_fits(e, steps)?;
         }
         Ok(())
+    }
+
+    /// By which page what stands at a place of a file is first read; it takes no memory. An edit there, if it is accepted, leaves
+    /// the pages before that one and their transcript; where the place is read behind the last page alone it leaves all pages, and
+    /// where it isn't read at all the whole run, without a turn.
+    pub fn locate(&self, name: &Name, place: u64) -> Located
+        ensures located { result ≡ located (rows_of M.formatter self.now) name.now place }
+        ensures leaves { AllLeaveBy M.formatter self.now name.now place result }
+    {
+        self.made.rows.locate(name, place)
     }
 
     /// How many pages there are.

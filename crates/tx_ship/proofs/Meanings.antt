@@ -18,7 +18,10 @@ use Rattle.tx_node.specs.Items.{Item, plain, shared, boxed, discretionary, adjus
 use Rattle.tx_node.specs.Setting.{Reach, begun}
 use Rattle.tx_dvi.specs.declared.font.FontDefinition.{FontDefinition}
 use Rattle.tx_dvi.specs.Dvi.{four_bytes, definition_bytes, IsDefinable}
-use Rattle.tx_dvi.specs.Meaning.{Widths, Registers, ReaderFonts, Reader, Placed, ruled, right_by, character_met, rule_met, special_met, is_known, choosing, defining, all_met, page_start, meaning}
+use Rattle.tx_dvi.specs.declared.placed.Placed.{Placed}
+use Rattle.tx_dvi.specs.declared.placed.Placed.TheVariants.{Ruled}
+use Rattle.tx_dvi.specs.declared.placed.Registers.{Registers}
+use Rattle.tx_dvi.specs.Meaning.{Widths, ReaderFonts, Reader, right_by, character_met, rule_met, special_met, is_known, choosing, defining, all_met, page_start, meaning}
 use Rattle.tx_dvi.proofs.Reading.{run, reader, run-append, run-push, run-pop, run-xxx1, run-xxx4, run-set_char, run-set1, run-fnt_num, run-fnt1, run-fnt_def1}
 use Rattle.tx_tfm.specs.declared.named.NamedFont.{NamedFont}
 use Rattle.tx_tfm.specs.declared.state.FontState.{FontState}
@@ -54,14 +57,14 @@ Takes widths now stack met pen end bytes new = run widths (here now pen.at pen.f
 hidden : (h v height width : ℤ) → (is_positive width && is_positive height) ≡ false → rule_met h v height width ≡ []
 hidden h v height width e = by (is_positive height) (is_positive width) e
   where
-    by : (a b : Bool) → (b && a) ≡ false → cond {A = List Placed} a (cond {A = List Placed} b (ruled (record { h = h; v = v; height = height; width = width }) ∷ []) []) [] ≡ []
+    by : (a b : Bool) → (b && a) ≡ false → cond {A = List Placed} a (cond {A = List Placed} b (Ruled (record { h = h; v = v; height = height; width = width }) ∷ []) []) [] ≡ []
     by true true f = absurd (cc)
     by true false f = refl
     by false b f = refl
 
--- a text that stands on a page
-abbrev IsShort : List ℕ → Type 0
-IsShort bytes = length bytes ≤ 200000
+-- plain commands that stand on a page: a movement by a register has a fifth of their bytes at least
+abbrev pub IsShort : List ℕ → Type 0
+IsShort bytes = length bytes ≤ 1000000
 
 -- a rule as the file has it, whose sides the file can hold
 record Fits (r : CornerRule) : Type 0 where
@@ -146,7 +149,7 @@ module _ (widths : Widths) (now : Registers) (known : ReaderFonts) (stack : List
   unfolding special
   text-short text before h = by (nat_lt (length text) 256) (let l = length-append before (special text) in omega (arith, l, h))
     where
-      by : (b : Bool) → length (cond {A = List ℕ} b (239 ∷ length text ∷ text) (242 ∷ four_bytes (pos (min (length text) 2147483647)) ++ text)) ≤ 200000 → length text < 2 ^ 31
+      by : (b : Bool) → length (cond {A = List ℕ} b (239 ∷ length text ∷ text) (242 ∷ four_bytes (pos (min (length text) 2147483647)) ++ text)) ≤ 1000000 → length text < 2 ^ 31
       by true k = omega (arith, k)
       by false k = let l = length-append (four_bytes (pos (min (length text) 2147483647))) text in omega (arith, l, k)
 
@@ -200,11 +203,11 @@ framed-long [] = omega arith
 framed-long (first ∷ others) = let l = length-append (first ∷ others) (142 ∷ []) in omega (arith, l)
 
 -- each of two parts of what is short
-short-parts : (a b : List ℕ) → IsShort (a ++ b) → IsShort a × IsShort b
+pub short-parts : (a b : List ℕ) → IsShort (a ++ b) → IsShort a × IsShort b
 short-parts a b h = let l = length-append a b in (omega (arith, l, h), omega (arith, l, h))
 
 -- and of what stands framed behind something that is short
-inside-short : (before bytes : List ℕ) → IsShort (before ++ framed bytes) → IsShort bytes
+pub inside-short : (before bytes : List ℕ) → IsShort (before ++ framed bytes) → IsShort bytes
 inside-short before bytes h = let p = (short-parts before (framed bytes) h).1 in let l = framed-long bytes in omega (arith, p, l)
 
 -- what lies on the page with a box, where it has a list
@@ -423,7 +426,7 @@ module _ (fonts : List FontState) (are : AreFonts fonts) where
         (approached-reads wide now pen.fonts stack met direction pen.at (cursor_at at) reads aims) short_inside)
 
   -- the commands of a page mean the characters, rules and specials of its box, at their places, and define its fonts
-  pub page-means : (known : List ℕ) (b : PackedBox) (hoffset voffset : ℤ) → AreOfFonts fonts (items_of b.list) → page_lies b hoffset voffset ≡ true → length (written_of fonts known b hoffset voffset).0 ≤ 200000
+  pub page-means : (known : List ℕ) (b : PackedBox) (hoffset voffset : ℤ) → AreOfFonts fonts (items_of b.list) → page_lies b hoffset voffset ≡ true → IsShort (written_of fonts known b hoffset voffset).0
       → meaning wide known (written_of fonts known b hoffset voffset).0 ≡ Some (record { placed = placed b hoffset voffset; fonts = (written_of fonts known b hoffset voffset).1.fonts.defined })
   unfolding meaning
   page-means known b hoffset voffset of_fonts lies short =

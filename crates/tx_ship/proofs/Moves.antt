@@ -3,20 +3,22 @@ use Rattle.std.proofs.Common.{◌≡◌, ◌==◌, ℕ, ◌+◌, ◌-◌, ◌^�
 use Rattle.std.proofs.lemmas.Bool.{ltb-true, eqb-true}
 use Rattle.std.proofs.lemmas.Int.{ints}
 use Rattle.tx_dvi.specs.Dvi.{four_bytes}
-use Rattle.tx_dvi.specs.Meaning.{Widths, Registers, ReaderFonts, Placed, right_by, down_by, rule_set, with_rule}
+use Rattle.tx_dvi.specs.declared.placed.Placed.{Placed}
+use Rattle.tx_dvi.specs.declared.placed.Registers.{Registers}
+use Rattle.tx_dvi.specs.Meaning.{Widths, ReaderFonts, right_by, down_by, rule_set, with_rule}
 use Rattle.tx_dvi.proofs.Reading as dvi
 use Rattle.tx_dvi.proofs.Reading.{run, reader}
 use Rattle.tx_dvi.proofs.SignedBack.{signed-back1, signed-back2, signed-back3, signed-back4}
 use Rattle.tx_ship.specs.Commands.{movement, movement_size, right, down}
 
 -- a movement by its size
-data Sized (by : ℤ) : Type 0 where
+pub data Sized (by : ℤ) : Type 0 where
   one : movement_size by ≡ 1 → unsigned_abs by < 128 → Sized by
   two : movement_size by ≡ 2 → unsigned_abs by < 32768 → Sized by
   three : movement_size by ≡ 3 → unsigned_abs by < 8388608 → Sized by
   four : movement_size by ≡ 4 → Sized by
 
-sized : (by : ℤ) → Sized by
+pub sized : (by : ℤ) → Sized by
 sized by = first (nat_lt (unsigned_abs by) 128) refl
   where
     third : nat_lt (unsigned_abs by) 128 ≡ false → nat_lt (unsigned_abs by) 32768 ≡ false → (b : Bool) → nat_lt (unsigned_abs by) 8388608 ≡ b → Sized by
@@ -32,12 +34,12 @@ sized by = first (nat_lt (unsigned_abs by) 128) refl
     first false e = second e (nat_lt (unsigned_abs by) 32768) refl
 
 -- the bytes of a movement of this size
-moves : (shortest : ℕ) (by : ℤ) (size : ℕ) → (unsigned_abs by == 0) ≡ false → movement_size by ≡ size → movement shortest by ≡ (shortest + (size - 1)) ∷ drop (4 - size) (four_bytes by)
+pub moves : (shortest : ℕ) (by : ℤ) (size : ℕ) → (unsigned_abs by == 0) ≡ false → movement_size by ≡ size → movement shortest by ≡ (shortest + (size - 1)) ∷ drop (4 - size) (four_bytes by)
 unfolding movement
 moves shortest by size some is =
     ap (λ b. cond b [] ((shortest + (movement_size by - 1)) ∷ drop (4 - movement_size by) (four_bytes by))) some ∙ (λ i. (shortest + (is i - 1)) ∷ drop (4 - is i) (four_bytes by))
 
-still : (shortest : ℕ) (by : ℤ) → (unsigned_abs by == 0) ≡ true → movement shortest by ≡ []
+pub still : (shortest : ℕ) (by : ℤ) → (unsigned_abs by == 0) ≡ true → movement shortest by ≡ []
 unfolding movement
 still shortest by e = ap (λ b. cond b [] ((shortest + (movement_size by - 1)) ∷ drop (4 - movement_size by) (four_bytes by))) e
 

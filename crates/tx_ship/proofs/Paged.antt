@@ -10,6 +10,7 @@ use Rattle.tx_ship.specs.declared.error.ShipError.TheVariants.{SizeTooLarge, Out
 use Rattle.tx_dvi.specs.Meaning.{ReaderFonts}
 use Rattle.tx_tfm.specs.declared.state.FontState.{FontState}
 use Rattle.tx_ship.specs.Commands.{Pen, written_of}
+use Rattle.tx_ship.specs.Registers.{registered}
 use Rattle.tx_ship.specs.Within.{page_lies}
 use Rattle.tx_ship.specs.Pages.{sizes_fit, page_of, page_of_body, page_made, page_with}
 
@@ -31,7 +32,7 @@ module _ (fonts : List FontState) (b : PackedBox) (params : ShipParams) where
   pub outside : sizes_fit b params ≡ true → page_lies b params.hoffset params.voffset ≡ false → page_of fonts b params ≡ Err OutsidePage
   outside e f = page-of true false e f
 
-  pub too-long : (body : List ℕ) → sizes_fit b params ≡ true → page_lies b params.hoffset params.voffset ≡ true → body ≡ all_written.0 → 200000 < length body
+  pub too-long : (body : List ℕ) → sizes_fit b params ≡ true → page_lies b params.hoffset params.voffset ≡ true → body ≡ registered all_written.0 → 200000 < length body
       → page_of fonts b params ≡ Err BodyTooLong
   too-long body e f is long =
       page-of true true e f ∙ ap (λ bytes. cond (nat_le (length bytes) 200000) (Ok (page_with b params all_written)) (Err BodyTooLong)) (sym is)
@@ -41,7 +42,7 @@ module _ (fonts : List FontState) (b : PackedBox) (params : ShipParams) where
       gt-leb h = grind (arith, leb_tells)
 
   -- the page, by the bytes and the definitions that were written
-  pub page-is : (body : List ℕ) (known : ReaderFonts) → sizes_fit b params ≡ true → page_lies b params.hoffset params.voffset ≡ true → body ≡ all_written.0 → known ≡ all_written.1.fonts → length body ≤ 200000
+  pub page-is : (body : List ℕ) (known : ReaderFonts) → sizes_fit b params ≡ true → page_lies b params.hoffset params.voffset ≡ true → body ≡ registered all_written.0 → known ≡ all_written.1.fonts → length body ≤ 200000
       → page_of fonts b params ≡ Ok (page_made b params body known.defined)
   page-is body known e f is known_is short =
       page-of true true e f ∙ ap (λ bytes. cond (nat_le (length bytes) 200000) (Ok (page_with b params all_written)) (Err BodyTooLong)) (sym is)

@@ -1,4 +1,4 @@
--- The definitions at pages that Knuth's TeX ships with the same bytes, and at lines whose places were worked out by hand.
+-- The definitions at plain pages that Knuth's TeX ships with the same bytes, at movements by registers, and at lines whose places were worked out by hand.
 use Rattle.std.proofs.Common.{◌≡◌, ℕ, ℤ, pos, negsuc, List, [], ◌∷◌, Some, None, refl}
 use Rattle.tx_node.specs.declared.head.BoxHead.{BoxHead}
 use Rattle.tx_node.specs.declared.head.Change.TheVariants.{Stretch, Shrink}
@@ -18,9 +18,11 @@ use Rattle.tx_tfm.specs.declared.state.FontState.{FontState}
 use Rattle.tx_tfm.specs.Fonts.{loaded_state, null_state}
 use Rattle.tx_tfm.specs.Format.{tfm_of, word_at, design_size_of}
 use Rattle.tx_ship.specs.Characters.{font_commands, definition_commands, choice, set_code}
-use Rattle.tx_dvi.specs.Meaning.{Placed, lettered, ruled, noted}
+use Rattle.tx_dvi.specs.declared.placed.Placed.{Placed}
+use Rattle.tx_dvi.specs.declared.placed.Placed.TheVariants.{Lettered, Ruled, Noted}
 use Rattle.tx_ship.specs.Commands.{written_of, list_commands, character_item, rule_item, rule_bytes, way, movement, special}
 use Rattle.tx_ship.specs.Placing.{placed, placed_list}
+use Rattle.tx_ship.specs.Registers.{registered}
 
 -- sizes and items
 abbrev rule_of : ℕ → ℕ → ℕ → Item
@@ -148,13 +150,23 @@ fonts-page : page_in (1 ∷ 0 ∷ []) (head Vertical 819200 327680 0 Natural)
 unfolding list_commands character_item font_commands definition_commands choice set_code way movement four_bytes
 fonts-page = refl
 
+-- a movement is by the register that holds its amount, or sets the one that was used less recently
+by-registers : registered (143 ∷ 3 ∷ 143 ∷ 5 ∷ 143 ∷ 7 ∷ 143 ∷ 3 ∷ 143 ∷ 7 ∷ []) ≡ 148 ∷ 3 ∷ 153 ∷ 5 ∷ 148 ∷ 7 ∷ 153 ∷ 3 ∷ 147 ∷ []
+unfolding registered
+by-registers = refl
+
+-- pop brings back what they hold, and which of them was
+behind-pop : registered (143 ∷ 3 ∷ 141 ∷ 143 ∷ 5 ∷ 142 ∷ 143 ∷ 7 ∷ 157 ∷ 2 ∷ 157 ∷ 2 ∷ []) ≡ 148 ∷ 3 ∷ 141 ∷ 153 ∷ 5 ∷ 142 ∷ 153 ∷ 7 ∷ 162 ∷ 2 ∷ 161 ∷ []
+unfolding registered
+behind-pop = refl
+
 -- Five lines of the same three rules, each behind glue: the places of the rules, where the glue has to grow by so much in all.
 -- Glue that was rounded by itself would leave the last rule of each line off.
 abbrev rights : List Placed → List ℤ
 rights [] = []
-rights (lettered c ∷ rest) = c.h ∷ rights rest
-rights (ruled r ∷ rest) = r.h ∷ rights rest
-rights (noted s ∷ rest) = s.h ∷ rights rest
+rights (Lettered c ∷ rest) = c.h ∷ rights rest
+rights (Ruled r ∷ rest) = r.h ∷ rights rest
+rights (Noted s ∷ rest) = s.h ∷ rights rest
 
 abbrev line : Setting → List ℤ
 line setting = rights (placed (record { head = head Horizontal 3 1 0 setting; list = three }) (pos 0) (pos 0))

@@ -4,4 +4,5 @@ pub mod Commands
 pub mod Written
 pub mod Within
 pub mod Placing
+pub mod Registers
 pub mod Pages

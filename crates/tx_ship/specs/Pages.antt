@@ -10,6 +10,7 @@ use Rattle.tx_ship.specs.declared.params.ShipParams.{ShipParams}
 use Rattle.tx_ship.specs.declared.error.ShipError.{ShipError}
 use Rattle.tx_ship.specs.declared.error.ShipError.TheVariants.{SizeTooLarge, OutsidePage, BodyTooLong}
 use Rattle.tx_ship.specs.Commands.{Pen, written_of, level_of}
+use Rattle.tx_ship.specs.Registers.{registered}
 use Rattle.tx_ship.specs.Within.{page_lies}
 
 -- sizes of a page end at 2^30-1
@@ -43,12 +44,13 @@ page_made b params body fonts = record {
   date = date_of params;
 }
 
+-- the page whose commands are these: its body has their movements by the registers
 abbrev pub page_with : PackedBox → ShipParams → List ℕ × Pen → Page
-page_with b params written = page_made b params written.0 written.1.fonts.defined
+page_with b params written = page_made b params (registered written.0) written.1.fonts.defined
 
 -- a body has at most 200,000 bytes
 abbrev pub page_of_body : PackedBox → ShipParams → List ℕ × Pen → Result Page ShipError
-page_of_body b params written = if nat_le (length written.0) 200000 then Ok (page_with b params written) else Err BodyTooLong
+page_of_body b params written = if nat_le (length (registered written.0)) 200000 then Ok (page_with b params written) else Err BodyTooLong
 
 -- the page of a box, or the first thing that keeps it from being one
 unfoldable pub page_of : List FontState → PackedBox → ShipParams → Result Page ShipError

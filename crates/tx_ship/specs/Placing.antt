@@ -1,7 +1,8 @@
 -- Where the characters, rules and specials of a box lie on a page.
 use Rattle.std.specs.Prelude.{ℤ, pos, ◌+ℤ◌, ℕ, List, [], ◌++◌, if◌then◌else◌}
 use Rattle.std.specs.Int.{is_positive}
-use Rattle.tx_dvi.specs.Meaning.{Placed, character_met, rule_met, special_met}
+use Rattle.tx_dvi.specs.declared.placed.Placed.{Placed}
+use Rattle.tx_dvi.specs.Meaning.{character_met, rule_met, special_met}
 use Rattle.tx_node.specs.declared.character.Character.{Character as CharacterItem}
 use Rattle.tx_node.specs.declared.plain.Plain.{Plain}
 use Rattle.tx_node.specs.declared.plain.Plain.TheVariants.{Kern, Glue, Penalty, Character}

@@ -11,6 +11,7 @@ ghost use Rattle.tx_ship.specs.Commands.{page_pen, written_of};
 ghost use Rattle.tx_ship.specs.Standing.{page_frame};
 ghost use Rattle.tx_ship.specs.Within.{page_lies, IsNear, IsOutside};
 ghost use Rattle.tx_ship.specs.Placing.{placed};
+ghost use Rattle.tx_ship.specs.Registers.{IsAsPlain};
 ghost use Rattle.tx_ship.specs.Pages as spec;
 
 use crate::error::ShipError;
@@ -20,6 +21,7 @@ use crate::list::{box_lies, put_inside};
 use crate::output::{Output, PageFonts};
 use crate::params::ShipParams;
 use crate::places::{Cursor, Point};
+use crate::registers::registered;
 use std::alloc::{AllocError, Global};
 use tx_bytes::Bytes;
 use tx_dvi::{DateParameters, FontDefinition, PageBody, PageParts};
@@ -193,8 +195,9 @@ fn page_with(
 /// The body of the page on which a box is shipped. `SizeTooLarge` comes exactly where its height or depth, its height plus
 /// its depth plus \voffset or its width plus \hoffset is past 2^30-1; else `OutsidePage` exactly where a character, a rule, a
 /// special or a box with a list lies, in whole or part, past 2^30-1 to a side; else `BodyTooLong` exactly where the body has
-/// more than 200,000 bytes. Where each character is in its font, which gives it its sizes, the body's commands mean the
-/// characters, rules and specials of the box, at their places, and the definitions of its fonts that no earlier page has.
+/// more than 200,000 bytes. The body is no longer than the plain commands of the box, and means what they mean. Where each
+/// character is in its font, which gives it its sizes, these are the characters, rules and specials of the box, at their places,
+/// and the definitions of its fonts that no earlier page has.
 pub fn body(
     alloc: Global,
     node: &BoxNode,
@@ -204,6 +207,7 @@ pub fn body(
     requires { spec.IsMag params.now.mag }
     ensures page { IfOk result (λ page. spec.page_of fonts.now node.now params.now ≡ Ok page) }
     ensures error { IfErr result (λ e. e ≢ OutOfMemory → spec.page_of fonts.now node.now params.now ≡ Err e) }
+    ensures plain { IfOk result (λ page. IsAsPlain params.now.defined (written_of fonts.now params.now.defined node.now params.now.hoffset params.now.voffset).0 page.body) }
     ensures meaning { AreOfFonts fonts.now (items_of node.now.list) → IfOk result (λ page. meaning (widths_of fonts.now) params.now.defined page.body
         ≡ Some (record { placed = placed node.now params.now.hoffset params.now.voffset; fonts = page.fonts })) }
 {
@@ -212,7 +216,7 @@ pub fn body(
     };
     fonts.are_fonts();
     let Output { body, fonts: known } = page_commands(alloc, node, fonts, params)?;
-    let commands = Bytes::from_vec(body);
+    let commands = registered(alloc, body.as_slice())?;
     if commands.len() > MAX_BODY {
         return Err(ShipError::BodyTooLong);
     }

@@ -10,7 +10,7 @@ use Rattle.tx_machine.specs.declared.types.Date.{Date}
 use Rattle.tx_machine.specs.declared.types.Limits.{Limits}
 use Rattle.tx_words.specs.declared.given.Given.{Given}
 use Rattle.tx_words.specs.declared.given.Asked.{Asked}
-use Rattle.tx_words.specs.declared.given.Asked.TheVariants.{Run, Gen, Help, RunHelp, GenHelp, Version, Nothing}
+use Rattle.tx_words.specs.declared.given.Asked.TheVariants.{Run, Gen, Listing, Help, RunHelp, GenHelp, ListHelp, Version, Nothing}
 use Rattle.tx_words.specs.CommandLine.{faults, subcommand}
 use Rattle.tx_words.specs.Values.{date_meant, seed_meant, limit_meant, named, are_distinct, all_named}
 
@@ -85,6 +85,15 @@ gen_of _ _ = Nothing
 abbrev pub gen_asked : List Row → Asked
 gen_asked rows = gen_of (seed_given (first_of (codes "seed") rows)) (pages_given (first_of (codes "pages") rows))
 
+-- FILE, which must be there
+abbrev pub list_of : Option (List ℕ) → Asked
+list_of None = Nothing
+list_of (Some name) = Listing name
+
+-- what `list` is given
+abbrev pub list_asked : List Row → Asked
+list_asked rows = list_of (name_given (first_of (codes "file") rows))
+
 -- the date and the limits are those of a run, and the files are distinct
 abbrev pub IsWithin : Given → Type 0
 IsWithin given = IsDate given.date × AreLimits given.limits × (are_distinct given.files ≡ true)
@@ -98,14 +107,21 @@ abbrev pub script_asked : Asked → Option (List ℕ)
 script_asked (Run given) = given.script
 script_asked _ = None
 
--- they ask for a run
-abbrev pub IsRun : Asked → Type 0
-IsRun (Run given) = Unit {0}
-IsRun _ = ⊥
+-- the file whose pages they ask for, if they ask for pages
+abbrev pub dvi_asked : Asked → Option (List ℕ)
+dvi_asked (Listing name) = Some name
+dvi_asked _ = None
 
--- what a subcommand with its values asks for; there are `run` and `gen`
+-- they ask for something that is made of files
+abbrev pub IsOfFiles : Asked → Type 0
+IsOfFiles (Run given) = Unit {0}
+IsOfFiles (Listing name) = Unit {0}
+IsOfFiles _ = ⊥
+
+-- what a subcommand with its values asks for; there are `run`, `gen` and `list`
 unfoldable pub command_asked : List ℕ → List Row → Asked
-command_asked name rows = if bytes_eq name (codes "gen") then gen_asked rows else run_asked (run_given rows)
+command_asked name rows =
+    if bytes_eq name (codes "gen") then gen_asked rows else if bytes_eq name (codes "list") then list_asked rows else run_asked (run_given rows)
 
 abbrev pub subcommand_asked : Option (List ℕ) → Option (List Row) → Asked
 subcommand_asked (Some name) (Some rows) = command_asked name rows
@@ -116,9 +132,13 @@ abbrev pub begins_with : List ℕ → List (List ℕ) → Bool
 begins_with word [] = false
 begins_with word (first ∷ _) = bytes_eq first word
 
--- where `clap` finds that help is asked for, it is that of `run` behind this word, and that of `gen` behind that one
+-- where `clap` finds that help is asked for, it is that of `run`, `gen` or `list` behind this word
 abbrev pub help_shown : List (List ℕ) → Asked
-help_shown words = if begins_with (codes "run") words then RunHelp else if begins_with (codes "gen") words then GenHelp else Help
+help_shown words =
+    if begins_with (codes "run") words then RunHelp
+    else if begins_with (codes "gen") words then GenHelp
+    else if begins_with (codes "list") words then ListHelp
+    else Help
 
 -- where `clap` doesn't take the words, that may be since they ask for help or for the version
 abbrev pub asked_instead : List (List ℕ) → ErrorKind → Asked
@@ -139,6 +159,7 @@ abbrev pub help_of : List ℕ → Asked
 help_of command =
     if bytes_eq command (codes "run") then RunHelp
     else if bytes_eq command (codes "gen") then GenHelp
+    else if bytes_eq command (codes "list") then ListHelp
     else if bytes_eq command (codes "help") then Help
     else Nothing
 

@@ -2,7 +2,7 @@
 ghost use Rattle.std.specs.Prelude.{◌≡◌, ◌||◌, IfOk, false};
 ghost use Rattle.clap.specs.Words.{app_of, rule_of, with_rule};
 ghost use Rattle.clap.specs.declared.builder.command.Command.TheViews.{out-Command as fields_of};
-ghost use Rattle.tx_words.specs.CommandLine.{option_rule, required_rule, files_rule, run_command, word_rule, gen_command, run_line, command_line};
+ghost use Rattle.tx_words.specs.CommandLine.{option_rule, required_rule, files_rule, run_command, word_rule, gen_command, list_command, run_line, gen_line, command_line};
 
 use clap::{Arg, ArgAction, Command};
 use std::alloc::{AllocError, Global};
@@ -102,6 +102,14 @@ fn gen_command<'a>(alloc: Global) -> Result<Command<'a>, AllocError>
     with_word(alloc, seeded, "pages")
 }
 
+/// The command `list`.
+fn list_command<'a>(alloc: Global) -> Result<Command<'a>, AllocError>
+    ensures app { IfOk result (λ listing. app_of listing ≡ list_command) }
+    ensures local { IfOk result (λ listing. (fields_of listing).has_globals ≡ false) }
+{
+    with_word(alloc, Command::new(alloc, "list"), "file")
+}
+
 /// The command line with `run` alone.
 fn run_line<'a>(alloc: Global) -> Result<Command<'a>, AllocError>
     ensures { IfOk result (λ all. app_of all ≡ run_line) }
@@ -115,11 +123,20 @@ fn run_line<'a>(alloc: Global) -> Result<Command<'a>, AllocError>
         .subcommand(run)
 }
 
-/// The command line of `vortex`, for the words behind the program's name.
-pub fn command_line<'a>(alloc: Global) -> Result<Command<'a>, AllocError>
-    ensures { IfOk result (λ all. app_of all ≡ command_line) }
+/// The command line with `run` and `gen`.
+fn gen_line<'a>(alloc: Global) -> Result<Command<'a>, AllocError>
+    ensures { IfOk result (λ all. app_of all ≡ gen_line) }
 {
     let all = run_line(alloc)?;
     let making = gen_command(alloc)?;
     all.subcommand(making)
+}
+
+/// The command line of `vortex`, for the words behind the program's name.
+pub fn command_line<'a>(alloc: Global) -> Result<Command<'a>, AllocError>
+    ensures { IfOk result (λ all. app_of all ≡ command_line) }
+{
+    let all = gen_line(alloc)?;
+    let listing = list_command(alloc)?;
+    all.subcommand(listing)
 }

@@ -67,12 +67,16 @@ pub enum Asked {
     Run(Given),
     /// A document of so many pages that is made of a seed.
     Gen { seed: u32, pages: u32 },
+    /// What the pages of the DVI file of this name bring.
+    Listing(Name),
     /// The text that says what the program is, and its commands.
     Help,
     /// The text that says how `run` is called.
     RunHelp,
     /// The text that says how `gen` is called.
     GenHelp,
+    /// The text that says how `list` is called.
+    ListHelp,
     /// The version.
     Version,
     /// Nothing that there is: the words are refused.

@@ -4,7 +4,7 @@ ghost use Rattle.clap.specs.Words.{rows_of, found_of, subcommand_name_of, subcom
 ghost use Rattle.tx_machine.specs.Ranges.{IsDate, AreLimits};
 ghost use Rattle.clap.specs.declared.error.kind.ErrorKind.TheVariants.{OutOfMemory};
 ghost use Rattle.tx_words.specs.Values.{are_distinct};
-ghost use Rattle.tx_words.specs.Words.{IsWithin, IsAskedWithin, date_given, name_given, limit_given, limits_given, script_given, files_given, given_of, run_given, seed_given, pages_given, gen_of, gen_asked, command_asked, subcommand_asked, begins_with, help_shown, asked_instead, call_meant, help_of, help_meant, words_meant, texts};
+ghost use Rattle.tx_words.specs.Words.{IsWithin, IsAskedWithin, date_given, name_given, limit_given, limits_given, script_given, files_given, given_of, run_given, seed_given, pages_given, gen_of, gen_asked, list_of, list_asked, command_asked, subcommand_asked, begins_with, help_shown, asked_instead, call_meant, help_of, help_meant, words_meant, texts};
 
 use crate::command::command_line;
 use crate::given::{Asked, Given, Names};
@@ -173,6 +173,26 @@ fn gen_asked(found: &ArgMatches<'_>) -> Asked
     gen_of(seed, pages)
 }
 
+/// FILE is as it is to be.
+fn list_of(name: Option<Name>) -> Asked
+    ensures asked { result ≡ list_of name }
+    ensures within { IsAskedWithin result }
+{
+    match name {
+        None => Asked::Nothing,
+        Some(name) => Asked::Listing(name),
+    }
+}
+
+/// What `list` is given.
+fn list_asked(alloc: Global, found: &ArgMatches<'_>) -> Result<Asked, AllocError>
+    ensures asked { IfOk result (λ asked. asked ≡ list_asked (rows_of (found_of found.now))) }
+    ensures within { IfOk result IsAskedWithin }
+{
+    let name = name_given(alloc, value(found, "file"))?;
+    Ok(list_of(name))
+}
+
 /// What a subcommand of this name with its values asks for.
 #[tactic(auto, unfolding(crate::specs::Words::command_asked))]
 fn command_asked(alloc: Global, name: &str, found: &ArgMatches<'_>) -> Result<Asked, AllocError>
@@ -181,6 +201,9 @@ fn command_asked(alloc: Global, name: &str, found: &ArgMatches<'_>) -> Result<As
 {
     if name == "gen" {
         return Ok(gen_asked(found));
+    }
+    if name == "list" {
+        return list_asked(alloc, found);
     }
     match run_given(alloc, found)? {
         None => Ok(Asked::Nothing),
@@ -218,6 +241,8 @@ fn help_shown(words: &[String]) -> Asked
         Asked::RunHelp
     } else if begins_with(words, "gen") {
         Asked::GenHelp
+    } else if begins_with(words, "list") {
+        Asked::ListHelp
     } else {
         Asked::Help
     }
@@ -257,6 +282,8 @@ fn help_of(command: &str) -> Asked
         Asked::RunHelp
     } else if command == "gen" {
         Asked::GenHelp
+    } else if command == "list" {
+        Asked::ListHelp
     } else if command == "help" {
         Asked::Help
     } else {

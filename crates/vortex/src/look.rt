@@ -2,7 +2,7 @@
 use std::alloc::{AllocError, Global};
 use std::rt::Files;
 use tx_causes::causes::{
-    end_causes, memory_causes, one, refused_script, unread_cause, unsaved_cause,
+    end_causes, memory_causes, one, refused_dvi, refused_script, unread_cause, unsaved_cause,
 };
 use tx_causes::refusals::words_cause;
 use tx_causes::run::Run;
@@ -20,15 +20,18 @@ fn run_of(given: &Given) -> Run<'_> {
     }
 }
 
-/// Why nothing was run: the words of a run had a script that was refused, and any others are no words of a call.
+/// Why nothing was run: the words of a run had a script that was refused, those of a list a DVI file that was, and any others
+/// are no words of a call.
 fn refusal_cause<S: Source>(
     alloc: Global,
     words: &[String],
     said: &[u8],
     source: &mut S,
 ) -> Result<String, AllocError> {
-    if let Asked::Run(given) = read_words(alloc, words)? {
-        return refused_script(alloc, &run_of(&given), said, source);
+    match read_words(alloc, words)? {
+        Asked::Run(given) => return refused_script(alloc, &run_of(&given), said, source),
+        Asked::Listing(name) => return refused_dvi(alloc, &name, said),
+        _ => {}
     }
     match command_line(alloc)?.try_get_matches_from(words) {
         Ok(matches) => words_cause(alloc, words, Ok(&matches)),

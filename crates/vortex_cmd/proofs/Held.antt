@@ -18,7 +18,10 @@ use Rattle.tx_words.specs.declared.given.Asked.{Asked}
 use Rattle.vortex_cmd.specs.declared.scripted.Scripted.{Scripted}
 use Rattle.vortex_cmd.specs.Scripts.{ForScript, Read, Unread}
 use Rattle.tx_words.specs.Words.{script_asked, words_meant}
-use Rattle.vortex_cmd.specs.Outcome.{Outcome, saying, made_pieces, making, session_outcome, outcome, asked_outcome, most_turns, ForHeld, Leaves}
+use Rattle.vortex_cmd.specs.declared.listed.Listed.TheVariants.{Brings}
+use Rattle.vortex_cmd.specs.Listing.{pages_lines, said_lines}
+use Rattle.tx_dvi.specs.declared.reader.ReadPage.{ReadPage}
+use Rattle.vortex_cmd.specs.Outcome.{Outcome, saying, made_pieces, making, listing, session_outcome, outcome, asked_outcome, most_turns, ForHeld, Leaves}
 use Rattle.vortex_cmd.specs.Replay.{Replays, opened, turns_from}
 use Rattle.vortex_cmd.specs.Trouble.{Ends, Does}
 use Rattle.vortex_cmd.proofs.Replayed.{on-err}
@@ -96,6 +99,15 @@ does_making seed pages whole steps = record { ends = record { status_is = refl; 
 pub does_making_short : (seed pages : ℕ) (r : Result ℕ Interruption) (trouble : Trouble) → IsErrAnd r (λ e. e ≡ Interrupted trouble) → {before after : Option Output} → IsCutShort before (made_pieces seed pages) after → (steps : ℕ) → Does r (making seed pages) before after steps steps
 does_making_short seed pages r trouble err {before = before} {after = after} cut steps =
     record { ends = ends_short r trouble (making seed pages) before after steps steps err cut; most = omega arith }
+
+-- what pages bring was said
+pub does_listing : (pages : List ReadPage) {before after : Option Output} → after ≡ told before (said_lines (pages_lines 1 pages)) → (steps : ℕ) → Does (Ok 0) (listing (Brings pages)) before after steps steps
+does_listing pages whole steps = record { ends = record { status_is = refl; output_is = whole; steps_are = omega arith }; most = omega arith }
+
+-- or that met trouble
+pub does_listing_short : (pages : List ReadPage) (r : Result ℕ Interruption) (trouble : Trouble) → IsErrAnd r (λ e. e ≡ Interrupted trouble) → {before after : Option Output} → IsCutShort before (said_lines (pages_lines 1 pages)) after → (steps : ℕ) → Does r (listing (Brings pages)) before after steps steps
+does_listing_short pages r trouble err {before = before} {after = after} cut steps =
+    record { ends = ends_short r trouble (listing (Brings pages)) before after steps steps err cut; most = omega arith }
 
 module _ {S : Type 0} (m : Formatter S) (words : List (List ℕ)) {holds : Option Files} {r : Result ℕ Interruption} {before after : Option Output} {steps steps' : ℕ} where
   -- what is done of what the words ask for is done of the words

@@ -5,3 +5,5 @@ pub mod Puts
 pub mod Replayed
 pub mod Sessions
 pub mod Held
+pub mod SaidLines
+pub mod Dvi

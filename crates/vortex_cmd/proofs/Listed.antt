@@ -25,7 +25,7 @@ content-other : (files : Files) (name bytes other : List ℕ) → bytes_eq other
 content-other files name bytes other apart =
     get-insert nat_list_cmp_total files name bytes other ∙ ap (λ b. cond b (Some bytes) (content files other)) (is_eq-slice_cmp other name ∙ apart)
 
-content-same : (files : Files) (name bytes : List ℕ) → content (insert files name bytes) name ≡ Some bytes
+pub content-same : (files : Files) (name bytes : List ℕ) → content (insert files name bytes) name ≡ Some bytes
 content-same files name bytes =
     get-insert nat_list_cmp_total files name bytes name ∙ ap (λ b. cond b (Some bytes) (content files name)) (is_eq-slice_cmp name name ∙ (bytes_eq-Decides name name).1 refl)
 

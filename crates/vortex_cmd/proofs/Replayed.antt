@@ -12,7 +12,7 @@ use Rattle.tx_machine.specs.Machine.{Formatter}
 use Rattle.tx_machine.specs.Steps.{raised}
 use Rattle.tx_machine.proofs.Going.{raised-raised, raised-le}
 use Rattle.tx_script.specs.declared.command.Command.{Command}
-use Rattle.tx_script.specs.declared.command.Command.TheVariants.{Change as Lone, Batch, Save as SaveAs}
+use Rattle.tx_script.specs.declared.command.Command.TheVariants.{Change as Lone, Batch, Save as SaveAs, Locate}
 use Rattle.vortex_cmd.specs.declared.trouble.Interruption.{Interruption}
 use Rattle.vortex_cmd.specs.declared.trouble.Interruption.TheVariants.{Trouble as Interrupted, RefusedEdit}
 use Rattle.vortex_cmd.specs.Replay.{Moment, IsEdit, next_moment, moment_after, pieces_at, pieces_from, turns_at, turns_from, refused_pieces, refusal_at, refusal_of, Puts, Replays}
@@ -22,12 +22,14 @@ pub record Replayed {S : Type 0} (m : Formatter S) (begun here : Moment) (comman
   pub puts : sink ≡ told before (pieces_from m begun (take k commands))
   pub counted : raised now (turns_from m here (drop k commands)) ≡ raised steps (turns_from m begun commands)
   pub edits : here.edits ≤ begun.edits + k
+  pub places : here.places ≤ begun.places + k
 
 -- where memory refuses a command that makes changes, these pieces are put out
 refusal-is : (c : Command) (pieces : List Piece) → IsEdit c → refusal_of (Some c) pieces ≡ Some pieces
 refusal-is (Lone change) pieces is = refl
 refusal-is (Batch changes) pieces is = refl
 refusal-is (SaveAs name) pieces is = absurd is
+refusal-is (Locate at) pieces is = absurd is
 
 module _ {S : Type 0} (m : Formatter S) where
   pieces-append : (t : Moment) (first later : List Command) → pieces_from m t (first ++ later) ≡ pieces_from m t first ++ pieces_from m (moment_after t first) later
@@ -46,9 +48,9 @@ module _ {S : Type 0} (m : Formatter S) where
 
   pub replayed-on : {begun here next : Moment} {commands : List Command} {k : ℕ} {before sink sink' : Option Output} {steps now now' : ℕ} (c : Command)
       → Replayed m begun here commands k before sink steps now → k < length commands → c ≡ get_or commands k c
-      → next ≡ next_moment here c → sink' ≡ told sink (pieces_at m here c) → now' ≡ raised now (turns_at m here c) → next.edits ≤ here.edits + 1
+      → next ≡ next_moment here c → sink' ≡ told sink (pieces_at m here c) → now' ≡ raised now (turns_at m here c) → next.edits ≤ here.edits + 1 → next.places ≤ here.places + 1
       → Replayed m begun next commands (k + 1) before sink' steps now'
-  replayed-on {begun = begun} {here = here} {next = next} {commands = commands} {k = k} {before = before} {now = now} c so_far more is gives puts count few =
+  replayed-on {begun = begun} {here = here} {next = next} {commands = commands} {k = k} {before = before} {now = now} c so_far more is gives puts count few few_places =
       let one : take (k + 1) commands ≡ take k commands ++ c ∷ [] = take_more commands k c more ∙ ap (λ x. take k commands ++ x ∷ []) (sym is) in
       let left : drop k commands ≡ c ∷ drop (k + 1) commands = drop_more commands k c more ∙ ap (λ x. x ∷ drop (k + 1) commands) (sym is) in
       record {
@@ -60,6 +62,7 @@ module _ {S : Type 0} (m : Formatter S) where
             ∙ ap (λ cs. raised now (turns_from m here cs)) (sym left)
             ∙ so_far.counted;
         edits = omega (arith, so_far.edits);
+        places = omega (arith, so_far.places);
       }
 
   pub replayed-most : {begun here : Moment} {commands : List Command} {k : ℕ} {before sink : Option Output} {steps now now' : ℕ} (c : Command)

@@ -2,7 +2,7 @@
 use Rattle.std.proofs.Common.{◌≡◌, ℕ, ◌+◌, ◌*◌, ◌≤◌, Bool, true, false, cond, List, [], ◌∷◌, length, ap, arith}
 use Rattle.std.proofs.Math.Nat.{mul-le-mul_right}
 use Rattle.std.specs.FinMap.{empty}
-use Rattle.tx_bytes.specs.Files.{Files}
+use Rattle.tx_bytes.specs.Files.{Files, content}
 use Rattle.tx_files.specs.Changes.{all_fit}
 use Rattle.tx_files.specs.declared.edit.Change.{Change}
 use Rattle.tx_machine.specs.Machine.{Formatter, IsLawful}
@@ -11,16 +11,19 @@ use Rattle.tx_machine.proofs.PageCounts.{pages-run_from}
 use Rattle.tx_checkpoint.specs.Rows.{all_turns}
 use Rattle.tx_checkpoint.proofs.Standing.{rows-tell}
 use Rattle.tx_script.specs.declared.command.Command.{Command}
-use Rattle.tx_script.specs.declared.command.Command.TheVariants.{Change as Lone, Batch, Save as SaveAs}
+use Rattle.tx_script.specs.declared.command.Command.TheVariants.{Change as Lone, Batch, Save as SaveAs, Locate}
 use Rattle.tx_session.specs.Held.{Held, fresh, rows_of, changed_session}
 use Rattle.tx_session.specs.Report.{work, turns_of_changes}
 use Rattle.tx_session.proofs.Reusing.{work-least}
 use Rattle.tx_words.specs.declared.given.Asked.{Asked}
-use Rattle.tx_words.specs.declared.given.Asked.TheVariants.{Run, Gen, Help, RunHelp, GenHelp, Version, Nothing}
+use Rattle.tx_words.specs.declared.given.Asked.TheVariants.{Run, Gen, Listing, Help, RunHelp, GenHelp, ListHelp, Version, Nothing}
+use Rattle.vortex_cmd.specs.declared.listed.Listed.{Listed}
+use Rattle.vortex_cmd.specs.declared.listed.Listed.TheVariants.{Brings, Stops}
+use Rattle.vortex_cmd.specs.Listing.{listed_as}
 use Rattle.vortex_cmd.specs.declared.scripted.Scripted.{Scripted}
 use Rattle.vortex_cmd.specs.declared.scripted.Scripted.TheVariants.{Plays, Refused}
 use Rattle.vortex_cmd.specs.Replay.{Moment, opened, next_moment, turns_from}
-use Rattle.vortex_cmd.specs.Outcome.{asked_outcome, document, with_listed, most_of_edits, most_turns}
+use Rattle.vortex_cmd.specs.Outcome.{listing, asked_outcome, document, with_listed, most_of_edits, most_turns}
 
 le_trans : (a b c : ℕ) → a ≤ b → b ≤ c → a ≤ c
 le_trans a b c first second = omega arith
@@ -61,6 +64,12 @@ module _ {S : Type 0} (m : Formatter S) (lawful : IsLawful m) where
   commands-most t (Lone c ∷ commands) = both_most _ _ _ _ (changes-most t.held (c ∷ [])) (commands-most (next_moment t (Lone c)) commands)
   commands-most t (Batch changes ∷ commands) = both_most _ _ _ _ (changes-most t.held changes) (commands-most (next_moment t (Batch changes)) commands)
   commands-most t (SaveAs name ∷ commands) = let less : turns_from m t commands ≤ most_of_edits (most_of t.held) commands = commands-most t commands in omega (arith, less)
+  commands-most t (Locate at ∷ commands) =
+      let less : turns_from m (next_moment t (Locate at)) commands ≤ most_of_edits (most_of t.held) commands = commands-most (next_moment t (Locate at)) commands in omega (arith, less)
+
+  listing-still : (listed : Listed) → (listing listed).turns ≤ 0
+  listing-still (Brings pages) = omega arith
+  listing-still (Stops place rule) = omega arith
 
   pub turns-most : (asked : Asked) (scripted : Scripted) (held : Files) → (asked_outcome m asked scripted held).turns ≤ most_turns asked scripted
   turns-most (Run given) (Plays commands) held =
@@ -68,8 +77,10 @@ module _ {S : Type 0} (m : Formatter S) (lawful : IsLawful m) where
       both_most _ _ _ _ (fresh-most d) (commands-most (opened d) commands)
   turns-most (Run given) (Refused place rule) held = omega arith
   turns-most (Gen seed pages) scripted held = omega arith
+  turns-most (Listing name) scripted held = listing-still (listed_as (content held name))
   turns-most Help scripted held = omega arith
   turns-most RunHelp scripted held = omega arith
   turns-most GenHelp scripted held = omega arith
+  turns-most ListHelp scripted held = omega arith
   turns-most Version scripted held = omega arith
   turns-most Nothing scripted held = omega arith

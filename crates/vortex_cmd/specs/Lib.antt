@@ -1,4 +1,5 @@
 pub mod Lines
+pub mod Listing
 pub mod Scripts
 pub mod Pieces
 pub mod Replay

@@ -3,6 +3,8 @@ use Rattle.std.specs.Prelude.{ℕ, List, [], ◌++◌, codes, Option, Some, None
 use Rattle.std.specs.Fmt.{decimal}
 use Rattle.tx_script.specs.Numbers.{number_of}
 use Rattle.tx_script.specs.declared.error.Rule.{Rule}
+use Rattle.tx_checkpoint.specs.declared.located.Located.{Located}
+use Rattle.tx_checkpoint.specs.declared.located.Located.TheVariants.{Page, After, Nowhere}
 use Rattle.tx_session.specs.declared.report.Report.{Report}
 use Rattle.tx_machine.specs.declared.types.End.{End as RunEnd}
 use Rattle.tx_machine.specs.declared.types.End.TheVariants.{End, Error, Budget, PageLimit}
@@ -47,6 +49,16 @@ batch_outside_line number index len = edit_text number ++ codes "change " ++ dec
 unfoldable pub memory_line : ℕ → List ℕ
 memory_line number = edit_text number ++ codes "memory\n"
 
+-- by which page a place is first read, in a document of so many pages
+abbrev pub located_text : ℕ → Located → List ℕ
+located_text pages (Page k) = codes "page " ++ decimal k
+located_text pages After = codes "after page " ++ decimal pages
+located_text pages Nowhere = codes "none"
+
+-- the line of a place that is asked for, with its number among these, counted from 1
+unfoldable pub locate_line : ℕ → ℕ → Located → List ℕ
+locate_line number pages at = codes "locate " ++ decimal number ++ codes ": " ++ located_text pages at ++ codes "\n"
+
 -- the line where the words aren't those of a call
 abbrev pub refusal_line : List ℕ
 refusal_line = codes "words refused\n"
@@ -65,7 +77,7 @@ version_line = codes "vortex 0.1.0\n"
 
 -- what `help` says: what the program is, its commands, and its statuses
 unfoldable pub help_text : List ℕ
-help_text = codes "vortex: TeX, written as DVI, and kept ready for edits.\n\nUsage: vortex COMMAND\n\n  run             formats a document, and again after each edit of a script\n  gen             makes a document of many pages, and a script for it\n  help [COMMAND]  says this, or how a command is called\n  -h, --help      says this, and behind a command how that is called\n  -V, --version   says the version\n\nFor example, in the folder examples/edits:\n\n  vortex run --date 2024-5-17-570 --out a --script edits main.tex\n\nStatuses: 0 all is done; 1 all is done, but a run ended by an error or a limit;\n2 the words or the script are refused; 3 a file can't be read; 4 something can't\nbe said or saved; 5 an edit goes past the end of its file; 6 no memory is left.\nWhat went wrong, and what would mend it, is told on standard error.\n"
+help_text = codes "vortex: TeX, written as DVI, and kept ready for edits.\n\nUsage: vortex COMMAND\n\n  run             formats a document, and again after each edit of a script\n  gen             makes a document of many pages, and a script for it\n  list            says what the pages of a DVI file bring\n  help [COMMAND]  says this, or how a command is called\n  -h, --help      says this, and behind a command how that is called\n  -V, --version   says the version\n\nFor example, in the folder examples/edits:\n\n  vortex run --date 2024-5-17-570 --out a --script edits main.tex\n\nStatuses: 0 all is done; 1 all is done, but a run ended by an error or a limit;\n2 the words, the script or the DVI file are refused; 3 a file can't be read;\n4 something can't be said or saved; 5 an edit goes past the end of its file;\n6 no memory is left.\nWhat went wrong, and what would mend it, is told on standard error.\n"
 
 -- what `help run` says: how `run` is called
 unfoldable pub run_help_text : List ℕ
@@ -74,3 +86,7 @@ run_help_text = codes "Usage: vortex run --date Y-M-D-T --out NAME [OPTIONS] MAI
 -- what `help gen` says: how `gen` is called
 unfoldable pub gen_help_text : List ℕ
 gen_help_text = codes "Usage: vortex gen SEED PAGES\n\nMakes a document of many pages, for runs of any size: book.tex, gen.tfm, the\nmetrics of its font, and gen.vtx, a script with an edit for each page. They are\nsaved in the folder in which it is called, over files of these names. The same\nSEED makes the same files.\n\n  SEED            0 to 4294967295\n  PAGES           1 to 1000\n  -h, --help      says this\n\nFor example:\n\n  vortex gen 1 100\n  vortex run --date 2024-5-17-570 --out a --script gen.vtx book.tex gen.tfm\n\nThe statuses are those that vortex --help tells.\n"
+
+-- what `help list` says: how `list` is called
+unfoldable pub list_help_text : List ℕ
+list_help_text = codes "Usage: vortex list FILE\n\nSays of each page of the DVI file FILE its number and the ten numbers that it\nhas, and then of each character, rule and special that is met on it, in the order\nof the file, where it lies: how many sp to the right and down from the origin. A\nDVI file doesn't tell how wide characters are, so they have no width here. FILE\nis of the folder in which it is called.\n\n  char C font F at H V      the character of code C of the font of number F\n  rule A B at H V           a rule, A high and B wide, in sp\n  special N bytes at H V    a special of so many bytes\n  -h, --help                says this\n\nFor example:\n\n  vortex list a.dvi\n\nThe statuses are those that vortex --help tells.\n"

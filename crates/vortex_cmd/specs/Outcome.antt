@@ -8,16 +8,19 @@ use Rattle.tx_machine.specs.declared.types.Ran.{Ran}
 use Rattle.tx_machine.specs.Machine.{Formatter}
 use Rattle.tx_machine.specs.Steps.{raised}
 use Rattle.tx_script.specs.declared.command.Command.{Command}
-use Rattle.tx_script.specs.declared.command.Command.TheVariants.{Change as Lone, Batch, Save as SaveAs}
+use Rattle.tx_script.specs.declared.command.Command.TheVariants.{Change as Lone, Batch, Save as SaveAs, Locate}
 use Rattle.tx_session.specs.Held.{Held, fresh}
 use Rattle.tx_words.specs.declared.given.Given.{Given}
 use Rattle.tx_words.specs.declared.given.Asked.{Asked}
-use Rattle.tx_words.specs.declared.given.Asked.TheVariants.{Run, Gen, Help, RunHelp, GenHelp, Version, Nothing}
+use Rattle.tx_words.specs.declared.given.Asked.TheVariants.{Run, Gen, Listing, Help, RunHelp, GenHelp, ListHelp, Version, Nothing}
+use Rattle.vortex_cmd.specs.declared.listed.Listed.{Listed}
+use Rattle.vortex_cmd.specs.declared.listed.Listed.TheVariants.{Brings, Stops}
 use Rattle.vortex_cmd.specs.declared.scripted.Scripted.{Scripted}
 use Rattle.vortex_cmd.specs.declared.scripted.Scripted.TheVariants.{Plays, Refused}
 use Rattle.tx_words.specs.Words.{words_meant}
 use Rattle.tx_gen.specs.Made.{generated}
-use Rattle.vortex_cmd.specs.Lines.{run_line, gen_line, help_text, run_help_text, gen_help_text, version_line, refusal_line, script_refusal_line}
+use Rattle.vortex_cmd.specs.Listing.{pages_lines, said_lines, dvi_refusal_line, listed_as}
+use Rattle.vortex_cmd.specs.Lines.{run_line, gen_line, help_text, run_help_text, gen_help_text, list_help_text, version_line, refusal_line, script_refusal_line}
 use Rattle.vortex_cmd.specs.Pieces.{saved_pieces, made_files}
 use Rattle.vortex_cmd.specs.Replay.{Moment, opened, moment_after, pieces_from, turns_from, refusal_at, status_after, IsRefused}
 
@@ -39,6 +42,11 @@ made_pieces seed pages = made_files (generated seed pages) ++ Say (gen_line page
 
 abbrev pub making : ℕ → ℕ → Outcome
 making seed pages = record { pieces = made_pieces seed pages; status = 0; turns = 0; refusal = λ made. None }
+
+-- a call that lists a DVI file says what its pages bring, or that it is refused
+abbrev pub listing : Listed → Outcome
+listing (Brings pages) = record { pieces = said_lines (pages_lines 1 pages); status = 0; turns = 0; refusal = λ made. None }
+listing (Stops place rule) = saying (dvi_refusal_line place rule) 2
 
 -- the line of a session's opening, the commands, and what there is at last
 abbrev pub first_piece : Ran → Piece
@@ -79,9 +87,11 @@ scripted_outcome m given (Refused place rule) held = saying (script_refusal_line
 abbrev pub asked_outcome : {S : Type 0} → Formatter S → Asked → Scripted → Files → Outcome
 asked_outcome m (Run given) scripted held = scripted_outcome m given scripted held
 asked_outcome m (Gen seed pages) scripted held = making seed pages
+asked_outcome m (Listing name) scripted held = listing (listed_as (content held name))
 asked_outcome m Help scripted held = saying help_text 0
 asked_outcome m RunHelp scripted held = saying run_help_text 0
 asked_outcome m GenHelp scripted held = saying gen_help_text 0
+asked_outcome m ListHelp scripted held = saying list_help_text 0
 asked_outcome m Version scripted held = saying version_line 0
 asked_outcome m Nothing scripted held = saying refusal_line 2
 
@@ -95,6 +105,7 @@ most_of_edits each [] = 0
 most_of_edits each (Lone c ∷ commands) = each + most_of_edits each commands
 most_of_edits each (Batch changes ∷ commands) = each + most_of_edits each commands
 most_of_edits each (SaveAs name ∷ commands) = most_of_edits each commands
+most_of_edits each (Locate at ∷ commands) = most_of_edits each commands
 
 -- how many turns a call may take, whatever the files say: the opening and each edit the budget of each page, and of what
 -- follows the last one

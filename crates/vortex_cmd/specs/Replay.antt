@@ -1,5 +1,5 @@
 -- What the commands of a script put out, one after the other, over a session.
-use Rattle.std.specs.Prelude.{◌≡◌, ℕ, ◌+◌, Bool, true, false, List, [], ◌∷◌, ◌++◌, take, slice_get, fold, Option, Some, None, Result, Ok, Err, if◌then◌else◌}
+use Rattle.std.specs.Prelude.{◌≡◌, ℕ, ◌+◌, Bool, true, false, List, [], ◌∷◌, ◌++◌, length, take, slice_get, fold, Option, Some, None, Result, Ok, Err, if◌then◌else◌}
 use Rattle.tx_io.specs.Output.{Output, Piece, Say, told}
 use Rattle.tx_io.specs.Cut.{IsCutShort}
 use Rattle.tx_files.specs.Changes.{all_fit, first_outside}
@@ -8,35 +8,39 @@ use Rattle.tx_machine.specs.declared.types.End.{End as RunEnd}
 use Rattle.tx_machine.specs.declared.types.End.TheVariants.{End, Error, Budget, PageLimit}
 use Rattle.tx_machine.specs.Machine.{Formatter}
 use Rattle.tx_script.specs.declared.command.Command.{Command}
-use Rattle.tx_script.specs.declared.command.Command.TheVariants.{Change as Lone, Batch, Save as SaveAs}
-use Rattle.tx_session.specs.Held.{Held, fresh, after_all}
+use Rattle.tx_script.specs.declared.command.Command.TheVariants.{Change as Lone, Batch, Save as SaveAs, Locate}
+use Rattle.tx_checkpoint.specs.Locate.{located}
+use Rattle.tx_session.specs.Held.{Held, fresh, rows_of, after_all}
 use Rattle.tx_session.specs.Report.{report, turns_of_changes}
 use Rattle.vortex_cmd.specs.declared.trouble.Interruption.{Interruption}
 use Rattle.vortex_cmd.specs.declared.trouble.Interruption.TheVariants.{Trouble as Interrupted, RefusedEdit}
-use Rattle.vortex_cmd.specs.Lines.{edit_line, outside_line, batch_outside_line, memory_line}
+use Rattle.vortex_cmd.specs.Lines.{edit_line, outside_line, batch_outside_line, memory_line, locate_line}
 use Rattle.vortex_cmd.specs.Pieces.{saved_pieces}
 
--- where a replay stands: the document, how many edits were read, and whether one of them went past the end of its file; a
--- batch is one edit, and so is a removal
+-- where a replay stands: the document, how many edits were read and how many places were asked for, and whether an edit went past the
+-- end of its file; a batch is one edit, and so is a removal
 pub record Moment : Type 0 where
   pub held : Held
   pub edits : ℕ
+  pub places : ℕ
   pub outside : Bool
 
 -- a document before its first edit
 abbrev pub opened : Held → Moment
-opened held = record { held = held; edits = 0; outside = false }
+opened held = record { held = held; edits = 0; places = 0; outside = false }
 
 abbrev pub IsEdit : Command → Type 0
 IsEdit (Lone c) = Unit {0}
 IsEdit (Batch changes) = Unit {0}
 IsEdit (SaveAs name) = ⊥
+IsEdit (Locate at) = ⊥
 
 -- the moment after a list of changes, which are left out as a whole where they can't be made, and after a command
 abbrev pub next_made : Moment → List Change → Moment
 next_made t changes = record {
   held = after_all t.held changes;
   edits = t.edits + 1;
+  places = t.places;
   outside = if all_fit t.held.files changes then t.outside else true;
 }
 
@@ -44,6 +48,7 @@ abbrev pub next_moment : Moment → Command → Moment
 next_moment t (Lone c) = next_made t (c ∷ [])
 next_moment t (Batch changes) = next_made t changes
 next_moment t (SaveAs name) = t
+next_moment t (Locate at) = record t { places = t.places + 1 }
 
 -- what is said where the change of this number goes past the end of its file, which has so many bytes then: of a batch, or of
 -- a change alone
@@ -63,11 +68,13 @@ abbrev pub pieces_at : {S : Type 0} → Formatter S → Moment → Command → L
 pieces_at m t (Lone c) = Say (line_of m t false (c ∷ [])) ∷ []
 pieces_at m t (Batch changes) = Say (line_of m t true changes) ∷ []
 pieces_at m t (SaveAs name) = saved_pieces name (fresh m t.held).ran
+pieces_at m t (Locate at) = Say (locate_line (t.places + 1) (length (fresh m t.held).ran.pages) (located (rows_of m t.held) at.name at.place)) ∷ []
 
 abbrev pub turns_at : {S : Type 0} → Formatter S → Moment → Command → ℕ
 turns_at m t (Lone c) = turns_of_changes m t.held (c ∷ [])
 turns_at m t (Batch changes) = turns_of_changes m t.held changes
 turns_at m t (SaveAs name) = 0
+turns_at m t (Locate at) = 0
 
 -- the same of commands one after the other
 abbrev pub moment_after : Moment → List Command → Moment
@@ -96,6 +103,7 @@ Puts pieces refused (Err RefusedEdit) before after = IsCutShort before refused a
 abbrev pub refusal_of : Option Command → List Piece → Option (List Piece)
 refusal_of None pieces = None
 refusal_of (Some (SaveAs name)) pieces = None
+refusal_of (Some (Locate at)) pieces = None
 refusal_of (Some (Lone c)) pieces = Some pieces
 refusal_of (Some (Batch changes)) pieces = Some pieces
 

@@ -1,10 +1,11 @@
 //! The lines that are said: of runs, of edits, and of what is made or refused.
 ghost use Rattle.std.specs.Prelude.{◌≡◌, ◌++◌, OnOk, IfOk};
 ghost use Rattle.std.specs.Fmt.{decimal};
-ghost use Rattle.vortex_cmd.specs.Lines.{place_text, end_text, run_line, edit_text, report_text, edit_line, outside_line, batch_outside_line, memory_line, script_refusal_line, gen_line, help_text, run_help_text, gen_help_text, version_line};
+ghost use Rattle.vortex_cmd.specs.Lines.{place_text, end_text, run_line, edit_text, report_text, edit_line, outside_line, batch_outside_line, memory_line, located_text, locate_line, script_refusal_line, gen_line, help_text, run_help_text, gen_help_text, list_help_text, version_line};
 
 use std::alloc::{AllocError, Global};
 use tx_bytes::Bytes;
+use tx_checkpoint::Located;
 use tx_machine::End;
 use tx_script::Rule;
 use tx_session::Report;
@@ -146,6 +147,46 @@ pub fn memory_line(alloc: Global, number: u64) -> Result<Bytes, AllocError>
     Ok(line)
 }
 
+/// `page K`, `after page P` or `none`.
+fn append_located(
+    alloc: Global,
+    text: &mut Bytes,
+    pages: u64,
+    at: Located,
+) -> Result<(), AllocError>
+    ensures { OnOk result (text.new ≡ text.old ++ located_text pages at) }
+{
+    match at {
+        Located::Page(k) => {
+            text.append(b"page ")?;
+            append_number(alloc, text, k as u64)
+        }
+        Located::After => {
+            text.append(b"after page ")?;
+            append_number(alloc, text, pages)
+        }
+        Located::Nowhere => text.append(b"none"),
+    }
+}
+
+/// The line of a place that is asked for, `locate J: page K` and LF, or the like.
+#[tactic(auto, unfolding(crate::specs::Lines::locate_line))]
+pub fn locate_line(
+    alloc: Global,
+    number: u64,
+    pages: u64,
+    at: Located,
+) -> Result<Bytes, AllocError>
+    ensures { IfOk result (λ line. line ≡ locate_line number pages at) }
+{
+    let mut line = Bytes::from_slice(alloc, b"locate ")?;
+    append_number(alloc, &mut line, number)?;
+    line.append(b": ")?;
+    append_located(alloc, &mut line, pages, at)?;
+    line.append(b"\n")?;
+    Ok(line)
+}
+
 /// The line of a script that is refused, `script refused at PLACE, rule R` and LF.
 #[tactic(auto, unfolding(crate::specs::Lines::script_refusal_line))]
 pub fn script_refusal_line(alloc: Global, place: u64, rule: Rule) -> Result<Bytes, AllocError>
@@ -188,14 +229,16 @@ pub fn help_text() -> &'static [u8]
 Usage: vortex COMMAND\n
   run             formats a document, and again after each edit of a script
   gen             makes a document of many pages, and a script for it
+  list            says what the pages of a DVI file bring
   help [COMMAND]  says this, or how a command is called
   -h, --help      says this, and behind a command how that is called
   -V, --version   says the version\n
 For example, in the folder examples/edits:\n
   vortex run --date 2024-5-17-570 --out a --script edits main.tex\n
 Statuses: 0 all is done; 1 all is done, but a run ended by an error or a limit;
-2 the words or the script are refused; 3 a file can't be read; 4 something can't
-be said or saved; 5 an edit goes past the end of its file; 6 no memory is left.
+2 the words, the script or the DVI file are refused; 3 a file can't be read;
+4 something can't be said or saved; 5 an edit goes past the end of its file;
+6 no memory is left.
 What went wrong, and what would mend it, is told on standard error.
 "
 }
@@ -244,6 +287,27 @@ SEED makes the same files.\n
 For example:\n
   vortex gen 1 100
   vortex run --date 2024-5-17-570 --out a --script gen.vtx book.tex gen.tfm\n
+The statuses are those that vortex --help tells.
+"
+}
+
+/// What `help list` says: how `list` is called.
+#[tactic(auto, unfolding(crate::specs::Lines::list_help_text))]
+pub fn list_help_text() -> &'static [u8]
+    ensures { result.now ≡ list_help_text }
+{
+    b"Usage: vortex list FILE\n
+Says of each page of the DVI file FILE its number and the ten numbers that it
+has, and then of each character, rule and special that is met on it, in the order
+of the file, where it lies: how many sp to the right and down from the origin. A
+DVI file doesn't tell how wide characters are, so they have no width here. FILE
+is of the folder in which it is called.\n
+  char C font F at H V      the character of code C of the font of number F
+  rule A B at H V           a rule, A high and B wide, in sp
+  special N bytes at H V    a special of so many bytes
+  -h, --help                says this\n
+For example:\n
+  vortex list a.dvi\n
 The statuses are those that vortex --help tells.
 "
 }

@@ -1,18 +1,21 @@
 //! What is put out of a document: its DVI file and its transcript.
-ghost use Rattle.std.specs.Prelude.{◌≡◌, ◌∷◌, ◌++◌, [], IfOk};
+ghost use Rattle.std.specs.Prelude.{◌≡◌, ◌∷◌, ◌++◌, [], length, IfOk};
 ghost use Rattle.tx_io.specs.Output.{Say, Save};
-ghost use Rattle.tx_session.specs.Held.{fresh};
+ghost use Rattle.tx_checkpoint.specs.Locate.{located};
+ghost use Rattle.tx_session.specs.Held.{fresh, rows_of};
+ghost use Rattle.vortex_cmd.specs.Lines.{locate_line as located_line};
 ghost use Rattle.vortex_cmd.specs.Outcome.{first_piece};
 ghost use Rattle.vortex_cmd.specs.Pieces.{dvi_pieces, log_pieces, saved_pieces};
 ghost use Rattle.vortex_cmd.specs.Trouble.{PutsOut, SinkCauses};
 
-use crate::lines::run_line;
+use crate::lines::{locate_line, run_line};
 use crate::trouble::Trouble;
 use std::alloc::{AllocError, Global};
 use tx_bytes::Bytes;
 use tx_files::Name;
 use tx_io::{Put, Sink};
 use tx_machine::Machine;
+use tx_script::FilePlace;
 use tx_session::Session;
 
 /// Says a text.
@@ -104,5 +107,21 @@ pub fn say_run<M: Machine, K: Sink>(
     ensures causes { SinkCauses result (K.faults sink.old) (K.faults sink.new) }
 {
     let line = run_line(alloc, session.pages() as u64, session.end())?;
+    say(sink, line.as_slice())
+}
+
+/// Says by which page a place of a file is first read; it is the one of this number that is asked for.
+pub fn say_located<M: Machine, K: Sink>(
+    alloc: Global,
+    number: u64,
+    at: &FilePlace,
+    session: &Session<M>,
+    sink: &mut K,
+) -> Result<(), Trouble>
+    ensures puts { PutsOut result (K.output sink.old) (Say (located_line number (length (fresh M.formatter session.now).ran.pages) (located (rows_of M.formatter session.now) at.now.name at.now.place)) ∷ []) (K.output sink.new) }
+    ensures causes { SinkCauses result (K.faults sink.old) (K.faults sink.new) }
+{
+    let found = session.locate(&at.name, at.place);
+    let line = locate_line(alloc, number, session.pages() as u64, found)?;
     say(sink, line.as_slice())
 }

@@ -8,7 +8,7 @@ ghost use Rattle.vortex_cmd.specs.Tally.{moment};
 ghost use Rattle.vortex_cmd.specs.Trouble.{PutsOut, SinkCauses, EditCauses};
 
 use crate::lines::{batch_outside_line, edit_line, memory_line, outside_line};
-use crate::outputs::{save_session, say};
+use crate::outputs::{save_session, say, say_located};
 use crate::tally::Tally;
 use crate::trouble::{Interruption, Trouble};
 use std::alloc::{AllocError, Global};
@@ -95,7 +95,8 @@ fn run_changes<M: Machine, K: Sink>(
     }
 }
 
-/// Carries out a command: makes its changes and says what came of it, or saves what there is.
+/// Carries out a command: makes its changes and says what came of it, saves what there is, or says by which page a place is first
+/// read.
 fn run_command<M: Machine, K: Sink>(
     alloc: Global,
     out: &Name,
@@ -105,9 +106,11 @@ fn run_command<M: Machine, K: Sink>(
     sink: &mut K,
     steps: &mut Steps,
 ) -> Result<(), Interruption>
-    requires { tally.old.edits + 1 < 2 ^ 64 }
+    requires room { tally.old.edits + 1 < 2 ^ 64 }
+    requires places_room { tally.old.places + 1 < 2 ^ 64 }
     ensures moment { OnOk result (moment session.new tally.new ≡ next_moment (moment session.old tally.old) command.now) }
     ensures edits { OnOk result (tally.new.edits ≤ tally.old.edits + 1) }
+    ensures places { OnOk result (tally.new.places ≤ tally.old.places + 1) }
     ensures puts { Puts (pieces_at M.formatter (moment session.old tally.old) command.now) (refused_pieces M.formatter out.now (moment session.old tally.old)) result (K.output sink.old) (K.output sink.new) }
     ensures refused { IsErrOf result Interruption.RefusedEdit → IsEdit command.now }
     ensures counted { OnOk result (steps.new ≡ raised steps.old (turns_at M.formatter (moment session.old tally.old) command.now)) }
@@ -125,6 +128,11 @@ fn run_command<M: Machine, K: Sink>(
         }
         Command::Save(name) => {
             save_session(alloc, name, session, sink)?;
+            Ok(())
+        }
+        Command::Locate(at) => {
+            tally.places += 1;
+            say_located(alloc, tally.places, at, session, sink)?;
             Ok(())
         }
     }
@@ -148,6 +156,7 @@ pub fn replay<M: Machine, K: Sink>(
 {
     let mut tally = Tally {
         edits: 0,
+        places: 0,
         outside: false,
     };
     for command in commands {

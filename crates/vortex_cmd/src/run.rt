@@ -1,17 +1,24 @@
 //! A run as a whole: files are fetched, the main one is run, commands are carried out, and the rest is saved.
-ghost use Rattle.std.specs.Prelude.{◌≡◌, ◌<◌, ◌≤◌, ◌⊎◌, ℕ, IfOk, OnOk, IsErrOf};
+ghost use Rattle.std.specs.Prelude.{◌≡◌, ◌<◌, ◌≤◌, ◌⊎◌, ℕ, Some, IfOk, OnOk, IsErrOf};
 ghost use Rattle.std.specs.FinMap.{empty};
+ghost use Rattle.tx_bytes.specs.Files.{content};
 ghost use Rattle.tx_machine.specs.Steps.{raised};
-ghost use Rattle.vortex_cmd.specs.Outcome.{saying, making, session_outcome, run_outcome, asked_outcome, outcome, with_listed, ForHeld};
+ghost use Rattle.vortex_cmd.specs.Listing.{NamesNoDvi, HoldsNoDvi, dvi_refusal_line, listed_as};
+ghost use Rattle.vortex_cmd.specs.Outcome.{saying, making, listing, session_outcome, run_outcome, asked_outcome, outcome, with_listed, ForHeld};
 ghost use Rattle.vortex_cmd.specs.Lines.{script_refusal_line};
 ghost use Rattle.vortex_cmd.specs.Replay.{Replays, opened, turns_from, status_after};
 ghost use Rattle.vortex_cmd.specs.Scripts.{ForScript, NamesNoScript, HoldsNoScript};
 ghost use Rattle.vortex_cmd.specs.Trouble.{EditCauses, AllCauses, Does};
-ghost use Rattle.tx_words.specs.Words.{IsRun, IsWithin, script_asked, words_meant, texts};
+ghost use Rattle.tx_words.specs.Words.{IsOfFiles, IsWithin, script_asked, dvi_asked, words_meant, texts};
 ghost use Rattle.tx_words.specs.declared.given.Asked.TheVariants.{Run, Nothing};
 
 use crate::fetching::fetch_files;
-use crate::lines::{gen_help_text, help_text, run_help_text, script_refusal_line, version_line};
+use crate::lines::{
+    gen_help_text, help_text, list_help_text, run_help_text, script_refusal_line, version_line,
+};
+use crate::list::{fetch_dvi, say_pages};
+use crate::listed::Listed;
+use crate::listing::dvi_refusal_line;
 use crate::made::put_made;
 use crate::outputs::{save_session, say, say_run};
 use crate::replay::replay;
@@ -19,6 +26,7 @@ use crate::scripted::Scripted;
 use crate::scripts::fetch_script;
 use crate::trouble::{Interruption, Trouble};
 use std::alloc::Global;
+use tx_dvi::DviRule;
 use tx_files::{FileSet, Name};
 use tx_gen::make;
 use tx_io::{Sink, Source};
@@ -174,6 +182,42 @@ fn run_gen<K: Sink>(alloc: Global, seed: u32, pages: u32, sink: &mut K) -> Resul
     Ok(0)
 }
 
+/// Says that a DVI file is refused, and answers the status.
+fn refuse_dvi<K: Sink>(
+    alloc: Global,
+    place: u64,
+    rule: DviRule,
+    sink: &mut K,
+) -> Result<u8, Interruption>
+    ensures does { (steps : ℕ) → Does result (saying (dvi_refusal_line place rule) 2) (K.output sink.old) (K.output sink.new) steps steps }
+    ensures status { IfOk result (λ status. status ≡ 2) }
+    ensures causes { EditCauses result (K.faults sink.old) (K.faults sink.new) }
+{
+    let line = dvi_refusal_line(alloc, place, rule)?;
+    say_only(sink, line.as_slice(), 2)
+}
+
+/// Fetches the file of this name, and says what it brings as a DVI file, or that it is refused. Answers the status.
+fn list_file<S: Source, K: Sink>(
+    alloc: Global,
+    name: &Name,
+    source: &mut S,
+    sink: &mut K,
+) -> Result<u8, Interruption>
+    ensures does { (steps : ℕ) → ForHeld (S.holds source.old) (λ held. Does result (listing (listed_as (content held name.now))) (K.output sink.old) (K.output sink.new) steps steps) }
+    ensures range { IfOk result (λ status. (status ≤ 2) ⊎ (status ≡ 5)) }
+    ensures refused { IfOk result (λ status. status ≡ 2 → NamesNoDvi (S.holds source.old) (Some name.now)) }
+    ensures refuses { HoldsNoDvi (S.holds source.old) (Some name.now) → IfOk result (λ status. status ≡ 2) }
+    ensures silent { IsErrOf result (Interruption.Trouble Trouble.Source) → K.output sink.new ≡ K.output sink.old }
+    ensures causes { AllCauses result (S.faults source.old) (S.faults source.new) (K.faults sink.old) (K.faults sink.new) }
+    ensures holds { S.holds source.new ≡ S.holds source.old }
+{
+    match fetch_dvi(alloc, name, source)? {
+        Listed::Brings(pages) => say_pages(alloc, pages.as_slice(), sink),
+        Listed::Stops { place, rule } => refuse_dvi(alloc, place, rule, sink),
+    }
+}
+
 /// Does what the words ask, and answers the status.
 pub fn run_words<M: Machine + Drop, S: Source, K: Sink>(
     alloc: Global,
@@ -185,10 +229,11 @@ pub fn run_words<M: Machine + Drop, S: Source, K: Sink>(
 ) -> Result<u8, Interruption>
     ensures does { ForScript (S.holds source.old) (script_asked (words_meant (texts words.now))) (λ scripted. ForHeld (S.holds source.old) (λ held. Does result (outcome M.formatter (texts words.now) scripted held) (K.output sink.old) (K.output sink.new) steps.old steps.new)) }
     ensures range { IfOk result (λ status. (status ≤ 2) ⊎ (status ≡ 5)) }
-    ensures refused { IfOk result (λ status. status ≡ 2 → (words_meant (texts words.now) ≡ Nothing) ⊎ NamesNoScript (S.holds source.old) (script_asked (words_meant (texts words.now)))) }
+    ensures refused { IfOk result (λ status. status ≡ 2 → (words_meant (texts words.now) ≡ Nothing) ⊎ (NamesNoScript (S.holds source.old) (script_asked (words_meant (texts words.now))) ⊎ NamesNoDvi (S.holds source.old) (dvi_asked (words_meant (texts words.now))))) }
     ensures refuses { words_meant (texts words.now) ≡ Nothing → IfOk result (λ status. status ≡ 2) }
     ensures refuses_script { HoldsNoScript (S.holds source.old) (script_asked (words_meant (texts words.now))) → IfOk result (λ status. status ≡ 2) }
-    ensures fetched { IsErrOf result (Interruption.Trouble Trouble.Source) → IsRun (words_meant (texts words.now)) }
+    ensures refuses_dvi { HoldsNoDvi (S.holds source.old) (dvi_asked (words_meant (texts words.now))) → IfOk result (λ status. status ≡ 2) }
+    ensures fetched { IsErrOf result (Interruption.Trouble Trouble.Source) → IsOfFiles (words_meant (texts words.now)) }
     ensures silent { IsErrOf result (Interruption.Trouble Trouble.Source) → (K.output sink.new ≡ K.output sink.old) × (steps.new ≡ steps.old) }
     ensures causes { AllCauses result (S.faults source.old) (S.faults source.new) (K.faults sink.old) (K.faults sink.new) }
     ensures holds { S.holds source.new ≡ S.holds source.old }
@@ -196,9 +241,11 @@ pub fn run_words<M: Machine + Drop, S: Source, K: Sink>(
     match read_words(alloc, words)? {
         Asked::Run(given) => run_given(alloc, machine, &given, source, sink, steps),
         Asked::Gen { seed, pages } => run_gen(alloc, seed, pages, sink),
+        Asked::Listing(name) => list_file(alloc, &name, source, sink),
         Asked::Help => say_only(sink, help_text(), 0),
         Asked::RunHelp => say_only(sink, run_help_text(), 0),
         Asked::GenHelp => say_only(sink, gen_help_text(), 0),
+        Asked::ListHelp => say_only(sink, list_help_text(), 0),
         Asked::Version => say_only(sink, version_line(), 0),
         Asked::Nothing => say_only(sink, b"words refused\n", 2),
     }

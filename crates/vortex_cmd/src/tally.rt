@@ -1,8 +1,9 @@
-//! What is counted of the edits of a script.
+//! What is counted of the commands of a script.
 
-/// How many edits were read, and whether one of them went past the end of its file.
+/// How many edits were read, how many places were asked for, and whether an edit went past the end of its file.
 #[derive(Clone, Copy)]
 pub struct Tally {
     pub edits: u64,
+    pub places: u64,
     pub outside: bool,
 }

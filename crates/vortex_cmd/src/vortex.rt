@@ -4,8 +4,9 @@ ghost use Rattle.tx_io.specs.Faults.{Rose};
 ghost use Rattle.tx_main.specs.Turns.{tex};
 ghost use Rattle.vortex_cmd.specs.Outcome.{outcome, most_turns, ForHeld, Leaves};
 ghost use Rattle.tx_words.specs.declared.given.Asked.TheVariants.{Nothing};
+ghost use Rattle.vortex_cmd.specs.Listing.{NamesNoDvi, HoldsNoDvi};
 ghost use Rattle.vortex_cmd.specs.Scripts.{ForScript, NamesNoScript, HoldsNoScript};
-ghost use Rattle.tx_words.specs.Words.{script_asked, words_meant, texts};
+ghost use Rattle.tx_words.specs.Words.{script_asked, dvi_asked, words_meant, texts};
 
 use crate::run::run_words;
 use crate::trouble::{Interruption, Trouble};
@@ -16,13 +17,13 @@ use tx_main::Tex;
 
 /// All that the program does: reads the words behind its name, fetches the script and the files that they list, makes the
 /// run, says its line, carries out the script's commands, and saves the pages and the transcript as they are then; or makes
-/// a document, saves it with its font and a script, and says how large it is; or says the help, the version, or that the
-/// words or the script are refused. Answers the status.
+/// a document, saves it with its font and a script, and says how large it is; or fetches a DVI file and says what its pages
+/// bring; or says the help, the version, or that the words, the script or the DVI file are refused. Answers the status.
 ///
 /// | Status | Comes |
 /// |---|---|
 /// | 0, 1 | all was done, and the last run ended by the end of its text, or otherwise; 0 also where nothing is to be run |
-/// | 2 | the words aren't those of a call, or the script isn't one; nothing was run |
+/// | 2 | the words aren't those of a call, or the script or the DVI file isn't one; nothing was run |
 /// | 3 | the source failed; nothing was run or said |
 /// | 4 | the sink failed |
 /// | 5 | all was done, the last run ended by the end of its text, and an edit went past the end of its file |
@@ -39,9 +40,10 @@ pub fn vortex<S: Source, K: Sink>(
     ensures leaves { ForScript (S.holds source.old) (script_asked (words_meant (texts words.now))) (λ scripted. ForHeld (S.holds source.old) (λ held. Leaves (outcome tex (texts words.now) scripted held) result (K.output sink.old) (K.output sink.new) steps.old steps.new)) }
 
     ensures status { result ≤ 6 }
-    ensures refused { result ≡ 2 → (words_meant (texts words.now) ≡ Nothing) ⊎ NamesNoScript (S.holds source.old) (script_asked (words_meant (texts words.now))) }
+    ensures refused { result ≡ 2 → (words_meant (texts words.now) ≡ Nothing) ⊎ (NamesNoScript (S.holds source.old) (script_asked (words_meant (texts words.now))) ⊎ NamesNoDvi (S.holds source.old) (dvi_asked (words_meant (texts words.now)))) }
     ensures refuses { words_meant (texts words.now) ≡ Nothing → (result ≡ 2) ⊎ ((result ≡ 4) ⊎ (result ≡ 6)) }
     ensures refuses_script { HoldsNoScript (S.holds source.old) (script_asked (words_meant (texts words.now))) → (result ≡ 2) ⊎ ((result ≡ 3) ⊎ ((result ≡ 4) ⊎ (result ≡ 6))) }
+    ensures refuses_dvi { HoldsNoDvi (S.holds source.old) (dvi_asked (words_meant (texts words.now))) → (result ≡ 2) ⊎ ((result ≡ 3) ⊎ ((result ≡ 4) ⊎ (result ≡ 6))) }
     ensures source_fault { result ≡ 3 → Rose (S.faults source.old) (S.faults source.new) }
     ensures source_kept { result ≢ 3 → S.faults source.new ≡ S.faults source.old }
     ensures sink_fault { result ≡ 4 → Rose (K.faults sink.old) (K.faults sink.new) }

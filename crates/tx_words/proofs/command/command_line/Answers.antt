@@ -7,4 +7,4 @@ use Rattle.tx_words.proofs.command.command_line.Goals as goal
 pub returns : goal.returns
 unfolding command_line
 returns c =
-    IfOk-weaker c.subcommand.result _ _ (λ all adds. adds.shape c.in_ok-making.ensures.local ∙ ap₂ (λ (a r : App). with_subcommand a r.top) c.in_ok-all.ensures c.in_ok-making.ensures.app) c.subcommand.ensures
+    IfOk-weaker c.subcommand.result _ _ (λ all adds. adds.shape c.in_ok-listing.ensures.local ∙ ap₂ (λ (a r : App). with_subcommand a r.top) c.in_ok-all.ensures c.in_ok-listing.ensures.app) c.subcommand.ensures

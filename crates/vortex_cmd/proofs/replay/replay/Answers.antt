@@ -14,6 +14,6 @@ returns-in_err-run_command-clause-puts g c =
 
 pub loop-command-preserved : goal.loop-command-preserved
 loop-command-preserved g c = record {
-  so_far = replayed-on g.M.Machine.formatter c.command-item.result c.loop-command.invariant.so_far c.loop-command-test.true c.command-item.is c.in_ok-run_command.ensures.moment c.in_ok-run_command.ensures.puts c.in_ok-run_command.ensures.counted c.in_ok-run_command.ensures.edits;
+  so_far = replayed-on g.M.Machine.formatter c.command-item.result c.loop-command.invariant.so_far c.loop-command-test.true c.command-item.is c.in_ok-run_command.ensures.moment c.in_ok-run_command.ensures.puts c.in_ok-run_command.ensures.counted c.in_ok-run_command.ensures.edits c.in_ok-run_command.ensures.places;
   faults = c.in_ok-run_command.ensures.causes ∙ c.loop-command.invariant.faults;
 }

@@ -1,12 +1,13 @@
-use Rattle.std.proofs.Common.{◌≡◌, ℕ, List, inr, rules, subst}
+use Rattle.std.proofs.Common.{◌≡◌, ℕ, List, refl, inl, inr, rules, subst}
 use Rattle.std.proofs.lemmas.Result.{IfOk-weaker}
 use Rattle.vortex_cmd.specs.Outcome.{saying}
+use Rattle.vortex_cmd.specs.Listing.{NamesNoDvi}
 use Rattle.vortex_cmd.specs.Scripts.{NamesNoScript, Unread}
 use Rattle.vortex_cmd.specs.Trouble.{Does}
-use Rattle.tx_words.specs.Words.{script_asked, words_meant, texts}
+use Rattle.tx_words.specs.Words.{script_asked, dvi_asked, words_meant, texts}
 use Rattle.tx_words.specs.declared.given.Asked.{Asked}
 use Rattle.vortex_cmd.specs.declared.trouble.Trouble.TheVariants.{Memory}
-use Rattle.tx_words.specs.declared.given.Asked.TheVariants.{Run, Gen, Help, RunHelp, GenHelp, Version, Nothing}
+use Rattle.tx_words.specs.declared.given.Asked.TheVariants.{Run, Gen, Listing, Help, RunHelp, GenHelp, ListHelp, Version, Nothing}
 use Rattle.vortex_cmd.proofs.Held.{for_any, does_nothing, of_words}
 use Rattle.vortex_cmd.proofs.run.run_words.Goals as goal
 
@@ -22,12 +23,26 @@ pub returns-in-Run-clause-refused : goal.returns-in-Run-clause-refused
 returns-in-Run-clause-refused g c =
     let are : Run c.in-Run.given ≡ words_meant (texts c.args.words.now) = search rules in
     IfOk-weaker c.run_given.result _ _
-    (λ status refused two. inr (subst (λ (a : Asked). NamesNoScript (g.S.Source.holds c.args.source.now) (script_asked a)) are (refused two))) c.run_given.ensures.refused
+    (λ status refused two. inr (inl (subst (λ (a : Asked). NamesNoScript (g.S.Source.holds c.args.source.now) (script_asked a)) are (refused two)))) c.run_given.ensures.refused
 
 pub returns-in-Gen-clause-does : goal.returns-in-Gen-clause-does
 returns-in-Gen-clause-does g c =
     let are : Gen c.in-Gen.seed c.in-Gen.pages ≡ words_meant (texts c.args.words.now) = search rules in
     of_words g.M.Machine.formatter (texts c.args.words.now) _ are (Unread (λ scripted. for_any _ (λ held. c.run_gen.ensures.does c.args.steps.now)))
+
+pub returns-in-Listing-clause-does : goal.returns-in-Listing-clause-does
+returns-in-Listing-clause-does g c =
+    let are : Listing c.in-Listing.name ≡ words_meant (texts c.args.words.now) = search rules in
+    of_words g.M.Machine.formatter (texts c.args.words.now) _ are (Unread (λ scripted. c.list_file.ensures.does c.args.steps.now))
+
+pub returns-in-Listing-clause-refused : goal.returns-in-Listing-clause-refused
+returns-in-Listing-clause-refused g c =
+    let are : Listing c.in-Listing.name ≡ words_meant (texts c.args.words.now) = search rules in
+    IfOk-weaker c.list_file.result _ _
+    (λ status refused two. inr (inr (subst (λ (a : Asked). NamesNoDvi (g.S.Source.holds c.args.source.now) (dvi_asked a)) are (refused two)))) c.list_file.ensures.refused
+
+pub returns-in-Listing-clause-silent : goal.returns-in-Listing-clause-silent
+returns-in-Listing-clause-silent g c = λ source. (c.list_file.ensures.silent source, refl)
 
 pub returns-in-Help-clause-does : goal.returns-in-Help-clause-does
 returns-in-Help-clause-does g c =
@@ -49,6 +64,13 @@ returns-in-GenHelp-clause-does g c =
     of_words g.M.Machine.formatter (texts c.args.words.now) _ are
     (Unread (λ scripted. for_any _ (λ held. subst (λ (text : List ℕ). Does c.say_only-in-GenHelp.result (saying text 0) (g.K.Sink.output c.args.sink.now) (g.K.Sink.output c.say_only-in-GenHelp.new.sink) c.args.steps.now c.args.steps.now)
     c.gen_help_text.ensures (c.say_only-in-GenHelp.ensures.does c.args.steps.now))))
+
+pub returns-in-ListHelp-clause-does : goal.returns-in-ListHelp-clause-does
+returns-in-ListHelp-clause-does g c =
+    let are : ListHelp ≡ words_meant (texts c.args.words.now) = search rules in
+    of_words g.M.Machine.formatter (texts c.args.words.now) _ are
+    (Unread (λ scripted. for_any _ (λ held. subst (λ (text : List ℕ). Does c.say_only-in-ListHelp.result (saying text 0) (g.K.Sink.output c.args.sink.now) (g.K.Sink.output c.say_only-in-ListHelp.new.sink) c.args.steps.now c.args.steps.now)
+    c.list_help_text.ensures (c.say_only-in-ListHelp.ensures.does c.args.steps.now))))
 
 pub returns-in-Version-clause-does : goal.returns-in-Version-clause-does
 returns-in-Version-clause-does g c =
