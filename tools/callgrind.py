@@ -1,4 +1,5 @@
 """The program and Knuth's TeX under callgrind, for the benchmarks of whole documents."""
+import functools
 import os
 import re
 import shutil
@@ -38,3 +39,25 @@ def functions(profile):
     text = subprocess.run(["callgrind_annotate", profile], capture_output=True).stdout.decode()
     lines = [line for line in text.splitlines() if re.match(r"\s*[\d,]+ +\(", line)]
     return [re.sub(r"\?\?\?:|\[/.*", "", line).strip() for line in lines[1:13]]
+
+
+@functools.cache
+def a_use(command, begin, use, uses, profile, beside):
+    """The instructions of a use: those by which so many and a tenth of them differ, by the uses more."""
+    few, many = (instructions(list(command), begin + (use + "\n") * count + "\\end\n", profile, beside) for count in (uses // 10, uses))
+    return (many - few) / (uses - uses // 10)
+
+
+def table(rows, chosen, begin, beside=()):
+    """Prints for each row, or for those with these numbers, what an item costs of which a use has so many more than the same without
+    them; behind a chosen row stand the functions in which the program spends most."""
+    ours, theirs = (*OURS, *map(os.path.basename, beside)), tuple(KNUTHS)
+    print("| | Items | `vortex`, an item | Knuth's TeX, an item | Ratio |\n|---|---|---|---|---|")
+    with tempfile.TemporaryDirectory() as folder:
+        profile = os.path.join(folder, "profile")
+        for name, use, without, items, uses in [rows[at] for at in chosen] or rows:
+            of = lambda command, text, into: a_use(command, begin, text, uses, into, beside)
+            mine, others = [(of(command, use, into) - of(command, without, os.devnull)) / items for command, into in ((ours, profile), (theirs, os.devnull))]
+            print(f"| {name} | {items:,} | {mine:,.0f} | {others:,.0f} | {mine / others:.2f} |", flush=True)
+            if chosen:
+                print("\n".join(functions(profile)))

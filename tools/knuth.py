@@ -22,7 +22,7 @@ ERRORS = [
     (2, "Undefined control sequence"),
     (3, "Missing number|Improper alphabetic constant"),
     (4, "Illegal unit of measure|Missing = inserted for |Incompatible glue units|Missing `to' inserted"),
-    (5, r"Bad (character|register) code|Bad mathchar|Invalid code|Bad space factor|Font .* has only|You can't \S{0,4}insert255"),
+    (5, r"Bad (character|register) code|Bad (mathchar|number)\b|Invalid code|Bad space factor|Font .* has only|You can't \S{0,4}insert255"),
     (6, "Dimension too large"),
     (7, "Number too big"),
     (8, "Huge page cannot be shipped out|Arithmetic overflow"),
@@ -49,7 +49,7 @@ ERRORS = [
     (28, "Unbalanced output routine|Output routine didn't use all of "),
     (29, "Output loop"),
     (30, "Infinite glue shrinkage "),
-    (31, "Math formula deleted|Double (super|sub)script|Ambiguous; you need|Limit controls must|is undefined [(]character|Illegal math"),
+    (31, "Math formula deleted|Double (super|sub)script|Ambiguous; you need|Limit controls must|.* is undefined [(]character|Illegal math"),
     (35, "Incompatible magnification|Illegal magnification"),
     (36, "Emergency stop"),
 ]

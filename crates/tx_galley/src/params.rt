@@ -1,5 +1,6 @@
 //! What the page builder takes from the table (TeX: The Program, sections 987, 1001 and 1009).
 ghost use Rattle.std.specs.Prelude.{◌≡◌, ◌++◌, IfOk, OnOk};
+ghost use Rattle.tx_box.specs.Inserts.{whole_size};
 ghost use Rattle.tx_node.specs.Nodes.{item_of};
 ghost use Rattle.tx_galley.specs.Params as spec;
 
@@ -18,6 +19,13 @@ pub(crate) fn is_integer(number: i64) -> bool
     number.unsigned_abs() < 1 << 31
 }
 
+/// The height and depth of a box together, in sp: a function of this crate, since what is handed on by its name has to be one.
+fn box_size(found: &BoxNode) -> i64
+    ensures { result ≡ whole_size found.now.head }
+{
+    whole_size(found)
+}
+
 /// Whether a box is an \hbox.
 fn is_across(found: &BoxNode) -> bool
     ensures { result ≡ spec.is_across found.now.head }
@@ -31,7 +39,7 @@ fn class_params(table: &Eqtb, class: u8) -> ClassParams
 {
     let found = table.boxed(&Place::Box(class));
     ClassParams {
-        box_size: found.map(whole_size),
+        box_size: found.map(box_size),
         is_hbox: found.is_some_and(is_across),
         count: table.number(&Place::Count(class)),
         dimen: table.number(&Place::Dimen(class)),
