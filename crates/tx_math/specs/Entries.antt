@@ -4,7 +4,7 @@ use Rattle.std.specs.Prelude.{ℕ, ◌/◌, ◌==◌, Bool, true, false, ◌&&�
 use Rattle.tx_node.specs.Items.{Item}
 use Rattle.tx_node.specs.Sizes.{glue_of_item}
 use Rattle.tx_mlist.specs.declared.kinds.AtomKind.{AtomKind}
-use Rattle.tx_mlist.specs.declared.kinds.AtomKind.TheVariants.{Ord, Inner}
+use Rattle.tx_mlist.specs.declared.kinds.AtomKind.TheVariants.{Ord}
 use Rattle.tx_mlist.specs.declared.plain.PlainNoad.{PlainNoad}
 use Rattle.tx_mlist.specs.declared.plain.PlainNoad.TheVariants.{Style, Nonscript, Glue, Kern}
 use Rattle.tx_math.specs.Boxes.{is_plain, plain_is_kern}
@@ -18,10 +18,10 @@ pub record Entry : Type 0 where
   pub joined : Bool
   pub item : MathItem
 
--- the kind of an item where a list is begun with; a fraction is an Inner, and what is neither has none that counts
+-- the kind of an item where a list is begun with; a fraction is an Ord (section 761), and what is no noad has none that counts
 abbrev pub kind_of_item : MathItem → AtomKind
 kind_of_item (atom kind nucleus superscript subscript) = kind
-kind_of_item (fraction thickness above below) = Inner
+kind_of_item (fraction thickness above below) = Ord
 kind_of_item (choice display text script script_script) = Ord
 kind_of_item (small s) = Ord
 kind_of_item (material i) = Ord

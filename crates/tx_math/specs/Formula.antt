@@ -252,7 +252,7 @@ abbrev pub piece_of : Inward → Math → AtomKind → Entry → MathItem → Te
 piece_of inward m kind e (atom own nucleus sup sub) =
     and_then (atom_list inward m e.style e.joined kind nucleus sup sub) (λ list. given (noad kind list))
 piece_of inward m kind e (fraction thickness above below) =
-    and_then (fraction_items inward m e.style (thickness_of m e.style thickness) above below) (λ list. given (noad Inner list))
+    and_then (fraction_items inward m e.style (thickness_of m e.style thickness) above below) (λ list. given (noad Ord list))
 piece_of inward m kind e (choice display text script script_script) = given (restyled e.style)
 piece_of inward m kind e (small s) = checked (small_piece m e.style s)
 piece_of inward m kind e (material i) = given (lone i)

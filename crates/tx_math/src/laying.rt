@@ -18,8 +18,7 @@ fn kind_of(noad: &Noad) -> AtomKind
 {
     match noad {
         Noad::Atom(atom) => atom.kind,
-        Noad::Fraction(_) => AtomKind::Inner,
-        Noad::Choice(_) | Noad::Plain(_) | Noad::Node(_) => AtomKind::Ord,
+        Noad::Fraction(_) | Noad::Choice(_) | Noad::Plain(_) | Noad::Node(_) => AtomKind::Ord,
     }
 }
 

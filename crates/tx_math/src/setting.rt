@@ -397,7 +397,7 @@ impl Setter<'_> {
             }
             Noad::Fraction(fraction) => {
                 let list = self.fraction_items(alloc, levels, entry.style, fraction, report)?;
-                Ok(Piece::Noad(AtomKind::Inner, list))
+                Ok(Piece::Noad(AtomKind::Ord, list))
             }
             Noad::Choice(_) => Ok(Piece::Restyled(entry.style)),
             Noad::Plain(item) => self.small_piece(entry.style, *item),
