@@ -54,9 +54,9 @@ impl Preamble {
         }
     }
 
-    /// Takes one more item, at first and after More. `MisplacedAlignment` where a column has no #, or a second one;
-    /// `IncompleteText` at an \outer macro and at the end of a file. Done comes at the \cr that ends the preamble. Its only further
-    /// error is want of memory.
+    /// Takes one more item, at first and after More. `MisplacedAlignment` where a column has no #, or a second one, or where & tells
+    /// a second time that columns repeat; `IncompleteText` at an \outer macro and at the end of a file. Done comes at the \cr that
+    /// ends the preamble. Its only further error is want of memory.
     pub fn feed(&mut self, alloc: Global, item: PreItem) -> Result<Fed<()>, AllocError>
         ensures { IfOk result (λ fed. IsFed (spec.takes self.old item self.old.part) fed self.new) }
     {

@@ -128,7 +128,7 @@ impl Rows {
 
     /// Ends the alignment (TeX: The Program, sections 800 to 812): its columns get their widths, its preamble is packed to the
     /// goal, and its rows are set by that, each in a box; what stands between them stays, but for its rules that run. The answer is
-    /// this list, how bad the preamble's box is, and what is told of it; \overfullrule doesn't count there, and is given as 0.
+    /// this list, how bad the preamble's box is, and what is told of it, in which \overfullrule doesn't count: callers give it as 0.
     ///
     /// `MisplacedAlignment` exactly where a row is open. Else `SizeOutOfRange` where a cell, a column, the preamble or what a cell
     /// is set to is too large, in this order; a cell that can't be packed gives `SizeOutOfRange` or `TooDeep`, and a row that nests

@@ -2,7 +2,7 @@
 //! preamble, rows and their entries, \noalign, and the alignment's end.
 //!
 //! Proved: what each does to the state, and exactly when each error comes. Only tested: that this is what TeX does, on documents
-//! that Knuth's TeX sets alike (call_cases).
+//! that Knuth's TeX sets alike (call_cases, tools/check-alignments).
 //!
 //! Read `standing`, `preambles`, `entries` and `ends`.
 #![tactic(auto)]

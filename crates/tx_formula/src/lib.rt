@@ -1,7 +1,8 @@
 //! The commands of formulas, carried out on TeX's state (TeX: The Program, part 48).
 //!
 //! Proved: what each command does to the state, what the end of a formula or of a group in one makes of its list, and exactly when
-//! each error comes. Only tested: that this is what TeX does, on documents that Knuth's TeX sets alike.
+//! each error comes. Only tested: that this is what TeX does, on documents that Knuth's TeX sets alike (call_cases,
+//! tools/check-formulas).
 //!
 //! Read `error` and `kinds`; `noads`, `characters`, `atoms`; `lists`, `groups`; `params`, `shifts`.
 #![tactic(auto)]

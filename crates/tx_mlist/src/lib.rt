@@ -3,7 +3,8 @@
 //! document bound; clones of a list share what they have.
 //!
 //! Proved: a list is what was put into it; scripts, limits, fractions and groups become what `specs/Building.antt` makes of them;
-//! and two lists are the same exactly where they are equal. Only tested: nothing.
+//! and two lists are the same exactly where they are equal. Only tested: that this is what TeX does, by the worked lists of
+//! `proofs/Worked.antt` and by tools/check-formulas.
 //!
 //! Modules in reading order: `kinds`, `plain`, `noad`, `error`, `mlist`, `measure`, `same`, `above`, `building`, `choices`.
 #![tactic(auto)]

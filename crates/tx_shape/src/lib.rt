@@ -1,6 +1,6 @@
-//! What families of commands take behind their first token (The TeXbook, chapter 24; TeX: The Program, parts 46 to 49): boxes, what
-//! is done with them, inserts, penalties, \prevdepth, quantities of the page, and fonts. It is scanned token by token, with the
-//! values that it needs.
+//! What families of commands take behind their first token (The TeXbook, chapters 24 to 26; TeX: The Program, parts 46 to 49): boxes,
+//! what is done with them, inserts, penalties, \prevdepth, quantities of the page, fonts, alignments, and what stands in formulas.
+//! It is scanned token by token, with the values that it needs.
 //!
 //! Proved: the rest of a command is read exactly as the grammar of tokens and values says, and what stands behind it is given back.
 //! Only tested: that the grammars are TeX's, on documents that Knuth's TeX reads alike.

@@ -2,7 +2,7 @@
 //! are being built, and what its entries, rows and end make of both.
 //!
 //! Proved: what each call makes of the alignment and the lists, and exactly when each error comes. Only tested: that this is what
-//! TeX does, on documents that Knuth's TeX reads alike (call_cases).
+//! TeX does, on documents that Knuth's TeX sets alike (call_cases, tools/check-alignments).
 //!
 //! Modules in reading order: `alignment`, `lists`, `entries`, `rows`, `ending`.
 #![tactic(auto)]
