@@ -165,11 +165,19 @@ fn write_text(text: &mut String, list: &[Node]) -> Result<(), AllocError> {
         match node {
             Node::Plain(Plain::Character(character)) => text.push(char::from(character.code))?,
             Node::Plain(Plain::Kern(_, _)) => text.push('+')?,
-            Node::Shared(Shared::Ligature(ligature)) => write_ligature(text, ligature)?,
+            Node::Shared(item) => write_within(text, item)?,
             _ => text.push('?')?,
         }
     }
     Ok(())
+}
+
+/// Writes what a text of a discretionary shares with copies of it.
+fn write_within(text: &mut String, item: &Shared) -> Result<(), AllocError> {
+    match item {
+        Shared::Ligature(ligature) => write_ligature(text, ligature),
+        Shared::Rule(_) | Shared::Leaders(_) | Shared::Special(_) | Shared::Mark(_) => text.push('?'),
+    }
 }
 
 /// Writes a ligature by its code, and the characters in whose stead it stands.
