@@ -201,6 +201,13 @@ impl PageReader {
         }
     }
 
+    /// Whether a rule may be passed with these bytes behind set_rule.
+    fn may_pass(&self, bytes: &[u8]) -> bool
+        ensures { result ≡ partial.may_pass bytes.now self.now.now }
+    {
+        may_move(self.registers.h, 4, behind(bytes, 4))
+    }
+
     /// Whether a command may begin with these bytes behind its first one.
     #[tactic(auto, unfolding(crate::specs::Partial::may_begin))]
     fn may_begin(&self, opcode: u8, bytes: &[u8]) -> bool
@@ -217,8 +224,10 @@ impl PageReader {
         } else if opcode == 243 {
             self.may_define(bytes)
         } else if opcode == 132 {
-            may_move(self.registers.h, 4, behind(bytes, 4))
-        } else if opcode == 137 || opcode == 141 {
+            self.may_pass(bytes)
+        } else if opcode == 137 {
+            true
+        } else if opcode == 141 {
             true
         } else if opcode == 142 {
             0 < self.stack.len()
