@@ -1,4 +1,6 @@
 mod Padding
+mod Near
+mod Moves
 mod ReadPages
 mod ReadFront
 mod ReadEnd

@@ -8,8 +8,8 @@ use Rattle.std.proofs.lemmas.List.Sums.{sum_by-cons}
 use Rattle.tx_dvitype.specs.declared.error.DviRule.TheVariants as element
 use Rattle.tx_dvitype.specs.declared.reader.ReadPage.{ReadPage}
 use Rattle.tx_dvitype.specs.declared.reader.Reader.{Reader}
-use Rattle.tx_dvi.specs.Dvi.{four_bytes, two_bytes, unsigned_bytes, definition_bytes, units, preamble, page_bytes, page_size, place_of, pointer_of, greatest_height, greatest_width, greatest_nesting, sizes_bytes, fonts_of, all_definitions, post_post_bytes, filler, dvi}
-use Rattle.tx_dvitype.specs.Files.{place_bytes, behind_eop, at_post, page_taken, again_below, ending, behind_postamble, taken, rest_read, at_start, dvi_file}
+use Rattle.tx_dvi.specs.Dvi.{four_bytes, two_bytes, unsigned_bytes, definition_bytes, units, preamble, page_bytes, page_size, place_of, pointer_of, greatest_height, greatest_width, greatest_nesting, sizes_bytes, fonts_of, all_definitions, post_bytes, post_post_bytes, filler, dvi}
+use Rattle.tx_dvitype.specs.Files.{with_definition, place_bytes, behind_eop, at_post, page_taken, again_below, ending, behind_postamble, taken, rest_read, at_start, dvi_file}
 use Rattle.tx_dvi.specs.Meaning.{Contents, Reader as PageReader, page_start}
 use Rattle.tx_dvi.specs.Page.{Page}
 use Rattle.tx_dvitype.specs.Partial.{read_within}
@@ -29,16 +29,18 @@ along-goes : (place : ℕ) (r : Reader) (q : PageReader) (d : List (List ℕ)) (
 along-goes place r q d [] rest element_is e =
     let same : (r.page, r.definitions) ≡ (q, d) = some-of e in
     λ i. rest_read (sym (add-zero place) i) (record r { page = (same i).0; definitions = (same i).1 }) rest
-along-goes place r q d (byte ∷ body) rest element_is e = step (read_within r.page byte) refl e
+along-goes place r q d (byte ∷ body) rest element_is e = step (λ x f. along-goes (place + 1) (next-reader r byte x) q d body rest element_is f) (read_within r.page byte) refl e
   where
-    step : (o : Option PageReader) → read_within r.page byte ≡ o → fold along (gone_along (r.page.begun ++ byte ∷ []) r.definitions o) body ≡ Some (q, d)
+    step : ((x : PageReader) → fold along (Some (x, with_definition (r.page.begun ++ byte ∷ []) r.definitions)) body ≡ Some (q, d)
+        → rest_read (place + 1) (next-reader r byte x) (body ++ rest) ≡ rest_read ((place + 1) + length body) (record (next-reader r byte x) { page = q; definitions = d }) rest)
+        → (o : Option PageReader) → read_within r.page byte ≡ o → fold along (gone_along (r.page.begun ++ byte ∷ []) r.definitions o) body ≡ Some (q, d)
         → rest_read place r ((byte ∷ body) ++ rest) ≡ rest_read (place + length (byte ∷ body)) (record r { page = q; definitions = d }) rest
-    step None is f = absurd (let no : None ≡ Some (q, d) = sym (none-along body) ∙ f in cc)
-    step (Some x) is f =
+    step others None is f = absurd (let no : None ≡ Some (q, d) = sym (none-along body) ∙ f in cc)
+    step others (Some x) is f =
         let next : Reader = next-reader r byte x in
         let count : (place + 1) + length body ≡ place + suc (length body) = omega arith in
         take-one place r next byte (body ++ rest) (byte-goes place r x byte element_is is)
-        ∙ along-goes (place + 1) next q d body rest element_is f ∙ ap (λ n. rest_read n (record r { page = q; definitions = d }) rest) count
+        ∙ others x f ∙ ap (λ n. rest_read n (record r { page = q; definitions = d }) rest) count
 
 -- a list of ten numbers
 record Cut (xs : List ℤ) (n : ℕ) : Type 0 where
@@ -192,11 +194,11 @@ agreed last mag pages =
     let n : List ℕ = two_bytes (greatest_nesting pages) in
     let t : List ℕ = two_bytes (length pages) in
     let d : List ℕ = all_definitions pages in
-    let regroup : (f ++ (w ++ n)) ++ (t ++ d) ≡ (f ++ (w ++ (n ++ t))) ++ d = simp append_assoc in
-    agrees-append 1 (four_bytes last) (four_bytes last) _ _ (agrees-same 1 (four_bytes last))
-    (subst (λ k. Agrees k (units mag ++ ((f ++ (w ++ (n ++ t))) ++ d)) (units mag ++ (replicate 10 0 ++ (t ++ d)))) (let k : 5 ≡ 1 + length (four_bytes last) = ap (λ l. 1 + l) (sym (length-four last)) in k)
-    (agrees-append 5 (units mag) (units mag) _ _ (agrees-same 5 (units mag))
-    (subst (λ k. Agrees k ((f ++ (w ++ (n ++ t))) ++ d) (replicate 10 0 ++ (t ++ d))) (let k : 17 ≡ 5 + length (units mag) = ap (λ l. 5 + l) (sym (length-units mag)) in k)
+    let regroup : (f ++ (w ++ n)) ++ (t ++ d) ≡ sizes_bytes pages ++ d = simp append_assoc in
+    agrees-append 1 (four_bytes last) (four_bytes last) (units mag ++ (sizes_bytes pages ++ d)) (units mag ++ (replicate 10 0 ++ (t ++ d))) (agrees-same 1 (four_bytes last))
+    (subst (λ k. Agrees k (units mag ++ (sizes_bytes pages ++ d)) (units mag ++ (replicate 10 0 ++ (t ++ d)))) (let k : 5 ≡ 1 + length (four_bytes last) = ap (λ l. 1 + l) (sym (length-four last)) in k)
+    (agrees-append 5 (units mag) (units mag) (sizes_bytes pages ++ d) (replicate 10 0 ++ (t ++ d)) (agrees-same 5 (units mag))
+    (subst (λ k. Agrees k (sizes_bytes pages ++ d) (replicate 10 0 ++ (t ++ d))) (let k : 17 ≡ 5 + length (units mag) = ap (λ l. 5 + l) (sym (length-units mag)) in k)
     (subst (λ (text : List ℕ). Agrees 17 text (replicate 10 0 ++ (t ++ d))) regroup
     (agrees-append 17 (f ++ (w ++ n)) (replicate 10 0) (t ++ d) (t ++ d) (any-ten (greatest_height pages) (greatest_width pages) (greatest_nesting pages)) (agrees-same _ (t ++ d)))))))
 
@@ -213,8 +215,12 @@ take-all : {A : Type 0} (xs : List A) → take (length xs) xs ≡ xs
 take-all [] = refl
 take-all (x ∷ xs) = ap (λ ys. x ∷ ys) (take-all xs)
 
-regroup : (p b t e f : List ℕ) → (p ++ (b ++ (t ++ e))) ++ f ≡ p ++ (b ++ (t ++ (e ++ f)))
-regroup p b t e f = simp append_assoc
+-- what is written, from its preamble on
+flat : (p b F U S D e : List ℕ) → ((p ++ b) ++ ((((248 ∷ F) ++ U) ++ S) ++ D)) ++ e ≡ p ++ (b ++ ((248 ∷ (F ++ (U ++ (S ++ D)))) ++ e))
+flat p b F U S D e = simp append_assoc
+
+behind-all : (p b t e f : List ℕ) → (p ++ (b ++ (t ++ e))) ++ f ≡ p ++ (b ++ (t ++ (e ++ f)))
+behind-all p b t e f = simp append_assoc
 
 module _ (first : Page) (others : List Page) (contents : List Contents) (least : 1 ≤ first.mag) (most : first.mag ≤ 32768) (few : length others < 10000)
     (small : length (preamble first) + sum_by page_size (first ∷ others) < 2 ^ 31) (readable : AreReadable [] (first ∷ others) contents) where
@@ -235,7 +241,13 @@ module _ (first : Page) (others : List Page) (contents : List Contents) (least :
   text = four_bytes (points (length pages)) ++ (units first.mag ++ (sizes_bytes pages ++ all_definitions pages))
 
   abbrev written : List ℕ
-  written = preamble first ++ (numbered points 0 pages ++ ((248 ∷ text) ++ post_post_bytes (pos (place_of start pages (length pages)))))
+  written = preamble first ++ numbered points 0 pages ++ post_bytes (points (length pages)) first.mag pages ++ post_post_bytes (pos (place_of start pages (length pages)))
+
+  abbrev apart : List ℕ
+  apart = preamble first ++ (numbered points 0 pages ++ ((248 ∷ text) ++ post_post_bytes (pos (place_of start pages (length pages)))))
+
+  are-apart : written ≡ apart
+  are-apart = flat (preamble first) (numbered points 0 pages) (four_bytes (points (length pages))) (units first.mag) (sizes_bytes pages) (all_definitions pages) (post_post_bytes (pos (place_of start pages (length pages))))
 
   abbrev fill : List ℕ
   fill = replicate (4 + (4 - length written % 4) % 4) filler
@@ -251,7 +263,7 @@ module _ (first : Page) (others : List Page) (contents : List Contents) (least :
 
   -- what is read from post on, where the reader is behind the pages
   tail-goes : (counts : List ℤ) (page : PageReader) → rest ≡ ending (post_place + length text) (suc (length text)) → rest_read post_place (behind_pages counts page) (248 ∷ text ++ rest) ≡ Ok read
-  unfolding taken page_taken
+  unfolding taken page_taken four_bytes again_below
   tail-goes counts page rest_is =
       let r : Reader = behind_pages counts page in
       let many : length read ≡ length pages = as-many [] pages contents readable in
@@ -283,16 +295,23 @@ module _ (first : Page) (others : List Page) (contents : List Contents) (least :
       let behind = length-append (numbered points 0 pages) ((248 ∷ text) ++ post_post_bytes (pos (place_of start pages (length pages)))) in
       let post = length-append (248 ∷ text) (post_post_bytes (pos (place_of start pages (length pages)))) in
       let long = numbered-long points 0 [] pages contents readable in
-      let all : length written ≡ (post_place + length text) + 7 = omega (arith, bytes, behind, post, long) in
+      let flattened : length written ≡ length apart = ap length are-apart in
+      let all : length written ≡ (post_place + length text) + 7 = omega (arith, flattened, bytes, behind, post, long) in
       let left : length written % 4 ≡ ((post_place + length text) % 4 + 7) % 4 = omega (arith, all) in
       λ i. 249 ∷ unsigned_bytes (place i) ++ 2 ∷ replicate (4 + (4 - left i) % 4) filler
 
-  pub assembled-back : dvi_file (dvi (first ∷ others)) ≡ Ok (read_pages (first ∷ others) contents)
+  file-is : dvi (first ∷ others) ≡ written ++ fill
+  file-is = refl
+
+  no-pointer : four_bytes (points 0) ≡ 255 ∷ 255 ∷ 255 ∷ 255 ∷ []
   unfolding four_bytes
+  no-pointer = refl
+
+  pub assembled-back : dvi_file (dvi (first ∷ others)) ≡ Ok (read_pages (first ∷ others) contents)
   assembled-back =
       let leads : (j : ℕ) → points (suc (0 + j)) ≡ pos (start + sum_by page_size (take j pages)) = λ j. ap (λ k. pos (start + sum_by page_size (take k pages))) (zero-add j) in
-      let go = pages-go first.mag 255 255 255 255 (replicate 10 (pos 0)) corner [] [] points 0 start pages contents (248 ∷ text ++ rest) refl leads small readable in
-      ap (λ file. rest_read 0 at_start file) (regroup (preamble first) (numbered points 0 pages) (248 ∷ text) (post_post_bytes (pos (place_of start pages (length pages)))) fill)
+      let go = pages-go first.mag 255 255 255 255 (replicate 10 (pos 0)) corner [] [] points 0 start pages contents (248 ∷ text ++ rest) no-pointer leads small readable in
+      ap (λ file. rest_read 0 at_start file) (file-is ∙ ap (λ file. file ++ fill) are-apart ∙ behind-all (preamble first) (numbered points 0 pages) (248 ∷ text) (post_post_bytes (pos (place_of start pages (length pages)))) fill)
       ∙ preamble-goes first (numbered points 0 pages ++ (248 ∷ text ++ rest)) least most
       ∙ go.goes
       ∙ (λ i. rest_read post_place (at_page first.mag (four_bytes (points (zero-add (length pages) i))) go.counts go.page (map definition_bytes (fonts_of pages)) read []) (248 ∷ text ++ rest))

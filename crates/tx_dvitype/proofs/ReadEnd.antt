@@ -112,12 +112,13 @@ module _ (r : Reader) where
 numbered-again : (number : ℕ) (fonts : List FontDefinition) → all_bytes (numbered_as number (map definition_bytes fonts)) ≡ flat_map definition_bytes (numbered number fonts)
 unfolding definition_bytes
 numbered-again number [] = refl
-numbered-again number (font ∷ fonts) = by (font.number == number)
+numbered-again number (font ∷ fonts) = by (numbered-again number fonts) (font.number == number)
   where
-    by : (b : Bool) → all_bytes (cond {A = List (List ℕ)} b (definition_bytes font ∷ numbered_as number (map definition_bytes fonts)) (numbered_as number (map definition_bytes fonts)))
+    by : all_bytes (numbered_as number (map definition_bytes fonts)) ≡ flat_map definition_bytes (numbered number fonts) → (b : Bool)
+        → all_bytes (cond {A = List (List ℕ)} b (definition_bytes font ∷ numbered_as number (map definition_bytes fonts)) (numbered_as number (map definition_bytes fonts)))
         ≡ flat_map definition_bytes (cond {A = List FontDefinition} b (font ∷ numbered number fonts) (numbered number fonts))
-    by true = ap (λ bytes. definition_bytes font ++ bytes) (numbered-again number fonts)
-    by false = numbered-again number fonts
+    by others true = ap (λ bytes. definition_bytes font ++ bytes) others
+    by others false = others
 
 pub definitions-again : (bound : ℕ) (fonts : List FontDefinition) → again_below bound (map definition_bytes fonts) ≡ definitions_below bound fonts
 unfolding again_below definitions_below

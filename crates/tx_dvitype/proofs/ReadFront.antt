@@ -154,17 +154,17 @@ module _ (mag q0 q1 q2 q3 : ℕ) (counts : List ℤ) (page : PageReader) (defini
   page-step : (place : ℕ) (begun rest : List ℕ) (byte : ℕ) → may_begin_post (here begun) byte ≡ false → may_begin_page (here begun) byte ≡ true → (length (begun ++ byte ∷ []) == 45) ≡ false
       → rest_read place (here begun) (byte ∷ rest) ≡ rest_read (place + 1) (here (begun ++ byte ∷ [])) rest
   unfolding taken page_taken
-  page-step place begun rest byte no may part =
+  page-step place begun rest byte other may part =
       take-one place (here begun) (here (begun ++ byte ∷ [])) byte rest
-      (λ i. cond {A = Option Reader} (no i) (Some (at_post (here begun)))
+      (λ i. cond {A = Option Reader} (other i) (Some (at_post (here begun)))
       (cond {A = Option Reader} (may i) (Some (cond {A = Reader} (part i) (behind_bop place (here (begun ++ byte ∷ []))) (here (begun ++ byte ∷ [])))) None))
 
   page-last : (place : ℕ) (begun rest : List ℕ) (byte : ℕ) → may_begin_post (here begun) byte ≡ false → may_begin_page (here begun) byte ≡ true → (length (begun ++ byte ∷ []) == 45) ≡ true
       → rest_read place (here begun) (byte ∷ rest) ≡ rest_read (place + 1) (behind_bop place (here (begun ++ byte ∷ []))) rest
   unfolding taken page_taken
-  page-last place begun rest byte no may whole =
+  page-last place begun rest byte other may whole =
       take-one place (here begun) (behind_bop place (here (begun ++ byte ∷ []))) byte rest
-      (λ i. cond {A = Option Reader} (no i) (Some (at_post (here begun)))
+      (λ i. cond {A = Option Reader} (other i) (Some (at_post (here begun)))
       (cond {A = Option Reader} (may i) (Some (cond {A = Reader} (whole i) (behind_bop place (here (begun ++ byte ∷ []))) (here (begun ++ byte ∷ [])))) None))
 
   module _ (c0 c1 c2 c3 c4 c5 c6 c7 c8 c9 : ℤ) where

@@ -63,11 +63,12 @@ none-within (byte ∷ body) = none-within body
 
 within-all : (r q : PageReader) (body : List ℕ) → fold within (Some r) body ≡ Some q → fold (read no_widths) (Some r) body ≡ Some q
 within-all r q [] e = e
-within-all r q (byte ∷ body) e = step (read_within r byte) refl e
+within-all r q (byte ∷ body) e = step (λ x f. within-all x q body f) (read_within r byte) refl e
   where
-    step : (o : Option PageReader) → read_within r byte ≡ o → fold within o body ≡ Some q → fold (read no_widths) (read no_widths (Some r) byte) body ≡ Some q
-    step None is f = absurd (let no : None ≡ Some q = sym (none-within body) ∙ f in cc)
-    step (Some x) is f = ap (λ o. fold (read no_widths) o body) (within-read r x byte is) ∙ within-all x q body f
+    step : ((x : PageReader) → fold within (Some x) body ≡ Some q → fold (read no_widths) (Some x) body ≡ Some q)
+        → (o : Option PageReader) → read_within r byte ≡ o → fold within o body ≡ Some q → fold (read no_widths) (read no_widths (Some r) byte) body ≡ Some q
+    step others None is f = absurd (let no : None ≡ Some q = sym (none-within body) ∙ f in cc)
+    step others (Some x) is f = ap (λ o. fold (read no_widths) o body) (within-read r x byte is) ∙ others x f
 
 -- no command begins as eop does
 eop-none : (r : PageReader) (byte : ℕ) → (length r.begun == 0 && byte == 140) ≡ true → read_within r byte ≡ None
@@ -108,13 +109,14 @@ reads-to place r q [] rest element e =
       definitions = r.definitions;
       goes_on = λ i. rest_read (sym (add-zero place) i) (record r { page = same i }) rest;
     }
-reads-to place r q (byte ∷ body) rest element e = step (read_within r.page byte) refl e
+reads-to place r q (byte ∷ body) rest element e = step (λ x f. reads-to (place + 1) (next-reader r byte x) q body rest element f) (read_within r.page byte) refl e
   where
-    step : (o : Option PageReader) → read_within r.page byte ≡ o → fold within o body ≡ Some q → ReadsTo place r q (byte ∷ body) rest
-    step None is f = absurd (let no : None ≡ Some q = sym (none-within body) ∙ f in cc)
-    step (Some x) is f =
+    step : ((x : PageReader) → fold within (Some x) body ≡ Some q → ReadsTo (place + 1) (next-reader r byte x) q body rest)
+        → (o : Option PageReader) → read_within r.page byte ≡ o → fold within o body ≡ Some q → ReadsTo place r q (byte ∷ body) rest
+    step others None is f = absurd (let no : None ≡ Some q = sym (none-within body) ∙ f in cc)
+    step others (Some x) is f =
         let next : Reader = next-reader r byte x in
-        let further : ReadsTo (place + 1) next q body rest = reads-to (place + 1) next q body rest element f in
+        let further : ReadsTo (place + 1) next q body rest = others x f in
         let count : (place + 1) + length body ≡ place + suc (length body) = omega arith in
         record {
           definitions = further.definitions;

@@ -148,10 +148,14 @@ command_taken r byte =
     if length r.page.begun == 0 && byte == eop then (if is_level r.page then Some (behind_eop r) else None)
     else within_taken r byte
 
--- what stands behind a postamble of so many bytes, the last of which has this place: post_post, where post stands, 2, and four to seven
--- bytes up to a multiple of four
+-- what fills up a file of so many bytes: four to seven more, up to a multiple of four
+abbrev pub fillers : ℕ → List ℕ
+fillers size = replicate (4 + (4 - size % 4) % 4) filler
+
+-- what stands behind a postamble of so many bytes, the last of which has this place: post_post, where post stands, and 2, seven bytes
+-- behind that place, and the fillers
 abbrev pub ending : ℕ → ℕ → List ℕ
-ending place size = post_post ∷ place_bytes (place - (size - 1)) ++ format_number ∷ replicate (4 + (4 - (place % 4 + 7) % 4) % 4) filler
+ending place size = post_post ∷ place_bytes (place - (size - 1)) ++ format_number ∷ fillers (place % 4 + 7)
 
 abbrev pub behind_postamble : ℕ → Reader → Reader
 behind_postamble place r = record r {

@@ -42,6 +42,10 @@ abbrev pub may_go : ℕ → List ℕ → Registers → Bool
 may_go opcode bytes now =
     if nat_le opcode 156 then may_move now.h (movement_operands opcode) bytes else may_move now.v (movement_operands opcode) bytes
 
+-- the first bytes behind set_rule: the four of the height, which may be anything, and those of the width
+abbrev pub may_pass : List ℕ → Registers → Bool
+may_pass bytes now = may_move now.h 4 (drop 4 bytes)
+
 -- The first bytes of a command, by its number and those behind it. The commands are those of a page but nop and fnt_def2 to fnt_def4.
 unfoldable pub may_begin : ℕ → List ℕ → Reader → Bool
 may_begin opcode bytes r =
@@ -50,7 +54,7 @@ may_begin opcode bytes r =
     else if opcode == 128 then is_some r.fonts.chosen
     else if opcode == 235 then may_choose bytes r.fonts.known
     else if opcode == 243 then may_define bytes r.fonts.known
-    else if opcode == 132 then may_move r.now.h 4 (drop 4 bytes)
+    else if opcode == 132 then may_pass bytes r.now
     else if opcode == 137 || opcode == 141 then true
     else if opcode == 142 then nat_lt 0 (length r.stack)
     else if is_movement opcode then may_go opcode bytes r.now

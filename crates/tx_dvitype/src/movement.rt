@@ -1,5 +1,5 @@
 //! Movements on a page, as far as a DVI file tells them: how wide its characters are it doesn't say.
-ghost use Rattle.std.specs.Prelude.{◌≡◌, ◌≤◌, drop};
+ghost use Rattle.std.specs.Prelude.{◌≡◌, ◌≤◌, ◌+ℤ◌, drop};
 ghost use Rattle.byteorder.specs.Endian.{big_number};
 ghost use Rattle.tx_dvi.specs.Meaning.{signed};
 ghost use Rattle.tx_dvi.specs.Meaning as spec;
@@ -10,7 +10,7 @@ use byteorder::{BigEndian, ByteOrder};
 use tx_dvi::{Registers, signed_of};
 
 /// The greatest distance from the corner of a page, in sp.
-const FARTHEST: i128 = 2_147_483_647;
+const FARTHEST: i64 = 2_147_483_647;
 
 /// The bytes behind the first ones, so many of them.
 #[tactic(auto, using(crate::proofs::Padding::drop_both))]
@@ -57,7 +57,7 @@ pub fn unsigned_at(bytes: &[u8]) -> u32
     BigEndian::read_u32(&padded(bytes, 0))
 }
 
-fn is_within(z: i128) -> bool
+fn is_within(z: i64) -> bool
     ensures { result ≡ partial.is_within z }
 {
     -FARTHEST <= z && z <= FARTHEST
@@ -67,25 +67,31 @@ fn is_within(z: i128) -> bool
 pub fn is_near(now: Registers) -> bool
     ensures { result ≡ partial.is_near now }
 {
-    is_within(i128::from(now.h)) && is_within(i128::from(now.v))
+    is_within(now.h) && is_within(now.v)
+}
+
+/// Registers, if they are near enough to the corner.
+fn near(now: Registers) -> Option<Registers>
+    ensures { IsKept result now }
+{
+    if is_near(now) { Some(now) } else { None }
 }
 
 /// The registers behind a movement to the right; None where it leads too far.
+#[tactic(auto, using(crate::proofs::Near::far))]
 pub fn right_by(size: i64, now: Registers) -> Option<Registers>
     ensures { IsKept result (spec.right_by size now) }
 {
-    let h = i128::from(now.h) + i128::from(size);
-    if is_within(h) && is_within(i128::from(now.v)) {
-        Some(Registers {
-            h: h as i64,
+    match now.h.checked_add(size) {
+        Some(h) => near(Registers {
+            h,
             v: now.v,
             w: now.w,
             x: now.x,
             y: now.y,
             z: now.z,
-        })
-    } else {
-        None
+        }),
+        None => None,
     }
 }
 
@@ -93,18 +99,16 @@ pub fn right_by(size: i64, now: Registers) -> Option<Registers>
 fn down_by(size: i64, now: Registers) -> Option<Registers>
     ensures { IsKept result (spec.down_by size now) }
 {
-    let v = i128::from(now.v) + i128::from(size);
-    if is_within(i128::from(now.h)) && is_within(v) {
-        Some(Registers {
+    match now.v.checked_add(size) {
+        Some(v) => near(Registers {
             h: now.h,
-            v: v as i64,
+            v,
             w: now.w,
             x: now.x,
             y: now.y,
             z: now.z,
-        })
-    } else {
-        None
+        }),
+        None => None,
     }
 }
 
@@ -188,6 +192,17 @@ pub fn moved(opcode: u8, size: i64, now: Registers) -> Option<Registers>
     }
 }
 
+/// Whether an amount leads from a place to one that is near enough to the corner.
+#[tactic(auto, using(crate::proofs::Near::far))]
+fn leads_near(place: i64, size: i64) -> bool
+    ensures { result ≡ partial.is_within (place +ℤ size) }
+{
+    match place.checked_add(size) {
+        Some(sum) => is_within(sum),
+        None => false,
+    }
+}
+
 /// Whether the first bytes of an amount of so many bytes may lead from a place to one that is near enough to the corner.
 pub fn may_move(place: i64, size: usize, bytes: &[u8]) -> bool
     requires { size ≤ 4 }
@@ -196,7 +211,6 @@ pub fn may_move(place: i64, size: usize, bytes: &[u8]) -> bool
     if size == 0 {
         return true;
     }
-    let least = i128::from(signed_of(&padded(bytes, 0), size));
-    let greatest = i128::from(signed_of(&padded(bytes, 255), size));
-    is_within(i128::from(place) + least) || is_within(i128::from(place) + greatest)
+    leads_near(place, signed_of(&padded(bytes, 0), size))
+        || leads_near(place, signed_of(&padded(bytes, 255), size))
 }

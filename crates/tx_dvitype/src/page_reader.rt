@@ -30,7 +30,7 @@ pub enum Gone {
 /// The reader of a page. Contracts see it as the record `Reader`.
 #[derive(Drop)]
 pub struct PageReader {
-    now: Registers,
+    registers: Registers,
     /// The font that was chosen last.
     chosen: Option<u8>,
     /// The numbers of the fonts that are defined.
@@ -51,7 +51,7 @@ impl Model for PageReader {
     ghost Value = { Reader };
 
     ghost view = { λ r. record {
-      now = r.now;
+      now = r.registers;
       fonts = record { chosen = r.chosen; known = r.known; defined = r.defined };
       stack = r.stack;
       met = r.met;
@@ -100,7 +100,7 @@ impl PageReader {
         ensures { result ≡ spec.page_start [] }
     {
         PageReader {
-            now: corner(),
+            registers: corner(),
             chosen: None,
             known: Bytes::new(alloc),
             defined: Items::new(alloc),
@@ -114,7 +114,7 @@ impl PageReader {
     pub fn start(&mut self, alloc: Global)
         ensures { self.new ≡ spec.page_start self.old.fonts.known }
     {
-        self.now = corner();
+        self.registers = corner();
         self.chosen = None;
         self.defined.clear();
         self.stack = Stack::new(alloc);
@@ -195,10 +195,17 @@ impl PageReader {
     {
         let size = usize::from(movement_operands(opcode));
         if opcode <= 156 {
-            may_move(self.now.h, size, bytes)
+            may_move(self.registers.h, size, bytes)
         } else {
-            may_move(self.now.v, size, bytes)
+            may_move(self.registers.v, size, bytes)
         }
+    }
+
+    /// Whether a rule may be passed with these bytes behind set_rule.
+    fn may_pass(&self, bytes: &[u8]) -> bool
+        ensures { result ≡ partial.may_pass bytes.now self.now.now }
+    {
+        may_move(self.registers.h, 4, behind(bytes, 4))
     }
 
     /// Whether a command may begin with these bytes behind its first one.
@@ -217,8 +224,10 @@ impl PageReader {
         } else if opcode == 243 {
             self.may_define(bytes)
         } else if opcode == 132 {
-            may_move(self.now.h, 4, behind(bytes, 4))
-        } else if opcode == 137 || opcode == 141 {
+            self.may_pass(bytes)
+        } else if opcode == 137 {
+            true
+        } else if opcode == 141 {
             true
         } else if opcode == 142 {
             0 < self.stack.len()
@@ -239,12 +248,12 @@ impl PageReader {
                 self.met.push(Placed::Lettered(PlacedCharacter {
                     font,
                     code,
-                    h: self.now.h,
-                    v: self.now.v,
+                    h: self.registers.h,
+                    v: self.registers.v,
                 }))?;
-                match right_by(0, self.now) {
+                match right_by(0, self.registers) {
                     Some(now) => {
-                        self.now = now;
+                        self.registers = now;
                         Ok(true)
                     }
                     None => Ok(false),
@@ -260,7 +269,7 @@ impl PageReader {
     {
         if self.is_known(number) {
             self.chosen = Some(number);
-            is_near(self.now)
+            is_near(self.registers)
         } else {
             false
         }
@@ -276,7 +285,7 @@ impl PageReader {
         }
         self.known.push(number)?;
         self.defined.push(definition_of(alloc, bytes)?)?;
-        Ok(is_near(self.now))
+        Ok(is_near(self.registers))
     }
 
     /// A rule is met, if both its sides are positive.
@@ -287,8 +296,8 @@ impl PageReader {
             return Ok(());
         }
         self.met.push(Placed::Ruled(PlacedRule {
-            h: self.now.h,
-            v: self.now.v,
+            h: self.registers.h,
+            v: self.registers.v,
             height,
             width,
         }))
@@ -299,9 +308,9 @@ impl PageReader {
         ensures { IfOk result (λ goes. gone goes self.new ≡ kept_near (Some (spec.rule_set height width self.old))) }
     {
         self.meet_rule(height, width)?;
-        match right_by(width, self.now) {
+        match right_by(width, self.registers) {
             Some(now) => {
-                self.now = now;
+                self.registers = now;
                 Ok(true)
             }
             None => Ok(false),
@@ -313,7 +322,7 @@ impl PageReader {
         ensures { IfOk result (λ goes. gone goes self.new ≡ kept_near (Some (spec.with_rule height width self.old))) }
     {
         self.meet_rule(height, width)?;
-        Ok(is_near(self.now))
+        Ok(is_near(self.registers))
     }
 
     /// The registers are kept.
@@ -321,8 +330,8 @@ impl PageReader {
         ensures { IfOk result
             (λ goes. gone goes self.new ≡ kept_near (Some (record self.old { stack = self.old.now ∷ self.old.stack }))) }
     {
-        self.stack.push(self.now)?;
-        Ok(is_near(self.now))
+        self.stack.push(self.registers)?;
+        Ok(is_near(self.registers))
     }
 
     /// The registers that were kept last are taken back.
@@ -331,7 +340,7 @@ impl PageReader {
     {
         match self.stack.pop() {
             Some(last) => {
-                self.now = last;
+                self.registers = last;
                 is_near(last)
             }
             None => false,
@@ -343,11 +352,11 @@ impl PageReader {
         ensures { IfOk result (λ goes. gone goes self.new ≡ kept_near (Some (spec.with_special bytes.now self.old))) }
     {
         self.met.push(Placed::Noted(PlacedSpecial {
-            h: self.now.h,
-            v: self.now.v,
+            h: self.registers.h,
+            v: self.registers.v,
             text: Bytes::from_slice(alloc, bytes)?,
         }))?;
-        Ok(is_near(self.now))
+        Ok(is_near(self.registers))
     }
 
     /// A movement is carried out.
@@ -357,9 +366,9 @@ impl PageReader {
         ensures { gone result self.new ≡ kept_near (Some (partial.gone_by opcode bytes.now self.old)) }
     {
         let size = signed_at(bytes, usize::from(movement_operands(opcode)));
-        match moved(opcode, size, self.now) {
+        match moved(opcode, size, self.registers) {
             Some(now) => {
-                self.now = now;
+                self.registers = now;
                 true
             }
             None => false,
@@ -386,7 +395,7 @@ impl PageReader {
         } else if opcode == 137 {
             self.put_rule(signed_at(bytes, 4), signed_at(behind(bytes, 4), 4))
         } else if opcode == 138 {
-            Ok(is_near(self.now))
+            Ok(is_near(self.registers))
         } else if opcode == 141 {
             self.push()
         } else if opcode == 142 {
@@ -414,7 +423,7 @@ impl PageReader {
             return Ok(Gone::Nowhere);
         };
         if (self.begun.len() as u128) <= more {
-            return Ok(if is_near(self.now) {
+            return Ok(if is_near(self.registers) {
                 Gone::Begun
             } else {
                 Gone::Nowhere

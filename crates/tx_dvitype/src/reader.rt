@@ -177,16 +177,23 @@ fn append_again(file: &mut Bytes, definitions: &[Bytes]) -> Result<(), AllocErro
     Ok(())
 }
 
+/// Appends what fills up a file of so many bytes.
+fn append_fillers(file: &mut Bytes, size: usize) -> Result<(), AllocError>
+    ensures { OnOk result (file.new ≡ file.old ++ spec.fillers size) }
+{
+    let count = 4 + (4 - size % 4) % 4;
+    file.append(&[FILLER; 7][..count])
+}
+
 /// What stands behind a postamble of so many bytes, the last of which has this place.
 fn ending(alloc: Global, place: usize, size: usize) -> Result<Bytes, AllocError>
     ensures { IfOk result (λ bytes. bytes ≡ spec.ending place size) }
 {
     let start = place.saturating_sub(size.saturating_sub(1));
-    let count = 4 + (4 - (place % 4 + 7) % 4) % 4;
     let mut bytes = Bytes::from_slice(alloc, &[POST_POST])?;
     bytes.append(&place_bytes(start))?;
     bytes.push(FORMAT_NUMBER)?;
-    bytes.append(&[FILLER; 7][..count])?;
+    append_fillers(&mut bytes, place % 4 + 7)?;
     Ok(bytes)
 }
 
