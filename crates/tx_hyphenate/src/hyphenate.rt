@@ -1,5 +1,7 @@
 //! Lists with their words hyphenated.
-ghost use Rattle.std.specs.Prelude.{◌≡◌, ◌++◌, ◌≤◌, length, IfOk, OnOk};
+ghost use Rattle.std.specs.Prelude.{◌≡◌, ◌++◌, ◌≤◌, ◌<◌, true, length, IfOk, OnOk};
+ghost use Rattle.std.specs.List.{All};
+ghost use Rattle.tx_tfm.specs.Fonts.{has_character};
 ghost use Rattle.tx_node.specs.Nodes.{item_of, list_of};
 ghost use Rattle.tx_hyphenate.specs.Hyphenated as spec;
 
@@ -15,6 +17,98 @@ use tx_bytes::Bytes;
 use tx_hyphen::hyphens::Hyphens;
 use tx_node::{Node, Nodes};
 use tx_tfm::Fonts;
+use tx_word::Places;
+
+/// The places of a word before which so many items stand, in its run, which begins behind `start` of them and has `count` characters:
+/// each between two of these. Its only error is want of memory.
+fn run_places(
+    alloc: Global,
+    nodes: &[Node],
+    start: usize,
+    word: usize,
+    count: usize,
+    places: &[usize],
+) -> Result<Places, AllocError>
+    requires order { start ≤ word }
+    requires within { word ≤ length nodes.now }
+    requires few { length (spec.codes_between start word (list_of nodes.now)) ≤ count }
+    ensures value { IfOk result (λ further. further ≡ spec.placed (length (spec.codes_between start word (list_of nodes.now))) count places.now) }
+    ensures between { IfOk result (All (λ place. (0 < place) × (place < count))) }
+{
+    let before = codes_between(alloc, nodes, start, word)?;
+    moved(alloc, before.len(), count, places)
+}
+
+/// Puts items, of which those from `start` to `end` are a run of these characters, behind what is made, the run composed anew with
+/// the places of the word before which so many stand. Its only error is want of memory.
+fn append_anew(
+    alloc: Global,
+    made: &mut Made,
+    fonts: &Fonts,
+    font: u8,
+    start: usize,
+    word: usize,
+    end: usize,
+    codes: &[u8],
+    places: &[usize],
+    items: Nodes,
+) -> Result<(), AllocError>
+    requires order { start ≤ word }
+    requires behind { word ≤ end }
+    requires within { end ≤ length items }
+    requires codes { codes.now ≡ spec.codes_between start end items }
+    requires there { All (λ code. has_character fonts.now font code ≡ true) codes.now }
+    ensures { OnOk result (made.new ≡ spec.joined made.old (spec.put_between start end items (spec.run_made fonts.now font codes.now (spec.placed (length (spec.codes_between start word items)) (length codes.now) places.now)))) }
+{
+    let places = run_places(alloc, items.as_slice(), start, word, codes.len(), places)?;
+    append_run(
+        alloc,
+        made,
+        fonts,
+        font,
+        start,
+        end,
+        codes,
+        places.as_slice(),
+        items,
+    )
+}
+
+/// The same, if the font has all these characters. Its only error is want of memory.
+fn append_between(
+    alloc: Global,
+    made: &mut Made,
+    fonts: &Fonts,
+    font: u8,
+    start: usize,
+    word: usize,
+    end: usize,
+    places: &[usize],
+    items: Nodes,
+) -> Result<(), AllocError>
+    requires order { start ≤ word }
+    requires behind { word ≤ end }
+    requires within { end ≤ length items }
+    ensures { OnOk result (made.new ≡ spec.joined made.old (spec.with_run fonts.now font start word end places.now items)) }
+{
+    let codes = codes_between(alloc, items.as_slice(), start, end)?;
+    if are_there(fonts, font, codes.as_slice()) {
+        append_anew(
+            alloc,
+            made,
+            fonts,
+            font,
+            start,
+            word,
+            end,
+            codes.as_slice(),
+            places,
+            items,
+        )
+    } else {
+        keep(made, items)
+    }
+}
 
 /// Puts items with a word before which so many stand behind what is made: its run is composed anew with the places, if there are
 /// any. Its only error is want of memory.
@@ -36,23 +130,7 @@ fn append_with_word(
     let nodes = items.as_slice();
     let start = word - run_before(font, &nodes[..word]);
     let end = word + run_behind(font, &nodes[word..]);
-    let codes = codes_between(alloc, nodes, start, end)?;
-    let before = codes_between(alloc, nodes, start, word)?;
-    let places = moved(alloc, before.len(), codes.len(), places)?;
-    if !are_there(fonts, font, codes.as_slice()) {
-        return keep(made, items);
-    }
-    append_run(
-        alloc,
-        made,
-        fonts,
-        font,
-        start,
-        end,
-        codes.as_slice(),
-        places.as_slice(),
-        items,
-    )
+    append_between(alloc, made, fonts, font, start, word, end, places, items)
 }
 
 /// Puts items that stand behind glue behind what is made, with their word hyphenated. Its only error is want of memory.

@@ -63,7 +63,7 @@ fn note(seams: &mut Seams, met: Met, place: usize, item: usize) -> Result<(), Al
     }
 }
 
-/// Looks at a pair behind which these pieces stand, where `fresh` of the last pieces hadn't been met: notes the seam between both,
+/// Looks at a pair behind which so many pieces stand, where `fresh` of the last pieces hadn't been met: notes the seam between both,
 /// if the second one is met for the first time, and answers how many haven't been met now.
 #[inline(always)]
 pub(crate) fn see(
@@ -72,19 +72,18 @@ pub(crate) fn see(
     current: &Piece,
     next: &Piece,
     fresh: usize,
-    behind: &[Piece],
+    behind: usize,
     end: usize,
     done: &Items,
 ) -> Result<usize, AllocError>
     requires { fresh ≤ end }
-    ensures fresh { IfOk result (λ left. left ≡ min fresh (length behind.now)) }
-    ensures seams { OnOk result (seams.new ≡ seams.old ++ spec.seen font.now current.now next.now fresh (length behind.now) end (length done.now)) }
+    ensures fresh { IfOk result (λ left. left ≡ min fresh behind) }
+    ensures seams { OnOk result (seams.new ≡ seams.old ++ spec.seen font.now current.now next.now fresh behind end (length done.now)) }
 {
-    let count = behind.len();
-    if fresh <= count {
+    if fresh <= behind {
         return Ok(fresh);
     }
     let met = pair_meets(font, current.code(), next.code());
     note(seams, met, end - fresh, count_with(done, current))?;
-    Ok(count)
+    Ok(behind)
 }

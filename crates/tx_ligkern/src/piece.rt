@@ -38,6 +38,17 @@ impl Piece {
             Piece::Ligature { from, .. } => Ok(from),
         }
     }
+
+    /// Puts these behind others.
+    pub fn append_originals(self, from: &mut Bytes) -> Result<(), AllocError>
+        ensures { OnOk result (from.new ≡ from.old ++ originals self) }
+    {
+        match self {
+            Piece::Boundary => Ok(()),
+            Piece::Char(code) => from.push(code),
+            Piece::Ligature { from: others, .. } => from.append(others.as_slice()),
+        }
+    }
 }
 
 /// Puts what a piece is in the end behind the items.

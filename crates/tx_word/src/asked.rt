@@ -20,14 +20,31 @@ fn is_factor(factor: i64) -> bool
 fn has_characters(fonts: &Fonts, font: u8, chars: &[u8]) -> bool
     ensures { IsTrue result ↔ All (λ c. has_character fonts.now font c ≡ true) chars.now }
 {
-    chars.iter().all(|c| fonts.has_character(font, *c))
+    for code in chars {
+        if !fonts.has_character(font, *code) {
+            return false;
+        }
+    }
+    true
+}
+
+/// Whether a place is between two characters of a word of so many.
+fn is_between(length: usize, place: usize) -> bool
+    ensures { IsTrue result ↔ ((0 < place) × (place < length)) }
+{
+    0 < place && place < length
 }
 
 /// Whether each of these places is between two characters of a word of so many.
 fn are_between(length: usize, places: &[usize]) -> bool
     ensures { IsTrue result ↔ All (λ place. (0 < place) × (place < length)) places.now }
 {
-    places.iter().all(|place| 0 < *place && *place < length)
+    for place in places {
+        if !is_between(length, *place) {
+            return false;
+        }
+    }
+    true
 }
 
 /// Whether the font has each character of a word, and each place is between two of them.
@@ -56,5 +73,10 @@ fn is_piece(fonts: &Fonts, piece: &Piece) -> bool
 pub fn are_pieces(fonts: &Fonts, pieces: &[Piece]) -> bool
     ensures { IsTrue result ↔ All (spec.IsPiece fonts.now) pieces.now }
 {
-    pieces.iter().all(|piece| is_piece(fonts, piece))
+    for piece in pieces {
+        if !is_piece(fonts, piece) {
+            return false;
+        }
+    }
+    true
 }

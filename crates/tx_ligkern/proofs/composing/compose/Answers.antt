@@ -1,4 +1,4 @@
-use Rattle.std.proofs.Common.{◌≡◌, List, sym, subst}
+use Rattle.std.proofs.Common.{List, sym, subst}
 use Rattle.tx_ligkern.specs.declared.item.LigItem.{LigItem}
 use Rattle.tx_ligkern.specs.Composing.{Becomes}
 use Rattle.tx_ligkern.specs.Pieces.{word_of}

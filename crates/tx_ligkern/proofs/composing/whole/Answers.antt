@@ -9,13 +9,13 @@ use Rattle.tx_ligkern.specs.Seams.{IsCut}
 use Rattle.tx_ligkern.proofs.Steps.{first_taken, no_pieces, nothing_taken, word-ends}
 use Rattle.tx_ligkern.proofs.composing.whole.Goals as goal
 
-pub run-requires-clause-ends : goal.run-requires-clause-ends
-run-requires-clause-ends c =
+pub pass_through-requires-clause-ends : goal.pass_through-requires-clause-ends
+pass_through-requires-clause-ends c =
     let e = sym c.in_ok-rest.ensures ∙ first_taken c.in_ok-rest.rest.items c.reverse.new.self.items c.pop.new.self.items c.in-Some.first c.reverse.ensures.items c.in-Some.ensures.items in
     word-ends c.args.font.now c.in-Some.first (reverse c.pop.new.self.items) c.args.chars.now c.args.left c.args.right c.is_sound.ensures c.requires e
 
-pub run-requires-clause-fresh : goal.run-requires-clause-fresh
-run-requires-clause-fresh c = subst (λ (l : List Piece). c.fresh_count-fresh.result ≤ length l) c.as_slice.ensures.value c.fresh_count-fresh.ensures
+pub pass_through-requires-clause-fresh : goal.pass_through-requires-clause-fresh
+pass_through-requires-clause-fresh c = subst (λ (l : List Piece). c.fresh_count-fresh.result ≤ length l) c.as_slice.ensures.value c.fresh_count-fresh.ensures
 
 pub returns-in-None-clause-becomes : goal.returns-in-None-clause-becomes
 returns-in-None-clause-becomes c =
@@ -26,14 +26,14 @@ returns-in-None-clause-becomes c =
 
 pub returns-in-None-clause-seams : goal.returns-in-None-clause-seams
 returns-in-None-clause-seams c =
-    subst (All (IsCut c.args.font.now c.args.left (word_of c.args.chars.now c.args.left c.args.right))) (sym c.new-2.ensures) (All-nil (IsCut c.args.font.now c.args.left (word_of c.args.chars.now c.args.left c.args.right)))
+    subst (All (IsCut c.args.font.now c.args.left (word_of c.args.chars.now c.args.left c.args.right))) (sym c.new-in-None.ensures) (All-nil (IsCut c.args.font.now c.args.left (word_of c.args.chars.now c.args.left c.args.right)))
 
 pub returns-in-Some-clause-becomes : goal.returns-in-Some-clause-becomes
 returns-in-Some-clause-becomes c =
     let e = sym c.in_ok-rest.ensures ∙ first_taken c.in_ok-rest.rest.items c.reverse.new.self.items c.pop.new.self.items c.in-Some.first c.reverse.ensures.items c.in-Some.ensures.items in
-    subst (λ (w : List Piece). IfOk c.run.result (λ made. Becomes c.args.font.now w made.items)) (sym e) c.run.ensures.items
+    subst (λ (w : List Piece). IfOk c.pass_through.result (λ made. Becomes c.args.font.now w made.items)) (sym e) c.pass_through.ensures.items
 
 pub returns-in-Some-clause-seams : goal.returns-in-Some-clause-seams
 returns-in-Some-clause-seams c =
     let e = sym c.in_ok-rest.ensures ∙ first_taken c.in_ok-rest.rest.items c.reverse.new.self.items c.pop.new.self.items c.in-Some.first c.reverse.ensures.items c.in-Some.ensures.items in
-    subst (λ (w : List Piece). IfOk c.run.result (λ made. All (IsCut c.args.font.now c.args.left w) made.seams)) (sym e) c.run.ensures.seams
+    subst (λ (w : List Piece). IfOk c.pass_through.result (λ made. All (IsCut c.args.font.now c.args.left w) made.seams)) (sym e) c.pass_through.ensures.seams

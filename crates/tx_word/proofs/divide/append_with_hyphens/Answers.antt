@@ -1,4 +1,4 @@
-use Rattle.std.proofs.Common.{◌≡◌, ◌∙◌, ◌++◌, map}
+use Rattle.std.proofs.Common.{◌∙◌, ◌++◌, map}
 use Rattle.std.proofs.lemmas.Result.{on_ok_weaker}
 use Rattle.tx_word.specs.Dividing.{parted_in}
 use Rattle.tx_word.specs.Divisions.{divided, part_item}

@@ -23,7 +23,7 @@ returns-in-None-clause-value c = c.new.ensures ∙ ap (λ (o : Option NamedFont)
 
 pub returns-in-None-clause-noted : goal.returns-in-None-clause-noted
 returns-in-None-clause-noted c =
-    subst (All (IsNoted c.args.fonts.now c.args.font c.args.chars.now c.args.left c.args.right c.new.result)) (sym c.new-2.ensures) (All-nil (IsNoted c.args.fonts.now c.args.font c.args.chars.now c.args.left c.args.right c.new.result))
+    subst (All (IsNoted c.args.fonts.now c.args.font c.args.chars.now c.args.left c.args.right c.new.result)) (sym c.new-in-None.ensures) (All-nil (IsNoted c.args.fonts.now c.args.font c.args.chars.now c.args.left c.args.right c.new.result))
 
 pub returns-in-Some-clause-made : goal.returns-in-Some-clause-made
 returns-in-Some-clause-made c = subst (λ (o : Option NamedFont). IfOk c.compose_with_seams.result (λ made. Composed o c.args.chars.now c.args.left c.args.right made.items)) c.in-Some.ensures.found c.compose_with_seams.ensures.becomes

@@ -15,13 +15,13 @@ loop-at-preserved c =
     let w = c.args.self.now in
     let below : c.loop-at.at < length w.chars.now = omega arith in (
       omega (arith, below),
-      sym (from-more (seam_in w) (last_in w) c.loop-at.at (length w.chars.now) below (sym c.in_ok-found.ensures.value ∙ c.in_default-found.is)) ∙ c.loop-at.invariant.1,
+      sym (from-more (seam_in w) (last_in w) c.loop-at.at (length w.chars.now) below (sym c.in_ok-found.ensures.value ∙ c.in_default.is)) ∙ c.loop-at.invariant.1,
     )
 
-pub returns-in-Some-found : goal.returns-in-Some-found
-returns-in-Some-found c =
+pub returns-in-Some : goal.returns-in-Some
+returns-in-Some c =
     let w = c.args.self.now in
-    sym (from-found (seam_in w) (last_in w) c.loop-at.at (length w.chars.now) c.in-Some-found.seam (omega arith) (sym c.in_ok-found.ensures.value ∙ c.in-Some-found.is)) ∙ c.loop-at.invariant.1
+    sym (from-found (seam_in w) (last_in w) c.loop-at.at (length w.chars.now) c.in-Some.seam (omega arith) (sym c.in_ok-found.ensures.value ∙ c.in-Some.is)) ∙ c.loop-at.invariant.1
 
 pub returns : goal.returns
 returns c =

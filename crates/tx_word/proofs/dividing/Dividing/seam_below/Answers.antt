@@ -15,21 +15,21 @@ seam_of-requires-clause-within c = omega (arith, c.loop-at.invariant.0, c.requir
 pub loop-at-preserved : goal.loop-at-preserved
 loop-at-preserved c = (
   omega (arith, c.loop-at.invariant.0),
-  sym (below-more (seam_in c.args.self.now) c.loop-at.at (omega arith) (sym c.in_ok-found.ensures.value ∙ c.in_default-found.is)) ∙ c.loop-at.invariant.1,
+  sym (below-more (seam_in c.args.self.now) c.loop-at.at (omega arith) (sym c.in_ok-found.ensures.value ∙ c.in_default.is)) ∙ c.loop-at.invariant.1,
 )
 
-pub returns-in-Some-found-clause-value : goal.returns-in-Some-found-clause-value
-returns-in-Some-found-clause-value c =
-    sym (below-found (seam_in c.args.self.now) c.loop-at.at c.in-Some-found.seam (omega arith) (sym c.in_ok-found.ensures.value ∙ c.in-Some-found.is)) ∙ c.loop-at.invariant.1
+pub returns-in-Some-clause-value : goal.returns-in-Some-clause-value
+returns-in-Some-clause-value c =
+    sym (below-found (seam_in c.args.self.now) c.loop-at.at c.in-Some.seam (omega arith) (sym c.in_ok-found.ensures.value ∙ c.in-Some.is)) ∙ c.loop-at.invariant.1
 
 pub returns-clause-value : goal.returns-clause-value
 returns-clause-value c =
     let none : c.loop-at.at ≡ 0 = omega arith in
     c.first_seam.ensures ∙ sym (ap (seam_below (seam_in c.args.self.now)) none) ∙ c.loop-at.invariant.1
 
-pub returns-in-Some-found-clause-few : goal.returns-in-Some-found-clause-few
-returns-in-Some-found-clause-few c =
-    subst (λ (o : Option Seam). IfSome o (λ s. s.item ≤ length c.args.self.now.items.now)) c.in-Some-found.is c.in_ok-found.ensures.few
+pub returns-in-Some-clause-few : goal.returns-in-Some-clause-few
+returns-in-Some-clause-few c =
+    subst (λ (o : Option Seam). IfSome o (λ s. s.item ≤ length c.args.self.now.items.now)) c.in-Some.is c.in_ok-found.ensures.few
 
 pub returns-clause-few : goal.returns-clause-few
 returns-clause-few c = subst (λ (s : Seam). s.item ≤ length c.args.self.now.items.now) (sym c.first_seam.ensures) (omega arith)
