@@ -57,7 +57,8 @@ best_of (chain ∷ chains) = Some (better_of chain (best_of chains))
 abbrev pub line_count : Chain → ℕ
 line_count chain = (candidate_of chain).lines
 
--- how many lines are asked for, where the best chain has so many: as many more or fewer as \looseness says, but none at least
+-- how many lines are asked for, where the best chain has so many: as many more or fewer as \looseness says; where that were fewer than
+-- none, none, which no chain has either
 abbrev pub lines_asked : ℤ → ℕ → ℕ
 lines_asked looseness lines = if int_lt looseness (pos 0) then lines - unsigned_abs looseness else lines + unsigned_abs looseness
 
@@ -96,10 +97,11 @@ asked_of asked best (chain ∷ chains) = preferred_of asked chain (asked_of aske
 abbrev pub is_enough : Attempt → ℕ → ℕ → Bool
 is_enough a best lines = is_last_pass a.params a.pass || lines == lines_asked a.params.looseness best
 
--- a pass gives the answer: it has a chain, and the lines of the one that is asked for are enough
+-- the chain that is asked for, of all chains of an attempt of which this is the best one
 abbrev pub asked_in : Attempt → Chain → Chain
 asked_in a best = asked_of (lines_asked a.params.looseness (line_count best)) best (chains_of a)
 
+-- a pass gives the answer: it has a chain, and the lines of the one that is asked for are enough
 abbrev pub answers_by : Attempt → Option Chain → Bool
 answers_by a None = false
 answers_by a (Some best) = is_enough a (line_count best) (line_count (asked_in a best))

@@ -1,5 +1,5 @@
 //! The demerits of a line (TeX: The Program, section 859).
-ghost use Rattle.std.specs.Prelude.{◌≡◌, ◌≤◌, ◌^◌, ◌+ℤ◌, pos, unsigned_abs};
+ghost use Rattle.std.specs.Prelude.{◌≡◌, ◌≤◌, ◌^◌, ◌+ℤ◌, ◌*ℤ◌, pos, unsigned_abs};
 ghost use Rattle.tx_linebreak.specs.Lines.{are_apart, badness_cost, cost_of, penalty_cost, where_so};
 
 use crate::params::BreakParams;
@@ -24,16 +24,25 @@ fn line_cost(line_penalty: i32, badness: u32) -> i128
     badness_cost(i64::from(line_penalty) + i64::from(badness))
 }
 
+/// A penalty's square.
+fn square(penalty: i32) -> i128
+    ensures value { result ≡ penalty *ℤ penalty }
+    ensures small { unsigned_abs result ≤ 2 ^ 62 }
+{
+    let wide = i64::from(penalty);
+    i128::from(wide * wide)
+}
+
 /// What the penalty of a line's break costs; less than nothing where it is negative, unless it forces the break.
 fn penalty_cost(penalty: i32) -> i128
     ensures value { result ≡ penalty_cost penalty }
     ensures small { unsigned_abs result ≤ 2 ^ 62 }
 {
-    let wide = i64::from(penalty);
-    if wide > 0 {
-        i128::from(wide * wide)
-    } else if wide > -10_000 {
-        i128::from(-(wide * wide))
+    let square = square(penalty);
+    if penalty > 0 {
+        square
+    } else if penalty > -10_000 {
+        -square
     } else {
         0
     }

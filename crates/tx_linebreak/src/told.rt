@@ -1,6 +1,6 @@
 //! What is told of a chain.
 ghost use Rattle.std.specs.Prelude.{pos, ◌≡◌, ◌<◌, ◌-ℤ◌, length, map, filter, IfOk};
-ghost use Rattle.tx_linebreak.specs.Chosen.{answer_of, line_count, pass_number};
+ghost use Rattle.tx_linebreak.specs.Chosen.{answer_of, line_count, pass_number, places_of};
 ghost use Rattle.tx_linebreak.specs.Shared.{chain_at};
 
 use crate::answer::{Chosen, Places};
@@ -45,6 +45,18 @@ fn backwards(
     Ok((places, forced))
 }
 
+/// A chain's places, and those where no line fitted, in order.
+fn places(alloc: Global, chains: &Chains, chain: usize) -> Result<(Places, Places), AllocError>
+    requires { chain < length chains.now }
+    ensures places { IfOk result (λ lists. lists.0 ≡ places_of (chain_at chains.now chain)) }
+    ensures forced { IfOk result (λ lists. lists.1 ≡ places_of (filter (λ line. line.forced) (chain_at chains.now chain))) }
+{
+    let (mut places, mut forced) = backwards(alloc, chains, chain)?;
+    places.as_mut_slice().reverse();
+    forced.as_mut_slice().reverse();
+    Ok((Places::from_vec(places), Places::from_vec(forced)))
+}
+
 /// How many lines more than so many there are.
 fn more_lines(best: usize, lines: usize) -> i128
     ensures { result ≡ pos lines -ℤ pos best }
@@ -63,14 +75,12 @@ pub(crate) fn told(
     requires lines { found.now.lines ≡ line_count (chain_at chains.now found.now.chain) }
     ensures { IfOk result (λ chosen. chosen ≡ answer_of pass found.now.best (chain_at chains.now found.now.chain)) }
 {
-    let (mut places, mut forced) = backwards(alloc, chains, found.chain)?;
-    places.as_mut_slice().reverse();
-    forced.as_mut_slice().reverse();
+    let (chain, forced) = places(alloc, chains, found.chain)?;
     Ok(Chosen {
-        chain: Places::from_vec(places),
+        chain,
         total: chains.total(found.chain),
         pass: pass.number(),
-        forced: Places::from_vec(forced),
+        forced,
         looseness: more_lines(found.best, found.lines),
     })
 }

@@ -12,11 +12,11 @@ returns-then-is_empty-clause-none c = none-of-all (attempt_of c.args.self.now) c
 pub returns-then-is_empty-clause-last : goal.returns-then-is_empty-clause-last
 returns-then-is_empty-clause-last c = λ last. absurd (not-none (attempt_of c.args.self.now) c.ends.new.chains c.in_ok-links.links.items c.requires.ended last c.in_ok-links.ensures.chains (emptied c.in_ok-links.links.items c.in_ok-links.links.len c.in_ok-links.links.ok.0 c.if-is_empty.ensures))
 
-pub asked-requires-clause-chains : goal.asked-requires-clause-chains
-asked-requires-clause-chains c = ap (map (chain_of c.ends.new.chains)) c.as_slice-list.ensures.value ∙ c.in_ok-links.ensures.chains
+pub asked-asked-requires-clause-chains : goal.asked-asked-requires-clause-chains
+asked-asked-requires-clause-chains c = ap (map (chain_of c.ends.new.chains)) c.as_slice-list.ensures.value ∙ c.in_ok-links.ensures.chains
 
-pub asked-requires-clause-best : goal.asked-requires-clause-best
-asked-requires-clause-best c =
+pub asked-asked-requires-clause-best : goal.asked-asked-requires-clause-best
+asked-asked-requires-clause-best c =
     let chains = c.ends.new.chains in
     let best = c.best-best.result in
     best-of-all (attempt_of c.args.self.now) chains c.in_ok-links.links.items best c.in_ok-links.ensures.chains
