@@ -13,13 +13,13 @@ abbrev pub behind : List Change → Read (List Change) → Read (List Change)
 behind done r = r >>= λ changes. Ok (done ++ changes.0, changes.1)
 
 -- so many are left
-abbrev pub Reading : ℕ → List ℕ → List Change → ℕ → List ℕ → Type 0
-Reading left rest done count bytes = behind done (changes_at left rest) ≡ changes_at count bytes
+pub record Reading (left : ℕ) (rest : List ℕ) (done : List Change) (count : ℕ) (bytes : List ℕ) : Type 0 where
+  pub whole : behind done (changes_at left rest) ≡ changes_at count bytes
 
 pub reading-begun : (count : ℕ) (bytes : List ℕ) (done : List Change) → done ≡ [] → Reading (count - 0) bytes done count bytes
 reading-begun count bytes done is =
     let all : count - 0 ≡ count = omega arith in
-    (λ i. behind (is i) (changes_at (all i) bytes)) ∙ same (changes_at count bytes)
+    record { whole = (λ i. behind (is i) (changes_at (all i) bytes)) ∙ same (changes_at count bytes) }
   where
     same : (r : Read (List Change)) → behind [] r ≡ r
     same (Ok x) = refl
@@ -30,12 +30,13 @@ module _ {left : ℕ} {rest : List ℕ} {done : List Change} {count : ℕ} {byte
   module _ (fewer : ℕ) (more : left ≡ suc fewer) where
     pub reading-on : {c : Change} {next : List ℕ} {done' : List Change} → change_at rest ≡ Ok (c, next) → done' ≡ done ++ c ∷ [] → Reading fewer next done' count bytes
     unfolding changes_at
-    reading-on {c = c} {next = next} {done' = done'} is more_done =
-        ap (λ (d : List Change). behind d (changes_at fewer next)) more_done
-        ∙ moved (changes_at fewer next)
-        ∙ sym (ap (λ (r : Read Change). behind done (r >>= λ it. changes_at fewer it.1 >>= λ changes. Ok (it.0 ∷ changes.0, changes.1))) is)
-        ∙ sym (ap (λ n. behind done (changes_at n rest)) more)
-        ∙ so_far
+    reading-on {c = c} {next = next} {done' = done'} is more_done = record {
+      whole = ap (λ (d : List Change). behind d (changes_at fewer next)) more_done
+          ∙ moved (changes_at fewer next)
+          ∙ sym (ap (λ (r : Read Change). behind done (r >>= λ it. changes_at fewer it.1 >>= λ changes. Ok (it.0 ∷ changes.0, changes.1))) is)
+          ∙ sym (ap (λ n. behind done (changes_at n rest)) more)
+          ∙ so_far.whole;
+    }
       where
         moved : (r : Read (List Change)) → behind (done ++ c ∷ []) r ≡ behind done (r >>= λ changes. Ok (c ∷ changes.0, changes.1))
         moved (Ok x) = λ i. Ok (append_assoc done (c ∷ []) x.0 i, x.1)
@@ -45,7 +46,7 @@ module _ {left : ℕ} {rest : List ℕ} {done : List Change} {count : ℕ} {byte
     broken : (b : Broken) → change_at rest ≡ Err b → changes_at count bytes ≡ Err b
     unfolding changes_at
     broken b is =
-        sym so_far ∙ ap (λ n. behind done (changes_at n rest)) more
+        sym so_far.whole ∙ ap (λ n. behind done (changes_at n rest)) more
         ∙ ap (λ (r : Read Change). behind done (r >>= λ it. changes_at fewer it.1 >>= λ changes. Ok (it.0 ∷ changes.0, changes.1))) is
 
     fails : (fault : Fault) → Fails fault (change_at rest) → Fails fault (changes_at count bytes)
@@ -59,4 +60,4 @@ module _ {left : ℕ} {rest : List ℕ} {done : List Change} {count : ℕ} {byte
   -- all are read
   pub reading-over : left ≡ 0 → changes_at count bytes ≡ Ok (done, rest)
   unfolding changes_at
-  reading-over none = sym so_far ∙ ap (λ n. behind done (changes_at n rest)) none ∙ (λ i. Ok (append-nil done i, rest))
+  reading-over none = sym so_far.whole ∙ ap (λ n. behind done (changes_at n rest)) none ∙ (λ i. Ok (append-nil done i, rest))

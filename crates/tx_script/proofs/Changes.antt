@@ -206,13 +206,23 @@ parted : (n : ℕ) (changes : List Change) → AreSo (suc n) changes → (both :
 parted n [] h = absurd (omega (arith, h.1))
 parted n (c ∷ changes) h = ((c, changes), record { one = h.0.0; others = (h.0.1, omega (arith, h.1)) }, refl)
 
-abbrev one_and : ℕ → List ℕ → Read (Change × List Change)
-one_and n bytes = change_at bytes >>= λ c. changes_at n c.1 >>= λ changes. Ok ((c.0, changes.0), changes.1)
+abbrev with_first : Change → List Change × List ℕ → Read (Change × List Change)
+with_first c changes = Ok ((c, changes.0), changes.1)
 
-joined : (n : ℕ) (bytes : List ℕ) → (one_and n bytes >>= λ x. Ok (x.0.0 ∷ x.0.1, x.1)) ≡ (change_at bytes >>= λ c. changes_at n c.1 >>= λ changes. Ok (c.0 ∷ changes.0, changes.1))
+abbrev one_and : ℕ → List ℕ → Read (Change × List Change)
+one_and n bytes = change_at bytes >>= λ c. changes_at n c.1 >>= with_first c.0
+
+-- and as a list
+abbrev as_list : (Change × List Change) × List ℕ → Read (List Change)
+as_list x = Ok (x.0.0 ∷ x.0.1, x.1)
+
+abbrev several : ℕ → List ℕ → Read (List Change)
+several n bytes = change_at bytes >>= λ c. changes_at n c.1 >>= λ changes. Ok (c.0 ∷ changes.0, changes.1)
+
+joined : (n : ℕ) (bytes : List ℕ) → (one_and n bytes >>= as_list) ≡ several n bytes
 joined n bytes =
-    bind_assoc (change_at bytes) (λ c. changes_at n c.1 >>= λ changes. Ok ((c.0, changes.0), changes.1)) (λ x. Ok (x.0.0 ∷ x.0.1, x.1))
-    ∙ (λ i. change_at bytes >>= λ c. bind_assoc (changes_at n c.1) (λ changes. Ok ((c.0, changes.0), changes.1)) (λ x. Ok (x.0.0 ∷ x.0.1, x.1)) i)
+    bind_assoc (change_at bytes) (λ c. changes_at n c.1 >>= with_first c.0) as_list
+    ∙ (λ i. change_at bytes >>= λ c. bind_assoc (changes_at n c.1) (with_first c.0) as_list i)
 
 -- as many of one change
 many : (n : ℕ) (c : Change) → IsChange c → (changes : List Change) × AreSo n changes

@@ -99,11 +99,11 @@ front_below v w c more hv hw digit e =
     subst (λ (x : List ℕ). digits_value 10 x ≤ digits_value 10 (decimal v)) front (digits_value-take-le 10 (decimal v) (length (decimal w) + 1) (omega arith)) in
     omega (arith, part, digits_value_push 10 (decimal w) c, digit_value_digit c digit, value, value_w)
 
-pub Good : Option ℕ → Type 0
+unfoldable pub Good : Option ℕ → Type 0
 Good None = Unit {0}
 Good (Some v) = v ≤ greatest
 
-pub shown : Option ℕ → List ℕ
+unfoldable pub shown : Option ℕ → List ℕ
 shown None = []
 shown (Some v) = decimal v
 

@@ -1,3 +1,4 @@
 pub mod CommandLine
+pub mod Told
 pub mod Values
 pub mod Words

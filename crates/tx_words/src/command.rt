@@ -1,142 +1,111 @@
 //! The command line, as it is told to `clap`.
-ghost use Rattle.std.specs.Prelude.{◌≡◌, ◌||◌, IfOk, false};
-ghost use Rattle.clap.specs.Words.{app_of, rule_of, with_rule};
-ghost use Rattle.clap.specs.declared.builder.command.Command.TheViews.{out-Command as fields_of};
-ghost use Rattle.tx_words.specs.CommandLine.{option_rule, required_rule, files_rule, run_command, word_rule, gen_command, list_command, run_line, gen_line, command_line};
+ghost use Rattle.std.specs.Prelude.{◌≡◌, IfOk, codes};
+ghost use Rattle.clap.specs.Simple.{on_top};
+ghost use Rattle.clap.specs.Words.{App, Rule, app_of, new_app, with_rule, with_subcommand};
+ghost use Rattle.tx_words.specs.Told.{IsArg, Makes};
+ghost use Rattle.tx_words.specs.CommandLine.{option_rule, required_rule, files_rule, run_command, word_rule, gen_command, list_command, with_settings, command_line};
 
 use clap::{Arg, ArgAction, Command};
 use std::alloc::{AllocError, Global};
 
 /// An option `--NAME` with one value.
 fn option<'a>(alloc: Global, name: &'a str) -> Arg<'a>
-    ensures rule { rule_of result ≡ option_rule name.entry.now }
-    ensures local { result.global ≡ false }
+    ensures { IsArg (option_rule name.entry.now) result }
 {
     Arg::new(alloc, name).long(name)
 }
 
 /// An option that must be there.
 fn required_option<'a>(alloc: Global, name: &'a str) -> Arg<'a>
-    ensures rule { rule_of result ≡ required_rule name.entry.now }
-    ensures local { result.global ≡ false }
+    ensures { IsArg (required_rule name.entry.now) result }
 {
     option(alloc, name).required(true)
 }
 
-/// The command with such an option more.
-fn with_option<'a>(
-    alloc: Global,
-    command: Command<'a>,
-    name: &'a str,
-) -> Result<Command<'a>, AllocError>
-    ensures app { IfOk result (λ all. app_of all ≡ with_rule (app_of command.entry) (option_rule name.entry.now)) }
-    ensures local { IfOk result (λ all. (fields_of all).has_globals ≡ ((fields_of command.entry).has_globals || false)) }
+/// Files, at least one.
+fn files<'a>(alloc: Global) -> Arg<'a>
+    ensures { IsArg files_rule result }
 {
-    command.arg(option(alloc, name))
-}
-
-/// The command with an option more that must be there.
-fn with_required<'a>(
-    alloc: Global,
-    command: Command<'a>,
-    name: &'a str,
-) -> Result<Command<'a>, AllocError>
-    ensures app { IfOk result (λ all. app_of all ≡ with_rule (app_of command.entry) (required_rule name.entry.now)) }
-    ensures local { IfOk result (λ all. (fields_of all).has_globals ≡ ((fields_of command.entry).has_globals || false)) }
-{
-    command.arg(required_option(alloc, name))
-}
-
-/// The command with files, at least one.
-fn with_files<'a>(alloc: Global, command: Command<'a>) -> Result<Command<'a>, AllocError>
-    ensures app { IfOk result (λ all. app_of all ≡ with_rule (app_of command.entry) files_rule) }
-    ensures local { IfOk result (λ all. (fields_of all).has_globals ≡ ((fields_of command.entry).has_globals || false)) }
-{
-    command.arg(
-        Arg::new(alloc, "file")
-            .required(true)
-            .action(ArgAction::Append),
-    )
-}
-
-/// The command `run`. Each option is made where it is added: those that waited would be dropped at each want of memory.
-fn run_command<'a>(alloc: Global) -> Result<Command<'a>, AllocError>
-    ensures app { IfOk result (λ run. app_of run ≡ run_command) }
-    ensures local { IfOk result (λ run. (fields_of run).has_globals ≡ false) }
-{
-    let dated = with_required(alloc, Command::new(alloc, "run"), "date")?;
-    let named = with_required(alloc, dated, "out")?;
-    let scripted = with_option(alloc, named, "script")?;
-    let bounded = with_option(alloc, scripted, "budget")?;
-    let paged = with_option(alloc, bounded, "pages")?;
-    let keeping = with_option(alloc, paged, "keep")?;
-    with_files(alloc, keeping)
+    Arg::new(alloc, "file")
+        .required(true)
+        .action(ArgAction::Append)
 }
 
 /// A word that is no option, and must be there.
 fn word<'a>(alloc: Global, name: &'a str) -> Arg<'a>
-    ensures rule { rule_of result ≡ word_rule name.entry.now }
-    ensures local { result.global ≡ false }
+    ensures { IsArg (word_rule name.entry.now) result }
 {
     Arg::new(alloc, name).required(true)
 }
 
-/// The command with such a word more.
-fn with_word<'a>(
-    alloc: Global,
-    command: Command<'a>,
-    name: &'a str,
+/// The command, if it was made, with an argument more. It takes want of memory too, so that those who add one argument after
+/// the other have a single way out.
+fn with_arg<'a>(
+    command: Result<Command<'a>, AllocError>,
+    arg: Arg<'a>,
 ) -> Result<Command<'a>, AllocError>
-    ensures app { IfOk result (λ all. app_of all ≡ with_rule (app_of command.entry) (word_rule name.entry.now)) }
-    ensures local { IfOk result (λ all. (fields_of all).has_globals ≡ ((fields_of command.entry).has_globals || false)) }
+    ensures { (app : App) (rule : Rule) → IsArg rule arg.entry → Makes app command.entry → Makes (with_rule app rule) result }
 {
-    command.arg(word(alloc, name))
+    command?.arg(arg)
+}
+
+/// The command `run`.
+fn run_command<'a>(alloc: Global) -> Result<Command<'a>, AllocError>
+    ensures { Makes run_command result }
+{
+    let begun = Ok(Command::new(alloc, "run"));
+    let dated = with_arg(begun, required_option(alloc, "date"));
+    let named = with_arg(dated, required_option(alloc, "out"));
+    let scripted = with_arg(named, option(alloc, "script"));
+    let bounded = with_arg(scripted, option(alloc, "budget"));
+    let paged = with_arg(bounded, option(alloc, "pages"));
+    let keeping = with_arg(paged, option(alloc, "keep"));
+    with_arg(keeping, files(alloc))
 }
 
 /// The command `gen`.
 fn gen_command<'a>(alloc: Global) -> Result<Command<'a>, AllocError>
-    ensures app { IfOk result (λ making. app_of making ≡ gen_command) }
-    ensures local { IfOk result (λ making. (fields_of making).has_globals ≡ false) }
+    ensures { Makes gen_command result }
 {
-    let seeded = with_word(alloc, Command::new(alloc, "gen"), "seed")?;
-    with_word(alloc, seeded, "pages")
+    let begun = Ok(Command::new(alloc, "gen"));
+    let seeded = with_arg(begun, word(alloc, "seed"));
+    with_arg(seeded, word(alloc, "pages"))
 }
 
 /// The command `list`.
 fn list_command<'a>(alloc: Global) -> Result<Command<'a>, AllocError>
-    ensures app { IfOk result (λ listing. app_of listing ≡ list_command) }
-    ensures local { IfOk result (λ listing. (fields_of listing).has_globals ≡ false) }
+    ensures { Makes list_command result }
 {
-    with_word(alloc, Command::new(alloc, "list"), "file")
+    let begun = Ok(Command::new(alloc, "list"));
+    with_arg(begun, word(alloc, "file"))
 }
 
-/// The command line with `run` alone.
-fn run_line<'a>(alloc: Global) -> Result<Command<'a>, AllocError>
-    ensures { IfOk result (λ all. app_of all ≡ run_line) }
+/// `vortex` without its commands.
+fn without_commands<'a>(alloc: Global) -> Command<'a>
+    ensures { app_of result ≡ on_top with_settings (new_app (codes "vortex")) }
 {
-    let run = run_command(alloc)?;
     Command::new(alloc, "vortex")
         .no_binary_name(true)
         .version("0.1.0")
         .subcommand_required(true)
         .disable_help_subcommand(true)
-        .subcommand(run)
 }
 
-/// The command line with `run` and `gen`.
-fn gen_line<'a>(alloc: Global) -> Result<Command<'a>, AllocError>
-    ensures { IfOk result (λ all. app_of all ≡ gen_line) }
+/// A command line with a command more, if that was made.
+fn with_command<'a>(
+    all: Command<'a>,
+    command: Result<Command<'a>, AllocError>,
+) -> Result<Command<'a>, AllocError>
+    ensures { (sub : App) → Makes sub command.entry → IfOk result (λ more. app_of more ≡ with_subcommand (app_of all.entry) sub.top) }
 {
-    let all = run_line(alloc)?;
-    let making = gen_command(alloc)?;
-    all.subcommand(making)
+    all.subcommand(command?)
 }
 
 /// The command line of `vortex`, for the words behind the program's name.
 pub fn command_line<'a>(alloc: Global) -> Result<Command<'a>, AllocError>
     ensures { IfOk result (λ all. app_of all ≡ command_line) }
 {
-    let all = gen_line(alloc)?;
-    let listing = list_command(alloc)?;
-    all.subcommand(listing)
+    let running = with_command(without_commands(alloc), run_command(alloc))?;
+    let making = with_command(running, gen_command(alloc))?;
+    with_command(making, list_command(alloc))
 }

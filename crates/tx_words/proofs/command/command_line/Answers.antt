@@ -1,10 +1,12 @@
-use Rattle.std.proofs.Common.{ap₂, ◌∙◌}
+use Rattle.std.proofs.Common.{◌≡◌, ap, ◌∙◌}
 use Rattle.std.proofs.lemmas.Result.{IfOk-weaker}
-use Rattle.clap.specs.Words.{App, with_subcommand}
-use Rattle.tx_words.specs.CommandLine.{command_line}
+use Rattle.clap.specs.Words.{App, app_of, with_subcommand}
+use Rattle.tx_words.specs.CommandLine.{run_command, gen_command, list_command, run_line, gen_line, command_line}
 use Rattle.tx_words.proofs.command.command_line.Goals as goal
 
 pub returns : goal.returns
-unfolding command_line
+unfolding run_line gen_line command_line
 returns c =
-    IfOk-weaker c.subcommand.result _ _ (λ all adds. adds.shape c.in_ok-listing.ensures.local ∙ ap₂ (λ (a r : App). with_subcommand a r.top) c.in_ok-all.ensures c.in_ok-listing.ensures.app) c.subcommand.ensures
+    let running : app_of c.in_ok-running.running ≡ run_line = c.in_ok-running.ensures run_command c.run_command.ensures ∙ ap (λ (a : App). with_subcommand a run_command.top) c.without_commands.ensures in
+    let making : app_of c.in_ok-making.making ≡ gen_line = c.in_ok-making.ensures gen_command c.gen_command.ensures ∙ ap (λ (a : App). with_subcommand a gen_command.top) running in
+    IfOk-weaker c.with_command-3.result _ _ (λ all is. is ∙ ap (λ (a : App). with_subcommand a list_command.top) making) (c.with_command-3.ensures list_command c.list_command.ensures)
