@@ -1,5 +1,5 @@
 -- The only place of a file that changes lead to another one, found from the last change back to the first.
-use Rattle.std.proofs.Common.{◌≡◌, ℕ, zero, suc, ◌+◌, ◌-◌, ◌<◌, ◌≤◌, Bool, true, false, cond, List, [], ◌∷◌, length, drop, get_or, Option, Some, None, refl, sym, ap, ◌∙◌, subst, arith, nat_le, true≢false}
+use Rattle.std.proofs.Common.{◌≡◌, ℕ, ◌+◌, ◌-◌, ◌<◌, ◌≤◌, Bool, true, false, cond, List, [], ◌∷◌, length, drop, get_or, Option, Some, None, refl, sym, ap, ◌∙◌, subst, arith, nat_le, true≢false}
 use Rattle.std.specs.Prelude.{slice_get}
 use Rattle.std.specs.Cmp.Lexicographic.{bytes_decides}
 use Rattle.std.specs.List.{AllZip}
@@ -15,7 +15,7 @@ use Rattle.tx_files.specs.declared.edit.Change.TheVariants.{Edit, Remove}
 use Rattle.tx_machine.specs.declared.types.OpenFile.{OpenFile}
 use Rattle.tx_machine.specs.Opens.{innermost}
 use Rattle.tx_quiesce.specs.Meeting.{comes_to, file_fits, opens_fit}
-use Rattle.tx_quiesce.specs.Tails.{offset_of, innermost_offset, IsMovedFrom, IsLedFrom, IsCarriedFrom, IsOrigin}
+use Rattle.tx_quiesce.specs.Tails.{offset_of, IsMovedFrom, IsLedFrom, IsCarriedFrom, IsOrigin}
 use Rattle.tx_quiesce.proofs.Behind.{value-is, none-never}
 use Rattle.tx_quiesce.proofs.Zips.{AreBoth, zip-get, zip-length}
 
