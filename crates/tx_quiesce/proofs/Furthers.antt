@@ -4,7 +4,6 @@ use Rattle.std.proofs.lemmas.Bool.{le-leb, lt-leb}
 use Rattle.std.proofs.lemmas.List.{length-map, take-map, take_all}
 use Rattle.tx_bytes.specs.Files.{Files}
 use Rattle.tx_files.specs.declared.edit.Change.{Change}
-use Rattle.std.specs.List.{All}
 use Rattle.tx_machine.specs.declared.types.End.TheVariants.{PageLimit}
 use Rattle.tx_machine.specs.Machine.{Formatter}
 use Rattle.tx_checkpoint.specs.declared.row.Row.{Row}

@@ -1,11 +1,11 @@
 -- A place that is carried through the first changes of a list, and then through the others.
-use Rattle.std.proofs.Common.{◌≡◌, ℕ, ◌+◌, ◌<◌, ◌≤◌, List, [], ◌∷◌, length, drop, get_or, Option, Some, None, refl, sym, ap, ◌∙◌}
+use Rattle.std.proofs.Common.{◌≡◌, ℕ, ◌+◌, ◌<◌, ◌≤◌, List, ◌∷◌, length, drop, get_or, Some, None, sym, ap, ◌∙◌}
 use Rattle.std.specs.Option.{option_and_then}
 use Rattle.std.proofs.lemmas.List.{drop_more, drop_all}
 use Rattle.tx_files.specs.Carry.{carried_place, place_after}
 use Rattle.tx_files.specs.declared.edit.Change.{Change}
 
-module _ {changes : List Change} {name : List ℕ} {offset here k : ℕ} (so_far : carried_place (drop k changes) name here ≡ carried_place changes name offset) where
+module _ (changes : List Change) (name : List ℕ) (offset here k : ℕ) (so_far : carried_place (drop k changes) name here ≡ carried_place changes name offset) where
   module _ {c : Change} (more : k < length changes) (is : c ≡ get_or changes k c) where
     step : carried_place changes name offset ≡ option_and_then (λ at. carried_place (drop (k + 1) changes) name at) (place_after c name here)
     step = sym so_far ∙ ap (λ (rest : List Change). carried_place rest name here) (drop_more changes k c more ∙ ap (λ x. x ∷ drop (k + 1) changes) (sym is))

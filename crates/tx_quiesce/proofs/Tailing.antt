@@ -1,5 +1,5 @@
 -- Old rows whose innermost file wasn't read up to where it must have been aren't met, and the search goes on behind them.
-use Rattle.std.proofs.Common.{◌≡◌, ℕ, suc, ◌+◌, ◌-◌, Bool, true, false, cond, not, max, ◌&&◌, List, [], ◌∷◌, length, map, drop, Option, Some, None, refl, sym, ap, ◌∙◌, arith, true≢false, nat_eq}
+use Rattle.std.proofs.Common.{◌≡◌, ℕ, suc, ◌+◌, ◌-◌, Bool, true, false, cond, not, max, ◌&&◌, List, [], ◌∷◌, map, drop, Option, Some, None, refl, sym, ap, ◌∙◌, arith, true≢false, nat_eq}
 use Rattle.std.proofs.lemmas.Bool.{eq-eqb}
 use Rattle.std.proofs.lemmas.List.{drop-drop, drop-map}
 use Rattle.tx_files.specs.declared.edit.Change.{Change}
@@ -51,10 +51,10 @@ module _ {S M : Type 0} (m : Formatter M) (meaning : S → M) (changes : List Ch
         (λ i. met m changes last new (number i) (behind i)) ∙ passes (k + 1) (drop k rows) ∙ ap (met m changes last new (k + 1)) (sym (drop-map (row_meant meaning) k rows))
 
   -- the search from a row on is that from the first one that may fit
-  pub met-later : (k : ℕ) {at : ℕ} {origin : Option ℕ} (rows : List (Row S)) {tails : List ℕ} → IsOrigin changes new.opens origin → tails ≡ map (λ row. innermost_offset row.opens) rows → at ≡ k + skipped origin (drop k tails)
+  pub met-later : (k : ℕ) {at : ℕ} (origin : Option ℕ) (rows : List (Row S)) {tails : List ℕ} → IsOrigin changes new.opens origin → tails ≡ map (λ row. innermost_offset row.opens) rows → at ≡ k + skipped origin (drop k tails)
       → met m changes last new (at + 1) (drop at (rows_meant meaning rows)) ≡ met m changes last new (k + 1) (drop k (rows_meant meaning rows))
-  met-later k {at = at} {origin = None} rows known are at_is = let same : at ≡ k = omega (arith, at_is) in ap (λ n. met m changes last new (n + 1) (drop n (rows_meant meaning rows))) same
-  met-later k {at = at} {origin = Some origin} rows known are at_is = later_by origin known k rows are at_is
+  met-later k {at = at} None rows known are at_is = let same : at ≡ k = omega (arith, at_is) in ap (λ n. met m changes last new (n + 1) (drop n (rows_meant meaning rows))) same
+  met-later k {at = at} (Some origin) rows known are at_is = later_by origin known k rows are at_is
 
   -- the search begins at the row at which formatting resumed
   pub met-begins : (k resumed : ℕ) (rows : List (Row M)) → k ≡ max resumed 1 - 1 → met m changes last new (k + 1) (drop k rows) ≡ met_row m changes rows last resumed new

@@ -1,9 +1,8 @@
 -- Where a file is taken away that isn't open, and isn't asked for, what follows is the same.
-use Rattle.std.proofs.Common.{◌≡◌, ◌≢◌, ℕ, suc, ◌+◌, Bool, true, false, List, [], ◌∷◌, map, drop, refl, sym, ap, ◌∙◌, arith, true≢false, unwrap_or}
+use Rattle.std.proofs.Common.{◌≡◌, ◌≢◌, ℕ, suc, ◌+◌, false, List, [], ◌∷◌, map, drop, refl, sym, ap, ◌∙◌, arith, true≢false, unwrap_or}
 use Rattle.std.specs.Cmp.Lexicographic.{bytes_decides}
 use Rattle.std.specs.FinMap.{remove}
 use Rattle.std.specs.List.{All, AllZip}
-use Rattle.std.specs.Str.{bytes_eq}
 use Rattle.tx_bytes.specs.Files.{Files}
 use Rattle.tx_files.specs.declared.edit.Change.TheVariants.{Remove}
 use Rattle.tx_files.specs.declared.reads.Note.{Note}
@@ -13,7 +12,7 @@ use Rattle.tx_machine.specs.declared.types.OpenFile.{OpenFile}
 use Rattle.tx_machine.specs.Machine.{Formatter}
 use Rattle.tx_machine.specs.Opens.{bytes_of}
 use Rattle.tx_checkpoint.specs.declared.row.Last.{Last}
-use Rattle.tx_checkpoint.specs.Rows.{History, PageRow, rows_in, rows_from}
+use Rattle.tx_checkpoint.specs.Rows.{PageRow, rows_in, rows_from}
 use Rattle.tx_checkpoint.proofs.Removed.{removed-others}
 use Rattle.tx_quiesce.specs.Meeting.{rest_asks}
 use Rattle.tx_quiesce.specs.Moves.{carried_page, last_now}

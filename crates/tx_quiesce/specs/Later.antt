@@ -1,6 +1,6 @@
 -- What comes behind the rows that changes leave, in code: pages that were formatted, then old rows that are reused, moved, and
 -- what comes further.
-use Rattle.std.specs.Prelude.{◌≡◌, ℕ, ◌+◌, ◌-◌, ◌≤◌, List, [], ◌++◌, length, map, take, drop, Option, Some, None}
+use Rattle.std.specs.Prelude.{◌≡◌, ℕ, ◌+◌, ◌-◌, ◌≤◌, List, [], ◌++◌, length, map, take, drop, vec_len, vec_capacity, Option, Some, None}
 use Rattle.std.specs.List.{All}
 use Rattle.tx_bytes.specs.Files.{Files}
 use Rattle.tx_dvi.specs.declared.page.PageBody.{PageBody}
@@ -64,6 +64,12 @@ turns_behind m files changes main date limits kept old =
 pub record AreOfOneLength {S : Type 0} (rows : Rows S) : Type 0 where
   pub pages_are : length rows.pages.items ≡ length rows.rows.items
   pub pieces_are : length rows.pieces.items ≡ length rows.rows.items
+
+-- room in each of three lists for two parts more
+pub record HasRoom {S : Type 0} (rows : Rows S) (front more : Part S) : Type 0 where
+  pub pages : vec_len rows.pages + vec_len front.pages + vec_len more.pages ≤ vec_capacity rows.pages
+  pub pieces : vec_len rows.pieces + vec_len front.pieces + vec_len more.pieces ≤ vec_capacity rows.pieces
+  pub rows_are : vec_len rows.rows + vec_len front.rows + vec_len more.rows ≤ vec_capacity rows.rows
 
 -- the first pages, then some, then old ones, moved, and some at the end; the last stretch stays
 pub record AreSpliced {S : Type 0} (changes : List Change) (old : Rows S) (kept : ℕ) (front : Part S) (from count : ℕ) (more : Part S) (new : Rows S) : Type 0 where

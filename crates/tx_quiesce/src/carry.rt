@@ -2,8 +2,9 @@
 ghost use Rattle.std.specs.Prelude.{◌≡◌, ◌≤◌, ◌+◌, length, take, drop, OnOk, OnErr};
 ghost use Rattle.std.specs.List.{All};
 ghost use Rattle.tx_checkpoint.specs.Meant.{AreSame};
-ghost use Rattle.tx_quiesce.specs.Later.{AreOfOneLength, AreSpliced, AreReused, FitsBehind};
-ghost use Rattle.tx_quiesce.specs.Moves.{CanCarryRow};
+ghost use Rattle.tx_quiesce.specs.declared.further.Further.TheVariants.{Goes, Stands};
+ghost use Rattle.tx_quiesce.specs.Later.{AreOfOneLength, HasRoom, AreSpliced, AreReused, FitsBehind};
+ghost use Rattle.tx_quiesce.specs.Moves.{CanCarryRow, CanCarryLast};
 
 use crate::further::Further;
 use crate::later::{Later, Part};
@@ -12,9 +13,51 @@ use crate::splice::{reserve_for, reuse_items};
 use std::alloc::{AllocError, Global};
 use tx_checkpoint::Rows;
 use tx_files::Change;
+use tx_machine::End;
 
-/// Keeps the first pages, puts others behind them, then old ones, moved, and others at the end; the last stretch stays. After
-/// want of memory the rows are as before.
+/// Reserves room for two parts more. Its only error is want of memory.
+fn reserve_part<S>(rows: &mut Rows<S>, front: &Part<S>, more: &Part<S>) -> Result<(), AllocError>
+    ensures same { AreSame rows.old rows.new }
+    ensures room { OnOk result (HasRoom rows.new front.now more.now) }
+{
+    reserve_for(&mut rows.pages, &front.pages, &more.pages)?;
+    reserve_for(&mut rows.pieces, &front.pieces, &more.pieces)?;
+    reserve_for(&mut rows.rows, &front.rows, &more.rows)?;
+    Ok(())
+}
+
+/// Keeps the first pages, puts others behind them, then old ones, moved, and others at the end; the last stretch stays. There is
+/// room for all, so it takes no memory.
+fn place_part<S: Drop>(
+    rows: &mut Rows<S>,
+    kept: usize,
+    front: Part<S>,
+    from: usize,
+    count: usize,
+    more: Part<S>,
+    changes: &[Change],
+)
+    requires lengths { AreOfOneLength rows.old }
+    requires order { kept ≤ from }
+    requires within { from + count ≤ length rows.old.rows.items }
+    requires can { All (CanCarryRow changes.now) (take count (drop from rows.old.rows.items)) }
+    requires room { HasRoom rows.old front more }
+    ensures { AreSpliced changes.now rows.old kept front from count more rows.new }
+{
+    relocate_part(&mut rows.rows, from, count, changes);
+    reuse_items(&mut rows.pages, kept, front.pages, from, count, more.pages);
+    reuse_items(
+        &mut rows.pieces,
+        kept,
+        front.pieces,
+        from,
+        count,
+        more.pieces,
+    );
+    reuse_items(&mut rows.rows, kept, front.rows, from, count, more.rows);
+}
+
+/// The same, where room for all has to be reserved first. After want of memory the rows are as before.
 fn reuse_part<S: Drop>(
     rows: &mut Rows<S>,
     kept: usize,
@@ -31,20 +74,71 @@ fn reuse_part<S: Drop>(
     ensures ok { OnOk result (AreSpliced changes.now rows.old kept front from count more rows.new) }
     ensures err { OnErr result (AreSame rows.old rows.new) }
 {
-    reserve_for(&mut rows.pages, &front.pages, &more.pages)?;
-    reserve_for(&mut rows.pieces, &front.pieces, &more.pieces)?;
-    reserve_for(&mut rows.rows, &front.rows, &more.rows)?;
-    relocate_part(&mut rows.rows, from, count, changes);
-    reuse_items(&mut rows.pages, kept, front.pages, from, count, more.pages);
-    reuse_items(
-        &mut rows.pieces,
-        kept,
-        front.pieces,
-        from,
-        count,
-        more.pieces,
-    );
-    reuse_items(&mut rows.rows, kept, front.rows, from, count, more.rows);
+    reserve_part(rows, &front, &more)?;
+    place_part(rows, kept, front, from, count, more, changes);
+    Ok(())
+}
+
+/// Makes changes in the rows where more pages come further, or none, with the stretch after them.
+fn reuse_going<S: Drop>(
+    rows: &mut Rows<S>,
+    kept: usize,
+    front: Part<S>,
+    from: usize,
+    count: usize,
+    more: Rows<S>,
+    changes: &[Change],
+) -> Result<(), AllocError>
+    requires lengths { AreOfOneLength rows.old }
+    requires order { kept ≤ from }
+    requires within { from + count ≤ length rows.old.rows.items }
+    requires can { All (CanCarryRow changes.now) (take count (drop from rows.old.rows.items)) }
+    ensures ok { OnOk result (AreReused changes.now rows.old kept (record { front = front; from = from; count = count; further = Goes more }) rows.new) }
+    ensures err { OnErr result (AreSame rows.old rows.new) }
+{
+    let Rows {
+        pages,
+        pieces,
+        rows: more,
+        last,
+    } = more;
+    let part = Part {
+        pages,
+        pieces,
+        rows: more,
+    };
+    reuse_part(rows, kept, front, from, count, part, changes)?;
+    rows.last = last;
+    Ok(())
+}
+
+/// Makes changes in the rows where the old last stretch stands, with this end.
+fn reuse_standing<S: Drop>(
+    alloc: Global,
+    rows: &mut Rows<S>,
+    kept: usize,
+    front: Part<S>,
+    from: usize,
+    count: usize,
+    end: End,
+    changes: &[Change],
+) -> Result<(), AllocError>
+    requires lengths { AreOfOneLength rows.old }
+    requires order { kept ≤ from }
+    requires within { from + count ≤ length rows.old.rows.items }
+    requires can { All (CanCarryRow changes.now) (take count (drop from rows.old.rows.items)) }
+    requires last { CanCarryLast changes.now rows.old.last }
+    ensures ok { OnOk result (AreReused changes.now rows.old kept (record { front = front; from = from; count = count; further = Stands end }) rows.new) }
+    ensures err { OnErr result (AreSame rows.old rows.new) }
+{
+    let part = Part {
+        pages: Vec::new(alloc),
+        pieces: Vec::new(alloc),
+        rows: Vec::new(alloc),
+    };
+    reuse_part(rows, kept, front, from, count, part, changes)?;
+    relocate_last(&mut rows.last, changes);
+    rows.last.end = end;
     Ok(())
 }
 
@@ -69,32 +163,9 @@ pub fn reuse_rows<S: Drop>(
         further,
     } = later;
     match further {
-        Further::Goes(
-            Rows {
-                pages,
-                pieces,
-                rows: more,
-                last,
-            },
-        ) => {
-            let more = Part {
-                pages,
-                pieces,
-                rows: more,
-            };
-            reuse_part(rows, kept, front, from, count, more, changes)?;
-            rows.last = last;
-        }
+        Further::Goes(more) => reuse_going(rows, kept, front, from, count, more, changes),
         Further::Stands(end) => {
-            let more = Part {
-                pages: Vec::new(alloc),
-                pieces: Vec::new(alloc),
-                rows: Vec::new(alloc),
-            };
-            reuse_part(rows, kept, front, from, count, more, changes)?;
-            relocate_last(&mut rows.last, changes);
-            rows.last.end = end;
+            reuse_standing(alloc, rows, kept, front, from, count, end, changes)
         }
     }
-    Ok(())
 }

@@ -1,9 +1,10 @@
 //! Formatting after changes, up to the first new row that meets an old one.
 ghost use Rattle.std.specs.Prelude.{◌≡◌, ◌≤◌, ◌++◌, ◌∷◌, [], IfOk, OnOk};
 ghost use Rattle.tx_machine.specs.Steps.{raised};
-ghost use Rattle.tx_checkpoint.specs.Meant.{IsIdle, AreIdle, rows_meant};
+ghost use Rattle.tx_checkpoint.specs.Meant.{IsIdle, AreIdle, row_meant, rows_meant};
 ghost use Rattle.tx_checkpoint.specs.Rows.{at_limit, rows_from, rows_in};
 ghost use Rattle.tx_quiesce.specs.Front.{IsEmpty, Reaches, turns_to};
+ghost use Rattle.tx_quiesce.specs.Meeting as spec;
 ghost use Rattle.tx_quiesce.specs.Meeting.{first_meeting};
 ghost use Rattle.tx_quiesce.specs.Tails.{AreOffsets};
 
@@ -77,6 +78,35 @@ pub(crate) fn last_at_limit(alloc: Global, opens: Opens) -> Last
     }
 }
 
+/// Puts a page behind the others, and returns the old row that it meets, counted from 1. Where it meets none, the offsets of the
+/// old rows are written down for the pages behind it. Its only error is want of memory.
+fn take_page<M: Machine>(
+    alloc: Global,
+    machine: &M,
+    old: &Rows<M::State>,
+    changes: &[Change],
+    resumed: usize,
+    offsets: &mut Offsets,
+    front: &mut Front<M::State>,
+    body: PageBody,
+    piece: Bytes,
+    row: Row<M::State>,
+) -> Result<Option<usize>, AllocError>
+    requires { AreOffsets old.now.rows.items offsets.old }
+    ensures pages { OnOk result (front.new.pages.items ≡ front.old.pages.items ++ body ∷ []) }
+    ensures pieces { OnOk result (front.new.pieces.items ≡ front.old.pieces.items ++ piece ∷ []) }
+    ensures rows { OnOk result (front.new.rows.items ≡ front.old.rows.items ++ row ∷ []) }
+    ensures met { IfOk result (λ met. met ≡ spec.met_row M.formatter changes.now (rows_meant M.meaning old.now.rows.items) old.now.last resumed (row_meant M.meaning row)) }
+    ensures offsets { OnOk result (AreOffsets old.now.rows.items offsets.new) }
+{
+    let met = met_row(machine, old, offsets, changes, resumed, &row);
+    front.push(body, piece, row)?;
+    if met.is_none() {
+        write_down(alloc, offsets, old.rows.as_slice())?;
+    }
+    Ok(met)
+}
+
 /// Formats as `format_until_met` does, behind no page yet. What it goes on with is lent, since it may stop anywhere.
 fn format_front<M: Machine>(
     alloc: Global,
@@ -106,13 +136,13 @@ fn format_front<M: Machine>(
         spot.left = budget;
         match format_row(alloc, machine, files, spot, steps)? {
             Formatted::Page { body, piece, row } => {
-                let met = met_row(machine, old, offsets, changes, resumed, &row);
-                front.push(body, piece, row)?;
+                let met = take_page(
+                    alloc, machine, old, changes, resumed, offsets, front, body, piece, row,
+                )?;
                 if let Some(number) = met {
                     front.stopped = Stopped::Met(number);
                     return Ok(());
                 }
-                write_down(alloc, offsets, old.rows.as_slice())?;
             }
             Formatted::Over(last) => {
                 front.stopped = Stopped::Over(last);
@@ -149,7 +179,7 @@ pub fn format_until_met<M: Machine>(
 {
     let mut offsets = Offsets::Unread;
     let mut front = Front::new(alloc);
-    format_front(
+    let formatted = format_front(
         alloc,
         machine,
         files,
@@ -162,6 +192,9 @@ pub fn format_until_met<M: Machine>(
         budget,
         most,
         steps,
-    )?;
+    );
+    drop(spot);
+    drop(offsets);
+    formatted?;
     Ok(front)
 }

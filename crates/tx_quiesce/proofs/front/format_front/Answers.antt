@@ -31,12 +31,8 @@ pub returns-in_err-body-clause-bound : goal.returns-in_err-body-clause-bound
 returns-in_err-body-clause-bound g c =
     until-bound c.args.changes.now (rows_meant g.M.Machine.meaning c.args.old.now.rows.items) c.args.old.now.last c.args.resumed c.loop-page.invariant.so_far c.loop-page.invariant.none _ (one_fewer _ _ c.loop-page-test.true) c.format_row.ensures.bound
 
-pub returns-in_err-push-in-Page-clause-bound : goal.returns-in_err-push-in-Page-clause-bound
-returns-in_err-push-in-Page-clause-bound g c =
-    until-bound c.args.changes.now (rows_meant g.M.Machine.meaning c.args.old.now.rows.items) c.args.old.now.last c.args.resumed c.loop-page.invariant.so_far c.loop-page.invariant.none _ (one_fewer _ _ c.loop-page-test.true) c.format_row.ensures.bound
-
-pub returns-in_err-write_down-in-Page-clause-bound : goal.returns-in_err-write_down-in-Page-clause-bound
-returns-in_err-write_down-in-Page-clause-bound g c =
+pub returns-in_err-met-in-Page-clause-bound : goal.returns-in_err-met-in-Page-clause-bound
+returns-in_err-met-in-Page-clause-bound g c =
     until-bound c.args.changes.now (rows_meant g.M.Machine.meaning c.args.old.now.rows.items) c.args.old.now.last c.args.resumed c.loop-page.invariant.so_far c.loop-page.invariant.none _ (one_fewer _ _ c.loop-page-test.true) c.format_row.ensures.bound
 
 pub returns-in-Some-clause-bound : goal.returns-in-Some-clause-bound
@@ -49,21 +45,21 @@ returns-in-Over-clause-bound g c =
 
 pub returns-in-Some-clause-reaches : goal.returns-in-Some-clause-reaches
 returns-in-Some-clause-reaches g c =
-    (stops-met g.M.Machine.meaning c.args.changes.now (rows_meant g.M.Machine.meaning c.args.old.now.rows.items) c.args.old.now.last c.args.resumed c.loop-page.front c.loop-page.invariant.so_far c.loop-page.invariant.none _ (one_fewer _ _ c.loop-page-test.true) c.in_ok-body.ensures.formatted c.in-Page.is c.met_row-met.ensures
-    (record { pages = c.push.new.self.pages; pieces = c.push.new.self.pieces; rows = c.push.new.self.rows; stopped = Met c.in-Some.number })
-    c.in_ok-push-in-Page.ensures.pages c.in_ok-push-in-Page.ensures.pieces c.in_ok-push-in-Page.ensures.rows c.in-Some.is refl c.in_ok-body.ensures.counted).reaches
+    (stops-met g.M.Machine.meaning c.args.changes.now (rows_meant g.M.Machine.meaning c.args.old.now.rows.items) c.args.old.now.last c.args.resumed c.loop-page.front c.loop-page.invariant.so_far c.loop-page.invariant.none _ (one_fewer _ _ c.loop-page-test.true) c.in_ok-body.ensures.formatted c.in-Page.is c.in_ok-met-in-Page.ensures.met
+    (record { pages = c.take_page.new.front.pages; pieces = c.take_page.new.front.pieces; rows = c.take_page.new.front.rows; stopped = Met c.in-Some.number })
+    c.in_ok-met-in-Page.ensures.pages c.in_ok-met-in-Page.ensures.pieces c.in_ok-met-in-Page.ensures.rows c.in-Some.is refl c.in_ok-body.ensures.counted).reaches
 
 pub returns-in-Some-clause-counted : goal.returns-in-Some-clause-counted
 returns-in-Some-clause-counted g c =
-    (stops-met g.M.Machine.meaning c.args.changes.now (rows_meant g.M.Machine.meaning c.args.old.now.rows.items) c.args.old.now.last c.args.resumed c.loop-page.front c.loop-page.invariant.so_far c.loop-page.invariant.none _ (one_fewer _ _ c.loop-page-test.true) c.in_ok-body.ensures.formatted c.in-Page.is c.met_row-met.ensures
-    (record { pages = c.push.new.self.pages; pieces = c.push.new.self.pieces; rows = c.push.new.self.rows; stopped = Met c.in-Some.number })
-    c.in_ok-push-in-Page.ensures.pages c.in_ok-push-in-Page.ensures.pieces c.in_ok-push-in-Page.ensures.rows c.in-Some.is refl c.in_ok-body.ensures.counted).counted
+    (stops-met g.M.Machine.meaning c.args.changes.now (rows_meant g.M.Machine.meaning c.args.old.now.rows.items) c.args.old.now.last c.args.resumed c.loop-page.front c.loop-page.invariant.so_far c.loop-page.invariant.none _ (one_fewer _ _ c.loop-page-test.true) c.in_ok-body.ensures.formatted c.in-Page.is c.in_ok-met-in-Page.ensures.met
+    (record { pages = c.take_page.new.front.pages; pieces = c.take_page.new.front.pieces; rows = c.take_page.new.front.rows; stopped = Met c.in-Some.number })
+    c.in_ok-met-in-Page.ensures.pages c.in_ok-met-in-Page.ensures.pieces c.in_ok-met-in-Page.ensures.rows c.in-Some.is refl c.in_ok-body.ensures.counted).counted
 
 pub returns-in-Some-clause-idle : goal.returns-in-Some-clause-idle
 returns-in-Some-clause-idle g c =
     let t : Progress g.M.Machine.Meaning = stretch g.M.Machine.formatter c.args.files.now (page_start (g.M.Machine.meaning c.loop-page.spot.state) c.loop-page.spot.opens c.args.budget) in
     let idle = page-idle g.M.Machine.formatter g.M.Machine.meaning g.M.Machine.pending c.args.files.now t c.in_ok-body.field-0 c.in-Page.is c.in_ok-body.ensures.idle in
-    subst (AreIdle g.M.Machine.formatter g.M.Machine.meaning g.M.Machine.pending) (sym c.in_ok-push-in-Page.ensures.rows)
+    subst (AreIdle g.M.Machine.formatter g.M.Machine.meaning g.M.Machine.pending) (sym c.in_ok-met-in-Page.ensures.rows)
     (idle-push g.M.Machine.formatter g.M.Machine.meaning g.M.Machine.pending c.loop-page.front.rows.items c.in-Page.row c.loop-page.invariant.kept idle.0)
 
 pub returns-in-Over-clause-reaches : goal.returns-in-Over-clause-reaches
@@ -83,12 +79,12 @@ loop-page-preserved g c =
     let t : Progress g.M.Machine.Meaning = stretch g.M.Machine.formatter c.args.files.now (page_start (g.M.Machine.meaning c.loop-page.spot.state) c.loop-page.spot.opens c.args.budget) in
     let idle = page-idle g.M.Machine.formatter g.M.Machine.meaning g.M.Machine.pending c.args.files.now t c.in_ok-body.field-0 c.in-Page.is c.in_ok-body.ensures.idle in
     record {
-      so_far = goes-on g.M.Machine.meaning c.args.changes.now (rows_meant g.M.Machine.meaning c.args.old.now.rows.items) c.args.old.now.last c.args.resumed c.loop-page.front c.loop-page.invariant.so_far c.loop-page.invariant.none _ (one_fewer _ _ c.loop-page-test.true) c.in_ok-body.ensures.formatted c.in-Page.is c.met_row-met.ensures c.push.new.self c.in_ok-push-in-Page.ensures.pages c.in_ok-push-in-Page.ensures.pieces c.in_ok-push-in-Page.ensures.rows c.in_default.is c.in_ok-body.ensures.place c.in_ok-body.ensures.counted;
-      none = none-so_far g.M.Machine.meaning c.args.changes.now (rows_meant g.M.Machine.meaning c.args.old.now.rows.items) c.args.old.now.last c.args.resumed c.loop-page.front c.loop-page.invariant.so_far c.loop-page.invariant.none _ (one_fewer _ _ c.loop-page-test.true) c.in_ok-body.ensures.formatted c.in-Page.is c.met_row-met.ensures c.push.new.self c.in_ok-push-in-Page.ensures.pages c.in_ok-push-in-Page.ensures.pieces c.in_ok-push-in-Page.ensures.rows c.in_default.is;
+      so_far = goes-on g.M.Machine.meaning c.args.changes.now (rows_meant g.M.Machine.meaning c.args.old.now.rows.items) c.args.old.now.last c.args.resumed c.loop-page.front c.loop-page.invariant.so_far c.loop-page.invariant.none _ (one_fewer _ _ c.loop-page-test.true) c.in_ok-body.ensures.formatted c.in-Page.is c.in_ok-met-in-Page.ensures.met c.take_page.new.front c.in_ok-met-in-Page.ensures.pages c.in_ok-met-in-Page.ensures.pieces c.in_ok-met-in-Page.ensures.rows c.in_default.is c.in_ok-body.ensures.place c.in_ok-body.ensures.counted;
+      none = none-so_far g.M.Machine.meaning c.args.changes.now (rows_meant g.M.Machine.meaning c.args.old.now.rows.items) c.args.old.now.last c.args.resumed c.loop-page.front c.loop-page.invariant.so_far c.loop-page.invariant.none _ (one_fewer _ _ c.loop-page-test.true) c.in_ok-body.ensures.formatted c.in-Page.is c.in_ok-met-in-Page.ensures.met c.take_page.new.front c.in_ok-met-in-Page.ensures.pages c.in_ok-met-in-Page.ensures.pieces c.in_ok-met-in-Page.ensures.rows c.in_default.is;
       idle = idle.1;
-      kept = subst (AreIdle g.M.Machine.formatter g.M.Machine.meaning g.M.Machine.pending) (sym c.in_ok-push-in-Page.ensures.rows)
+      kept = subst (AreIdle g.M.Machine.formatter g.M.Machine.meaning g.M.Machine.pending) (sym c.in_ok-met-in-Page.ensures.rows)
           (idle-push g.M.Machine.formatter g.M.Machine.meaning g.M.Machine.pending c.loop-page.front.rows.items c.in-Page.row c.loop-page.invariant.kept idle.0);
-      offsets = search rules;
+      offsets = c.in_ok-met-in-Page.ensures.offsets;
     }
 
 pub returns-clause-reaches : goal.returns-clause-reaches

@@ -9,7 +9,7 @@ use Rattle.tx_quiesce.proofs.search.met_row.Goals as goal
 
 pub loop-at-init : goal.loop-at-init
 loop-at-init g c =
-    met-later g.M.Machine.formatter g.M.Machine.meaning c.args.changes.now c.args.old.now.last (row_meant g.M.Machine.meaning c.args.new.now) _ c.args.old.now.rows.items c.origin_of-origin.ensures (ap offsets_of c.as_slice-rows.ensures.value) c.next_candidate-at.ensures
+    met-later g.M.Machine.formatter g.M.Machine.meaning c.args.changes.now c.args.old.now.last (row_meant g.M.Machine.meaning c.args.new.now) _ c.origin_of-origin.result c.args.old.now.rows.items c.origin_of-origin.ensures (ap offsets_of c.as_slice-rows.ensures.value) c.next_candidate-at.ensures
     ∙ met-begins g.M.Machine.formatter g.M.Machine.meaning c.args.changes.now c.args.old.now.last (row_meant g.M.Machine.meaning c.args.new.now) _ c.args.resumed (rows_meant g.M.Machine.meaning c.args.old.now.rows.items) (omega arith)
 
 pub returns-then-is_met : goal.returns-then-is_met
@@ -24,7 +24,7 @@ returns-then-is_met g c =
 pub loop-at-preserved : goal.loop-at-preserved
 loop-at-preserved g c =
     let rows_are = c.as_slice-rows.ensures.value in
-    met-later g.M.Machine.formatter g.M.Machine.meaning c.args.changes.now c.args.old.now.last (row_meant g.M.Machine.meaning c.args.new.now) (c.loop-at.at + 1) c.args.old.now.rows.items c.origin_of-origin.ensures (ap offsets_of rows_are) c.next_candidate-at-in-loop-at.ensures
+    met-later g.M.Machine.formatter g.M.Machine.meaning c.args.changes.now c.args.old.now.last (row_meant g.M.Machine.meaning c.args.new.now) (c.loop-at.at + 1) c.origin_of-origin.result c.args.old.now.rows.items c.origin_of-origin.ensures (ap offsets_of rows_are) c.next_candidate-at-in-loop-at.ensures
     ∙ search-goes g.M.Machine.formatter g.M.Machine.meaning c.args.changes.now c.args.old.now.last (row_meant g.M.Machine.meaning c.args.new.now) _ c.loop-at.at c.args.old.now.rows.items c.loop-at.invariant
     (subst (λ (rows : List (Row g.row.M-State.Denot)). c.loop-at.at < length rows) rows_are c.loop-at-test.true)
     (subst (λ (rows : List (Row g.row.M-State.Denot)). c.index-rows-at.result ≡ slice_index_or rows c.loop-at.at c.index-rows-at.result) rows_are c.index-rows-at.is)
