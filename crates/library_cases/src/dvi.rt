@@ -1,9 +1,10 @@
-//! Cases of the reader of tx_dvi.
+//! Cases of the reader of tx_dvitype.
 use crate::fonts::{change, contents};
 use std::alloc::{AllocError, Global};
 use std::io;
 use tx_cases::{first_word, malformed};
-use tx_dvi::{DviError, Placed, ReadPage, Reader};
+use tx_dvi::Placed;
+use tx_dvitype::{DviError, ReadPage, Reader};
 
 /// What is read of a file of hexadecimal bytes as a DVI file, by `dvi FILE HOW`, where HOW is `whole`; `first COUNT`, which
 /// takes so many bytes; or `changed PLACE VALUE ..`, which gives bytes of it these values. It is what stands on the pages,

@@ -1,8 +1,3 @@
 pub mod Page
 pub mod Dvi
 pub mod Meaning
-pub mod Rules
-pub mod Partial
-pub mod Files
-pub mod ReadPages
-pub mod ReadBack

@@ -22,14 +22,14 @@ pub fn is_font_number(opcode: u8) -> bool
 }
 
 /// Whether a command is a movement, right1 to z4.
-pub(crate) fn is_movement(opcode: u8) -> bool
+pub fn is_movement(opcode: u8) -> bool
     ensures { result ≡ spec.is_movement opcode }
 {
     143 <= opcode && opcode <= 170
 }
 
 /// How many bytes follow the first one of a movement.
-pub(crate) fn movement_operands(opcode: u8) -> u8
+pub fn movement_operands(opcode: u8) -> u8
     requires least { 143 ≤ opcode }
     requires most { opcode ≤ 170 }
     ensures is { result ≡ spec.movement_operands opcode }

@@ -37,8 +37,9 @@ pub fn four_bytes(n: i32) -> [u8; 4]
     bytes
 }
 
+/// A number of four bytes without sign, the highest first.
 #[tactic(auto, unfolding(crate::specs::Dvi::unsigned_bytes))]
-pub(crate) fn unsigned_bytes(n: u32) -> [u8; 4]
+pub fn unsigned_bytes(n: u32) -> [u8; 4]
     ensures { result ≡ spec.unsigned_bytes n }
 {
     let mut bytes = [0; 4];
@@ -74,8 +75,9 @@ pub fn definition(alloc: Global, font: &FontDefinition) -> Result<Bytes, AllocEr
     Ok(bytes)
 }
 
+/// A number of two bytes, the highest first.
 #[tactic(auto, unfolding(crate::specs::Dvi::two_bytes))]
-pub(crate) fn two_bytes(n: u16) -> [u8; 2]
+pub fn two_bytes(n: u16) -> [u8; 2]
     ensures { result ≡ spec.two_bytes n }
 {
     let mut bytes = [0; 2];
@@ -90,8 +92,9 @@ fn two_digits(n: i32) -> [u8; 2]
     [b'0' + (n % 100 / 10) as u8, b'0' + (n % 10) as u8]
 }
 
+/// What an sp is, by the numerator and denominator of TeX and by \mag, as the preamble and the postamble tell it.
 #[tactic(auto, unfolding(crate::specs::Dvi::four_bytes))]
-pub(crate) fn units(mag: u16) -> [u8; 12]
+pub fn units(mag: u16) -> [u8; 12]
     ensures { result ≡ spec.units mag }
 {
     let mut bytes = [0; 12];

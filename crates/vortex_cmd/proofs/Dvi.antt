@@ -3,8 +3,8 @@ use Rattle.std.proofs.Common.{◌≡◌, ℕ, List, Option, Some, None, Result, 
 use Rattle.std.specs.Prelude.{IfSome}
 use Rattle.std.specs.FinMap.{empty, insert, get-empty}
 use Rattle.tx_bytes.specs.Files.{Files, content}
-use Rattle.tx_dvi.specs.declared.error.DviRule.{DviRule}
-use Rattle.tx_dvi.specs.declared.reader.ReadPage.{ReadPage}
+use Rattle.tx_dvitype.specs.declared.error.DviRule.{DviRule}
+use Rattle.tx_dvitype.specs.declared.reader.ReadPage.{ReadPage}
 use Rattle.tx_io.specs.Output.{Output}
 use Rattle.vortex_cmd.specs.declared.listed.Listed.{Listed}
 use Rattle.vortex_cmd.specs.declared.listed.Listed.TheVariants.{Brings, Stops}

@@ -20,7 +20,7 @@ use Rattle.vortex_cmd.specs.Scripts.{ForScript, Read, Unread}
 use Rattle.tx_words.specs.Words.{script_asked, words_meant}
 use Rattle.vortex_cmd.specs.declared.listed.Listed.TheVariants.{Brings}
 use Rattle.vortex_cmd.specs.Listing.{pages_lines, said_lines}
-use Rattle.tx_dvi.specs.declared.reader.ReadPage.{ReadPage}
+use Rattle.tx_dvitype.specs.declared.reader.ReadPage.{ReadPage}
 use Rattle.vortex_cmd.specs.Outcome.{Outcome, saying, made_pieces, making, listing, session_outcome, outcome, asked_outcome, most_turns, ForHeld, Leaves}
 use Rattle.vortex_cmd.specs.Replay.{Replays, opened, turns_from}
 use Rattle.vortex_cmd.specs.Trouble.{Ends, Does}

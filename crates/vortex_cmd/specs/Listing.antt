@@ -3,13 +3,13 @@ use Rattle.std.specs.Prelude.{◌≡◌, ℕ, ◌+◌, ℤ, List, [], ◌∷◌,
 use Rattle.std.specs.Fmt.{decimal, signed_decimal}
 use Rattle.tx_bytes.specs.Files.{Files, content}
 use Rattle.tx_io.specs.Output.{Piece, Say}
-use Rattle.tx_dvi.specs.declared.error.DviRule.{DviRule}
-use Rattle.tx_dvi.specs.declared.error.DviRule.TheVariants.{File}
+use Rattle.tx_dvitype.specs.declared.error.DviRule.{DviRule}
+use Rattle.tx_dvitype.specs.declared.error.DviRule.TheVariants.{File}
 use Rattle.tx_dvi.specs.declared.placed.Placed.{Placed}
 use Rattle.tx_dvi.specs.declared.placed.Placed.TheVariants.{Lettered, Ruled, Noted}
-use Rattle.tx_dvi.specs.declared.reader.ReadPage.{ReadPage}
-use Rattle.tx_dvi.specs.Files.{Broken, dvi_file}
-use Rattle.tx_dvi.specs.Rules.{number_of}
+use Rattle.tx_dvitype.specs.declared.reader.ReadPage.{ReadPage}
+use Rattle.tx_dvitype.specs.Files.{Broken, dvi_file}
+use Rattle.tx_dvitype.specs.Rules.{number_of}
 use Rattle.vortex_cmd.specs.declared.listed.Listed.{Listed}
 use Rattle.vortex_cmd.specs.declared.listed.Listed.TheVariants.{Brings, Stops}
 

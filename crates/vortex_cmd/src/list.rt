@@ -12,7 +12,7 @@ use crate::outputs::say;
 use crate::trouble::{Interruption, Trouble};
 use std::alloc::{AllocError, Global};
 use tx_bytes::Bytes;
-use tx_dvi::{DviError, DviRule, ReadPage, Reader};
+use tx_dvitype::{DviError, DviRule, ReadPage, Reader};
 use tx_files::Name;
 use tx_io::{Fetched, Sink, Source};
 

@@ -1,5 +1,5 @@
 //! What a file is read as that is to be a DVI file.
-use tx_dvi::{DviRule, ReadPage};
+use tx_dvitype::{DviRule, ReadPage};
 use tx_list::Items;
 
 /// What is read of a file that is to be a DVI file.

@@ -5,7 +5,8 @@ ghost use Rattle.vortex_cmd.specs.Listing.{counts_text, page_line, at_text, plac
 
 use std::alloc::{AllocError, Global};
 use tx_bytes::Bytes;
-use tx_dvi::{DviRule, Placed, ReadPage};
+use tx_dvi::Placed;
+use tx_dvitype::{DviRule, ReadPage};
 use tx_list::Items;
 
 /// A number in decimal digits.

@@ -26,7 +26,7 @@ use crate::scripted::Scripted;
 use crate::scripts::fetch_script;
 use crate::trouble::{Interruption, Trouble};
 use std::alloc::Global;
-use tx_dvi::DviRule;
+use tx_dvitype::DviRule;
 use tx_files::{FileSet, Name};
 use tx_gen::make;
 use tx_io::{Sink, Source};

@@ -1,6 +1,6 @@
 use Rattle.std.proofs.Common.{◌≡◌, ℕ, List, subst}
 use Rattle.std.proofs.lemmas.Result.{IfOk-weaker}
-use Rattle.tx_dvi.specs.declared.reader.ReadPage.{ReadPage}
+use Rattle.tx_dvitype.specs.declared.reader.ReadPage.{ReadPage}
 use Rattle.vortex_cmd.specs.Listing.{ReadsDvi}
 use Rattle.vortex_cmd.specs.Outcome.{listing}
 use Rattle.vortex_cmd.specs.Trouble.{Does}

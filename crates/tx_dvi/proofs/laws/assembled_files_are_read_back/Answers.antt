@@ -1,5 +1,0 @@
-use Rattle.tx_dvi.proofs.ReadBack.{assembled-back}
-use Rattle.tx_dvi.proofs.laws.assembled_files_are_read_back.Goals as goal
-
-pub returns : goal.returns
-returns c first others contents least most few small readable = assembled-back first others contents least most few small readable

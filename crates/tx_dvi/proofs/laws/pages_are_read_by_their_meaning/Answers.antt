@@ -1,5 +1,0 @@
-use Rattle.tx_dvi.proofs.ReadPages.{read_on}
-use Rattle.tx_dvi.proofs.laws.pages_are_read_by_their_meaning.Goals as goal
-
-pub returns : goal.returns
-returns c known body contents place r rest at near = read_on known body contents place r rest at near

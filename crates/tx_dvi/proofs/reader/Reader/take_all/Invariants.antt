@@ -1,6 +1,0 @@
-use Rattle.std.proofs.Common.{◌≡◌, drop}
-use Rattle.tx_dvi.specs.Files.{rest_read}
-use Rattle.tx_dvi.proofs.reader.Reader.take_all.Given as goal
-
-abbrev pub invariant-loop-at : goal.invariant-loop-at
-invariant-loop-at l = rest_read l.at l.self (drop l.at l.bytes) ≡ rest_read 0 l.initial.self l.bytes

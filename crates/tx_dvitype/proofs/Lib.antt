@@ -1,0 +1,5 @@
+mod Padding
+mod ReadPages
+mod ReadFront
+mod ReadEnd
+mod ReadBack

@@ -1,0 +1,21 @@
+//! The theorems that what is read of a page of a DVI file is what its commands mean, and that an assembled file is read back.
+ghost use Rattle.std.specs.Prelude.{◌≡◌, ◌+◌, ◌<◌, ◌≤◌, ◌^◌, ◌∷◌, [], ℕ, List, Ok, length, sum_by};
+ghost use Rattle.tx_dvitype.specs.declared.reader.Reader.{Reader};
+ghost use Rattle.tx_dvi.specs.Dvi.{dvi, page_size, preamble};
+ghost use Rattle.tx_dvitype.specs.Files.{dvi_file};
+ghost use Rattle.tx_dvi.specs.Meaning.{Contents};
+ghost use Rattle.tx_dvi.specs.Page.{Page};
+ghost use Rattle.tx_dvitype.specs.ReadBack.{AreReadable, read_pages};
+ghost use Rattle.tx_dvitype.specs.ReadPages.{IsAtPage, IsReadOn, StayNear};
+
+/// Commands that may stand on a page, none of which leads too far from its corner, mean something, and this is what is read of
+/// them, with the eop behind them, wherever in a file their page stands. This call does nothing: its contract is the theorem.
+pub fn pages_are_read_by_their_meaning()
+    ensures { (known body : List ℕ) (contents : Contents) (place : ℕ) (r : Reader) (rest : List ℕ) → IsAtPage known r → StayNear known body contents → IsReadOn known body contents place r rest }
+{}
+
+/// Pages whose commands may stand on them bring in the file that is assembled of them what they bring by themselves, with their
+/// numbers, if that is less than 2^31 bytes long up to its postamble. This call does nothing: its contract is the theorem.
+pub fn assembled_files_are_read_back()
+    ensures { (first : Page) (others : List Page) (contents : List Contents) → 1 ≤ first.mag → first.mag ≤ 32768 → length others < 10000 → length (preamble first) + sum_by page_size (first ∷ others) < 2 ^ 31 → AreReadable [] (first ∷ others) contents → dvi_file (dvi (first ∷ others)) ≡ Ok (read_pages (first ∷ others) contents) }
+{}
