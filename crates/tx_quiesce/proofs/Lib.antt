@@ -9,7 +9,7 @@ pub mod Suffix
 pub mod Moved
 mod TakenAway
 mod Behind
-mod Moving
+mod AllMoved
 mod Carrying
 mod Places
 mod Origins

@@ -38,7 +38,7 @@ use Rattle.tx_quiesce.proofs.Found.{row_begun, drop-map, old_rest, FoundOld, fou
 use Rattle.tx_quiesce.proofs.Inside.{IsInside, StaysInside, ExtentInside, HeldInside, ReadInside, rows-inside}
 use Rattle.tx_quiesce.proofs.KinRows.{PageKin, LastKin, HistoryKin}
 use Rattle.tx_quiesce.proofs.Moved.{FileBehind, FileShifts, IsOther, moved-kin}
-use Rattle.tx_quiesce.proofs.Moving.{asks-parts, rest-by, moved-by}
+use Rattle.tx_quiesce.proofs.AllMoved.{asks-parts, rest-by, moved-by}
 use Rattle.tx_quiesce.proofs.Shifted.{ExtentBehind, HeldBehind, ReadsShift}
 
 -- a row, and a last stretch, that a change moves or leaves

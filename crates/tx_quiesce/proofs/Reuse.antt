@@ -14,7 +14,7 @@ use Rattle.tx_quiesce.specs.Moves.{carried_opens}
 use Rattle.tx_quiesce.specs.Reuse.{moved, moved_begun, reused, further}
 use Rattle.tx_quiesce.proofs.Behind.{OpensFit, opens-so}
 use Rattle.tx_quiesce.proofs.Goes.{goes-on-to}
-use Rattle.tx_quiesce.proofs.Moving.{moved-all}
+use Rattle.tx_quiesce.proofs.AllMoved.{moved-all}
 
 -- a run up to some pages, by its first pages and what comes behind them
 further_is : {S : Type 0} (m : Formatter S) (files : Files) (budget most : ℕ) (begun : Begun S) (h : History S) → up_to m files budget most begun h ≡ behind (take (reused most h) h.pages) (further m files budget most begun h)
