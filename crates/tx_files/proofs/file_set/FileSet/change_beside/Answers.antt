@@ -8,7 +8,7 @@ pub returns-in-Ok-clause-answer : goal.returns-in-Ok-clause-answer
 returns-in-Ok-clause-answer c = subst (λ (files : Files). IsAnswerToAll {T = Unit {0}} files c.args.changes.now (Ok tt)) c.in_ok-next.ensures c.in-Ok.ensures.answer
 
 pub returns-in-Ok-clause-ok : goal.returns-in-Ok-clause-ok
-returns-in-Ok-clause-ok c = c.in-Ok.ensures.ok ∙ ap (λ (files : Files). all_changed files c.args.changes.now) c.in_ok-next.ensures
+returns-in-Ok-clause-ok c = c.replace.ensures.after ∙ c.in-Ok.ensures.ok ∙ ap (λ (files : Files). all_changed files c.args.changes.now) c.in_ok-next.ensures
 
 pub returns-in-Ok-clause-small : goal.returns-in-Ok-clause-small
 returns-in-Ok-clause-small c = subst (λ (files : Files). AreSmall files c.args.changes.now) c.in_ok-next.ensures c.in-Ok.ensures.small
