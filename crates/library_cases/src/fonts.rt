@@ -85,13 +85,17 @@ fn append(bytes: &mut Vec<u8>, line: &str) -> Result<(), AllocError> {
 
 /// Gives bytes at places new values; None where the text doesn't say so.
 pub fn change(bytes: &mut [u8], text: &str) -> Option<()> {
-    let (place, rest) = first_word(text);
-    let (value, rest) = first_word(rest);
-    set(bytes, place, value)?;
-    match rest.split_once(' ') {
-        Some((place, value)) => set(bytes, place, value),
-        None => Some(()),
+    let mut place = None;
+    for word in text.split(' ') {
+        place = match place {
+            None => Some(word),
+            Some(at) => {
+                set(bytes, at, word)?;
+                None
+            }
+        };
     }
+    Some(())
 }
 
 fn set(bytes: &mut [u8], place: &str, value: &str) -> Option<()> {

@@ -176,7 +176,9 @@ fn write_text(text: &mut String, list: &[Node]) -> Result<(), AllocError> {
 fn write_within(text: &mut String, item: &Shared) -> Result<(), AllocError> {
     match item {
         Shared::Ligature(ligature) => write_ligature(text, ligature),
-        Shared::Rule(_) | Shared::Leaders(_) | Shared::Special(_) | Shared::Mark(_) => text.push('?'),
+        Shared::Rule(_) | Shared::Leaders(_) | Shared::Special(_) | Shared::Mark(_) => text.push(
+            '?',
+        ),
     }
 }
 
