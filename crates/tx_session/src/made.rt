@@ -130,7 +130,10 @@ pub fn make_after<M: Machine>(
     let later = format_later(
         alloc, machine, files, changes, &made.rows, kept, main, date, limits, steps,
     )?;
-    let said = transcript_after(alloc, &made.rows, kept as usize, &later)?;
+    let Ok(said) = transcript_after(alloc, &made.rows, kept as usize, &later) else {
+        drop(later);
+        return Err(AllocError);
+    };
     let reused = later.count;
     reuse_rows(alloc, &mut made.rows, kept as usize, later, changes)?;
     made.said = said;
