@@ -1,5 +1,5 @@
 -- The commands of a box before their movements are written by registers are whole plain commands.
-use Rattle.std.proofs.Common.{◌≡◌, ◌==◌, ℕ, suc, ◌+◌, ◌-◌, ◌<◌, ◌≤◌, ◌^◌, ℤ, pos, ◌-ℤ◌, Bool, true, false, cond, min, nat_lt, unsigned_abs, List, [], ◌∷◌, ◌++◌, length, take, drop, get_or, fold, Option, Some, None, refl, sym, ap, ◌∙◌, arith, subst}
+use Rattle.std.proofs.Common.{◌≡◌, ◌==◌, ℕ, ◌+◌, ◌<◌, ◌≤◌, ◌^◌, ℤ, pos, ◌-ℤ◌, Bool, true, false, cond, min, nat_lt, ◌||◌, unsigned_abs, List, [], ◌∷◌, ◌++◌, length, drop, fold, Option, Some, None, refl, ap, ◌∙◌, arith}
 use Rattle.std.proofs.lemmas.Bool.{lt-ltb, ltb-true, or_left, or_right}
 use Rattle.std.proofs.lemmas.Int.{ints}
 use Rattle.std.proofs.lemmas.List.{length-append}
@@ -15,7 +15,7 @@ use Rattle.tx_node.specs.Items.{Item, plain, shared, boxed, discretionary, adjus
 use Rattle.tx_node.specs.Setting.{Reach, begun}
 use Rattle.tx_dvi.specs.declared.font.FontDefinition.{FontDefinition}
 use Rattle.tx_dvi.specs.Dvi.{four_bytes, unsigned_bytes, definition_bytes}
-use Rattle.tx_dvi.specs.Meaning.{ReaderFonts, is_known, choosing, defining, operands, special_operands}
+use Rattle.tx_dvi.specs.Meaning.{ReaderFonts, is_known, choosing, defining, operands, special_operands, is_font_number}
 use Rattle.tx_dvi.proofs.Reading.{operands-character, operands-font, font-opcode}
 use Rattle.tx_tfm.specs.declared.named.NamedFont.{NamedFont}
 use Rattle.tx_tfm.specs.declared.state.FontState.{FontState}
@@ -29,11 +29,11 @@ use Rattle.tx_ship.specs.declared.places.CornerRule.{CornerRule}
 use Rattle.tx_ship.specs.Characters.{definition_for, definition_commands, choice, is_chosen, font_commands, set_code}
 use Rattle.tx_ship.specs.Standing.{next, span_of, size_of, reference, upright, shifted, rule_sides, leaders_sides, frame_at, page_frame}
 use Rattle.tx_ship.specs.Commands.{Pen, is_visible, cornered, page_pen, written_of, right, down, way, rule_bytes, rule_item, rule_commands, keeping_fonts, character_item, plain_commands, shared_commands, behind_rule, special, special_item, cursor_at, framed, approach, entering, list_commands, item_commands}
-use Rattle.tx_ship.specs.Registers.{registered, IsAsPlain}
+use Rattle.tx_ship.specs.Registers.{is_right, is_down, registered, IsAsPlain}
 use Rattle.tx_ship.proofs.Meanings.{IsShort, short-parts, inside-short}
 use Rattle.tx_ship.proofs.Moves.{Sized, one, two, three, four, sized, moves, still}
 use Rattle.tx_ship.proofs.Rewritten.{registered-means}
-use Rattle.tx_ship.proofs.Scanned.{is_plain, scanned, scan, Plainly, plainly-append, scan-gathered}
+use Rattle.tx_ship.proofs.Scanned.{is_longer, is_other, is_plain, scanned, scan, Plainly, plainly-append, scan-gathered}
 use Rattle.tx_ship.proofs.Turns.{plain-bound, no-longer}
 
 -- movements
@@ -147,14 +147,20 @@ plain-special-item c to text short = plainly-append (way c to) (special text) (p
 
 -- fonts and characters
 single : (byte : ℕ) → operands byte (byte ∷ []) ≡ Some 0 → is_plain byte ≡ true → Plainly (byte ∷ [])
-single byte none plainly = ap (λ o. scanned o (byte ∷ [])) none ∙ ap (λ b. cond {A = Option (List ℕ)} b (Some []) None) plainly
+single byte whole plainly = ap (λ o. scanned o (byte ∷ [])) whole ∙ ap (λ b. cond {A = Option (List ℕ)} b (Some []) None) plainly
 
 -- the number of a character or of a font is that of a plain command
+plain-number : (opcode : ℕ) → is_other opcode ≡ true → is_plain opcode ≡ true
+plain-number opcode h =
+    let pop : (opcode == 142 || is_other opcode) ≡ true = or_right (opcode == 142) (is_other opcode) h in
+    let push : (opcode == 141 || (opcode == 142 || is_other opcode)) ≡ true = or_right (opcode == 141) (opcode == 142 || is_other opcode) pop in
+    or_right (is_right opcode) (is_down opcode || (opcode == 141 || (opcode == 142 || is_other opcode))) (or_right (is_down opcode) (opcode == 141 || (opcode == 142 || is_other opcode)) push)
+
 character-number : (code : ℕ) → code < 128 → is_plain code ≡ true
-character-number code h = or_right _ _ (or_right _ _ (or_right _ _ (or_right _ _ (or_left _ _ (lt-ltb code 128 h)))))
+character-number code h = plain-number code (or_left (nat_lt code 128) (is_font_number code || is_longer code) (lt-ltb code 128 h))
 
 font-number : (number : ℕ) → number < 64 → is_plain (171 + number) ≡ true
-font-number number h = or_right _ _ (or_right _ _ (or_right _ _ (or_right _ _ (or_right _ _ (or_left _ _ (font-opcode number h))))))
+font-number number h = plain-number (171 + number) (or_right (nat_lt (171 + number) 128) (is_font_number (171 + number) || is_longer (171 + number)) (or_left (is_font_number (171 + number)) (is_longer (171 + number)) (font-opcode number h)))
 
 plain-choice : (number : ℕ) → Plainly (choice number)
 unfolding choice

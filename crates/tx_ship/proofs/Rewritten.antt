@@ -1,5 +1,5 @@
 -- What the registers make of plain commands means what the plain commands mean.
-use Rattle.std.proofs.Common.{◌≡◌, ◌==◌, ℕ, zero, suc, ◌+◌, ◌-◌, ◌<◌, ◌≤◌, ℤ, ◌+ℤ◌, Bool, true, false, cond, nat_le, nat_lt, ◌||◌, List, [], ◌∷◌, ◌++◌, length, get_or, drop, fold, Option, Some, None, refl, sym, ap, ◌∙◌, arith, subst, true≢false}
+use Rattle.std.proofs.Common.{◌≡◌, ◌==◌, ℕ, zero, suc, ◌+◌, ◌-◌, ◌<◌, ◌≤◌, ℤ, Bool, true, false, cond, nat_le, nat_lt, ◌||◌, List, [], ◌∷◌, ◌++◌, length, get_or, drop, fold, Option, Some, None, refl, sym, ap, ◌∙◌, arith, subst, true≢false}
 use Rattle.std.proofs.lemmas.Bool.{leb-true, leb-false, eqb-true}
 use Rattle.std.proofs.lemmas.Bool.Decides.{Decides-int_eq}
 use Rattle.std.proofs.lemmas.List.{append-nil, length-append, length-drop}
@@ -14,8 +14,7 @@ use Rattle.tx_ship.specs.declared.amounts.Pair.{Pair}
 use Rattle.tx_ship.specs.declared.amounts.Amounts.{Amounts}
 use Rattle.tx_ship.specs.Registers.{by_register, Writer, page_writer, copied, pushing, popping, is_right, is_down, moved_right, moved_down, taken, write, registered}
 use Rattle.tx_ship.proofs.Scanned.{is_other, is_plain, scanned, scan, Plainly}
-use Rattle.tx_ship.proofs.Steps.{both}
-use Rattle.tx_ship.proofs.Turns.{at, opcode_in, Turn, right_waits, right_moves, down_waits, down_moves, pushes, pops, fails, other_waits, copies, turn, Few, none-few, right-few, down-few, few-behind, popping-made, popping-begun}
+use Rattle.tx_ship.proofs.Turns.{at, opcode_in, Turn, right_waits, right_moves, down_waits, down_moves, pushes, pops, fails, other_waits, copies, turn, right-range, down-range, Few, none-few, right-few, down-few, few-behind, popping-made, popping-begun}
 
 -- the value of what is there
 abbrev some_or : {A : Type 0} → A → Option A → A
@@ -75,15 +74,13 @@ operands-down (suc (suc (suc (suc k)))) bytes h = absurd (omega (arith, h))
 -- the number of a movement, counted from that of the shortest
 right-number : (n : ℕ) → is_right n ≡ true → (n ≡ 143 + (n - 143)) × (n - 143 < 4)
 right-number n e =
-    let low : 143 ≤ n = leb-true _ _ (both e).0 in
-    let high : n ≤ 146 = leb-true _ _ (both e).1 in
-    (omega (arith, low), omega (arith, low, high))
+    let range = right-range n e in
+    (omega (arith, range.0), omega (arith, range.0, range.1))
 
 down-number : (n : ℕ) → is_down n ≡ true → (n ≡ 157 + (n - 157)) × (n - 157 < 4)
 down-number n e =
-    let low : 157 ≤ n = leb-true _ _ (both e).0 in
-    let high : n ≤ 160 = leb-true _ _ (both e).1 in
-    (omega (arith, low), omega (arith, low, high))
+    let range = down-range n e in
+    (omega (arith, range.0), omega (arith, range.0, range.1))
 
 right-operands : (n : ℕ) (bytes : List ℕ) → is_right n ≡ true → operands n bytes ≡ Some (n - 142)
 right-operands n bytes e =

@@ -1,15 +1,17 @@
 -- Bytes that are whole plain commands of a page: none of them is w0 to w4, x0 to x4, y0 to y4 or z0 to z4.
-use Rattle.std.proofs.Common.{◌≡◌, ◌==◌, ℕ, suc, ◌+◌, Bool, true, false, cond, nat_le, nat_lt, ◌||◌, List, [], ◌∷◌, ◌++◌, length, get_or, fold, Option, Some, None, refl, sym, ap, ◌∙◌, arith, append_assoc}
+use Rattle.std.proofs.Common.{◌≡◌, ◌==◌, ℕ, suc, ◌+◌, Bool, true, cond, nat_le, nat_lt, ◌||◌, List, [], ◌∷◌, ◌++◌, length, get_or, fold, Option, Some, None, ap, ◌∙◌, arith, append_assoc}
 use Rattle.std.proofs.lemmas.Bool.{le-leb, lt-leb}
-use Rattle.std.proofs.lemmas.List.{append-nil, length-append}
+use Rattle.std.proofs.lemmas.List.{length-append}
 use Rattle.std.proofs.lemmas.List.Sums.{fold-append}
 use Rattle.tx_dvi.specs.Meaning.{operands, is_font_number}
 use Rattle.tx_ship.specs.Registers.{is_right, is_down}
 
--- the numbers of plain commands
+-- the numbers of plain commands: set_char and fnt_num, those that have bytes behind them and move nothing, movements, push and pop
+abbrev pub is_longer : ℕ → Bool
+is_longer opcode = opcode == 128 || (opcode == 235 || (opcode == 243 || (opcode == 132 || (opcode == 137 || (opcode == 138 || nat_le 239 opcode)))))
+
 abbrev pub is_other : ℕ → Bool
-is_other opcode =
-    nat_lt opcode 128 || (is_font_number opcode || (opcode == 128 || (opcode == 235 || (opcode == 243 || (opcode == 132 || (opcode == 137 || (opcode == 138 || nat_le 239 opcode)))))))
+is_other opcode = nat_lt opcode 128 || (is_font_number opcode || is_longer opcode)
 
 abbrev pub is_plain : ℕ → Bool
 is_plain opcode = is_right opcode || (is_down opcode || ((opcode == 141) || ((opcode == 142) || is_other opcode)))

@@ -1,5 +1,5 @@
 -- A byte that is a command by itself and moves nothing is written as it stands.
-use Rattle.std.proofs.Common.{◌≡◌, ◌==◌, ℕ, ◌<◌, ◌≤◌, Bool, true, false, cond, nat_le, nat_lt, ◌&&◌, ◌||◌, List, [], ◌∷◌, ◌++◌, length, Option, Some, refl, sym, ap, ◌∙◌, arith, ◌⊎◌, inl, inr}
+use Rattle.std.proofs.Common.{◌≡◌, ◌==◌, ℕ, ◌-◌, ◌<◌, ◌≤◌, Bool, true, false, cond, nat_lt, ◌||◌, List, [], ◌∷◌, ◌++◌, Option, Some, refl, sym, ap, ◌∙◌, arith, ◌⊎◌, inl, inr}
 use Rattle.std.proofs.lemmas.Bool.{and_left, and_right, lt-leb, ne_eqb, leb-true, ltb-true}
 use Rattle.tx_dvi.specs.Meaning.{operands, is_font_number}
 use Rattle.tx_ship.specs.Registers.{Writer, copied, pushing, popping, is_right, is_down, moved_right, moved_down, once_there, other, write}
@@ -35,8 +35,8 @@ single-taken w byte e =
     let next : Writer = at (byte ∷ []) w in
     let sort : (byte < 128) ⊎ (171 ≤ byte) = is-single byte e in
     let tested : Bool → Bool → Bool → Bool → Writer = λ r d s p.
-        cond {A = Writer} r (once_there (byte - 142) (moved_right byte) next)
-        (cond {A = Writer} d (once_there (byte - 156) (moved_down byte) next) (cond {A = Writer} s (copied (pushing next)) (cond {A = Writer} p (copied (popping next.pushed next)) (other (operands byte (byte ∷ [])) next)))) in
+    cond {A = Writer} r (once_there (byte - 142) (moved_right byte) next)
+    (cond {A = Writer} d (once_there (byte - 156) (moved_down byte) next) (cond {A = Writer} s (copied (pushing next)) (cond {A = Writer} p (copied (popping next.pushed next)) (other (operands byte (byte ∷ [])) next)))) in
     let tests : write (at [] w) byte ≡ tested false false false false = λ i. tested (no-right byte sort i) (no-down byte sort i) (no-push byte sort i) (no-pop byte sort i) in
     let whole : operands byte (byte ∷ []) ≡ Some 0 = single-operands byte e in
     tests ∙ ap (λ (x : Option ℕ). other x next) whole

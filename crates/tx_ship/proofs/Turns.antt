@@ -1,5 +1,5 @@
 -- One byte more of a page's plain commands: what the writer by registers does with it, and how long that is.
-use Rattle.std.proofs.Common.{◌≡◌, ◌==◌, ℕ, zero, suc, ◌+◌, ◌-◌, ◌*◌, ◌<◌, ◌≤◌, ℤ, Bool, true, false, cond, nat_le, ◌&&◌, List, [], ◌∷◌, ◌++◌, length, get_or, drop, fold, Option, Some, None, refl, sym, ap, ◌∙◌, arith, subst, true≢false}
+use Rattle.std.proofs.Common.{◌≡◌, ◌==◌, ℕ, ◌+◌, ◌-◌, ◌*◌, ◌<◌, ◌≤◌, ℤ, Bool, true, false, cond, nat_le, List, [], ◌∷◌, ◌++◌, length, get_or, drop, fold, Option, Some, None, refl, sym, ap, ◌∙◌, arith, subst, true≢false}
 use Rattle.std.proofs.lemmas.Bool.{leb-true, leb-false, eqb-true}
 use Rattle.std.proofs.lemmas.List.{length-append, length-drop}
 use Rattle.std.specs.Ordering.{int_eq}
@@ -87,15 +87,22 @@ pub down-few : (b : List ℕ) (byte : ℕ) → Few b → is_down (get_or (b ++ b
 down-few [] byte few e = omega arith
 down-few (x ∷ xs) byte few e = let l = few.down e in let n = length-append (x ∷ xs) (byte ∷ []) in omega (arith, l, n)
 
+-- between which numbers those of the movements lie
+pub right-range : (n : ℕ) → is_right n ≡ true → (143 ≤ n) × (n ≤ 146)
+right-range n e = let tests = both {a = nat_le 143 n} {b = nat_le n 146} e in (leb-true 143 n tests.0, leb-true n 146 tests.1)
+
+pub down-range : (n : ℕ) → is_down n ≡ true → (157 ≤ n) × (n ≤ 160)
+down-range n e = let tests = both {a = nat_le 157 n} {b = nat_le n 160} e in (leb-true 157 n tests.0, leb-true n 160 tests.1)
+
 -- the same command isn't both a movement to the right and one down
 apart : (n : ℕ) → is_right n ≡ true → is_down n ≡ true → ⊥
-apart n e f = let below = leb-true _ _ (both e).1 in let above = leb-true _ _ (both f).0 in omega (arith, below, above)
+apart n e f = let below = (right-range n e).1 in let above = (down-range n f).0 in omega (arith, below, above)
 
 -- what is begun behind the turn is few again
 pub few-behind : (w out : Writer) → Turn w out → Few out.begun
-few-behind w out (right_waits e l is) = subst (λ (v : Writer). Few v.begun) (sym is) (record { right = λ f. l; down = λ f. absurd (apart _ e f) })
+few-behind w out (right_waits e l is) = subst (λ (v : Writer). Few v.begun) (sym is) (record { right = λ f. l; down = λ f. absurd (apart (opcode_in w) e f) })
 few-behind w out (right_moves e l is) = subst (λ (v : Writer). Few v.begun) (sym is) none-few
-few-behind w out (down_waits e l is) = subst (λ (v : Writer). Few v.begun) (sym is) (record { right = λ f. absurd (apart _ f e); down = λ f. l })
+few-behind w out (down_waits e l is) = subst (λ (v : Writer). Few v.begun) (sym is) (record { right = λ f. absurd (apart (opcode_in w) f e); down = λ f. l })
 few-behind w out (down_moves e l is) = subst (λ (v : Writer). Few v.begun) (sym is) none-few
 few-behind w out (pushes e is) = subst (λ (v : Writer). Few v.begun) (sym is) none-few
 few-behind w out (pops e is) = subst (λ (v : Writer). Few v.begun) (sym is) none-few
@@ -154,7 +161,7 @@ turn-measured w out (right_moves e l is) some right down =
     let all = length-append w.made (by_register 143 (opcode_in w) bytes amount w.amounts.across).0 in
     let shorter = length-drop 1 w.begun in
     let most = right e in
-    let low = leb-true _ _ (both e).1 in
+    let low = (right-range (opcode_in w) e).1 in
     subst (Measured w) (sym is) (record { enough = omega (arith, all, long.0, most, low); no_longer = omega (arith, all, long.1, shorter, some) })
 turn-measured w out (down_waits e l is) some right down = subst (Measured w) (sym is) (record { enough = omega arith; no_longer = omega arith })
 turn-measured w out (down_moves e l is) some right down =
@@ -164,9 +171,9 @@ turn-measured w out (down_moves e l is) some right down =
     let all = length-append w.made (by_register 157 (opcode_in w) bytes amount w.amounts.down).0 in
     let shorter = length-drop 1 w.begun in
     let most = down e in
-    let low = leb-true _ _ (both e).1 in
+    let low = (down-range (opcode_in w) e).1 in
     subst (Measured w) (sym is) (record { enough = omega (arith, all, long.0, most, low); no_longer = omega (arith, all, long.1, shorter, some) })
-turn-measured w out (pushes e is) some right down = subst (Measured w) (sym is) (copied-measured w)
+turn-measured w out (pushes e is) some right down = let m = copied-measured (pushing w) in subst (Measured w) (sym is) (record { enough = m.enough; no_longer = m.no_longer })
 turn-measured w out (pops e is) some right down =
     let l = length-append (popping w.pushed w).made (popping w.pushed w).begun in
     let m = ap length (popping-made w.pushed w) in

@@ -1,5 +1,6 @@
 //! The commands of characters, and of the fonts that they need.
 ghost use Rattle.std.specs.Prelude.{◌≡◌, ◌≤◌, ◌<◌, ◌^◌, ◌+ℤ◌, ◌-ℤ◌, ◌++◌, ◌&&◌, true, length, unsigned_abs, IsTrue, IfOk, IfErr, OnOk};
+ghost use Rattle.tx_tfm.specs.Fonts.{font_at};
 ghost use Rattle.tx_ship.specs.Standing.{character_sides as sides_of};
 ghost use Rattle.tx_ship.specs.Characters as spec;
 ghost use Rattle.tx_ship.specs.Commands as commands;
@@ -9,9 +10,9 @@ ghost use Rattle.tx_ship.specs.Written.{IsWritten};
 use crate::commands::move_to;
 use crate::error::ShipError;
 use crate::fonts::{definition_for, dvi_number};
-use crate::frames::reference;
+use crate::frames::upright_point;
 use crate::output::Output;
-use crate::places::{Cursor, Frame, Point, Span, Stand};
+use crate::places::{Cursor, Frame, Point, Span};
 use crate::within::{cursor_at, is_within, point_lies};
 use std::alloc::AllocError;
 use tx_dvi::definition;
@@ -156,6 +157,28 @@ fn lies(at: Point, character: Character) -> bool
     point_lies(at) && sides_lie(at.h as i64, at.v as i64, character)
 }
 
+/// Appends a character at a point, unless there is no font of its number, and answers the cursor behind it.
+#[inline(always)]
+fn put_found(
+    output: &mut Output,
+    fonts: &Fonts,
+    cursor: Cursor,
+    at: Cursor,
+    character: Character,
+) -> Result<Cursor, AllocError>
+    requires from { within.IsReader cursor }
+    requires to { within.IsReader at }
+    requires behind { within.IsReader (commands.behind_character at character) }
+    ensures written { OnOk result (IsWritten output.old output.new (commands.character_item (font_at fonts.now character.font) (commands.pen_at output.old.fonts cursor) at character)) }
+    ensures next { IfOk result (λ next. next ≡ (commands.character_item (font_at fonts.now character.font) (commands.pen_at output.old.fonts cursor) at character).1.at) }
+    ensures still { IfOk result within.IsReader }
+{
+    match fonts.get(character.font) {
+        Some(font) => put_at(output, font, cursor, at, character),
+        None => Ok(cursor),
+    }
+}
+
 /// Appends a character of a list, and answers the cursor behind it. `OutsidePage` comes exactly where it lies outside.
 #[inline(always)]
 pub fn put_character(
@@ -175,17 +198,9 @@ pub fn put_character(
     ensures next { IfOk result (λ next. next ≡ (commands.character_commands fonts.now frame span (commands.pen_at output.old.fonts cursor) character).1.at) }
     ensures still { IfOk result within.IsReader }
 {
-    let stand = Stand {
-        from: span.from,
-        shift: 0,
-        height: i128::from(character.height),
-    };
-    let at = reference(frame, stand);
+    let at = upright_point(frame, span, i128::from(character.height));
     if !lies(at, character) {
         return Err(ShipError::OutsidePage);
     }
-    match fonts.get(character.font) {
-        Some(font) => Ok(put_at(output, font, cursor, cursor_at(at), character)?),
-        None => Ok(cursor),
-    }
+    Ok(put_found(output, fonts, cursor, cursor_at(at), character)?)
 }

@@ -49,7 +49,7 @@ pub fn behind(frame: Frame, reached: Reached, node: &Node) -> Reached
 }
 
 /// The reference point of an item.
-pub fn reference(frame: Frame, stand: Stand) -> Point
+fn reference(frame: Frame, stand: Stand) -> Point
     requires near { within.IsNearBox frame }
     requires from { unsigned_abs stand.from ≤ 2 ^ 99 }
     requires shift { unsigned_abs stand.shift ≤ 2 ^ 31 }
@@ -67,6 +67,38 @@ pub fn reference(frame: Frame, stand: Stand) -> Point
             v: stand.from + stand.height,
         },
     }
+}
+
+/// That of an item of this height that isn't shifted.
+pub fn upright_point(frame: Frame, span: Span, height: i128) -> Point
+    requires near { within.IsNearBox frame }
+    requires span_near { within.IsNearSpan span }
+    requires height { unsigned_abs height ≤ 2 ^ 100 }
+    ensures value { result ≡ spec.reference frame.head.direction frame (spec.upright span.from height) }
+    ensures near { within.IsNear result }
+{
+    let stand = Stand {
+        from: span.from,
+        shift: 0,
+        height,
+    };
+    reference(frame, stand)
+}
+
+/// That of a box that is so far shifted.
+pub fn shifted_point(frame: Frame, span: Span, shift: i128, inner: &BoxNode) -> Point
+    requires near { within.IsNearBox frame }
+    requires span_near { within.IsNearSpan span }
+    requires shift { unsigned_abs shift ≤ 2 ^ 31 }
+    ensures value { result ≡ spec.reference frame.head.direction frame (spec.shifted span.from shift inner.now.head) }
+    ensures near { within.IsNear result }
+{
+    let stand = Stand {
+        from: span.from,
+        shift,
+        height: i128::from(inner.height()),
+    };
+    reference(frame, stand)
 }
 
 /// The sides of a rule, which run as far as the box across its list.

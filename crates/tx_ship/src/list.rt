@@ -10,9 +10,9 @@ ghost use Rattle.tx_ship.specs.Written.{IsWritten};
 
 use crate::commands::{close, move_down, open};
 use crate::error::ShipError;
-use crate::frames::{behind, box_sides, frame_at, is_entered, place, reference};
+use crate::frames::{behind, box_sides, frame_at, is_entered, place, shifted_point};
 use crate::output::Output;
-use crate::places::{Cursor, Frame, Point, Reached, Span, Stand};
+use crate::places::{Cursor, Frame, Point, Reached, Span};
 use crate::plain::put_plain;
 use crate::shared::put_shared;
 use crate::within::{cursor_at, edges_lie, point_lies};
@@ -98,19 +98,8 @@ fn put_node(
         Node::Plain(item) => put_plain(output, fonts, *item, frame, span, cursor),
         Node::Shared(item) => put_shared(output, fonts, item, frame, span, cursor),
         Node::Box(shift, inner) => {
-            let stand = Stand {
-                from: span.from,
-                shift: i128::from(*shift),
-                height: i128::from(inner.height()),
-            };
-            put_box(
-                output,
-                fonts,
-                inner,
-                frame.head.direction,
-                reference(frame, stand),
-                cursor,
-            )
+            let at = shifted_point(frame, span, i128::from(*shift), inner);
+            put_box(output, fonts, inner, frame.head.direction, at, cursor)
         }
         Node::Discretionary(_) | Node::Adjustment(_) | Node::Insertion(_) => Ok(cursor),
     }

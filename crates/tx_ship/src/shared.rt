@@ -8,9 +8,9 @@ ghost use Rattle.tx_ship.specs.Written.{IsWritten};
 use crate::characters::put_character;
 use crate::commands::{put_rule, put_special};
 use crate::error::ShipError;
-use crate::frames::{leaders_sides, reference, rule_sides, size_of};
+use crate::frames::{leaders_sides, rule_sides, size_of, upright_point};
 use crate::output::Output;
-use crate::places::{CornerRule, Cursor, Frame, Point, Sides, Span, Stand};
+use crate::places::{CornerRule, Cursor, Frame, Point, Sides, Span};
 use crate::within::{cursor_at, edges_lie, point_lies};
 use tx_bytes::Bytes;
 use tx_node::Shared;
@@ -50,12 +50,7 @@ fn put_rule_in(
     ensures next { IfOk result (λ next. next ≡ (spec.rule_commands frame span cursor sides).1) }
     ensures still { IfOk result within.IsReader }
 {
-    let stand = Stand {
-        from: span.from,
-        shift: 0,
-        height: sides.height,
-    };
-    let at = reference(frame, stand);
+    let at = upright_point(frame, span, sides.height);
     if !edges_lie(at, sides) {
         return Err(ShipError::OutsidePage);
     }
@@ -79,12 +74,7 @@ fn put_special_in(
     ensures next { IfOk result (λ next. next ≡ (spec.special_commands frame span cursor text.now).1) }
     ensures still { IfOk result within.IsReader }
 {
-    let stand = Stand {
-        from: span.from,
-        shift: 0,
-        height: 0,
-    };
-    let at = reference(frame, stand);
+    let at = upright_point(frame, span, 0);
     if !point_lies(at) {
         return Err(ShipError::OutsidePage);
     }

@@ -1,16 +1,22 @@
-use Rattle.std.proofs.Common.{◌≡◌, ℕ, ◌<◌, pos, ◌∙◌, sym, ap, arith, subst, IfErr, to_z, of_z}
+use Rattle.std.proofs.Common.{◌≡◌, ℕ, ◌<◌, pos, Bool, true, false, not, ◌&&◌, ◌||◌, List, ◌++◌, refl, ◌∙◌, sym, ap, arith, subst, IfErr, to_z, of_z}
+use Rattle.std.proofs.lemmas.List.{append-nil}
 use Rattle.std.specs.Int.{w128}
 use Rattle.std.proofs.lemmas.Int.{ints}
 use Rattle.tx_node.specs.Items.{PackedBox, items_of}
 use Rattle.tx_node.specs.Nodes.{item_of, list_of}
 use Rattle.tx_node.specs.Setting.{begun, sums_fit}
 use Rattle.std.proofs.Common.{drop, ◌+◌}
+use Rattle.tx_ship.specs.declared.places.Point.{Point}
+use Rattle.tx_ship.specs.declared.places.Cursor.{Cursor}
+use Rattle.tx_ship.specs.declared.output.Output.{Output}
+use Rattle.tx_tfm.specs.declared.state.FontState.{FontState}
+use Rattle.tx_node.specs.declared.head.Direction.{Direction}
 use Rattle.tx_ship.specs.Written.{IsWritten}
-use Rattle.tx_ship.specs.Commands.{pen_at, list_commands, item_commands}
-use Rattle.tx_ship.specs.Standing.{reach_of, place, next, reference}
-use Rattle.tx_ship.specs.Within.{IsOutside, box_lies, inside_lies, list_lies, item_lies}
-use Rattle.tx_node.proofs.Measures.{node_measure, list_measure, to-item, to-list}
-use Rattle.tx_ship.proofs.Steps.{near-box, shifted-is, span-is, box-item-lies, lies-on, lies-not, lies-end, sums-on, Joins, all_of, put-on, put-end, outside-on, on-err}
+use Rattle.tx_ship.specs.Commands.{Pen, pen_at, cursor_at, is_entered, approach, approached, framed, framed_all, entering, inside, box_item, box_commands, list_commands, item_commands}
+use Rattle.tx_ship.specs.Standing.{reach_of, place, next, reference, shifted}
+use Rattle.tx_ship.specs.Within.{IsReader, IsOutside, head_lies, box_lies, inside_lies, list_lies, item_lies}
+use Rattle.tx_node.proofs.Measures.{node_measure, list_measure, framed_measure, to-item, to-list}
+use Rattle.tx_ship.proofs.Steps.{framed-close, two-puts, near-box, span-is, box-item-lies, lies-on, lies-not, lies-end, sums-on, Joins, all_of, put-on, put-end, outside-on, on-err}
 use Rattle.tx_ship.proofs.list.+put.Goals as goal
 
 pub put_inside-put_list-requires : goal.put_inside-put_list-requires
@@ -28,13 +34,12 @@ put_inside-put_list-requires t c = (
 pub put_node-returns-in-Box-clause-outside : goal.put_node-returns-in-Box-clause-outside
 put_node-returns-in-Box-clause-outside t c =
     let b : PackedBox = c.in-Box.inner.value in
-    let from_is : to_z w128 (of_z w128 c.args.span.from) ≡ c.args.span.from = omega (arith, ints, c.requires.span_near.from) in
+    let at : Point = c.shifted_point-at.result in
     let shift_is : to_z w128 (of_z w128 c.from.result) ≡ c.in-Box.shift = omega (arith, ints, c.from.ensures, c.from.type_inv) in
-    let tall : c.height.result ≡ b.head.height = c.height.ensures ∙ ap (λ (x : PackedBox). x.head.height) c.deref-in-Box.ensures in
-    let height_is : to_z w128 (of_z w128 c.from-in-Box.result) ≡ b.head.height = omega (arith, ints, c.from-in-Box.ensures, c.height.type_inv, tall) in
-    let at_is = c.reference.ensures.value ∙ ap (reference c.args.frame.head.direction c.args.frame) (shifted-is c.args.span.from c.in-Box.shift b.head from_is shift_is height_is) in
+    let at_is : at ≡ reference c.args.frame.head.direction c.args.frame (shifted c.args.span.from c.in-Box.shift b.head) =
+    c.shifted_point-at.ensures.value ∙ (λ i. reference c.args.frame.head.direction c.args.frame (shifted c.args.span.from (shift_is i) (c.deref-in-Box.ensures i).head)) in
     subst (λ lies. IfErr c.put_box.result (λ e. IsOutside e lies))
-    (ap (λ (x : PackedBox). box_lies c.reference.result x.head (items_of x.list) (inside_lies x c.reference.result)) c.deref-in-Box-2.ensures
+    (ap (λ (x : PackedBox). box_lies at x.head (items_of x.list) (inside_lies x at)) c.deref-in-Box-2.ensures
     ∙ box-item-lies c.args.frame c.args.span b (ap item_of c.in-Box.is) at_is) c.put_box.ensures.outside
 
 pub put_list-put_node-requires : goal.put_list-put_node-requires
@@ -87,3 +92,69 @@ put_list-returns-clause-lies t c =
 pub put_list-returns-clause-written : goal.put_list-returns-clause-written
 put_list-returns-clause-written t c =
     put-end c.args.fonts.now c.args.list.now c.loop-node.node-index c.args.frame (reach_of c.loop-node.reached) c.loop-node.cursor c.args.output.now c.loop-node.output (omega (arith, c.loop-node-test.false)) c.loop-node.invariant.commands
+
+-- a box that isn't entered, and one that is: the way to its baseline, and then what its list has
+module _ (fonts : List FontState) (direction : Direction) (at : Point) (b : PackedBox) (before : Output) (cursor : Cursor) where
+  abbrev made : Pen → List ℕ × Pen
+  made = inside fonts b at
+
+  abbrev by_entry : Bool → List ℕ × Pen
+  by_entry entered = box_item direction (pen_at before.fonts cursor) (cursor_at at) entered (made (entering direction (pen_at before.fonts cursor) (cursor_at at)))
+
+  passed-over : false ≡ is_entered (items_of b.list) → IsWritten before before (box_commands fonts direction (pen_at before.fonts cursor) at b)
+  passed-over e = subst (λ (t : Bool). IsWritten before before (by_entry t)) e (record { bytes = sym (append-nil before.body.items); fonts = refl })
+
+  entered-too : (mid after : Output) (reader : Cursor) → true ≡ is_entered (items_of b.list) → reader ≡ approached direction cursor (cursor_at at)
+      → mid.body.items ≡ before.body.items ++ approach direction cursor (cursor_at at) → mid.fonts ≡ before.fonts → IsWritten mid after (framed_all (made (pen_at mid.fonts reader)))
+      → IsWritten before after (box_commands fonts direction (pen_at before.fonts cursor) at b)
+  entered-too mid after reader e reader_is approach_is fonts_are put =
+      let pen_is : pen_at mid.fonts reader ≡ entering direction (pen_at before.fonts cursor) (cursor_at at) = λ i. pen_at (fonts_are i) (reader_is i) in
+      subst (λ (t : Bool). IsWritten before after (by_entry t)) e
+      (record {
+        bytes = two-puts before.body.items (approach direction cursor (cursor_at at)) (framed (made (entering direction (pen_at before.fonts cursor) (cursor_at at))).0) approach_is
+            (put.bytes ∙ (λ i. mid.body.items ++ framed (made (pen_is i)).0));
+        fonts = put.fonts ∙ (λ i. (made (pen_is i)).1.fonts);
+      })
+
+pub put_box-returns-then-not-is_entered-clause-lies : goal.put_box-returns-then-not-is_entered-clause-lies
+put_box-returns-then-not-is_entered-clause-lies t c =
+    ap (λ (entered : Bool). not entered || (head_lies c.args.at c.args.inner.now.head && inside_lies c.args.inner.now c.args.at)) (sym c.if-not-is_entered.ensures)
+
+pub put_box-returns-then-not-is_entered-clause-written : goal.put_box-returns-then-not-is_entered-clause-written
+put_box-returns-then-not-is_entered-clause-written t c = passed-over c.args.fonts.now c.args.direction c.args.at c.args.inner.now c.args.output.now c.args.cursor c.if-not-is_entered.ensures
+
+pub put_box-returns-then-not-is_entered-clause-next : goal.put_box-returns-then-not-is_entered-clause-next
+put_box-returns-then-not-is_entered-clause-next t c =
+    ap (λ (entered : Bool). (by_entry c.args.fonts.now c.args.direction c.args.at c.args.inner.now c.args.output.now c.args.cursor entered).1.at) c.if-not-is_entered.ensures
+
+pub put_box-returns-clause-lies : goal.put_box-returns-clause-lies
+put_box-returns-clause-lies t c =
+    (λ i. not (sym c.if-not-is_entered.ensures i) || (sym c.if-not-box_lies.ensures.value i && c.in_ok-put_framed.ensures.lies i))
+
+pub put_box-returns-clause-written : goal.put_box-returns-clause-written
+put_box-returns-clause-written t c =
+    entered-too c.args.fonts.now c.args.direction c.args.at c.args.inner.now c.args.output.now c.args.cursor (record c.args.output.now { body = c.approach.new.body }) c.put_framed.new.output c.in_ok-reader.reader
+    c.if-not-is_entered.ensures (c.in_ok-reader.ensures.next ∙ ap (approached c.args.direction c.args.cursor) c.cursor_at.ensures)
+    (c.in_ok-reader.ensures.commands ∙ ap (λ (k : Cursor). c.args.output.now.body.items ++ approach c.args.direction c.args.cursor k) c.cursor_at.ensures) refl c.in_ok-put_framed.ensures.written
+
+pub put_box-returns-clause-next : goal.put_box-returns-clause-next
+put_box-returns-clause-next t c =
+    c.in_ok-reader.ensures.next ∙ ap (approached c.args.direction c.args.cursor) c.cursor_at.ensures
+    ∙ ap (λ (entered : Bool). (by_entry c.args.fonts.now c.args.direction c.args.at c.args.inner.now c.args.output.now c.args.cursor entered).1.at) c.if-not-is_entered.ensures
+
+pub put_framed-returns-clause-written : goal.put_framed-returns-clause-written
+put_framed-returns-clause-written t c = record {
+  bytes = framed-close c.args.output.now.body.items (inside c.args.fonts.now c.args.inner.now c.args.at (pen_at c.args.output.now.fonts c.args.cursor)).0 c.in_ok-start.ensures.push c.in_ok-start.ensures.start
+      c.in_ok-put_inside.ensures.written.bytes c.in_ok-close.ensures;
+  fonts = c.in_ok-put_inside.ensures.written.fonts;
+}
+
+pub put_box-cursor_at-requires : goal.put_box-cursor_at-requires
+put_box-cursor_at-requires t c = c.if-not-box_lies.ensures.facts refl
+
+pub put_box-approach-requires-clause-to : goal.put_box-approach-requires-clause-to
+put_box-approach-requires-clause-to t c = subst IsReader (sym c.cursor_at.ensures) (c.if-not-box_lies.ensures.facts refl)
+
+pub put_box-put_framed-requires : goal.put_box-put_framed-requires
+put_box-put_framed-requires t c =
+    (subst (λ (n : ℕ). framed_measure c.args.inner.now < n) c.decreases (omega arith), (c.if-not-box_lies.ensures.facts refl, c.in_ok-reader.ensures.on_page))

@@ -18,7 +18,7 @@ use Rattle.tx_ship.proofs.ship.body.Goals as goal
 pub returns-clause-page : goal.returns-clause-page
 returns-clause-page c =
     page-is c.args.fonts.now c.args.node.now c.args.params.now c.in_ok-commands.commands c.in_ok-body.field-0.fonts (sym c.in-Some.ensures.fit) c.in_ok-body.ensures.lies
-    (c.in_ok-commands.ensures ∙ ap registered c.in_ok-body.ensures.commands) c.in_ok-body.ensures.fonts
+    (c.in_ok-commands.ensures ∙ ap registered (c.as_slice.ensures.value ∙ c.in_ok-body.ensures.commands)) c.in_ok-body.ensures.fonts
     (omega (arith, c.len.ensures, c.if-len-gt-MAX_BODY.false))
     ∙ ap Ok (sym (c.in_ok-new.ensures ∙ c.page_with-parts.ensures ∙ ap (page_made c.args.node.now c.args.params.now c.in_ok-commands.commands) c.into_defined.ensures.fonts))
 
@@ -27,7 +27,7 @@ pub returns-clause-plain : goal.returns-clause-plain
 returns-clause-plain c =
     let params = c.args.params.now in
     let plain : List ℕ = (written_of c.args.fonts.now params.defined c.args.node.now params.hoffset params.voffset).0 in
-    let is : c.in_ok-commands.commands ≡ registered plain = c.in_ok-commands.ensures ∙ ap registered c.in_ok-body.ensures.commands in
+    let is : c.in_ok-commands.commands ≡ registered plain = c.in_ok-commands.ensures ∙ ap registered (c.as_slice.ensures.value ∙ c.in_ok-body.ensures.commands) in
     let short : length (registered plain) ≤ 200000 = subst (λ body. length body ≤ 200000) is (omega (arith, c.len.ensures, c.if-len-gt-MAX_BODY.false)) in
     subst (IsAsPlain params.defined plain) (sym (ap (λ (page : Page). page.body) (c.in_ok-new.ensures ∙ c.page_with-parts.ensures) ∙ is))
     (page-as-plain c.args.fonts.now params.defined c.args.node.now params.hoffset params.voffset short)
@@ -36,7 +36,7 @@ pub returns-clause-meaning : goal.returns-clause-meaning
 returns-clause-meaning c = λ of_fonts.
     let params = c.args.params.now in
     let plain : List ℕ = (written_of c.args.fonts.now params.defined c.args.node.now params.hoffset params.voffset).0 in
-    let is : c.in_ok-commands.commands ≡ registered plain = c.in_ok-commands.ensures ∙ ap registered c.in_ok-body.ensures.commands in
+    let is : c.in_ok-commands.commands ≡ registered plain = c.in_ok-commands.ensures ∙ ap registered (c.as_slice.ensures.value ∙ c.in_ok-body.ensures.commands) in
     let short : length (registered plain) ≤ 200000 = subst (λ body. length body ≤ 200000) is (omega (arith, c.len.ensures, c.if-len-gt-MAX_BODY.false)) in
     let page_is = c.in_ok-new.ensures ∙ c.page_with-parts.ensures in
     let body_is = ap (λ (page : Page). page.body) page_is ∙ is in
@@ -58,4 +58,4 @@ returns-in_err-body-clause-error c =
 pub returns-then-len-gt-MAX_BODY-clause-error : goal.returns-then-len-gt-MAX_BODY-clause-error
 returns-then-len-gt-MAX_BODY-clause-error c =
     λ _. too-long c.args.fonts.now c.args.node.now c.args.params.now c.in_ok-commands.commands (sym c.in-Some.ensures.fit) c.in_ok-body.ensures.lies
-    (c.in_ok-commands.ensures ∙ ap registered c.in_ok-body.ensures.commands) (omega (arith, c.len.ensures, c.if-len-gt-MAX_BODY.true))
+    (c.in_ok-commands.ensures ∙ ap registered (c.as_slice.ensures.value ∙ c.in_ok-body.ensures.commands)) (omega (arith, c.len.ensures, c.if-len-gt-MAX_BODY.true))
