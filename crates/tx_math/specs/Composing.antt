@@ -143,12 +143,20 @@ ligated_as w a e scripted = record e { item = ligature w a scripted.item }
 abbrev pub put_between : Word → MathCharacter → Entry → Entry
 put_between w a e = record { style = e.style; kind = Ord; joined = passes w == 2; item = ligature w a e.item }
 
--- what stands in place of a pair after a ligature command: each of both is kept, or it is the ligature
-abbrev pub in_place : Word → MathCharacter → Entry → Entry → List Entry
-in_place w a e next =
+-- what a ligature command makes of a pair: where it keeps both, the ligature between them, else that of both which it doesn't keep
+abbrev pub made_of : Word → MathCharacter → Entry → Entry → Entry
+made_of w a e next =
     if keeps_current w
-    then (if keeps_next w then e ∷ put_between w a e ∷ next ∷ [] else e ∷ ligated_as w a next next ∷ [])
-    else (if keeps_next w then ligated_as w a e e ∷ next ∷ [] else ligated_as w a e next ∷ [])
+    then (if keeps_next w then put_between w a e else ligated_as w a next next)
+    else (if keeps_next w then ligated_as w a e e else ligated_as w a e next)
+
+abbrev pub before_if : Bool → Entry → List Entry → List Entry
+before_if true e rest = e ∷ rest
+before_if false e rest = rest
+
+-- what stands in place of a pair behind a ligature command, and before the rest: what it makes, between those of both that it keeps
+abbrev pub in_place : Word → MathCharacter → Entry → Entry → List Entry → List Entry
+in_place w a e next rest = before_if (keeps_current w) e (made_of w a e next ∷ before_if (keeps_next w) next rest)
 
 -- what a step gives: what is done with, the kind of the atom before the cursor, and what is still to be looked at
 pub record Stepped : Type 0 where
@@ -171,14 +179,17 @@ joined_over e rest = record { done = (record e { joined = true }) ∷ []; before
 abbrev pub kerned : ℤ → Entry → List Entry → Stepped
 kerned size e rest = record { done = (record e { joined = true }) ∷ entry_in e.style (material (kern size)) ∷ []; before = Ord; rest = rest }
 
+abbrev pub past_first : AtomKind → List Entry → Stepped
+past_first before [] = record { done = []; before = before; rest = [] }
+past_first before (e ∷ rest) = joined_over e rest
+
 -- behind a ligature command the cursor stays, or goes past the first entry
 abbrev pub moved_on : Word → AtomKind → List Entry → Stepped
-moved_on w before [] = record { done = []; before = before; rest = [] }
-moved_on w before (e ∷ rest) = if passes w == 0 then record { done = []; before = before; rest = e ∷ rest } else joined_over e rest
+moved_on w before entries = if passes w == 0 then record { done = []; before = before; rest = entries } else past_first before entries
 
 abbrev pub ligated : Word → AtomKind → MathCharacter → Entry → List Entry → Stepped
 ligated w before a e [] = joined_over e []
-ligated w before a e (next ∷ rest) = moved_on w before (in_place w a e next ++ rest)
+ligated w before a e (next ∷ rest) = moved_on w before (in_place w a e next rest)
 
 -- one step at a pair, by the command that it meets
 abbrev pub by_command : Math → ℕ → AtomKind → MathCharacter → Option Word → Entry → List Entry → Stepped

@@ -135,8 +135,37 @@ fn put_between(
     })
 }
 
-/// What stands in place of a pair behind a ligature command: its first entry is answered, the others come before the rest. After
-/// want of memory, its only error, the rest may only be dropped.
+/// What a ligature command makes of a pair. Its only error is want of memory.
+fn made_of(
+    alloc: Global,
+    command: Word,
+    a: MathCharacter,
+    entry: &Entry,
+    next: &Entry,
+) -> Result<Entry, AllocError>
+    ensures { IfOk result (λ made. entry_of made ≡ spec.made_of command a (entry_of entry.now) (entry_of next.now)) }
+{
+    if keeps_current(command) {
+        if keeps_next(command) {
+            return put_between(alloc, command, a, entry);
+        }
+        return ligated_as(alloc, command, a, next, &next.noad);
+    }
+    if keeps_next(command) {
+        return ligated_as(alloc, command, a, entry, &entry.noad);
+    }
+    ligated_as(alloc, command, a, entry, &next.noad)
+}
+
+/// An entry comes before the rest where it is kept. Its only error is want of memory.
+fn keep(kept: bool, entry: Entry, rest: &mut Stack<Entry>) -> Result<(), AllocError>
+    ensures { OnOk result (entries_in rest.new ≡ spec.before_if kept (entry_of entry) (entries_in rest.old)) }
+{
+    if kept { rest.push(entry) } else { Ok(()) }
+}
+
+/// What stands in place of a pair behind a ligature command comes before the rest. After want of memory, its only error, the rest
+/// may only be dropped.
 fn put_in_place(
     alloc: Global,
     command: Word,
@@ -144,23 +173,17 @@ fn put_in_place(
     entry: Entry,
     next: Entry,
     rest: &mut Stack<Entry>,
-) -> Result<Entry, AllocError>
-    ensures { IfOk result (λ first. entry_of first ∷ entries_in rest.new ≡ spec.in_place command a (entry_of entry) (entry_of next) ++ entries_in rest.old) }
+) -> Result<(), AllocError>
+    ensures { OnOk result (entries_in rest.new ≡ spec.in_place command a (entry_of entry) (entry_of next) (entries_in rest.old)) }
 {
-    if keeps_current(command) {
-        if keeps_next(command) {
-            rest.push(next)?;
-            rest.push(put_between(alloc, command, a, &entry)?)?;
-            return Ok(entry);
-        }
-        rest.push(ligated_as(alloc, command, a, &next, &next.noad)?)?;
-        return Ok(entry);
-    }
-    if keeps_next(command) {
-        rest.push(next)?;
-        return ligated_as(alloc, command, a, &entry, &entry.noad);
-    }
-    ligated_as(alloc, command, a, &entry, &next.noad)
+    let made = made_of(alloc, command, a, &entry, &next)?;
+    // (each is put there whatever comes of the others, so that none is dropped beside a `?`)
+    let behind = keep(keeps_next(command), next, rest);
+    let between = rest.push(made);
+    let first = keep(keeps_current(command), entry, rest);
+    behind?;
+    between?;
+    first
 }
 
 /// The kind of the last atom behind an entry.
@@ -221,17 +244,18 @@ fn kern_over(
 fn move_on(
     command: Word,
     before: AtomKind,
-    first: Entry,
     rest: &mut Stack<Entry>,
     done: &mut Items<Entry>,
 ) -> Result<AtomKind, AllocError>
-    ensures { IfOk result (λ kind. IsStep (spec.moved_on command before (entry_of first ∷ entries_in rest.old)) kind (entries_in done.old) (entries_in done.new) (entries_in rest.new)) }
+    ensures { IfOk result (λ kind. IsStep (spec.moved_on command before (entries_in rest.old)) kind (entries_in done.old) (entries_in done.new) (entries_in rest.new)) }
 {
     if passes(command) == 0 {
-        rest.push(first)?;
         return Ok(before);
     }
-    join_over(first, rest, done)
+    match rest.pop() {
+        None => Ok(before),
+        Some(first) => join_over(first, rest, done),
+    }
 }
 
 /// A step by a ligature command. Its only error is want of memory.
@@ -249,8 +273,8 @@ fn ligate(
     match rest.pop() {
         None => join_over(entry, rest, done),
         Some(next) => {
-            let first = put_in_place(alloc, command, a, entry, next, rest)?;
-            move_on(command, before, first, rest, done)
+            put_in_place(alloc, command, a, entry, next, rest)?;
+            move_on(command, before, rest, done)
         }
     }
 }
