@@ -60,7 +60,10 @@ pub fn make_anew<M: Machine>(
     ensures bound { steps.new ≤ raised steps.old (all_turns (rows.fresh_rows M.formatter files.now main.now date.now limits.now)) }
 {
     let rows = fresh_rows(alloc, machine, files, main, date, limits, steps)?;
-    let said = transcript(alloc, rows.pieces.as_slice(), &rows.last.piece)?;
+    let Ok(said) = transcript(alloc, rows.pieces.as_slice(), &rows.last.piece) else {
+        drop(rows);
+        return Err(AllocError);
+    };
     Ok(Made { rows, said })
 }
 
