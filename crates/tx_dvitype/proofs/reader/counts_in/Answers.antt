@@ -1,4 +1,5 @@
 use Rattle.std.proofs.Common.{rules, ◌≡◌, ℤ, [], ◌∷◌, ◌∙◌, w32, FitsSigned, to_z, of_z, to_z-of_z}
+use Rattle.tx_dvitype.specs.Files.{counts_in}
 use Rattle.tx_dvitype.proofs.reader.counts_in.Goals as goal
 
 count-is : {r z : ℤ} → FitsSigned w32 r → r ≡ z → to_z w32 (of_z w32 r) ≡ z
