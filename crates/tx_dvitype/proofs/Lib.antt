@@ -5,3 +5,4 @@ mod ReadPages
 mod ReadFront
 mod ReadEnd
 mod ReadBack
+mod Refused

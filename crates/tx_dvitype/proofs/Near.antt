@@ -1,5 +1,5 @@
 -- Sums that no signed number of 64 bits is lie far from the corner of a page.
-use Rattle.std.proofs.Common.{◌≡◌, ◌<◌, ◌^◌, ℕ, suc, ◌&&◌, Bool, true, false, nat_le, ℤ, pos, negsuc, FitsSigned, w64, refl, arith}
+use Rattle.std.proofs.Common.{◌≡◌, ◌&&◌, Bool, true, false, ℤ, pos, negsuc, FitsSigned, w64, refl, arith}
 use Rattle.std.proofs.lemmas.Bool.Decides.{nat_tests}
 use Rattle.tx_dvitype.specs.Partial.{is_within}
 

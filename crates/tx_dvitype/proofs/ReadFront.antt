@@ -10,7 +10,7 @@ use Rattle.tx_dvitype.specs.declared.error.DviRule.TheVariants as element
 use Rattle.tx_dvitype.specs.declared.reader.ReadPage.{ReadPage}
 use Rattle.tx_dvitype.specs.declared.reader.Reader.{Reader}
 use Rattle.tx_dvi.specs.Dvi.{comment, day_and_time, four_bytes, preamble}
-use Rattle.tx_dvitype.specs.Files.{stands_at, preamble_start, is_mag, may_begin_preamble, is_preamble, behind_preamble, preamble_taken, may_begin_page, may_begin_post, place_bytes, behind_bop, at_post, page_taken, taken, going_on, rest_read, at_start}
+use Rattle.tx_dvitype.specs.Files.{stands_at, preamble_start, is_mag, may_begin_preamble, is_preamble, behind_preamble, preamble_taken, may_begin_page, may_begin_post, place_bytes, counts_in, behind_bop, at_post, page_taken, taken, going_on, rest_read, at_start}
 use Rattle.tx_dvi.specs.Meaning.{Reader as PageReader, page_start}
 use Rattle.tx_dvi.specs.Page.{Page}
 
@@ -179,7 +179,7 @@ module _ (mag q0 q1 q2 q3 : ℕ) (counts : List ℤ) (page : PageReader) (defini
     pub bop-goes : (place : ℕ) (rest : List ℕ) → FitsSigned w32 c0 → FitsSigned w32 c1 → FitsSigned w32 c2 → FitsSigned w32 c3 → FitsSigned w32 c4 → FitsSigned w32 c5 → FitsSigned w32 c6 → FitsSigned w32 c7 → FitsSigned w32 c8
         → FitsSigned w32 c9 → rest_read place (here []) (numbers (q0 ∷ q1 ∷ q2 ∷ q3 ∷ rest))
         ≡ rest_read (place + 45) (in_page mag (place_bytes place) (c0 ∷ c1 ∷ c2 ∷ c3 ∷ c4 ∷ c5 ∷ c6 ∷ c7 ∷ c8 ∷ c9 ∷ []) (page_start page.fonts.known) definitions pages) rest
-    unfolding four_bytes
+    unfolding four_bytes counts_in
     bop-goes place rest f0 f1 f2 f3 f4 f5 f6 f7 f8 f9 =
         let p : ℕ = ahead 41 place in
         let all : List ℕ = numbers (q0 ∷ q1 ∷ q2 ∷ q3 ∷ []) in

@@ -73,7 +73,7 @@ may_begin_page r byte =
 abbrev pub count_at : ℕ → List ℕ → ℤ
 count_at place bytes = cast_signed w32 (big_number 4 (drop place bytes))
 
-abbrev pub counts_in : List ℕ → List ℤ
+unfoldable pub counts_in : List ℕ → List ℤ
 counts_in bytes =
     count_at 1 bytes ∷ count_at 5 bytes ∷ count_at 9 bytes ∷ count_at 13 bytes ∷ count_at 17 bytes
     ∷ count_at 21 bytes ∷ count_at 25 bytes ∷ count_at 29 bytes ∷ count_at 33 bytes ∷ count_at 37 bytes ∷ []
@@ -105,10 +105,13 @@ unfoldable pub again_below : ℕ → List (List ℕ) → List ℕ
 again_below zero definitions = []
 again_below (suc number) definitions = all_bytes (numbered_as number definitions) ++ again_below number definitions
 
--- What stands in the postamble up to post_post: where the last page begins, the three numbers of the preamble, the greatest sizes and depth,
+-- What stands behind post up to post_post: where the last page begins, the three numbers of the preamble, the greatest sizes and depth,
 -- for which zeros stand here, the number of pages, and the definitions
+abbrev pub behind_post : Reader → List ℕ
+behind_post r = r.pointer ++ units r.mag ++ replicate 10 0 ++ two_bytes (length r.pages % 2 ^ 16) ++ again_below 256 r.definitions
+
 abbrev pub postamble : Reader → List ℕ
-postamble r = post ∷ r.pointer ++ units r.mag ++ replicate 10 0 ++ two_bytes (length r.pages % 2 ^ 16) ++ again_below 256 r.definitions
+postamble r = post ∷ behind_post r
 
 abbrev pub at_post : Reader → Reader
 at_post r = record r { element = Postamble; page = record r.page { begun = r.page.begun ++ post ∷ [] }; expected = postamble r }

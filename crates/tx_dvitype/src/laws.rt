@@ -1,12 +1,19 @@
-//! The theorems that what is read of a page of a DVI file is what its commands mean, and that an assembled file is read back.
-ghost use Rattle.std.specs.Prelude.{◌≡◌, ◌+◌, ◌<◌, ◌≤◌, ◌^◌, ◌∷◌, [], ℕ, List, Ok, length, sum_by};
+//! The theorems that no DVI file begins with what is refused, that what is read of a page of one is what its commands mean, and
+//! that an assembled file is read back.
+ghost use Rattle.std.specs.Prelude.{◌≡◌, ◌+◌, ◌<◌, ◌≤◌, ◌^◌, ◌∷◌, [], ℕ, suc, List, Ok, Err, length, sum_by, take};
 ghost use Rattle.tx_dvitype.specs.declared.reader.Reader.{Reader};
 ghost use Rattle.tx_dvi.specs.Dvi.{dvi, page_size, preamble};
-ghost use Rattle.tx_dvitype.specs.Files.{dvi_file};
+ghost use Rattle.tx_dvitype.specs.Files.{Broken, dvi_file};
 ghost use Rattle.tx_dvi.specs.Meaning.{Contents};
 ghost use Rattle.tx_dvi.specs.Page.{Page};
 ghost use Rattle.tx_dvitype.specs.ReadBack.{AreReadable, read_pages};
 ghost use Rattle.tx_dvitype.specs.ReadPages.{IsAtPage, IsReadOn, StayNear};
+
+/// Bytes that are refused before their end are refused there whatever stands behind the byte that is refused. This call does
+/// nothing: its contract is the theorem.
+pub fn no_file_begins_with_what_is_refused()
+    ensures { (bytes others : List ℕ) (broken : Broken) → dvi_file bytes ≡ Err broken → broken.place < length bytes → take (suc broken.place) others ≡ take (suc broken.place) bytes → dvi_file others ≡ Err broken }
+{}
 
 /// Commands that may stand on a page, none of which leads too far from its corner, mean something, and this is what is read of
 /// them, with the eop behind them, wherever in a file their page stands. This call does nothing: its contract is the theorem.

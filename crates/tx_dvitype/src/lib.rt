@@ -2,7 +2,8 @@
 //! file, each with its numbers and what is met on it.
 //!
 //! Proved: what is read of a file is its pages, or the place and the element at which it is refused, exactly as defined byte
-//! by byte; what is read of a page is what its commands mean; and a file that is assembled of pages is read back.
+//! by byte; a refusal depends on the bytes up to the one that is refused alone; what is read of a page is what its commands
+//! mean; and a file that is assembled of pages is read back.
 //!
 //! Read `error`, `movement`, `page_reader` and `reader`, then `laws`.
 #![tactic(auto)]
@@ -14,5 +15,8 @@ mod page_reader;
 mod reader;
 
 pub use error::{DviError, DviRule};
-pub use laws::{assembled_files_are_read_back, pages_are_read_by_their_meaning};
+pub use laws::{
+    assembled_files_are_read_back, no_file_begins_with_what_is_refused,
+    pages_are_read_by_their_meaning,
+};
 pub use reader::{ReadPage, Reader};

@@ -1,9 +1,9 @@
 //! The reader of a page (the DVI standard; TeX: The Program, sections 585 to 588), whose characters have no width.
-ghost use Rattle.std.specs.Prelude.{◌≡◌, ◌≤◌, ◌++◌, ◌∷◌, [], Some, IfOk, OnOk};
+ghost use Rattle.std.specs.Prelude.{◌≡◌, ◌==◌, ◌<◌, ◌≤◌, ◌++◌, ◌∷◌, [], Some, true, false, get_or, drop, IfOk, OnOk};
 ghost use Rattle.tx_dvi.specs.Meaning as spec;
 ghost use Rattle.tx_dvi.specs.Meaning.{definition_in};
 ghost use Rattle.tx_dvitype.specs.Partial as partial;
-ghost use Rattle.tx_dvitype.specs.Partial.{IsGone, gone, kept_near, no_widths, read_within};
+ghost use Rattle.tx_dvitype.specs.Partial.{IsGone, gone, is_whole, kept_near, no_widths, read_within};
 
 use crate::movement::{behind, is_near, may_move, moved, right_by, signed_at, unsigned_at};
 use std::alloc::{AllocError, Global};
@@ -348,14 +348,22 @@ impl PageReader {
     }
 
     /// A special is met.
-    fn note(&mut self, alloc: Global, bytes: &[u8]) -> Result<bool, AllocError>
-        ensures { IfOk result (λ goes. gone goes self.new ≡ kept_near (Some (spec.with_special bytes.now self.old))) }
+    fn meet_special(&mut self, alloc: Global, bytes: &[u8]) -> Result<(), AllocError>
+        ensures { OnOk result (self.new ≡ spec.with_special bytes.now self.old) }
     {
+        let text = Bytes::from_slice(alloc, bytes)?;
         self.met.push(Placed::Noted(PlacedSpecial {
             h: self.registers.h,
             v: self.registers.v,
-            text: Bytes::from_slice(alloc, bytes)?,
-        }))?;
+            text,
+        }))
+    }
+
+    /// A special is met. Answers whether the reader goes on.
+    fn note(&mut self, alloc: Global, bytes: &[u8]) -> Result<bool, AllocError>
+        ensures { IfOk result (λ goes. gone goes self.new ≡ kept_near (Some (spec.with_special bytes.now self.old))) }
+    {
+        self.meet_special(alloc, bytes)?;
         Ok(is_near(self.registers))
     }
 
@@ -375,22 +383,21 @@ impl PageReader {
         }
     }
 
-    /// A command is carried out. Answers whether the reader goes on.
+    /// A rule, nop, push, pop, a special or a movement is carried out. Answers whether the reader goes on.
     #[tactic(auto, unfolding(crate::specs::Partial::carried_near))]
-    fn carry_out(&mut self, alloc: Global, opcode: u8, bytes: &[u8]) -> Result<bool, AllocError>
+    fn carry_out_placing(
+        &mut self,
+        alloc: Global,
+        opcode: u8,
+        bytes: &[u8],
+    ) -> Result<bool, AllocError>
+        requires no_letter { 128 < opcode }
+        requires no_font { spec.is_font_number opcode ≡ false }
+        requires no_choice { (opcode == 235) ≡ false }
+        requires no_definition { (opcode == 243) ≡ false }
         ensures { IfOk result (λ goes. gone goes self.new ≡ partial.carried_near opcode bytes.now self.old) }
     {
-        if opcode < 128 {
-            self.set_character(opcode)
-        } else if is_font_number(opcode) {
-            Ok(self.choose(opcode - 171))
-        } else if opcode == 128 {
-            self.set_character(opcode_of(bytes))
-        } else if opcode == 235 {
-            Ok(self.choose(opcode_of(bytes)))
-        } else if opcode == 243 {
-            self.define(alloc, bytes)
-        } else if opcode == 132 {
+        if opcode == 132 {
             self.set_rule(signed_at(bytes, 4), signed_at(behind(bytes, 4), 4))
         } else if opcode == 137 {
             self.put_rule(signed_at(bytes, 4), signed_at(behind(bytes, 4), 4))
@@ -409,14 +416,56 @@ impl PageReader {
         }
     }
 
+    /// A command is carried out. Answers whether the reader goes on.
+    #[tactic(auto, unfolding(crate::specs::Partial::carried_near))]
+    fn carry_out(&mut self, alloc: Global, opcode: u8, bytes: &[u8]) -> Result<bool, AllocError>
+        ensures { IfOk result (λ goes. gone goes self.new ≡ partial.carried_near opcode bytes.now self.old) }
+    {
+        if opcode < 128 {
+            self.set_character(opcode)
+        } else if is_font_number(opcode) {
+            Ok(self.choose(opcode - 171))
+        } else if opcode == 128 {
+            self.set_character(opcode_of(bytes))
+        } else if opcode == 235 {
+            Ok(self.choose(opcode_of(bytes)))
+        } else if opcode == 243 {
+            self.define(alloc, bytes)
+        } else {
+            self.carry_out_placing(alloc, opcode, bytes)
+        }
+    }
+
+    /// Whether a command may begin with the bytes that are there.
+    fn may_go_on(&self) -> bool
+        ensures { result ≡ partial.may_begin (get_or self.now.begun 0 0) (drop 1 self.now.begun) self.now }
+    {
+        let bytes = self.begun.as_slice();
+        self.may_begin(opcode_of(bytes), behind(bytes, 1))
+    }
+
+    /// The command whose bytes are all there is carried out.
+    fn carry_out_begun(&mut self, alloc: Global) -> Result<Gone, AllocError>
+        requires { is_whole self.old.begun ≡ true }
+        ensures { IfOk result
+            (λ made. IsGone self.old.begun made self.new (partial.carried_near (get_or self.old.begun 0 0) (drop 1 self.old.begun) (record self.old { begun = [] }))) }
+    {
+        let command = mem::replace(&mut self.begun, Bytes::new(alloc));
+        let bytes = command.as_slice();
+        if self.carry_out(alloc, opcode_of(bytes), behind(bytes, 1))? {
+            Ok(Gone::Whole(command))
+        } else {
+            Ok(Gone::Nowhere)
+        }
+    }
+
     /// One byte more.
     #[tactic(auto, unfolding(crate::specs::Partial::read_within))]
     pub fn read(&mut self, alloc: Global, byte: u8) -> Result<Gone, AllocError>
         ensures { IfOk result (λ made. IsGone (self.old.begun ++ byte ∷ []) made self.new (read_within self.old byte)) }
     {
         self.begun.push(byte)?;
-        let opcode = opcode_of(self.begun.as_slice());
-        if !self.may_begin(opcode, behind(self.begun.as_slice(), 1)) {
+        if !self.may_go_on() {
             return Ok(Gone::Nowhere);
         }
         let Some(more) = wanted(self.begun.as_slice()) else {
@@ -429,11 +478,6 @@ impl PageReader {
                 Gone::Nowhere
             });
         }
-        let command = mem::replace(&mut self.begun, Bytes::new(alloc));
-        if self.carry_out(alloc, opcode, behind(command.as_slice(), 1))? {
-            Ok(Gone::Whole(command))
-        } else {
-            Ok(Gone::Nowhere)
-        }
+        self.carry_out_begun(alloc)
     }
 }

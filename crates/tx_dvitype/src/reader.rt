@@ -1,6 +1,7 @@
 //! The reader of DVI files (the DVI standard; TeX: The Program, sections 583 to 591): what `assemble` writes is read back, and
 //! so is each file of the same commands.
-ghost use Rattle.std.specs.Prelude.{◌≡◌, ◌+◌, ◌*◌, ◌≤◌, ◌++◌, length, Ok, IfOk, IfErr, OnOk};
+ghost use Rattle.std.specs.Prelude.{◌≡◌, ◌+◌, ◌*◌, ◌%◌, ◌≤◌, ◌∷◌, ◌++◌, length, Ok, IfOk, IfErr, OnOk};
+ghost use Rattle.tx_dvi.specs.Dvi.{format_number};
 ghost use Rattle.tx_dvitype.specs.Files as spec;
 ghost use Rattle.tx_dvitype.specs.Files.{IsCause};
 ghost use Rattle.tx_dvitype.specs.Partial.{gone};
@@ -117,6 +118,7 @@ fn count_at(bytes: &[u8], place: usize) -> i32
 }
 
 /// The ten numbers of bop.
+#[tactic(auto, unfolding(crate::specs::Files::counts_in))]
 fn counts_in(bytes: &[u8]) -> [i32; 10]
     requires { length bytes.now ≡ 45 }
     ensures { result ≡ spec.counts_in bytes.now }
@@ -185,15 +187,26 @@ fn append_fillers(file: &mut Bytes, size: usize) -> Result<(), AllocError>
     file.append(&[FILLER; 7][..count])
 }
 
+/// Appends what stands behind post_post, where post stands at `start` and the last byte before post_post at `place`.
+fn append_ending(file: &mut Bytes, place: usize, start: usize) -> Result<(), AllocError>
+    ensures { OnOk result
+        (file.new ≡ file.old ++ (spec.place_bytes start ++ format_number ∷ spec.fillers (place % 4 + 7))) }
+{
+    file.append(&place_bytes(start))?;
+    file.push(FORMAT_NUMBER)?;
+    append_fillers(file, place % 4 + 7)
+}
+
 /// What stands behind a postamble of so many bytes, the last of which has this place.
 fn ending(alloc: Global, place: usize, size: usize) -> Result<Bytes, AllocError>
     ensures { IfOk result (λ bytes. bytes ≡ spec.ending place size) }
 {
-    let start = place.saturating_sub(size.saturating_sub(1));
     let mut bytes = Bytes::from_slice(alloc, &[POST_POST])?;
-    bytes.append(&place_bytes(start))?;
-    bytes.push(FORMAT_NUMBER)?;
-    append_fillers(&mut bytes, place % 4 + 7)?;
+    append_ending(
+        &mut bytes,
+        place,
+        place.saturating_sub(size.saturating_sub(1)),
+    )?;
     Ok(bytes)
 }
 
@@ -252,16 +265,23 @@ impl Reader {
         self.page.begun().len() == 0 && (byte == POST && 0 < self.pages.len())
     }
 
+    /// Appends what must stand in the postamble behind post.
+    fn append_postamble(&self, bytes: &mut Bytes) -> Result<(), AllocError>
+        ensures { OnOk result (bytes.new ≡ bytes.old ++ spec.behind_post self.now) }
+    {
+        bytes.append(&self.pointer)?;
+        bytes.append(&units(self.mag))?;
+        bytes.append(&[0; 10])?;
+        bytes.append(&two_bytes((self.pages.len() % 65536) as u16))?;
+        append_again(bytes, self.definitions.as_slice())
+    }
+
     /// What must stand in the postamble.
     fn postamble(&self, alloc: Global) -> Result<Bytes, AllocError>
         ensures { IfOk result (λ bytes. bytes ≡ spec.postamble self.now) }
     {
         let mut bytes = Bytes::from_slice(alloc, &[POST])?;
-        bytes.append(&self.pointer)?;
-        bytes.append(&units(self.mag))?;
-        bytes.append(&[0; 10])?;
-        bytes.append(&two_bytes((self.pages.len() % 65536) as u16))?;
-        append_again(&mut bytes, self.definitions.as_slice())?;
+        self.append_postamble(&mut bytes)?;
         Ok(bytes)
     }
 
@@ -448,6 +468,15 @@ impl Reader {
         Ok(())
     }
 
+    /// The pages that are read of the bytes of a file, which are taken out. The reader stands before the first of them.
+    fn take_pages(&mut self, alloc: Global, bytes: &[u8]) -> Result<Items<ReadPage>, DviError>
+        ensures read { IfOk result (λ pages. spec.rest_read 0 self.old bytes.now ≡ Ok pages) }
+        ensures refused { IfErr result (IsCause (spec.rest_read 0 self.old bytes.now)) }
+    {
+        self.take_all(alloc, bytes)?;
+        Ok(mem::replace(&mut self.pages, Items::new(alloc)))
+    }
+
     /// The pages of a DVI file, in its order.
     ///
     /// `BadDvi` comes exactly where the bytes are no such file. Its place is how many of them begin one, and its rule that of
@@ -457,7 +486,6 @@ impl Reader {
         ensures refused { IfErr result (IsCause (spec.dvi_file bytes.now)) }
     {
         let mut reader = Reader::new(alloc);
-        reader.take_all(alloc, bytes)?;
-        Ok(mem::replace(&mut reader.pages, Items::new(alloc)))
+        reader.take_pages(alloc, bytes)
     }
 }

@@ -1,11 +1,12 @@
-use Rattle.std.proofs.Common.{rules, ◌≡◌, ℤ, List, [], ◌∷◌, ◌∙◌, w32, FitsSigned, to_z, of_z, to_z-of_z}
-use Rattle.tx_dvitype.specs.Files.{count_at}
+use Rattle.std.proofs.Common.{rules, ◌≡◌, ℤ, [], ◌∷◌, ◌∙◌, w32, FitsSigned, to_z, of_z, to_z-of_z}
+use Rattle.tx_dvitype.specs.Files.{counts_in}
 use Rattle.tx_dvitype.proofs.reader.counts_in.Goals as goal
 
 count-is : {r z : ℤ} → FitsSigned w32 r → r ≡ z → to_z w32 (of_z w32 r) ≡ z
 count-is fits is = to_z-of_z fits ∙ is
 
 pub returns : goal.returns
+unfolding counts_in
 returns c =
     let f0 : FitsSigned w32 c.count_at.result = search rules in
     let f1 : FitsSigned w32 c.count_at-2.result = search rules in
