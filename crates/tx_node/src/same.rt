@@ -128,10 +128,7 @@ fn same_plain(a: &Plain, b: &Plain) -> bool
         (Plain::Glue(x), Plain::Glue(y)) => same_glue(*x, *y),
         (Plain::Penalty(x), Plain::Penalty(y)) => *x == *y,
         (Plain::Character(x), Plain::Character(y)) => same_character(*x, *y),
-        (Plain::Kern(_, _), Plain::Glue(_) | Plain::Penalty(_) | Plain::Character(_))
-        | (Plain::Glue(_), Plain::Kern(_, _) | Plain::Penalty(_) | Plain::Character(_))
-        | (Plain::Penalty(_), Plain::Kern(_, _) | Plain::Glue(_) | Plain::Character(_))
-        | (Plain::Character(_), Plain::Kern(_, _) | Plain::Glue(_) | Plain::Penalty(_)) => false,
+        _ => false,
     }
 }
 
@@ -152,26 +149,7 @@ fn same_shared(a: &Shared, b: &Shared) -> bool
         (Shared::Special(a), Shared::Special(b)) => a.same(b),
         (Shared::Ligature(a), Shared::Ligature(b)) => same_ligature(a, b),
         (Shared::Mark(a), Shared::Mark(b)) => a.same(b),
-        (
-            Shared::Rule(_),
-            Shared::Leaders(_) | Shared::Special(_) | Shared::Ligature(_) | Shared::Mark(_),
-        )
-        | (
-            Shared::Leaders(_),
-            Shared::Rule(_) | Shared::Special(_) | Shared::Ligature(_) | Shared::Mark(_),
-        )
-        | (
-            Shared::Special(_),
-            Shared::Rule(_) | Shared::Leaders(_) | Shared::Ligature(_) | Shared::Mark(_),
-        )
-        | (
-            Shared::Ligature(_),
-            Shared::Rule(_) | Shared::Leaders(_) | Shared::Special(_) | Shared::Mark(_),
-        )
-        | (
-            Shared::Mark(_),
-            Shared::Rule(_) | Shared::Leaders(_) | Shared::Special(_) | Shared::Ligature(_),
-        ) => false,
+        _ => false,
     }
 }
 
@@ -205,54 +183,7 @@ pub fn same_node(a: &Node, b: &Node) -> bool
         (Node::Discretionary(a), Node::Discretionary(b)) => same_discretionary(a, b),
         (Node::Adjustment(a), Node::Adjustment(b)) => same_sublist(a, b),
         (Node::Insertion(a), Node::Insertion(b)) => same_insertion(a, b),
-        (
-            Node::Plain(_),
-            Node::Shared(_)
-            | Node::Box(_, _)
-            | Node::Discretionary(_)
-            | Node::Adjustment(_)
-            | Node::Insertion(_),
-        )
-        | (
-            Node::Shared(_),
-            Node::Plain(_)
-            | Node::Box(_, _)
-            | Node::Discretionary(_)
-            | Node::Adjustment(_)
-            | Node::Insertion(_),
-        )
-        | (
-            Node::Box(_, _),
-            Node::Plain(_)
-            | Node::Shared(_)
-            | Node::Discretionary(_)
-            | Node::Adjustment(_)
-            | Node::Insertion(_),
-        )
-        | (
-            Node::Discretionary(_),
-            Node::Plain(_)
-            | Node::Shared(_)
-            | Node::Box(_, _)
-            | Node::Adjustment(_)
-            | Node::Insertion(_),
-        )
-        | (
-            Node::Adjustment(_),
-            Node::Plain(_)
-            | Node::Shared(_)
-            | Node::Box(_, _)
-            | Node::Discretionary(_)
-            | Node::Insertion(_),
-        )
-        | (
-            Node::Insertion(_),
-            Node::Plain(_)
-            | Node::Shared(_)
-            | Node::Box(_, _)
-            | Node::Discretionary(_)
-            | Node::Adjustment(_),
-        ) => false,
+        _ => false,
     }
 }
 
