@@ -1,4 +1,4 @@
-use Rattle.std.proofs.Common.{◌≡◌, ◌≤◌, ◌-◌, ◌∙◌, ℕ, List, length, drop, rules, arith, ap, sym}
+use Rattle.std.proofs.Common.{◌≡◌, ◌≤◌, ◌-◌, ◌∙◌, ℕ, List, length, drop, rules, arith, ap}
 use Rattle.std.proofs.lemmas.Result.{on_ok_weaker}
 use Rattle.tx_node.specs.Items.{Item}
 use Rattle.tx_node.specs.Nodes.{list_of}
@@ -11,7 +11,7 @@ run_places-requires-clause-few c =
     let is : list_of c.as_slice.result.now ≡ c.args.items = search rules in
     let first : length (codes_between c.args.start c.args.word (list_of c.as_slice.result.now)) ≡ length (codes_between c.args.start c.args.word c.args.items) =
     ap (λ (items : List Item). length (codes_between c.args.start c.args.word items)) is in
-    let all : c.len.result ≡ length (codes_between c.args.start c.args.end c.args.items) = c.len.ensures ∙ ap length c.requires.codes in
+    let all : length c.args.codes.now ≡ length (codes_between c.args.start c.args.end c.args.items) = ap length c.requires.codes in
     let shorter : c.args.word - c.args.start ≤ c.args.end - c.args.start = omega (arith, c.requires.order, c.requires.behind) in
     let le : length (codes_between c.args.start c.args.word c.args.items) ≤ length (codes_between c.args.start c.args.end c.args.items) =
     fewer (drop c.args.start c.args.items) (c.args.word - c.args.start) (c.args.end - c.args.start) shorter in
@@ -21,7 +21,7 @@ pub returns : goal.returns
 returns c =
     let is : list_of c.as_slice.result.now ≡ c.args.items = search rules in
     let places : c.as_slice-2.result.now ≡ placed (length (codes_between c.args.start c.args.word c.args.items)) (length c.args.codes.now) c.args.places.now =
-    c.as_slice-2.ensures ∙ c.in_ok-places.ensures.value ∙ (λ i. placed (length (codes_between c.args.start c.args.word (is i))) (c.len.ensures i) c.args.places.now) in
+    c.as_slice-2.ensures ∙ c.in_ok-places.ensures.value ∙ (λ i. placed (length (codes_between c.args.start c.args.word (is i))) (length c.args.codes.now) c.args.places.now) in
     on_ok_weaker c.append_run.result
     (λ e. e ∙ ap (λ (ps : List ℕ). joined c.args.made.now (put_between c.args.start c.args.end c.args.items (run_made c.args.fonts.now c.args.font c.args.codes.now ps))) places)
     c.append_run.ensures
