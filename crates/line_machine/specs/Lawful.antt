@@ -1,9 +1,10 @@
 -- The machine keeps the laws of every machine.
 use Rattle.std.specs.Prelude.{◌≡◌, ℕ, Bool, true, false, cond, List, [], ◌∷◌, length, nat_le, ◌==◌, refl}
 use Rattle.std.proofs.Common.{arith}
-use Rattle.tx_machine.specs.declared.types.Reply.{Reply}
-use Rattle.tx_machine.specs.declared.types.Reply.TheVariants.{Found, Absent, Line, Ended, Whole, Closed}
-use Rattle.tx_machine.specs.Machine.{Stepped, IsLawful, Ready, mode_after}
+use Rattle.tx_event.specs.declared.types.Reply.{Reply}
+use Rattle.tx_event.specs.declared.types.Reply.TheVariants.{Found, Absent, Line, Ended, Whole, Closed}
+use Rattle.tx_event.specs.Turns.{Stepped, Ready, mode_after}
+use Rattle.tx_machine.specs.Machine.{IsLawful}
 use Rattle.line_machine.specs.declared.state.Phase.{Phase}
 use Rattle.line_machine.specs.declared.state.Phase.TheVariants.{Begins, Reads, Fails, Waits, Halted}
 use Rattle.tx_machine.specs.Same.{same-tells}

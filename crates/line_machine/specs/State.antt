@@ -1,6 +1,6 @@
 -- What the machine's state means: plain data.
 use Rattle.tx_dvi.specs.declared.page.DateParameters.{DateParameters}
-use Rattle.tx_machine.specs.Machine.{Mode, Ready, Awaits, Halted as Mode_halted}
+use Rattle.tx_event.specs.Turns.{Mode, Ready, Awaits, Halted as Mode_halted}
 use Rattle.line_machine.specs.declared.state.Phase.{Phase}
 use Rattle.line_machine.specs.declared.state.Phase.TheVariants.{Begins, Reads, Fails, Waits, Halted}
 use Rattle.line_machine.specs.declared.state.State.{State}

@@ -4,15 +4,16 @@ use Rattle.tx_dvi.specs.declared.page.DateParameters.{DateParameters}
 use Rattle.tx_dvi.specs.Page.{Page}
 use Rattle.tx_files.specs.Lines.{is_line_feed}
 use Rattle.tx_machine.specs.declared.types.Date.{Date}
-use Rattle.tx_machine.specs.declared.types.Ask.{Ask}
-use Rattle.tx_machine.specs.declared.types.Ask.TheVariants.{Open, Line as AskLine, Close}
-use Rattle.tx_machine.specs.declared.types.Reply.{Reply}
-use Rattle.tx_machine.specs.declared.types.Reply.TheVariants.{Found, Absent, Line, Ended, Whole, Closed}
-use Rattle.tx_machine.specs.declared.types.Event.{Event}
-use Rattle.tx_machine.specs.declared.types.Event.TheVariants.{Went, Asks, Shipped, Stopped}
-use Rattle.tx_machine.specs.declared.types.Stop.{Stop}
-use Rattle.tx_machine.specs.declared.types.Stop.TheVariants.{End, Error}
-use Rattle.tx_machine.specs.Machine.{Formatter, Stepped, kind_of}
+use Rattle.tx_event.specs.declared.types.Ask.{Ask}
+use Rattle.tx_event.specs.declared.types.Ask.TheVariants.{Open, Line as AskLine, Close}
+use Rattle.tx_event.specs.declared.types.Reply.{Reply}
+use Rattle.tx_event.specs.declared.types.Reply.TheVariants.{Found, Absent, Line, Ended, Whole, Closed}
+use Rattle.tx_event.specs.declared.types.Event.{Event}
+use Rattle.tx_event.specs.declared.types.Event.TheVariants.{Went, Asks, Shipped, Stopped}
+use Rattle.tx_event.specs.declared.types.Stop.{Stop}
+use Rattle.tx_event.specs.declared.types.Stop.TheVariants.{End, Error}
+use Rattle.tx_event.specs.Turns.{Stepped, kind_of}
+use Rattle.tx_machine.specs.Machine.{Formatter}
 use Rattle.line_machine.specs.declared.error.LineError.{LineError}
 use Rattle.line_machine.specs.declared.error.LineError.TheVariants.{TooLong, FileAbsent, NoEnd}
 use Rattle.line_machine.specs.declared.state.Phase.{Phase}

@@ -9,8 +9,9 @@ use crate::turn::{self, date_parameters, hear, pass_spaces};
 use std::alloc::{AllocError, Global};
 use std::mem;
 use tx_bytes::Bytes;
+use tx_event::{Event, Reply};
 use tx_files::Name;
-use tx_machine::{Date, Event, Machine, Passed, Reply, Steps};
+use tx_machine::{Date, Machine, Passed, Steps};
 
 /// The machine of which each line is a page. It asks for the main file to be opened and for its lines; spaces at a line's
 /// beginning are passed over, a turn each; a line that has bytes behind them and before its LF is a page with these as its body,

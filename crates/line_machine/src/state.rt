@@ -5,8 +5,8 @@ use crate::error::LineError;
 use std::alloc::AllocError;
 use tx_bytes::Bytes;
 use tx_dvi::DateParameters;
+use tx_event::AskKind;
 use tx_files::Name;
-use tx_machine::AskKind;
 
 /// What the next turn does, or what it waits for.
 #[derive(Drop)]

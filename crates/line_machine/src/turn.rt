@@ -1,10 +1,10 @@
 //! One turn: a space that is passed over, an ask, a page or the end.
 ghost use Rattle.std.specs.Prelude.{◌≡◌, ◌≤◌, ◌++◌, ◌∷◌, [], length, IfOk, OnOk, OnErr};
-ghost use Rattle.tx_machine.specs.Machine.{kind_of, Ready};
+ghost use Rattle.tx_event.specs.Turns.{kind_of, Ready};
 ghost use Rattle.tx_machine.specs.Plain.{ArePlain, HasPassed};
 ghost use Rattle.tx_machine.specs.Ranges.{IsDate};
 ghost use Rattle.tx_machine.specs.Steps.{raised};
-ghost use Rattle.tx_machine.specs.declared.types.Ask.TheVariants.{Open};
+ghost use Rattle.tx_event.specs.declared.types.Ask.TheVariants.{Open};
 ghost use Rattle.line_machine.specs.State.{meaning_of, mode_of};
 ghost use Rattle.line_machine.specs.Turns as turns;
 ghost use Rattle.line_machine.specs.Turns.{line_machine, HasSpaces, IsStepped};
@@ -15,8 +15,9 @@ use std::alloc::{AllocError, Global};
 use std::mem;
 use tx_bytes::Bytes;
 use tx_dvi::{DateParameters, PageBody, PageParts};
+use tx_event::{Ask, AskKind, Event, Reply, Stop};
 use tx_list::Items;
-use tx_machine::{Ask, AskKind, Date, Event, Reply, Steps, Stop};
+use tx_machine::{Date, Steps};
 
 /// The most bytes that the body of a page may have.
 const MAX_BODY: usize = 200000;

@@ -11,7 +11,7 @@ use std::alloc::{AllocError, Global};
 use tx_box::across;
 use tx_command::Head;
 use tx_eqtb::{Eqtb, GroupKind};
-use tx_machine::Event;
+use tx_event::Event;
 use tx_pack::PackParams;
 use tx_seen::TexError;
 use tx_state::{State, fail, leave_group, stand};

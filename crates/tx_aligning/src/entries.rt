@@ -14,7 +14,7 @@ use tx_align::AlignError;
 use tx_box::leading_of;
 use tx_command::Head;
 use tx_eqtb::GroupKind;
-use tx_machine::Event;
+use tx_event::Event;
 use tx_pending::ColumnPart;
 use tx_prim::EntryEnd;
 use tx_seen::TexError;

@@ -7,7 +7,7 @@ ghost use Rattle.tx_aligning.specs.Preambles as spec;
 
 use std::alloc::AllocError;
 use tx_align::AlignError;
-use tx_machine::Event;
+use tx_event::Event;
 use tx_prim::TokenParameter;
 use tx_seen::{Place, TexError};
 use tx_state::{State, fail};

@@ -14,8 +14,8 @@ use Rattle.tx_eqtb.specs.Stack.{closed}
 use Rattle.tx_eqtb.specs.Table.{tokens_at}
 use Rattle.tx_galley.specs.Ending.{ending_output as output_ended}
 use Rattle.tx_galley.specs.Exercising.{Exercised, exercising as exercising_pages}
-use Rattle.tx_machine.specs.declared.types.Event.{Event}
-use Rattle.tx_machine.specs.Machine.{Stepped}
+use Rattle.tx_event.specs.declared.types.Event.{Event}
+use Rattle.tx_event.specs.Turns.{Stepped}
 use Rattle.tx_boxing.specs.Building.{built, built_in, exercised, exercising, is_pages}
 use Rattle.tx_pending.specs.Elements.{Element, Given, Input, with_list, with_tokens}
 use Rattle.tx_prim.specs.declared.family.BoxKind.{BoxKind}

@@ -19,8 +19,8 @@ use tx_box::{
 };
 use tx_command::{BoxContext, BoxGoal};
 use tx_eqtb::GroupKind;
+use tx_event::Event;
 use tx_list::Stack;
-use tx_machine::Event;
 use tx_nest::{append_items, append_rule, has_last_box, is_bare_page, remove_item, set_prev_depth};
 use tx_node::{BoxNode, Nodes, Rule};
 use tx_output::LastItem;

@@ -9,7 +9,7 @@ use crate::boxes::carry;
 use std::alloc::{AllocError, Global};
 use tx_command::Head;
 use tx_eqtb::GroupKind;
-use tx_machine::Event;
+use tx_event::Event;
 use tx_prim::BreakText;
 use tx_shape::Opener;
 use tx_state::{State, fail, leave_group};

@@ -17,7 +17,7 @@ use crate::paragraphs::fail_by_paragraph;
 use std::alloc::{AllocError, Global};
 use tx_bytes::Bytes;
 use tx_eqtb::GroupKind;
-use tx_machine::Event;
+use tx_event::Event;
 use tx_paragraph::close_paragraph;
 use tx_seen::TexError;
 use tx_state::{State, fail, leave_group, stand_before_row};

@@ -9,7 +9,7 @@ ghost use Rattle.tx_galley.specs.Errors.{error_of};
 ghost use Rattle.tx_box.specs.Inserts.{left_vertical};
 ghost use Rattle.tx_state.specs.declared.parts.Phase.{Phase};
 ghost use Rattle.tx_state.specs.Meanings.{IsStepped, state_of};
-ghost use Rattle.tx_machine.specs.declared.types.Event.{Event};
+ghost use Rattle.tx_event.specs.declared.types.Event.{Event};
 ghost use Rattle.tx_state.specs.Outcomes.{Outcome, fails, leaves};
 ghost use Rattle.tx_boxing.specs.Building as building;
 ghost use Rattle.tx_boxing.specs.Boxes.{context_of as innermost_context};
@@ -22,11 +22,11 @@ use tx_box::{
 };
 use tx_command::Head;
 use tx_eqtb::GroupKind;
+use tx_event::Event;
 use tx_galley::{
     GalleyError, Next, add_end, end_output, exercise, is_done, set_quantity, split_box,
 };
 use tx_list::Stack;
-use tx_machine::Event;
 use tx_pack::Packed;
 use tx_pending::Next as Pending_next;
 use tx_prim::{Mode, PageQuantity};

@@ -17,10 +17,10 @@ use Rattle.tx_files.specs.declared.reads.Sight.TheVariants.{Opened, Whole as Who
 use Rattle.tx_files.specs.Edits.{spliced, edited, fits_in}
 use Rattle.tx_files.specs.Lines.{next_line_at}
 use Rattle.tx_files.specs.Reads.{extent_of, lies_before}
-use Rattle.tx_machine.specs.declared.types.Ask.{Ask}
-use Rattle.tx_machine.specs.declared.types.Ask.TheVariants.{Open, Line, Close, Whole}
+use Rattle.tx_event.specs.declared.types.Ask.{Ask}
+use Rattle.tx_event.specs.declared.types.Ask.TheVariants.{Open, Line, Close, Whole}
 use Rattle.tx_machine.specs.declared.types.OpenFile.{OpenFile}
-use Rattle.tx_machine.specs.declared.types.Reply.TheVariants.{Line as Told}
+use Rattle.tx_event.specs.declared.types.Reply.TheVariants.{Line as Told}
 use Rattle.tx_machine.specs.Notes.{notes_of, line_notes, line_sight, found_sight}
 use Rattle.tx_machine.specs.Opens.{bytes_of, innermost, moved_to, opening, reading_on, reading, whole, reply_to}
 use Rattle.tx_checkpoint.proofs.Lines.{SameLine, line_in_front}

@@ -7,7 +7,8 @@ use Rattle.tx_dvi.specs.declared.page.PageBody.{PageBody}
 use Rattle.tx_machine.specs.declared.types.Close.{Close}
 use Rattle.tx_machine.specs.declared.types.Close.TheVariants.{Page, Halt, Spent}
 use Rattle.tx_machine.specs.declared.types.OpenFile.{OpenFile}
-use Rattle.tx_machine.specs.Machine.{Formatter, IsLawful, Ready}
+use Rattle.tx_event.specs.Turns.{Ready}
+use Rattle.tx_machine.specs.Machine.{Formatter, IsLawful}
 use Rattle.tx_machine.specs.Run.{page_start}
 use Rattle.tx_machine.specs.Steps.{raised}
 use Rattle.tx_machine.specs.Turn.{Place, Progress, stretch}

@@ -8,8 +8,8 @@ use Rattle.tx_bytes.specs.Files.{Files, content}
 use Rattle.tx_files.specs.declared.edit.Change.TheVariants.{Remove}
 use Rattle.tx_files.specs.declared.reads.Sight.TheVariants.{Opened, Whole as WholeSeen}
 use Rattle.tx_files.specs.Lines.{next_line_at}
-use Rattle.tx_machine.specs.declared.types.Ask.{Ask}
-use Rattle.tx_machine.specs.declared.types.Ask.TheVariants.{Open, Line, Close, Whole}
+use Rattle.tx_event.specs.declared.types.Ask.{Ask}
+use Rattle.tx_event.specs.declared.types.Ask.TheVariants.{Open, Line, Close, Whole}
 use Rattle.tx_machine.specs.declared.types.OpenFile.{OpenFile}
 use Rattle.tx_machine.specs.Notes.{notes_of, line_notes, line_sight, found_sight}
 use Rattle.tx_machine.specs.Opens.{bytes_of, innermost, opening, reading_on, reading, whole}

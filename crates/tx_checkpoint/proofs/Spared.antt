@@ -5,7 +5,7 @@ use Rattle.tx_bytes.specs.Files.{Files}
 use Rattle.tx_files.specs.Changes.{fits, changed, all_fit, all_changed}
 use Rattle.tx_files.specs.declared.edit.Change.{Change}
 use Rattle.tx_files.specs.declared.edit.Change.TheVariants.{Edit, Remove}
-use Rattle.tx_machine.specs.declared.types.Ask.{Ask}
+use Rattle.tx_event.specs.declared.types.Ask.{Ask}
 use Rattle.tx_machine.specs.declared.types.OpenFile.{OpenFile}
 use Rattle.tx_machine.specs.Notes.{notes_of}
 use Rattle.tx_machine.specs.Opens.{bytes_of, innermost}

@@ -15,8 +15,8 @@ use Rattle.tx_machine.specs.declared.types.End.TheVariants.{Error, Budget}
 use Rattle.tx_machine.specs.declared.types.Date.{Date}
 use Rattle.tx_machine.specs.declared.types.Limits.{Limits}
 use Rattle.tx_machine.specs.declared.types.OpenFile.{OpenFile}
-use Rattle.tx_machine.specs.declared.types.Stop.{Stop}
-use Rattle.tx_machine.specs.declared.types.Stop.TheVariants.{End as StopEnd, Error as StopError}
+use Rattle.tx_event.specs.declared.types.Stop.{Stop}
+use Rattle.tx_event.specs.declared.types.Stop.TheVariants.{End as StopEnd, Error as StopError}
 use Rattle.tx_machine.specs.Machine.{Formatter}
 use Rattle.tx_machine.specs.Opens.{innermost}
 use Rattle.tx_machine.specs.Run.{run_from, closed_run, end_of, error_at, ended, page_start}

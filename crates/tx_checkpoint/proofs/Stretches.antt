@@ -4,8 +4,8 @@ use Rattle.tx_bytes.specs.Files.{Files}
 use Rattle.tx_files.specs.declared.edit.Change.{Change}
 use Rattle.tx_machine.specs.declared.types.Close.{Close}
 use Rattle.tx_machine.specs.declared.types.Close.TheVariants.{Spent}
-use Rattle.tx_machine.specs.declared.types.Event.{Event}
-use Rattle.tx_machine.specs.declared.types.Event.TheVariants.{Went, Asks, Shipped, Stopped}
+use Rattle.tx_event.specs.declared.types.Event.{Event}
+use Rattle.tx_event.specs.declared.types.Event.TheVariants.{Went, Asks, Shipped, Stopped}
 use Rattle.tx_machine.specs.declared.types.OpenFile.{OpenFile}
 use Rattle.tx_machine.specs.Machine.{Formatter}
 use Rattle.tx_machine.specs.Turn.{Place, Progress, replied, after_event, one_turn, joined, stretch, stretch_by}

@@ -11,8 +11,8 @@ use Rattle.tx_files.specs.declared.line.NextLine.{NextLine}
 use Rattle.tx_files.specs.declared.line.NextLine.TheVariants.{Line as LineTo, End as AtEnd}
 use Rattle.tx_files.specs.declared.reads.Sight.TheVariants.{Opened, Line as LineSeen, End as EndSeen}
 use Rattle.tx_files.specs.Lines.{next_line_at}
-use Rattle.tx_machine.specs.declared.types.Ask.{Ask}
-use Rattle.tx_machine.specs.declared.types.Ask.TheVariants.{Open, Line, Close as CloseIt, Whole}
+use Rattle.tx_event.specs.declared.types.Ask.{Ask}
+use Rattle.tx_event.specs.declared.types.Ask.TheVariants.{Open, Line, Close as CloseIt, Whole}
 use Rattle.tx_machine.specs.declared.types.OpenFile.{OpenFile}
 use Rattle.tx_machine.specs.Notes.{notes_of, line_notes, line_sight, found_sight}
 use Rattle.tx_machine.specs.Opens.{bytes_of, innermost, opening, reading_on, reading, whole, reply_to}

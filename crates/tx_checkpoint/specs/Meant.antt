@@ -3,7 +3,8 @@ use Rattle.std.specs.Prelude.{◌≡◌, ℕ, List, [], Some, map, unwrap_or}
 use Rattle.std.specs.List.{All}
 use Rattle.tx_bytes.specs.Files.{Files}
 use Rattle.tx_machine.specs.declared.types.Close.TheVariants.{Page, Spent}
-use Rattle.tx_machine.specs.Machine.{Formatter, Ready}
+use Rattle.tx_event.specs.Turns.{Ready}
+use Rattle.tx_machine.specs.Machine.{Formatter}
 use Rattle.tx_machine.specs.declared.spot.Spot.{Spot}
 use Rattle.tx_machine.specs.Turn.{Progress}
 use Rattle.tx_checkpoint.specs.Resume.{Begun}

@@ -11,7 +11,7 @@ use crate::kinds::place_of;
 use crate::noads::{add_noad, fill};
 use std::alloc::{AllocError, Global};
 use tx_char::{Cat, Token};
-use tx_machine::Event;
+use tx_event::Event;
 use tx_mlist::{Atom, Field, MathCharacter, Noad, kind_of, letter_of};
 use tx_prim::{AtomPart, CharacterCode, IntegerParameter};
 use tx_seen::{Place, TexError};

@@ -6,7 +6,7 @@ ghost use Rattle.tx_state.specs.Meanings.{IsStepped};
 ghost use Rattle.tx_state.specs.Outcomes.{fails};
 
 use std::alloc::AllocError;
-use tx_machine::Event;
+use tx_event::Event;
 use tx_math::MathError;
 use tx_mlist::MlistError;
 use tx_seen::TexError;

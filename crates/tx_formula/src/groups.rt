@@ -16,7 +16,7 @@ use std::alloc::{AllocError, Global};
 use tx_box::{append_noad, begin_formula};
 use tx_command::Head;
 use tx_eqtb::GroupKind;
-use tx_machine::Event;
+use tx_event::Event;
 use tx_mlist::{AtomKind, Field, InnerList, bare};
 use tx_prim::{AtomPart, MathStyle, Mode};
 use tx_shape::Opener;

@@ -10,8 +10,8 @@ ghost use Rattle.tx_state.specs.Meanings.{IsStepped, state_of};
 
 use std::alloc::{AllocError, Global};
 use tx_box::{OpenFormula, append_noad};
+use tx_event::Event;
 use tx_list::Stack;
-use tx_machine::Event;
 use tx_mlist::{Field, InnerList, Limits, Noad, Place};
 use tx_prim::MathStyle;
 use tx_state::State;

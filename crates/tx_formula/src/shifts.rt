@@ -18,7 +18,7 @@ use std::alloc::{AllocError, Global};
 use tx_box::Lists;
 use tx_command::Head;
 use tx_eqtb::{Entry, Eqtb, GroupKind};
-use tx_machine::Event;
+use tx_event::Event;
 use tx_math::{Formula, MathError, to_hlist};
 use tx_mlist::Mlist;
 use tx_nest::{ModeState, SpaceFactor, append_item, append_items, set_space_factor};

@@ -1,7 +1,7 @@
 -- What comes of a character of a horizontal list.
 use Rattle.std.proofs.Common.{◌≡◌, ◌++◌, ℕ, Bool, true, false, List, [], Option, None, Some, refl, ap, ◌∙◌, if◌then◌else◌}
 use Rattle.tx_hyphenate.specs.Lacking.{missing}
-use Rattle.tx_machine.specs.declared.types.Event.TheVariants.{Went}
+use Rattle.tx_event.specs.declared.types.Event.TheVariants.{Went}
 use Rattle.tx_tfm.specs.declared.state.FontState.{FontState}
 use Rattle.tx_tfm.specs.Fonts.{font_name, has_character}
 use Rattle.tx_word.specs.Collecting.{Collected, Collecting, collected, ended, font_of, joined, without_word}

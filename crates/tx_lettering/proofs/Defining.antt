@@ -5,7 +5,7 @@ use Rattle.tx_assign.specs.declared.types.Change.TheVariants.{Set}
 use Rattle.tx_command.specs.Commands.{prefixes_of}
 use Rattle.tx_command.specs.declared.types.Prefixes.{Prefixes}
 use Rattle.tx_eqtb.specs.declared.entry.Entry.TheVariants.{Means}
-use Rattle.tx_machine.specs.declared.types.Event.{Event}
+use Rattle.tx_event.specs.declared.types.Event.{Event}
 use Rattle.tx_prim.specs.declared.family.DefinitionKind.{DefinitionKind}
 use Rattle.tx_seen.specs.declared.meaning.Meaning.TheVariants.{Macro}
 use Rattle.tx_seen.specs.declared.place.Place.{Place}

@@ -1,6 +1,6 @@
 -- What comes of the file of a font.
 use Rattle.std.proofs.Common.{◌≡◌, ℕ, Bool, List, Option, None, Some, Result, Ok, Err, IfOk, refl, ap, if◌then◌else◌}
-use Rattle.tx_machine.specs.declared.types.Event.{Event}
+use Rattle.tx_event.specs.declared.types.Event.{Event}
 use Rattle.tx_assign.specs.Changes.{carried_out}
 use Rattle.tx_seen.specs.declared.error.TexError.TheVariants.{BadFont}
 use Rattle.tx_seen.specs.declared.meaning.Meaning.TheVariants.{Font}

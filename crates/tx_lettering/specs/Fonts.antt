@@ -19,7 +19,7 @@ use Rattle.tx_tfm.specs.declared.state.FontState.{FontState}
 use Rattle.tx_tfm.specs.Fonts.{found, loaded_state, with_font_identifier}
 use Rattle.tx_tfm.specs.Metrics.{metrics_of}
 use Rattle.tx_tfm.specs.Rules.{first_broken}
-use Rattle.tx_machine.specs.declared.types.Ask.TheVariants.{Whole}
+use Rattle.tx_event.specs.declared.types.Ask.TheVariants.{Whole}
 use Rattle.tx_shape.specs.Loading.{size_asked}
 use Rattle.tx_shape.specs.declared.types.AskedSize.{AskedSize}
 use Rattle.tx_command.specs.declared.types.Head.TheVariants.{Loading}

@@ -13,7 +13,7 @@ use tx_assign::{Assignment, Carried, Change};
 use tx_bytes::Bytes;
 use tx_command::{AskedSize, Head};
 use tx_eqtb::Entry;
-use tx_machine::{Ask, AskKind, Event};
+use tx_event::{Ask, AskKind, Event};
 use tx_prim::{FontNumber, IntegerParameter, MathSize, Primitive};
 use tx_seen::{FontName, Meaning, Place, TexError};
 use tx_state::{Due, FontRequest, State, ask, carry_out_assignment, end_assignment, fail};

@@ -11,8 +11,8 @@ ghost use Rattle.tx_state.specs.Meanings.{IsStepped, state_of};
 
 use std::alloc::{AllocError, Global};
 use tx_eqtb::Eqtb;
+use tx_event::Event;
 use tx_hyphenate::{report_lacking, report_missing};
-use tx_machine::Event;
 use tx_nest::{ModeState, SpaceFactor, append_item, set_space_factor};
 use tx_node::{KernKind, Node, Plain};
 use tx_prim::GlueParameter;

@@ -6,8 +6,9 @@ use Rattle.tx_files.specs.declared.reads.Note.{Note}
 use Rattle.tx_files.specs.Reads.{Reads, noted, noting}
 use Rattle.tx_machine.specs.declared.types.Close.{Close}
 use Rattle.tx_machine.specs.declared.types.Close.TheVariants.{Halt}
-use Rattle.tx_machine.specs.declared.types.Stop.{Stop}
-use Rattle.tx_machine.specs.Machine.{Formatter, IsLawful, Ready}
+use Rattle.tx_event.specs.declared.types.Stop.{Stop}
+use Rattle.tx_event.specs.Turns.{Ready}
+use Rattle.tx_machine.specs.Machine.{Formatter, IsLawful}
 use Rattle.tx_machine.specs.Counts.{Made, Closes, closing_turns}
 use Rattle.tx_machine.specs.Steps.{raised}
 use Rattle.tx_machine.specs.Turn.{Place, one_turn, joined, stretch}

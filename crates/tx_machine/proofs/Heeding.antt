@@ -3,15 +3,16 @@ use Rattle.std.proofs.Common.{◌≡◌, ℕ, suc, ◌+◌, ◌-◌, ◌<◌, �
 use Rattle.tx_bytes.specs.Files.{Files}
 use Rattle.tx_files.specs.Reads.{Reads, noting}
 use Rattle.tx_machine.specs.declared.turn.Taken.{Taken}
-use Rattle.tx_machine.specs.declared.types.Ask.{Ask}
+use Rattle.tx_event.specs.declared.types.Ask.{Ask}
 use Rattle.tx_machine.specs.declared.types.Close.{Close}
 use Rattle.tx_machine.specs.declared.types.Close.TheVariants.{Spent}
-use Rattle.tx_machine.specs.declared.types.Event.{Event}
-use Rattle.tx_machine.specs.declared.types.Event.TheVariants.{Went, Asks, Shipped, Stopped}
+use Rattle.tx_event.specs.declared.types.Event.{Event}
+use Rattle.tx_event.specs.declared.types.Event.TheVariants.{Went, Asks, Shipped, Stopped}
 use Rattle.tx_machine.specs.declared.types.OpenFile.{OpenFile}
 use Rattle.tx_machine.specs.declared.types.Passed.{Passed}
 use Rattle.tx_machine.specs.Counts.{AreTaken, HasCounted, IsAwaiting, IsHeeded, Made, Passes}
-use Rattle.tx_machine.specs.Machine.{Formatter, IsLawful, Ready, mode_after}
+use Rattle.tx_event.specs.Turns.{Ready, mode_after}
+use Rattle.tx_machine.specs.Machine.{Formatter, IsLawful}
 use Rattle.tx_machine.specs.Plain.{HasPassed, HasRunOn, IsLast, IsTaken, turns_of}
 use Rattle.tx_machine.specs.Steps.{raised}
 use Rattle.tx_machine.specs.Turn.{Place, Progress, after_event, came, one_turn}

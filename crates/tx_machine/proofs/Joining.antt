@@ -1,8 +1,8 @@
 -- Turns at one go behind turns at one go, and the turn behind them that is as plain as they are.
 use Rattle.std.proofs.Common.{◌≡◌, ℕ, zero, suc, ◌+◌, ◌≤◌, List, ◌++◌, [], length, Option, Some, None, sym, ap, ◌∙◌, subst, arith, append-nil, length-append}
 use Rattle.std.proofs.lemmas.List.{nil_from_length}
-use Rattle.tx_machine.specs.declared.types.Event.{Event}
-use Rattle.tx_machine.specs.declared.types.Event.TheVariants.{Went}
+use Rattle.tx_event.specs.declared.types.Event.{Event}
+use Rattle.tx_event.specs.declared.types.Event.TheVariants.{Went}
 use Rattle.tx_machine.specs.declared.types.Passed.{Passed}
 use Rattle.tx_machine.specs.Machine.{Formatter}
 use Rattle.tx_machine.specs.Plain.{ArePlain, HasPassed, HasRunOn, IsLast, IsPlain, IsTaken, last_turns, turns_of}

@@ -3,7 +3,8 @@ use Rattle.std.proofs.Common.{◌≡◌, ℕ, zero, suc, ◌+◌, ◌-◌, ◌<�
 use Rattle.tx_bytes.specs.Files.{Files}
 use Rattle.tx_files.specs.Reads.{Reads, noting}
 use Rattle.tx_machine.specs.Counts.{HasCounted, Passes}
-use Rattle.tx_machine.specs.Machine.{Formatter, IsLawful, Ready, mode_after}
+use Rattle.tx_event.specs.Turns.{Ready, mode_after}
+use Rattle.tx_machine.specs.Machine.{Formatter, IsLawful}
 use Rattle.tx_machine.specs.Plain.{ArePlain, IsPlain}
 use Rattle.tx_machine.specs.Steps.{raised}
 use Rattle.tx_machine.specs.Turn.{Place, Progress, one_turn, joined, stretch}

@@ -7,9 +7,10 @@ use Rattle.tx_machine.specs.declared.types.Close.TheVariants.{Page, Halt, Spent}
 use Rattle.tx_machine.specs.declared.types.End.{End as RunEnd}
 use Rattle.tx_machine.specs.declared.types.End.TheVariants.{PageLimit}
 use Rattle.tx_machine.specs.declared.types.OpenFile.{OpenFile}
-use Rattle.tx_machine.specs.declared.types.Stop.{Stop}
+use Rattle.tx_event.specs.declared.types.Stop.{Stop}
 use Rattle.tx_machine.specs.declared.spot.Closed.{Closed}
-use Rattle.tx_machine.specs.Machine.{Formatter, IsLawful, Ready}
+use Rattle.tx_event.specs.Turns.{Ready}
+use Rattle.tx_machine.specs.Machine.{Formatter, IsLawful}
 use Rattle.tx_machine.specs.Counts.{Closes}
 use Rattle.tx_machine.specs.Steps.{raised}
 use Rattle.tx_machine.specs.Turn.{Place, Progress, stretch}

@@ -6,17 +6,18 @@ use Rattle.tx_bytes.specs.Files.{Files, content}
 use Rattle.tx_files.specs.Lines.{next_line_at}
 use Rattle.tx_files.specs.declared.line.NextLine.{NextLine}
 use Rattle.tx_files.specs.declared.line.NextLine.TheVariants.{Line as LineTo, End as AtEnd}
-use Rattle.tx_machine.specs.declared.types.Ask.{Ask}
-use Rattle.tx_machine.specs.declared.types.Ask.TheVariants.{Open, Line, Close as CloseIt, Whole}
-use Rattle.tx_machine.specs.declared.types.Stop.{Stop}
+use Rattle.tx_event.specs.declared.types.Ask.{Ask}
+use Rattle.tx_event.specs.declared.types.Ask.TheVariants.{Open, Line, Close as CloseIt, Whole}
+use Rattle.tx_event.specs.declared.types.Stop.{Stop}
 use Rattle.tx_dvi.specs.declared.page.PageBody.{PageBody}
 use Rattle.tx_machine.specs.declared.types.Close.{Close}
 use Rattle.tx_machine.specs.declared.types.Close.TheVariants.{Spent, Page, Halt}
-use Rattle.tx_machine.specs.declared.types.Event.{Event}
-use Rattle.tx_machine.specs.declared.types.Event.TheVariants.{Went, Asks, Shipped, Stopped}
+use Rattle.tx_event.specs.declared.types.Event.{Event}
+use Rattle.tx_event.specs.declared.types.Event.TheVariants.{Went, Asks, Shipped, Stopped}
 use Rattle.tx_machine.specs.declared.types.OpenFile.{OpenFile}
 use Rattle.tx_machine.specs.Counts.{closing_turns}
-use Rattle.tx_machine.specs.Machine.{Formatter, IsLawful, Ready, mode_after, kind_of, fits}
+use Rattle.tx_event.specs.Turns.{Ready, mode_after, kind_of, fits}
+use Rattle.tx_machine.specs.Machine.{Formatter, IsLawful}
 use Rattle.tx_machine.specs.Plain.{IsPlain}
 use Rattle.tx_machine.specs.Opens.{reply_to, opening, reading, reading_on, whole, innermost, bytes_of}
 use Rattle.tx_machine.specs.Turn.{Place, Progress, one_turn, after_event, joined, stretch, stretch_by}

@@ -3,13 +3,14 @@ use Rattle.std.specs.Prelude.{◌≡◌, ℕ, ◌+◌, ◌≤◌, List, ◌++◌
 use Rattle.tx_bytes.specs.Files.{Files}
 use Rattle.tx_files.specs.Reads.{Reads, noting}
 use Rattle.tx_machine.specs.declared.turn.Taken.{Taken}
-use Rattle.tx_machine.specs.declared.types.Ask.{Ask}
-use Rattle.tx_machine.specs.declared.types.Event.{Event}
-use Rattle.tx_machine.specs.declared.types.Event.TheVariants.{Asks}
+use Rattle.tx_event.specs.declared.types.Ask.{Ask}
+use Rattle.tx_event.specs.declared.types.Event.{Event}
+use Rattle.tx_event.specs.declared.types.Event.TheVariants.{Asks}
 use Rattle.tx_machine.specs.declared.types.Close.{Close}
 use Rattle.tx_machine.specs.declared.types.Close.TheVariants.{Page, Halt, Spent}
 use Rattle.tx_machine.specs.declared.spot.Closed.{Closed}
-use Rattle.tx_machine.specs.Machine.{Formatter, Awaits, kind_of}
+use Rattle.tx_event.specs.Turns.{Awaits, kind_of}
+use Rattle.tx_machine.specs.Machine.{Formatter}
 use Rattle.tx_machine.specs.Plain.{ArePlain}
 use Rattle.tx_machine.specs.Steps.{raised}
 use Rattle.tx_machine.specs.Turn.{Place, Progress, one_turn}

@@ -8,8 +8,8 @@ use Rattle.tx_files.specs.declared.reads.Note.{Note}
 use Rattle.tx_files.specs.declared.reads.Sight.{Sight}
 use Rattle.tx_files.specs.declared.reads.Sight.TheVariants.{Absent, Opened, Line as LineSeen, End as EndSeen, Whole as WholeSeen}
 use Rattle.tx_machine.specs.declared.types.OpenFile.{OpenFile}
-use Rattle.tx_machine.specs.declared.types.Ask.{Ask}
-use Rattle.tx_machine.specs.declared.types.Ask.TheVariants.{Open, Line as AskLine, Close, Whole as AskWhole}
+use Rattle.tx_event.specs.declared.types.Ask.{Ask}
+use Rattle.tx_event.specs.declared.types.Ask.TheVariants.{Open, Line as AskLine, Close, Whole as AskWhole}
 use Rattle.tx_machine.specs.Opens.{bytes_of, innermost}
 
 -- a line with its LF shows the bytes up to its end; no line, or one without LF, shows where the file ends

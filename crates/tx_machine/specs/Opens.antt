@@ -5,10 +5,10 @@ use Rattle.tx_files.specs.Lines.{next_line_at}
 use Rattle.tx_files.specs.declared.line.NextLine.{NextLine}
 use Rattle.tx_files.specs.declared.line.NextLine.TheVariants.{Line as LineTo, End as AtEnd}
 use Rattle.tx_machine.specs.declared.types.OpenFile.{OpenFile}
-use Rattle.tx_machine.specs.declared.types.Ask.{Ask}
-use Rattle.tx_machine.specs.declared.types.Ask.TheVariants.{Open, Line as AskLine, Close, Whole as AskWhole}
-use Rattle.tx_machine.specs.declared.types.Reply.{Reply}
-use Rattle.tx_machine.specs.declared.types.Reply.TheVariants.{Found, Absent, Line, Ended, Whole, Closed}
+use Rattle.tx_event.specs.declared.types.Ask.{Ask}
+use Rattle.tx_event.specs.declared.types.Ask.TheVariants.{Open, Line as AskLine, Close, Whole as AskWhole}
+use Rattle.tx_event.specs.declared.types.Reply.{Reply}
+use Rattle.tx_event.specs.declared.types.Reply.TheVariants.{Found, Absent, Line, Ended, Whole, Closed}
 
 -- a reply, and the files that are open after it
 pub record Answered : Type 0 where

@@ -6,8 +6,8 @@ use Rattle.tx_machine.specs.declared.types.Date.{Date}
 use Rattle.tx_machine.specs.declared.types.Limits.{Limits}
 use Rattle.tx_machine.specs.declared.types.OpenFile.{OpenFile}
 use Rattle.tx_machine.specs.declared.types.Ran.{Ran}
-use Rattle.tx_machine.specs.declared.types.Stop.{Stop}
-use Rattle.tx_machine.specs.declared.types.Stop.TheVariants.{End as StopEnd, Error as StopError}
+use Rattle.tx_event.specs.declared.types.Stop.{Stop}
+use Rattle.tx_event.specs.declared.types.Stop.TheVariants.{End as StopEnd, Error as StopError}
 use Rattle.tx_machine.specs.declared.types.End.{End as RunEnd}
 use Rattle.tx_machine.specs.declared.types.End.TheVariants.{End, Error, Budget, PageLimit}
 use Rattle.tx_machine.specs.Machine.{Formatter}

@@ -22,6 +22,5 @@ pub use lists::{Opens, Pages, Pieces};
 pub use machine::Machine;
 pub use run::fresh_run;
 pub use steps::{CountsTurns, Steps};
-pub use types::{
-    Ask, AskKind, Close, Date, End, Event, Limits, OpenFile, Passed, Ran, Reply, Stop,
-};
+pub use tx_event::{Ask, AskKind, Event, Reply, Stop};
+pub use types::{Close, Date, End, Limits, OpenFile, Passed, Ran};

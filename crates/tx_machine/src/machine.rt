@@ -1,15 +1,17 @@
 //! The machine, as a trait: what it asks, what it answers, and which laws it keeps.
 ghost use Rattle.std.specs.Prelude.{◌≡◌, ◌≤◌, ◌↔◌, ℕ, List, [], ◌++◌, true, IsTrue, IfOk, OnOk, OnErr};
-ghost use Rattle.tx_machine.specs.declared.types.AskKind.{AskKind};
-ghost use Rattle.tx_machine.specs.Machine.{Formatter, IsLawful, Ready, Awaits, fits};
+ghost use Rattle.tx_event.specs.declared.types.AskKind.{AskKind};
+ghost use Rattle.tx_event.specs.Turns.{Ready, Awaits, fits};
+ghost use Rattle.tx_machine.specs.Machine.{Formatter, IsLawful};
 ghost use Rattle.tx_machine.specs.Plain.{HasPassed, HasRunOn, turns_of};
 ghost use Rattle.tx_machine.specs.Ranges.{IsDate};
 ghost use Rattle.tx_machine.specs.Steps.{raised};
 
 use crate::steps::Steps;
-use crate::types::{Date, Event, Passed, Reply};
+use crate::types::{Date, Passed};
 use std::alloc::{AllocError, Global};
 use tx_bytes::Bytes;
+use tx_event::{Event, Reply};
 use tx_files::Name;
 
 /// A machine that takes turns. What it does is the pure `formatter` on the meanings of its states; the bytes that the

@@ -6,9 +6,10 @@ ghost use Rattle.tx_machine.specs.Notes.{line_notes, notes_of};
 ghost use Rattle.tx_machine.specs.Opens.{bytes_of, reply_to, reading, innermost};
 
 use crate::lists::Opens;
-use crate::types::{Ask, OpenFile, Reply};
+use crate::types::OpenFile;
 use std::alloc::{AllocError, Global};
 use tx_bytes::Bytes;
+use tx_event::{Ask, Reply};
 use tx_files::{FileSet, NextLine, Seen, Sight, next_line};
 
 /// The bytes of a file, none where it is absent.

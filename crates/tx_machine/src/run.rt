@@ -1,7 +1,7 @@
 //! The fresh run: a document from its start to its end, with no checkpoint and no reuse.
 ghost use Rattle.std.specs.Prelude.{◌≡◌, ◌≤◌, ◌+◌, ◌*◌, [], length, take, IfOk, OnOk};
 ghost use Rattle.tx_files.specs.Lines.{line_count};
-ghost use Rattle.tx_machine.specs.Machine.{Ready};
+ghost use Rattle.tx_event.specs.Turns.{Ready};
 ghost use Rattle.tx_machine.specs.Opens.{bytes_of};
 ghost use Rattle.tx_machine.specs.Ranges.{IsDate, AreLimits};
 ghost use Rattle.tx_machine.specs.Run.{run, run_from, end_of};
@@ -13,9 +13,10 @@ use crate::opens::bytes_of;
 use crate::spot::{Closed, Spot};
 use crate::steps::Steps;
 use crate::turn::format_page;
-use crate::types::{Close, Date, End, Limits, OpenFile, Ran, Stop};
+use crate::types::{Close, Date, End, Limits, OpenFile, Ran};
 use std::alloc::{AllocError, Global};
 use tx_bytes::Bytes;
+use tx_event::Stop;
 use tx_files::{FileSet, Name, Seen, line_count};
 
 /// How many lines the bytes of an open file before its offset make up.

@@ -1,7 +1,7 @@
 //! The turns of a page within its budget, one by one or many at one go.
 ghost use Rattle.std.specs.Prelude.{◌≡◌, ◌≤◌, [], IfOk, OnOk, OnErr};
 ghost use Rattle.tx_files.specs.Reads.{noting};
-ghost use Rattle.tx_machine.specs.Machine.{Ready};
+ghost use Rattle.tx_event.specs.Turns.{Ready};
 ghost use Rattle.tx_machine.specs.Counts.{AreTaken, Closes, HasCounted, IsAwaiting, IsHeeded, Made, closing_turns};
 ghost use Rattle.tx_machine.specs.Steps.{raised};
 ghost use Rattle.tx_machine.specs.Turn.{came, one_turn, place_of, stretch};
@@ -10,9 +10,10 @@ use crate::machine::Machine;
 use crate::opens::reply;
 use crate::spot::{Closed, Spot};
 use crate::steps::Steps;
-use crate::types::{Close, Event, Passed};
+use crate::types::{Close, Passed};
 use std::alloc::{AllocError, Global};
 use tx_bytes::Bytes;
+use tx_event::Event;
 use tx_files::{FileSet, Seen};
 
 /// What turns at one go came to, with one behind them.

@@ -8,7 +8,7 @@ use Rattle.tx_command.specs.Commands.{is_preamble, prefixes_of}
 use Rattle.tx_command.specs.declared.types.Command.TheVariants.{Assign}
 use Rattle.tx_command.specs.declared.types.Prefixes.{Prefixes}
 use Rattle.tx_lettering.specs.Texts.{in_list}
-use Rattle.tx_machine.specs.declared.types.Event.{Event}
+use Rattle.tx_event.specs.declared.types.Event.{Event}
 use Rattle.tx_state.specs.declared.state.State.{State}
 use Rattle.tx_state.specs.Meanings.{IsStepped, state_of}
 use Rattle.tx_state.specs.Outcomes.{Outcome, leaves}

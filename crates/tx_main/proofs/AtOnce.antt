@@ -1,7 +1,7 @@
 -- What comes of a token that is a command by itself.
 use Rattle.std.proofs.Common.{◌≡◌, ◌++◌, List, [], ◌∷◌, Result, Ok, Err, IfOk, ap, sym, ◌∙◌}
 use Rattle.tx_expand.specs.Values.{value_now}
-use Rattle.tx_machine.specs.declared.types.Event.{Event}
+use Rattle.tx_event.specs.declared.types.Event.{Event}
 use Rattle.tx_scan.specs.Supplied.{supplied, unless_needed, value_for}
 use Rattle.tx_seen.specs.declared.item.Item.{Item}
 use Rattle.tx_seen.specs.declared.item.Item.TheVariants.{Took, Gave}

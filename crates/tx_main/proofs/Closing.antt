@@ -1,8 +1,8 @@
 -- What comes of the end of the innermost file.
 use Rattle.std.proofs.Common.{◌≡◌, Bool, Option, None, Some, ap, sym, ◌∙◌}
 use Rattle.tx_expand.specs.Turns.{file_ended}
-use Rattle.tx_machine.specs.declared.types.Ask.TheVariants.{Close}
-use Rattle.tx_machine.specs.declared.types.Event.{Event}
+use Rattle.tx_event.specs.declared.types.Ask.TheVariants.{Close}
+use Rattle.tx_event.specs.declared.types.Event.{Event}
 use Rattle.tx_seen.specs.declared.error.TexError.{TexError}
 use Rattle.tx_state.specs.declared.state.State.{State}
 use Rattle.tx_state.specs.Meanings.{IsStepped}

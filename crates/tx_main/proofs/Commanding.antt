@@ -5,8 +5,8 @@ use Rattle.tx_expand.specs.declared.state.Expander.{Expander}
 use Rattle.tx_expand.specs.Expanding.{reader}
 use Rattle.tx_lex.specs.declared.types.PlainToken.{PlainToken}
 use Rattle.tx_lex.specs.Plain.{category_of, code_of, state_behind}
-use Rattle.tx_machine.specs.declared.types.Event.{Event}
-use Rattle.tx_machine.specs.declared.types.Event.TheVariants.{Went}
+use Rattle.tx_event.specs.declared.types.Event.{Event}
+use Rattle.tx_event.specs.declared.types.Event.TheVariants.{Went}
 use Rattle.tx_machine.specs.Plain.{IsPlain, IsTaken}
 use Rattle.tx_pending.specs.Elements.{Input}
 use Rattle.tx_pending.specs.Plain.{behind_first}

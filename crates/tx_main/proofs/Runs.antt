@@ -1,9 +1,9 @@
 -- Turns at one go, of characters and of other tokens, one behind the other.
 use Rattle.std.proofs.Common.{◌≡◌, ℕ, suc, ◌+◌, [], length, None, Some, refl, ap, ◌∙◌, subst, arith}
-use Rattle.tx_machine.specs.declared.types.Event.{Event}
-use Rattle.tx_machine.specs.declared.types.Event.TheVariants.{Went}
+use Rattle.tx_event.specs.declared.types.Event.{Event}
+use Rattle.tx_event.specs.declared.types.Event.TheVariants.{Went}
 use Rattle.tx_machine.specs.declared.types.Passed.{Passed}
-use Rattle.tx_machine.specs.Machine.{Ready}
+use Rattle.tx_event.specs.Turns.{Ready}
 use Rattle.tx_machine.specs.Plain.{ArePlain, HasRunOn, IsTaken, turns_of}
 use Rattle.tx_machine.specs.Steps.{raised}
 use Rattle.tx_machine.proofs.Going.{raised-raised}

@@ -1,6 +1,6 @@
 -- What comes of a token by what the open command answers.
 use Rattle.std.proofs.Common.{◌≡◌, ℕ, ℤ, List, [], Option, Result, Ok, Err, IfOk, refl, ap, subst}
-use Rattle.tx_machine.specs.declared.types.Event.{Event}
+use Rattle.tx_event.specs.declared.types.Event.{Event}
 use Rattle.tx_pending.specs.Elements.{Input, given_back}
 use Rattle.tx_expand.specs.Values.{Lent, value_now}
 use Rattle.tx_expand.specs.Turns.{put_back}

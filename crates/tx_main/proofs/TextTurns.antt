@@ -1,7 +1,7 @@
 -- What comes of a token that joins the open text, by what that answers.
 use Rattle.std.proofs.Common.{◌≡◌, ℕ, Bool, true, false, Option, None, Some, is_some, Result, Ok, Err, IfOk, cond, refl, ap, sym, ◌∙◌, append-nil, arith}
-use Rattle.tx_machine.specs.declared.types.Event.{Event}
-use Rattle.tx_machine.specs.declared.types.Event.TheVariants.{Went}
+use Rattle.tx_event.specs.declared.types.Event.{Event}
+use Rattle.tx_event.specs.declared.types.Event.TheVariants.{Went}
 use Rattle.tx_seen.specs.declared.error.TexError.{TexError}
 use Rattle.tx_seen.specs.declared.fed.Fed.{Fed}
 use Rattle.tx_seen.specs.declared.fed.Fed.TheVariants as fed

@@ -7,7 +7,7 @@ use Rattle.tx_expand.specs.Expanding.{reader_of, world_of}
 use Rattle.tx_expand.specs.Reader.{Reader, Turn, Goes, Fails}
 use Rattle.tx_expand.specs.Turns.{magnification_taken, turn, IsTurned}
 use Rattle.tx_expand.specs.Values.{Lent}
-use Rattle.tx_machine.specs.declared.types.Event.{Event}
+use Rattle.tx_event.specs.declared.types.Event.{Event}
 use Rattle.tx_pending.specs.Elements.{Input}
 use Rattle.tx_prim.specs.declared.modes.Mode.{Mode}
 use Rattle.tx_seen.specs.Magnified.{noted}

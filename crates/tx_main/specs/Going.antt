@@ -3,7 +3,7 @@
 use Rattle.std.specs.Prelude.{◌≡◌, ℕ, Bool, true, false, [], Option, Some, None}
 use Rattle.tx_command.specs.Commands.{is_begun}
 use Rattle.tx_lex.specs.declared.types.PlainToken.{PlainToken}
-use Rattle.tx_machine.specs.declared.types.Event.{Event}
+use Rattle.tx_event.specs.declared.types.Event.{Event}
 use Rattle.tx_machine.specs.Plain.{ArePlain, IsPlain, IsTaken}
 use Rattle.tx_machine.specs.Steps.{raised}
 use Rattle.tx_pending.specs.Plain.{IsNext}

@@ -1,9 +1,10 @@
 -- TeX keeps the laws of every machine.
 use Rattle.std.specs.Prelude.{◌≡◌, ◌≤◌, List, [], ◌∷◌, refl}
 use Rattle.std.proofs.Common.{arith}
-use Rattle.tx_machine.specs.declared.types.AskKind.{AskKind}
-use Rattle.tx_machine.specs.declared.types.Reply.{Reply}
-use Rattle.tx_machine.specs.Machine.{Stepped, IsLawful, Ready, Awaits, mode_after}
+use Rattle.tx_event.specs.declared.types.AskKind.{AskKind}
+use Rattle.tx_event.specs.declared.types.Reply.{Reply}
+use Rattle.tx_event.specs.Turns.{Stepped, Ready, Awaits, mode_after}
+use Rattle.tx_machine.specs.Machine.{IsLawful}
 use Rattle.tx_state.specs.declared.parts.Due.{Due}
 use Rattle.tx_state.specs.declared.parts.Due.TheVariants.{OpenMain, FileAbsent, FileEnded, MainClosed, LoadFont, Boxes}
 use Rattle.tx_box.specs.declared.parts.Work.TheVariants.{Build, Copy, CopyList, Ship, ShipPage}

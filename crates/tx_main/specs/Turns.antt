@@ -7,12 +7,13 @@ use Rattle.tx_seen.specs.declared.seen.Seen.{Seen}
 use Rattle.tx_seen.specs.declared.fed.Want.{Want}
 use Rattle.tx_seen.specs.declared.fed.Want.TheVariants.{Expanded}
 use Rattle.tx_lex.specs.Line.{seen_line}
-use Rattle.tx_machine.specs.declared.types.AskKind.{AskKind}
-use Rattle.tx_machine.specs.declared.types.AskKind.TheVariants.{Open as Opening, Line as ReadingOn, Close as Closing, Whole as Taking_whole}
-use Rattle.tx_machine.specs.declared.types.Ask.TheVariants.{Open, Line, Close}
-use Rattle.tx_machine.specs.declared.types.Reply.{Reply}
-use Rattle.tx_machine.specs.declared.types.Reply.TheVariants.{Found, Absent, Line as ReplyLine, Ended, Whole as ReplyWhole, Closed}
-use Rattle.tx_machine.specs.Machine.{Formatter, Stepped}
+use Rattle.tx_event.specs.declared.types.AskKind.{AskKind}
+use Rattle.tx_event.specs.declared.types.AskKind.TheVariants.{Open as Opening, Line as ReadingOn, Close as Closing, Whole as Taking_whole}
+use Rattle.tx_event.specs.declared.types.Ask.TheVariants.{Open, Line, Close}
+use Rattle.tx_event.specs.declared.types.Reply.{Reply}
+use Rattle.tx_event.specs.declared.types.Reply.TheVariants.{Found, Absent, Line as ReplyLine, Ended, Whole as ReplyWhole, Closed}
+use Rattle.tx_event.specs.Turns.{Stepped}
+use Rattle.tx_machine.specs.Machine.{Formatter}
 use Rattle.tx_seen.specs.declared.error.TexError.{TexError}
 use Rattle.tx_seen.specs.declared.error.TexError.TheVariants.{FileAbsent, NoEnd, UnbalancedOutput}
 use Rattle.tx_state.specs.declared.parts.Due.{Due}

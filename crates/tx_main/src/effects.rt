@@ -20,6 +20,7 @@ use tx_boxing::{
 use tx_char::Token;
 use tx_command::{AtOnce, Command, Head, Prefixes, SizeUse};
 use tx_eqtb::GroupKind;
+use tx_event::Event;
 use tx_formula::{
     add_noad, begin_atom, begin_choice, begin_script, divide, end_choice, end_part, open_formula,
     set_limits, set_number, shift, style_of, thickness_of,
@@ -28,7 +29,6 @@ use tx_lettering::{
     begin_list, begin_text, break_word, collect, control_space, correct_italic, define_font,
     define_macro, factor_now, find_font, set_dimension, set_factor, set_family, set_integer, space,
 };
-use tx_machine::Event;
 use tx_mlist::{Noad, PlainNoad};
 use tx_nest::append_item;
 use tx_node::{KernKind, Leaders, Node, Plain, Rule, Shared};

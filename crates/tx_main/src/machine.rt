@@ -15,11 +15,12 @@ use std::alloc::{AllocError, Global};
 use std::mem;
 use tx_bytes::Bytes;
 use tx_eqtb::Eqtb;
+use tx_event::{Event, Reply};
 use tx_expand::Expander;
 use tx_files::Name;
 use tx_hyphenate::Hyphenation;
 use tx_list::{Stack, both};
-use tx_machine::{Date, Event, Machine, Passed, Reply, Steps};
+use tx_machine::{Date, Machine, Passed, Steps};
 use tx_state::{Due, State, same_state, share_state};
 use tx_tfm::Fonts;
 use tx_word::Words;
@@ -29,7 +30,7 @@ fn first_due(alloc: Global, main: &Name) -> Result<Stack<Due>, AllocError>
     ensures { IfOk result (λ due. due ≡ OpenMain main.now ∷ []) }
 {
     let mut due = Stack::new(alloc);
-    due.push(Due::OpenMain(main.clone()?))?;
+    due.push(Due::OpenMain(main.clone()?.into_bytes()))?;
     Ok(due)
 }
 

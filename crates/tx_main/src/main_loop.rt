@@ -5,7 +5,7 @@
 //! as long as nothing of these ends; and a command that is begun, such as the number of an assignment, up to the one behind which
 //! it is whole.
 ghost use Rattle.std.specs.Prelude.{◌≡◌, ◌<◌, ◌≤◌, ◌∷◌, [], true, None, Some, length, IsTrue, IfOk, IfSome, OnOk, OnErr};
-ghost use Rattle.tx_machine.specs.Machine.{Ready};
+ghost use Rattle.tx_event.specs.Turns.{Ready};
 ghost use Rattle.tx_machine.specs.Plain.{HasPassed, HasRunOn, IsLast, last_turns, turns_of};
 ghost use Rattle.tx_machine.specs.Steps.{raised};
 ghost use Rattle.tx_node.specs.Items.{plain};
@@ -25,9 +25,10 @@ use crate::going::Going;
 use crate::turn::{feed_on, read};
 use std::alloc::{AllocError, Global};
 use tx_char::Token;
+use tx_event::Event;
 use tx_lettering::{current_font, end_word, factor_now, pass_factor, word_params};
 use tx_lex::{PlainToken, ReadState};
-use tx_machine::{Event, Passed, Steps};
+use tx_machine::{Passed, Steps};
 use tx_nest::{SpaceFactor, append_item};
 use tx_node::{Node, Plain};
 use tx_num::Glue;

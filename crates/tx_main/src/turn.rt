@@ -1,7 +1,7 @@
 //! One turn: due work, the ask for a line, or one token and its expansion (TeX: The Program, sections 1030, 343, 360 and 366).
 ghost use Rattle.tx_seen.specs.Magnified.{noted};
 ghost use Rattle.std.specs.Prelude.{◌≡◌, ◌≢◌, [], true, is_some, IfOk, OnOk};
-ghost use Rattle.tx_machine.specs.Machine.{Ready};
+ghost use Rattle.tx_event.specs.Turns.{Ready};
 ghost use Rattle.tx_state.specs.State.{Runs, mode_of};
 ghost use Rattle.tx_state.specs.Texts.{IsTextAnswered};
 ghost use Rattle.tx_main.specs.Going.{IsFed};
@@ -16,11 +16,11 @@ use tx_aligning::end_entry;
 use tx_boxing::work_boxes;
 use tx_bytes::Bytes;
 use tx_command::Taken;
+use tx_event::{Ask, AskKind, Event, Reply};
 use tx_expand::{Expanded, Known, Wanted, part_end};
 use tx_lettering::{end_text, end_word, load_font, relax_name, settle_word, with_file};
 use tx_lex::line_text;
 use tx_list::Stack;
-use tx_machine::{Ask, AskKind, Event, Reply};
 use tx_pending::ColumnPart;
 use tx_seen::{Fed, Seen, TexError, Want};
 use tx_state::{Due, OpenText, Phase, State, ask, fail};
@@ -300,7 +300,7 @@ fn work(alloc: Global, s: &mut State, due: Due) -> Result<Event, AllocError>
     ensures { IfOk result (λ event. IsStepped (turns.works (state_of s.old) due) s.old event s.new) }
 {
     match due {
-        Due::OpenMain(name) => Ok(ask(s, AskKind::Open, Ask::Open(name.into_bytes()))),
+        Due::OpenMain(name) => Ok(ask(s, AskKind::Open, Ask::Open(name))),
         Due::FileAbsent => Ok(fail(s, TexError::FileAbsent)),
         Due::FileEnded => Ok(close(s)),
         Due::MainClosed => Ok(fail(s, TexError::NoEnd)),

@@ -7,12 +7,12 @@ use Rattle.tx_files.specs.declared.reads.Note.{Note}
 use Rattle.tx_files.specs.declared.reads.Sight.{Sight}
 use Rattle.tx_files.specs.declared.reads.Sight.TheVariants.{Line as LineSeen, End as EndSeen, Opened, Whole as WholeSeen}
 use Rattle.tx_files.specs.Reads.{is_asked}
-use Rattle.tx_machine.specs.declared.types.Ask.{Ask}
-use Rattle.tx_machine.specs.declared.types.Ask.TheVariants.{Open, Line, Close as CloseIt, Whole}
+use Rattle.tx_event.specs.declared.types.Ask.{Ask}
+use Rattle.tx_event.specs.declared.types.Ask.TheVariants.{Open, Line, Close as CloseIt, Whole}
 use Rattle.tx_machine.specs.declared.types.Close.{Close}
 use Rattle.tx_machine.specs.declared.types.Close.TheVariants.{Spent}
-use Rattle.tx_machine.specs.declared.types.Event.{Event}
-use Rattle.tx_machine.specs.declared.types.Event.TheVariants.{Went, Asks, Shipped, Stopped}
+use Rattle.tx_event.specs.declared.types.Event.{Event}
+use Rattle.tx_event.specs.declared.types.Event.TheVariants.{Went, Asks, Shipped, Stopped}
 use Rattle.tx_machine.specs.declared.types.OpenFile.{OpenFile}
 use Rattle.tx_machine.specs.Machine.{Formatter}
 use Rattle.tx_machine.specs.Notes.{notes_of, line_notes, found_sight}

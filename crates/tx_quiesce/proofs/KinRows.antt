@@ -9,8 +9,8 @@ use Rattle.tx_machine.specs.declared.types.Close.{Close}
 use Rattle.tx_machine.specs.declared.types.Close.TheVariants.{Page, Halt, Spent}
 use Rattle.tx_machine.specs.declared.types.End.TheVariants.{Error}
 use Rattle.tx_machine.specs.declared.types.OpenFile.{OpenFile}
-use Rattle.tx_machine.specs.declared.types.Stop.{Stop}
-use Rattle.tx_machine.specs.declared.types.Stop.TheVariants.{End as StopEnd, Error as StopError}
+use Rattle.tx_event.specs.declared.types.Stop.{Stop}
+use Rattle.tx_event.specs.declared.types.Stop.TheVariants.{End as StopEnd, Error as StopError}
 use Rattle.tx_machine.specs.Machine.{Formatter}
 use Rattle.tx_machine.specs.Opens.{innermost}
 use Rattle.tx_machine.specs.Run.{page_start, end_of, error_at}

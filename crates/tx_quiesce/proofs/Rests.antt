@@ -10,7 +10,7 @@ use Rattle.tx_files.specs.declared.reads.Note.{Note}
 use Rattle.tx_files.specs.declared.reads.Sight.{Sight}
 use Rattle.tx_files.specs.declared.reads.Sight.TheVariants.{Line as LineSeen, End as EndSeen}
 use Rattle.tx_machine.specs.declared.types.OpenFile.{OpenFile}
-use Rattle.tx_machine.specs.declared.types.Reply.TheVariants.{Line, Ended}
+use Rattle.tx_event.specs.declared.types.Reply.TheVariants.{Line, Ended}
 use Rattle.tx_machine.specs.Notes.{line_notes, line_sight}
 use Rattle.tx_machine.specs.Opens.{Answered, bytes_of, moved_to, reading, reading_on}
 

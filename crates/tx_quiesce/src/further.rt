@@ -15,10 +15,11 @@ use crate::front::last_at_limit;
 use crate::moving::relocate_opens;
 use std::alloc::{AllocError, Global};
 use tx_checkpoint::{Last, Row, Rows, format_rows};
+use tx_event::Stop;
 use tx_files::{Change, FileSet};
 use tx_machine::run::end_of;
 use tx_machine::spot::Spot;
-use tx_machine::{End, Machine, Opens, Steps, Stop};
+use tx_machine::{End, Machine, Opens, Steps};
 
 /// What comes behind the pages that are reused.
 #[derive(Drop)]

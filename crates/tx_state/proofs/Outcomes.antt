@@ -1,6 +1,6 @@
 -- Outcomes that are the same.
 use Rattle.std.proofs.Common.{◌≡◌, Result, Ok, Err, IfOk, sym}
-use Rattle.tx_machine.specs.declared.types.Event.{Event}
+use Rattle.tx_event.specs.declared.types.Event.{Event}
 use Rattle.tx_state.specs.declared.state.State.{State}
 use Rattle.tx_state.specs.Meanings.{IsStepped}
 use Rattle.tx_state.specs.Outcomes.{Outcome}

@@ -13,8 +13,8 @@ use Rattle.tx_eqtb.specs.declared.eqtb.Eqtb.{Eqtb}
 use Rattle.tx_eqtb.specs.contracts.eqtb.Eqtb as eqtb
 use Rattle.tx_lex.specs.declared.types.ReadState.{ReadState}
 use Rattle.tx_lex.specs.contracts.types.ReadState as read_state
-use Rattle.tx_machine.specs.declared.types.AskKind.{AskKind}
-use Rattle.tx_machine.specs.contracts.types.AskKind as ask_kind
+use Rattle.tx_event.specs.declared.types.AskKind.{AskKind}
+use Rattle.tx_event.specs.contracts.types.AskKind as ask_kind
 use Rattle.tx_prim.specs.declared.modes.Mode.{Mode}
 use Rattle.tx_prim.specs.contracts.modes.Mode as mode
 use Rattle.tx_box.specs.declared.parts.Lists.{Lists}

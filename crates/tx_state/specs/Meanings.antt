@@ -1,6 +1,6 @@
 -- What the code's state means.
 use Rattle.std.specs.Prelude.{◌≡◌, ◌++◌}
-use Rattle.tx_machine.specs.declared.types.Event.{Event}
+use Rattle.tx_event.specs.declared.types.Event.{Event}
 use Rattle.tx_expand.specs.Expanding.{reader_of}
 use Rattle.tx_state.specs.declared.state.State.{State}
 use Rattle.tx_state.specs.Outcomes.{Outcome, stepped}

@@ -1,10 +1,10 @@
 -- What comes of a turn (TeX: The Program, section 1030), as the machine tells it to the outside.
 use Rattle.std.specs.Prelude.{ℕ, List, []}
 use Rattle.tx_dvi.specs.Page.{Page}
-use Rattle.tx_machine.specs.declared.types.Ask.{Ask}
-use Rattle.tx_machine.specs.declared.types.Event.TheVariants.{Went, Asks as Event_asks, Shipped, Stopped}
-use Rattle.tx_machine.specs.declared.types.Stop.TheVariants.{End, Error}
-use Rattle.tx_machine.specs.Machine.{Stepped, kind_of}
+use Rattle.tx_event.specs.declared.types.Ask.{Ask}
+use Rattle.tx_event.specs.declared.types.Event.TheVariants.{Went, Asks as Event_asks, Shipped, Stopped}
+use Rattle.tx_event.specs.declared.types.Stop.TheVariants.{End, Error}
+use Rattle.tx_event.specs.Turns.{Stepped, kind_of}
 use Rattle.tx_seen.specs.declared.error.TexError.{TexError}
 use Rattle.tx_seen.specs.Errors.{number_of}
 use Rattle.tx_state.specs.State.{TexState, Meaning, Runs, Waits, Stops}

@@ -2,8 +2,8 @@
 use Rattle.std.specs.Prelude.{ℕ, ℤ, List, Option}
 use Rattle.tx_char.specs.declared.tokens.Token.{Token}
 use Rattle.tx_eqtb.specs.declared.eqtb.Eqtb.{Eqtb}
-use Rattle.tx_machine.specs.declared.types.AskKind.{AskKind}
-use Rattle.tx_machine.specs.Machine.{Mode as Machine_mode, Ready, Awaits, Halted as Machine_halted}
+use Rattle.tx_event.specs.declared.types.AskKind.{AskKind}
+use Rattle.tx_event.specs.Turns.{Mode as Machine_mode, Ready, Awaits, Halted as Machine_halted}
 use Rattle.tx_box.specs.declared.parts.Lists.{Lists}
 use Rattle.tx_expand.specs.Reader.{Reader}
 use Rattle.tx_prim.specs.declared.modes.Mode.{Mode}

@@ -1,7 +1,7 @@
 //! How a turn ends: it fails, asks, ends the run, ends an assignment, or appends an item.
 ghost use Rattle.std.specs.Prelude.{◌≡◌, IfOk, OnOk};
 ghost use Rattle.tx_assign.specs.Changes.{carried_out};
-ghost use Rattle.tx_machine.specs.Machine.{kind_of};
+ghost use Rattle.tx_event.specs.Turns.{kind_of};
 ghost use Rattle.tx_node.specs.Nodes.{item_of};
 ghost use Rattle.tx_state.specs.Ended as spec;
 ghost use Rattle.tx_state.specs.Meanings.{IsStepped, state_of};
@@ -12,7 +12,7 @@ use crate::state::State;
 use std::alloc::AllocError;
 use std::mem;
 use tx_assign::{Assignment, Carried};
-use tx_machine::{Ask, AskKind, Event, Stop};
+use tx_event::{Ask, AskKind, Event, Stop};
 use tx_nest::append_item;
 use tx_node::Node;
 use tx_seen::TexError;

@@ -13,8 +13,8 @@ use crate::state::State;
 use std::alloc::AllocError;
 use tx_char::Token;
 use tx_eqtb::{GroupKind, OpenError};
+use tx_event::Event;
 use tx_list::Stack;
-use tx_machine::Event;
 use tx_pending::Pending;
 use tx_seen::TexError;
 

@@ -21,7 +21,7 @@ impl Kept for Due {
 
     fn same(&self, other: &Self) -> bool {
         match (self, other) {
-            (Due::OpenMain(one), Due::OpenMain(other)) => one.as_slice() == other.as_slice(),
+            (Due::OpenMain(one), Due::OpenMain(other)) => one.same(other),
             (Due::FileAbsent, Due::FileAbsent) => true,
             (Due::FileEnded, Due::FileEnded) => true,
             (Due::MainClosed, Due::MainClosed) => true,

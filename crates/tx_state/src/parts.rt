@@ -2,8 +2,7 @@
 use tx_box::Work;
 use tx_bytes::Bytes;
 use tx_char::Token;
-use tx_files::Name;
-use tx_machine::AskKind;
+use tx_event::AskKind;
 use tx_prim::{DefinitionKind, TextUse};
 use tx_seen::Place;
 use tx_text::{DefinitionScan, TextScan};
@@ -12,8 +11,8 @@ use tx_tfm::Size;
 /// A piece of work that comes before reading.
 #[derive(Drop)]
 pub enum Due {
-    /// To ask for the main file.
-    OpenMain(Name),
+    /// To ask for the main file, by its name.
+    OpenMain(Bytes),
     /// The main file, or that of \input, is absent.
     FileAbsent,
     /// The innermost file has no further line and is to be closed.

@@ -3,7 +3,7 @@ use Rattle.tx_box.specs.declared.parts.Lists.{Lists}
 use Rattle.tx_boxing.specs.Boxes.{carrying}
 use Rattle.tx_boxing.specs.Building.{exercising, is_pages}
 use Rattle.tx_boxing.specs.Paragraphs.{beginning_paragraph, indenting, indenting_so, with_every_par}
-use Rattle.tx_machine.specs.declared.types.Event.{Event}
+use Rattle.tx_event.specs.declared.types.Event.{Event}
 use Rattle.tx_nest.specs.declared.list.ModeList.{ModeList}
 use Rattle.tx_nest.specs.States.{mode_of}
 use Rattle.tx_paragraph.specs.Beginning.{begins_paragraph, indented}

@@ -1,5 +1,5 @@
 use Rattle.std.proofs.Common.{ap, ◌∙◌}
-use Rattle.tx_machine.specs.Machine.{kind_of, fits}
+use Rattle.tx_event.specs.Turns.{kind_of, fits}
 use Rattle.tx_machine.proofs.Stretch.{fits-reply_to}
 use Rattle.tx_machine.proofs.turn.heed.Goals as goal
 

@@ -1,4 +1,4 @@
-use Rattle.tx_machine.specs.declared.types.Ask.TheVariants.{Close}
+use Rattle.tx_event.specs.declared.types.Ask.TheVariants.{Close}
 use Rattle.tx_state.specs.Meanings.{state_of}
 use Rattle.tx_state.specs.Outcomes.{Asks, fails}
 use Rattle.tx_main.specs.Turns.{closes}

@@ -7,7 +7,7 @@ use Rattle.tx_command.specs.declared.types.Head.TheVariants.{Fresh}
 use Rattle.tx_expand.specs.declared.types.Expanded.TheVariants as answer
 use Rattle.tx_expand.specs.Turns.{frozen}
 use Rattle.tx_lettering.specs.Words.{before_token}
-use Rattle.tx_machine.specs.declared.types.Event.{Event}
+use Rattle.tx_event.specs.declared.types.Event.{Event}
 use Rattle.tx_pending.specs.declared.next.ColumnPart.TheVariants.{V}
 use Rattle.tx_pending.specs.Elements.{Input, with_part_end}
 use Rattle.tx_seen.specs.declared.seen.Seen.{Seen}
