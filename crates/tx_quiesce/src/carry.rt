@@ -11,6 +11,7 @@ use crate::later::{Later, Part};
 use crate::moving::{relocate_last, relocate_part};
 use crate::splice::{reserve_for, reuse_items};
 use std::alloc::{AllocError, Global};
+use std::mem;
 use tx_checkpoint::Rows;
 use tx_files::Change;
 use tx_machine::End;
@@ -74,9 +75,17 @@ fn reuse_part<S: Drop>(
     ensures ok { OnOk result (AreSpliced changes.now rows.old kept front from count more rows.new) }
     ensures err { OnErr result (AreSame rows.old rows.new) }
 {
-    reserve_part(rows, &front, &more)?;
-    place_part(rows, kept, front, from, count, more, changes);
-    Ok(())
+    match reserve_part(rows, &front, &more) {
+        Ok(()) => {
+            place_part(rows, kept, front, from, count, more, changes);
+            Ok(())
+        }
+        Err(error) => {
+            drop(front);
+            drop(more);
+            Err(error)
+        }
+    }
 }
 
 /// Makes changes in the rows where more pages come further, or none, with the stretch after them.
@@ -107,9 +116,16 @@ fn reuse_going<S: Drop>(
         pieces,
         rows: more,
     };
-    reuse_part(rows, kept, front, from, count, part, changes)?;
-    rows.last = last;
-    Ok(())
+    match reuse_part(rows, kept, front, from, count, part, changes) {
+        Ok(()) => {
+            drop(mem::replace(&mut rows.last, last));
+            Ok(())
+        }
+        Err(error) => {
+            drop(last);
+            Err(error)
+        }
+    }
 }
 
 /// Makes changes in the rows where the old last stretch stands, with this end.
@@ -136,10 +152,17 @@ fn reuse_standing<S: Drop>(
         pieces: Vec::new(alloc),
         rows: Vec::new(alloc),
     };
-    reuse_part(rows, kept, front, from, count, part, changes)?;
-    relocate_last(&mut rows.last, changes);
-    rows.last.end = end;
-    Ok(())
+    match reuse_part(rows, kept, front, from, count, part, changes) {
+        Ok(()) => {
+            relocate_last(&mut rows.last, changes);
+            drop(mem::replace(&mut rows.last.end, end));
+            Ok(())
+        }
+        Err(error) => {
+            drop(end);
+            Err(error)
+        }
+    }
 }
 
 /// Makes changes in the rows: keeps the first ones, and puts behind them what comes later. All room is reserved before anything

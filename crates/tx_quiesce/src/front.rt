@@ -37,6 +37,14 @@ pub struct Front<S> {
     pub stopped: Stopped,
 }
 
+/// Puts an item behind others. Its only error is want of memory.
+fn push_item<T: Drop>(items: &mut Vec<T>, item: T) -> Result<(), AllocError>
+    ensures { OnOk result (items.new.items ≡ items.old.items ++ item ∷ []) }
+{
+    items.push(item)?;
+    Ok(())
+}
+
 impl<S> Front<S> {
     /// No page; takes no memory.
     fn new(alloc: Global) -> Front<S>
@@ -58,10 +66,23 @@ impl<S> Front<S> {
         ensures pieces { OnOk result (self.new.pieces.items ≡ self.old.pieces.items ++ piece ∷ []) }
         ensures rows { OnOk result (self.new.rows.items ≡ self.old.rows.items ++ row ∷ []) }
     {
-        self.pages.push(body)?;
-        self.pieces.push(piece)?;
-        self.rows.push(row)?;
-        Ok(())
+        // Each is handed on before it is looked at whether there was room, so that no way out has anything to drop.
+        let pages = push_item(&mut self.pages, body);
+        let pieces = push_item(&mut self.pieces, piece);
+        let rows = push_item(&mut self.rows, row);
+        pages?;
+        pieces?;
+        rows
+    }
+
+    /// Says why no more pages were formatted.
+    fn stop(&mut self, stopped: Stopped)
+        ensures pages { self.new.pages.items ≡ self.old.pages.items }
+        ensures pieces { self.new.pieces.items ≡ self.old.pieces.items }
+        ensures rows { self.new.rows.items ≡ self.old.rows.items }
+        ensures stopped { self.new.stopped ≡ stopped }
+    {
+        drop(mem::replace(&mut self.stopped, stopped));
     }
 }
 
@@ -140,18 +161,18 @@ fn format_front<M: Machine>(
                     alloc, machine, old, changes, resumed, offsets, front, body, piece, row,
                 )?;
                 if let Some(number) = met {
-                    front.stopped = Stopped::Met(number);
+                    front.stop(Stopped::Met(number));
                     return Ok(());
                 }
             }
             Formatted::Over(last) => {
-                front.stopped = Stopped::Over(last);
+                front.stop(Stopped::Over(last));
                 return Ok(());
             }
         }
     }
     let opens = mem::replace(&mut spot.opens, Opens::new(alloc));
-    front.stopped = Stopped::Over(last_at_limit(alloc, opens));
+    front.stop(Stopped::Over(last_at_limit(alloc, opens)));
     Ok(())
 }
 
@@ -195,6 +216,11 @@ pub fn format_until_met<M: Machine>(
     );
     drop(spot);
     drop(offsets);
-    formatted?;
-    Ok(front)
+    match formatted {
+        Ok(()) => Ok(front),
+        Err(error) => {
+            drop(front);
+            Err(error)
+        }
+    }
 }

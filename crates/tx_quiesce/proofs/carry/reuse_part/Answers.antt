@@ -35,5 +35,5 @@ pub place_part-requires-clause-can : goal.place_part-requires-clause-can
 place_part-requires-clause-can g c =
     subst (λ (rows : List (Row g.row.S.Denot)). All (CanCarryRow c.args.changes.now) (take c.args.count (drop c.args.from rows))) (sym c.reserve_part.ensures.same.rows_are) c.requires.can
 
-pub returns-clause-ok : goal.returns-clause-ok
-returns-clause-ok g c = same-spliced c.reserve_part.ensures.same c.place_part.ensures
+pub returns-in-Ok-clause-ok : goal.returns-in-Ok-clause-ok
+returns-in-Ok-clause-ok g c = same-spliced c.reserve_part.ensures.same c.place_part.ensures

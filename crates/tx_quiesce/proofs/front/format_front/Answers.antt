@@ -1,9 +1,9 @@
-use Rattle.std.proofs.Common.{◌≡◌, ℕ, ◌+◌, ◌-◌, ◌≤◌, suc, sym, ap, subst, arith, rules, map, length, refl}
+use Rattle.std.proofs.Common.{◌≡◌, ◌∙◌, ℕ, ◌+◌, ◌-◌, ◌≤◌, suc, sym, ap, subst, arith, rules, map, length}
 use Rattle.tx_machine.specs.Run.{page_start}
 use Rattle.tx_machine.specs.Turn.{Progress, stretch}
 use Rattle.tx_checkpoint.specs.Meant.{AreIdle, row_meant, rows_meant}
 use Rattle.tx_checkpoint.proofs.Keeping.{keeping-begins, page-idle, idle-push}
-use Rattle.tx_quiesce.specs.declared.front.Stopped.TheVariants.{Over, Met}
+use Rattle.tx_quiesce.specs.declared.front.Stopped.TheVariants.{Over}
 use Rattle.tx_quiesce.specs.Meeting.{first_meeting}
 use Rattle.tx_quiesce.proofs.Untils.{until-bound, stops-met, stops-over, stops-limit, goes-on, none-so_far}
 use Rattle.tx_quiesce.proofs.front.format_front.Goals as goal
@@ -46,33 +46,33 @@ returns-in-Over-clause-bound g c =
 pub returns-in-Some-clause-reaches : goal.returns-in-Some-clause-reaches
 returns-in-Some-clause-reaches g c =
     (stops-met g.M.Machine.meaning c.args.changes.now (rows_meant g.M.Machine.meaning c.args.old.now.rows.items) c.args.old.now.last c.args.resumed c.loop-page.front c.loop-page.invariant.so_far c.loop-page.invariant.none _ (one_fewer _ _ c.loop-page-test.true) c.in_ok-body.ensures.formatted c.in-Page.is c.in_ok-met-in-Page.ensures.met
-    (record { pages = c.take_page.new.front.pages; pieces = c.take_page.new.front.pieces; rows = c.take_page.new.front.rows; stopped = Met c.in-Some.number })
-    c.in_ok-met-in-Page.ensures.pages c.in_ok-met-in-Page.ensures.pieces c.in_ok-met-in-Page.ensures.rows c.in-Some.is refl c.in_ok-body.ensures.counted).reaches
+    c.stop.new.self
+    (c.stop.ensures.pages ∙ c.in_ok-met-in-Page.ensures.pages) (c.stop.ensures.pieces ∙ c.in_ok-met-in-Page.ensures.pieces) (c.stop.ensures.rows ∙ c.in_ok-met-in-Page.ensures.rows) c.in-Some.is c.stop.ensures.stopped c.in_ok-body.ensures.counted).reaches
 
 pub returns-in-Some-clause-counted : goal.returns-in-Some-clause-counted
 returns-in-Some-clause-counted g c =
     (stops-met g.M.Machine.meaning c.args.changes.now (rows_meant g.M.Machine.meaning c.args.old.now.rows.items) c.args.old.now.last c.args.resumed c.loop-page.front c.loop-page.invariant.so_far c.loop-page.invariant.none _ (one_fewer _ _ c.loop-page-test.true) c.in_ok-body.ensures.formatted c.in-Page.is c.in_ok-met-in-Page.ensures.met
-    (record { pages = c.take_page.new.front.pages; pieces = c.take_page.new.front.pieces; rows = c.take_page.new.front.rows; stopped = Met c.in-Some.number })
-    c.in_ok-met-in-Page.ensures.pages c.in_ok-met-in-Page.ensures.pieces c.in_ok-met-in-Page.ensures.rows c.in-Some.is refl c.in_ok-body.ensures.counted).counted
+    c.stop.new.self
+    (c.stop.ensures.pages ∙ c.in_ok-met-in-Page.ensures.pages) (c.stop.ensures.pieces ∙ c.in_ok-met-in-Page.ensures.pieces) (c.stop.ensures.rows ∙ c.in_ok-met-in-Page.ensures.rows) c.in-Some.is c.stop.ensures.stopped c.in_ok-body.ensures.counted).counted
 
 pub returns-in-Some-clause-idle : goal.returns-in-Some-clause-idle
 returns-in-Some-clause-idle g c =
     let t : Progress g.M.Machine.Meaning = stretch g.M.Machine.formatter c.args.files.now (page_start (g.M.Machine.meaning c.loop-page.spot.state) c.loop-page.spot.opens c.args.budget) in
     let idle = page-idle g.M.Machine.formatter g.M.Machine.meaning g.M.Machine.pending c.args.files.now t c.in_ok-body.field-0 c.in-Page.is c.in_ok-body.ensures.idle in
-    subst (AreIdle g.M.Machine.formatter g.M.Machine.meaning g.M.Machine.pending) (sym c.in_ok-met-in-Page.ensures.rows)
+    subst (AreIdle g.M.Machine.formatter g.M.Machine.meaning g.M.Machine.pending) (sym (c.stop.ensures.rows ∙ c.in_ok-met-in-Page.ensures.rows))
     (idle-push g.M.Machine.formatter g.M.Machine.meaning g.M.Machine.pending c.loop-page.front.rows.items c.in-Page.row c.loop-page.invariant.kept idle.0)
 
 pub returns-in-Over-clause-reaches : goal.returns-in-Over-clause-reaches
 returns-in-Over-clause-reaches g c =
     (stops-over g.M.Machine.meaning c.args.changes.now (rows_meant g.M.Machine.meaning c.args.old.now.rows.items) c.args.old.now.last c.args.resumed c.loop-page.front c.loop-page.invariant.so_far c.loop-page.invariant.none _ (one_fewer _ _ c.loop-page-test.true) c.in_ok-body.ensures.formatted c.in-Over.is
-    (record { pages = c.loop-page.front.pages; pieces = c.loop-page.front.pieces; rows = c.loop-page.front.rows; stopped = Over c.in-Over.last })
-    refl refl refl refl c.in_ok-body.ensures.counted).reaches
+    c.stop-in-Over.new.self
+    c.stop-in-Over.ensures.pages c.stop-in-Over.ensures.pieces c.stop-in-Over.ensures.rows c.stop-in-Over.ensures.stopped c.in_ok-body.ensures.counted).reaches
 
 pub returns-in-Over-clause-counted : goal.returns-in-Over-clause-counted
 returns-in-Over-clause-counted g c =
     (stops-over g.M.Machine.meaning c.args.changes.now (rows_meant g.M.Machine.meaning c.args.old.now.rows.items) c.args.old.now.last c.args.resumed c.loop-page.front c.loop-page.invariant.so_far c.loop-page.invariant.none _ (one_fewer _ _ c.loop-page-test.true) c.in_ok-body.ensures.formatted c.in-Over.is
-    (record { pages = c.loop-page.front.pages; pieces = c.loop-page.front.pieces; rows = c.loop-page.front.rows; stopped = Over c.in-Over.last })
-    refl refl refl refl c.in_ok-body.ensures.counted).counted
+    c.stop-in-Over.new.self
+    c.stop-in-Over.ensures.pages c.stop-in-Over.ensures.pieces c.stop-in-Over.ensures.rows c.stop-in-Over.ensures.stopped c.in_ok-body.ensures.counted).counted
 
 pub loop-page-preserved : goal.loop-page-preserved
 loop-page-preserved g c =
@@ -90,18 +90,18 @@ loop-page-preserved g c =
 pub returns-clause-reaches : goal.returns-clause-reaches
 returns-clause-reaches g c =
     (stops-limit g.M.Machine.meaning c.args.changes.now (rows_meant g.M.Machine.meaning c.args.old.now.rows.items) c.args.old.now.last c.args.resumed c.loop-page.front c.loop-page.invariant.so_far c.loop-page.invariant.none (none_left _ _ c.loop-page-test.false)
-    (record { pages = c.loop-page.front.pages; pieces = c.loop-page.front.pieces; rows = c.loop-page.front.rows; stopped = Over c.last_at_limit.result })
-    refl refl refl (ap Over (search rules))).reaches
+    c.stop-2.new.self
+    c.stop-2.ensures.pages c.stop-2.ensures.pieces c.stop-2.ensures.rows (c.stop-2.ensures.stopped ∙ ap Over (search rules))).reaches
 
 pub returns-clause-counted : goal.returns-clause-counted
 returns-clause-counted g c =
     (stops-limit g.M.Machine.meaning c.args.changes.now (rows_meant g.M.Machine.meaning c.args.old.now.rows.items) c.args.old.now.last c.args.resumed c.loop-page.front c.loop-page.invariant.so_far c.loop-page.invariant.none (none_left _ _ c.loop-page-test.false)
-    (record { pages = c.loop-page.front.pages; pieces = c.loop-page.front.pieces; rows = c.loop-page.front.rows; stopped = Over c.last_at_limit.result })
-    refl refl refl (ap Over (search rules))).counted
+    c.stop-2.new.self
+    c.stop-2.ensures.pages c.stop-2.ensures.pieces c.stop-2.ensures.rows (c.stop-2.ensures.stopped ∙ ap Over (search rules))).counted
 
 pub returns-clause-bound : goal.returns-clause-bound
 returns-clause-bound g c =
     let all = (stops-limit g.M.Machine.meaning c.args.changes.now (rows_meant g.M.Machine.meaning c.args.old.now.rows.items) c.args.old.now.last c.args.resumed c.loop-page.front c.loop-page.invariant.so_far c.loop-page.invariant.none (none_left _ _ c.loop-page-test.false)
-    (record { pages = c.loop-page.front.pages; pieces = c.loop-page.front.pieces; rows = c.loop-page.front.rows; stopped = Over c.last_at_limit.result })
-    refl refl refl (ap Over (search rules))).counted in
+    c.stop-2.new.self
+    c.stop-2.ensures.pages c.stop-2.ensures.pieces c.stop-2.ensures.rows (c.stop-2.ensures.stopped ∙ ap Over (search rules))).counted in
     omega arith
