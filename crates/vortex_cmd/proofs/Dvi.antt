@@ -13,7 +13,7 @@ use Rattle.vortex_cmd.specs.Listing.{ReadsDvi, NamesNoDvi, HoldsNoDvi, listed_as
 use Rattle.vortex_cmd.specs.Outcome.{ForHeld, listing}
 use Rattle.vortex_cmd.specs.Trouble.{Does}
 use Rattle.vortex_cmd.proofs.Held.{for_held}
-use Rattle.vortex_cmd.proofs.Listed.{content-same}
+use Rattle.vortex_cmd.proofs.ListedFiles.{content-same}
 
 -- where the source tells nothing, it may be taken to hold just what it gave
 for_content : (holds : Option Files) (name : List ℕ) (bytes : Option (List ℕ)) → IfSome holds (λ held. content held name ≡ bytes) → ForHeld holds (λ held. content held name ≡ bytes)

@@ -1,9 +1,10 @@
-pub mod Listed
+pub mod ListedFiles
 pub mod OneReading
 pub mod TurnBounds
 pub mod Puts
 pub mod Replayed
 pub mod Sessions
 pub mod Held
+pub mod Chains
 pub mod SaidLines
 pub mod Dvi

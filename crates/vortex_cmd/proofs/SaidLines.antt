@@ -12,9 +12,9 @@ said-append [] later = refl
 said-append (line ∷ first) later = ap (λ ps. Say line ∷ ps) (said-append first later)
 
 -- one line more was said
-pub said-on : {before sink sink' : Option Output} (lines : List (List ℕ)) (k : ℕ) (line : List ℕ) → sink ≡ told before (said_lines (take k lines)) → k < length lines → line ≡ get_or lines k line
+pub said-on : (before : Option Output) {sink sink' : Option Output} (lines : List (List ℕ)) (k : ℕ) (line : List ℕ) → sink ≡ told before (said_lines (take k lines)) → k < length lines → line ≡ get_or lines k line
     → sink' ≡ told sink (Say line ∷ []) → sink' ≡ told before (said_lines (take (k + 1) lines))
-said-on {before = before} lines k line so_far more is puts =
+said-on before lines k line so_far more is puts =
     let one : take (k + 1) lines ≡ take k lines ++ line ∷ [] = take_more lines k line more ∙ ap (λ x. take k lines ++ x ∷ []) (sym is) in
     puts ∙ ap (λ o. told o (Say line ∷ [])) so_far ∙ told-append before (said_lines (take k lines)) (Say line ∷ [])
     ∙ ap (told before) (sym (said-append (take k lines) (line ∷ [])) ∙ ap said_lines (sym one))

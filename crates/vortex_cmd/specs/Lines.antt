@@ -29,16 +29,12 @@ run_line pages end = codes "run: " ++ decimal pages ++ codes " pages, " ++ end_t
 abbrev pub edit_text : ℕ → List ℕ
 edit_text number = codes "edit " ++ decimal number ++ codes ": "
 
--- the pages of an edit that was made, and where they come from
-abbrev pub report_text : Report → List ℕ
-report_text report =
-    decimal report.pages ++ codes " pages, resumed " ++ decimal report.resumed ++ codes ", formatted "
-    ++ decimal report.formatted ++ codes ", reused " ++ decimal report.reused
-
 -- the lines of an edit that was made, of one that goes past the end of its file, of a batch of which a change does, and of an
 -- edit that memory refused
 unfoldable pub edit_line : ℕ → Report → RunEnd → List ℕ
-edit_line number report end = edit_text number ++ report_text report ++ codes ", " ++ end_text end ++ codes "\n"
+edit_line number report end =
+    edit_text number ++ decimal report.pages ++ codes " pages, resumed " ++ decimal report.resumed ++ codes ", formatted " ++ decimal report.formatted
+    ++ codes ", reused " ++ decimal report.reused ++ codes ", " ++ end_text end ++ codes "\n"
 
 unfoldable pub outside_line : ℕ → ℕ → List ℕ
 outside_line number len = edit_text number ++ codes "outside, file has " ++ decimal len ++ codes " bytes\n"

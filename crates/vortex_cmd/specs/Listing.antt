@@ -36,10 +36,13 @@ abbrev pub placed_lines : List Placed → List (List ℕ)
 placed_lines [] = []
 placed_lines (placed ∷ others) = placed_line placed ∷ placed_lines others
 
--- the lines of pages that are numbered from this number on
+-- the lines of the page of this number, and of pages that are numbered from it on
+abbrev pub page_lines : ℕ → ReadPage → List (List ℕ)
+page_lines number page = page_line number page.counts ∷ placed_lines page.placed
+
 abbrev pub pages_lines : ℕ → List ReadPage → List (List ℕ)
 pages_lines number [] = []
-pages_lines number (page ∷ pages) = page_line number page.counts ∷ placed_lines page.placed ++ pages_lines (number + 1) pages
+pages_lines number (page ∷ pages) = page_lines number page ++ pages_lines (number + 1) pages
 
 -- each line is said by itself
 abbrev pub said_lines : List (List ℕ) → List Piece

@@ -1,8 +1,9 @@
 //! The lines that are said: of runs, of edits, and of what is made or refused.
-ghost use Rattle.std.specs.Prelude.{◌≡◌, ◌++◌, OnOk, IfOk};
+ghost use Rattle.std.specs.Prelude.{◌≡◌, ◌++◌, codes, IfOk};
 ghost use Rattle.std.specs.Fmt.{decimal};
-ghost use Rattle.vortex_cmd.specs.Lines.{place_text, end_text, run_line, edit_text, report_text, edit_line, outside_line, batch_outside_line, memory_line, located_text, locate_line, script_refusal_line, gen_line, help_text, run_help_text, gen_help_text, list_help_text, version_line};
+ghost use Rattle.vortex_cmd.specs.Lines.{place_text, end_text, run_line, edit_line, outside_line, batch_outside_line, memory_line, located_text, locate_line, script_refusal_line, gen_line, help_text, run_help_text, gen_help_text, list_help_text, version_line};
 
+use crate::parts::{Part, joined};
 use std::alloc::{AllocError, Global};
 use tx_bytes::Bytes;
 use tx_checkpoint::Located;
@@ -10,44 +11,38 @@ use tx_machine::End;
 use tx_script::Rule;
 use tx_session::Report;
 
-/// A number in decimal digits.
-fn append_number(alloc: Global, text: &mut Bytes, number: u64) -> Result<(), AllocError>
-    ensures { OnOk result (text.new ≡ text.old ++ decimal number) }
+/// `error E at NAME line L`, or `error E` where no file is open.
+fn error_text(alloc: Global, code: u8, name: &Option<Bytes>, line: u64) -> Result<Bytes, AllocError>
+    ensures { IfOk result (λ text. text ≡ codes "error " ++ decimal code ++ place_text name.now line) }
 {
-    text.append(number.to_string(alloc)?.as_bytes())
-}
-
-/// ` at NAME line L`, and nothing where no file is open.
-fn append_place(
-    alloc: Global,
-    text: &mut Bytes,
-    name: &Option<Bytes>,
-    line: u64,
-) -> Result<(), AllocError>
-    ensures { OnOk result (text.new ≡ text.old ++ place_text name.now line) }
-{
-    let Some(name) = name else {
-        return Ok(());
-    };
-    text.append(b" at ")?;
-    text.append(name.as_slice())?;
-    text.append(b" line ")?;
-    append_number(alloc, text, line)
+    match name {
+        None => joined(
+            alloc,
+            &[Part::Text(b"error "), Part::Number(u64::from(code))],
+        ),
+        Some(name) => joined(
+            alloc,
+            &[
+                Part::Text(b"error "),
+                Part::Number(u64::from(code)),
+                Part::Text(b" at "),
+                Part::Text(name.as_slice()),
+                Part::Text(b" line "),
+                Part::Number(line),
+            ],
+        ),
+    }
 }
 
 /// `end`, `error E at NAME line L`, `error E`, `budget` or `page limit`.
-fn append_end(alloc: Global, text: &mut Bytes, end: &End) -> Result<(), AllocError>
-    ensures { OnOk result (text.new ≡ text.old ++ end_text end.now) }
+fn end_text(alloc: Global, end: &End) -> Result<Bytes, AllocError>
+    ensures { IfOk result (λ text. text ≡ end_text end.now) }
 {
     match end {
-        End::End => text.append(b"end"),
-        End::Error { code, name, line } => {
-            text.append(b"error ")?;
-            append_number(alloc, text, u64::from(*code))?;
-            append_place(alloc, text, name, *line)
-        }
-        End::Budget => text.append(b"budget"),
-        End::PageLimit => text.append(b"page limit"),
+        End::End => Bytes::from_slice(alloc, b"end"),
+        End::Error { code, name, line } => error_text(alloc, *code, name, *line),
+        End::Budget => Bytes::from_slice(alloc, b"budget"),
+        End::PageLimit => Bytes::from_slice(alloc, b"page limit"),
     }
 }
 
@@ -56,35 +51,17 @@ fn append_end(alloc: Global, text: &mut Bytes, end: &End) -> Result<(), AllocErr
 pub fn run_line(alloc: Global, pages: u64, end: &End) -> Result<Bytes, AllocError>
     ensures { IfOk result (λ line. line ≡ run_line pages end.now) }
 {
-    let mut line = Bytes::from_slice(alloc, b"run: ")?;
-    append_number(alloc, &mut line, pages)?;
-    line.append(b" pages, ")?;
-    append_end(alloc, &mut line, end)?;
-    line.append(b"\n")?;
-    Ok(line)
-}
-
-/// `edit I: `, which begins the line of an edit.
-fn edit_text(alloc: Global, number: u64) -> Result<Bytes, AllocError>
-    ensures { IfOk result (λ text. text ≡ edit_text number) }
-{
-    let mut text = Bytes::from_slice(alloc, b"edit ")?;
-    append_number(alloc, &mut text, number)?;
-    text.append(b": ")?;
-    Ok(text)
-}
-
-/// `P pages, resumed K, formatted F, reused R`.
-fn append_report(alloc: Global, text: &mut Bytes, report: &Report) -> Result<(), AllocError>
-    ensures { OnOk result (text.new ≡ text.old ++ report_text report.now) }
-{
-    append_number(alloc, text, report.pages as u64)?;
-    text.append(b" pages, resumed ")?;
-    append_number(alloc, text, report.resumed as u64)?;
-    text.append(b", formatted ")?;
-    append_number(alloc, text, report.formatted as u64)?;
-    text.append(b", reused ")?;
-    append_number(alloc, text, report.reused as u64)
+    let end = end_text(alloc, end)?;
+    joined(
+        alloc,
+        &[
+            Part::Text(b"run: "),
+            Part::Number(pages),
+            Part::Text(b" pages, "),
+            Part::Text(end.as_slice()),
+            Part::Text(b"\n"),
+        ],
+    )
 }
 
 /// The line of an edit that was made, `edit I: P pages, resumed K, formatted F, reused R, END` and LF.
@@ -97,12 +74,25 @@ pub fn edit_line(
 ) -> Result<Bytes, AllocError>
     ensures { IfOk result (λ line. line ≡ edit_line number report.now end.now) }
 {
-    let mut line = edit_text(alloc, number)?;
-    append_report(alloc, &mut line, report)?;
-    line.append(b", ")?;
-    append_end(alloc, &mut line, end)?;
-    line.append(b"\n")?;
-    Ok(line)
+    let end = end_text(alloc, end)?;
+    joined(
+        alloc,
+        &[
+            Part::Text(b"edit "),
+            Part::Number(number),
+            Part::Text(b": "),
+            Part::Number(report.pages as u64),
+            Part::Text(b" pages, resumed "),
+            Part::Number(report.resumed as u64),
+            Part::Text(b", formatted "),
+            Part::Number(report.formatted as u64),
+            Part::Text(b", reused "),
+            Part::Number(report.reused as u64),
+            Part::Text(b", "),
+            Part::Text(end.as_slice()),
+            Part::Text(b"\n"),
+        ],
+    )
 }
 
 /// The line of an edit that goes past the end of its file, `edit I: outside, file has L bytes` and LF.
@@ -110,11 +100,16 @@ pub fn edit_line(
 pub fn outside_line(alloc: Global, number: u64, len: u64) -> Result<Bytes, AllocError>
     ensures { IfOk result (λ line. line ≡ outside_line number len) }
 {
-    let mut line = edit_text(alloc, number)?;
-    line.append(b"outside, file has ")?;
-    append_number(alloc, &mut line, len)?;
-    line.append(b" bytes\n")?;
-    Ok(line)
+    joined(
+        alloc,
+        &[
+            Part::Text(b"edit "),
+            Part::Number(number),
+            Part::Text(b": outside, file has "),
+            Part::Number(len),
+            Part::Text(b" bytes\n"),
+        ],
+    )
 }
 
 /// The line of a batch of which this change, counted from 1, is the first that goes past the end of its file,
@@ -128,13 +123,18 @@ pub fn batch_outside_line(
 ) -> Result<Bytes, AllocError>
     ensures { IfOk result (λ line. line ≡ batch_outside_line number index len) }
 {
-    let mut line = edit_text(alloc, number)?;
-    line.append(b"change ")?;
-    append_number(alloc, &mut line, index)?;
-    line.append(b" outside, file has ")?;
-    append_number(alloc, &mut line, len)?;
-    line.append(b" bytes\n")?;
-    Ok(line)
+    joined(
+        alloc,
+        &[
+            Part::Text(b"edit "),
+            Part::Number(number),
+            Part::Text(b": change "),
+            Part::Number(index),
+            Part::Text(b" outside, file has "),
+            Part::Number(len),
+            Part::Text(b" bytes\n"),
+        ],
+    )
 }
 
 /// The line of an edit for which there was no memory, `edit I: memory` and LF.
@@ -142,49 +142,43 @@ pub fn batch_outside_line(
 pub fn memory_line(alloc: Global, number: u64) -> Result<Bytes, AllocError>
     ensures { IfOk result (λ line. line ≡ memory_line number) }
 {
-    let mut line = edit_text(alloc, number)?;
-    line.append(b"memory\n")?;
-    Ok(line)
+    joined(
+        alloc,
+        &[
+            Part::Text(b"edit "),
+            Part::Number(number),
+            Part::Text(b": memory\n"),
+        ],
+    )
 }
 
 /// `page K`, `after page P` or `none`.
-fn append_located(
-    alloc: Global,
-    text: &mut Bytes,
-    pages: u64,
-    at: Located,
-) -> Result<(), AllocError>
-    ensures { OnOk result (text.new ≡ text.old ++ located_text pages at) }
+fn located_text(alloc: Global, pages: u64, at: Located) -> Result<Bytes, AllocError>
+    ensures { IfOk result (λ text. text ≡ located_text pages at) }
 {
     match at {
-        Located::Page(k) => {
-            text.append(b"page ")?;
-            append_number(alloc, text, k as u64)
-        }
-        Located::After => {
-            text.append(b"after page ")?;
-            append_number(alloc, text, pages)
-        }
-        Located::Nowhere => text.append(b"none"),
+        Located::Page(k) => joined(alloc, &[Part::Text(b"page "), Part::Number(k as u64)]),
+        Located::After => joined(alloc, &[Part::Text(b"after page "), Part::Number(pages)]),
+        Located::Nowhere => Bytes::from_slice(alloc, b"none"),
     }
 }
 
 /// The line of a place that is asked for, `locate J: page K` and LF, or the like.
 #[tactic(auto, unfolding(crate::specs::Lines::locate_line))]
-pub fn locate_line(
-    alloc: Global,
-    number: u64,
-    pages: u64,
-    at: Located,
-) -> Result<Bytes, AllocError>
+pub fn locate_line(alloc: Global, number: u64, pages: u64, at: Located) -> Result<Bytes, AllocError>
     ensures { IfOk result (λ line. line ≡ locate_line number pages at) }
 {
-    let mut line = Bytes::from_slice(alloc, b"locate ")?;
-    append_number(alloc, &mut line, number)?;
-    line.append(b": ")?;
-    append_located(alloc, &mut line, pages, at)?;
-    line.append(b"\n")?;
-    Ok(line)
+    let at = located_text(alloc, pages, at)?;
+    joined(
+        alloc,
+        &[
+            Part::Text(b"locate "),
+            Part::Number(number),
+            Part::Text(b": "),
+            Part::Text(at.as_slice()),
+            Part::Text(b"\n"),
+        ],
+    )
 }
 
 /// The line of a script that is refused, `script refused at PLACE, rule R` and LF.
@@ -192,12 +186,16 @@ pub fn locate_line(
 pub fn script_refusal_line(alloc: Global, place: u64, rule: Rule) -> Result<Bytes, AllocError>
     ensures { IfOk result (λ line. line ≡ script_refusal_line place rule) }
 {
-    let mut line = Bytes::from_slice(alloc, b"script refused at ")?;
-    append_number(alloc, &mut line, place)?;
-    line.append(b", rule ")?;
-    append_number(alloc, &mut line, u64::from(rule.number()))?;
-    line.append(b"\n")?;
-    Ok(line)
+    joined(
+        alloc,
+        &[
+            Part::Text(b"script refused at "),
+            Part::Number(place),
+            Part::Text(b", rule "),
+            Part::Number(u64::from(rule.number())),
+            Part::Text(b"\n"),
+        ],
+    )
 }
 
 /// The line of a document that was made, `gen: P pages, P edits` and LF.
@@ -205,12 +203,16 @@ pub fn script_refusal_line(alloc: Global, place: u64, rule: Rule) -> Result<Byte
 pub fn gen_line(alloc: Global, pages: u64) -> Result<Bytes, AllocError>
     ensures { IfOk result (λ line. line ≡ gen_line pages) }
 {
-    let mut line = Bytes::from_slice(alloc, b"gen: ")?;
-    append_number(alloc, &mut line, pages)?;
-    line.append(b" pages, ")?;
-    append_number(alloc, &mut line, pages)?;
-    line.append(b" edits\n")?;
-    Ok(line)
+    joined(
+        alloc,
+        &[
+            Part::Text(b"gen: "),
+            Part::Number(pages),
+            Part::Text(b" pages, "),
+            Part::Number(pages),
+            Part::Text(b" edits\n"),
+        ],
+    )
 }
 
 /// What `--version` says.

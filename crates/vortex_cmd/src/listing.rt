@@ -1,26 +1,21 @@
 //! The lines that are said of a DVI file.
-ghost use Rattle.std.specs.Prelude.{◌≡◌, ◌++◌, OnOk, IfOk};
-ghost use Rattle.std.specs.Fmt.{decimal, signed_decimal};
-ghost use Rattle.vortex_cmd.specs.Listing.{counts_text, page_line, at_text, placed_line, placed_lines, pages_lines, dvi_refusal_line};
+ghost use Rattle.std.specs.Prelude.{◌≡◌, ◌++◌, codes, OnOk, IfOk};
+ghost use Rattle.std.specs.Fmt.{signed_decimal};
+ghost use Rattle.vortex_cmd.specs.Listing.{counts_text, page_line, placed_line, placed_lines, page_lines, pages_lines, dvi_refusal_line};
 
+use crate::parts::{Part, append_signed, joined};
 use std::alloc::{AllocError, Global};
 use tx_bytes::Bytes;
 use tx_dvi::Placed;
 use tx_dvitype::{DviRule, ReadPage};
 use tx_list::Items;
 
-/// A number in decimal digits.
-fn append_number(alloc: Global, text: &mut Bytes, number: u64) -> Result<(), AllocError>
-    ensures { OnOk result (text.new ≡ text.old ++ decimal number) }
+/// A number behind a space.
+fn append_count(alloc: Global, text: &mut Bytes, count: i32) -> Result<(), AllocError>
+    ensures { OnOk result (text.new ≡ text.old ++ codes " " ++ signed_decimal count) }
 {
-    text.append(number.to_string(alloc)?.as_bytes())
-}
-
-/// The same of a number that may be negative.
-fn append_signed(alloc: Global, text: &mut Bytes, number: i64) -> Result<(), AllocError>
-    ensures { OnOk result (text.new ≡ text.old ++ signed_decimal number) }
-{
-    text.append(number.to_string(alloc)?.as_bytes())
+    text.append(b" ")?;
+    append_signed(alloc, text, i64::from(count))
 }
 
 /// Numbers, each behind a space.
@@ -28,8 +23,7 @@ fn append_counts(alloc: Global, text: &mut Bytes, counts: &[i32]) -> Result<(), 
     ensures { OnOk result (text.new ≡ text.old ++ counts_text counts.now) }
 {
     for count in counts {
-        text.append(b" ")?;
-        append_signed(alloc, text, i64::from(*count))?;
+        append_count(alloc, text, *count)?;
     }
     Ok(())
 }
@@ -39,23 +33,18 @@ fn append_counts(alloc: Global, text: &mut Bytes, counts: &[i32]) -> Result<(), 
 fn page_line(alloc: Global, number: u64, counts: &[i32]) -> Result<Bytes, AllocError>
     ensures { IfOk result (λ line. line ≡ page_line number counts.now) }
 {
-    let mut line = Bytes::from_slice(alloc, b"page ")?;
-    append_number(alloc, &mut line, number)?;
-    line.append(b":")?;
-    append_counts(alloc, &mut line, counts)?;
-    line.append(b"\n")?;
-    Ok(line)
-}
-
-/// ` at H V` and LF.
-fn append_at(alloc: Global, text: &mut Bytes, h: i64, v: i64) -> Result<(), AllocError>
-    ensures { OnOk result (text.new ≡ text.old ++ at_text h v) }
-{
-    text.append(b" at ")?;
-    append_signed(alloc, text, h)?;
-    text.append(b" ")?;
-    append_signed(alloc, text, v)?;
-    text.append(b"\n")
+    let mut numbers = Bytes::new(alloc);
+    append_counts(alloc, &mut numbers, counts)?;
+    joined(
+        alloc,
+        &[
+            Part::Text(b"page "),
+            Part::Number(number),
+            Part::Text(b":"),
+            Part::Text(numbers.as_slice()),
+            Part::Text(b"\n"),
+        ],
+    )
 }
 
 /// The line of what is met on a page, `char C font F at H V`, `rule A B at H V` or `special N bytes at H V` and LF.
@@ -64,29 +53,46 @@ fn placed_line(alloc: Global, placed: &Placed) -> Result<Bytes, AllocError>
     ensures { IfOk result (λ line. line ≡ placed_line placed.now) }
 {
     match placed {
-        Placed::Lettered(character) => {
-            let mut line = Bytes::from_slice(alloc, b"char ")?;
-            append_number(alloc, &mut line, u64::from(character.code))?;
-            line.append(b" font ")?;
-            append_number(alloc, &mut line, u64::from(character.font))?;
-            append_at(alloc, &mut line, character.h, character.v)?;
-            Ok(line)
-        }
-        Placed::Ruled(rule) => {
-            let mut line = Bytes::from_slice(alloc, b"rule ")?;
-            append_signed(alloc, &mut line, rule.height)?;
-            line.append(b" ")?;
-            append_signed(alloc, &mut line, rule.width)?;
-            append_at(alloc, &mut line, rule.h, rule.v)?;
-            Ok(line)
-        }
-        Placed::Noted(special) => {
-            let mut line = Bytes::from_slice(alloc, b"special ")?;
-            append_number(alloc, &mut line, special.text.len() as u64)?;
-            line.append(b" bytes")?;
-            append_at(alloc, &mut line, special.h, special.v)?;
-            Ok(line)
-        }
+        Placed::Lettered(character) => joined(
+            alloc,
+            &[
+                Part::Text(b"char "),
+                Part::Number(u64::from(character.code)),
+                Part::Text(b" font "),
+                Part::Number(u64::from(character.font)),
+                Part::Text(b" at "),
+                Part::Signed(character.h),
+                Part::Text(b" "),
+                Part::Signed(character.v),
+                Part::Text(b"\n"),
+            ],
+        ),
+        Placed::Ruled(rule) => joined(
+            alloc,
+            &[
+                Part::Text(b"rule "),
+                Part::Signed(rule.height),
+                Part::Text(b" "),
+                Part::Signed(rule.width),
+                Part::Text(b" at "),
+                Part::Signed(rule.h),
+                Part::Text(b" "),
+                Part::Signed(rule.v),
+                Part::Text(b"\n"),
+            ],
+        ),
+        Placed::Noted(special) => joined(
+            alloc,
+            &[
+                Part::Text(b"special "),
+                Part::Number(special.text.len() as u64),
+                Part::Text(b" bytes at "),
+                Part::Signed(special.h),
+                Part::Text(b" "),
+                Part::Signed(special.v),
+                Part::Text(b"\n"),
+            ],
+        ),
     }
 }
 
@@ -104,15 +110,39 @@ fn append_placed(
     Ok(())
 }
 
-/// The lines of a DVI file, page by page.
+/// The lines of the page of this number.
+fn append_page(
+    alloc: Global,
+    lines: &mut Items<Bytes>,
+    number: u64,
+    page: &ReadPage,
+) -> Result<(), AllocError>
+    ensures { OnOk result (lines.new ≡ lines.old ++ page_lines number page.now) }
+{
+    lines.push(page_line(alloc, number, &page.counts)?)?;
+    append_placed(alloc, lines, page.placed.as_slice())
+}
+
+/// The lines of pages, page by page.
+fn append_pages(
+    alloc: Global,
+    lines: &mut Items<Bytes>,
+    pages: &[ReadPage],
+) -> Result<(), AllocError>
+    ensures { OnOk result (lines.new ≡ lines.old ++ pages_lines 1 pages.now) }
+{
+    for (at, page) in pages.iter().enumerate() {
+        append_page(alloc, lines, at as u64 + 1, page)?;
+    }
+    Ok(())
+}
+
+/// The lines of a DVI file.
 pub fn listing_lines(alloc: Global, pages: &[ReadPage]) -> Result<Items<Bytes>, AllocError>
     ensures { IfOk result (λ lines. lines ≡ pages_lines 1 pages.now) }
 {
     let mut lines = Items::new(alloc);
-    for (at, page) in pages.iter().enumerate() {
-        lines.push(page_line(alloc, at as u64 + 1, &page.counts)?)?;
-        append_placed(alloc, &mut lines, page.placed.as_slice())?;
-    }
+    append_pages(alloc, &mut lines, pages)?;
     Ok(lines)
 }
 
@@ -121,10 +151,14 @@ pub fn listing_lines(alloc: Global, pages: &[ReadPage]) -> Result<Items<Bytes>, 
 pub fn dvi_refusal_line(alloc: Global, place: u64, rule: DviRule) -> Result<Bytes, AllocError>
     ensures { IfOk result (λ line. line ≡ dvi_refusal_line place rule) }
 {
-    let mut line = Bytes::from_slice(alloc, b"dvi refused at ")?;
-    append_number(alloc, &mut line, place)?;
-    line.append(b", rule ")?;
-    append_number(alloc, &mut line, u64::from(rule.number()))?;
-    line.append(b"\n")?;
-    Ok(line)
+    joined(
+        alloc,
+        &[
+            Part::Text(b"dvi refused at "),
+            Part::Number(place),
+            Part::Text(b", rule "),
+            Part::Number(u64::from(rule.number())),
+            Part::Text(b"\n"),
+        ],
+    )
 }

@@ -1,17 +1,17 @@
 //! What is put out of a document: its DVI file and its transcript.
-ghost use Rattle.std.specs.Prelude.{◌≡◌, ◌∷◌, ◌++◌, [], length, IfOk};
+ghost use Rattle.std.specs.Prelude.{◌≡◌, ◌∷◌, ◌++◌, [], length};
 ghost use Rattle.tx_io.specs.Output.{Say, Save};
 ghost use Rattle.tx_checkpoint.specs.Locate.{located};
 ghost use Rattle.tx_session.specs.Held.{fresh, rows_of};
 ghost use Rattle.vortex_cmd.specs.Lines.{locate_line as located_line};
 ghost use Rattle.vortex_cmd.specs.Outcome.{first_piece};
-ghost use Rattle.vortex_cmd.specs.Pieces.{dvi_pieces, log_pieces, saved_pieces};
+ghost use Rattle.vortex_cmd.specs.Pieces.{dvi_pieces, saved_pieces};
 ghost use Rattle.vortex_cmd.specs.Trouble.{PutsOut, SinkCauses};
 
 use crate::lines::{locate_line, run_line};
+use crate::parts::{Part, joined};
 use crate::trouble::Trouble;
-use std::alloc::{AllocError, Global};
-use tx_bytes::Bytes;
+use std::alloc::Global;
 use tx_files::Name;
 use tx_io::{Put, Sink};
 use tx_machine::Machine;
@@ -42,13 +42,19 @@ pub fn save<K: Sink>(sink: &mut K, name: &[u8], bytes: &[u8]) -> Result<(), Trou
     }
 }
 
-/// A name with a suffix behind it, as `a.dvi`.
-fn with_suffix(alloc: Global, name: &Name, suffix: &[u8]) -> Result<Bytes, AllocError>
-    ensures { IfOk result (λ all. all ≡ name.now ++ suffix.now) }
+/// Saves a file under a name with a suffix behind it, as `a.dvi`.
+fn save_as<K: Sink>(
+    alloc: Global,
+    name: &Name,
+    suffix: &[u8],
+    bytes: &[u8],
+    sink: &mut K,
+) -> Result<(), Trouble>
+    ensures puts { PutsOut result (K.output sink.old) (Save (name.now ++ suffix.now) bytes.now ∷ []) (K.output sink.new) }
+    ensures causes { SinkCauses result (K.faults sink.old) (K.faults sink.new) }
 {
-    let mut all = Bytes::from_slice(alloc, name.as_slice())?;
-    all.append(suffix)?;
-    Ok(all)
+    let name = joined(alloc, &[Part::Text(name.as_slice()), Part::Text(suffix)])?;
+    save(sink, name.as_slice(), bytes)
 }
 
 /// Saves the pages of a document as `NAME.dvi`, if there is one.
@@ -64,26 +70,11 @@ fn save_pages<M: Machine, K: Sink>(
     if session.pages() == 0 {
         return Ok(());
     }
-    let name = with_suffix(alloc, name, b".dvi")?;
     let file = session.dvi()?;
-    save(sink, name.as_slice(), file.as_slice())
+    save_as(alloc, name, b".dvi", file.as_slice(), sink)
 }
 
-/// Saves the transcript of a document as `NAME.log`, also where it is empty.
-fn save_transcript<M: Machine, K: Sink>(
-    alloc: Global,
-    name: &Name,
-    session: &Session<M>,
-    sink: &mut K,
-) -> Result<(), Trouble>
-    ensures puts { PutsOut result (K.output sink.old) (log_pieces name.now (fresh M.formatter session.now).ran) (K.output sink.new) }
-    ensures causes { SinkCauses result (K.faults sink.old) (K.faults sink.new) }
-{
-    let name = with_suffix(alloc, name, b".log")?;
-    save(sink, name.as_slice(), session.said())
-}
-
-/// Saves the pages of a document and its transcript under a name.
+/// Saves the pages of a document under a name, and its transcript as `NAME.log`, also where it is empty.
 pub fn save_session<M: Machine, K: Sink>(
     alloc: Global,
     name: &Name,
@@ -94,7 +85,7 @@ pub fn save_session<M: Machine, K: Sink>(
     ensures causes { SinkCauses result (K.faults sink.old) (K.faults sink.new) }
 {
     save_pages(alloc, name, session, sink)?;
-    save_transcript(alloc, name, session, sink)
+    save_as(alloc, name, b".log", session.said(), sink)
 }
 
 /// Says how many pages a document has that was opened, and how its run ended.

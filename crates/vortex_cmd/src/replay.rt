@@ -2,7 +2,9 @@
 ghost use Rattle.std.specs.Prelude.{◌≡◌, ◌∷◌, [], ◌+◌, ◌<◌, ◌≤◌, ◌^◌, IfOk, OnOk, IsErrOf};
 ghost use Rattle.tx_io.specs.Output.{Say};
 ghost use Rattle.tx_machine.specs.Steps.{raised};
+ghost use Rattle.tx_session.specs.Held.{fresh};
 ghost use Rattle.tx_session.specs.Report.{turns_of_changes};
+ghost use Rattle.vortex_cmd.specs.Lines.{edit_line as made_line};
 ghost use Rattle.vortex_cmd.specs.Replay.{Puts, Replays, IsEdit, opened, next_made, next_moment, moment_after, line_of, refused_line, pieces_at, pieces_from, turns_at, turns_from, refused_pieces, refusal_at};
 ghost use Rattle.vortex_cmd.specs.Tally.{moment};
 ghost use Rattle.vortex_cmd.specs.Trouble.{PutsOut, SinkCauses, EditCauses};
@@ -18,7 +20,7 @@ use tx_files::{Change, Name};
 use tx_io::Sink;
 use tx_machine::{Machine, Steps};
 use tx_script::Command;
-use tx_session::{Refusal, Session};
+use tx_session::{Refusal, Report, Session};
 
 /// Tells that memory refused the next edit, and saves what there was before it. The first of these outputs that can't be
 /// made is the last one.
@@ -38,6 +40,21 @@ fn tell_refusal<M: Machine, K: Sink>(
     save_session(alloc, out, session, sink)
 }
 
+/// Says what came of changes that were made.
+fn say_made<M: Machine, K: Sink>(
+    alloc: Global,
+    number: u64,
+    report: &Report,
+    session: &Session<M>,
+    sink: &mut K,
+) -> Result<(), Trouble>
+    ensures puts { PutsOut result (K.output sink.old) (Say (made_line number report.now (fresh M.formatter session.now).ran.end) ∷ []) (K.output sink.new) }
+    ensures causes { SinkCauses result (K.faults sink.old) (K.faults sink.new) }
+{
+    let line = edit_line(alloc, number, report, session.end())?;
+    say(sink, line.as_slice())
+}
+
 /// What is said of a change that goes past the end of its file, the first of its batch or one alone.
 fn refused(
     alloc: Global,
@@ -53,6 +70,22 @@ fn refused(
     } else {
         outside_line(alloc, number, len)
     }
+}
+
+/// Says it.
+fn say_refused<K: Sink>(
+    alloc: Global,
+    together: bool,
+    number: u64,
+    index: u64,
+    len: u64,
+    sink: &mut K,
+) -> Result<(), Trouble>
+    ensures puts { PutsOut result (K.output sink.old) (Say (refused_line together number (index, len)) ∷ []) (K.output sink.new) }
+    ensures causes { SinkCauses result (K.faults sink.old) (K.faults sink.new) }
+{
+    let line = refused(alloc, together, number, index, len)?;
+    say(sink, line.as_slice())
 }
 
 /// Makes a list of changes, which are those of a batch or one change alone, and says what came of it.
@@ -76,15 +109,13 @@ fn run_changes<M: Machine, K: Sink>(
     match session.batch(changes, steps) {
         Ok(report) => {
             tally.edits += 1;
-            let line = edit_line(alloc, tally.edits, &report, session.end())?;
-            say(sink, line.as_slice())?;
+            say_made(alloc, tally.edits, &report, session, sink)?;
             Ok(())
         }
         Err(Refusal::BatchOutside { index, len }) => {
             tally.edits += 1;
             tally.outside = true;
-            let line = refused(alloc, together, tally.edits, index, len)?;
-            say(sink, line.as_slice())?;
+            say_refused(alloc, together, tally.edits, index, len, sink)?;
             Ok(())
         }
         Err(Refusal::OutOfMemory) => {

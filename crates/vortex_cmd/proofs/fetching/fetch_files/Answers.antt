@@ -4,7 +4,7 @@ use Rattle.std.proofs.lemmas.List.{take_all}
 use Rattle.tx_bytes.specs.Files.{Files}
 use Rattle.std.specs.Prelude.{Option}
 use Rattle.vortex_cmd.specs.Fetching.{Fetches}
-use Rattle.vortex_cmd.proofs.Listed.{AreFetched, none_fetched, one_more, all_fetched, not_among_item}
+use Rattle.vortex_cmd.proofs.ListedFiles.{AreFetched, none_fetched, one_more, all_fetched, not_among_item}
 use Rattle.vortex_cmd.proofs.fetching.fetch_files.Goals as goal
 
 pub loop-name-init : goal.loop-name-init

@@ -1,5 +1,5 @@
 use Rattle.std.proofs.Common.{◌≡◌, take}
-use Rattle.vortex_cmd.proofs.Listed.{AreFetched}
+use Rattle.vortex_cmd.proofs.ListedFiles.{AreFetched}
 use Rattle.vortex_cmd.proofs.fetching.fetch_files.Given as goal
 
 abbrev pub invariant-loop-name : goal.invariant-loop-name

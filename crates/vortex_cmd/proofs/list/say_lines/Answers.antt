@@ -10,6 +10,6 @@ returns-in_err-say_line-clause-puts g c =
 
 pub loop-line-preserved : goal.loop-line-preserved
 loop-line-preserved g c = record {
-  so_far = said-on c.args.lines.now _ c.line-item.result c.loop-line.invariant.so_far c.loop-line-test.true c.line-item.is c.in_ok-say_line.ensures.puts;
+  so_far = said-on _ c.args.lines.now _ c.line-item.result c.loop-line.invariant.so_far c.loop-line-test.true c.line-item.is c.in_ok-say_line.ensures.puts;
   faults = c.in_ok-say_line.ensures.causes ∙ c.loop-line.invariant.faults;
 }

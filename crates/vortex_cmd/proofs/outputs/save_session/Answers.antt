@@ -1,5 +1,8 @@
-use Rattle.tx_session.specs.Held.{fresh}
+use Rattle.std.proofs.Common.{◌≡◌, ℕ, List, [], ◌∷◌, ◌++◌, codes, rules, subst}
+use Rattle.tx_io.specs.Output.{Save}
+use Rattle.tx_session.specs.Held.{fresh, transcript}
 use Rattle.vortex_cmd.specs.Pieces.{dvi_pieces, log_pieces}
+use Rattle.vortex_cmd.specs.Trouble.{PutsOut}
 use Rattle.vortex_cmd.proofs.Puts.{puts-first, puts-behind}
 use Rattle.vortex_cmd.proofs.outputs.save_session.Goals as goal
 
@@ -10,5 +13,7 @@ returns-in_err-save_pages-clause-puts g c =
 
 pub returns-clause-puts : goal.returns-clause-puts
 returns-clause-puts g c =
-    puts-behind c.save_transcript.result _ (dvi_pieces c.args.name.now (fresh g.M.Machine.formatter c.args.session.now).ran.pages) (log_pieces c.args.name.now (fresh g.M.Machine.formatter c.args.session.now).ran) _
-    c.in_ok-save_pages.ensures.puts c.save_transcript.ensures.puts
+    let all : c.said.result.now ≡ transcript (fresh g.M.Machine.formatter c.args.session.now).ran = search rules in
+    puts-behind c.save_as.result _ (dvi_pieces c.args.name.now (fresh g.M.Machine.formatter c.args.session.now).ran.pages) (log_pieces c.args.name.now (fresh g.M.Machine.formatter c.args.session.now).ran) _
+    c.in_ok-save_pages.ensures.puts
+    (subst (λ (text : List ℕ). PutsOut c.save_as.result (g.K.Sink.output c.save_pages.new.sink) (Save (c.args.name.now ++ codes ".log") text ∷ []) (g.K.Sink.output c.save_as.new.sink)) all c.save_as.ensures.puts)
