@@ -10,14 +10,16 @@ use Rattle.tx_node.specs.Items.{discretionary, items_of, none}
 use Rattle.tx_num.specs.Glue.{GlueSpec, glue_of}
 use Rattle.tx_prim.specs.declared.family.FontNumber.TheVariants.{Hyphen}
 use Rattle.tx_tfm.specs.declared.state.FontState.{FontState}
-use Rattle.tx_tfm.specs.Fonts.{loaded_state, null_state, with_font_integer}
+use Rattle.tx_tfm.specs.Fonts.{font_at, loaded_state, null_state, with_font_integer}
 use Rattle.tx_tfm.specs.declared.metrics.Metrics.{Metrics}
 use Rattle.tx_tfm.specs.Format.{tfm_of, word_at}
 use Rattle.tx_tfm.specs.LigKern.{boundary_code, boundary_start, character_start, command_at, command_of, found}
 use Rattle.tx_tfm.specs.Scaling.{scaled}
 use Rattle.tx_word.specs.declared.piece.WordParams.{WordParams}
 use Rattle.tx_word.specs.Collecting.{Collecting, breaking, collected, ended, without_word}
-use Rattle.tx_word.specs.Composed.{word_list}
+use Rattle.tx_ligkern.specs.Composed.{composed, composed_within, most_steps}
+use Rattle.tx_ligkern.specs.Steps.{most_commands}
+use Rattle.tx_word.specs.Composed.{composed_in, word_list}
 use Rattle.tx_ligkern.specs.declared.seam.Seam.{Seam}
 use Rattle.tx_word.specs.declared.division.Division.{Division}
 use Rattle.tx_word.specs.Divisions.{Parted, Whole, at_seam, before_break, divided, divisions_of, first_seam, hyphen_code, last_seam, parted}
@@ -224,6 +226,24 @@ division-bab = refl
 divided-bab : divided (λ (d : Division). Parted (lig.Char 97 ∷ lig.Char 97 ∷ []) (lig.Char 98 ∷ []) d.replaced) (inside_bab ∷ []) 0 (lig.Char 98 ∷ lig.Lig 98 (97 ∷ 98 ∷ []) ∷ [])
     ≡ Whole (lig.Char 98) ∷ Parted (lig.Char 97 ∷ lig.Char 97 ∷ []) (lig.Char 98 ∷ []) 1 ∷ Whole (lig.Lig 98 (97 ∷ 98 ∷ [])) ∷ []
 divided-bab = refl
+
+-- its font, t but for its only command, and what the word and both parts become there, where a is the hyphen
+abbrev ligature_file : List ℕ
+ligature_file =
+    0 ∷ 40 ∷ 0 ∷ 2 ∷ 0 ∷ 97 ∷ 0 ∷ 98 ∷ 0 ∷ 2 ∷ 0 ∷ 2 ∷ 0 ∷ 1 ∷ 0 ∷ 1 ∷ 0 ∷ 1 ∷ 0 ∷ 1 ∷ 0 ∷ 0 ∷ 0 ∷ 22 ∷ 0 ∷ 0 ∷ 0 ∷ 0 ∷ 0 ∷ 160 ∷ 0 ∷ 0 ∷
+    1 ∷ 16 ∷ 1 ∷ 0 ∷ 1 ∷ 16 ∷ 0 ∷ 0 ∷ 0 ∷ 0 ∷ 0 ∷ 0 ∷ 0 ∷ 8 ∷ 0 ∷ 0 ∷ 0 ∷ 0 ∷ 0 ∷ 0 ∷ 0 ∷ 4 ∷ 0 ∷ 0 ∷ 0 ∷ 0 ∷ 0 ∷ 0 ∷ 0 ∷ 0 ∷ 0 ∷ 0 ∷
+    128 ∷ 98 ∷ 0 ∷ 98 ∷ []
+
+abbrev ligature_fonts : List FontState
+ligature_fonts = null_state ∷ loaded_state (record { name = 116 ∷ []; font = record { file = tfm_of ligature_file; size = 655360 } }) (pos 97) (negsuc 0) ∷ []
+
+composed-bab : composed_in (font_at ligature_fonts 1) (98 ∷ 97 ∷ 98 ∷ []) true true ≡ lig.Char 98 ∷ lig.Lig 98 (97 ∷ 98 ∷ []) ∷ []
+unfolding word_at command_of boundary_start boundary_code character_start found composed composed_within most_steps most_commands
+composed-bab = refl
+
+parted-bab : parted ligature_fonts 1 (98 ∷ 97 ∷ 98 ∷ []) true true 97 inside_bab ≡ Parted (lig.Char 97 ∷ lig.Char 97 ∷ []) (lig.Char 98 ∷ []) 1
+unfolding word_at command_of boundary_start boundary_code character_start found composed composed_within most_steps most_commands
+parted-bab = refl
 
 -- with a place at the seam too, that one comes first
 divisions-bab : divisions_of seams_bab (last_seam 3 2) (1 ∷ 2 ∷ []) ≡ record { from = 1; place = 1; to = 1; item = 1; replaced = 0 } ∷ inside_bab ∷ []
