@@ -1,6 +1,6 @@
 -- The best chain of a pass, and the pass that is chosen.
 use Rattle.std.proofs.Common.{◌≡◌, ℕ, ℤ, ◌+◌, ◌<◌, Bool, true, false, cond, Option, Some, None, List, [], ◌∷◌, ◌++◌, map, length, take, get_or, ◌⊎◌, inl, inr, refl, sym, ap, subst, ◌∙◌, arith, length-append}
-use Rattle.std.specs.Prelude.{All, Contains, IfNone, IfSome, ◌==◌, pos, int_le, int_lt}
+use Rattle.std.specs.Prelude.{All, Contains, IfNone, IfSome, ◌==◌, ◌&&◌, pos, int_le, int_lt}
 use Rattle.std.proofs.lemmas.Bool.Decides.{nat_tests}
 use Rattle.std.proofs.lemmas.Int.{ints}
 use Rattle.std.proofs.lemmas.List.Elements.{All-contains, All-more, All-weaker, Contains-get_or}
@@ -166,9 +166,13 @@ module _ (pieces : List Piece) (shape : List LineShape) (params : BreakParams) w
       let given = gives-some b (attempt pieces shape params Emergency) found chosen b_is found_is some in
       chosen-answer Emergency chosen (third-chosen passes (gives-none a (attempt pieces shape params Second) first a_is first_is none) so given.gives) given
 
-  -- the first pass isn't made, or finds nothing
-  pub passes-by : (a : Attempt) (found : Option Chosen) → a ≡ attempt pieces shape params First → found ≡ None → IfNone found (answers a ≡ false) → Passes
-  passes-by a found is found_is none = inr (gives-none a (attempt pieces shape params First) found is found_is none)
+  -- the first pass isn't made, or doesn't give the answer, where it doesn't succeed
+  pub passes-unless : first_succeeds pieces shape params ≡ false → Passes
+  passes-unless fails = by (int_le (pos 0) params.pretolerance) refl fails
+    where
+      by : (b : Bool) → int_le (pos 0) params.pretolerance ≡ b → (b && answers (attempt pieces shape params First)) ≡ false → Passes
+      by true is none = inr none
+      by false is none = inl is
 
   -- the first pass is made: its answer, or that it gives none
   pub first-some : (a : Attempt) (found : Option Chosen) → a ≡ attempt pieces shape params First → int_le (pos 0) params.pretolerance ≡ true → IfSome found (IsAnswerOf a) → IfSome found (λ chosen. (first_succeeds pieces shape params ≡ true) × IsAnswer pieces shape params chosen)

@@ -136,6 +136,34 @@ fn find_first(
     first.find(alloc)
 }
 
+/// The answer of the first pass that gives one, behind the first of all.
+fn choose_later(
+    alloc: Global,
+    pieces: &[Piece],
+    sums: &[Totals],
+    starts: &[usize],
+    shape: &[LineShape],
+    params: &BreakParams,
+) -> Result<Chosen, AllocError>
+    requires sums { AreSums sums.now pieces.now }
+    requires starts { AreStarts starts.now pieces.now }
+    requires shaped { 0 < length shape.now }
+    requires ended { IsEnded pieces.now }
+    requires later { first_succeeds pieces.now shape.now params.now ≡ false }
+    ensures { IfOk result (λ chosen. IsAnswer pieces.now shape.now params.now chosen) }
+{
+    let second = Task::new(pieces, sums, starts, shape, params, Pass::Second);
+    let found = second.find(alloc)?;
+    if params.emergency_stretch <= 0 {
+        return Ok(found.unwrap());
+    }
+    if let Some(chosen) = found {
+        return Ok(chosen);
+    }
+    let third = Task::new(pieces, sums, starts, shape, params, Pass::Emergency);
+    Ok(third.find(alloc)?.unwrap())
+}
+
 /// The answer of the first pass that gives one.
 fn choose(
     alloc: Global,
@@ -151,22 +179,45 @@ fn choose(
     requires ended { IsEnded pieces.now }
     ensures { IfOk result (λ chosen. IsAnswer pieces.now shape.now params.now chosen) }
 {
-    if params.pretolerance >= 0 {
-        let first = Task::new(pieces, sums, starts, shape, params, Pass::First);
-        if let Some(chosen) = first.find(alloc)? {
-            return Ok(chosen);
-        }
+    match find_first(alloc, pieces, sums, starts, shape, params)? {
+        Some(chosen) => Ok(chosen),
+        None => choose_later(alloc, pieces, sums, starts, shape, params),
     }
-    let second = Task::new(pieces, sums, starts, shape, params, Pass::Second);
-    let found = second.find(alloc)?;
-    if params.emergency_stretch <= 0 {
-        return Ok(found.unwrap());
-    }
-    if let Some(chosen) = found {
-        return Ok(chosen);
-    }
-    let third = Task::new(pieces, sums, starts, shape, params, Pass::Emergency);
-    Ok(third.find(alloc)?.unwrap())
+}
+
+/// The same, with the totals before each place, and where lines start.
+fn choose_in(
+    alloc: Global,
+    pieces: &[Piece],
+    shape: &[LineShape],
+    params: &BreakParams,
+) -> Result<Chosen, AllocError>
+    requires shaped { 0 < length shape.now }
+    requires ended { IsEnded pieces.now }
+    ensures { IfOk result (λ chosen. IsAnswer pieces.now shape.now params.now chosen) }
+{
+    let sums = running_sums(alloc, pieces)?;
+    let starts = running_starts(alloc, pieces)?;
+    let (sums, starts) = (sums.as_slice(), starts.as_slice());
+    choose(alloc, pieces, sums, starts, shape, params)
+}
+
+/// The answer of the first pass, with the totals before each place, and where lines start.
+fn find_first_in(
+    alloc: Global,
+    pieces: &[Piece],
+    shape: &[LineShape],
+    params: &BreakParams,
+) -> Result<Option<Chosen>, AllocError>
+    requires shaped { 0 < length shape.now }
+    requires ended { IsEnded pieces.now }
+    ensures none { IfOk result (λ found. IfNone found (first_succeeds pieces.now shape.now params.now ≡ false)) }
+    ensures some { IfOk result (λ found. IfSome found (λ chosen. (first_succeeds pieces.now shape.now params.now ≡ true) × IsAnswer pieces.now shape.now params.now chosen)) }
+{
+    let sums = running_sums(alloc, pieces)?;
+    let starts = running_starts(alloc, pieces)?;
+    let (sums, starts) = (sums.as_slice(), starts.as_slice());
+    find_first(alloc, pieces, sums, starts, shape, params)
 }
 
 /// Breaks a paragraph's list into lines: of the first pass that has a chain, the chain of least demerits, and of equals the
@@ -191,10 +242,7 @@ pub fn breaks(
     if has_endless_shrink(list, params) {
         return Err(BreakError::InfiniteShrink);
     }
-    let sums = running_sums(alloc, list)?;
-    let starts = running_starts(alloc, list)?;
-    let (sums, starts) = (sums.as_slice(), starts.as_slice());
-    Ok(choose(alloc, list, sums, starts, shape.as_slice(), params)?)
+    Ok(choose_in(alloc, list, shape.as_slice(), params)?)
 }
 
 /// The breaks of the first pass alone, as `breaks` answers them; None where this pass isn't made, or doesn't give the answer, so
@@ -218,8 +266,5 @@ pub fn first_breaks(
     if has_endless_shrink(list, params) {
         return Err(BreakError::InfiniteShrink);
     }
-    let sums = running_sums(alloc, list)?;
-    let starts = running_starts(alloc, list)?;
-    let (sums, starts) = (sums.as_slice(), starts.as_slice());
-    Ok(find_first(alloc, list, sums, starts, shape.as_slice(), params)?)
+    Ok(find_first_in(alloc, list, shape.as_slice(), params)?)
 }
