@@ -1,5 +1,5 @@
 -- What a list of changes is answered, and an edit that is all of a list.
-use Rattle.std.proofs.Common.{◌≡◌, ℕ, Bool, true, false, cond, ◌&&◌, List, [], ◌∷◌, Result, Ok, Err, refl, sym, ap, ◌∙◌, subst, true≢false}
+use Rattle.std.proofs.Common.{◌≡◌, Bool, true, false, cond, ◌&&◌, List, [], ◌∷◌, Result, Ok, Err, refl, sym, ap, ◌∙◌, subst, true≢false}
 use Rattle.std.specs.Result.{IsErrAnd}
 use Rattle.tx_bytes.specs.Files.{Files}
 use Rattle.tx_files.specs.Changes.{all_fit, IsAnswerToAll}

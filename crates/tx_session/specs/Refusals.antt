@@ -1,5 +1,5 @@
 -- What an edit, and what a batch of changes, may be answered.
-use Rattle.std.specs.Prelude.{◌≡◌, true, false, ℕ, List, Option, Some, None, Result, Ok, Err}
+use Rattle.std.specs.Prelude.{◌≡◌, true, false, List, Some, None, Result, Ok, Err}
 use Rattle.tx_bytes.specs.Files.{Files}
 use Rattle.tx_files.specs.Changes.{all_fit, first_outside}
 use Rattle.tx_files.specs.Edits.{fits_in, length_of}

@@ -60,7 +60,10 @@ pub fn make_anew<M: Machine>(
     ensures bound { steps.new ≤ raised steps.old (all_turns (rows.fresh_rows M.formatter files.now main.now date.now limits.now)) }
 {
     let rows = fresh_rows(alloc, machine, files, main, date, limits, steps)?;
-    let said = transcript(alloc, rows.pieces.as_slice(), &rows.last.piece)?;
+    let Ok(said) = transcript(alloc, rows.pieces.as_slice(), &rows.last.piece) else {
+        drop(rows);
+        return Err(AllocError);
+    };
     Ok(Made { rows, said })
 }
 
@@ -130,7 +133,10 @@ pub fn make_after<M: Machine>(
     let later = format_later(
         alloc, machine, files, changes, &made.rows, kept, main, date, limits, steps,
     )?;
-    let said = transcript_after(alloc, &made.rows, kept as usize, &later)?;
+    let Ok(said) = transcript_after(alloc, &made.rows, kept as usize, &later) else {
+        drop(later);
+        return Err(AllocError);
+    };
     let reused = later.count;
     reuse_rows(alloc, &mut made.rows, kept as usize, later, changes)?;
     made.said = said;

@@ -123,6 +123,7 @@ impl<M: Machine> Session<M> {
         let before = self.files.change_all(changes)?;
         let kept = self.made.rows.resume_at(changes);
         if self.made.rows.stands(kept, changes) {
+            drop(before);
             let pages = self.made.rows.pages.as_slice().len();
             return Ok(report_of(pages, pages, 0));
         }
@@ -139,6 +140,7 @@ impl<M: Machine> Session<M> {
             steps,
         ) {
             Ok(reused) => {
+                drop(before);
                 let pages = self.made.rows.pages.as_slice().len();
                 Ok(report_of(pages, kept, reused))
             }

@@ -12,5 +12,5 @@ returns-clause-idle g c = reused-idle g.M.Machine.formatter g.M.Machine.meaning 
 
 pub returns-clause-said : goal.returns-clause-said
 returns-clause-said g c =
-    c.in_ok-said.ensures
+    c.in-Ok.ensures
     ∙ (λ i. joined_with (sym c.in_ok-reuse_rows.ensures.ok.pieces_are i) (sym (ap (λ last. last.piece) c.in_ok-reuse_rows.ensures.ok.last_is ∙ last-said c.args.changes.now c.args.made.now.rows.last c.in_ok-later.later.further) i))

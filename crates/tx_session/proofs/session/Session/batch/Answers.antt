@@ -67,16 +67,6 @@ invariant_of-self-in-Ok g c =
     shows-on c.self.invariant c.args.changes.now c.in_ok-before.ensures.answer.0 c.in_ok-before.ensures.ok g.met.M.Machine.lawful c.make_after.new.made
     (subst (λ n. Becomes g.M.Machine.meaning c.self.inside.made.rows (made_after g.M.Machine.formatter c.change_all.new.self c.args.changes.now c.self.inside.main c.self.inside.date c.self.inside.limits n) c.make_after.new.made.rows) c.resume_at-kept.ensures c.in-Ok.ensures.goes) c.in-Ok.ensures.idle c.in-Ok.ensures.said
 
-pub invariant_of-self-in-Ok-2 : goal.invariant_of-self-in-Ok-2
-invariant_of-self-in-Ok-2 g c =
-    shows-on c.self.invariant c.args.changes.now c.in_ok-before.ensures.answer.0 c.in_ok-before.ensures.ok g.met.M.Machine.lawful c.make_after.new.made
-    (subst (λ n. Becomes g.M.Machine.meaning c.self.inside.made.rows (made_after g.M.Machine.formatter c.change_all.new.self c.args.changes.now c.self.inside.main c.self.inside.date c.self.inside.limits n) c.make_after.new.made.rows) c.resume_at-kept.ensures c.in-Ok.ensures.goes) c.in-Ok.ensures.idle c.in-Ok.ensures.said
-
-pub invariant_of-self-in-Ok-3 : goal.invariant_of-self-in-Ok-3
-invariant_of-self-in-Ok-3 g c =
-    shows-on c.self.invariant c.args.changes.now c.in_ok-before.ensures.answer.0 c.in_ok-before.ensures.ok g.met.M.Machine.lawful c.make_after.new.made
-    (subst (λ n. Becomes g.M.Machine.meaning c.self.inside.made.rows (made_after g.M.Machine.formatter c.change_all.new.self c.args.changes.now c.self.inside.main c.self.inside.date c.self.inside.limits n) c.make_after.new.made.rows) c.resume_at-kept.ensures c.in-Ok.ensures.goes) c.in-Ok.ensures.idle c.in-Ok.ensures.said
-
 pub returns-in-Ok-clause-report : goal.returns-in-Ok-clause-report
 returns-in-Ok-clause-report g c =
     let made = c.make_after.new.made in
