@@ -1,5 +1,5 @@
 -- What a list of changes leaves of the sights of a turn, it leaves of the replies in it.
-use Rattle.std.proofs.Common.{◌≡◌, ℕ, true, List, [], ◌∷◌, take, Option, Some, refl, sym, ap, ◌∙◌, subst, unwrap_or}
+use Rattle.std.proofs.Common.{◌≡◌, true, List, [], ◌∷◌, take, Some, refl, sym, ap, ◌∙◌, subst, unwrap_or}
 use Rattle.std.proofs.lemmas.Bool.{and_parts}
 use Rattle.tx_bytes.specs.Files.{Files}
 use Rattle.tx_files.specs.Changes.{fits, changed, all_fit, all_changed}

@@ -1,5 +1,5 @@
 -- A stretch whose sights changes leave is the same stretch on the changed files, and reads no open file past what they leave.
-use Rattle.std.proofs.Common.{◌≡◌, ℕ, zero, suc, ◌-◌, ◌≤◌, Bool, true, false, cond, List, [], Option, Some, None, refl, ap, ◌∙◌, nat_lt}
+use Rattle.std.proofs.Common.{◌≡◌, ℕ, zero, suc, ◌-◌, Bool, true, false, cond, List, [], Option, Some, None, refl, ap, ◌∙◌, nat_lt}
 use Rattle.tx_bytes.specs.Files.{Files}
 use Rattle.tx_files.specs.declared.edit.Change.{Change}
 use Rattle.tx_machine.specs.declared.types.Close.{Close}

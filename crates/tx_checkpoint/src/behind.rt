@@ -11,6 +11,7 @@ use crate::format::format_rows;
 use crate::row::{Row, Rows};
 use std::alloc::{AllocError, Global};
 use tx_files::{FileSet, Name};
+use tx_list::both;
 use tx_machine::spot::Spot;
 use tx_machine::{Date, Limits, Machine, Opens, Steps};
 
@@ -83,9 +84,10 @@ pub fn spot_behind<M: Machine>(
         return spot_at_start(alloc, machine, main, date);
     }
     let row = &rows[kept - 1];
+    let (state, opens) = both(machine.share(alloc, &row.state), row.opens.clone())?;
     Ok(Spot {
-        state: machine.share(alloc, &row.state)?,
-        opens: row.opens.clone()?,
+        state,
+        opens,
         left: 0,
     })
 }

@@ -1,5 +1,5 @@
 -- The changes of a list that were made so far, and those that are left, are all of them; and a list that is one edit.
-use Rattle.std.proofs.Common.{◌≡◌, ℕ, ◌+◌, ◌<◌, ◌≤◌, ◌^◌, Bool, true, false, cond, ◌&&◌, List, [], ◌∷◌, length, drop, get_or, Option, Some, None, Result, Ok, Err, refl, sym, ap, subst, ◌∙◌}
+use Rattle.std.proofs.Common.{◌≡◌, ℕ, ◌+◌, ◌<◌, ◌≤◌, ◌^◌, true, cond, ◌&&◌, List, [], ◌∷◌, length, drop, get_or, Some, None, Result, Ok, Err, refl, sym, ap, subst, ◌∙◌}
 use Rattle.std.specs.Prelude.{OnOk}
 use Rattle.std.proofs.lemmas.List.{drop_more, drop_all}
 use Rattle.tx_bytes.specs.Files.{Files}
@@ -7,7 +7,7 @@ use Rattle.tx_files.specs.Edits.{length_of, fits_in, edited, IsAnswerTo}
 use Rattle.tx_files.specs.Changes.{name_of, fits, changed, all_fit, all_changed, outside_from, AreSmall, numbered, IsAnswerToOne, IsAnswerToAll}
 use Rattle.tx_files.specs.declared.edit.Edit.{Edit as FileEdit}
 use Rattle.tx_files.specs.declared.edit.Change.{Change}
-use Rattle.tx_files.specs.declared.edit.Change.TheVariants.{Edit, Remove}
+use Rattle.tx_files.specs.declared.edit.Change.TheVariants.{Edit}
 use Rattle.tx_files.specs.declared.edit.Refusal.{Refusal}
 use Rattle.tx_files.specs.declared.edit.Refusal.TheVariants as edits
 use Rattle.tx_files.specs.declared.edit.BatchRefusal.{BatchRefusal}

@@ -1,5 +1,4 @@
 -- How a list of changes is taken back.
-use Rattle.std.specs.Prelude.{ℕ, List}
 use Rattle.tx_bytes.specs.Files.{Files}
 use Rattle.tx_files.specs.Edits.{restored, CanRestore}
 use Rattle.tx_files.specs.declared.before.Before.{Before}

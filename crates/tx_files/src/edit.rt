@@ -5,7 +5,6 @@ ghost use Rattle.tx_files.specs.declared.edit.Refusal.TheVariants.{OutOfMemory};
 
 use crate::name::Name;
 use std::alloc::AllocError;
-use thiserror::Error;
 use tx_bytes::Bytes;
 
 /// A change of one file: from `place` on, counted in bytes from the file's start, `removed` bytes are taken out, and
@@ -53,13 +52,11 @@ pub enum Undo {
 }
 
 /// Why an edit wasn't made. Nothing has changed then.
-#[derive(Clone, Copy, Debug, Error)]
+#[derive(Clone, Copy)]
 pub enum Refusal {
     /// The edit goes past the end of its file, which has `len` bytes; an absent file has none.
-    #[error("outside, file has {len} bytes")]
     Outside { len: u64 },
     /// There was no memory left.
-    #[error("out of memory")]
     OutOfMemory,
 }
 
@@ -72,14 +69,12 @@ impl From<AllocError> for Refusal {
 }
 
 /// Why a list of changes wasn't made. Nothing has changed then.
-#[derive(Clone, Copy, Debug, Error)]
+#[derive(Clone, Copy)]
 pub enum BatchRefusal {
     /// The change of this number, counted from 1, goes past the end of its file, which has `len` bytes as the changes before
     /// it leave it; an absent file has none.
-    #[error("change {index} outside, file has {len} bytes")]
     Outside { index: u64, len: u64 },
     /// There was no memory left.
-    #[error("out of memory")]
     OutOfMemory,
 }
 

@@ -225,7 +225,12 @@ fn untouched_by(seen: &Seen, change: &Change) -> bool
 pub fn untouched(seen: &Seen, changes: &[Change]) -> bool
     ensures { result ≡ reads.untouched seen.now changes.now }
 {
-    changes.iter().all(|change| untouched_by(seen, change))
+    for change in changes {
+        if !untouched_by(seen, change) {
+            return false;
+        }
+    }
+    true
 }
 
 /// Whether this file was asked for by its name, to be opened or taken whole. It takes no memory.
@@ -252,5 +257,10 @@ fn asks_for_changed(seen: &Seen, change: &Change) -> bool
 pub fn asks_for_any(seen: &Seen, changes: &[Change]) -> bool
     ensures { result ≡ reads.asks_for_any seen.now changes.now }
 {
-    changes.iter().any(|change| asks_for_changed(seen, change))
+    for change in changes {
+        if asks_for_changed(seen, change) {
+            return true;
+        }
+    }
+    false
 }

@@ -2,7 +2,7 @@ use Rattle.std.proofs.Common.{◌-◌}
 use Rattle.tx_checkpoint.specs.Meant.{IsIdle, AreIdle, rows_meant}
 use Rattle.tx_checkpoint.specs.Rows.{rows_from}
 use Rattle.tx_checkpoint.proofs.Keeping.{Keeping}
-use Rattle.tx_checkpoint.proofs.format.format_rows.Given as goal
+use Rattle.tx_checkpoint.proofs.format.format_pages.Given as goal
 
 abbrev pub invariant-loop-page : goal.invariant-loop-page
 invariant-loop-page g l = record {

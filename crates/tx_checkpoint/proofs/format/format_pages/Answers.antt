@@ -5,7 +5,7 @@ use Rattle.tx_machine.specs.Run.{page_start}
 use Rattle.tx_machine.specs.Turn.{Progress, stretch}
 use Rattle.tx_checkpoint.specs.Meant.{AreIdle, row_meant}
 use Rattle.tx_checkpoint.proofs.Keeping.{keeping-begins, keeping-page, keeping-told, keeping-counted, keeping-bound, limit-told, limit-counted, page-formatted, page-idle, end-formatted, idle-push}
-use Rattle.tx_checkpoint.proofs.format.format_rows.Goals as goal
+use Rattle.tx_checkpoint.proofs.format.format_pages.Goals as goal
 
 -- while pages may still come, one fewer may come behind the next one
 one_fewer : (limit page : ℕ) → suc page ≤ limit → limit - page ≡ suc (limit - (page + 1))
@@ -16,10 +16,10 @@ none_left limit page past = omega arith
 
 pub loop-page-init : goal.loop-page-init
 loop-page-init g c = record {
-  so_far = keeping-begins g.M.Machine.formatter c.args.files.now c.args.budget c.args.most (c.args.most - 0) (g.M.Machine.meaning c.args.spot.state) c.args.spot.opens _ _ _ c.args.steps.now
-      (omega arith) c.new-pages.ensures.items c.new-pieces.ensures.items (ap (map (row_meant g.M.Machine.meaning)) c.new-rows.ensures.items);
-  idle = c.requires;
-  kept = λ k d below. absurd (omega (arith, below, ap length c.new-rows.ensures.items));
+  so_far = keeping-begins g.M.Machine.formatter c.args.files.now c.args.budget c.args.most (c.args.most - 0) (g.M.Machine.meaning c.args.spot.now.state) c.args.spot.now.opens _ _ _ c.args.steps.now
+      (omega arith) c.requires.no_pages c.requires.no_pieces (ap (map (row_meant g.M.Machine.meaning)) c.requires.no_rows);
+  idle = c.requires.idle;
+  kept = λ k d below. absurd (omega (arith, below, ap length c.requires.no_rows));
 }
 
 pub returns-in_err-body-clause-bound : goal.returns-in_err-body-clause-bound
@@ -65,7 +65,7 @@ returns-clause-rows g c =
       pages_are = told.bodies_are;
       pieces_are = told.pieces_are;
       rows_are = told.rows_are;
-      last_is = (λ i. record { piece = c.new.ensures i; turns = 0; seen = c.new-2.ensures i; opens = c.loop-page.spot.opens; end = PageLimit }) ∙ told.last_is;
+      last_is = (λ i. record { piece = c.new.ensures i; turns = 0; seen = c.new-2.ensures i; opens = c.replace.ensures.value i; end = PageLimit }) ∙ told.last_is;
     }
 
 pub returns-clause-counted : goal.returns-clause-counted
