@@ -5,9 +5,11 @@ use std::alloc::AllocError;
 fn wanted(rule: &str) -> &'static str {
     match rule {
         "2" => "a byte of a preamble, which has TeX's units and a magnification from 1 to 32768",
-        "3" => "a byte of what begins a page, with the place of the page before it, or, behind a page, of the postamble",
+        "3" =>
+            "a byte of what begins a page, with the place of the page before it, or, behind a page, of the postamble",
         "4" => "a byte of a command of a page, with a font that is defined, or of the page's end",
-        "5" => "a byte of the postamble, with its places and numbers, and all fonts from the last one on",
+        "5" =>
+            "a byte of the postamble, with its places and numbers, and all fonts from the last one on",
         "6" => "a byte of the file's end, with the postamble's place, or nothing behind it",
         _ => "something else",
     }

@@ -20,7 +20,7 @@ fn len_of(behind: &str) -> Option<&str> {
         .strip_suffix(" bytes")
 }
 
-fn outside(line: &str) -> Option<Outside<'_>> {
+fn read_outside(line: &str) -> Option<Outside<'_>> {
     let (number, behind) = line.strip_prefix("edit ")?.split_once(": ")?;
     let number = number.parse().ok()?;
     match behind.strip_prefix("change ") {
@@ -98,7 +98,7 @@ fn append_lines(
     commands: &[Command],
 ) -> Result<(), AllocError> {
     for line in said.lines() {
-        if let Some(it) = outside(line) {
+        if let Some(it) = read_outside(line) {
             lines.push(line_of(alloc, edit_of(commands, it), it)?)?;
         }
     }

@@ -67,8 +67,13 @@ fn write_kind(
 ) -> Result<(), AllocError> {
     match kind {
         ErrorKind::UnknownArgument => write!(text, "{thing}: no such option here"),
-        ErrorKind::InvalidSubcommand => write!(text, "{thing}: no such command, it is run, gen or list"),
-        ErrorKind::MissingSubcommand => text.push_str("no command is given, it is run, gen or list"),
+        ErrorKind::InvalidSubcommand => write!(
+            text,
+            "{thing}: no such command, it is run, gen or list"
+        ),
+        ErrorKind::MissingSubcommand => text.push_str(
+            "no command is given, it is run, gen or list",
+        ),
         ErrorKind::ArgumentConflict => write!(text, "{}: given twice", option_of(thing)),
         ErrorKind::InvalidValue => {
             write!(text, "{}: a value is missing behind it", option_of(thing))

@@ -39,7 +39,8 @@ fn spot_of(bytes: &[u8], place: u64) -> Spot {
 /// What has to stand at the place of a refusal, by the number of its rule.
 fn wanted(rule: &str) -> &'static str {
     match rule {
-        "2" => "'edit', 'remove', 'batch', 'save' or 'locate', in a batch 'edit' or 'remove', and one space",
+        "2" =>
+            "'edit', 'remove', 'batch', 'save' or 'locate', in a batch 'edit' or 'remove', and one space",
         "3" => "a number (0 to 4294967295, in digits alone, no zero in front) and one space",
         "4" => "a file's name (1 to 255 characters of ASCII, no space) and the end of the line",
         "5" => "more bytes, as many as the edit's line says: the script ends within them",
