@@ -37,49 +37,48 @@ fn fire_if(
     table: &mut Eqtb,
     pages: &mut Pages,
     built: Built,
-    left: Nodes,
-) -> Result<(Next, Nodes), GalleyError>
-    requires { built ≡ Went → left ≡ [] }
-    ensures ok { IfOk result (λ out. spec.built_by table.old (record { pages = pages.old; rest = left; built = built }) built ≡ Ok (record { next = out.0; list = out.1; table = table.new; pages = pages.new })) }
-    ensures error { IfErr result (λ e. e ≢ OutOfMemory → spec.built_by table.old (record { pages = pages.old; rest = left; built = built }) built ≡ Err (error_of e)) }
+    left: &mut Nodes,
+) -> Result<Next, GalleyError>
+    requires { built ≡ Went → left.old ≡ [] }
+    ensures ok { IfOk result (λ next. spec.built_by table.old (record { pages = pages.old; rest = left.old; built = built }) built ≡ Ok (record { next = next; list = left.new; table = table.new; pages = pages.new })) }
+    ensures error { IfErr result (λ e. e ≢ OutOfMemory → spec.built_by table.old (record { pages = pages.old; rest = left.old; built = built }) built ≡ Err (error_of e)) }
 {
     match built {
         Built::Went => {
-            let mut left = left;
-            keep_kern(pages, &mut left)?;
-            Ok((Next::Goes, left))
+            keep_kern(pages, left)?;
+            Ok(Next::Goes)
         }
         Built::Fires => fire(alloc, table, pages, left),
     }
 }
 
-/// The contributions of a list go to the page, where no output is under way.
+/// The contributions of a list go to the page, where no output is under way; those that are left stay.
 fn build_page(
     alloc: Global,
     table: &mut Eqtb,
     pages: &mut Pages,
-    list: Nodes,
-) -> Result<(Next, Nodes), GalleyError>
-    ensures ok { IfOk result (λ out. spec.built table.old (contributing_all table.old.table pages.old list) ≡ Ok (record { next = out.0; list = out.1; table = table.new; pages = pages.new })) }
-    ensures error { IfErr result (λ e. e ≢ OutOfMemory → spec.built table.old (contributing_all table.old.table pages.old list) ≡ Err (error_of e)) }
+    list: &mut Nodes,
+) -> Result<Next, GalleyError>
+    ensures ok { IfOk result (λ next. spec.built table.old (contributing_all table.old.table pages.old list.old) ≡ Ok (record { next = next; list = list.new; table = table.new; pages = pages.new })) }
+    ensures error { IfErr result (λ e. e ≢ OutOfMemory → spec.built table.old (contributing_all table.old.table pages.old list.old) ≡ Err (error_of e)) }
 {
-    let mut left = Nodes::new(alloc);
-    let built = contribute_all(alloc, table, pages, list, &mut left)?;
-    fire_if(alloc, table, pages, built, left)
+    let given = replace(list, Nodes::new(alloc));
+    let built = contribute_all(alloc, table, pages, given, list)?;
+    fire_if(alloc, table, pages, built, list)
 }
 
-/// The contributions of a list go to the page; what is left of them behind a page that fired is answered.
+/// The contributions of a list go to the page; what is left of them behind a page that fired stays.
 fn build(
     alloc: Global,
     table: &mut Eqtb,
     pages: &mut Pages,
-    list: Nodes,
-) -> Result<(Next, Nodes), GalleyError>
-    ensures ok { IfOk result (λ out. spec.building list table.old pages.old ≡ Ok (record { next = out.0; list = out.1; table = table.new; pages = pages.new })) }
-    ensures error { IfErr result (λ e. e ≢ OutOfMemory → spec.building list table.old pages.old ≡ Err (error_of e)) }
+    list: &mut Nodes,
+) -> Result<Next, GalleyError>
+    ensures ok { IfOk result (λ next. spec.building list.old table.old pages.old ≡ Ok (record { next = next; list = list.new; table = table.new; pages = pages.new })) }
+    ensures error { IfErr result (λ e. e ≢ OutOfMemory → spec.building list.old table.old pages.old ≡ Err (error_of e)) }
 {
     if pages.output.is_active() {
-        Ok((Next::Goes, list))
+        Ok(Next::Goes)
     } else {
         build_page(alloc, table, pages, list)
     }
@@ -95,10 +94,7 @@ fn exercise_innermost(
     ensures ok { IfOk result (λ next. spec.exercising_innermost nest.old table.old pages.old ≡ Ok (record { next = next; nest = nest.new; table = table.new; pages = pages.new })) }
     ensures error { IfErr result (λ e. e ≢ OutOfMemory → spec.exercising_innermost nest.old table.old pages.old ≡ Err (error_of e)) }
 {
-    let list = replace(&mut nest.top().nodes, Nodes::new(alloc));
-    let (next, left) = build(alloc, table, pages, list)?;
-    nest.top().nodes = left;
-    Ok(next)
+    build(alloc, table, pages, &mut nest.top().nodes)
 }
 
 /// The page builder is exercised on the list around the one that is being built, which waits.

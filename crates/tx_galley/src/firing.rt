@@ -4,16 +4,21 @@ ghost use Rattle.std.specs.Prelude.{◌≡◌, ◌≢◌, ◌<ℤ◌, Ok, Err, I
 ghost use Rattle.tx_output.specs.declared.begun.Begun.TheVariants.{Read};
 ghost use Rattle.tx_pack.specs.declared.types.Packed.{Packed};
 ghost use Rattle.tx_galley.specs.declared.errors.GalleyError.TheVariants.{OutOfMemory};
+ghost use Rattle.tx_eqtb.specs.Table.{tokens_at};
+ghost use Rattle.tx_prim.specs.declared.tokens.TokenParameter.TheVariants.{Output};
+ghost use Rattle.tx_seen.specs.declared.place.Place.TheVariants.{Tokens};
+ghost use Rattle.tx_galley.specs.declared.firing.Next.TheVariants.{Ships};
 ghost use Rattle.tx_galley.specs.Errors.{error_of};
 ghost use Rattle.tx_galley.specs.Firing as spec;
 
 use crate::errors::GalleyError;
 use crate::params::fire_params;
 use std::alloc::{AllocError, Global};
-use std::mem::replace;
+use std::mem::{replace, swap};
 use tx_eqtb::{BoxContents, Entry, Eqtb};
 use tx_node::{BoxNode, Nodes};
 use tx_output::{Begun, LastItem, Pages};
+use tx_pack::Packed;
 use tx_pagebuilder::{BoxList, ClassBox, Fired};
 use tx_prim::{IntegerParameter, TokenParameter};
 use tx_seen::Place;
@@ -140,40 +145,70 @@ fn begin_output(
 
 /// A page is to be shipped: what was held over and what remained stand before the contributions that are left. Its only error is
 /// want of memory.
-fn remain(alloc: Global, pages: &mut Pages, left: Nodes) -> Result<Nodes, GalleyError>
-    ensures ok { IfOk result (λ list. list ≡ spec.remaining pages.old left) }
+fn remain(alloc: Global, pages: &mut Pages, left: &mut Nodes) -> Result<(), GalleyError>
+    ensures list { OnOk result (left.new ≡ spec.remaining pages.old left.old) }
     ensures pages { OnOk result (pages.new ≡ spec.nothing_waits pages.old) }
     ensures error { IfErr result (λ e. e ≡ OutOfMemory) }
 {
-    let mut left = left;
     let mut list = pages.output.finish(Nodes::new(alloc), true, true)?;
-    list.append(&mut left)?;
+    list.append(left)?;
     pages.page.ship();
-    Ok(list)
+    swap(left, &mut list);
+    Ok(())
 }
 
-/// What becomes of the box of a page, and the contributions behind it, of which these are left.
+/// A page with this box is to be shipped. Its only error is want of memory.
+fn ship(
+    alloc: Global,
+    pages: &mut Pages,
+    packed: Packed,
+    left: &mut Nodes,
+) -> Result<Next, GalleyError>
+    ensures next { IfOk result (λ next. next ≡ Ships packed.node packed.badness) }
+    ensures list { OnOk result (left.new ≡ spec.remaining pages.old left.old) }
+    ensures pages { OnOk result (pages.new ≡ spec.nothing_waits pages.old) }
+    ensures error { IfErr result (λ e. e ≡ OutOfMemory) }
+{
+    remain(alloc, pages, left)?;
+    Ok(Next::Ships(packed.node, packed.badness))
+}
+
+/// What becomes of the box of a page, and of the contributions that are left behind it.
 fn put_out(
     alloc: Global,
     table: &mut Eqtb,
     pages: &mut Pages,
     begun: Begun,
     output: TokList,
-    left: Nodes,
-) -> Result<(Next, Nodes), GalleyError>
-    ensures ok { IfOk result (λ out. spec.put_out begun output left table.old pages.old ≡ record { next = out.0; list = out.1; table = table.new; pages = pages.new }) }
+    left: &mut Nodes,
+) -> Result<Next, GalleyError>
+    ensures ok { IfOk result (λ next. spec.put_out begun output left.old table.old pages.old ≡ record { next = next; list = left.new; table = table.new; pages = pages.new }) }
     ensures error { IfErr result (λ e. e ≡ OutOfMemory) }
 {
     match begun {
-        Begun::Ship(packed) => Ok((
-            Next::Ships(packed.node, packed.badness),
-            remain(alloc, pages, left)?,
-        )),
+        Begun::Ship(packed) => ship(alloc, pages, packed, left),
         Begun::Read(packed) => {
             put_box(alloc, table, 255, packed.node)?;
-            Ok((Next::Reads(output, packed.badness), left))
+            Ok(Next::Reads(output, packed.badness))
         }
     }
+}
+
+/// The output of a page begins: what becomes of its box, and the tokens of \output.
+fn begin_with_output(
+    alloc: Global,
+    table: &Eqtb,
+    pages: &mut Pages,
+    fired: Fired,
+) -> Result<(Begun, TokList), GalleyError>
+    ensures output { IfOk result (λ begun. begun.1 ≡ tokens_at table.now.table (Tokens Output)) }
+    ensures ok { IfOk result (λ begun. spec.output_begun fired (tokens_at table.now.table (Tokens Output)) table.now.table pages.old ≡ Ok begun.0) }
+    ensures pages { IfOk result (λ begun. pages.new ≡ spec.counted begun.0 (spec.waiting fired pages.old)) }
+    ensures error { IfErr result (λ e. e ≢ OutOfMemory → spec.output_begun fired (tokens_at table.now.table (Tokens Output)) table.now.table pages.old ≡ Err (error_of e)) }
+{
+    let output = table.tokens(&Place::Tokens(TokenParameter::Output))?;
+    let begun = begin_output(alloc, table, pages, fired, &output)?;
+    Ok((begun, output))
 }
 
 /// The output of a page that was fired begins, which has left its boxes and marks.
@@ -182,13 +217,12 @@ fn put_out_fired(
     table: &mut Eqtb,
     pages: &mut Pages,
     fired: Fired,
-    left: Nodes,
-) -> Result<(Next, Nodes), GalleyError>
-    ensures ok { IfOk result (λ out. spec.fired_in fired left table.old pages.old ≡ Ok (record { next = out.0; list = out.1; table = table.new; pages = pages.new })) }
-    ensures error { IfErr result (λ e. e ≢ OutOfMemory → spec.fired_in fired left table.old pages.old ≡ Err (error_of e)) }
+    left: &mut Nodes,
+) -> Result<Next, GalleyError>
+    ensures ok { IfOk result (λ next. spec.fired_in fired left.old table.old pages.old ≡ Ok (record { next = next; list = left.new; table = table.new; pages = pages.new })) }
+    ensures error { IfErr result (λ e. e ≢ OutOfMemory → spec.fired_in fired left.old table.old pages.old ≡ Err (error_of e)) }
 {
-    let output = table.tokens(&Place::Tokens(TokenParameter::Output))?;
-    let begun = begin_output(alloc, table, pages, fired, &output)?;
+    let (begun, output) = begin_with_output(alloc, table, pages, fired)?;
     put_out(alloc, table, pages, begun, output, left)
 }
 
@@ -214,25 +248,26 @@ fn put_page_out(
     table: &mut Eqtb,
     pages: &mut Pages,
     fired: Fired,
-    left: Nodes,
-) -> Result<(Next, Nodes), GalleyError>
-    ensures ok { IfOk result (λ out. spec.firing_at fired left table.old pages.old ≡ Ok (record { next = out.0; list = out.1; table = table.new; pages = pages.new })) }
-    ensures error { IfErr result (λ e. e ≢ OutOfMemory → spec.firing_at fired left table.old pages.old ≡ Err (error_of e)) }
+    left: &mut Nodes,
+) -> Result<Next, GalleyError>
+    ensures ok { IfOk result (λ next. spec.firing_at fired left.old table.old pages.old ≡ Ok (record { next = next; list = left.new; table = table.new; pages = pages.new })) }
+    ensures error { IfErr result (λ e. e ≢ OutOfMemory → spec.firing_at fired left.old table.old pages.old ≡ Err (error_of e)) }
 {
     let mut fired = fired;
     leave(alloc, table, pages, &mut fired)?;
     put_out_fired(alloc, table, pages, fired, left)
 }
 
-/// The page is fired, where these contributions are left: what is to come of its box, and the contributions then.
+/// The page is fired, where these contributions are left: what is to come of its box; the contributions are those that
+/// are left then.
 pub(crate) fn fire(
     alloc: Global,
     table: &mut Eqtb,
     pages: &mut Pages,
-    left: Nodes,
-) -> Result<(Next, Nodes), GalleyError>
-    ensures ok { IfOk result (λ out. spec.firing left table.old pages.old ≡ Ok (record { next = out.0; list = out.1; table = table.new; pages = pages.new })) }
-    ensures error { IfErr result (λ e. e ≢ OutOfMemory → spec.firing left table.old pages.old ≡ Err (error_of e)) }
+    left: &mut Nodes,
+) -> Result<Next, GalleyError>
+    ensures ok { IfOk result (λ next. spec.firing left.old table.old pages.old ≡ Ok (record { next = next; list = left.new; table = table.new; pages = pages.new })) }
+    ensures error { IfErr result (λ e. e ≢ OutOfMemory → spec.firing left.old table.old pages.old ≡ Err (error_of e)) }
 {
     let fired = fired(alloc, table, pages)?;
     put_page_out(alloc, table, pages, fired, left)

@@ -1,5 +1,5 @@
 //! \vsplit (TeX: The Program, sections 977 to 979).
-ghost use Rattle.std.specs.Prelude.{◌≡◌, ◌≢◌, Ok, Err, IfOk, IfErr, OnOk};
+ghost use Rattle.std.specs.Prelude.{◌≡◌, ◌≢◌, Ok, Err, IfOk, IfErr, OnOk, Some};
 ghost use Rattle.tx_num.specs.Glue.{IsDimension};
 ghost use Rattle.tx_galley.specs.declared.errors.GalleyError.TheVariants.{OutOfMemory};
 ghost use Rattle.tx_galley.specs.Errors.{error_of};
@@ -11,7 +11,7 @@ use std::alloc::Global;
 use tx_box::down;
 use tx_eqtb::{BoxContents, Entry, Eqtb};
 use tx_insert::{Split, split};
-use tx_node::{Direction, Nodes};
+use tx_node::{BoxNode, Direction, Nodes};
 use tx_num::{GREATEST_DIMENSION, fits};
 use tx_output::Pages;
 use tx_pack::{Goal, PackParams, Packed, vpack};
@@ -111,6 +111,27 @@ fn split_vertical(
     }
 }
 
+/// The list of a box that stood in a register is split, unless it is an \hbox.
+fn split_found(
+    alloc: Global,
+    table: &mut Eqtb,
+    pages: &mut Pages,
+    register: u8,
+    found: BoxNode,
+    size: i64,
+) -> Result<Packed, GalleyError>
+    ensures ok { IfOk result (λ packed. spec.splitting_in register size found.list table.old pages.old found.head.direction ≡ Ok (record { packed = Some packed; table = table.new; pages = pages.new })) }
+    ensures error { IfErr result (λ e. e ≢ OutOfMemory → spec.splitting_in register size found.list table.old pages.old found.head.direction ≡ Err (error_of e)) }
+{
+    match found.head().direction {
+        Direction::Horizontal => Err(GalleyError::Refused(TexError::MissingBox)),
+        Direction::Vertical => {
+            let list = found.into_nodes()?;
+            split_vertical(alloc, table, pages, register, list, size)
+        }
+    }
+}
+
 /// \vsplit of a register to so many sp (TeX: The Program, section 977): what stands in its box up to the best break is answered as
 /// a box, None where the register is void; what remains stands in the register, and the marks of the split are those of what was
 /// split off. Table and marks may only be dropped behind an error.
@@ -132,15 +153,7 @@ pub fn split_box(
         Some(found) => found.clone()?,
         None => return Ok(None),
     };
-    match found.head().direction {
-        Direction::Horizontal => Err(GalleyError::Refused(TexError::MissingBox)),
-        Direction::Vertical => Ok(Some(split_vertical(
-            alloc,
-            table,
-            pages,
-            register,
-            found.into_nodes()?,
-            i64::from(size),
-        )?)),
-    }
+    let size = i64::from(size);
+    let packed = split_found(alloc, table, pages, register, found, size)?;
+    Ok(Some(packed))
 }
