@@ -75,7 +75,7 @@ impl Kept for Meaning {
             (Meaning::Undefined, Meaning::Undefined) => true,
             (Meaning::Command(one), Meaning::Command(other)) => same_primitive(*one, *other),
             (Meaning::Character(code, category), Meaning::Character(other, also)) => {
-                code == other && category == also
+                *code == *other && *category == *also
             }
             (Meaning::CharacterNumber(one), Meaning::CharacterNumber(other)) => one == other,
             (Meaning::MathNumber(one), Meaning::MathNumber(other)) => one == other,
@@ -85,7 +85,7 @@ impl Kept for Meaning {
             (Meaning::MuskipRegister(one), Meaning::MuskipRegister(other)) => one == other,
             (Meaning::ToksRegister(one), Meaning::ToksRegister(other)) => one == other,
             (Meaning::Font(one), Meaning::Font(other)) => one == other,
-            (Meaning::Expandable(one), Meaning::Expandable(other)) => one == other,
+            (Meaning::Expandable(one), Meaning::Expandable(other)) => *one == *other,
             (Meaning::Macro(one), Meaning::Macro(other)) => one.same(other),
             (Meaning::Held, Meaning::Held) => true,
             _ => false,

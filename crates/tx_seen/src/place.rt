@@ -150,34 +150,35 @@ impl Kept for Place {
             (Place::Muskip(one), Place::Muskip(other)) => one == other,
             (Place::Toks(one), Place::Toks(other)) => one == other,
             (Place::Category(one), Place::Category(other)) => one == other,
-            (Place::Code(kind, one), Place::Code(also, other)) => kind == also && one == other,
+            (Place::Code(kind, one), Place::Code(also, other)) => *kind == *also && *one == *other,
             (Place::Integer(one), Place::Integer(other)) => same_primitive(
                 Primitive::Integer(*one),
                 Primitive::Integer(*other),
             ),
-            (Place::Dimension(one), Place::Dimension(other)) => one == other,
-            (Place::Glue(one), Place::Glue(other)) => one == other,
-            (Place::Tokens(one), Place::Tokens(other)) => one == other,
+            (Place::Dimension(one), Place::Dimension(other)) => *one == *other,
+            (Place::Glue(one), Place::Glue(other)) => *one == *other,
+            (Place::Tokens(one), Place::Tokens(other)) => *one == *other,
             (Place::Box(one), Place::Box(other)) => one == other,
-            (Place::BoxSize(side, one), Place::BoxSize(also, other)) => side == also
-                && one == other,
-            (Place::BoxTest(test, one), Place::BoxTest(also, other)) => test == also
-                && one == other,
-            (Place::Last(one), Place::Last(other)) => one == other,
+            (Place::BoxSize(side, one), Place::BoxSize(also, other)) => *side == *also
+                && *one == *other,
+            (Place::BoxTest(test, one), Place::BoxTest(also, other)) => *test == *also
+                && *one == *other,
+            (Place::Last(one), Place::Last(other)) => *one == *other,
             (Place::Badness, Place::Badness) => true,
             (Place::PrevDepth, Place::PrevDepth) => true,
             (Place::Magnification, Place::Magnification) => true,
             (Place::Font, Place::Font) => true,
-            (Place::FontSize(one), Place::FontSize(other)) => one == other,
-            (Place::FontDimen(font, one), Place::FontDimen(also, other)) => font == also
-                && one == other,
-            (Place::FontInteger(kind, one), Place::FontInteger(also, other)) => kind == also
-                && one == other,
-            (Place::Family(size, one), Place::Family(also, other)) => size == also && one == other,
+            (Place::FontSize(one), Place::FontSize(other)) => *one == *other,
+            (Place::FontDimen(font, one), Place::FontDimen(also, other)) => *font == *also
+                && *one == *other,
+            (Place::FontInteger(kind, one), Place::FontInteger(also, other)) => *kind == *also
+                && *one == *other,
+            (Place::Family(size, one), Place::Family(also, other)) => *size == *also
+                && *one == *other,
             (Place::SpaceFactor, Place::SpaceFactor) => true,
             (Place::PrevGraf, Place::PrevGraf) => true,
             (Place::ParShape, Place::ParShape) => true,
-            (Place::Page(one), Place::Page(other)) => one == other,
+            (Place::Page(one), Place::Page(other)) => *one == *other,
             (Place::DeadCycles, Place::DeadCycles) => true,
             _ => false,
         }
