@@ -200,19 +200,12 @@ impl Eqtb {
             Place::BoxSize(side, number) => {
                 size_of(&self.table.seldom.boxes, *side, *number as usize)
             }
-            Place::Name(_) | Place::Active(_) | Place::Category(_) => 0,
-            Place::Toks(_) | Place::Tokens(_) | Place::Box(_) | Place::BoxTest(_, _) => 0,
-            Place::Skip(_) | Place::Muskip(_) | Place::Glue(_) => 0,
             Place::Font => i32::from(self.table.font),
-            Place::Last(_) | Place::Badness | Place::PrevDepth | Place::Magnification => 0,
-            Place::FontSize(_) | Place::FontDimen(_, _) => 0,
             Place::Family(size, family) => number_of(
                 &self.table.seldom.families,
                 family_index(*size, *family),
             ),
-            Place::FontInteger(_, _) | Place::SpaceFactor => 0,
-            Place::PrevGraf | Place::ParShape => 0,
-            Place::Page(_) | Place::DeadCycles => 0,
+            _ => 0,
         }
     }
 
@@ -224,16 +217,7 @@ impl Eqtb {
             Place::Skip(number) => glue_of(&self.table.seldom.skips, *number as usize),
             Place::Muskip(number) => glue_of(&self.table.seldom.muskips, *number as usize),
             Place::Glue(parameter) => self.glue_parameter(*parameter),
-            Place::Name(_) | Place::Active(_) | Place::Category(_) => Glue::zero(),
-            Place::Count(_) | Place::Dimen(_) | Place::Code(_, _) => Glue::zero(),
-            Place::Integer(_) | Place::Dimension(_) | Place::BoxSize(_, _) => Glue::zero(),
-            Place::Toks(_) | Place::Tokens(_) | Place::Box(_) => Glue::zero(),
-            Place::BoxTest(_, _) | Place::Magnification => Glue::zero(),
-            Place::Last(_) | Place::Badness | Place::PrevDepth => Glue::zero(),
-            Place::Font | Place::FontSize(_) | Place::FontDimen(_, _) => Glue::zero(),
-            Place::FontInteger(_, _) | Place::Family(_, _) | Place::SpaceFactor => Glue::zero(),
-            Place::PrevGraf | Place::ParShape => Glue::zero(),
-            Place::Page(_) | Place::DeadCycles => Glue::zero(),
+            _ => Glue::zero(),
         }
     }
 
@@ -257,15 +241,7 @@ impl Eqtb {
     {
         match place {
             Place::Box(number) => box_of(&self.table.seldom.boxes, *number as usize),
-            Place::Name(_) | Place::Active(_) | Place::Category(_) | Place::Code(_, _) => None,
-            Place::Count(_) | Place::Dimen(_) | Place::Toks(_) | Place::BoxSize(_, _) => None,
-            Place::Skip(_) | Place::Muskip(_) | Place::Glue(_) | Place::BoxTest(_, _) => None,
-            Place::Integer(_) | Place::Dimension(_) | Place::Tokens(_) => None,
-            Place::Last(_) | Place::Badness | Place::PrevDepth | Place::Magnification => None,
-            Place::Font | Place::FontSize(_) | Place::FontDimen(_, _) => None,
-            Place::FontInteger(_, _) | Place::Family(_, _) | Place::SpaceFactor => None,
-            Place::PrevGraf | Place::ParShape => None,
-            Place::Page(_) | Place::DeadCycles => None,
+            _ => None,
         }
     }
 }
@@ -279,15 +255,7 @@ impl Parts {
         match place {
             Place::Box(number) => level_of(&self.seldom.boxes, *number as usize),
             Place::BoxSize(_, number) => level_of(&self.seldom.boxes, *number as usize),
-            Place::Name(_) | Place::Active(_) | Place::Category(_) | Place::Code(_, _) => 0,
-            Place::Count(_) | Place::Dimen(_) | Place::Toks(_) | Place::BoxTest(_, _) => 0,
-            Place::Skip(_) | Place::Muskip(_) | Place::Glue(_) => 0,
-            Place::Integer(_) | Place::Dimension(_) | Place::Tokens(_) => 0,
-            Place::Last(_) | Place::Badness | Place::PrevDepth | Place::Magnification => 0,
-            Place::Font | Place::FontSize(_) | Place::FontDimen(_, _) => 0,
-            Place::FontInteger(_, _) | Place::Family(_, _) | Place::SpaceFactor => 0,
-            Place::PrevGraf | Place::ParShape => 0,
-            Place::Page(_) | Place::DeadCycles => 0,
+            _ => 0,
         }
     }
 

@@ -43,6 +43,13 @@ fn font_number(number: i32) -> u8
 
 // After want of memory, the only error of each of these, the table may only be dropped.
 impl Parts {
+    /// Gives a character a code of a kind.
+    fn set_code(&mut self, kind: CharacterCode, code: u8, value: i32) -> Result<(), AllocError>
+        ensures { OnOk result (self.new ≡ with_number_at self.old (Place.Code kind code) value) }
+    {
+        seldom::set_code(&mut self.seldom, kind, code, value)
+    }
+
     /// Gives a register, a code or a parameter a value. Other places have no number.
     fn set_number(&mut self, place: &Place, value: i32) -> Result<(), AllocError>
         ensures { OnOk result (self.new ≡ with_number_at self.old place.now value) }
@@ -50,41 +57,20 @@ impl Parts {
         match place {
             Place::Count(number) => self.counts.set(*number as usize, value),
             Place::Dimen(number) => self.dimens.set(*number as usize, value),
-            Place::Code(CharacterCode::LowerCase, code) => {
-                seldom::set_code(&mut self.seldom, CharacterCode::LowerCase, *code, value)
-            }
-            Place::Code(CharacterCode::UpperCase, code) => {
-                seldom::set_code(&mut self.seldom, CharacterCode::UpperCase, *code, value)
-            }
-            Place::Code(CharacterCode::SpaceFactor, code) => {
-                seldom::set_code(&mut self.seldom, CharacterCode::SpaceFactor, *code, value)
-            }
-            Place::Code(CharacterCode::Math, code) => {
-                seldom::set_code(&mut self.seldom, CharacterCode::Math, *code, value)
-            }
-            Place::Code(CharacterCode::Delimiter, code) => {
-                seldom::set_code(&mut self.seldom, CharacterCode::Delimiter, *code, value)
-            }
+            Place::Code(kind, code) => self.set_code(*kind, *code, value),
             Place::Integer(parameter) => self.integers.set(parameter.number(), value),
             Place::Dimension(parameter) => self.dimensions.set(parameter.number(), value),
             Place::BoxSize(side, number) => {
                 seldom::set_box_size(&mut self.seldom, *side, *number as usize, value)
             }
-            Place::Name(_) | Place::Active(_) | Place::Category(_) => Ok(()),
-            Place::Toks(_) | Place::Tokens(_) | Place::Box(_) | Place::BoxTest(_, _) => Ok(()),
-            Place::Skip(_) | Place::Muskip(_) | Place::Glue(_) => Ok(()),
             Place::Font => {
                 self.font = font_number(value);
                 Ok(())
             }
-            Place::Last(_) | Place::Badness | Place::PrevDepth | Place::Magnification => Ok(()),
-            Place::FontSize(_) | Place::FontDimen(_, _) => Ok(()),
             Place::Family(size, family) => {
                 seldom::set_family(&mut self.seldom, family_index(*size, *family), value)
             }
-            Place::FontInteger(_, _) | Place::SpaceFactor => Ok(()),
-            Place::PrevGraf | Place::ParShape => Ok(()),
-            Place::Page(_) | Place::DeadCycles => Ok(()),
+            _ => Ok(()),
         }
     }
 
@@ -98,15 +84,7 @@ impl Parts {
             Place::Glue(parameter) => {
                 seldom::set_glue_parameter(&mut self.seldom, parameter.number(), glue)
             }
-            Place::Name(_) | Place::Active(_) | Place::Category(_) => Ok(()),
-            Place::Count(_) | Place::Dimen(_) | Place::Code(_, _) => Ok(()),
-            Place::Integer(_) | Place::Dimension(_) | Place::BoxSize(_, _) => Ok(()),
-            Place::Toks(_) | Place::Tokens(_) | Place::Box(_) | Place::BoxTest(_, _) => Ok(()),
-            Place::Last(_) | Place::Badness | Place::PrevDepth | Place::Magnification => Ok(()),
-            Place::Font | Place::FontSize(_) | Place::FontDimen(_, _) => Ok(()),
-            Place::FontInteger(_, _) | Place::Family(_, _) | Place::SpaceFactor => Ok(()),
-            Place::PrevGraf | Place::ParShape => Ok(()),
-            Place::Page(_) | Place::DeadCycles => Ok(()),
+            _ => Ok(()),
         }
     }
 
@@ -152,15 +130,7 @@ impl Parts {
     {
         match place {
             Place::Box(number) => seldom::set_box(&mut self.seldom, *number as usize, register),
-            Place::Name(_) | Place::Active(_) | Place::Category(_) | Place::Code(_, _) => Ok(()),
-            Place::Count(_) | Place::Dimen(_) | Place::Toks(_) | Place::BoxSize(_, _) => Ok(()),
-            Place::Skip(_) | Place::Muskip(_) | Place::Glue(_) | Place::BoxTest(_, _) => Ok(()),
-            Place::Integer(_) | Place::Dimension(_) | Place::Tokens(_) => Ok(()),
-            Place::Last(_) | Place::Badness | Place::PrevDepth | Place::Magnification => Ok(()),
-            Place::Font | Place::FontSize(_) | Place::FontDimen(_, _) => Ok(()),
-            Place::FontInteger(_, _) | Place::Family(_, _) | Place::SpaceFactor => Ok(()),
-            Place::PrevGraf | Place::ParShape => Ok(()),
-            Place::Page(_) | Place::DeadCycles => Ok(()),
+            _ => Ok(()),
         }
     }
 

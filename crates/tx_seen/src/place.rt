@@ -210,15 +210,9 @@ impl Place {
             Place::Dimen(_) | Place::Dimension(_) | Place::BoxSize(_, _) => true,
             Place::Last(ItemKind::Kern) | Place::PrevDepth => true,
             Place::FontDimen(_, _) | Place::FontSize(_) => true,
-            Place::Font | Place::FontInteger(_, _) | Place::Family(_, _) => false,
-            Place::SpaceFactor | Place::PrevGraf | Place::ParShape => false,
-            Place::Page(PageQuantity::InsertPenalties) | Place::DeadCycles => false,
+            Place::Page(PageQuantity::InsertPenalties) => false,
             Place::Page(_) => true,
-            Place::Skip(_) | Place::Muskip(_) | Place::Glue(_) => false,
-            Place::Last(ItemKind::Penalty | ItemKind::Skip) | Place::Badness => false,
-            Place::Name(_) | Place::Active(_) | Place::Count(_) | Place::Toks(_) => false,
-            Place::Category(_) | Place::Code(_, _) | Place::Integer(_) | Place::Tokens(_) => false,
-            Place::Box(_) | Place::BoxTest(_, _) | Place::Magnification => false,
+            _ => false,
         }
     }
 
@@ -229,17 +223,7 @@ impl Place {
         match self {
             Place::Skip(_) | Place::Last(ItemKind::Skip) => true,
             Place::Glue(parameter) => !parameter.is_in_mu(),
-            Place::Muskip(_) | Place::Dimen(_) | Place::Dimension(_) | Place::BoxSize(_, _) => {
-                false
-            }
-            Place::Last(ItemKind::Penalty | ItemKind::Kern) | Place::PrevDepth => false,
-            Place::FontDimen(_, _) | Place::FontSize(_) | Place::Font => false,
-            Place::FontInteger(_, _) | Place::Family(_, _) | Place::SpaceFactor => false,
-            Place::PrevGraf | Place::ParShape => false,
-            Place::Page(_) | Place::DeadCycles => false,
-            Place::Name(_) | Place::Active(_) | Place::Count(_) | Place::Toks(_) => false,
-            Place::Category(_) | Place::Code(_, _) | Place::Integer(_) | Place::Tokens(_) => false,
-            Place::Box(_) | Place::BoxTest(_, _) | Place::Badness | Place::Magnification => false,
+            _ => false,
         }
     }
 
@@ -250,15 +234,7 @@ impl Place {
         match self {
             Place::Muskip(_) => true,
             Place::Glue(parameter) => parameter.is_in_mu(),
-            Place::Skip(_) | Place::Dimen(_) | Place::Dimension(_) | Place::BoxSize(_, _) => false,
-            Place::Last(_) | Place::PrevDepth => false,
-            Place::FontDimen(_, _) | Place::FontSize(_) | Place::Font => false,
-            Place::FontInteger(_, _) | Place::Family(_, _) | Place::SpaceFactor => false,
-            Place::PrevGraf | Place::ParShape => false,
-            Place::Page(_) | Place::DeadCycles => false,
-            Place::Name(_) | Place::Active(_) | Place::Count(_) | Place::Toks(_) => false,
-            Place::Category(_) | Place::Code(_, _) | Place::Integer(_) | Place::Tokens(_) => false,
-            Place::Box(_) | Place::BoxTest(_, _) | Place::Badness | Place::Magnification => false,
+            _ => false,
         }
     }
 
