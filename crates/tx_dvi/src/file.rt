@@ -58,20 +58,29 @@ fn fits(font: &FontDefinition)
     let _design_size = font.design_size;
 }
 
-/// The definition of a font. Its only error is want of memory.
+/// Appends the definition of a font.
 #[tactic(auto, unfolding(crate::specs::Dvi::definition_bytes))]
+fn append_definition(file: &mut Bytes, font: &FontDefinition) -> Result<(), AllocError>
+    requires { IsNamed font.now }
+    ensures { OnOk result (file.new ≡ file.old ++ spec.definition_bytes font.now) }
+{
+    file.append(&[FNT_DEF1, font.number])?;
+    file.append(&unsigned_bytes(font.checksum))?;
+    file.append(&unsigned_bytes(font.size))?;
+    file.append(&unsigned_bytes(font.design_size))?;
+    file.append(&[0, font.name.len() as u8])?;
+    file.append(font.name.as_slice())
+}
+
+/// The definition of a font. Its only error is want of memory.
 pub fn definition(alloc: Global, font: &FontDefinition) -> Result<Bytes, AllocError>
     requires { IsNamed font.now }
     ensures bytes { IfOk result (λ bytes. bytes ≡ spec.definition_bytes font.now) }
     ensures fits { OnOk result (spec.IsDefinable font.now) }
 {
     fits(font);
-    let mut bytes = Bytes::from_slice(alloc, &[FNT_DEF1, font.number])?;
-    bytes.append(&unsigned_bytes(font.checksum))?;
-    bytes.append(&unsigned_bytes(font.size))?;
-    bytes.append(&unsigned_bytes(font.design_size))?;
-    bytes.append(&[0, font.name.len() as u8])?;
-    bytes.append(font.name.as_slice())?;
+    let mut bytes = Bytes::new(alloc);
+    append_definition(&mut bytes, font)?;
     Ok(bytes)
 }
 
@@ -125,15 +134,26 @@ fn comment(alloc: Global, date: DateParameters) -> Result<Bytes, AllocError>
     Ok(text)
 }
 
+/// Appends the preamble of a file with this \mag and comment.
+fn append_preamble(file: &mut Bytes, mag: u16, comment: &[u8]) -> Result<(), AllocError>
+    requires { length comment.now ≤ 255 }
+    ensures bytes { OnOk result
+        (file.new ≡ file.old ++ (spec.pre ∷ spec.format_number ∷ spec.units mag ++ length comment.now ∷ comment.now)) }
+    ensures size { OnOk result (length file.new ≡ length file.old + (15 + length comment.now)) }
+{
+    file.append(&[PRE, FORMAT_NUMBER])?;
+    file.append(&units(mag))?;
+    file.push(comment.len() as u8)?;
+    file.append(comment)
+}
+
 fn preamble(alloc: Global, first: &PageBody) -> Result<Bytes, AllocError>
     ensures bytes { IfOk result (λ file. file ≡ spec.preamble first.now) }
     ensures bound { IfOk result (λ file. length file ≤ 270) }
 {
+    let mut file = Bytes::new(alloc);
     let comment = comment(alloc, first.parts().date)?;
-    let mut file = Bytes::from_slice(alloc, &[PRE, FORMAT_NUMBER])?;
-    file.append(&units(first.parts().mag))?;
-    file.push(comment.len() as u8)?;
-    file.append(comment.as_slice())?;
+    append_preamble(&mut file, first.parts().mag, comment.as_slice())?;
     Ok(file)
 }
 
@@ -210,6 +230,19 @@ fn append_sizes(file: &mut Bytes, pages: &[PageBody]) -> Result<(), AllocError>
     file.append(&two_bytes(pages.len() as u16))
 }
 
+/// Appends the fonts that a page defines.
+fn append_fonts(
+    alloc: Global,
+    fonts: &mut Items<FontDefinition>,
+    page: &PageBody,
+) -> Result<(), AllocError>
+    ensures fonts { OnOk result (fonts.new ≡ fonts.old ++ page.now.fonts) }
+    ensures names { All IsNamed page.now.fonts }
+{
+    let mut more = Items::from_slice(alloc, page.fonts())?;
+    fonts.append(&mut more)
+}
+
 /// The fonts that the pages define, page by page.
 fn defined_fonts(alloc: Global, pages: &[PageBody]) -> Result<Items<FontDefinition>, AllocError>
     ensures fonts { IfOk result (λ fonts. fonts ≡ spec.fonts_of pages.now) }
@@ -217,43 +250,33 @@ fn defined_fonts(alloc: Global, pages: &[PageBody]) -> Result<Items<FontDefiniti
 {
     let mut fonts = Items::new(alloc);
     for page in pages {
-        let mut more = Items::from_slice(alloc, page.fonts())?;
-        fonts.append(&mut more)?;
+        append_fonts(alloc, &mut fonts, page)?;
     }
     Ok(fonts)
 }
 
 /// Appends the definitions of the fonts that have this number.
-fn append_numbered(
-    alloc: Global,
-    file: &mut Bytes,
-    fonts: &[FontDefinition],
-    number: u8,
-) -> Result<(), AllocError>
+fn append_numbered(file: &mut Bytes, fonts: &[FontDefinition], number: u8) -> Result<(), AllocError>
     requires { All IsNamed fonts.now }
     ensures { OnOk result (file.new ≡ file.old ++ flat_map spec.definition_bytes (spec.numbered number fonts.now)) }
 {
     for font in fonts {
         if font.number == number {
-            file.append(definition(alloc, font)?.as_slice())?;
+            append_definition(file, font)?;
         }
     }
     Ok(())
 }
 
 /// Appends the definitions of fonts, from the last number to the first.
-fn append_definitions(
-    alloc: Global,
-    file: &mut Bytes,
-    fonts: &[FontDefinition],
-) -> Result<(), AllocError>
+fn append_definitions(file: &mut Bytes, fonts: &[FontDefinition]) -> Result<(), AllocError>
     requires { All IsNamed fonts.now }
     ensures { OnOk result (file.new ≡ file.old ++ spec.definitions_below 256 fonts.now) }
 {
     let mut below: u16 = 256;
     while below > 0 {
         below -= 1;
-        append_numbered(alloc, file, fonts, below as u8)?;
+        append_numbered(file, fonts, below as u8)?;
     }
     Ok(())
 }
@@ -273,7 +296,7 @@ fn append_post(
     file.append(&units(first.parts().mag))?;
     append_sizes(file, pages)?;
     let fonts = defined_fonts(alloc, pages)?;
-    append_definitions(alloc, file, fonts.as_slice())
+    append_definitions(file, fonts.as_slice())
 }
 
 fn append_post_post(file: &mut Bytes, place: i32) -> Result<(), AllocError>
