@@ -77,7 +77,7 @@ help_text = codes "vortex: TeX, written as DVI, and kept ready for edits.\n\nUsa
 
 -- what `help run` says: how `run` is called
 unfoldable pub run_help_text : List ℕ
-run_help_text = codes "Usage: vortex run --date Y-M-D-T --out NAME [OPTIONS] MAIN [FILE..]\n\nFormats MAIN, says how many pages it has and how it ended, carries out the edits\nof a script, and saves the pages as NAME.dvi, if there is one, and the transcript\nas NAME.log. Files are those of the folder in which it is called; a name has 1 to\n255 characters of ASCII and no space.\n\n  --date Y-M-D-T  the date that TeX sees, T in minutes since midnight, 0 to 1439\n  --out NAME      the name of what is saved\n  --script EDITS  a file of edits to make, and of saves between them\n  --budget N      what a page may cost, in steps of TeX, 1 to 1000000000 (1000000)\n  --pages N       a run ends when it has N pages, 1 to 10000 (1000)\n  --keep N        1 to 10000 (10000); it has no effect, all states are kept\n  -h, --help      says this\n\nFor example, in the folder examples/edits:\n\n  vortex run --date 2024-5-17-570 --out a --script edits main.tex\n\nA script that takes 2 bytes out of main.tex behind the first 99, puts 3 others\nthere, and saves what there is then as b.dvi and b.log:\n\n  edit 99 2 3 main.tex\n  100\n  save b\n\nThe statuses are those that vortex --help tells.\n"
+run_help_text = codes "Usage: vortex run --date Y-M-D-T --out NAME [OPTIONS] MAIN [FILE..]\n\nFormats MAIN, says how many pages it has and how it ended, carries out the\ncommands of a script, and saves the pages as NAME.dvi, if there is one, and the\ntranscript as NAME.log. Files are those of the folder in which it is called; a\nname has 1 to 255 characters of ASCII and no space.\n\n  --date Y-M-D-T  the date that TeX sees, T in minutes since midnight, 0 to 1439\n  --out NAME      the name of what is saved\n  --script EDITS  a file of commands: edits and others, told below\n  --budget N      what a page may cost, in steps of TeX, 1 to 1000000000 (1000000)\n  --pages N       a run ends when it has N pages, 1 to 10000 (1000)\n  --keep N        1 to 10000 (10000); it has no effect, all states are kept\n  -h, --help      says this\n\nFor example, in the folder examples/edits:\n\n  vortex run --date 2024-5-17-570 --out a --script edits main.tex\n\nThe commands of a script:\n\n  edit PLACE REMOVED N FILE  takes REMOVED bytes out of FILE behind the first\n                             PLACE, and puts N bytes there: those behind this\n                             line, where a line feed follows them\n  remove FILE                takes FILE away\n  batch N                    makes the N edits and removals behind it together\n  locate PLACE FILE          says by which page that place is first read\n  save NAME                  saves what there is by then, NAME.dvi and NAME.log\n\nThis script takes 2 bytes out of main.tex behind the first 99, puts 3 others\nthere, and saves what there is then as b.dvi and b.log:\n\n  edit 99 2 3 main.tex\n  100\n  save b\n\nThe statuses are those that vortex --help tells.\n"
 
 -- what `help gen` says: how `gen` is called
 unfoldable pub gen_help_text : List ℕ

@@ -251,20 +251,28 @@ pub fn run_help_text() -> &'static [u8]
     ensures { result.now ≡ run_help_text }
 {
     b"Usage: vortex run --date Y-M-D-T --out NAME [OPTIONS] MAIN [FILE..]\n
-Formats MAIN, says how many pages it has and how it ended, carries out the edits
-of a script, and saves the pages as NAME.dvi, if there is one, and the transcript
-as NAME.log. Files are those of the folder in which it is called; a name has 1 to
-255 characters of ASCII and no space.\n
+Formats MAIN, says how many pages it has and how it ended, carries out the
+commands of a script, and saves the pages as NAME.dvi, if there is one, and the
+transcript as NAME.log. Files are those of the folder in which it is called; a
+name has 1 to 255 characters of ASCII and no space.\n
   --date Y-M-D-T  the date that TeX sees, T in minutes since midnight, 0 to 1439
   --out NAME      the name of what is saved
-  --script EDITS  a file of edits to make, and of saves between them
+  --script EDITS  a file of commands: edits and others, told below
   --budget N      what a page may cost, in steps of TeX, 1 to 1000000000 (1000000)
   --pages N       a run ends when it has N pages, 1 to 10000 (1000)
   --keep N        1 to 10000 (10000); it has no effect, all states are kept
   -h, --help      says this\n
 For example, in the folder examples/edits:\n
   vortex run --date 2024-5-17-570 --out a --script edits main.tex\n
-A script that takes 2 bytes out of main.tex behind the first 99, puts 3 others
+The commands of a script:\n
+  edit PLACE REMOVED N FILE  takes REMOVED bytes out of FILE behind the first
+                             PLACE, and puts N bytes there: those behind this
+                             line, where a line feed follows them
+  remove FILE                takes FILE away
+  batch N                    makes the N edits and removals behind it together
+  locate PLACE FILE          says by which page that place is first read
+  save NAME                  saves what there is by then, NAME.dvi and NAME.log\n
+This script takes 2 bytes out of main.tex behind the first 99, puts 3 others
 there, and saves what there is then as b.dvi and b.log:\n
   edit 99 2 3 main.tex
   100
