@@ -12,7 +12,9 @@ pub fn write_memory_cause(
     match said.lines().last() {
         Some(last) => write_behind(text, last),
         None if unread.is_some() => write_read_cause(text, unread),
-        None => text.push_str("no memory is left for the words, the files or the first run"),
+        None => text.push_str(
+            "no memory is left for the words, the files, the first run or the list",
+        ),
     }
 }
 

@@ -1,4 +1,4 @@
-//! The rows of a run, and the greatest one up to which an edit leaves all reads as they are.
+//! The rows of a run, the greatest one up to which changes leave all reads as they are, and the one that first read a place.
 ghost use Rattle.std.specs.Prelude.{◌≡◌};
 ghost use Rattle.std.specs.FinMap.{get};
 ghost use Rattle.std.specs.List.{prefix_len};

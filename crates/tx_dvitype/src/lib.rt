@@ -3,7 +3,7 @@
 //!
 //! Proved: what is read of a file is its pages, or the place and the element at which it is refused, exactly as defined byte
 //! by byte; a refusal depends on the bytes up to the one that is refused alone; what is read of a page is what its commands
-//! mean; and a file that is assembled of pages is read back.
+//! mean; and a file that is assembled of pages is read back, if the commands of each page can be read.
 //!
 //! Read `error`, `movement`, `page_reader` and `reader`, then `laws`.
 #![tactic(auto)]

@@ -1,4 +1,4 @@
-//! How a run is made anew, or made of what an edit leaves of it, with its transcript as one text.
+//! How a run is made anew, or made of what changes leave of it, with its transcript as one text.
 ghost use Rattle.std.specs.Prelude.{◌≡◌, ◌≤◌, ◌+◌, ◌++◌, length, IfSome, IfOk, OnOk, OnErr};
 ghost use Rattle.tx_machine.specs.Ranges.{IsDate};
 ghost use Rattle.tx_machine.specs.Steps.{raised};

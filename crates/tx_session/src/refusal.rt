@@ -1,3 +1,4 @@
+//! Why an edit or a batch is not taken.
 ghost use Rattle.std.specs.Prelude.{◌≡◌};
 ghost use Rattle.tx_session.specs.Refusals.{refused};
 ghost use Rattle.tx_session.specs.declared.refusal.Refusal.TheVariants as refusals;

@@ -1,4 +1,4 @@
-//! What is reported of an edit.
+//! What is reported of changes that were accepted.
 
 /// What came of changes that were accepted, in pages: those that were resumed after, those that were formatted and those
 /// that were reused make up all.

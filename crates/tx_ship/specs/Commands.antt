@@ -24,7 +24,7 @@ use Rattle.tx_ship.specs.declared.places.CornerRule.{CornerRule}
 use Rattle.tx_ship.specs.Characters.{definition_for, font_commands, set_code}
 use Rattle.tx_ship.specs.Standing.{next, span_of, size_of, reference, upright, shifted, rule_sides, leaders_sides, frame_at, page_frame}
 
--- the fewest bytes that hold a movement with its sign
+-- how many bytes a movement takes, by its amount without its sign, with a bit left for that
 abbrev pub movement_size : ℤ → ℕ
 movement_size by =
     if nat_lt (unsigned_abs by) (2 ^ 7) then 1

@@ -6,7 +6,8 @@
 //!
 //! Read `trouble`, `scripted`, `scripts` and `fetching` (what is read from the source), `parts` and `lines` (what is said), `outputs`
 //! (what is put out of a run), `tally` and `replay` (the commands of a script), `made` (what is put out of a document that
-//! was made), `listed`, `listing` and `list` (what is said of a DVI file), `run`, and then `vortex`. What the words ask for is read in `tx_words`, and documents are made in `tx_gen`.
+//! was made), `listed`, `listing` and `list` (what is said of a DVI file), `run`, and then `vortex`. What the words ask for is
+//! read in `tx_words`, and documents are made in `tx_gen`.
 #![tactic(auto)]
 
 mod fetching;
