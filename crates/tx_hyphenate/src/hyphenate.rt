@@ -217,9 +217,8 @@ fn made_of(
 
 /// A list with its words hyphenated (TeX: The Program, sections 866 and 891 to 903). Behind each glue that stands in no formula a
 /// word is looked for; the run of characters, ligatures and kerns of its font in which it stands is composed anew, with a
-/// discretionary at each place where the patterns and exceptions permit one, of several inside a ligature at the first;
-/// `lower` holds the 256 \lccodes. A line for each of these whose hyphen the font lacks is put at the end of `report` (section
-/// 915). Its only error is want of memory.
+/// discretionary at each place where the patterns and exceptions permit one; `lower` holds the 256 \lccodes. A line for each of
+/// these whose hyphen the font lacks is put at the end of `report` (section 915). Its only error is want of memory.
 pub fn hyphenated(
     alloc: Global,
     list: Nodes,
