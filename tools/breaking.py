@@ -1,4 +1,5 @@
-"""Line breaking by its rules, read once more: the breaks of a paragraph with the least demerits, for check-paragraphs and check-english.
+"""Line breaking by its rules, read once more: the breaks of a paragraph with the least demerits, or, of as many lines as \\looseness asks
+for, the best ones, for check-paragraphs and check-english.
 
 A list is taken as Knuth's TeX shows it by \\showlists, where the paragraph ends; the parameters are those of a message beside it, and
 the list with its words hyphenated is what stands in the one endless line that the paragraph is ended as. Of that, a kern at a place is
@@ -10,7 +11,7 @@ from dataclasses import dataclass, field, replace
 from fractions import Fraction
 
 ORDERS = ["", "fil", "fill", "filll"]
-NUMBERS = "pretolerance tolerance linepenalty hyphenpenalty exhyphenpenalty adjdemerits doublehyphendemerits finalhyphendemerits hangafter prevgraf".split()
+NUMBERS = "pretolerance tolerance linepenalty hyphenpenalty exhyphenpenalty adjdemerits doublehyphendemerits finalhyphendemerits hangafter prevgraf looseness".split()
 SIZES = "hsize hangindent emergencystretch".split()
 GLUES = "leftskip rightskip parfillskip".split()
 # Begins a document that shows its paragraphs.
@@ -18,7 +19,7 @@ SHOWN = "\\showboxbreadth=100000 \\showboxdepth=3 \\def\\shape{}"
 # Ends a paragraph: a message of the parameters, its list, and the list of its one line, which nothing breaks.
 TOLD = (
     "\\message{|=" + ";".join("\\the\\" + name for name in NUMBERS + SIZES + GLUES) + ";\\shape=|}\\showlists"
-    "{\\pretolerance=-1 \\tolerance=-1 \\emergencystretch=0pt \\hsize=16383pt \\hangindent=0pt \\parshape=0 \\leftskip=0pt \\rightskip=0pt \\par}"
+    "{\\pretolerance=-1 \\tolerance=-1 \\emergencystretch=0pt \\looseness=0 \\hsize=16383pt \\hangindent=0pt \\parshape=0 \\leftskip=0pt \\rightskip=0pt \\par}"
     "\\setbox200\\lastbox\\showbox200 \\par\\def\\shape{}"
 )
 # Stands for the penalty that forces a break, which would divide the line.
@@ -325,17 +326,40 @@ def earlier(chain, other):
     return (-chain[0], other[1]) > (-other[0], chain[1])
 
 
+def best_of(found, beats):
+    """The one of some chains that beats all others."""
+    best = found[0]
+    for chain in found[1:]:
+        if beats(chain, best):
+            best = chain
+    return best
+
+
+def line_count(chain):
+    """How many lines a chain has: the number of its last one."""
+    return chain[1][1]
+
+
+def asked_for(found, looseness, beats):
+    """Of the chains of a pass the one that is taken by \\looseness, and whether it has as many lines as are asked for: of the line counts
+    from that of the best chain up or down to that number the nearest to it is taken, and of the chains of this count the best one."""
+    lines = line_count(best_of(found, beats))
+    asked = lines + looseness
+    counts = [count for count in map(line_count, found) if min(lines, asked) <= count <= max(lines, asked)]
+    nearest = min(counts, key=lambda count: abs(asked - count))
+    return best_of([chain for chain in found if line_count(chain) == nearest], beats), nearest == asked
+
+
 def breaks(items, hyphenated, params, beats=later):
     """What breaks a paragraph with this list, and hyphenated this one: the list that was broken, with its end, the places of the breaks
     behind that of its beginning, their demerits, and whether a line was forced."""
     emergency = max(params["emergencystretch"], 0)
-    passes = [(items, params["pretolerance"], 0, False)] if params["pretolerance"] >= 0 else []
-    passes += [(hyphenated, params["tolerance"], 0, emergency == 0)] + ([(hyphenated, params["tolerance"], emergency, True)] if emergency else [])
-    for list_of_pass, tolerance, more, last in passes:
-        whole, best = List(ended(list_of_pass, params), params), None
-        for chain in chains(whole, tolerance, more, last, beats):
-            if best is None or beats(chain, best):
-                best = chain
-        if best:
+    first, second = [List(ended(it, params), params) for it in (items, hyphenated)]
+    passes = [(first, params["pretolerance"], 0, False)] if params["pretolerance"] >= 0 else []
+    passes += [(second, params["tolerance"], 0, emergency == 0)] + ([(second, params["tolerance"], emergency, True)] if emergency else [])
+    for whole, tolerance, more, last in passes:
+        found = chains(whole, tolerance, more, last, beats)
+        chain, is_enough = asked_for(found, params["looseness"], beats) if found else (None, False)
+        if is_enough:
             break
-    return whole, [None, *reversed(best[1][::3])], best[0], best[2]
+    return whole, [None, *reversed(chain[1][::3])], chain[0], chain[2]

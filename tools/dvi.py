@@ -1,5 +1,17 @@
-"""DVI files of characters, rules and specials, for the checks that compare pages."""
+"""DVI files of characters, rules and specials, for the checks that compare pages; what `vortex list` says of them, and by which registers
+the movements of `vortex run` go."""
+import collections
 import os
+import subprocess
+
+# The movements by their codes: the axis, the register, if there is one, and how many bytes say how far.
+MOVEMENTS = {
+    code + size: (axis, register, size)
+    for code, axis, register in ((142, "h", None), (147, "h", "w"), (152, "h", "x"), (156, "v", None), (161, "v", "y"), (166, "v", "z"))
+    for size in range(0 if register else 1, 5)
+}
+# The codes of w0, x0, y0 and z0.
+REGISTERS = {register: code for code, (_, register, size) in MOVEMENTS.items() if size == 0}
 
 
 def signed(data):
@@ -9,11 +21,12 @@ def signed(data):
 class Dvi:
     """A DVI file by its meaning: its magnification and text, for each page its counts and rules at absolute places; the
     characters of each page with their fonts and places, the specials of all pages, with their places; the postamble's sizes, and
-    its fonts, with the pages at which they are defined. `widths(name, size)` gives the widths of a font by its characters."""
+    its fonts, with the pages at which they are defined; and what `vortex list` says of what is met, a line for each thing.
+    `widths(name, size)` gives the widths of a font by its characters."""
 
     def __init__(self, data, widths=None):
         self.data, self.at, self.pages, self.specials, self.post = data, 0, [], [], None
-        self.widths, self.fonts, self.defined, self.characters = widths, {}, [], []
+        self.widths, self.fonts, self.defined, self.characters, self.lines = widths, {}, [], [], []
         self.magnification, self.text = data[10:14], data[15:15 + data[14]]
         self.at = 15 + data[14]
         while self.data[self.at] != 248:
@@ -33,6 +46,7 @@ class Dvi:
         self.at += 1
         counts = [self.take(4) for _ in range(10)]
         self.take(4)
+        self.lines.append("page %d: %s" % (len(self.pages) + 1, " ".join(map(str, counts))))
         state, stack, rules = dict.fromkeys("hvwxyz", 0), [], []
         font, characters = None, []
         while (code := self.byte()) != 140:
@@ -40,6 +54,7 @@ class Dvi:
                 height, width = self.take(4), self.take(4)
                 if height > 0 and width > 0:
                     rules.append((state["h"], state["v"], height, width))
+                    self.tell("rule %d %d" % (height, width), state)
                 if code == 132:
                     state["h"] += width
             elif code == 141:
@@ -47,12 +62,14 @@ class Dvi:
             elif code == 142:
                 state = stack.pop()
             elif 239 <= code <= 242:
-                size = self.take(code - 238)
+                size = self.take(code - 238) % 256 ** (code - 238)
+                self.tell("special %d bytes" % size, state)
                 self.specials.append((len(self.pages), state["h"], state["v"], self.data[self.at:self.at + size]))
                 self.at += size
             elif code <= 128:
                 letter = code if code < 128 else self.byte()
                 characters.append((self.fonts[font][:2], letter, state["h"], state["v"]))
+                self.tell("char %d font %d" % (letter, font), state)
                 state["h"] += self.fonts[font][2][letter]
             elif 171 <= code <= 235:
                 font = code - 171 if code < 235 else self.byte()
@@ -71,6 +88,9 @@ class Dvi:
         self.pages.append((counts, rules))
         self.characters.append(characters)
 
+    def tell(self, what, state):
+        self.lines.append("%s at %d %d" % (what, state["h"], state["v"]))
+
     def definition(self, code):
         """What fnt_def1 says of a font: its number, checksum, size, design size and name."""
         if code != 243:
@@ -85,14 +105,11 @@ class Dvi:
         return self.data[self.at - 1]
 
     def move(self, state, code):
-        for first, register, axis in ((143, None, "h"), (147, "w", "h"), (152, "x", "h"), (157, None, "v"), (161, "y", "v"), (166, "z", "v")):
-            size = code - first + (0 if register else 1)
-            if 0 <= size <= 4:
-                by = self.take(size) if size else state[register]
-                if register:
-                    state[register] = by
-                state[axis] += by
-                return
+        axis, register, size = MOVEMENTS[code]
+        by = self.take(size) if size else state[register]
+        if register:
+            state[register] = by
+        state[axis] += by
 
 
 def difference(one, other, apart):
@@ -123,3 +140,64 @@ def page_complaint(folder, widths=None):
     if (mine.defined, mine.used) != (theirs.defined, theirs.used):
         return f"fonts {mine.defined} {mine.used}, Knuth's TeX {theirs.defined} {theirs.used}"
     return None if mine.post == theirs.post else f"sizes {mine.post}, Knuth's TeX {theirs.post}"
+
+
+def command_size(data, at):
+    """How many bytes the command at a place has."""
+    code = data[at]
+    if code in MOVEMENTS:
+        return 1 + MOVEMENTS[code][2]
+    if 239 <= code <= 242:
+        return code - 237 + int.from_bytes(data[at + 1:at + code - 237], "big")
+    if code == 243:
+        return 16 + data[at + 14] + data[at + 15]
+    return {128: 2, 132: 9, 137: 9, 139: 45, 235: 2}.get(code, 1)
+
+
+def movement(amount, pair):
+    """The movement by an amount, with two registers, of which the one that was used less recently comes first: by the one that holds it,
+    and else so that the first one is set, with as few bytes as docs/FORMATS.md says."""
+    for register in sorted(pair):
+        if pair[register] == amount:
+            return bytes([REGISTERS[register]])
+    size = next((size for size in (1, 2, 3) if abs(amount) < 2 ** (8 * size - 1)), 4)
+    return bytes([REGISTERS[next(iter(pair))] + size]) + amount.to_bytes(size, "big", signed=True)
+
+
+def movement_complaint(data):
+    """Which movement of a file isn't by the register of its axis that holds its amount, or else sets the one that was used less
+    recently, as push and pop keep them; nothing where all are."""
+    at, page = 15 + data[14], 0
+    while data[at] != 248:
+        code, end = data[at], at + command_size(data, at)
+        if code == 139:
+            page, stack, pairs = page + 1, [], {"h": {"w": 0, "x": 0}, "v": {"y": 0, "z": 0}}
+        elif code == 141:
+            stack.append({axis: dict(pair) for axis, pair in pairs.items()})
+        elif code == 142:
+            pairs = stack.pop()
+        elif code in MOVEMENTS:
+            axis, register, size = MOVEMENTS[code]
+            amount = signed(data[at + 1:end]) if size else pairs[axis][register]
+            if amount == 0 or data[at:end] != movement(amount, pairs[axis]):
+                return f"page {page}: movement {data[at:end].hex()} at byte {at}, where the registers hold {pairs[axis]}"
+            del pairs[axis][register]
+            pairs[axis][register] = amount
+        at = end
+    return None
+
+
+def list_complaint(program, folder):
+    """Where `list` says of our file what isn't read of it here, where characters have no width, or how a movement isn't as it has to
+    be; nothing where all is so, or no file was saved."""
+    path = os.path.join(folder, "a.dvi")
+    if not os.path.exists(path):
+        return None
+    with open(path, "rb") as file:
+        data = file.read()
+    done = subprocess.run([program, "list", "a.dvi"], cwd=folder, capture_output=True)
+    said, read = done.stdout.decode("latin-1").split("\n"), [*Dvi(data, lambda name, size: collections.defaultdict(int)).lines, ""]
+    if done.returncode != 0 or said != read:
+        at = next((at for at, (one, other) in enumerate(zip(said, read)) if one != other), min(len(said), len(read)))
+        return f"list, status {done.returncode}: line {at + 1} is {said[at:at + 1]}, not {read[at:at + 1]}"
+    return movement_complaint(data)
