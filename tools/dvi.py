@@ -187,17 +187,23 @@ def movement_complaint(data):
     return None
 
 
-def list_complaint(program, folder):
-    """Where `list` says of our file what isn't read of it here, where characters have no width, or how a movement isn't as it has to
-    be; nothing where all is so, or no file was saved."""
-    path = os.path.join(folder, "a.dvi")
-    if not os.path.exists(path):
+def listing(program, folder):
+    """`list` of our file, which goes on beside what is done next; nothing where none was saved."""
+    if not os.path.exists(os.path.join(folder, "a.dvi")):
         return None
-    with open(path, "rb") as file:
+    return subprocess.Popen([program, "list", "a.dvi"], cwd=folder, stdout=subprocess.PIPE, stderr=subprocess.DEVNULL)
+
+
+def list_complaint(folder, asked):
+    """Where a `listing` says what isn't read of our file here, where characters have no width, or which movement of it isn't as it has
+    to be; nothing where all is so."""
+    if not asked:
+        return None
+    said = asked.communicate()[0].decode("latin-1").split("\n")
+    with open(os.path.join(folder, "a.dvi"), "rb") as file:
         data = file.read()
-    done = subprocess.run([program, "list", "a.dvi"], cwd=folder, capture_output=True)
-    said, read = done.stdout.decode("latin-1").split("\n"), [*Dvi(data, lambda name, size: collections.defaultdict(int)).lines, ""]
-    if done.returncode != 0 or said != read:
+    read = [*Dvi(data, lambda name, size: collections.defaultdict(int)).lines, ""]
+    if asked.returncode != 0 or said != read:
         at = next((at for at, (one, other) in enumerate(zip(said, read)) if one != other), min(len(said), len(read)))
-        return f"list, status {done.returncode}: line {at + 1} is {said[at:at + 1]}, not {read[at:at + 1]}"
+        return f"list, status {asked.returncode}: line {at + 1} is {said[at:at + 1]}, not {read[at:at + 1]}"
     return movement_complaint(data)
