@@ -3,6 +3,9 @@ use std::{env, fs, io};
 
 /// What a program answers.
 pub trait Answers {
+    /// Takes note of the name of the file whose cases come next. Lines of the standard input have none.
+    fn begin(&mut self, name: &str);
+
     /// What becomes of what is given in a case, as a text. An error ends the program.
     fn answer(&mut self, rt: &HostRuntime, given: &str) -> io::Result<String>;
 }
@@ -48,6 +51,7 @@ fn answer_line<A: Answers>(rt: &HostRuntime, line: &str, program: &mut A) -> io:
 /// Runs the cases of one file.
 fn run_file<A: Answers>(rt: &HostRuntime, name: &str, program: &mut A) -> io::Result<()> {
     let text = fs::read_to_string(rt, name)?;
+    program.begin(name);
     run_text(rt, name, text.as_str(), program)
 }
 

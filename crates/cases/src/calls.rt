@@ -1,11 +1,59 @@
-//! Calls over files in memory.
+//! The worked cases of the top call, over files in memory. A case is
+//!
+//! - `call WORDS` and lines behind it, as `outcome` reads them;
+//! - `same WORDS`, a call on the document `one_page` that comes out as the plain call does, or else what comes of it;
+//! - `refused WORDS`, a call whose words are refused before a file is fetched, or else what comes of it.
 use std::alloc::{AllocError, Global};
 use std::{fs, io};
 use tx_bytes::Bytes;
-use tx_cases::{bytes_of, first_word, write_bytes, write_hexadecimal};
+use tx_cases::{
+    answered, bytes_of, first_line, first_word, malformed, write_bytes, write_hexadecimal,
+};
 use tx_io::{MemorySink, MemorySource};
 use tx_machine::CountsTurns;
 use vortex_cmd::vortex::vortex;
+
+/// The words of the plain call.
+const PLAIN: &str = "run|--date|2024-5-17-570|--out|a|main.tex";
+
+/// Its document, and what is shown of it.
+const DOCUMENT: &str = "take main.tex one_page\nsaved a.dvi\nsaved a.log";
+
+/// The same, where no file can be fetched.
+const UNFETCHED: &str = "take main.tex one_page\nfails fetch 1\nsaved a.dvi\nsaved a.log";
+
+/// What comes of words that are refused.
+const REFUSED: &str = "status 2\nwords refused\na.dvi: nothing\na.log: nothing\n";
+
+/// The answer to what is given in a case.
+pub fn answer(rt: &HostRuntime, given: &str) -> io::Result<String> {
+    let (line, lines) = first_line(given);
+    let (word, words) = first_word(line);
+    match word {
+        "call" => outcome(rt, words, lines),
+        "same" => {
+            let plain = outcome(rt, PLAIN, DOCUMENT)?;
+            compared(rt, words, DOCUMENT, plain.as_str(), "same")
+        }
+        "refused" => compared(rt, words, UNFETCHED, REFUSED, "refused"),
+        _ => Ok(malformed(rt.alloc())?),
+    }
+}
+
+/// The word, where what comes of a call is what is expected, and else that.
+fn compared(
+    rt: &HostRuntime,
+    words: &str,
+    lines: &str,
+    expected: &str,
+    word: &str,
+) -> io::Result<String> {
+    let found = outcome(rt, words, lines)?;
+    if found.as_str() == expected {
+        return Ok(answered(rt.alloc(), word)?);
+    }
+    Ok(found)
+}
 
 /// What comes of a call with these words, between which bars stand, by lines of
 ///
@@ -18,7 +66,7 @@ use vortex_cmd::vortex::vortex;
 ///   of them that are compared.
 ///
 /// The answer is the status of each call, what was said, and the files that are shown.
-pub fn outcome(rt: &HostRuntime, words: &str, lines: &str) -> io::Result<String> {
+fn outcome(rt: &HostRuntime, words: &str, lines: &str) -> io::Result<String> {
     let failing = failing(rt.alloc(), "fails fetch ", lines)?;
     called(
         rt,

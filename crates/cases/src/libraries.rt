@@ -1,60 +1,48 @@
-//! Runs the worked cases of the libraries in the files that the words of its command line name, and prints how many there
-//! are in each, or those that come out otherwise: what no document shows, or not at the borders; or answers the lines of its
-//! standard input, for checks from outside, as tools/check-tfm. Each module says what its cases are given. The font, the
-//! patterns and the exceptions that a case has taken are there for those behind it; `fresh` forgets the patterns and the
-//! exceptions, `keep` keeps them, and `same` says whether they are those that were kept.
-//!
-//! Read `numbers`, `files`, `scripts`, `primitives`, `lists`, `boxes` and `packing`, `paragraphs`, and `outside`; then `fonts`,
-//! `dvi`, `ligatures`, `words` and `hyphenating`; then `documents` and `edits`, `rows`, `runs` and `sessions`.
-#![tactic(auto)]
-
-mod boxes;
-mod documents;
-mod dvi;
-mod edits;
-mod files;
-mod fonts;
-mod hyphenating;
-mod ligatures;
-mod lists;
-mod numbers;
-mod outside;
-mod packing;
-mod paragraphs;
-mod primitives;
-mod rows;
-mod runs;
-mod scripts;
-mod sessions;
-mod words;
-
+//! The worked cases of the libraries: what no document shows, or not at the borders. Each module that is named here says what
+//! its cases are given. The font, the patterns and the exceptions that a case has taken are there for those behind it; `fresh`
+//! forgets the patterns and the exceptions, `keep` keeps them, and `same` says whether they are those that were kept.
+use crate::{
+    boxes, dvi, files, fonts, hyphenating, ligatures, numbers, outside, packing, paragraphs,
+    primitives, rows, runs, scripts, sessions, words,
+};
 use std::alloc::{AllocError, Global};
 use std::io;
-use tx_cases::{Answers, answered, first_line, first_word, run_files};
+use tx_cases::{answered, first_line, first_word};
 use tx_hyphen::hyphens::Hyphens;
 use tx_machine::CountsTurns;
 use tx_tfm::{Font, Fonts};
 
 /// What the cases so far have made.
 #[derive(Drop)]
-struct Desk {
+pub struct Desk {
     font: Option<Font>,
     fonts: Fonts,
     hyphens: Hyphens,
     kept: Hyphens,
 }
 
-impl Answers for Desk {
-    fn answer(&mut self, rt: &HostRuntime, given: &str) -> io::Result<String> {
-        let (line, lines) = first_line(given);
-        let (word, rest) = first_word(line);
-        match word {
-            "font" => fonts::take(rt, &mut self.font, rest),
-            "dvi" => dvi::answer(rt, rest),
-            "folder" => folder(rt, lines),
-            "resume" | "edited" | "replayed" | "run" | "long" => Ok(ran(rt, word, rest, lines)?),
-            _ => Ok(told(rt.alloc(), self, word, rest, lines)?),
-        }
+impl Desk {
+    /// What there is before the first case. Its only error is want of memory.
+    pub fn new(alloc: Global) -> Result<Desk, AllocError> {
+        Ok(Desk {
+            font: None,
+            fonts: Fonts::new(alloc),
+            hyphens: Hyphens::new(alloc)?,
+            kept: Hyphens::new(alloc)?,
+        })
+    }
+}
+
+/// The answer to what is given in a case.
+pub fn answer(rt: &HostRuntime, desk: &mut Desk, given: &str) -> io::Result<String> {
+    let (line, lines) = first_line(given);
+    let (word, rest) = first_word(line);
+    match word {
+        "font" => fonts::take(rt, &mut desk.font, rest),
+        "dvi" => dvi::answer(rt, rest),
+        "folder" => folder(rt, lines),
+        "resume" | "edited" | "replayed" | "run" | "long" => Ok(ran(rt, word, rest, lines)?),
+        _ => Ok(told(rt.alloc(), desk, word, rest, lines)?),
     }
 }
 
@@ -154,14 +142,4 @@ fn write_answer(
         "breaks" => paragraphs::write_answer(alloc, text, rest),
         _ => numbers::write_answer(alloc, text, word, rest),
     }
-}
-
-fn main(rt: HostRuntime) -> io::Result<()> {
-    let mut desk = Desk {
-        font: None,
-        fonts: Fonts::new(rt.alloc()),
-        hyphens: Hyphens::new(rt.alloc())?,
-        kept: Hyphens::new(rt.alloc())?,
-    };
-    run_files(&rt, &mut desk)
 }
