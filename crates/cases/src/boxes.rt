@@ -39,13 +39,10 @@ fn write_page_at(
     let (Ok(hoffset), Ok(voffset)) = (hoffset.parse(), voffset.parse()) else {
         return text.push_str("malformed");
     };
-    write_page(
-        alloc,
-        text,
-        word,
-        box_of(alloc, rest),
-        &params(alloc, hoffset, voffset),
-    )
+    match box_of(alloc, rest) {
+        Ok(node) => write_page(text, word, page_of(alloc, &node, hoffset, voffset)),
+        Err(fault) => write_fault(text, fault),
+    }
 }
 
 fn box_of(alloc: Global, text: &str) -> Result<BoxNode, Fault> {
@@ -91,9 +88,14 @@ fn write_alike(alloc: Global, text: &mut String, rest: &str) -> Result<(), Alloc
     }
 }
 
-/// The parameters of a page, with these offsets; no earlier page defines a font.
-fn params(alloc: Global, hoffset: i64, voffset: i64) -> ShipParams {
-    ShipParams {
+/// The page of a box with these offsets; no earlier page defines a font.
+fn page_of(
+    alloc: Global,
+    node: &BoxNode,
+    hoffset: i64,
+    voffset: i64,
+) -> Result<PageBody, ShipError> {
+    let params = ShipParams {
         defined: Bytes::new(alloc),
         counts: [7, 0, 0, 0, 0, 0, 0, 0, 0, -1],
         hoffset,
@@ -103,24 +105,17 @@ fn params(alloc: Global, hoffset: i64, voffset: i64) -> ShipParams {
         month: 5,
         day: 17,
         time: 570,
-    }
+    };
+    let fonts = Fonts::new(alloc);
+    body(alloc, node, &fonts, &params)
 }
 
 fn write_page(
-    alloc: Global,
     text: &mut String,
     word: &str,
-    packed: Result<BoxNode, Fault>,
-    params: &ShipParams,
+    page: Result<PageBody, ShipError>,
 ) -> Result<(), AllocError> {
-    let node = match packed {
-        Ok(node) => node,
-        Err(error) => return write_fault(text, error),
-    };
-    if params.mag != 1200 {
-        return text.push_str("malformed");
-    }
-    match body(alloc, &node, &Fonts::new(alloc), params) {
+    match page {
         Ok(page) => write_shipped(text, word, &page),
         Err(ShipError::SizeTooLarge) => text.push_str("too large"),
         Err(ShipError::OutsidePage) => text.push_str("outside"),

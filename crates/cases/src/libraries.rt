@@ -7,7 +7,7 @@ use crate::{
 };
 use std::alloc::{AllocError, Global};
 use std::io;
-use tx_cases::{answered, first_line, first_word};
+use tx_cases::{first_line, first_word};
 use tx_hyphen::hyphens::Hyphens;
 use tx_machine::CountsTurns;
 use tx_tfm::{Font, Fonts};
@@ -24,84 +24,101 @@ pub struct Desk {
 impl Desk {
     /// What there is before the first case. Its only error is want of memory.
     pub fn new(alloc: Global) -> Result<Desk, AllocError> {
+        let hyphens = Hyphens::new(alloc)?;
+        let kept = Hyphens::new(alloc)?;
         Ok(Desk {
             font: None,
             fonts: Fonts::new(alloc),
-            hyphens: Hyphens::new(alloc)?,
-            kept: Hyphens::new(alloc)?,
+            hyphens,
+            kept,
         })
     }
 }
 
-/// The answer to what is given in a case.
-pub fn answer(rt: &HostRuntime, desk: &mut Desk, given: &str) -> io::Result<String> {
+/// Writes the answer to what is given in a case.
+pub fn write_answer(
+    rt: &HostRuntime,
+    text: &mut String,
+    desk: &mut Desk,
+    given: &str,
+) -> io::Result<()> {
     let (line, lines) = first_line(given);
     let (word, rest) = first_word(line);
     match word {
-        "font" => fonts::take(rt, &mut desk.font, rest),
-        "dvi" => dvi::answer(rt, rest),
-        "folder" => folder(rt, lines),
-        "resume" | "edited" | "replayed" | "run" | "long" => Ok(ran(rt, word, rest, lines)?),
-        _ => Ok(told(rt.alloc(), desk, word, rest, lines)?),
+        "font" => fonts::take(rt, text, &mut desk.font, rest),
+        "dvi" => dvi::write_answer(rt, text, rest),
+        "folder" => outside::write_folder(rt, text, lines),
+        "resume" | "edited" | "replayed" | "run" | "long" => {
+            Ok(write_ran(rt, text, word, rest, lines)?)
+        }
+        _ => Ok(write_told(rt.alloc(), text, desk, word, rest, lines)?),
     }
 }
 
-fn folder(rt: &HostRuntime, lines: &str) -> io::Result<String> {
-    let mut text = String::new(rt.alloc());
-    outside::write_folder(rt, &mut text, lines)?;
-    Ok(text)
-}
-
-/// The answer to a case of what stands above the seam.
-fn ran(rt: &HostRuntime, word: &str, rest: &str, lines: &str) -> Result<String, AllocError> {
+/// Writes the answer to a case of what stands above the seam.
+fn write_ran(
+    rt: &HostRuntime,
+    text: &mut String,
+    word: &str,
+    rest: &str,
+    lines: &str,
+) -> Result<(), AllocError> {
     match word {
-        "resume" => rows::answer(rt.alloc(), rest),
-        "edited" => sessions::edited(rt.alloc(), rest, lines, rt.steps()),
-        "replayed" => sessions::replayed(rt.alloc(), lines, rt.steps()),
-        _ => runs::answer(rt.alloc(), word, rest, rt.steps()),
+        "resume" => rows::write_answer(rt.alloc(), text, rest),
+        "edited" | "replayed" => {
+            sessions::write_answer(rt.alloc(), text, word, rest, lines, &mut rt.steps())
+        }
+        _ => runs::write_answer(rt.alloc(), text, word, rest, &mut rt.steps()),
     }
 }
 
-/// The answer to what needs neither a file nor turns.
-fn told(
+/// Writes the answer to what needs neither a file nor turns.
+fn write_told(
     alloc: Global,
+    text: &mut String,
     desk: &mut Desk,
     word: &str,
     rest: &str,
     lines: &str,
-) -> Result<String, AllocError> {
+) -> Result<(), AllocError> {
     match word {
-        "load" => words::load(alloc, &mut desk.font, &mut desk.fonts, rest),
+        "load" => words::load(alloc, text, &mut desk.font, &mut desk.fonts, rest),
         "patterns" | "pattern" | "exception" => {
-            hyphenating::add(alloc, &mut desk.hyphens, word, rest)
+            hyphenating::add(alloc, text, &mut desk.hyphens, word, rest)
         }
         "fresh" => {
-            desk.hyphens = Hyphens::new(alloc)?;
-            answered(alloc, "forgotten")
+            put(&mut desk.hyphens, Hyphens::new(alloc)?);
+            text.push_str("forgotten")
         }
         "keep" => {
-            desk.kept = desk.hyphens.share()?;
-            answered(alloc, "kept")
+            put(&mut desk.kept, desk.hyphens.share()?);
+            text.push_str("kept")
         }
-        _ => asked(alloc, desk, word, rest, lines),
+        _ => write_asked(alloc, text, desk, word, rest, lines),
     }
 }
 
-/// The answer to what changes nothing.
-fn asked(
+/// Puts patterns and exceptions in the place of others.
+fn put(place: &mut Hyphens, hyphens: Hyphens) {
+    *place = hyphens;
+}
+
+/// Writes the answer to what changes nothing.
+fn write_asked(
     alloc: Global,
+    text: &mut String,
     desk: &Desk,
     word: &str,
     rest: &str,
     lines: &str,
-) -> Result<String, AllocError> {
+) -> Result<(), AllocError> {
     match word {
-        "compose" => ligatures::answer(alloc, &desk.font, rest),
-        "word" => ligatures::by_codes(alloc, &desk.font, rest),
-        "set" => words::set(alloc, &desk.fonts, rest),
-        "factor" => words::factor(alloc, rest),
-        "places" => hyphenating::places(alloc, &desk.hyphens, rest),
-        "same" => format!(in alloc; "{}", desk.kept.same(&desk.hyphens)),
+        "compose" => ligatures::write_answer(alloc, text, &desk.font, rest),
+        "word" => ligatures::write_by_codes(alloc, text, &desk.font, rest),
+        "set" => words::write_set(alloc, text, &desk.fonts, rest),
+        "factor" => words::write_factor(text, rest),
+        "places" => hyphenating::write_places(alloc, text, &desk.hyphens, rest),
+        "same" => write!(text, "{}", desk.kept.same(&desk.hyphens)),
         "there"
         | "width"
         | "height"
@@ -113,19 +130,13 @@ fn asked(
         | "parameters"
         | "checksum"
         | "design"
-        | "command" => fonts::answer(alloc, &desk.font, word, rest),
-        _ => written(alloc, word, rest, lines),
+        | "command" => fonts::write_answer(text, &desk.font, word, rest),
+        _ => write_alone(alloc, text, word, rest, lines),
     }
 }
 
-fn written(alloc: Global, word: &str, rest: &str, lines: &str) -> Result<String, AllocError> {
-    let mut text = String::new(alloc);
-    write_answer(alloc, &mut text, word, rest, lines)?;
-    Ok(text)
-}
-
 /// Writes the answer to a case that depends on none before it.
-fn write_answer(
+fn write_alone(
     alloc: Global,
     text: &mut String,
     word: &str,

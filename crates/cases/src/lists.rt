@@ -148,7 +148,7 @@ fn plain_of(word: &str) -> Option<Plain> {
     if let Some(penalty) = word.strip_prefix('p') {
         return Some(Plain::Penalty(penalty.parse().ok()?));
     }
-    Some(Plain::Glue(glue_of(word.strip_prefix('g')?)?))
+    Some(Plain::Glue(glue_of(word.strip_prefix('g')?, 1)?))
 }
 
 fn shared_of(alloc: Global, word: &str) -> Result<Option<Shared>, AllocError> {
@@ -169,7 +169,7 @@ fn leaders_of(word: &str) -> Option<Leaders> {
     let (rule, glue) = word.strip_prefix('l')?.split_once('/')?;
     Some(Leaders {
         kind: LeadersKind::Aligned,
-        glue: glue_of(glue)?,
+        glue: glue_of(glue, 1)?,
         rule: rule_of(rule)?,
     })
 }
@@ -184,8 +184,8 @@ fn rule_of(sides: &str) -> Option<Rule> {
     })
 }
 
-/// Glue, if the text is `W,S,O,T,P`.
-pub fn glue_of(text: &str) -> Option<Glue> {
+/// Glue, if the text is `W,S,O,T,P`, with sizes in a unit of so many sp.
+pub fn glue_of(text: &str, unit: i64) -> Option<Glue> {
     let (width, rest) = text.split_once(',')?;
     let (stretch, rest) = rest.split_once(',')?;
     let (stretch_order, rest) = rest.split_once(',')?;
@@ -196,19 +196,20 @@ pub fn glue_of(text: &str) -> Option<Glue> {
         return None;
     }
     Some(Glue::new(
-        dimension_of(width)?,
-        dimension_of(stretch)?,
+        dimension_of(width, unit)?,
+        dimension_of(stretch, unit)?,
         stretch_order,
-        dimension_of(shrink)?,
+        dimension_of(shrink, unit)?,
         shrink_order,
     ))
 }
 
-/// A size in sp, if the text is that of a dimension.
-pub fn dimension_of(text: &str) -> Option<i64>
+/// A size in sp, if the text is that of a dimension in a unit of so many sp.
+pub fn dimension_of(text: &str, unit: i64) -> Option<i64>
     ensures { IfSome result IsDimension }
 {
-    let size: i64 = text.parse().ok()?;
+    let count: i64 = text.parse().ok()?;
+    let size = count.checked_mul(unit)?;
     if Range::Dimen.holds(size) {
         Some(size)
     } else {

@@ -45,11 +45,11 @@ impl Answers for Program {
         self.are_calls = name.starts_with("calls/");
     }
 
-    fn answer(&mut self, rt: &HostRuntime, given: &str) -> io::Result<String> {
+    fn answer(&mut self, rt: &HostRuntime, text: &mut String, given: &str) -> io::Result<()> {
         if self.are_calls {
-            calls::answer(rt, given)
+            calls::write_answer(rt, text, given)
         } else {
-            libraries::answer(rt, &mut self.desk, given)
+            libraries::write_answer(rt, text, &mut self.desk, given)
         }
     }
 }

@@ -14,6 +14,6 @@ mod notation;
 mod running;
 mod words;
 
-pub use notation::{bytes_of, text_of, write_bytes, write_hexadecimal};
+pub use notation::{bytes_of, write_bytes, write_hexadecimal};
 pub use running::{Answers, run_files};
-pub use words::{answered, first_line, first_word, integers, malformed};
+pub use words::{first_line, first_word, integers};

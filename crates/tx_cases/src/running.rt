@@ -6,8 +6,8 @@ pub trait Answers {
     /// Takes note of the name of the file whose cases come next. Lines of the standard input have none.
     fn begin(&mut self, name: &str);
 
-    /// What becomes of what is given in a case, as a text. An error ends the program.
-    fn answer(&mut self, rt: &HostRuntime, given: &str) -> io::Result<String>;
+    /// Writes what becomes of what is given in a case into an empty text. An error ends the program.
+    fn answer(&mut self, rt: &HostRuntime, text: &mut String, given: &str) -> io::Result<()>;
 }
 
 /// How many cases there were, and how many of them came out otherwise or were no cases.
@@ -44,7 +44,8 @@ fn answer_lines<A: Answers>(rt: &HostRuntime, program: &mut A) -> io::Result<()>
 }
 
 fn answer_line<A: Answers>(rt: &HostRuntime, line: &str, program: &mut A) -> io::Result<()> {
-    let answer = program.answer(rt, line)?;
+    let mut answer = String::new(rt.alloc());
+    program.answer(rt, &mut answer, line)?;
     println!(rt; "{answer}")
 }
 
@@ -125,7 +126,7 @@ fn run_lines<A: Answers>(
     Ok(())
 }
 
-/// Runs one case; where it comes out otherwise, shows it. Line feeds at the end of a text don't count.
+/// Runs one case.
 fn run_case<A: Answers>(
     rt: &HostRuntime,
     name: &str,
@@ -134,9 +135,22 @@ fn run_case<A: Answers>(
     program: &mut A,
     tally: &mut Tally,
 ) -> io::Result<()> {
+    let mut found = String::new(rt.alloc());
+    program.answer(rt, &mut found, given)?;
+    compare(rt, name, given, expected, found.as_str(), tally)
+}
+
+/// Counts a case; where it was answered otherwise, shows it. Line feeds at the end of a text don't count.
+fn compare(
+    rt: &HostRuntime,
+    name: &str,
+    given: &str,
+    expected: &str,
+    found: &str,
+    tally: &mut Tally,
+) -> io::Result<()> {
     tally.cases = tally.cases.saturating_add(1);
-    let found = program.answer(rt, given)?;
-    let found = found.as_str().trim_end_matches('\n');
+    let found = found.trim_end_matches('\n');
     let expected = expected.trim_end_matches('\n');
     if found == expected {
         return Ok(());
