@@ -6,7 +6,7 @@
 use std::alloc::{AllocError, Global};
 use std::{fs, io};
 use tx_bytes::Bytes;
-use tx_cases::{bytes_of, first_line, first_word, write_bytes, write_hexadecimal};
+use tx_cases::{Answers, bytes_of, first_line, first_word, write_bytes, write_hexadecimal};
 use tx_io::{MemorySink, MemorySource};
 use tx_machine::CountsTurns;
 use vortex_cmd::vortex::vortex;
@@ -23,15 +23,20 @@ const UNFETCHED: &str = "take main.tex one_page\nfails fetch 1\nsaved a.dvi\nsav
 /// What comes of words that are refused.
 const REFUSED: &str = "status 2\nwords refused\na.dvi: nothing\na.log: nothing\n";
 
-/// Writes the answer to what is given in a case.
-pub fn write_answer(rt: &HostRuntime, text: &mut String, given: &str) -> io::Result<()> {
-    let (line, lines) = first_line(given);
-    let (word, words) = first_word(line);
-    match word {
-        "call" => write_outcome(rt, text, words, lines),
-        "same" => write_same(rt, text, words),
-        "refused" => write_compared(rt, text, words, UNFETCHED, REFUSED, "refused"),
-        _ => Ok(text.push_str("malformed")?),
+/// The top call, which keeps nothing from case to case.
+#[derive(Drop)]
+pub struct Calls;
+
+impl Answers for Calls {
+    fn answer(&mut self, rt: &HostRuntime, text: &mut String, given: &str) -> io::Result<()> {
+        let (line, lines) = first_line(given);
+        let (word, words) = first_word(line);
+        match word {
+            "call" => write_outcome(rt, text, words, lines),
+            "same" => write_same(rt, text, words),
+            "refused" => write_compared(rt, text, words, UNFETCHED, REFUSED, "refused"),
+            _ => Ok(text.push_str("malformed")?),
+        }
     }
 }
 

@@ -1,11 +1,8 @@
 //! Running the cases of texts.
 use std::{env, fs, io};
 
-/// What a program answers.
+/// What answers cases.
 pub trait Answers {
-    /// Takes note of the name of the file whose cases come next. Lines of the standard input have none.
-    fn begin(&mut self, name: &str);
-
     /// Writes what becomes of what is given in a case into an empty text. An error ends the program.
     fn answer(&mut self, rt: &HostRuntime, text: &mut String, given: &str) -> io::Result<()>;
 }
@@ -17,15 +14,33 @@ struct Tally {
     others: u64,
 }
 
-/// Runs the cases of each file that a word of the command line names; where there is no word, answers each line of the
-/// standard input.
-pub fn run_files<A: Answers>(rt: &HostRuntime, program: &mut A) -> io::Result<()> {
+/// Runs the cases of each file that a word of the command line names: `calls` answers those in the folder of this name, `others`
+/// all else. Where there is no word, `others` answers each line of the standard input.
+pub fn run_files<C: Answers, O: Answers>(
+    rt: &HostRuntime,
+    calls: &mut C,
+    others: &mut O,
+) -> io::Result<()> {
     let names = words(rt)?;
     if names.is_empty() {
-        return answer_lines(rt, program);
+        return answer_lines(rt, others);
     }
-    for name in names.as_slice() {
-        run_file(rt, name.as_str(), program)?;
+    run_each(rt, names.as_slice(), calls, others)
+}
+
+fn run_each<C: Answers, O: Answers>(
+    rt: &HostRuntime,
+    names: &[String],
+    calls: &mut C,
+    others: &mut O,
+) -> io::Result<()> {
+    for name in names {
+        let name = name.as_str();
+        if name.starts_with("calls/") {
+            run_file(rt, name, calls)?;
+        } else {
+            run_file(rt, name, others)?;
+        }
     }
     Ok(())
 }
@@ -52,7 +67,6 @@ fn answer_line<A: Answers>(rt: &HostRuntime, line: &str, program: &mut A) -> io:
 /// Runs the cases of one file.
 fn run_file<A: Answers>(rt: &HostRuntime, name: &str, program: &mut A) -> io::Result<()> {
     let text = fs::read_to_string(rt, name)?;
-    program.begin(name);
     run_text(rt, name, text.as_str(), program)
 }
 

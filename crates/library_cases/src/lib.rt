@@ -1,58 +1,77 @@
-//! The worked cases of the libraries: what no document shows, or not at the borders. Each module that is named here says what
-//! its cases are given. The font, the patterns and the exceptions that a case has taken are there for those behind it; `fresh`
-//! forgets the patterns and the exceptions, `keep` keeps them, and `same` says whether they are those that were kept.
-use crate::{
-    boxes, dvi, files, fonts, hyphenating, ligatures, numbers, outside, packing, paragraphs,
-    primitives, rows, runs, scripts, sessions, words,
-};
+//! The worked cases of the libraries: what no document shows, or not at the borders. Each module says what its cases are given.
+//! The font, the patterns and the exceptions that a case has taken are there for those behind it; `fresh` forgets the patterns
+//! and the exceptions, `keep` keeps them, and `same` says whether they are those that were kept.
+//!
+//! Proved: it is safe, whatever is given.
+//!
+//! Read `numbers`, `files`, `scripts`, `primitives`, `lists`, `boxes` and `packing`, `paragraphs`, and `outside`; then `fonts`,
+//! `dvi`, `ligatures`, `words` and `hyphenating`; then `documents` and `edits`, `rows`, `runs` and `sessions`.
+#![tactic(auto)]
+
+mod boxes;
+mod documents;
+mod dvi;
+mod edits;
+mod files;
+mod fonts;
+mod hyphenating;
+mod ligatures;
+mod lists;
+mod numbers;
+mod outside;
+mod packing;
+mod paragraphs;
+mod primitives;
+mod rows;
+mod runs;
+mod scripts;
+mod sessions;
+mod words;
+
 use std::alloc::{AllocError, Global};
 use std::io;
-use tx_cases::{first_line, first_word};
+use tx_cases::{Answers, first_line, first_word, run_files};
 use tx_hyphen::hyphens::Hyphens;
 use tx_machine::CountsTurns;
 use tx_tfm::{Font, Fonts};
 
 /// What the cases so far have made.
 #[derive(Drop)]
-pub struct Desk {
+struct Desk {
     font: Option<Font>,
     fonts: Fonts,
     hyphens: Hyphens,
     kept: Hyphens,
 }
 
-impl Desk {
-    /// What there is before the first case. Its only error is want of memory.
-    pub fn new(alloc: Global) -> Result<Desk, AllocError> {
-        let hyphens = Hyphens::new(alloc)?;
-        let kept = Hyphens::new(alloc)?;
-        Ok(Desk {
-            font: None,
-            fonts: Fonts::new(alloc),
-            hyphens,
-            kept,
-        })
+impl Answers for Desk {
+    fn answer(&mut self, rt: &HostRuntime, text: &mut String, given: &str) -> io::Result<()> {
+        let (line, lines) = first_line(given);
+        let (word, rest) = first_word(line);
+        match word {
+            "font" => fonts::take(rt, text, &mut self.font, rest),
+            "dvi" => dvi::write_answer(rt, text, rest),
+            "folder" => outside::write_folder(rt, text, lines),
+            "resume" | "edited" | "replayed" | "run" | "long" => {
+                Ok(write_ran(rt, text, word, rest, lines)?)
+            }
+            _ => Ok(write_told(rt.alloc(), text, self, word, rest, lines)?),
+        }
     }
 }
 
-/// Writes the answer to what is given in a case.
-pub fn write_answer(
-    rt: &HostRuntime,
-    text: &mut String,
-    desk: &mut Desk,
-    given: &str,
-) -> io::Result<()> {
-    let (line, lines) = first_line(given);
-    let (word, rest) = first_word(line);
-    match word {
-        "font" => fonts::take(rt, text, &mut desk.font, rest),
-        "dvi" => dvi::write_answer(rt, text, rest),
-        "folder" => outside::write_folder(rt, text, lines),
-        "resume" | "edited" | "replayed" | "run" | "long" => {
-            Ok(write_ran(rt, text, word, rest, lines)?)
-        }
-        _ => Ok(write_told(rt.alloc(), text, desk, word, rest, lines)?),
-    }
+/// Runs the cases of the files that the words of the command line name, or answers the lines of the standard input; those in the
+/// folder `calls` are answered by `calls`.
+pub fn run<C: Answers>(rt: &HostRuntime, calls: &mut C) -> io::Result<()> {
+    let hyphens = Hyphens::new(rt.alloc())?;
+    let kept = Hyphens::new(rt.alloc())?;
+    let mut desk = Desk {
+        font: None,
+        fonts: Fonts::new(rt.alloc()),
+        hyphens,
+        kept,
+    };
+    run_files(rt, calls, &mut desk)
 }
 
 /// Writes the answer to a case of what stands above the seam.
