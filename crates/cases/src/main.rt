@@ -6,8 +6,9 @@
 mod calls;
 
 use crate::calls::Calls;
+use library_cases::run;
 use std::io;
 
 fn main(rt: HostRuntime) -> io::Result<()> {
-    library_cases::run(&rt, &mut Calls)
+    run(&rt, &mut Calls)
 }

@@ -46,7 +46,7 @@ fn write_page_at(
 }
 
 fn box_of(alloc: Global, text: &str) -> Result<BoxNode, Fault> {
-    Ok(natural(alloc, list_of(alloc, text)?)?.node)
+    natural(alloc, list_of(alloc, text)?)
 }
 
 /// Writes why there is no box.
@@ -82,9 +82,20 @@ fn write_twin(text: &mut String, packed: Result<BoxNode, Fault>) -> Result<(), A
 
 fn write_alike(alloc: Global, text: &mut String, rest: &str) -> Result<(), AllocError> {
     let (one, other) = rest.split_once('|').unwrap_or((rest, "?"));
-    match (box_of(alloc, one), box_of(alloc, other)) {
-        (Ok(one), Ok(other)) => write!(text, "{}", same_list(one.list(), other.list())),
-        _ => text.push_str("malformed"),
+    match box_of(alloc, one) {
+        Ok(node) => write_same(text, &node, box_of(alloc, other)),
+        Err(_) => text.push_str("malformed"),
+    }
+}
+
+fn write_same(
+    text: &mut String,
+    node: &BoxNode,
+    other: Result<BoxNode, Fault>,
+) -> Result<(), AllocError> {
+    match other {
+        Ok(other) => write!(text, "{}", same_list(node.list(), other.list())),
+        Err(_) => text.push_str("malformed"),
     }
 }
 

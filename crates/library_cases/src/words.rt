@@ -47,10 +47,26 @@ pub fn write_set(
     let Some(params) = params_of(spaceskip, xspaceskip) else {
         return text.push_str("malformed");
     };
-    match pieces_of(alloc, rest)? {
-        Some(pieces) => write_made(alloc, text, fonts, pieces.as_slice(), &params),
-        None => text.push_str("malformed"),
+    let mut pieces = Vec::new(alloc);
+    write_read(alloc, text, fonts, &mut pieces, rest, &params)
+}
+
+/// Reads the pieces of a text, and writes the list that they make.
+fn write_read(
+    alloc: Global,
+    text: &mut String,
+    fonts: &Fonts,
+    pieces: &mut Vec<Piece>,
+    rest: &str,
+    params: &WordParams,
+) -> Result<(), AllocError> {
+    for word in rest.split(' ') {
+        match piece_of(alloc, word)? {
+            None => return text.push_str("malformed"),
+            Some(piece) => pieces.push(piece)?,
+        }
     }
+    write_made(alloc, text, fonts, pieces.as_slice(), params)
 }
 
 /// Writes the list that these pieces make.
@@ -88,18 +104,6 @@ fn params_of(spaceskip: &str, xspaceskip: &str) -> Option<WordParams> {
         spaceskip: glue_of(spaceskip, 1)?,
         xspaceskip: glue_of(xspaceskip, 1)?,
     })
-}
-
-/// The pieces of a text, None where it isn't one's.
-fn pieces_of(alloc: Global, text: &str) -> Result<Option<Vec<Piece>>, AllocError> {
-    let mut pieces = Vec::new(alloc);
-    for word in text.split(' ') {
-        match piece_of(alloc, word)? {
-            None => return Ok(None),
-            Some(piece) => pieces.push(piece)?,
-        }
-    }
-    Ok(Some(pieces))
 }
 
 fn piece_of(alloc: Global, text: &str) -> Result<Option<Piece>, AllocError> {
