@@ -1,4 +1,4 @@
-"""The program library_cases, for the checks that ask it."""
+"""The program of worked cases, for the checks that ask it."""
 import os
 import subprocess
 

@@ -39,17 +39,14 @@ fn write_page_at(
     let (Ok(hoffset), Ok(voffset)) = (hoffset.parse(), voffset.parse()) else {
         return text.push_str("malformed");
     };
-    write_page(
-        alloc,
-        text,
-        word,
-        box_of(alloc, rest),
-        &params(alloc, hoffset, voffset),
-    )
+    match box_of(alloc, rest) {
+        Ok(node) => write_page(text, word, page_of(alloc, &node, hoffset, voffset)),
+        Err(fault) => write_fault(text, fault),
+    }
 }
 
 fn box_of(alloc: Global, text: &str) -> Result<BoxNode, Fault> {
-    Ok(natural(alloc, list_of(alloc, text)?)?.node)
+    natural(alloc, list_of(alloc, text)?)
 }
 
 /// Writes why there is no box.
@@ -85,15 +82,31 @@ fn write_twin(text: &mut String, packed: Result<BoxNode, Fault>) -> Result<(), A
 
 fn write_alike(alloc: Global, text: &mut String, rest: &str) -> Result<(), AllocError> {
     let (one, other) = rest.split_once('|').unwrap_or((rest, "?"));
-    match (box_of(alloc, one), box_of(alloc, other)) {
-        (Ok(one), Ok(other)) => write!(text, "{}", same_list(one.list(), other.list())),
-        _ => text.push_str("malformed"),
+    match box_of(alloc, one) {
+        Ok(node) => write_same(text, &node, box_of(alloc, other)),
+        Err(_) => text.push_str("malformed"),
     }
 }
 
-/// The parameters of a page, with these offsets; no earlier page defines a font.
-fn params(alloc: Global, hoffset: i64, voffset: i64) -> ShipParams {
-    ShipParams {
+fn write_same(
+    text: &mut String,
+    node: &BoxNode,
+    other: Result<BoxNode, Fault>,
+) -> Result<(), AllocError> {
+    match other {
+        Ok(other) => write!(text, "{}", same_list(node.list(), other.list())),
+        Err(_) => text.push_str("malformed"),
+    }
+}
+
+/// The page of a box with these offsets; no earlier page defines a font.
+fn page_of(
+    alloc: Global,
+    node: &BoxNode,
+    hoffset: i64,
+    voffset: i64,
+) -> Result<PageBody, ShipError> {
+    let params = ShipParams {
         defined: Bytes::new(alloc),
         counts: [7, 0, 0, 0, 0, 0, 0, 0, 0, -1],
         hoffset,
@@ -103,24 +116,17 @@ fn params(alloc: Global, hoffset: i64, voffset: i64) -> ShipParams {
         month: 5,
         day: 17,
         time: 570,
-    }
+    };
+    let fonts = Fonts::new(alloc);
+    body(alloc, node, &fonts, &params)
 }
 
 fn write_page(
-    alloc: Global,
     text: &mut String,
     word: &str,
-    packed: Result<BoxNode, Fault>,
-    params: &ShipParams,
+    page: Result<PageBody, ShipError>,
 ) -> Result<(), AllocError> {
-    let node = match packed {
-        Ok(node) => node,
-        Err(error) => return write_fault(text, error),
-    };
-    if params.mag != 1200 {
-        return text.push_str("malformed");
-    }
-    match body(alloc, &node, &Fonts::new(alloc), params) {
+    match page {
         Ok(page) => write_shipped(text, word, &page),
         Err(ShipError::SizeTooLarge) => text.push_str("too large"),
         Err(ShipError::OutsidePage) => text.push_str("outside"),

@@ -1,6 +1,7 @@
 //! Documents of a file or two.
 use std::alloc::{AllocError, Global};
 use tx_bytes::Bytes;
+use tx_cases::bytes_of;
 use tx_files::{FileSet, Name};
 
 /// The name of the main file.
@@ -11,23 +12,18 @@ pub fn main_name(alloc: Global) -> Result<Name, AllocError> {
     }
 }
 
-/// A set with this one file; with none, where that is no name.
-pub fn set_of(alloc: Global, name: &[u8], bytes: &[u8]) -> Result<FileSet, AllocError> {
+/// A set with this one file of what a text stands for; with none, where that is no name.
+pub fn set_of(alloc: Global, name: &str, text: &str) -> Result<FileSet, AllocError> {
     let mut files = FileSet::new(alloc);
-    put(alloc, &mut files, name, bytes)?;
+    put(alloc, &mut files, name, text)?;
     Ok(files)
 }
 
-/// Puts a file into a set; leaves it where that is no name.
-pub fn put(
-    alloc: Global,
-    files: &mut FileSet,
-    name: &[u8],
-    bytes: &[u8],
-) -> Result<(), AllocError> {
-    let Some(name) = Name::new(Bytes::from_slice(alloc, name)?) else {
-        return Ok(());
-    };
-    files.put(name, Bytes::from_slice(alloc, bytes)?)?;
-    Ok(())
+/// Puts a file of what a text stands for into a set; leaves it where that is no name.
+pub fn put(alloc: Global, files: &mut FileSet, name: &str, text: &str) -> Result<(), AllocError> {
+    let bytes = bytes_of(alloc, text)?;
+    match Name::new(Bytes::from_slice(alloc, name.as_bytes())?) {
+        Some(name) => files.put(name, bytes),
+        None => Ok(()),
+    }
 }

@@ -2,35 +2,31 @@
 use crate::fonts::{change, contents};
 use std::alloc::{AllocError, Global};
 use std::io;
-use tx_cases::{first_word, malformed};
+use tx_cases::first_word;
 use tx_dvi::Placed;
 use tx_dvitype::{DviError, ReadPage, Reader};
 
-/// What is read of a file of hexadecimal bytes as a DVI file, by `dvi FILE HOW`, where HOW is `whole`; `first COUNT`, which
-/// takes so many bytes; or `changed PLACE VALUE ..`, which gives bytes of it these values. It is what stands on the pages,
-/// with a bar behind each thing, or where and by which rule the file is refused.
-pub fn answer(rt: &HostRuntime, rest: &str) -> io::Result<String> {
+/// Writes what is read of a file of hexadecimal bytes as a DVI file, by `dvi FILE HOW`, where HOW is `whole`; `first COUNT`,
+/// which takes so many bytes; or `changed PLACE VALUE ..`, which gives bytes of it these values. It is what stands on the
+/// pages, with a bar behind each thing, or where and by which rule the file is refused.
+pub fn write_answer(rt: &HostRuntime, text: &mut String, rest: &str) -> io::Result<()> {
     let (name, how) = first_word(rest);
     let (word, numbers) = first_word(how);
     let mut bytes = contents(rt, name, false)?;
-    Ok(answer_to(rt.alloc(), &mut bytes, word, numbers)?)
+    Ok(write_changed(rt.alloc(), text, &mut bytes, word, numbers)?)
 }
 
-fn answer_to(
+fn write_changed(
     alloc: Global,
+    text: &mut String,
     bytes: &mut Vec<u8>,
     word: &str,
     numbers: &str,
-) -> Result<String, AllocError> {
-    if word == "first" {
-        bytes.truncate(numbers.parse().unwrap_or(0));
+) -> Result<(), AllocError> {
+    match change(bytes, word, numbers) {
+        None => text.push_str("malformed"),
+        Some(()) => write_read(alloc, text, bytes.as_slice()),
     }
-    if word == "changed" && change(bytes.as_mut_slice(), numbers).is_none() {
-        return malformed(alloc);
-    }
-    let mut text = String::new(alloc);
-    write_read(alloc, &mut text, bytes.as_slice())?;
-    Ok(text)
 }
 
 fn write_read(alloc: Global, text: &mut String, bytes: &[u8]) -> Result<(), AllocError> {

@@ -1,57 +1,66 @@
 //! Cases of tx_tfm.
 use std::alloc::{AllocError, Global};
 use std::{fs, io};
-use tx_cases::{answered, first_word, malformed};
+use tx_cases::first_word;
 use tx_ligkern::every_word_ends;
 use tx_tfm::{Font, FontError, Size};
 
 /// 16pt, in sp: at this size lengths are the multiples of 2^-20 of the file itself.
 const SIXTEEN_POINTS: i64 = 1048576;
 
-/// The font of a file of hexadecimal bytes, by `font FILE HOW`, where HOW is `design`, `at SP` or `scaled RATIO`, a size;
+/// Takes the font of a file of hexadecimal bytes, by `font FILE HOW`, where HOW is `design`, `at SP` or `scaled RATIO`, a size;
 /// `first COUNT`, which takes so many bytes; or `changed PLACE VALUE ..`, which gives bytes of it these values. Where HOW is
 /// `real`, the file is a font's as it stands, which is taken at 16pt.
-pub fn take(rt: &HostRuntime, font: &mut Option<Font>, rest: &str) -> io::Result<String> {
+pub fn take(
+    rt: &HostRuntime,
+    text: &mut String,
+    font: &mut Option<Font>,
+    rest: &str,
+) -> io::Result<()> {
     let (name, how) = first_word(rest);
     let (word, numbers) = first_word(how);
     let mut bytes = contents(rt, name, word == "real")?;
-    Ok(taken(rt.alloc(), font, &mut bytes, word, numbers)?)
+    Ok(take_from(rt.alloc(), text, font, &mut bytes, word, numbers)?)
 }
 
-fn taken(
+fn take_from(
     alloc: Global,
+    text: &mut String,
     font: &mut Option<Font>,
     bytes: &mut Vec<u8>,
     word: &str,
     numbers: &str,
-) -> Result<String, AllocError> {
-    if word == "first" {
-        bytes.truncate(numbers.parse().unwrap_or(0));
+) -> Result<(), AllocError> {
+    match change(bytes, word, numbers) {
+        None => text.push_str("malformed"),
+        Some(()) => read(alloc, text, font, bytes.as_slice(), size_of(word, numbers)),
     }
-    if word == "changed" && change(bytes.as_mut_slice(), numbers).is_none() {
-        return malformed(alloc);
-    }
-    read(alloc, font, bytes.as_slice(), size_of(word, numbers))
 }
 
-/// Reads a font from its bytes, and answers its size, or the rule that it breaks.
+/// Reads a font from its bytes, and writes its size, or the rule that it breaks.
 fn read(
     alloc: Global,
+    text: &mut String,
     font: &mut Option<Font>,
     bytes: &[u8],
     size: Size,
-) -> Result<String, AllocError> {
-    *font = None;
+) -> Result<(), AllocError> {
+    put(font, None);
     match Font::read(alloc, bytes, size) {
         Ok(read) => {
             every_word_ends(&read);
             let size = read.size();
-            *font = Some(read);
-            format!(in alloc; "{size}")
+            put(font, Some(read));
+            write!(text, "{size}")
         }
-        Err(FontError::BadFont { rule }) => format!(in alloc; "rule {rule}"),
+        Err(FontError::BadFont { rule }) => write!(text, "rule {rule}"),
         Err(FontError::OutOfMemory(error)) => Err(error),
     }
+}
+
+/// Puts a font, or none, in the place of another.
+fn put(place: &mut Option<Font>, font: Option<Font>) {
+    *place = font;
 }
 
 /// The bytes of a real file, or those of which a file tells.
@@ -83,8 +92,18 @@ fn append(bytes: &mut Vec<u8>, line: &str) -> Result<(), AllocError> {
     Ok(())
 }
 
+/// Takes the first of some bytes, or gives some of them new values, where a case says so; None where it doesn't say which.
+pub fn change(bytes: &mut Vec<u8>, word: &str, numbers: &str) -> Option<()> {
+    match word {
+        "first" => bytes.truncate(numbers.parse().unwrap_or(0)),
+        "changed" => set_each(bytes.as_mut_slice(), numbers)?,
+        _ => {}
+    }
+    Some(())
+}
+
 /// Gives bytes at places new values; None where the text doesn't say so.
-pub fn change(bytes: &mut [u8], text: &str) -> Option<()> {
+fn set_each(bytes: &mut [u8], text: &str) -> Option<()> {
     let mut place = None;
     for word in text.split(' ') {
         place = match place {
@@ -114,7 +133,7 @@ fn size_of(word: &str, number: &str) -> Size {
     }
 }
 
-/// What the font answers to
+/// Writes what the font answers to
 ///
 /// - `there C`, `width C`, `height C`, `depth C`, `italic C`, `successor C` and `recipe C`, of a character;
 /// - `parameter NUMBER`, `parameters`, `checksum` and `design`;
@@ -122,25 +141,25 @@ fn size_of(word: &str, number: &str) -> Size {
 ///   character that a ligature puts in.
 ///
 /// A character stands for itself, or is `=` and its code.
-pub fn answer(
-    alloc: Global,
+pub fn write_answer(
+    text: &mut String,
     font: &Option<Font>,
     word: &str,
     rest: &str,
-) -> Result<String, AllocError> {
+) -> Result<(), AllocError> {
     let Some(font) = font else {
-        return answered(alloc, "no font");
+        return text.push_str("no font");
     };
     let (left, right) = first_word(rest);
     match word {
-        "parameters" => format!(in alloc; "{}", font.parameter_count()),
-        "checksum" => format!(in alloc; "{}", font.checksum()),
-        "design" => format!(in alloc; "{}", font.design_size()),
-        "parameter" => parameter(alloc, font, rest),
-        "command" => command(alloc, font, character_of(left), character_of(right)),
+        "parameters" => write!(text, "{}", font.parameter_count()),
+        "checksum" => write!(text, "{}", font.checksum()),
+        "design" => write!(text, "{}", font.design_size()),
+        "parameter" => write_parameter(text, font, rest),
+        "command" => write_command(text, font, character_of(left), character_of(right)),
         _ => match character_of(left) {
-            Some(code) => of_character(alloc, font, word, code),
-            None => malformed(alloc),
+            Some(code) => write_of_character(text, font, word, code),
+            None => text.push_str("malformed"),
         },
     }
 }
@@ -157,43 +176,48 @@ fn character_of(word: &str) -> Option<u8> {
     }
 }
 
-fn of_character(alloc: Global, font: &Font, word: &str, code: u8) -> Result<String, AllocError> {
+fn write_of_character(
+    text: &mut String,
+    font: &Font,
+    word: &str,
+    code: u8,
+) -> Result<(), AllocError> {
     match word {
-        "there" => format!(in alloc; "{}", font.is_there(code)),
-        "width" => format!(in alloc; "{}", font.width(code)),
-        "height" => format!(in alloc; "{}", font.height(code)),
-        "depth" => format!(in alloc; "{}", font.depth(code)),
-        "italic" => format!(in alloc; "{}", font.italic(code)),
+        "there" => write!(text, "{}", font.is_there(code)),
+        "width" => write!(text, "{}", font.width(code)),
+        "height" => write!(text, "{}", font.height(code)),
+        "depth" => write!(text, "{}", font.depth(code)),
+        "italic" => write!(text, "{}", font.italic(code)),
         "successor" => match font.successor(code) {
-            Some(next) => format!(in alloc; "{next}"),
-            None => answered(alloc, "none"),
+            Some(next) => write!(text, "{next}"),
+            None => text.push_str("none"),
         },
         "recipe" => match font.recipe(code) {
-            Some(_) => answered(alloc, "one"),
-            None => answered(alloc, "none"),
+            Some(_) => text.push_str("one"),
+            None => text.push_str("none"),
         },
-        _ => malformed(alloc),
+        _ => text.push_str("malformed"),
     }
 }
 
-fn parameter(alloc: Global, font: &Font, number: &str) -> Result<String, AllocError> {
+fn write_parameter(text: &mut String, font: &Font, number: &str) -> Result<(), AllocError> {
     match number.parse::<u16>() {
-        Ok(number) if 1 <= number => format!(in alloc; "{}", font.parameter(number)),
-        _ => malformed(alloc),
+        Ok(number) if 1 <= number => write!(text, "{}", font.parameter(number)),
+        _ => text.push_str("malformed"),
     }
 }
 
-fn command(
-    alloc: Global,
+fn write_command(
+    text: &mut String,
     font: &Font,
     left: Option<u8>,
     right: Option<u8>,
-) -> Result<String, AllocError> {
+) -> Result<(), AllocError> {
     match font.command(left, right) {
         Some(command) if 128 <= command.c => {
-            format!(in alloc; "{}, kern {}", command.c, font.kern(command))
+            write!(text, "{}, kern {}", command.c, font.kern(command))
         }
-        Some(command) => format!(in alloc; "{} to {}", command.c, command.d),
-        None => answered(alloc, "none"),
+        Some(command) => write!(text, "{} to {}", command.c, command.d),
+        None => text.push_str("none"),
     }
 }

@@ -1,7 +1,6 @@
 //! Cases of tx_hyphen.
 use std::alloc::{AllocError, Global};
 use std::fmt::Display;
-use tx_cases::{answered, malformed};
 use tx_hyphen::hyphens::Hyphens;
 use tx_hyphen::places::Places;
 
@@ -15,47 +14,53 @@ fn plain() -> [u8; 256] {
     lower
 }
 
-/// What comes of `patterns PATTERN ..`, `pattern TEXT` and `exception WORD`, which are added unless one is refused, by its
-/// error's number and words.
+/// Adds what `patterns PATTERN ..`, `pattern TEXT` and `exception WORD` say, up to what is refused; and writes that it is
+/// added, or the number and the words of the error.
 pub fn add(
     alloc: Global,
+    text: &mut String,
     hyphens: &mut Hyphens,
     word: &str,
     rest: &str,
-) -> Result<String, AllocError> {
+) -> Result<(), AllocError> {
     if word == "exception" {
         return match hyphens.except(alloc, rest.as_bytes(), &plain()) {
-            Ok(()) => answered(alloc, "added"),
-            Err(error) => refused(alloc, error.number(), error),
+            Ok(()) => text.push_str("added"),
+            Err(error) => write_refused(text, error.number(), &error),
         };
     }
     let end = if word == "pattern" { '\n' } else { ' ' };
     for pattern in rest.split(end) {
         if let Err(error) = hyphens.add(alloc, pattern.as_bytes(), &plain()) {
-            return refused(alloc, error.number(), error);
+            return write_refused(text, error.number(), &error);
         }
     }
-    answered(alloc, "added")
+    text.push_str("added")
 }
 
-fn refused<E: Display + Drop>(
-    alloc: Global,
+fn write_refused<E: Display>(
+    text: &mut String,
     number: Option<u8>,
-    error: E,
-) -> Result<String, AllocError> {
+    error: &E,
+) -> Result<(), AllocError> {
     match number {
-        Some(number) => format!(in alloc; "error {number}: {error}"),
+        Some(number) => write!(text, "error {number}: {error}"),
         None => Err(AllocError),
     }
 }
 
-/// The places of `places LEFT RIGHT WORD`, at which the word may be divided with these minimums.
-pub fn places(alloc: Global, hyphens: &Hyphens, rest: &str) -> Result<String, AllocError> {
+/// Writes the places of `places LEFT RIGHT WORD`, at which the word may be divided with these minimums.
+pub fn write_places(
+    alloc: Global,
+    text: &mut String,
+    hyphens: &Hyphens,
+    rest: &str,
+) -> Result<(), AllocError> {
     match row(rest) {
         Some((left, right, word)) => {
-            shown(alloc, &hyphens.points(alloc, word.as_bytes(), left, right)?)
+            write_each(text, &hyphens.points(alloc, word.as_bytes(), left, right)?)
         }
-        None => malformed(alloc),
+        None => text.push_str("malformed"),
     }
 }
 
@@ -66,9 +71,8 @@ fn row(rest: &str) -> Option<(i64, i64, &str)> {
     Some((left.parse().ok()?, right.parse().ok()?, word))
 }
 
-/// Places as a text.
-fn shown(alloc: Global, places: &Places) -> Result<String, AllocError> {
-    let mut text = String::new(alloc);
+/// Writes places, with a space between them.
+fn write_each(text: &mut String, places: &Places) -> Result<(), AllocError> {
     for place in places.as_slice() {
         if !text.is_empty() {
             text.push(' ')?;
@@ -78,5 +82,5 @@ fn shown(alloc: Global, places: &Places) -> Result<String, AllocError> {
     if places.is_empty() != (places.len() == 0) {
         text.push_str(" miscounted")?;
     }
-    Ok(text)
+    Ok(())
 }

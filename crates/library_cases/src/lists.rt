@@ -10,9 +10,11 @@ ghost use Rattle.tx_num.specs.Glue.{IsDimension};
 use std::alloc::{AllocError, Global};
 use std::mem;
 use tx_bytes::Bytes;
-use tx_node::{InsertHead, KernKind, Leaders, LeadersKind, Node, Nodes, Plain, Rule, Shared};
+use tx_node::{
+    BoxNode, InsertHead, KernKind, Leaders, LeadersKind, Node, Nodes, Plain, Rule, Shared,
+};
 use tx_num::{Glue, Range};
-use tx_pack::{Goal, PackError, PackParams, Packed, hpack};
+use tx_pack::{Goal, PackError, PackParams, hpack};
 use tx_toklist::{TokList, Toks};
 
 /// Why there is no list.
@@ -84,17 +86,31 @@ fn begin(alloc: Global, outer: &mut Vec<Nodes>, list: &mut Nodes) -> Result<(), 
 }
 
 fn end(alloc: Global, outer: &mut Vec<Nodes>, list: &mut Nodes, sign: &str) -> Result<(), Fault> {
-    let around = outer.pop().ok_or(Fault::Malformed)?;
-    let inner = mem::replace(list, around);
-    if let Some(replaced) = sign.strip_prefix('d') {
-        let around = outer.pop().ok_or(Fault::Malformed)?;
-        let before = mem::replace(list, around);
-        let replaced = replaced.parse().ok().ok_or(Fault::Malformed)?;
-        list.push(Node::from_discretionary(alloc, before, inner, replaced, false)?)?;
-        return Ok(());
+    let item = match sign.strip_prefix('d') {
+        Some(replaced) => discretionary_of(alloc, outer, list, replaced)?,
+        None => ended(alloc, closed(outer, list)?, sign)?,
+    };
+    Ok(list.push(item)?)
+}
+
+/// The list that ends; the one around it stands again.
+fn closed(outer: &mut Vec<Nodes>, list: &mut Nodes) -> Result<Nodes, Fault> {
+    match outer.pop() {
+        Some(around) => Ok(mem::replace(list, around)),
+        None => Err(Fault::Malformed),
     }
-    list.push(ended(alloc, inner, sign)?)?;
-    Ok(())
+}
+
+fn discretionary_of(
+    alloc: Global,
+    outer: &mut Vec<Nodes>,
+    list: &mut Nodes,
+    replaced: &str,
+) -> Result<Node, Fault> {
+    let replaced = replaced.parse().ok().ok_or(Fault::Malformed)?;
+    let behind = closed(outer, list)?;
+    let before = closed(outer, list)?;
+    Ok(Node::from_discretionary(alloc, before, behind, replaced, false)?)
 }
 
 /// What a list is whose end has this sign.
@@ -106,8 +122,8 @@ fn ended(alloc: Global, inner: Nodes, sign: &str) -> Result<Node, Fault> {
         let class = class.parse().ok().ok_or(Fault::Malformed)?;
         return Ok(Node::from_insertion(alloc, insert_head(class), inner)?);
     }
-    let packed = natural(alloc, inner)?;
-    Ok(Node::from_box(alloc, sign.parse().unwrap_or(0), packed.node)?)
+    let node = natural(alloc, inner)?;
+    Ok(Node::from_box(alloc, sign.parse().unwrap_or(0), node)?)
 }
 
 fn insert_head(class: u8) -> InsertHead {
@@ -121,13 +137,16 @@ fn insert_head(class: u8) -> InsertHead {
 }
 
 /// A list in a box of its natural size.
-pub fn natural(alloc: Global, list: Nodes) -> Result<Packed, Fault> {
+pub fn natural(alloc: Global, list: Nodes) -> Result<BoxNode, Fault> {
     let params = PackParams {
         badness: 10000,
         fuzz: 0,
         overfull_rule: 0,
     };
-    hpack(alloc, list, Goal::Natural, &params).map_err(Fault::Unpacked)
+    match hpack(alloc, list, Goal::Natural, &params) {
+        Ok(packed) => Ok(packed.node),
+        Err(error) => Err(Fault::Unpacked(error)),
+    }
 }
 
 fn node_of(alloc: Global, word: &str) -> Result<Node, Fault> {
@@ -148,7 +167,7 @@ fn plain_of(word: &str) -> Option<Plain> {
     if let Some(penalty) = word.strip_prefix('p') {
         return Some(Plain::Penalty(penalty.parse().ok()?));
     }
-    Some(Plain::Glue(glue_of(word.strip_prefix('g')?)?))
+    Some(Plain::Glue(glue_of(word.strip_prefix('g')?, 1)?))
 }
 
 fn shared_of(alloc: Global, word: &str) -> Result<Option<Shared>, AllocError> {
@@ -169,7 +188,7 @@ fn leaders_of(word: &str) -> Option<Leaders> {
     let (rule, glue) = word.strip_prefix('l')?.split_once('/')?;
     Some(Leaders {
         kind: LeadersKind::Aligned,
-        glue: glue_of(glue)?,
+        glue: glue_of(glue, 1)?,
         rule: rule_of(rule)?,
     })
 }
@@ -184,8 +203,8 @@ fn rule_of(sides: &str) -> Option<Rule> {
     })
 }
 
-/// Glue, if the text is `W,S,O,T,P`.
-pub fn glue_of(text: &str) -> Option<Glue> {
+/// Glue, if the text is `W,S,O,T,P`, with sizes in a unit of so many sp.
+pub fn glue_of(text: &str, unit: i64) -> Option<Glue> {
     let (width, rest) = text.split_once(',')?;
     let (stretch, rest) = rest.split_once(',')?;
     let (stretch_order, rest) = rest.split_once(',')?;
@@ -196,19 +215,20 @@ pub fn glue_of(text: &str) -> Option<Glue> {
         return None;
     }
     Some(Glue::new(
-        dimension_of(width)?,
-        dimension_of(stretch)?,
+        dimension_of(width, unit)?,
+        dimension_of(stretch, unit)?,
         stretch_order,
-        dimension_of(shrink)?,
+        dimension_of(shrink, unit)?,
         shrink_order,
     ))
 }
 
-/// A size in sp, if the text is that of a dimension.
-pub fn dimension_of(text: &str) -> Option<i64>
+/// A size in sp, if the text is that of a dimension in a unit of so many sp.
+pub fn dimension_of(text: &str, unit: i64) -> Option<i64>
     ensures { IfSome result IsDimension }
 {
-    let size: i64 = text.parse().ok()?;
+    let count: i64 = text.parse().ok()?;
+    let size = count.checked_mul(unit)?;
     if Range::Dimen.holds(size) {
         Some(size)
     } else {

@@ -39,9 +39,9 @@ fn goal_of(text: &str) -> Option<Goal>
         return Some(Goal::Natural);
     }
     if let Some(size) = text.strip_prefix('=') {
-        return Some(Goal::To(dimension_of(size)?));
+        return Some(Goal::To(dimension_of(size, 1)?));
     }
-    Some(Goal::Spread(dimension_of(text.strip_prefix('+')?)?))
+    Some(Goal::Spread(dimension_of(text.strip_prefix('+')?, 1)?))
 }
 
 /// A goal, three numbers and a list; the first number is \boxmaxdepth of a vertical list, the last \overfullrule of a
@@ -52,9 +52,9 @@ fn packed(alloc: Global, direction: Direction, text: &str) -> Result<Packed, Fau
     let (second, rest) = first_word(rest);
     let (third, list) = first_word(rest);
     let goal = goal_of(goal).ok_or(Fault::Malformed)?;
-    let first = dimension_of(first).ok_or(Fault::Malformed)?;
-    let second = dimension_of(second).ok_or(Fault::Malformed)?;
-    let third = dimension_of(third).ok_or(Fault::Malformed)?;
+    let first = dimension_of(first, 1).ok_or(Fault::Malformed)?;
+    let second = dimension_of(second, 1).ok_or(Fault::Malformed)?;
+    let third = dimension_of(third, 1).ok_or(Fault::Malformed)?;
     let list = list_of(alloc, list)?;
     match direction {
         Direction::Horizontal => {

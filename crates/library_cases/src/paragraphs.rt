@@ -1,14 +1,15 @@
 //! Cases of tx_linebreak.
-ghost use Rattle.std.specs.Prelude.{IfSome};
-ghost use Rattle.tx_num.specs.Glue.{IsDimension};
-
+use crate::lists::{dimension_of, glue_of};
 use std::alloc::{AllocError, Global};
 use tx_cases::first_word;
 use tx_linebreak::{
     BreakError, BreakParams, Chosen, Discretionary, LineShape, Piece, Pieces, Shape, breaks,
     is_ended,
 };
-use tx_num::{Glue, Range};
+use tx_num::Glue;
+
+/// A point, in sp.
+const POINT: i64 = 65_536;
 
 /// Why there is no answer.
 #[derive(Drop)]
@@ -43,26 +44,36 @@ pub fn write_answer(alloc: Global, text: &mut String, rest: &str) -> Result<(), 
 }
 
 fn broken(alloc: Global, text: &str) -> Result<Chosen, Fault> {
-    let (widths, words) = first_word(text);
-    let shape = shape_of(alloc, widths)?;
-    let mut params = initex();
+    let mut shape = Shape::new(alloc);
     let mut list = Pieces::new(alloc);
-    for word in words.split(' ') {
-        put(&mut params, &mut list, word)?;
-    }
-    if shape.is_empty() || !is_ended(&list) {
-        return Err(Fault::Malformed);
-    }
-    breaks(alloc, &list, &shape, &params).map_err(Fault::Unbroken)
+    read_broken(alloc, &mut shape, &mut list, text)
 }
 
-fn shape_of(alloc: Global, widths: &str) -> Result<Shape, Fault> {
-    let mut shape = Shape::new(alloc);
+/// Reads the shape and the list, and breaks this.
+fn read_broken(
+    alloc: Global,
+    shape: &mut Shape,
+    list: &mut Pieces,
+    text: &str,
+) -> Result<Chosen, Fault> {
+    let (widths, words) = first_word(text);
+    put_widths(shape, widths)?;
+    let mut params = initex();
+    for word in words.split(' ') {
+        put(&mut params, list, word)?;
+    }
+    if shape.is_empty() || !is_ended(list) {
+        return Err(Fault::Malformed);
+    }
+    breaks(alloc, list, shape, &params).map_err(Fault::Unbroken)
+}
+
+fn put_widths(shape: &mut Shape, widths: &str) -> Result<(), Fault> {
     for width in widths.split(',') {
-        let width = dimension(width).ok_or(Fault::Malformed)?;
+        let width = dimension_of(width, POINT).ok_or(Fault::Malformed)?;
         shape.push(LineShape { indent: 0, width })?;
     }
-    Ok(shape)
+    Ok(())
 }
 
 /// The parameters as INITEX begins with them.
@@ -95,7 +106,7 @@ fn set(params: &mut BreakParams, name: &str, value: &str) -> Option<()> {
     match name {
         "pretolerance" => params.pretolerance = value.parse().ok()?,
         "tolerance" => params.tolerance = value.parse().ok()?,
-        "emergencystretch" => params.emergency_stretch = dimension(value)?,
+        "emergencystretch" => params.emergency_stretch = dimension_of(value, POINT)?,
         "linepenalty" => params.line_penalty = value.parse().ok()?,
         "hyphenpenalty" => params.hyphen_penalty = value.parse().ok()?,
         "exhyphenpenalty" => params.ex_hyphen_penalty = value.parse().ok()?,
@@ -103,8 +114,8 @@ fn set(params: &mut BreakParams, name: &str, value: &str) -> Option<()> {
         "doublehyphendemerits" => params.double_hyphen_demerits = value.parse().ok()?,
         "finalhyphendemerits" => params.final_hyphen_demerits = value.parse().ok()?,
         "looseness" => params.looseness = value.parse().ok()?,
-        "leftskip" => params.left_skip = glue_of(value)?,
-        "rightskip" => params.right_skip = glue_of(value)?,
+        "leftskip" => params.left_skip = glue_of(value, POINT)?,
+        "rightskip" => params.right_skip = glue_of(value, POINT)?,
         _ => return None,
     }
     Some(())
@@ -118,7 +129,7 @@ fn piece_of(word: &str) -> Option<Piece> {
         return Some(Piece::Kern(points(width)?));
     }
     if let Some(glue) = word.strip_prefix('g') {
-        return Some(Piece::Glue(glue_of(glue)?));
+        return Some(Piece::Glue(glue_of(glue, POINT)?));
     }
     if let Some(penalty) = word.strip_prefix('p') {
         return Some(Piece::Penalty(penalty.parse().ok()?));
@@ -143,48 +154,17 @@ fn discretionary_of(texts: &str, hyphenated: bool) -> Option<Discretionary> {
     let (before, rest) = texts.split_once(',')?;
     let (behind, replaced) = rest.split_once(',')?;
     Some(Discretionary {
-        before: dimension(before),
-        behind: dimension(behind),
+        before: dimension_of(before, POINT),
+        behind: dimension_of(behind, POINT),
         replaced: replaced.parse().ok()?,
         hyphenated,
     })
-}
-
-fn glue_of(text: &str) -> Option<Glue> {
-    let (width, rest) = text.split_once(',')?;
-    let (stretch, rest) = rest.split_once(',')?;
-    let (stretch_order, rest) = rest.split_once(',')?;
-    let (shrink, shrink_order) = rest.split_once(',')?;
-    let stretch_order: u8 = stretch_order.parse().ok()?;
-    let shrink_order: u8 = shrink_order.parse().ok()?;
-    if stretch_order > 3 || shrink_order > 3 {
-        return None;
-    }
-    Some(Glue::new(
-        dimension(width)?,
-        dimension(stretch)?,
-        stretch_order,
-        dimension(shrink)?,
-        shrink_order,
-    ))
 }
 
 /// So many points in sp.
 fn points(text: &str) -> Option<i32> {
     let points: i16 = text.parse().ok()?;
     Some(i32::from(points) * 65_536)
-}
-
-/// The same, if it is a dimension.
-fn dimension(text: &str) -> Option<i64>
-    ensures { IfSome result IsDimension }
-{
-    let size = i64::from(points(text)?);
-    if Range::Dimen.holds(size) {
-        Some(size)
-    } else {
-        None
-    }
 }
 
 /// What was chosen, as `1 7 total 900 pass 2`, ` forced 7` for each line that doesn't fit, and ` looseness 1`.

@@ -3,34 +3,59 @@ use crate::edits::edit_of;
 use std::alloc::{AllocError, Global};
 use std::slice;
 use tx_bytes::Bytes;
-use tx_cases::{integers, malformed};
+use tx_cases::integers;
 use tx_checkpoint::{Last, Row, Rows};
 use tx_files::{Change, Seen, Sight};
 use tx_machine::{End, Opens};
 
-/// `resume PLACE LAST ROW ..`, the row at which formatting resumes after an edit at this place of a file, and whether
+/// `resume PLACE LAST ROW ..`: writes the row at which formatting resumes after an edit at this place of a file, and whether
 /// everything stands, where the rows read the file up to these places, and what comes after them up to LAST.
-pub fn answer(alloc: Global, rest: &str) -> Result<String, AllocError> {
+pub fn write_answer(alloc: Global, text: &mut String, rest: &str) -> Result<(), AllocError> {
     let numbers = integers(alloc, rest)?;
     match numbers.as_slice() {
         [place, last, ends @ ..] if 0 <= *place && 0 <= *last => {
-            resumed(alloc, *place as u64, &rows_of(alloc, *last as u64, ends)?)
+            write_place(alloc, text, *place as u64, *last as u64, ends)
         }
-        _ => malformed(alloc),
+        _ => text.push_str("malformed"),
     }
 }
 
-fn resumed(alloc: Global, place: u64, rows: &Rows<u32>) -> Result<String, AllocError> {
-    let Some(e) = edit_of(alloc, "a.tex", place, 0, "")? else {
-        return malformed(alloc);
-    };
-    let change = Change::Edit(e);
-    let changes = slice::from_ref(&change);
-    let row = rows.resume_at(changes);
-    match rows.stands(row, changes) {
-        true => format!(in alloc; "{row}, all stands"),
-        false => format!(in alloc; "{row}"),
+fn write_place(
+    alloc: Global,
+    text: &mut String,
+    place: u64,
+    last: u64,
+    ends: &[i64],
+) -> Result<(), AllocError> {
+    let seen = seen_upto(alloc, last)?;
+    let mut rows = no_rows(alloc, seen);
+    write_filled(alloc, text, &mut rows, place, ends)
+}
+
+fn write_filled(
+    alloc: Global,
+    text: &mut String,
+    rows: &mut Rows<u32>,
+    place: u64,
+    ends: &[i64],
+) -> Result<(), AllocError> {
+    for end in ends {
+        rows.rows.push(row_upto(alloc, end.unsigned_abs())?)?;
     }
+    match edit_of(alloc, "a.tex", place, 0, "")? {
+        Some(e) => write_resumed(text, rows, &Change::Edit(e)),
+        None => text.push_str("malformed"),
+    }
+}
+
+fn write_resumed(text: &mut String, rows: &Rows<u32>, change: &Change) -> Result<(), AllocError> {
+    let changes = slice::from_ref(change);
+    let row = rows.resume_at(changes);
+    write!(text, "{row}")?;
+    if rows.stands(row, changes) {
+        text.push_str(", all stands")?;
+    }
+    Ok(())
 }
 
 /// What was read of `a.tex` up to this place.
@@ -50,20 +75,12 @@ fn row_upto(alloc: Global, place: u64) -> Result<Row<u32>, AllocError> {
     })
 }
 
-fn rows_upto(alloc: Global, ends: &[i64]) -> Result<Vec<Row<u32>>, AllocError> {
-    let mut rows = Vec::new(alloc);
-    for end in ends {
-        rows.push(row_upto(alloc, end.unsigned_abs())?)?;
-    }
-    Ok(rows)
-}
-
-/// These rows, and what comes after them, of which this was seen.
-fn with_last(alloc: Global, rows: Vec<Row<u32>>, seen: Seen) -> Rows<u32> {
+/// No rows, and what comes after them, of which this was seen.
+fn no_rows(alloc: Global, seen: Seen) -> Rows<u32> {
     Rows {
         pages: Vec::new(alloc),
         pieces: Vec::new(alloc),
-        rows,
+        rows: Vec::new(alloc),
         last: Last {
             piece: Bytes::new(alloc),
             turns: 1,
@@ -72,11 +89,4 @@ fn with_last(alloc: Global, rows: Vec<Row<u32>>, seen: Seen) -> Rows<u32> {
             end: End::End,
         },
     }
-}
-
-/// Rows that read the file up to these places.
-fn rows_of(alloc: Global, last: u64, ends: &[i64]) -> Result<Rows<u32>, AllocError> {
-    let rows = rows_upto(alloc, ends)?;
-    let seen = seen_upto(alloc, last)?;
-    Ok(with_last(alloc, rows, seen))
 }

@@ -6,24 +6,37 @@ ghost use Rattle.tx_machine.specs.Ranges.{AreLimits};
 use crate::documents::{main_name, set_of};
 use line_machine::LineMachine;
 use std::alloc::{AllocError, Global};
-use tx_bytes::Bytes;
-use tx_cases::{bytes_of, first_word, malformed};
+use tx_cases::first_word;
 use tx_files::FileSet;
 use tx_machine::{Date, End, Limits, Ran, Steps, fresh_run};
 
 /// - `run NAME BUDGET PAGES TEXT`, each page with its year and its piece of the transcript, the last piece, the end, and the
 ///   turns of a run of `main` where the file of this name holds this text, within these limits;
 /// - `long SIZE`, the same where the third line of the file has so many bytes before its LF; more than ten are counted.
-pub fn answer(alloc: Global, word: &str, rest: &str, steps: Steps) -> Result<String, AllocError> {
+pub fn write_answer(
+    alloc: Global,
+    text: &mut String,
+    word: &str,
+    rest: &str,
+    steps: &mut Steps,
+) -> Result<(), AllocError> {
     if word == "long" {
-        return third_line_of(alloc, steps, rest.parse().unwrap_or(0));
+        let document = three_lines(alloc, rest.parse().unwrap_or(0))?;
+        return write_run(
+            alloc,
+            text,
+            "main",
+            document.as_str(),
+            &within(100, 10),
+            steps,
+        );
     }
     let (name, rest) = first_word(rest);
     let (budget, rest) = first_word(rest);
-    let (pages, text) = first_word(rest);
+    let (pages, document) = first_word(rest);
     match limits_of(budget, pages) {
-        Some(limits) => run(alloc, steps, name, text, &limits),
-        None => malformed(alloc),
+        Some(limits) => write_run(alloc, text, name, document, &limits, steps),
+        None => text.push_str("malformed"),
     }
 }
 
@@ -98,43 +111,45 @@ fn write_all(text: &mut String, ran: &Ran, steps: &Steps) -> Result<(), AllocErr
     write!(text, "; {steps:?}")
 }
 
-fn written(alloc: Global, ran: &Ran, steps: &Steps) -> Result<String, AllocError> {
-    let mut text = String::new(alloc);
-    write_all(&mut text, ran, steps)?;
-    Ok(text)
+/// Writes the run of `main` where the file of this name holds what a text stands for.
+fn write_run(
+    alloc: Global,
+    text: &mut String,
+    name: &str,
+    document: &str,
+    limits: &Limits,
+    steps: &mut Steps,
+) -> Result<(), AllocError>
+    requires { AreLimits limits.now }
+{
+    let files = set_of(alloc, name, document)?;
+    write_run_on(alloc, text, &files, limits, steps)
+}
+
+fn write_run_on(
+    alloc: Global,
+    text: &mut String,
+    files: &FileSet,
+    limits: &Limits,
+    steps: &mut Steps,
+) -> Result<(), AllocError>
+    requires { AreLimits limits.now }
+{
+    let ran = run_on(alloc, files, limits, steps)?;
+    write_all(text, &ran, steps)
 }
 
 /// The run of `main` on these files.
 fn run_on(
     alloc: Global,
-    mut steps: Steps,
     files: &FileSet,
     limits: &Limits,
-) -> Result<String, AllocError>
+    steps: &mut Steps,
+) -> Result<Ran, AllocError>
     requires { AreLimits limits.now }
 {
     let main = main_name(alloc)?;
-    let ran = fresh_run(alloc, &LineMachine, files, &main, &DATE, limits, &mut steps)?;
-    written(alloc, &ran, &steps)
-}
-
-/// The run of `main` where the file of this name holds what a text stands for.
-fn run(
-    alloc: Global,
-    steps: Steps,
-    name: &str,
-    text: &str,
-    limits: &Limits,
-) -> Result<String, AllocError>
-    requires { AreLimits limits.now }
-{
-    let bytes = bytes_of(alloc, text)?;
-    run_on(
-        alloc,
-        steps,
-        &set_of(alloc, name.as_bytes(), bytes.as_slice())?,
-        limits,
-    )
+    fresh_run(alloc, &LineMachine, files, &main, &DATE, limits, steps)
 }
 
 /// Limits of this budget for a page and so many pages.
@@ -150,26 +165,12 @@ fn within(budget: u64, pages: u32) -> Limits
     }
 }
 
-/// Three lines, of which the third has so many bytes before its LF.
-fn three_lines(alloc: Global, size: usize) -> Result<Bytes, AllocError> {
-    let mut bytes = Bytes::from_slice(alloc, b"a\n\n")?;
-    append_line(alloc, &mut bytes, size)?;
-    Ok(bytes)
-}
-
-fn append_line(alloc: Global, bytes: &mut Bytes, size: usize) -> Result<(), AllocError> {
-    let line = vec![in alloc; b'x'; size]?;
-    bytes.append(line.as_slice())?;
-    bytes.append(b"\n.\n")
-}
-
-/// The run of a file whose third line has so many bytes before its LF.
-fn third_line_of(alloc: Global, steps: Steps, size: usize) -> Result<String, AllocError> {
-    let bytes = three_lines(alloc, size)?;
-    run_on(
-        alloc,
-        steps,
-        &set_of(alloc, b"main", bytes.as_slice())?,
-        &within(100, 10),
-    )
+/// The text of three lines, of which the third has so many bytes before its LF.
+fn three_lines(alloc: Global, size: u32) -> Result<String, AllocError> {
+    let mut text = String::from_str(alloc, "a\n\n")?;
+    for _ in 0..size {
+        text.push('x')?;
+    }
+    text.push_str("\n.\n")?;
+    Ok(text)
 }

@@ -6,8 +6,8 @@ use crate::edits::{changes_of, edit_of};
 use crate::runs::write_end;
 use line_machine::LineMachine;
 use std::alloc::{AllocError, Global};
-use tx_cases::{bytes_of, first_line, first_word};
-use tx_files::{Edit, FileSet};
+use tx_cases::{first_line, first_word};
+use tx_files::Edit;
 use tx_machine::{Date, Limits, Steps};
 use tx_session::{Refusal, Report, Session};
 
@@ -24,6 +24,23 @@ const LIMITS: Limits = Limits {
     keep: 1,
 };
 
+/// Writes what there is of the document of the first line, with the name and the text of another file behind `edited`, or with
+/// none, and after each edit or batch of the lines behind it: what it is answered, the pages, the transcript, the end, the size
+/// of the DVI file, and the turns so far. Behind `replayed` all edits are made at once, those that fit, and it is what there is
+/// then.
+pub fn write_answer(
+    alloc: Global,
+    text: &mut String,
+    word: &str,
+    rest: &str,
+    lines: &str,
+    steps: &mut Steps,
+) -> Result<(), AllocError> {
+    let (document, edits) = first_line(lines);
+    let mut session = opened(alloc, rest, document, steps)?;
+    write_played(alloc, text, &mut session, word, edits, steps)
+}
+
 /// A document of its main file's text and, where `more` isn't empty, the name and the text of another file, opened.
 fn opened(
     alloc: Global,
@@ -31,33 +48,43 @@ fn opened(
     document: &str,
     steps: &mut Steps,
 ) -> Result<Session<LineMachine>, AllocError> {
-    let bytes = bytes_of(alloc, document)?;
-    let mut files = set_of(alloc, b"main", bytes.as_slice())?;
-    let (name, text) = first_word(more);
-    let bytes = bytes_of(alloc, text)?;
-    put(alloc, &mut files, name.as_bytes(), bytes.as_slice())?;
-    open(alloc, files, steps)
-}
-
-fn open(
-    alloc: Global,
-    files: FileSet,
-    steps: &mut Steps,
-) -> Result<Session<LineMachine>, AllocError> {
     let main = main_name(alloc)?;
+    let mut files = set_of(alloc, "main", document)?;
+    let (name, text) = first_word(more);
+    put(alloc, &mut files, name, text)?;
     Session::open(alloc, LineMachine, files, main, DATE, LIMITS, steps)
 }
 
-fn append_bytes(text: &mut String, bytes: &[u8]) -> Result<(), AllocError> {
+fn write_played(
+    alloc: Global,
+    text: &mut String,
+    session: &mut Session<LineMachine>,
+    word: &str,
+    edits: &str,
+    steps: &mut Steps,
+) -> Result<(), AllocError> {
+    if word == "replayed" {
+        let list = edits_of(alloc, edits)?;
+        session.replay(list.as_slice(), steps)?;
+        return write_all(text, session, steps);
+    }
+    write_all(text, session, steps)?;
+    for line in edits.split('\n') {
+        write_edit(alloc, text, session, line, steps)?;
+    }
+    Ok(())
+}
+
+fn write_bytes(text: &mut String, bytes: &[u8]) -> Result<(), AllocError> {
     for byte in bytes {
         text.push(char::from(*byte))?;
     }
     text.push(' ')
 }
 
-fn append_pages(text: &mut String, session: &Session<LineMachine>) -> Result<(), AllocError> {
+fn write_pages(text: &mut String, session: &Session<LineMachine>) -> Result<(), AllocError> {
     for page in 0..session.pages() {
-        append_bytes(text, session.body(page + 1))?;
+        write_bytes(text, session.body(page + 1))?;
     }
     Ok(())
 }
@@ -68,21 +95,21 @@ fn file_size(session: &Session<LineMachine>) -> Result<usize, AllocError> {
 }
 
 /// The pages, the transcript, the end, the size of the DVI file, and the turns so far.
-fn append_all(
+fn write_all(
     text: &mut String,
     session: &Session<LineMachine>,
     steps: &Steps,
 ) -> Result<(), AllocError> {
-    append_pages(text, session)?;
-    append_bytes(text, session.said())?;
+    write_pages(text, session)?;
+    write_bytes(text, session.said())?;
     let size = file_size(session)?;
     write_end(text, session.end())?;
     write!(text, " {size} {steps:?}\n")
 }
 
 /// What an edit is answered.
-fn append_answer(text: &mut String, answer: Result<Report, Refusal>) -> Result<(), AllocError> {
-    match answer {
+fn write_reply(text: &mut String, reply: Result<Report, Refusal>) -> Result<(), AllocError> {
+    match reply {
         Ok(
             Report {
                 pages,
@@ -120,7 +147,7 @@ fn edit_in(alloc: Global, name: &str, line: &str) -> Result<Edit, AllocError> {
 }
 
 /// What the edit of a line is answered, or what `batch` and changes are, between which bars stand; and what there is then.
-fn append_edit(
+fn write_edit(
     alloc: Global,
     text: &mut String,
     session: &mut Session<LineMachine>,
@@ -129,70 +156,12 @@ fn append_edit(
 ) -> Result<(), AllocError> {
     if let Some(rest) = line.strip_prefix("batch ") {
         let changes = changes_of(alloc, rest)?;
-        append_answer(text, session.batch(changes.as_slice(), steps))?;
+        write_reply(text, session.batch(changes.as_slice(), steps))?;
     } else {
         let e = edit(alloc, line)?;
-        append_answer(text, session.edit(&e, steps))?;
+        write_reply(text, session.edit(&e, steps))?;
     }
-    append_all(text, session, steps)
-}
-
-fn append_edits(
-    alloc: Global,
-    text: &mut String,
-    session: &mut Session<LineMachine>,
-    edits: &str,
-    steps: &mut Steps,
-) -> Result<(), AllocError> {
-    append_all(text, session, steps)?;
-    for line in edits.split('\n') {
-        append_edit(alloc, text, session, line, steps)?;
-    }
-    Ok(())
-}
-
-/// What there is of the document of the first line, with another file or none, and after each edit or batch of the lines behind it:
-/// what it is answered, the pages, the transcript, the end, the size of the DVI file, and the turns so far.
-pub fn edited(
-    alloc: Global,
-    more: &str,
-    lines: &str,
-    mut steps: Steps,
-) -> Result<String, AllocError> {
-    let (document, edits) = first_line(lines);
-    let mut session = opened(alloc, more, document, &mut steps)?;
-    edit_all(alloc, &mut session, edits, &mut steps)
-}
-
-fn edit_all(
-    alloc: Global,
-    session: &mut Session<LineMachine>,
-    edits: &str,
-    steps: &mut Steps,
-) -> Result<String, AllocError> {
-    let mut text = String::new(alloc);
-    append_edits(alloc, &mut text, session, edits, steps)?;
-    Ok(text)
-}
-
-/// What there is after all edits, which are made at once, those that fit.
-pub fn replayed(alloc: Global, lines: &str, mut steps: Steps) -> Result<String, AllocError> {
-    let (document, edits) = first_line(lines);
-    let mut session = opened(alloc, "", document, &mut steps)?;
-    replay_all(alloc, &mut session, edits, &mut steps)
-}
-
-fn replay_all(
-    alloc: Global,
-    session: &mut Session<LineMachine>,
-    edits: &str,
-    steps: &mut Steps,
-) -> Result<String, AllocError> {
-    let list = edits_of(alloc, edits)?;
-    session.replay(list.as_slice(), steps)?;
-    let mut text = String::new(alloc);
-    append_all(&mut text, session, steps)?;
-    Ok(text)
+    write_all(text, session, steps)
 }
 
 fn edits_of(alloc: Global, edits: &str) -> Result<Vec<Edit>, AllocError> {

@@ -3,27 +3,28 @@ use crate::lists::glue_of;
 use std::alloc::{AllocError, Global};
 use std::mem;
 use tx_bytes::Bytes;
-use tx_cases::{answered, first_word, malformed};
+use tx_cases::first_word;
 use tx_node::{Character, Discretionary, Ligature, Node, Plain, Shared};
 use tx_tfm::{Font, Fonts, NamedFont};
 use tx_word::{Piece, Places, WordError, WordParams, are_pieces, factor_behind, nodes};
 
-/// `load NAME`: the font that was taken last is the next font of the run. The answer is its number.
+/// `load NAME`: the font that was taken last is the next font of the run. Writes its number.
 pub fn load(
     alloc: Global,
+    text: &mut String,
     font: &mut Option<Font>,
     fonts: &mut Fonts,
     name: &str,
-) -> Result<String, AllocError> {
+) -> Result<(), AllocError> {
     if fonts.len() == 255 || name.len() > 255 {
-        return answered(alloc, "full");
+        return text.push_str("full");
     }
+    let name = Bytes::from_slice(alloc, name.as_bytes())?;
     match mem::replace(font, None) {
-        None => answered(alloc, "missing"),
+        None => text.push_str("missing"),
         Some(font) => {
-            let name = Bytes::from_slice(alloc, name.as_bytes())?;
             let number = fonts.push(alloc, NamedFont { name, font }, 45, -1)?;
-            format!(in alloc; "{number}")
+            write!(text, "{number}")
         }
     }
 }
@@ -32,57 +33,77 @@ pub fn load(
 /// order P. A piece is `F/WORD`, a word in font F, where an underscore before or behind it is a boundary that counts, or `F:N`,
 /// a space in font F at the factor N. `F/H!P,P..!WORD` is a word with the hyphen character H and places for it.
 ///
-/// The answer is the list: `cF,C,W,H,D` is a character C of font F, W wide, H high and D deep, `lF,C,W,H,D(..)` a ligature with
+/// Writes the list: `cF,C,W,H,D` is a character C of font F, W wide, H high and D deep, `lF,C,W,H,D(..)` a ligature with
 /// the characters in whose stead it stands, `kN` a kern, `gW,S,O,T,P` glue, and `dN[..]`, or `eN[..]` where hyphenation made it, a
 /// discretionary that replaces N items, with its texts before and behind a break, a bar between them.
-pub fn set(alloc: Global, fonts: &Fonts, rest: &str) -> Result<String, AllocError> {
+pub fn write_set(
+    alloc: Global,
+    text: &mut String,
+    fonts: &Fonts,
+    rest: &str,
+) -> Result<(), AllocError> {
     let (spaceskip, rest) = first_word(rest);
     let (xspaceskip, rest) = first_word(rest);
     let Some(params) = params_of(spaceskip, xspaceskip) else {
-        return malformed(alloc);
+        return text.push_str("malformed");
     };
-    let Some(pieces) = pieces_of(alloc, rest)? else {
-        return malformed(alloc);
-    };
-    if !are_pieces(fonts, pieces.as_slice()) {
-        return answered(alloc, "missing");
+    let mut pieces = Vec::new(alloc);
+    write_read(alloc, text, fonts, &mut pieces, rest, &params)
+}
+
+/// Reads the pieces of a text, and writes the list that they make.
+fn write_read(
+    alloc: Global,
+    text: &mut String,
+    fonts: &Fonts,
+    pieces: &mut Vec<Piece>,
+    rest: &str,
+    params: &WordParams,
+) -> Result<(), AllocError> {
+    for word in rest.split(' ') {
+        match piece_of(alloc, word)? {
+            None => return text.push_str("malformed"),
+            Some(piece) => pieces.push(piece)?,
+        }
     }
-    match nodes(alloc, pieces.as_slice(), fonts, &params) {
-        Ok(list) => listed(alloc, list.as_slice()),
-        Err(WordError::SizeOutOfRange) => answered(alloc, "out of range"),
+    write_made(alloc, text, fonts, pieces.as_slice(), params)
+}
+
+/// Writes the list that these pieces make.
+fn write_made(
+    alloc: Global,
+    text: &mut String,
+    fonts: &Fonts,
+    pieces: &[Piece],
+    params: &WordParams,
+) -> Result<(), AllocError> {
+    if !are_pieces(fonts, pieces) {
+        return text.push_str("missing");
+    }
+    match nodes(alloc, pieces, fonts, params) {
+        Ok(list) => write_nodes(text, list.as_slice()),
+        Err(WordError::SizeOutOfRange) => text.push_str("out of range"),
         Err(WordError::OutOfMemory) => Err(AllocError),
     }
 }
 
-/// `factor F C`: the space factor behind a character of the \sfcode C, where it was F.
-pub fn factor(alloc: Global, rest: &str) -> Result<String, AllocError> {
+/// `factor F C`: writes the space factor behind a character of the \sfcode C, where it was F.
+pub fn write_factor(text: &mut String, rest: &str) -> Result<(), AllocError> {
     let (factor, code) = first_word(rest);
     let factor: u16 = factor.parse().unwrap_or(0);
     let code: u16 = code.parse().unwrap_or(65535);
     if factor == 0 || factor > 32767 || code > 32767 {
-        return malformed(alloc);
+        return text.push_str("malformed");
     }
     let behind = factor_behind(factor, code);
-    format!(in alloc; "{behind}")
+    write!(text, "{behind}")
 }
 
 fn params_of(spaceskip: &str, xspaceskip: &str) -> Option<WordParams> {
     Some(WordParams {
-        spaceskip: glue_of(spaceskip)?,
-        xspaceskip: glue_of(xspaceskip)?,
+        spaceskip: glue_of(spaceskip, 1)?,
+        xspaceskip: glue_of(xspaceskip, 1)?,
     })
-}
-
-/// The pieces of a text, None where it isn't one's.
-fn pieces_of(alloc: Global, text: &str) -> Result<Option<Vec<Piece>>, AllocError> {
-    let mut pieces = Vec::new(alloc);
-    for word in text.split(' ') {
-        match piece_of(alloc, word)? {
-            None => return Ok(None),
-            Some(piece) => pieces.push(piece)?,
-        }
-    }
-    Ok(Some(pieces))
 }
 
 fn piece_of(alloc: Global, text: &str) -> Result<Option<Piece>, AllocError> {
@@ -139,12 +160,11 @@ fn space_of(text: &str) -> Option<Piece> {
     })
 }
 
-fn listed(alloc: Global, list: &[Node]) -> Result<String, AllocError> {
-    let mut text = String::new(alloc);
+fn write_nodes(text: &mut String, list: &[Node]) -> Result<(), AllocError> {
     for node in list {
-        write_node(&mut text, node)?;
+        write_node(text, node)?;
     }
-    Ok(text)
+    Ok(())
 }
 
 /// Writes a discretionary.
@@ -172,20 +192,18 @@ fn write_text(text: &mut String, list: &[Node]) -> Result<(), AllocError> {
     Ok(())
 }
 
-/// Writes what a text of a discretionary shares with copies of it.
+/// Writes what a text of a discretionary shares with copies of it: a ligature by its code, and the characters in whose stead it
+/// stands.
 fn write_within(text: &mut String, item: &Shared) -> Result<(), AllocError> {
     match item {
-        Shared::Ligature(ligature) => write_ligature(text, ligature),
+        Shared::Ligature(ligature) => {
+            text.push(char::from(ligature.character.code))?;
+            write_from(text, ligature)
+        }
         Shared::Rule(_) | Shared::Leaders(_) | Shared::Special(_) | Shared::Mark(_) => text.push(
             '?',
         ),
     }
-}
-
-/// Writes a ligature by its code, and the characters in whose stead it stands.
-fn write_ligature(text: &mut String, ligature: &Ligature) -> Result<(), AllocError> {
-    text.push(char::from(ligature.character.code))?;
-    write_from(text, ligature)
 }
 
 /// Writes the characters in whose stead a ligature stands.

@@ -35,15 +35,8 @@ fn marked(piece: &str) -> Option<(u8, &str)> {
     Some((u8::from_str_radix(digits, 16).ok()?, rest))
 }
 
-/// A text that stands for these bytes: visible ones but `<`, spaces and ends of lines as they are. Its only error is want
-/// of memory.
-pub fn text_of(alloc: Global, bytes: &[u8]) -> Result<String, AllocError> {
-    let mut text = String::new(alloc);
-    write_bytes(&mut text, bytes)?;
-    Ok(text)
-}
-
-/// The same at the end of a text. Its only error is want of memory.
+/// Writes at the end of a text what stands for these bytes: visible ones but `<`, spaces and ends of lines as they are. Its only
+/// error is want of memory.
 pub fn write_bytes(text: &mut String, bytes: &[u8]) -> Result<(), AllocError> {
     for byte in bytes {
         match byte {

@@ -1,10 +1,10 @@
 //! Running the cases of texts.
 use std::{env, fs, io};
 
-/// What a program answers.
+/// What answers cases.
 pub trait Answers {
-    /// What becomes of what is given in a case, as a text. An error ends the program.
-    fn answer(&mut self, rt: &HostRuntime, given: &str) -> io::Result<String>;
+    /// Writes what becomes of what is given in a case into an empty text. An error ends the program.
+    fn answer(&mut self, rt: &HostRuntime, text: &mut String, given: &str) -> io::Result<()>;
 }
 
 /// How many cases there were, and how many of them came out otherwise or were no cases.
@@ -14,15 +14,33 @@ struct Tally {
     others: u64,
 }
 
-/// Runs the cases of each file that a word of the command line names; where there is no word, answers each line of the
-/// standard input.
-pub fn run_files<A: Answers>(rt: &HostRuntime, program: &mut A) -> io::Result<()> {
+/// Runs the cases of each file that a word of the command line names: `calls` answers those in the folder of this name, `others`
+/// all else. Where there is no word, `others` answers each line of the standard input.
+pub fn run_files<C: Answers, O: Answers>(
+    rt: &HostRuntime,
+    calls: &mut C,
+    others: &mut O,
+) -> io::Result<()> {
     let names = words(rt)?;
     if names.is_empty() {
-        return answer_lines(rt, program);
+        return answer_lines(rt, others);
     }
-    for name in names.as_slice() {
-        run_file(rt, name.as_str(), program)?;
+    run_each(rt, names.as_slice(), calls, others)
+}
+
+fn run_each<C: Answers, O: Answers>(
+    rt: &HostRuntime,
+    names: &[String],
+    calls: &mut C,
+    others: &mut O,
+) -> io::Result<()> {
+    for name in names {
+        let name = name.as_str();
+        if name.starts_with("calls/") {
+            run_file(rt, name, calls)?;
+        } else {
+            run_file(rt, name, others)?;
+        }
     }
     Ok(())
 }
@@ -41,7 +59,8 @@ fn answer_lines<A: Answers>(rt: &HostRuntime, program: &mut A) -> io::Result<()>
 }
 
 fn answer_line<A: Answers>(rt: &HostRuntime, line: &str, program: &mut A) -> io::Result<()> {
-    let answer = program.answer(rt, line)?;
+    let mut answer = String::new(rt.alloc());
+    program.answer(rt, &mut answer, line)?;
     println!(rt; "{answer}")
 }
 
@@ -121,7 +140,7 @@ fn run_lines<A: Answers>(
     Ok(())
 }
 
-/// Runs one case; where it comes out otherwise, shows it. Line feeds at the end of a text don't count.
+/// Runs one case.
 fn run_case<A: Answers>(
     rt: &HostRuntime,
     name: &str,
@@ -130,9 +149,22 @@ fn run_case<A: Answers>(
     program: &mut A,
     tally: &mut Tally,
 ) -> io::Result<()> {
+    let mut found = String::new(rt.alloc());
+    program.answer(rt, &mut found, given)?;
+    compare(rt, name, given, expected, found.as_str(), tally)
+}
+
+/// Counts a case; where it was answered otherwise, shows it. Line feeds at the end of a text don't count.
+fn compare(
+    rt: &HostRuntime,
+    name: &str,
+    given: &str,
+    expected: &str,
+    found: &str,
+    tally: &mut Tally,
+) -> io::Result<()> {
     tally.cases = tally.cases.saturating_add(1);
-    let found = program.answer(rt, given)?;
-    let found = found.as_str().trim_end_matches('\n');
+    let found = found.trim_end_matches('\n');
     let expected = expected.trim_end_matches('\n');
     if found == expected {
         return Ok(());

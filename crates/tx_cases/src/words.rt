@@ -1,4 +1,4 @@
-//! The parts of what is given, and answers of a word.
+//! The parts of what is given.
 use std::alloc::{AllocError, Global};
 
 /// The first word of a text, and what stands behind the space after it.
@@ -20,14 +20,4 @@ pub fn integers(alloc: Global, text: &str) -> Result<Vec<i64>, AllocError> {
         }
     }
     Ok(numbers)
-}
-
-/// A word as an answer. Its only error is want of memory.
-pub fn answered(alloc: Global, word: &str) -> Result<String, AllocError> {
-    String::from_str(alloc, word)
-}
-
-/// The answer to what can't be read. Its only error is want of memory.
-pub fn malformed(alloc: Global) -> Result<String, AllocError> {
-    answered(alloc, "malformed")
 }

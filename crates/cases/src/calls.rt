@@ -1,13 +1,71 @@
-//! Calls over files in memory.
+//! The worked cases of the top call, over files in memory. A case is
+//!
+//! - `call WORDS` and lines behind it, as `write_outcome` reads them;
+//! - `same WORDS`, a call on the document `one_page` that comes out as the plain call does, or else what comes of it;
+//! - `refused WORDS`, a call whose words are refused before a file is fetched, or else what comes of it.
 use std::alloc::{AllocError, Global};
 use std::{fs, io};
 use tx_bytes::Bytes;
-use tx_cases::{bytes_of, first_word, write_bytes, write_hexadecimal};
+use tx_cases::{Answers, bytes_of, first_line, first_word, write_bytes, write_hexadecimal};
 use tx_io::{MemorySink, MemorySource};
 use tx_machine::CountsTurns;
 use vortex_cmd::vortex::vortex;
 
-/// What comes of a call with these words, between which bars stand, by lines of
+/// The words of the plain call.
+const PLAIN: &str = "run|--date|2024-5-17-570|--out|a|main.tex";
+
+/// Its document, and what is shown of it.
+const DOCUMENT: &str = "take main.tex one_page\nsaved a.dvi\nsaved a.log";
+
+/// The same, where no file can be fetched.
+const UNFETCHED: &str = "take main.tex one_page\nfails fetch 1\nsaved a.dvi\nsaved a.log";
+
+/// What comes of words that are refused.
+const REFUSED: &str = "status 2\nwords refused\na.dvi: nothing\na.log: nothing\n";
+
+/// The top call, which keeps nothing from case to case.
+#[derive(Drop)]
+pub struct Calls;
+
+impl Answers for Calls {
+    fn answer(&mut self, rt: &HostRuntime, text: &mut String, given: &str) -> io::Result<()> {
+        let (line, lines) = first_line(given);
+        let (word, words) = first_word(line);
+        match word {
+            "call" => write_outcome(rt, text, words, lines),
+            "same" => write_same(rt, text, words),
+            "refused" => write_compared(rt, text, words, UNFETCHED, REFUSED, "refused"),
+            _ => Ok(text.push_str("malformed")?),
+        }
+    }
+}
+
+fn write_same(rt: &HostRuntime, text: &mut String, words: &str) -> io::Result<()> {
+    let mut plain = String::new(rt.alloc());
+    write_outcome(rt, &mut plain, PLAIN, DOCUMENT)?;
+    write_compared(rt, text, words, DOCUMENT, plain.as_str(), "same")
+}
+
+/// Writes the word, where what comes of a call is what is expected, and else that.
+fn write_compared(
+    rt: &HostRuntime,
+    text: &mut String,
+    words: &str,
+    lines: &str,
+    expected: &str,
+    word: &str,
+) -> io::Result<()> {
+    let mut found = String::new(rt.alloc());
+    write_outcome(rt, &mut found, words, lines)?;
+    let written = if found.as_str() == expected {
+        text.push_str(word)
+    } else {
+        text.push_str(found.as_str())
+    };
+    Ok(written?)
+}
+
+/// Writes what comes of a call with these words, between which bars stand, by lines of
 ///
 /// - `file NAME`, a file of the source, whose bytes are in the lines behind it: a line that begins with `|` is one of the
 ///   file, and one that begins with `+` stands there without a line feed; `take NAME FILE`, with the bytes of a real file;
@@ -17,44 +75,40 @@ use vortex_cmd::vortex::vortex;
 /// - `saved NAME`, a file of the sink that is shown: one whose name ends with `.dvi` in hexadecimal; `alike NAME OTHER`, two
 ///   of them that are compared.
 ///
-/// The answer is the status of each call, what was said, and the files that are shown.
-pub fn outcome(rt: &HostRuntime, words: &str, lines: &str) -> io::Result<String> {
+/// That is the status of each call, what was said, and the files that are shown.
+fn write_outcome(rt: &HostRuntime, text: &mut String, words: &str, lines: &str) -> io::Result<()> {
     let failing = failing(rt.alloc(), "fails fetch ", lines)?;
-    called(
-        rt,
-        &mut MemorySource::new(rt.alloc(), failing),
-        words,
-        lines,
-    )
+    let mut source = MemorySource::new(rt.alloc(), failing);
+    write_called(rt, text, words, &mut source, lines)
 }
 
-fn called(
+fn write_called(
     rt: &HostRuntime,
-    source: &mut MemorySource,
+    text: &mut String,
     words: &str,
+    source: &mut MemorySource,
     lines: &str,
-) -> io::Result<String> {
+) -> io::Result<()> {
     put_files(rt, source, lines)?;
+    Ok(write_put_out(rt, text, words, source, lines)?)
+}
+
+/// Writes what is put out by a call on these files.
+fn write_put_out(
+    rt: &HostRuntime,
+    text: &mut String,
+    words: &str,
+    source: &mut MemorySource,
+    lines: &str,
+) -> Result<(), AllocError> {
     let mut sink = sink_of(rt.alloc(), lines)?;
-    Ok(told(rt, words, source, &mut sink, lines)?)
+    write_told(rt, text, words, source, &mut sink, lines)
 }
 
 fn sink_of(alloc: Global, lines: &str) -> Result<MemorySink, AllocError> {
     let says = failing(alloc, "fails say ", lines)?;
     let saves = failing(alloc, "fails save ", lines)?;
     Ok(MemorySink::new(alloc, says, saves))
-}
-
-fn told(
-    rt: &HostRuntime,
-    words: &str,
-    source: &mut MemorySource,
-    sink: &mut MemorySink,
-    lines: &str,
-) -> Result<String, AllocError> {
-    let mut text = String::new(rt.alloc());
-    write_told(rt, &mut text, words, source, sink, lines)?;
-    Ok(text)
 }
 
 fn write_told(
