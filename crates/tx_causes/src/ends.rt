@@ -61,6 +61,29 @@ fn write_error_cause(text: &mut String, main: &str, error: &str) -> Result<(), A
     write_error_text(text, code)
 }
 
+/// Writes that a page costs more than it may.
+fn write_budget_cause(
+    text: &mut String,
+    main: &str,
+    budget: u64,
+    line: &str,
+) -> Result<(), AllocError> {
+    let page = page_behind(line);
+    write!(
+        text,
+        "{main}: page {page} costs more than the budget of {budget}; --budget raises it"
+    )
+}
+
+/// Writes that there are as many pages as there may be.
+fn write_limit_cause(text: &mut String, main: &str, line: &str) -> Result<(), AllocError> {
+    let pages = pages(line);
+    write!(
+        text,
+        "{main}: the run ends with {pages} pages, as many as it may make; --pages raises that"
+    )
+}
+
 /// Writes why the last run, of which this is the line, didn't end by \end.
 fn write_end(text: &mut String, run: &Run<'_>, line: &str) -> Result<(), AllocError> {
     let main = text_of(run.main.as_slice());
@@ -69,17 +92,9 @@ fn write_end(text: &mut String, run: &Run<'_>, line: &str) -> Result<(), AllocEr
         return write_error_cause(text, main, error);
     }
     if end == "budget" {
-        let (page, budget) = (page_behind(line), run.budget);
-        return write!(
-            text,
-            "{main}: page {page} costs more than the budget of {budget}; --budget raises it"
-        );
+        return write_budget_cause(text, main, run.budget, line);
     }
-    let pages = pages(line);
-    write!(
-        text,
-        "{main}: the run ends with {pages} pages, as many as it may make; --pages raises that"
-    )
+    write_limit_cause(text, main, line)
 }
 
 /// Writes why the last run didn't end by \end, as its line has it.

@@ -45,20 +45,26 @@ fn write_save_error(text: &mut String, error: &io::Error) -> Result<(), AllocErr
     }
 }
 
+/// Writes a name, as what is told of a file begins.
+fn write_name(text: &mut String, name: &Bytes) -> Result<(), AllocError> {
+    text.push_str(name_text(name))?;
+    text.push_str(": ")
+}
+
+/// Writes why the file of this name couldn't be read.
+fn write_unread(text: &mut String, name: &Bytes, error: &io::Error) -> Result<(), AllocError> {
+    write_name(text, name)?;
+    write_error(text, error)
+}
+
 /// Writes why a file couldn't be read.
 pub fn write_read_cause(text: &mut String, cause: Option<&Cause>) -> Result<(), AllocError> {
-    match cause {
-        Some(
-            Cause {
-                name: Some(name),
-                error,
-            },
-        ) => {
-            write!(text, "{}: ", name_text(name))?;
-            write_error(text, error)
+    if let Some(cause) = cause {
+        if let Some(name) = &cause.name {
+            return write_unread(text, name, &cause.error);
         }
-        _ => text.push_str("a file couldn't be read"),
     }
+    text.push_str("a file couldn't be read")
 }
 
 /// Writes what was saved: each file where they are few, else how many and the last one.
@@ -91,7 +97,7 @@ fn write_fault(
 ) -> Result<(), AllocError> {
     match name {
         Some(name) => {
-            write!(text, "{}: ", name_text(name))?;
+            write_name(text, name)?;
             write_save_error(text, error)
         }
         None => {

@@ -1,4 +1,5 @@
 //! Where a DVI file is refused, and why.
+use crate::run::refusal;
 use std::alloc::AllocError;
 
 /// What has to stand at the place of a refusal, by the number of its rule.
@@ -15,16 +16,9 @@ fn wanted(rule: &str) -> &'static str {
     }
 }
 
-/// Place and rule of the line that refuses a DVI file.
-fn refusal(said: &str) -> Option<(&str, &str)> {
-    let behind = said.strip_prefix("dvi refused at ")?;
-    let (place, rule) = behind.split_once(", rule ")?;
-    Some((place, rule.strip_suffix("\n").unwrap_or(rule)))
-}
-
 /// Writes why a DVI file was refused, by what was said of it.
 pub fn write_dvi_cause(text: &mut String, name: &str, said: &str) -> Result<(), AllocError> {
-    match refusal(said) {
+    match refusal(said, "dvi refused at ") {
         None => write!(text, "{name}: it is no DVI file"),
         Some((_, "1")) => write!(text, "{name}: there is no such file"),
         Some((place, rule)) => write_wanted(text, name, place, wanted(rule)),

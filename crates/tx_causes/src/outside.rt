@@ -72,23 +72,40 @@ fn edit_of<'a>(commands: &'a [Command], it: Outside<'_>) -> Option<&'a Edit> {
     }
 }
 
-/// What it was, in the middle of a line.
-fn named(alloc: Global, it: Outside<'_>) -> Result<String, AllocError> {
-    match it.index {
-        None => format!(in alloc; "edit {}: it", it.number),
-        Some(index) => format!(in alloc; "edit {}: its change {index}", it.number),
+/// Writes what it was, as a line begins.
+fn write_named(text: &mut String, number: u64, index: Option<u64>) -> Result<(), AllocError> {
+    match index {
+        None => write!(text, "edit {number}: it"),
+        Some(index) => write!(text, "edit {number}: its change {index}"),
+    }
+}
+
+/// Writes which bytes of its file, which has so many, an edit takes.
+fn write_bytes(text: &mut String, edit: &Edit, len: &str) -> Result<(), AllocError> {
+    let (name, place) = (text_of(edit.name.as_slice()), edit.place);
+    let end = place.saturating_add(edit.removed);
+    write!(
+        text,
+        " takes bytes {place} to {end} of {name}, which has {len}"
+    )
+}
+
+fn write_line(text: &mut String, edit: Option<&Edit>, it: Outside<'_>) -> Result<(), AllocError> {
+    write_named(text, it.number, it.index)?;
+    match edit {
+        Some(edit) => write_bytes(text, edit, it.len),
+        None => write!(
+            text,
+            " goes past the end of its file, which has {} bytes",
+            it.len
+        ),
     }
 }
 
 fn line_of(alloc: Global, edit: Option<&Edit>, it: Outside<'_>) -> Result<String, AllocError> {
-    let who = named(alloc, it)?;
-    let len = it.len;
-    let Some(edit) = edit else {
-        return format!(in alloc; "{who} goes past the end of its file, which has {len} bytes");
-    };
-    let (name, place) = (text_of(edit.name.as_slice()), edit.place);
-    let end = place.saturating_add(edit.removed);
-    format!(in alloc; "{who} takes bytes {place} to {end} of {name}, which has {len}")
+    let mut text = String::new(alloc);
+    write_line(&mut text, edit, it)?;
+    Ok(text)
 }
 
 fn append_lines(

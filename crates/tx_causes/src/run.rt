@@ -1,4 +1,4 @@
-//! What a call was to run, as its words say.
+//! What a call was to run, as its words say, and what was refused, as was said.
 use std::str;
 use tx_files::Name;
 
@@ -10,6 +10,12 @@ pub struct Run<'a> {
     pub files: &'a [Name],
     pub script: Option<&'a Name>,
     pub budget: u64,
+}
+
+/// Place and rule of the line that refuses a script or a DVI file, which begins with these words.
+pub fn refusal<'a>(said: &'a str, words: &str) -> Option<(&'a str, &'a str)> {
+    let (place, rule) = said.strip_prefix(words)?.split_once(", rule ")?;
+    Some((place, rule.strip_suffix("\n").unwrap_or(rule)))
 }
 
 /// A text of ASCII, as all names and lines are.

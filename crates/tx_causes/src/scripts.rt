@@ -1,4 +1,5 @@
 //! Where a script is refused, by line and column, and why.
+use crate::run::refusal;
 use std::alloc::AllocError;
 
 /// A line and a column, both counted from 1.
@@ -52,13 +53,6 @@ fn wanted(rule: &str) -> &'static str {
     }
 }
 
-/// Place and rule of the line that refuses a script.
-fn refusal(said: &str) -> Option<(&str, &str)> {
-    let behind = said.strip_prefix("script refused at ")?;
-    let (place, rule) = behind.split_once(", rule ")?;
-    Some((place, rule.strip_suffix("\n").unwrap_or(rule)))
-}
-
 /// Writes why a script was refused, by what was said of it and by its bytes, where they can be had.
 pub fn write_script_cause(
     text: &mut String,
@@ -66,7 +60,7 @@ pub fn write_script_cause(
     said: &str,
     bytes: Option<&[u8]>,
 ) -> Result<(), AllocError> {
-    match refusal(said) {
+    match refusal(said, "script refused at ") {
         None => write!(text, "{name}: it is no script"),
         Some((_, "1")) => write!(text, "{name}: there is no such script"),
         Some((place, rule)) => write_wanted(text, name, place, wanted(rule), bytes),

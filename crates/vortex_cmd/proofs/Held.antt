@@ -1,5 +1,5 @@
 -- What is read of a script, files that a source holds, told or not, and what a call does with them.
-use Rattle.std.proofs.Common.{◌≡◌, ℕ, ◌+◌, ◌<◌, ◌≤◌, ◌⊎◌, inl, inr, ⊎_elim, List, [], ◌∷◌, Option, Some, None, Result, Ok, Err, refl, sym, ap, ◌∙◌, subst, arith, append-nil}
+use Rattle.std.proofs.Common.{◌≡◌, ◌≢◌, ℕ, ◌+◌, ◌<◌, ◌≤◌, ◌⊎◌, inl, inr, ⊎_elim, List, [], ◌∷◌, Option, Some, None, Result, Ok, Err, refl, sym, ap, ◌∙◌, subst, arith, append-nil}
 use Rattle.std.specs.Prelude.{IsErrAnd, IfOk, OnOk}
 use Rattle.std.specs.FinMap.{empty}
 use Rattle.tx_bytes.specs.Files.{Files}
@@ -12,6 +12,7 @@ use Rattle.tx_machine.proofs.Going.{raised-raised}
 use Rattle.tx_script.specs.declared.command.Command.{Command}
 use Rattle.tx_session.specs.Held.{Held, fresh}
 use Rattle.vortex_cmd.specs.declared.trouble.Trouble.{Trouble}
+use Rattle.vortex_cmd.specs.declared.trouble.Trouble.TheVariants.{Memory, Source}
 use Rattle.vortex_cmd.specs.declared.trouble.Interruption.{Interruption}
 use Rattle.vortex_cmd.specs.declared.trouble.Interruption.TheVariants.{Trouble as Interrupted, RefusedEdit}
 use Rattle.tx_words.specs.declared.given.Asked.{Asked}
@@ -23,7 +24,7 @@ use Rattle.vortex_cmd.specs.Listing.{pages_lines, said_lines}
 use Rattle.tx_dvitype.specs.declared.reader.ReadPage.{ReadPage}
 use Rattle.vortex_cmd.specs.Outcome.{Outcome, saying, made_pieces, making, listing, session_outcome, outcome, asked_outcome, most_turns, ForHeld, Leaves}
 use Rattle.vortex_cmd.specs.Replay.{Replays, opened, turns_from}
-use Rattle.vortex_cmd.specs.Trouble.{Ends, Does}
+use Rattle.vortex_cmd.specs.Trouble.{AllCauses, Ends, Does}
 use Rattle.vortex_cmd.proofs.Replayed.{on-err}
 use Rattle.vortex_cmd.proofs.TurnBounds.{turns-most}
 
@@ -125,26 +126,36 @@ module _ {S : Type 0} (m : Formatter S) (words : List (List ℕ)) {holds : Optio
       within : (turns most : ℕ) → steps' ≤ raised steps turns → turns ≤ most → steps' ≤ steps + most
       within turns most few less = omega (arith, few)
 
+-- where want of memory or the source ended a call, no fault of the sink was counted
+pub stays_at_memory : {T : Type 0} {source source' sink sink' : ℕ} (e : Interruption) → e ≡ Interrupted Memory → AllCauses {T = T} (Err e) source source' sink sink' → sink' ≡ sink
+stays_at_memory {T = T} {source = source} {source' = source'} {sink = sink} {sink' = sink'} e is causes =
+    (subst (λ (x : Interruption). AllCauses {T = T} (Err x) source source' sink sink') is causes).1
+
+pub stays_at_source : {T : Type 0} {source source' sink sink' : ℕ} (e : Interruption) → e ≡ Interrupted Source → AllCauses {T = T} (Err e) source source' sink sink' → sink' ≡ sink
+stays_at_source {T = T} {source = source} {source' = source'} {sink = sink} {sink' = sink'} e is causes =
+    (subst (λ (x : Interruption). AllCauses {T = T} (Err x) source source' sink sink') is causes).1
+
 -- a call that did all
-pub leaves_all : {outcome : Outcome} {status : ℕ} {before after : Option Output} {steps steps' : ℕ} → Does (Ok status) outcome before after steps steps' → Leaves outcome status before after steps steps'
-leaves_all {outcome = outcome} does = record {
+pub leaves_all : {outcome : Outcome} {status : ℕ} {before after : Option Output} {faults faults' steps steps' : ℕ} → Does (Ok status) outcome before after steps steps' → faults' ≡ faults → Leaves outcome status before after faults faults' steps steps'
+leaves_all {outcome = outcome} does kept = record {
   done = λ _. does.ends;
   cut = inl (record { whole = outcome.pieces; left = []; are = sym (append-nil outcome.pieces); next = does.ends.output_is });
+  kept = λ _. inl kept;
   most = does.most;
 }
 
 -- a call that met trouble
-leaves_cut : {trouble : Trouble} {outcome : Outcome} {status : ℕ} {before after : Option Output} {steps steps' : ℕ} → ((status < 3) ⊎ (status ≡ 5) → ⊥) → Does (Err (Interrupted trouble)) outcome before after steps steps' → Leaves outcome status before after steps steps'
-leaves_cut late does = record { done = λ early. absurd (late early); cut = inl does.ends; most = does.most }
+leaves_cut : {trouble : Trouble} {outcome : Outcome} {status : ℕ} {before after : Option Output} {faults faults' steps steps' : ℕ} → ((status < 3) ⊎ (status ≡ 5) → ⊥) → (status ≢ 4 → faults' ≡ faults) → Does (Err (Interrupted trouble)) outcome before after steps steps' → Leaves outcome status before after faults faults' steps steps'
+leaves_cut late kept does = record { done = λ early. absurd (late early); cut = inl does.ends; kept = λ other. inl (kept other); most = does.most }
 
-pub leaves_part : {outcome : Outcome} {status : ℕ} {before after : Option Output} {steps steps' : ℕ} (e : Interruption) (trouble : Trouble) → e ≡ Interrupted trouble → ((status < 3) ⊎ (status ≡ 5) → ⊥) → Does (Err e) outcome before after steps steps' → Leaves outcome status before after steps steps'
-leaves_part {outcome = outcome} {before = before} {after = after} {steps = steps} {steps' = steps'} e trouble is late does =
-    leaves_cut late (subst (λ (x : Interruption). Does (Err x) outcome before after steps steps') is does)
+pub leaves_part : {outcome : Outcome} {status : ℕ} {before after : Option Output} {faults faults' steps steps' : ℕ} (e : Interruption) (trouble : Trouble) → e ≡ Interrupted trouble → ((status < 3) ⊎ (status ≡ 5) → ⊥) → (status ≢ 4 → faults' ≡ faults) → Does (Err e) outcome before after steps steps' → Leaves outcome status before after faults faults' steps steps'
+leaves_part {outcome = outcome} {before = before} {after = after} {steps = steps} {steps' = steps'} e trouble is late kept does =
+    leaves_cut late kept (subst (λ (x : Interruption). Does (Err x) outcome before after steps steps') is does)
 
 -- a call in which memory refused an edit
-leaves_told : {outcome : Outcome} {before after : Option Output} {steps steps' : ℕ} → Does (Err RefusedEdit) outcome before after steps steps' → Leaves outcome 6 before after steps steps'
-leaves_told does = record { done = λ early. absurd (⊎_elim (λ small. omega arith) (λ five. omega arith) early); cut = inr (refl, does.ends); most = does.most }
+leaves_told : {outcome : Outcome} {before after : Option Output} {faults faults' steps steps' : ℕ} → Does (Err RefusedEdit) outcome before after steps steps' → Leaves outcome 6 before after faults faults' steps steps'
+leaves_told does = record { done = λ early. absurd (⊎_elim (λ small. omega arith) (λ five. omega arith) early); cut = inr (refl, does.ends); kept = λ _. inr (refl, does.ends); most = does.most }
 
-pub leaves_refused : {outcome : Outcome} {before after : Option Output} {steps steps' : ℕ} (e : Interruption) → e ≡ RefusedEdit → Does (Err e) outcome before after steps steps' → Leaves outcome 6 before after steps steps'
+pub leaves_refused : {outcome : Outcome} {before after : Option Output} {faults faults' steps steps' : ℕ} (e : Interruption) → e ≡ RefusedEdit → Does (Err e) outcome before after steps steps' → Leaves outcome 6 before after faults faults' steps steps'
 leaves_refused {outcome = outcome} {before = before} {after = after} {steps = steps} {steps' = steps'} e is does =
     leaves_told (subst (λ (x : Interruption). Does (Err x) outcome before after steps steps') is does)

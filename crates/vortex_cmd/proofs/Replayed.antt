@@ -15,7 +15,7 @@ use Rattle.tx_script.specs.declared.command.Command.{Command}
 use Rattle.tx_script.specs.declared.command.Command.TheVariants.{Change as Lone, Batch, Save as SaveAs, Locate}
 use Rattle.vortex_cmd.specs.declared.trouble.Interruption.{Interruption}
 use Rattle.vortex_cmd.specs.declared.trouble.Interruption.TheVariants.{Trouble as Interrupted, RefusedEdit}
-use Rattle.vortex_cmd.specs.Replay.{Moment, IsEdit, next_moment, moment_after, pieces_at, pieces_from, turns_at, turns_from, refused_pieces, refusal_at, refusal_of, Puts, Replays}
+use Rattle.vortex_cmd.specs.Replay.{Moment, IsEdit, next_moment, moment_after, pieces_at, pieces_from, turns_at, turns_from, refused_pieces, Refusal, refusal_at, refusal_of, Puts, Replays}
 
 pub record Replayed {S : Type 0} (m : Formatter S) (begun here : Moment) (commands : List Command) (k : ℕ) (before sink : Option Output) (steps now : ℕ) : Type 0 where
   pub moment : here ≡ moment_after begun (take k commands)
@@ -25,7 +25,7 @@ pub record Replayed {S : Type 0} (m : Formatter S) (begun here : Moment) (comman
   pub places : here.places ≤ begun.places + k
 
 -- where memory refuses a command that makes changes, these pieces are put out
-refusal-is : (c : Command) (pieces : List Piece) → IsEdit c → refusal_of (Some c) pieces ≡ Some pieces
+refusal-is : (c : Command) (pieces : Refusal) → IsEdit c → refusal_of (Some c) pieces ≡ Some pieces
 refusal-is (Lone change) pieces is = refl
 refusal-is (Batch changes) pieces is = refl
 refusal-is (SaveAs name) pieces is = absurd is
@@ -87,15 +87,15 @@ module _ {S : Type 0} (m : Formatter S) where
       subst (λ (ps : List Piece). IsCutShort before ps after) whole
       (cut-behind before first (pieces_at m here c ++ later) after
       (cut-longer (told before first) (pieces_at m here c) later after (subst (λ (o : Option Output). IsCutShort o (pieces_at m here c) after) so_far.puts puts)))
-  replayed-cut T U out {begun = begun} {here = here} {commands = commands} {k = k} {before = before} after c RefusedEdit so_far more is puts edit = record {
-    made = k;
-    pieces = pieces_from m begun (take k commands) ++ refused_pieces m out (moment_after begun (take k commands));
-    are = ap (λ at. refusal_of at (pieces_from m begun (take k commands) ++ refused_pieces m out (moment_after begun (take k commands)))) (slice_get-there commands k c more is)
-        ∙ refusal-is c (pieces_from m begun (take k commands) ++ refused_pieces m out (moment_after begun (take k commands))) (edit refl);
-    cut = cut-behind before (pieces_from m begun (take k commands)) (refused_pieces m out (moment_after begun (take k commands))) after
-        (subst (λ (t : Moment). IsCutShort (told before (pieces_from m begun (take k commands))) (refused_pieces m out t) after) so_far.moment
-        (subst (λ (o : Option Output). IsCutShort o (refused_pieces m out here) after) so_far.puts puts));
-  }
+  replayed-cut T U out {begun = begun} {here = here} {commands = commands} {k = k} {before = before} after c RefusedEdit so_far more is puts edit =
+      let pieces : Refusal = record { before_it = pieces_from m begun (take k commands); of_it = refused_pieces m out (moment_after begun (take k commands)) } in
+      record {
+        made = k;
+        pieces = pieces;
+        are = ap (λ at. refusal_of at pieces) (slice_get-there commands k c more is) ∙ refusal-is c pieces (edit refl);
+        cut = subst (λ (t : Moment). IsCutShort (told before (pieces_from m begun (take k commands))) (refused_pieces m out t) after) so_far.moment
+            (subst (λ (o : Option Output). IsCutShort o (refused_pieces m out here) after) so_far.puts puts);
+      }
 
 -- what is so of an error is so of the result that has it
 pub on-err : {U E : Type 0} (r : Result U E) (e : E) (IsSo : Result U E → Type 0) → IsErrAnd r (λ x. x ≡ e) → IsSo (Err e) → IsSo r

@@ -8,12 +8,12 @@ use Rattle.tx_io.proofs.CutShort.{cut-behind, cut-longer}
 use Rattle.vortex_cmd.specs.declared.trouble.Trouble.{Trouble}
 use Rattle.vortex_cmd.specs.declared.trouble.Interruption.{Interruption}
 use Rattle.vortex_cmd.specs.declared.trouble.Interruption.TheVariants.{Trouble as Interrupted, RefusedEdit}
-use Rattle.vortex_cmd.specs.Replay.{Replays}
+use Rattle.vortex_cmd.specs.Replay.{Refusal, refusal_behind, Replays}
 use Rattle.vortex_cmd.proofs.Replayed.{on-err}
 
-module _ (first : Piece) (middle last : List Piece) (refusal : ℕ → Option (List Piece)) (before : Option Output) where
+module _ (first : Piece) (middle last : List Piece) (refusal : ℕ → Option Refusal) (before : Option Output) where
   abbrev goes : Result ℕ Interruption → Option Output → Type 0
-  goes r after = Replays (first ∷ middle ++ last) (λ made. option_map (λ pieces. first ∷ pieces) (refusal made)) r before after
+  goes r after = Replays (first ∷ middle ++ last) (λ made. option_map (refusal_behind first) (refusal made)) r before after
 
   -- the first line met trouble
   pub first-cut : (r : Result ℕ Interruption) (trouble : Trouble) (after : Option Output) → IsErrAnd r (λ e. e ≡ Interrupted trouble) → IsCutShort before (first ∷ []) after → goes r after
@@ -25,9 +25,9 @@ module _ (first : Piece) (middle last : List Piece) (refusal : ℕ → Option (L
       cut-longer before (first ∷ middle) last after (cut-behind before (first ∷ []) middle after (subst (λ (o : Option Output). IsCutShort o middle after) whole cut))
   middle-cut T RefusedEdit said after whole short = record {
     made = short.made;
-    pieces = first ∷ short.pieces;
-    are = ap (option_map (λ pieces. first ∷ pieces)) short.are;
-    cut = cut-behind before (first ∷ []) short.pieces after (subst (λ (o : Option Output). IsCutShort o short.pieces after) whole short.cut);
+    pieces = refusal_behind first short.pieces;
+    are = ap (option_map (refusal_behind first)) short.are;
+    cut = subst (λ (o : Option Output). IsCutShort (told o short.pieces.before_it) short.pieces.of_it after) whole short.cut;
   }
 
   pub commands-cut : (T : Type 0) (r : Result ℕ Interruption) (e : Interruption) (said after : Option Output) → IsErrAnd r (λ x. x ≡ e) → said ≡ told before (first ∷ []) → Replays {T = T} middle refusal (Err e) said after → goes r after

@@ -1,5 +1,5 @@
 -- What a call puts out, and how it ends.
-use Rattle.std.specs.Prelude.{◌≡◌, ℕ, ◌+◌, ◌*◌, ◌≤◌, ◌<◌, ◌⊎◌, List, [], ◌∷◌, ◌++◌, length, Option, Some, None, option_map, IfSome}
+use Rattle.std.specs.Prelude.{◌≡◌, ◌≢◌, ℕ, ◌+◌, ◌*◌, ◌≤◌, ◌<◌, ◌⊎◌, List, [], ◌∷◌, ◌++◌, length, Option, Some, None, option_map, IfSome}
 use Rattle.std.specs.FinMap.{empty, insert}
 use Rattle.tx_bytes.specs.Files.{Files, content}
 use Rattle.tx_io.specs.Output.{Output, Piece, Say, told}
@@ -22,7 +22,7 @@ use Rattle.tx_gen.specs.Made.{generated}
 use Rattle.vortex_cmd.specs.Listing.{pages_lines, said_lines, dvi_refusal_line, listed_as}
 use Rattle.vortex_cmd.specs.Lines.{run_line, gen_line, help_text, run_help_text, gen_help_text, list_help_text, version_line, refusal_line, script_refusal_line}
 use Rattle.vortex_cmd.specs.Pieces.{saved_pieces, made_files}
-use Rattle.vortex_cmd.specs.Replay.{Moment, opened, moment_after, pieces_from, turns_from, refusal_at, status_after, IsRefused}
+use Rattle.vortex_cmd.specs.Replay.{Moment, Refusal, opened, moment_after, pieces_from, turns_from, refusal_at, refusal_behind, status_after, IsRefused}
 
 -- what a call does: the pieces that it puts out, its status, the turns that it takes, and what it puts out where memory
 -- refuses one of its edits
@@ -30,7 +30,7 @@ pub record Outcome : Type 0 where
   pub pieces : List Piece
   pub status : ℕ
   pub turns : ℕ
-  pub refusal : ℕ → Option (List Piece)
+  pub refusal : ℕ → Option Refusal
 
 -- a call that runs nothing says one text
 abbrev pub saying : List ℕ → ℕ → Outcome
@@ -59,7 +59,7 @@ session_outcome m out held commands =
       pieces = first_piece (fresh m held).ran ∷ pieces_from m (opened held) commands ++ saved_pieces out (fresh m last.held).ran;
       status = status_after (fresh m last.held).ran.end last.outside;
       turns = (fresh m held).turns + turns_from m (opened held) commands;
-      refusal = λ made. option_map (λ pieces. first_piece (fresh m held).ran ∷ pieces) (refusal_at m out (opened held) commands made);
+      refusal = λ made. option_map (refusal_behind (first_piece (fresh m held).ran)) (refusal_at m out (opened held) commands made);
     }
 
 -- the document of a run on these files
@@ -128,8 +128,11 @@ pub record IsDone (outcome : Outcome) (status : ℕ) (before after : Option Outp
   pub steps_are : steps' ≡ raised steps outcome.turns
 
 -- what a call leaves: at status 0, 1, 2 and 5 all is done, and whatever the status, only the first pieces were put out, the
--- last of them perhaps in part, unless memory refused an edit; and no more turns were taken
-pub record Leaves (outcome : Outcome) (status : ℕ) (before after : Option Output) (steps steps' : ℕ) : Type 0 where
+-- last of them perhaps in part, unless memory refused an edit; but for status 4, the sink has counted no fault, unless memory
+-- refused an edit, all before it was put out whole, and what there is to tell and save of that wasn't; and no more turns were
+-- taken
+pub record Leaves (outcome : Outcome) (status : ℕ) (before after : Option Output) (faults faults' steps steps' : ℕ) : Type 0 where
   pub done : (status < 3) ⊎ (status ≡ 5) → IsDone outcome status before after steps steps'
   pub cut : IsCutShort before outcome.pieces after ⊎ ((status ≡ 6) × IsRefused outcome.refusal before after)
+  pub kept : status ≢ 4 → (faults' ≡ faults) ⊎ ((status ≡ 6) × IsRefused outcome.refusal before after)
   pub most : steps' ≤ raised steps outcome.turns

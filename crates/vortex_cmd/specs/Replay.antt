@@ -98,28 +98,38 @@ Puts pieces refused (Ok value) before after = after ≡ told before pieces
 Puts pieces refused (Err (Interrupted trouble)) before after = IsCutShort before pieces after
 Puts pieces refused (Err RefusedEdit) before after = IsCutShort before refused after
 
+-- what is put out where memory refuses an edit: the pieces of all that comes before it, and then those for the refusal
+pub record Refusal : Type 0 where
+  pub before_it : List Piece
+  pub of_it : List Piece
+
 -- what is put out where memory refuses the edit at a place of the commands: all pieces of the commands before it, and then
 -- its line and what there was before it; None where no edit stands there
-abbrev pub refusal_of : Option Command → List Piece → Option (List Piece)
-refusal_of None pieces = None
-refusal_of (Some (SaveAs name)) pieces = None
-refusal_of (Some (Locate at)) pieces = None
-refusal_of (Some (Lone c)) pieces = Some pieces
-refusal_of (Some (Batch changes)) pieces = Some pieces
+abbrev pub refusal_of : Option Command → Refusal → Option Refusal
+refusal_of None refusal = None
+refusal_of (Some (SaveAs name)) refusal = None
+refusal_of (Some (Locate at)) refusal = None
+refusal_of (Some (Lone c)) refusal = Some refusal
+refusal_of (Some (Batch changes)) refusal = Some refusal
 
-abbrev pub refusal_at : {S : Type 0} → Formatter S → List ℕ → Moment → List Command → ℕ → Option (List Piece)
+abbrev pub refusal_at : {S : Type 0} → Formatter S → List ℕ → Moment → List Command → ℕ → Option Refusal
 refusal_at m out t commands made =
-    refusal_of (slice_get commands made) (pieces_from m t (take made commands) ++ refused_pieces m out (moment_after t (take made commands)))
+    refusal_of (slice_get commands made)
+    (record { before_it = pieces_from m t (take made commands); of_it = refused_pieces m out (moment_after t (take made commands)) })
 
--- memory refused an edit: of the pieces for that, the first ones were put out
-pub record IsRefused (refusal : ℕ → Option (List Piece)) (before after : Option Output) : Type 0 where
+-- the same with a piece that comes before all commands
+abbrev pub refusal_behind : Piece → Refusal → Refusal
+refusal_behind first refusal = record { before_it = first ∷ refusal.before_it; of_it = refusal.of_it }
+
+-- memory refused an edit: all that comes before it was put out whole, and of the pieces for the refusal the first ones were
+pub record IsRefused (refusal : ℕ → Option Refusal) (before after : Option Output) : Type 0 where
   pub made : ℕ
-  pub pieces : List Piece
+  pub pieces : Refusal
   pub are : refusal made ≡ Some pieces
-  pub cut : IsCutShort before pieces after
+  pub cut : IsCutShort (told before pieces.before_it) pieces.of_it after
 
 -- what commands put out by how they went
-abbrev pub Replays : {T : Type 0} → List Piece → (ℕ → Option (List Piece)) → Result T Interruption → Option Output → Option Output → Type 0
+abbrev pub Replays : {T : Type 0} → List Piece → (ℕ → Option Refusal) → Result T Interruption → Option Output → Option Output → Type 0
 Replays pieces refusal (Ok value) before after = after ≡ told before pieces
 Replays pieces refusal (Err (Interrupted trouble)) before after = IsCutShort before pieces after
 Replays pieces refusal (Err RefusedEdit) before after = IsRefused refusal before after

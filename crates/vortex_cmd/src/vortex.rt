@@ -6,7 +6,7 @@ ghost use Rattle.vortex_cmd.specs.Outcome.{outcome, most_turns, ForHeld, Leaves}
 ghost use Rattle.tx_words.specs.declared.given.Asked.TheVariants.{Nothing};
 ghost use Rattle.vortex_cmd.specs.Listing.{NamesNoDvi, HoldsNoDvi};
 ghost use Rattle.vortex_cmd.specs.Scripts.{ForScript, NamesNoScript, HoldsNoScript};
-ghost use Rattle.tx_words.specs.Words.{script_asked, dvi_asked, words_meant, texts};
+ghost use Rattle.tx_words.specs.Words.{IsOfFiles, script_asked, dvi_asked, words_meant, texts};
 
 use crate::run::run_words;
 use crate::trouble::{Interruption, Trouble};
@@ -24,10 +24,10 @@ use tx_main::Tex;
 /// |---|---|
 /// | 0, 1 | all was done, and the last run ended by the end of its text, or otherwise; 0 also where nothing is to be run |
 /// | 2 | the words aren't those of a call, or the script or the DVI file isn't one; nothing was run |
-/// | 3 | the source failed; nothing was run or said |
+/// | 3 | the source failed, and the words name files; nothing was run or said |
 /// | 4 | the sink failed |
 /// | 5 | all was done, the last run ended by the end of its text, and an edit went past the end of its file |
-/// | 6 | there was no memory left |
+/// | 6 | there was no memory left; also where the sink then failed while an edit was told of for which there was none |
 pub fn vortex<S: Source, K: Sink>(
     alloc: Global,
     words: &[String],
@@ -36,8 +36,9 @@ pub fn vortex<S: Source, K: Sink>(
     steps: &mut Steps,
 ) -> u8
     // After any edits, made or refused, the pages, the transcript and the lines are those of the fresh run on the listed
-    // files, so edited; whatever the status, nothing else is put out.
-    ensures leaves { ForScript (S.holds source.old) (script_asked (words_meant (texts words.now))) (λ scripted. ForHeld (S.holds source.old) (λ held. Leaves (outcome tex (texts words.now) scripted held) result (K.output sink.old) (K.output sink.new) steps.old steps.new)) }
+    // files, so edited; whatever the status, nothing else is put out; and where the sink failed, the status is 4, unless
+    // memory refused an edit and that was to be told and saved.
+    ensures leaves { ForScript (S.holds source.old) (script_asked (words_meant (texts words.now))) (λ scripted. ForHeld (S.holds source.old) (λ held. Leaves (outcome tex (texts words.now) scripted held) result (K.output sink.old) (K.output sink.new) (K.faults sink.old) (K.faults sink.new) steps.old steps.new)) }
 
     ensures status { result ≤ 6 }
     ensures refused { result ≡ 2 → (words_meant (texts words.now) ≡ Nothing) ⊎ (NamesNoScript (S.holds source.old) (script_asked (words_meant (texts words.now))) ⊎ NamesNoDvi (S.holds source.old) (dvi_asked (words_meant (texts words.now)))) }
@@ -45,10 +46,11 @@ pub fn vortex<S: Source, K: Sink>(
     ensures refuses_script { HoldsNoScript (S.holds source.old) (script_asked (words_meant (texts words.now))) → (result ≡ 2) ⊎ ((result ≡ 3) ⊎ ((result ≡ 4) ⊎ (result ≡ 6))) }
     ensures refuses_dvi { HoldsNoDvi (S.holds source.old) (dvi_asked (words_meant (texts words.now))) → (result ≡ 2) ⊎ ((result ≡ 3) ⊎ ((result ≡ 4) ⊎ (result ≡ 6))) }
     ensures source_fault { result ≡ 3 → Rose (S.faults source.old) (S.faults source.new) }
+    ensures fetched { result ≡ 3 → IsOfFiles (words_meant (texts words.now)) }
     ensures source_kept { result ≢ 3 → S.faults source.new ≡ S.faults source.old }
     ensures sink_fault { result ≡ 4 → Rose (K.faults sink.old) (K.faults sink.new) }
 
-    // Where memory refused an edit, a fault may come while that is told.
+    // At 6 it is kept too, unless memory refused an edit, as is said above: a fault may come while that is told.
     ensures sink_kept { (result ≢ 4) × (result ≢ 6) → K.faults sink.new ≡ K.faults sink.old }
     ensures silent { result ≡ 3 → (K.output sink.new ≡ K.output sink.old) × (steps.new ≡ steps.old) }
 
