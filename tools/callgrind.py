@@ -14,7 +14,7 @@ KNUTHS = ["tex", "-ini", "-interaction=batchmode", "main.tex"]
 
 def is_there():
     """Whether all that is needed is installed."""
-    return all(shutil.which(name) for name in ["valgrind", "callgrind_annotate", "rt", "tex"])
+    return all(shutil.which(name) for name in ["valgrind", "callgrind_annotate", "tex"])
 
 
 def build():

@@ -55,12 +55,6 @@ ERRORS = [
 ]
 
 
-def itself(program):
-    """The program that the launcher calls, which has built it by then; of another program itself."""
-    built = os.path.join(os.path.dirname(program), "crates", "vortex", "out", "vortex")
-    return built if os.access(built, os.X_OK) else program
-
-
 def ours(program, folder, names, options=(), budget=20000):
     """The line that the program says, and its transcript."""
     words = [program, "run", "--date", "2024-5-17-570", "--budget", str(budget), "--out", "a", *options, *names]

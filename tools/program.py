@@ -1,9 +1,24 @@
-"""The program of worked cases, for the checks that ask it."""
+"""The programs that checks ask: `vortex`, and the program of worked cases."""
+import functools
 import os
 import subprocess
+import sys
 
-CRATES = os.path.join(os.path.dirname(os.path.abspath(__file__)), "..", "crates")
+TOP = os.path.normpath(os.path.join(os.path.dirname(os.path.abspath(__file__)), ".."))
+CRATES = os.path.join(TOP, "crates")
 READ = (".rt", ".antt")
+
+
+@functools.lru_cache(maxsize=None)
+def vortex():
+    """The program that ./vortex runs, which has unpacked or built it by then."""
+    launcher = os.path.join(TOP, "vortex")
+    done = subprocess.run([launcher, "--version"], stdin=subprocess.DEVNULL, stdout=subprocess.DEVNULL)
+    if done.returncode != 0:
+        raise SystemExit(done.returncode)
+    # (in a folder that can't be written to, another one lies in the user's cache)
+    out = os.path.join(CRATES, "vortex", "out")
+    return os.path.join(out, "vortex") if os.access(out, os.W_OK) else launcher
 
 
 def is_built(program):
@@ -18,13 +33,18 @@ def is_built(program):
     return True
 
 
+def parted(words):
+    """Which of a check's documents are tried, each Nth from the Kth on where the words begin with `--part K/N`, and the other words."""
+    if words[:1] != ["--part"]:
+        return slice(None), words
+    first, every = map(int, words[1].split("/"))
+    return slice(first - 1, None, every), words[2:]
+
+
 def built(name):
-    """The path of a program, which is built, and so proved, first, unless that is done, as behind the gate."""
-    folder = os.path.join(CRATES, name)
-    program = os.path.join(folder, "out", name)
-    if is_built(program):
-        return program
-    done = subprocess.run(["rt", "run"], cwd=folder, stdin=subprocess.DEVNULL, capture_output=True, text=True)
-    if done.returncode != 0:
-        raise SystemExit(done.stdout + done.stderr + name + " wasn't built")
+    """The path of a program of cases, as the gate has left it; where it isn't built, the check that asks it is left out."""
+    program = os.path.join(CRATES, name, "out", name)
+    if not is_built(program):
+        print(f"{os.path.basename(sys.argv[0])}: left out, the program {name} isn't built: rt ci builds it")
+        raise SystemExit(0)
     return program

@@ -86,7 +86,7 @@ fn without_commands<'a>(alloc: Global) -> Command<'a>
 {
     Command::new(alloc, "vortex")
         .no_binary_name(true)
-        .version("0.1.0")
+        .version("0.2.0")
         .subcommand_required(true)
         .disable_help_subcommand(true)
 }

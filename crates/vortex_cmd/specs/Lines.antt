@@ -69,7 +69,7 @@ gen_line pages = codes "gen: " ++ decimal pages ++ codes " pages, " ++ decimal p
 
 -- what --version says
 abbrev pub version_line : List ℕ
-version_line = codes "vortex 0.1.0\n"
+version_line = codes "vortex 0.2.0\n"
 
 -- what `help` says: what the program is, its commands, and its statuses
 unfoldable pub help_text : List ℕ

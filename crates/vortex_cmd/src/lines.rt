@@ -219,7 +219,7 @@ pub fn gen_line(alloc: Global, pages: u64) -> Result<Bytes, AllocError>
 pub fn version_line() -> &'static [u8]
     ensures { result.now ≡ version_line }
 {
-    b"vortex 0.1.0\n"
+    b"vortex 0.2.0\n"
 }
 
 /// What `help` says: what the program is, its commands, and its statuses.
