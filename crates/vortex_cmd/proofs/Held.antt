@@ -110,6 +110,12 @@ pub does_listing_short : (pages : List ReadPage) (r : Result ℕ Interruption) (
 does_listing_short pages r trouble err {before = before} {after = after} cut steps =
     record { ends = ends_short r trouble (listing (Brings pages)) before after steps steps err cut; most = omega arith }
 
+-- trouble came before anything was done of what the words ask for
+pub words_do_nothing : {S : Type 0} (m : Formatter S) (words : List (List ℕ)) (r : Result ℕ Interruption) (trouble : Trouble) → IsErrAnd r (λ e. e ≡ Interrupted trouble) → {holds : Option Files} {before : Option Output} {steps : ℕ}
+    → ForScript holds (script_asked (words_meant words)) (λ scripted. ForHeld holds (λ held. Does r (outcome m words scripted held) before before steps steps))
+words_do_nothing m words r trouble err {holds = holds} {before = before} {steps = steps} =
+    Unread (λ scripted. for_any holds {IsSo = λ held. Does r (outcome m words scripted held) before before steps steps} (λ held. does_nothing r trouble err (outcome m words scripted held) before steps))
+
 module _ {S : Type 0} (m : Formatter S) (words : List (List ℕ)) {holds : Option Files} {r : Result ℕ Interruption} {before after : Option Output} {steps steps' : ℕ} where
   -- what is done of what the words ask for is done of the words
   pub of_words : (given : Asked) → given ≡ words_meant words
@@ -117,6 +123,24 @@ module _ {S : Type 0} (m : Formatter S) (words : List (List ℕ)) {holds : Optio
       → ForScript holds (script_asked (words_meant words)) (λ scripted. ForHeld holds (λ held. Does r (outcome m words scripted held) before after steps steps'))
   of_words given are some =
       subst (λ (a : Asked). ForScript holds (script_asked a) (λ scripted. ForHeld holds (λ held. Does r (asked_outcome m a scripted held) before after steps steps'))) are some
+
+  -- so is what is done whatever is read of a script, and whatever files there are
+  pub of_words_alone : (given : Asked) → given ≡ words_meant words
+      → ((scripted : Scripted) (held : Files) → Does r (asked_outcome m given scripted held) before after steps steps')
+      → ForScript holds (script_asked (words_meant words)) (λ scripted. ForHeld holds (λ held. Does r (outcome m words scripted held) before after steps steps'))
+  of_words_alone given are does =
+      of_words given are (Unread (λ scripted. for_any holds {IsSo = λ held. Does r (asked_outcome m given scripted held) before after steps steps'} (does scripted)))
+
+  -- what a call leaves that did this
+  pub leaves_of : {status faults faults' : ℕ}
+      → ForScript holds (script_asked (words_meant words)) (λ scripted. ForHeld holds (λ held. Does r (outcome m words scripted held) before after steps steps'))
+      → ((what : Outcome) → Does r what before after steps steps' → Leaves what status before after faults faults' steps steps')
+      → ForScript holds (script_asked (words_meant words)) (λ scripted. ForHeld holds (λ held. Leaves (outcome m words scripted held) status before after faults faults' steps steps'))
+  leaves_of {status = status} {faults = faults} {faults' = faults'} some leaves =
+      for_script {IsSo = λ scripted. ForHeld holds (λ held. Does r (outcome m words scripted held) before after steps steps')}
+      {IsThen = λ scripted. ForHeld holds (λ held. Leaves (outcome m words scripted held) status before after faults faults' steps steps')} some
+      (λ scripted. λ did. for_held {IsSo = λ held. Does r (outcome m words scripted held) before after steps steps'}
+      {IsThen = λ held. Leaves (outcome m words scripted held) status before after faults faults' steps steps'} did (λ held. leaves (outcome m words scripted held)))
 
   -- whatever the files say, the turns stay below what the words and the script allow
   pub turns_bound : IsLawful m → ForScript holds (script_asked (words_meant words)) (λ scripted. ForHeld holds (λ held. Does r (outcome m words scripted held) before after steps steps'))
@@ -127,13 +151,11 @@ module _ {S : Type 0} (m : Formatter S) (words : List (List ℕ)) {holds : Optio
       within turns most few less = omega (arith, few)
 
 -- where want of memory or the source ended a call, no fault of the sink was counted
-pub stays_at_memory : {T : Type 0} {source source' sink sink' : ℕ} (e : Interruption) → e ≡ Interrupted Memory → AllCauses {T = T} (Err e) source source' sink sink' → sink' ≡ sink
-stays_at_memory {T = T} {source = source} {source' = source'} {sink = sink} {sink' = sink'} e is causes =
-    (subst (λ (x : Interruption). AllCauses {T = T} (Err x) source source' sink sink') is causes).1
+pub stays_at_memory : (e : Interruption) (source source' sink sink' : ℕ) → e ≡ Interrupted Memory → AllCauses {T = ℕ} (Err e) source source' sink sink' → sink' ≡ sink
+stays_at_memory e source source' sink sink' is causes = (subst (λ (x : Interruption). AllCauses {T = ℕ} (Err x) source source' sink sink') is causes).1
 
-pub stays_at_source : {T : Type 0} {source source' sink sink' : ℕ} (e : Interruption) → e ≡ Interrupted Source → AllCauses {T = T} (Err e) source source' sink sink' → sink' ≡ sink
-stays_at_source {T = T} {source = source} {source' = source'} {sink = sink} {sink' = sink'} e is causes =
-    (subst (λ (x : Interruption). AllCauses {T = T} (Err x) source source' sink sink') is causes).1
+pub stays_at_source : (e : Interruption) (source source' sink sink' : ℕ) → e ≡ Interrupted Source → AllCauses {T = ℕ} (Err e) source source' sink sink' → sink' ≡ sink
+stays_at_source e source source' sink sink' is causes = (subst (λ (x : Interruption). AllCauses {T = ℕ} (Err x) source source' sink sink') is causes).1
 
 -- a call that did all
 pub leaves_all : {outcome : Outcome} {status : ℕ} {before after : Option Output} {faults faults' steps steps' : ℕ} → Does (Ok status) outcome before after steps steps' → faults' ≡ faults → Leaves outcome status before after faults faults' steps steps'
