@@ -2,6 +2,11 @@
 use Rattle.std.proofs.Common.{◌≡◌, ℕ, Bool, List, Option, None, Some, Result, Ok, Err, IfOk, refl, ap, if◌then◌else◌}
 use Rattle.tx_event.specs.declared.types.Event.{Event}
 use Rattle.tx_assign.specs.Changes.{carried_out}
+use Rattle.tx_assign.specs.declared.types.Assignment.{Assignment}
+use Rattle.tx_command.specs.Commands.{prefixes_of}
+use Rattle.tx_command.specs.declared.types.Prefixes.{Prefixes}
+use Rattle.tx_prim.specs.declared.family.MathSize.{MathSize}
+use Rattle.tx_seen.specs.declared.place.FontName.{FontName}
 use Rattle.tx_seen.specs.declared.error.TexError.TheVariants.{BadFont}
 use Rattle.tx_seen.specs.declared.meaning.Meaning.TheVariants.{Font}
 use Rattle.tx_seen.specs.declared.place.Place.{Place}
@@ -15,7 +20,7 @@ use Rattle.tx_state.specs.Meanings.{IsStepped, state_of}
 use Rattle.tx_state.specs.Outcomes.{Outcome, fails, leaves}
 use Rattle.tx_state.specs.State.{TexState}
 use Rattle.tx_state.specs.Ended.{assigned, assigning}
-use Rattle.tx_lettering.specs.Fonts.{can_load, identifier_of, loading, loading_as, loading_from, meant, naming_font, setting_fonts}
+use Rattle.tx_lettering.specs.Fonts.{can_load, identifier_of, in_family, loading, loading_as, loading_from, meant, naming_font, number_of, setting_family, setting_fonts}
 use Rattle.tx_state.proofs.Outcomes.{outcome-by}
 
 -- the request, once its file is read
@@ -49,3 +54,11 @@ pub names-font : {E : Type 0} (s new : State) (words : Collecting) (defined : Pl
 names-font s new words defined global n answer is did =
     outcome-by (assigning (state_of (with_words s words)) (carried_out s.table (meant (Font n) defined) global)) (naming_font (state_of s) defined global n) s (with_words s words) new answer
     (ap (λ (w : Collecting). assigning (state_of (with_words s w)) (carried_out s.table (meant (Font n) defined) global)) is) refl did
+
+-- the font of a family is the one of a number
+pub sets-family : {E : Type 0} (s new : State) (size : MathSize) (family n : ℕ) (font : FontName) (a : Assignment) (prefixes : Prefixes) (answer : Result Event E) → n ≡ number_of (state_of s) font → a ≡ in_family size family n → prefixes ≡ prefixes_of s.scan.head
+    → IfOk answer (λ event. IsStepped (assigning (state_of s) (carried_out s.table a prefixes.global)) s event new) → IfOk answer (λ event. IsStepped (setting_family (state_of s) size family font) s event new)
+sets-family s new size family n font a prefixes answer is made by did =
+    let own : a ≡ in_family size family (number_of (state_of s) font) = made ∙ ap (in_family size family) is in
+    outcome-by (assigning (state_of s) (carried_out s.table a prefixes.global)) (setting_family (state_of s) size family font) s s new answer
+    (λ i. assigning (state_of s) (carried_out s.table (own i) (by i).global)) refl did

@@ -1,5 +1,5 @@
 //! Fonts that are named, loaded and changed (TeX: The Program, sections 1253 and 1256 to 1260).
-ghost use Rattle.std.specs.Prelude.{◌≡◌, ◌<◌, ◌≤◌, ◌++◌, [], Some, None, codes, length, nat_lt, IfOk};
+ghost use Rattle.std.specs.Prelude.{◌≡◌, ◌<◌, ◌≤◌, ◌++◌, ◌&&◌, [], Some, None, codes, length, nat_le, nat_lt, IfOk};
 ghost use Rattle.tx_tfm.specs.Fonts.{with_font_integer, with_font_parameter};
 ghost use Rattle.tx_tfm.specs.Rules.{first_broken};
 ghost use Rattle.tx_state.specs.declared.parts.Phase.{Phase};
@@ -12,12 +12,13 @@ use std::mem;
 use tx_assign::{Assignment, Carried, Change};
 use tx_bytes::Bytes;
 use tx_command::{AskedSize, Head};
-use tx_eqtb::Entry;
+use tx_eqtb::{Entry, Eqtb};
 use tx_event::{Ask, AskKind, Event};
 use tx_prim::{FontNumber, IntegerParameter, MathSize, Primitive};
 use tx_seen::{FontName, Meaning, Place, TexError};
 use tx_state::{Due, FontRequest, State, ask, carry_out_assignment, end_assignment, fail};
 use tx_tfm::{Font, FontError, Fonts, NamedFont};
+use tx_word::Words;
 
 /// The longest name of a file, in bytes.
 const LONGEST_NAME: usize = 255;
@@ -207,10 +208,10 @@ fn has_room(fonts: &Fonts) -> bool
 }
 
 /// Whether one more font of this name can be loaded.
-fn can_load(s: &State, name: &Bytes) -> bool
-    ensures { result ≡ spec.can_load (state_of s.now) name.now }
+fn can_load(words: &Words, name: &Bytes) -> bool
+    ensures { result ≡ (nat_lt (length words.now.fonts) 256 && nat_le (length name.now) 255) }
 {
-    has_room(s.words.fonts()) && name.len() <= LONGEST_NAME
+    has_room(words.fonts()) && name.len() <= LONGEST_NAME
 }
 
 /// The font of these bytes is loaded, if one more can be and they are those of one. Err is want of memory.
@@ -223,7 +224,7 @@ fn load_from(
     requires { s.old.phase ≡ Phase.Running }
     ensures { IfOk result (λ event. IsStepped (spec.loading_from (state_of s.old) request bytes.now) s.old event s.new) }
 {
-    if can_load(s, &request.name) {
+    if can_load(&s.words, &request.name) {
         read_font(alloc, s, request, bytes)
     } else {
         Ok(fail(s, TexError::BadFont))
@@ -244,11 +245,11 @@ pub fn load_font(alloc: Global, s: &mut State, request: FontRequest) -> Result<E
 }
 
 /// The number of a font that a command names.
-fn number_of(s: &State, font: FontName) -> u8
-    ensures { result ≡ spec.number_of (state_of s.now) font }
+fn number_of(table: &Eqtb, font: FontName) -> u8
+    ensures { (s : State) → result ≡ spec.number_of (state_of (record s { table = table.now })) font }
 {
     match font {
-        FontName::Current => current_font(&s.table),
+        FontName::Current => current_font(table),
         FontName::Number(number) => number,
     }
 }
@@ -258,7 +259,7 @@ pub fn set_dimension(s: &mut State, font: FontName, n: u16, size: i32) -> Result
     requires { s.old.phase ≡ Phase.Running }
     ensures { IfOk result (λ event. IsStepped (spec.setting_fonts (state_of s.old) (with_font_parameter s.old.words.fonts (spec.number_of (state_of s.old) font) n size)) s.old event s.new) }
 {
-    let number = number_of(s, font);
+    let number = number_of(&s.table, font);
     s.words.set_parameter(number, n, size)?;
     end_assignment(s)
 }
@@ -273,7 +274,7 @@ pub fn set_integer(
     requires { s.old.phase ≡ Phase.Running }
     ensures { IfOk result (λ event. IsStepped (spec.setting_fonts (state_of s.old) (with_font_integer kind s.old.words.fonts (spec.number_of (state_of s.old) font) value)) s.old event s.new) }
 {
-    let number = number_of(s, font);
+    let number = number_of(&s.table, font);
     s.words.set_integer(kind, number, value)?;
     end_assignment(s)
 }
@@ -299,7 +300,7 @@ pub fn set_family(
     requires { s.old.phase ≡ Phase.Running }
     ensures { IfOk result (λ event. IsStepped (spec.setting_family (state_of s.old) size family font) s.old event s.new) }
 {
-    let number = number_of(s, font);
+    let number = number_of(&s.table, font);
     let global = s.scan.prefixes().global;
     carry_out_assignment(s, in_family(size, family, number), global)
 }

@@ -11,6 +11,7 @@ use tx_char::{Cat, Token};
 use tx_eqtb::Eqtb;
 use tx_event::Event;
 use tx_hyphen::error::{ExceptionError, PatternError};
+use tx_hyphenate::Hyphenation;
 use tx_paragraph::lower_codes;
 use tx_prim::TextUse;
 use tx_seen::{Meaning, TexError};
@@ -135,11 +136,11 @@ pub(crate) fn use_exceptions(
 }
 
 /// Whether no text of this use can be taken any more: a paragraph began its second pass.
-pub(crate) fn is_late(s: &State, purpose: TextUse) -> bool
-    ensures { result ≡ spec.is_late s.now.hyphenation purpose }
+pub(crate) fn is_late(known: &Hyphenation, purpose: TextUse) -> bool
+    ensures { result ≡ spec.is_late known.now purpose }
 {
     match purpose {
-        TextUse::Patterns => s.hyphenation.used,
+        TextUse::Patterns => known.used,
         TextUse::Hyphenation => false,
         TextUse::Message | TextUse::ErrorMessage | TextUse::Special => false,
         TextUse::UpperCase | TextUse::LowerCase | TextUse::Mark => false,
