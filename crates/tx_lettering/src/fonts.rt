@@ -1,14 +1,14 @@
 //! Fonts that are named, loaded and changed (TeX: The Program, sections 1253 and 1256 to 1260).
-ghost use Rattle.std.specs.Prelude.{◌≡◌, ◌<◌, ◌≤◌, ◌++◌, ◌&&◌, [], Some, None, codes, length, nat_le, nat_lt, IfOk};
-ghost use Rattle.tx_tfm.specs.Fonts.{with_font_integer, with_font_parameter};
-ghost use Rattle.tx_tfm.specs.Rules.{first_broken};
+ghost use Rattle.std.specs.Prelude.{◌≡◌, ◌<◌, ◌≤◌, ◌++◌, ◌∷◌, ◌&&◌, [], Some, None, codes, length, nat_le, nat_lt, MatchOption, IfOk, OnOk};
+ghost use Rattle.tx_tfm.specs.Fonts.{loaded_state, with_font_integer, with_font_parameter};
 ghost use Rattle.tx_state.specs.declared.parts.Phase.{Phase};
 ghost use Rattle.tx_lettering.specs.Fonts as spec;
+ghost use Rattle.tx_state.specs.Ended.{integer};
 ghost use Rattle.tx_state.specs.Meanings.{IsStepped, state_of};
+ghost use Rattle.tx_state.specs.Outcomes.{fails};
 
 use crate::words::current_font;
 use std::alloc::{AllocError, Global};
-use std::mem;
 use tx_assign::{Assignment, Carried, Change};
 use tx_bytes::Bytes;
 use tx_command::{AskedSize, Head};
@@ -17,7 +17,7 @@ use tx_event::{Ask, AskKind, Event};
 use tx_prim::{FontNumber, IntegerParameter, MathSize, Primitive};
 use tx_seen::{FontName, Meaning, Place, TexError};
 use tx_state::{Due, FontRequest, State, ask, carry_out_assignment, end_assignment, fail};
-use tx_tfm::{Font, FontError, Fonts, NamedFont};
+use tx_tfm::{Font, FontError, Fonts, NamedFont, Size};
 use tx_word::Words;
 
 /// The longest name of a file, in bytes.
@@ -152,53 +152,6 @@ pub fn with_file(request: FontRequest, bytes: Bytes) -> FontRequest
     }
 }
 
-/// A font more, whose number its name means. Err is want of memory.
-fn add_font(
-    alloc: Global,
-    s: &mut State,
-    defined: Place,
-    global: bool,
-    font: NamedFont,
-) -> Result<Event, AllocError>
-    requires running { s.old.phase ≡ Phase.Running }
-    requires room { length s.old.words.fonts < 256 }
-    requires named { length font.name ≤ 255 }
-    ensures { IfOk result (λ event. IsStepped (spec.naming_font (spec.with_font (state_of s.old) font) defined global (length s.old.words.fonts)) s.old event s.new) }
-{
-    let hyphen = s.table.integer(IntegerParameter::Defaulthyphenchar);
-    let skew = s.table.integer(IntegerParameter::Defaultskewchar);
-    let number = s.words.push(alloc, font, hyphen, skew)?;
-    name_font(alloc, s, defined, global, number)
-}
-
-/// The font of these bytes is loaded, if they are those of one. Err is want of memory.
-fn read_font(
-    alloc: Global,
-    s: &mut State,
-    request: FontRequest,
-    bytes: &Bytes,
-) -> Result<Event, AllocError>
-    requires running { s.old.phase ≡ Phase.Running }
-    requires room { length s.old.words.fonts < 256 }
-    requires named { length request.name ≤ 255 }
-    ensures { IfOk result (λ event. IsStepped (spec.loading_as (state_of s.old) request bytes.now (first_broken bytes.now request.size)) s.old event s.new) }
-{
-    match Font::read(alloc, bytes.as_slice(), request.size) {
-        Ok(font) => {
-            let name = request.name;
-            add_font(
-                alloc,
-                s,
-                request.defined,
-                request.global,
-                NamedFont { name, font },
-            )
-        }
-        Err(FontError::BadFont { .. }) => Ok(fail(s, TexError::BadFont)),
-        Err(FontError::OutOfMemory(_)) => Err(AllocError),
-    }
-}
-
 /// Whether one more font can be loaded.
 fn has_room(fonts: &Fonts) -> bool
     ensures { result ≡ nat_lt (length fonts.now) 256 }
@@ -214,20 +167,47 @@ fn can_load(words: &Words, name: &Bytes) -> bool
     has_room(words.fonts()) && name.len() <= LONGEST_NAME
 }
 
-/// The font of these bytes is loaded, if one more can be and they are those of one. Err is want of memory.
-fn load_from(
+/// A font more, with the hyphen and the skew character of the table; answers its number. Its only error is want of memory.
+fn add_font(
     alloc: Global,
-    s: &mut State,
-    request: FontRequest,
-    bytes: &Bytes,
-) -> Result<Event, AllocError>
-    requires { s.old.phase ≡ Phase.Running }
-    ensures { IfOk result (λ event. IsStepped (spec.loading_from (state_of s.old) request bytes.now) s.old event s.new) }
+    words: &mut Words,
+    table: &Eqtb,
+    font: NamedFont,
+) -> Result<u8, AllocError>
+    requires room { length words.old.fonts < 256 }
+    requires named { length font.name ≤ 255 }
+    ensures number { IfOk result (λ number. number ≡ length words.old.fonts) }
+    ensures words { OnOk result (words.new ≡ record words.old { fonts = words.old.fonts ++ loaded_state font (integer table.now.table IntegerParameter.Defaulthyphenchar) (integer table.now.table IntegerParameter.Defaultskewchar) ∷ [] }) }
 {
-    if can_load(&s.words, &request.name) {
-        read_font(alloc, s, request, bytes)
-    } else {
-        Ok(fail(s, TexError::BadFont))
+    let hyphen = table.integer(IntegerParameter::Defaulthyphenchar);
+    let skew = table.integer(IntegerParameter::Defaultskewchar);
+    words.push(alloc, font, hyphen, skew)
+}
+
+/// The font of these bytes is loaded, if one more can be and they are those of one; answers its number then. Its only error is want
+/// of memory.
+fn read_font(
+    alloc: Global,
+    words: &mut Words,
+    table: &Eqtb,
+    name: Bytes,
+    size: Size,
+    bytes: &Bytes,
+) -> Result<Option<u8>, AllocError>
+    ensures { IfOk result (λ number. (s : State) (request : FontRequest) → s.words ≡ words.old → s.table ≡ table.now → request.name ≡ name → request.size ≡ size
+        → MatchOption number (spec.loading_from (state_of s) request bytes.now ≡ fails TexError.BadFont)
+        (λ n. spec.loading_from (state_of s) request bytes.now ≡ spec.naming_font (state_of (record s { words = words.new })) request.defined request.global n)) }
+{
+    if !can_load(words, &name) {
+        return Ok(None);
+    }
+    match Font::read(alloc, bytes.as_slice(), size) {
+        Ok(font) => {
+            let number = add_font(alloc, words, table, NamedFont { name, font })?;
+            Ok(Some(number))
+        }
+        Err(FontError::BadFont { .. }) => Ok(None),
+        Err(FontError::OutOfMemory(_)) => Err(AllocError),
     }
 }
 
@@ -237,9 +217,19 @@ pub fn load_font(alloc: Global, s: &mut State, request: FontRequest) -> Result<E
     requires { s.old.phase ≡ Phase.Running }
     ensures { IfOk result (λ event. IsStepped (spec.loading (state_of s.old) request request.file) s.old event s.new) }
 {
-    let mut request = request;
-    match mem::replace(&mut request.file, None) {
-        Some(bytes) => load_from(alloc, s, request, &bytes),
+    let FontRequest {
+        defined,
+        global,
+        name,
+        size,
+        file,
+    } = request;
+    let Some(bytes) = file else {
+        return Ok(fail(s, TexError::BadFont));
+    };
+    let loaded = read_font(alloc, &mut s.words, &s.table, name, size, &bytes)?;
+    match loaded {
+        Some(added) => name_font(alloc, s, defined, global, added),
         None => Ok(fail(s, TexError::BadFont)),
     }
 }

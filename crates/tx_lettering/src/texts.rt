@@ -8,7 +8,7 @@ ghost use Rattle.tx_state.specs.Outcomes.{leaves};
 ghost use Rattle.tx_state.specs.Meanings.{IsStepped, state_of};
 ghost use Rattle.tx_state.specs.Texts.{definition_text, is_global as global_kind};
 
-use crate::hyphens::{is_late, use_exceptions, use_patterns};
+use crate::hyphens::{end_learning, is_late, learn_exceptions, learn_patterns};
 use crate::letters::with_letters;
 use std::alloc::{AllocError, Global};
 use std::mem;
@@ -74,34 +74,20 @@ fn defines_globally(prefixes: Prefixes, kind: DefinitionKind) -> bool
     prefixes.global || is_global(kind)
 }
 
-/// The place means the macro of a definition that is whole. Err is want of memory.
-fn end_definition(
+/// The place of a definition that is whole means its macro, by the prefixes before it. Err is want of memory.
+fn definition_of(
     alloc: Global,
-    s: &mut State,
+    prefixes: Prefixes,
     defined: Place,
-    kind: DefinitionKind,
     scan: DefinitionScan,
-) -> Result<Event, AllocError>
-    requires { s.old.phase ≡ Phase.Running }
-    ensures { IfOk result (λ event. IsStepped (spec.defining (state_of s.old) defined kind scan) s.old event s.new) }
+) -> Result<Assignment, AllocError>
+    ensures { IfOk result (λ assignment. assignment ≡ record { place = defined; change = Change.Set (Entry.Means (Meaning.Macro (spec.macro_of prefixes scan))) }) }
 {
-    let prefixes = s.scan.prefixes();
-    let global = defines_globally(prefixes, kind);
     let made = scan.into_macro(alloc, prefixes.long, prefixes.outer)?;
-    let assignment = Assignment {
+    Ok(Assignment {
         place: defined,
         change: Change::Set(Entry::Means(Meaning::Macro(made))),
-    };
-    carry_out_assignment(s, assignment, global)
-}
-
-/// The list of tokens that is whole stands at this place. Err is want of memory.
-fn end_list(alloc: Global, s: &mut State, place: Place, scan: TextScan) -> Result<Event, AllocError>
-    requires { s.old.phase ≡ Phase.Running }
-    ensures { IfOk result (λ event. IsStepped (spec.listing (state_of s.old) place scan.tokens) s.old event s.new) }
-{
-    let global = s.scan.prefixes().global;
-    carry_out_assignment(s, with_text(alloc, place, scan.into_tokens())?, global)
+    })
 }
 
 /// Puts the line of a message into the transcript. Its only error is want of memory.
@@ -205,8 +191,14 @@ fn use_text(
             tokens,
         ),
         TextUse::Special => add_special(alloc, s, &tokens),
-        TextUse::Patterns => use_patterns(alloc, s, &tokens),
-        TextUse::Hyphenation => use_exceptions(alloc, s, &tokens),
+        TextUse::Patterns => {
+            let learned = learn_patterns(alloc, &mut s.hyphenation, &s.table, &tokens)?;
+            end_learning(s, learned)
+        }
+        TextUse::Hyphenation => {
+            let learned = learn_exceptions(alloc, &mut s.hyphenation, &s.table, &tokens)?;
+            end_learning(s, learned)
+        }
         TextUse::Mark => add_mark(alloc, s, tokens),
     }
 }
@@ -219,10 +211,16 @@ pub fn end_text(alloc: Global, s: &mut State) -> Result<Event, AllocError>
     match mem::replace(&mut s.text, None) {
         None => Ok(Event::Went),
         Some(OpenText::Definition(defined, kind, scan)) => {
-            end_definition(alloc, s, defined, kind, scan)
+            let prefixes = s.scan.prefixes();
+            let assignment = definition_of(alloc, prefixes, defined, scan)?;
+            carry_out_assignment(s, assignment, defines_globally(prefixes, kind))
         }
         Some(OpenText::Absorbed(purpose, scan)) => use_text(alloc, s, purpose, scan),
-        Some(OpenText::List(place, scan)) => end_list(alloc, s, place, scan),
+        Some(OpenText::List(place, scan)) => {
+            let global = s.scan.prefixes().global;
+            let assignment = with_text(alloc, place, scan.into_tokens())?;
+            carry_out_assignment(s, assignment, global)
+        }
     }
 }
 
