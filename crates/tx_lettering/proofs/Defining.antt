@@ -1,5 +1,5 @@
 -- What comes of a definition that is whole.
-use Rattle.std.proofs.Common.{◌≡◌, ◌||◌, Bool, Result, IfOk, ap, subst, ◌∙◌}
+use Rattle.std.proofs.Common.{◌≡◌, ◌||◌, Bool, Option, None, Some, Result, IfOk, refl, ap, subst, sym, ◌∙◌}
 use Rattle.tx_assign.specs.Changes.{carried_out}
 use Rattle.tx_assign.specs.declared.types.Change.TheVariants.{Set}
 use Rattle.tx_command.specs.Commands.{prefixes_of}
@@ -12,8 +12,11 @@ use Rattle.tx_seen.specs.declared.place.Place.{Place}
 use Rattle.tx_text.specs.Definitions.{Defining as Defined_text}
 use Rattle.tx_toklist.specs.Macros.{Definition}
 use Rattle.tx_state.specs.declared.state.State.{State}
+use Rattle.tx_state.specs.declared.parts.OpenText.{OpenText}
 use Rattle.tx_state.specs.Ended.{assigning}
-use Rattle.tx_lettering.specs.Texts.{defining, macro_of}
+use Rattle.tx_state.specs.Outcomes.{Outcome}
+use Rattle.tx_state.proofs.Outcomes.{outcome-by}
+use Rattle.tx_lettering.specs.Texts.{defining, ending_text, macro_of}
 use Rattle.tx_state.specs.Meanings.{IsStepped, state_of}
 use Rattle.tx_state.specs.Texts.{is_global}
 
@@ -24,3 +27,10 @@ defines s new defined kind d prefixes made global answer by is wide did =
     let own : macro_of prefixes d ≡ macro_of (prefixes_of s.scan.head) d = ap (λ (p : Prefixes). macro_of p d) by in
     let far : (prefixes.global || is_global kind) ≡ ((prefixes_of s.scan.head).global || is_global kind) = ap (λ (p : Prefixes). p.global || is_global kind) by in
     subst (λ g. Holds (macro_of (prefixes_of s.scan.head) d) g) (wide ∙ far) (subst (λ m. Holds m global) (is ∙ own) did)
+
+-- the text that was whole is gone
+pub ends : {E : Type 0} (s new : State) (text : OpenText) (found : Option OpenText) (outcome : Outcome) (answer : Result Event E) → found ≡ s.text → found ≡ Some text → ending_text (state_of s) (Some text) ≡ outcome
+    → IfOk answer (λ event. IsStepped outcome (record s { text = None }) event new) → IfOk answer (λ event. IsStepped (ending_text (state_of s) s.text) s event new)
+ends s new text found outcome answer taken is comes did =
+    outcome-by outcome (ending_text (state_of s) s.text) s (record s { text = None }) new answer
+    (sym (ap (ending_text (state_of s)) (sym taken ∙ is) ∙ comes)) refl did
