@@ -4,20 +4,17 @@
 //! a text that is open, within its braces (sections 473 and 477), an argument (section 392), or text that is skipped (section 494),
 //! as long as nothing of these ends; and a command that is begun, such as the number of an assignment, up to the one behind which
 //! it is whole.
-ghost use Rattle.std.specs.Prelude.{◌≡◌, ◌<◌, ◌≤◌, ◌∷◌, [], true, false, None, Some, length, IsTrue, IfOk, IfSome, OnOk, OnErr};
+ghost use Rattle.std.specs.Prelude.{◌≡◌, ◌<◌, ◌≤◌, [], true, false, None, Some, length, IsTrue, IfOk, IfSome, OnOk, OnErr};
 ghost use Rattle.tx_command.specs.Commands.{is_begun};
 ghost use Rattle.tx_event.specs.Turns.{Ready};
 ghost use Rattle.tx_machine.specs.Plain.{HasPassed, HasRunOn, IsLast, last_turns, turns_of};
 ghost use Rattle.tx_machine.specs.Steps.{raised};
-ghost use Rattle.tx_node.specs.Items.{plain};
 ghost use Rattle.tx_pending.specs.Plain.{IsNext};
 ghost use Rattle.tx_prim.specs.Modes.{holds};
-ghost use Rattle.tx_tfm.specs.Fonts.{has_character};
-ghost use Rattle.tx_word.specs.Collecting.{font_of};
 ghost use Rattle.tx_main.specs.Going.{GoesOn, HasRun, HasTurned, IsCommanding, IsGoing, IsNextOf, IsReading};
-ghost use Rattle.tx_main.specs.MainLoop.{IsLooping, lettered, spaced};
+ghost use Rattle.tx_main.specs.MainLoop.{IsLooping, spaced};
 ghost use Rattle.tx_main.specs.Turns.{tex};
-ghost use Rattle.tx_lettering.specs.Words.{factor_now as factor_of_list, with_more};
+ghost use Rattle.tx_lettering.specs.Words.{factor_now as factor_of_list};
 ghost use Rattle.tx_state.specs.declared.parts.Phase.{Phase};
 ghost use Rattle.tx_state.specs.Meanings.{meaning_of, state_of};
 ghost use Rattle.tx_state.specs.State.{mode_of};
@@ -54,25 +51,6 @@ fn awaits_token(scan: &CommandScan) -> bool
     ModeTest::Horizontal.holds(scan.mode())
 }
 
-/// A character that its font has is passed and joins the word, in a list of this space factor. Its only error is want of memory.
-fn join_letter(
-    alloc: Global,
-    s: &mut State,
-    font: u8,
-    factor: SpaceFactor,
-    code: u8,
-) -> Result<(), AllocError>
-    requires { has_character s.old.words.fonts (font_of s.old.words.word font) code ≡ true }
-    ensures state { OnOk result (state_of s.new ≡ lettered (state_of s.old) font factor code) }
-    ensures phase { OnOk result (s.new.phase ≡ s.old.phase) }
-    ensures said { OnOk result (s.new.said ≡ s.old.said) }
-{
-    s.words.join(alloc, font, code)?;
-    s.input.pass_first(ReadState::M);
-    pass_factor(s, factor, code);
-    Ok(())
-}
-
 /// Takes a turn of the character that comes next, if its font has it, and answers whether that is so; else nothing changes. Its
 /// only error is want of memory.
 fn set_letter(
@@ -90,17 +68,10 @@ fn set_letter(
     if !s.words.has_next(font, code) {
         return Ok(false);
     }
-    join_letter(alloc, s, font, factor, code)?;
+    s.words.join(alloc, font, code)?;
+    s.input.pass_first(ReadState::M);
+    pass_factor(s, factor, code);
     Ok(true)
-}
-
-/// Appends glue. Its only error is want of memory.
-fn add_glue(s: &mut State, glue: Glue) -> Result<(), AllocError>
-    ensures state { OnOk result (state_of s.new ≡ with_more (state_of s.old) (plain (Plain.Glue glue) ∷ [])) }
-    ensures phase { OnOk result (s.new.phase ≡ s.old.phase) }
-    ensures said { OnOk result (s.new.said ≡ s.old.said) }
-{
-    append_item(s.lists.nest.top(), Node::Plain(Plain::Glue(glue)))
 }
 
 /// A space is passed, ends the word, and is this glue. Its only error is want of memory.
@@ -111,7 +82,7 @@ fn put_space(alloc: Global, s: &mut State, glue: Glue) -> Result<(), AllocError>
 {
     s.input.pass_first(ReadState::S);
     end_word(alloc, s)?;
-    add_glue(s, glue)
+    append_item(s.lists.nest.top(), Node::Plain(Plain::Glue(glue)))
 }
 
 /// Takes a turn of the space that comes next, if its glue has sizes that are dimensions, and answers whether that is so; else

@@ -342,20 +342,6 @@ fn put_line(
     expander.line_came(input)
 }
 
-/// The innermost file has no further line; one without any has an empty one, if it isn't the main file (TeX: The Program, section
-/// 538). Its only error is want of memory.
-fn end_lines(alloc: Global, s: &mut State) -> Result<(), AllocError>
-    ensures state { OnOk result (state_of s.new ≡ turns.lines_ended (state_of s.old)) }
-    ensures phase { OnOk result (s.new.phase ≡ s.old.phase) }
-    ensures said { OnOk result (s.new.said ≡ s.old.said) }
-{
-    if s.expander.is_opening() {
-        put_line(alloc, &s.table, &mut s.input, &mut s.expander, b"")
-    } else {
-        s.due.push(Due::FileEnded)
-    }
-}
-
 /// One more file is open. Its only error is that no more can be counted.
 fn open_file(files: &mut u64) -> Result<(), AllocError>
     ensures { OnOk result (files.new ≡ suc files.old) }
@@ -367,19 +353,6 @@ fn open_file(files: &mut u64) -> Result<(), AllocError>
         }
         None => Err(AllocError),
     }
-}
-
-/// The innermost file is closed. Its only error is want of memory.
-fn close_file(s: &mut State) -> Result<(), AllocError>
-    ensures state { OnOk result (state_of s.new ≡ turns.file_closed (state_of s.old) s.old.files) }
-    ensures phase { OnOk result (s.new.phase ≡ s.old.phase) }
-    ensures said { OnOk result (s.new.said ≡ s.old.said) }
-{
-    s.files = s.files.saturating_sub(1);
-    if s.files == 0 {
-        s.due.push(Due::MainClosed)?;
-    }
-    Ok(())
 }
 
 /// A piece of work with the bytes of the file that it asked for. Its only error is want of memory.
@@ -422,8 +395,22 @@ fn hear(alloc: Global, s: &mut State, kind: AskKind, reply: &Reply) -> Result<()
             &mut s.expander,
             bytes.as_slice(),
         ),
-        (AskKind::Line, Reply::Ended) => end_lines(alloc, s),
-        (AskKind::Close, Reply::Closed) => close_file(s),
+        (AskKind::Line, Reply::Ended) => {
+            // (a file that has no line at all has an empty one, if it isn't the main file: TeX: The Program, section 538)
+            if s.expander.is_opening() {
+                put_line(alloc, &s.table, &mut s.input, &mut s.expander, b"")
+            } else {
+                s.due.push(Due::FileEnded)
+            }
+        }
+        (AskKind::Close, Reply::Closed) => {
+            s.files = s.files.saturating_sub(1);
+            if s.files == 0 {
+                s.due.push(Due::MainClosed)
+            } else {
+                Ok(())
+            }
+        }
         (AskKind::Whole, Reply::Whole(bytes)) => take_file(&mut s.due, bytes),
         _ => Ok(()),
     }
