@@ -58,7 +58,7 @@ fn with_prefix(prefixes: Prefixes, prefix: Prefix) -> Prefixes
     }
 }
 
-/// A prefix, whatever else the state is. (What takes the parts of the state that it changes needs no table of all the others.)
+/// A prefix.
 fn prefix(scan: &mut CommandScan, prefix: Prefix) -> Event
     requires { scan.old.taken ≡ [] }
     ensures { (s : State) → s.phase ≡ Phase.Running → IsStepped (effects.effect (state_of (record s { scan = scan.old })) (Command.Prefix prefix)) (record s { scan = scan.old }) result (record s { scan = scan.new }) }
