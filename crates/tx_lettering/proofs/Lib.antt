@@ -2,4 +2,3 @@ pub mod Defining
 pub mod Loads
 pub mod Collects
 pub mod Signs
-pub mod Learning
