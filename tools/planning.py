@@ -12,6 +12,11 @@ SLOWER = {1: 1, 2: 1, 3: 1.4}
 OVER, MORE = 0.7, 0.6
 
 
+def pace(processors):
+    """What a check takes with so many processors, of the table's seconds."""
+    return SLOWER.get(processors, FOUR) / FOUR
+
+
 def crates(top):
     """The crates of crates.txt, each with the libraries of its line."""
     with open(f"{top}/crates.txt", encoding="utf-8") as file:
@@ -80,11 +85,12 @@ class Plan:
         waits = lambda name: [(it, "proof") for it in self.below(name) if it in left]
         return {(name, "proof"): (waits(name), self.code[name], self.need[name], left[name]) for name in self.deps if name in left}
 
-    def tasks(self, scales):
-        """The same for all checks of the gate, with a factor for the proofs of some crates."""
+    def tasks(self, scales, pace):
+        """The same for all checks of the gate, with a factor for the proofs of some crates, and one for all seconds."""
         found = {}
         for name in self.deps:
-            proof, (edits, all_edits) = self.proof(name), self.times.get(name, (0, 0, 0))[1:]
+            proof, (edits, all_edits) = pace * self.proof(name), self.times.get(name, (0, 0, 0))[1:]
+            all_edits *= pace
             scaled = proof * scales.get(name, 1)
             waits, lines, need = [(it, "proof") for it in self.below(name)], self.code[name], self.need[name]
             found[name, "proof"] = waits, lines, need, scaled
@@ -102,8 +108,7 @@ class Plan:
 def run(tasks, memory, processors):
     """The spans of a run of these checks, each with the processors that are busy in it, and when the last proof ended. rt ci starts a
     check only where what it may need fits into the memory beside the others, the longest chain of crates first; no wrong body is begun
-    while a proof waits for memory. The seconds of the table are taken as they are for four processors and more."""
-    pace = SLOWER.get(processors, FOUR) / FOUR
+    while a proof waits for memory."""
     behind = {it: 0 for it in tasks}
     for key in reversed([*tasks]):
         behind[key] += tasks[key][1]
@@ -117,7 +122,7 @@ def run(tasks, memory, processors):
         for at, key in enumerate(ready):
             if lacks and fills(key):
                 break
-            need, seconds = tasks[key][2], pace * tasks[key][3]
+            need, seconds = tasks[key][2:]
             room = memory - sum(it for _, it, _ in running.values())
             idle = processors - sum(it for _, _, it in running.values())
             if idle > 0 and (not running or need <= room):
