@@ -1,4 +1,4 @@
-"""How long checks take that rt ci plans: by the table of docs/ARCHITECTURE.md, by the lines of crates, and by how it starts them."""
+"""How long checks take that rt ci plans: by the table of docs/COSTS.md, by the lines of crates, and by how it starts them."""
 import os
 import re
 
@@ -25,11 +25,11 @@ def crates(top):
 
 
 def table():
-    """The seconds of each crate's proof, of its wrong bodies and how many these are, as docs/ARCHITECTURE.md has them."""
+    """The seconds of each crate's proof, of its wrong bodies and how many these are, as docs/COSTS.md has them."""
     found = {}
     row = re.compile(r"\| `(\w+)` \| [\d,]+ \| [\d,]+ \| [\d,]+ \| ([\d,]+) \| [\d,]+ \| (\d+) \| ([\d,]+) \|")
     try:
-        with open(f"{TOP}/docs/ARCHITECTURE.md", encoding="utf-8") as file:
+        with open(f"{TOP}/docs/COSTS.md", encoding="utf-8") as file:
             for it in filter(None, map(row.match, file)):
                 number = lambda group: int(it[group].replace(",", ""))
                 found[it[1]] = number(2), number(3), number(4)
