@@ -1,15 +1,25 @@
 """How long checks take that rt ci plans: by the table of docs/COSTS.md, by the lines of crates, and by how it starts them."""
+import functools
 import os
 import re
+import subprocess
 
 TOP = os.path.normpath(os.path.join(os.path.dirname(os.path.abspath(__file__)), ".."))
-KIT = "/opt/rattle"
 # The table's seconds are those of four checks at a time, on processors of which four do the work of some two: a check by itself took
 # so much less. With more at a time than two each is taken to be slower.
 FOUR = 1.8
 SLOWER = {1: 1, 2: 1, 3: 1.4}
 # What a check over what its crate's own check proved takes of the memory of one from nothing, and each further job of a proof.
 OVER, MORE = 0.7, 0.6
+
+
+@functools.lru_cache(maxsize=None)
+def kit():
+    """The kit's folder; of a machine that has none, one that isn't there."""
+    try:
+        return os.path.dirname(subprocess.run(["rt", "doc"], capture_output=True, text=True, check=True).stdout.strip())
+    except (OSError, subprocess.CalledProcessError):
+        return os.devnull
 
 
 def pace(processors):
@@ -70,8 +80,8 @@ class Plan:
 
     def need_of(self, name):
         """The memory that rt ci allows for a check from nothing, in bytes: by the crate's lines, those below it, and the kit's libraries."""
-        kit = {it for crate in [name, *self.below(name)] for it in self.deps[crate] if it not in self.deps}
-        files = [f"{KIT}/rlibs/{it}.rlib/toolchain/checked.a" for it in kit]
+        others = {it for crate in [name, *self.below(name)] for it in self.deps[crate] if it not in self.deps}
+        files = [f"{kit()}/rlibs/{it}.rlib/toolchain/checked.a" for it in others]
         loaded = sum(os.path.getsize(it) for it in files if os.path.isfile(it))
         under = sum(self.code[it] for it in self.below(name))
         return 1e9 + 1e6 * self.code[name] + 2e5 * self.logic[name] + 8e4 * under + min(5 * loaded, 2.5e9)
