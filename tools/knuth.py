@@ -9,6 +9,7 @@ is compared up to there.
 import os
 import re
 import resource
+import signal
 import subprocess
 
 FILE = 1000000
@@ -100,9 +101,10 @@ def events(log):
     return found
 
 
-def short_files():
-    """What never ends writes no endless file."""
+def short_runs():
+    """What never ends writes no endless file, and takes so many seconds of a processor, however many others there are at work."""
     resource.setrlimit(resource.RLIMIT_FSIZE, (FILE, FILE))
+    resource.setrlimit(resource.RLIMIT_CPU, (SECONDS, SECONDS))
 
 
 def log_of(folder, *options):
@@ -111,8 +113,10 @@ def log_of(folder, *options):
     place = {"max_print_line": "1000000", "TEXINPUTS": ".", "error_line": "254", "half_error_line": "200"}
     try:
         none = subprocess.DEVNULL
-        subprocess.run(words, cwd=folder, stdin=none, stdout=none, stderr=none, env={**os.environ, **place}, timeout=SECONDS, preexec_fn=short_files)
+        done = subprocess.run(words, cwd=folder, stdin=none, stdout=none, stderr=none, env={**os.environ, **place}, timeout=60 * SECONDS, preexec_fn=short_runs)
     except subprocess.TimeoutExpired:
+        return None
+    if done.returncode in (-signal.SIGXCPU, -signal.SIGKILL):
         return None
     with open(os.path.join(folder, "main.log"), encoding="latin-1") as file:
         log = file.read()
