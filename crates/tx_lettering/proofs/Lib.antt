@@ -2,3 +2,4 @@ pub mod Defining
 pub mod Loads
 pub mod Collects
 pub mod Signs
+pub mod Learning

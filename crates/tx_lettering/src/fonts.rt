@@ -1,23 +1,24 @@
 //! Fonts that are named, loaded and changed (TeX: The Program, sections 1253 and 1256 to 1260).
-ghost use Rattle.std.specs.Prelude.{◌≡◌, ◌<◌, ◌≤◌, ◌++◌, [], Some, None, codes, length, nat_lt, IfOk};
-ghost use Rattle.tx_tfm.specs.Fonts.{with_font_integer, with_font_parameter};
-ghost use Rattle.tx_tfm.specs.Rules.{first_broken};
+ghost use Rattle.std.specs.Prelude.{◌≡◌, ◌<◌, ◌≤◌, ◌++◌, ◌∷◌, ◌&&◌, [], Some, None, codes, length, nat_le, nat_lt, MatchOption, IfOk, OnOk};
+ghost use Rattle.tx_tfm.specs.Fonts.{loaded_state, with_font_integer, with_font_parameter};
 ghost use Rattle.tx_state.specs.declared.parts.Phase.{Phase};
 ghost use Rattle.tx_lettering.specs.Fonts as spec;
+ghost use Rattle.tx_state.specs.Ended.{integer};
 ghost use Rattle.tx_state.specs.Meanings.{IsStepped, state_of};
+ghost use Rattle.tx_state.specs.Outcomes.{fails};
 
 use crate::words::current_font;
 use std::alloc::{AllocError, Global};
-use std::mem;
 use tx_assign::{Assignment, Carried, Change};
 use tx_bytes::Bytes;
 use tx_command::{AskedSize, Head};
-use tx_eqtb::Entry;
+use tx_eqtb::{Entry, Eqtb};
 use tx_event::{Ask, AskKind, Event};
 use tx_prim::{FontNumber, IntegerParameter, MathSize, Primitive};
 use tx_seen::{FontName, Meaning, Place, TexError};
 use tx_state::{Due, FontRequest, State, ask, carry_out_assignment, end_assignment, fail};
-use tx_tfm::{Font, FontError, Fonts, NamedFont};
+use tx_tfm::{Font, FontError, Fonts, NamedFont, Size};
+use tx_word::Words;
 
 /// The longest name of a file, in bytes.
 const LONGEST_NAME: usize = 255;
@@ -151,53 +152,6 @@ pub fn with_file(request: FontRequest, bytes: Bytes) -> FontRequest
     }
 }
 
-/// A font more, whose number its name means. Err is want of memory.
-fn add_font(
-    alloc: Global,
-    s: &mut State,
-    defined: Place,
-    global: bool,
-    font: NamedFont,
-) -> Result<Event, AllocError>
-    requires running { s.old.phase ≡ Phase.Running }
-    requires room { length s.old.words.fonts < 256 }
-    requires named { length font.name ≤ 255 }
-    ensures { IfOk result (λ event. IsStepped (spec.naming_font (spec.with_font (state_of s.old) font) defined global (length s.old.words.fonts)) s.old event s.new) }
-{
-    let hyphen = s.table.integer(IntegerParameter::Defaulthyphenchar);
-    let skew = s.table.integer(IntegerParameter::Defaultskewchar);
-    let number = s.words.push(alloc, font, hyphen, skew)?;
-    name_font(alloc, s, defined, global, number)
-}
-
-/// The font of these bytes is loaded, if they are those of one. Err is want of memory.
-fn read_font(
-    alloc: Global,
-    s: &mut State,
-    request: FontRequest,
-    bytes: &Bytes,
-) -> Result<Event, AllocError>
-    requires running { s.old.phase ≡ Phase.Running }
-    requires room { length s.old.words.fonts < 256 }
-    requires named { length request.name ≤ 255 }
-    ensures { IfOk result (λ event. IsStepped (spec.loading_as (state_of s.old) request bytes.now (first_broken bytes.now request.size)) s.old event s.new) }
-{
-    match Font::read(alloc, bytes.as_slice(), request.size) {
-        Ok(font) => {
-            let name = request.name;
-            add_font(
-                alloc,
-                s,
-                request.defined,
-                request.global,
-                NamedFont { name, font },
-            )
-        }
-        Err(FontError::BadFont { .. }) => Ok(fail(s, TexError::BadFont)),
-        Err(FontError::OutOfMemory(_)) => Err(AllocError),
-    }
-}
-
 /// Whether one more font can be loaded.
 fn has_room(fonts: &Fonts) -> bool
     ensures { result ≡ nat_lt (length fonts.now) 256 }
@@ -207,26 +161,53 @@ fn has_room(fonts: &Fonts) -> bool
 }
 
 /// Whether one more font of this name can be loaded.
-fn can_load(s: &State, name: &Bytes) -> bool
-    ensures { result ≡ spec.can_load (state_of s.now) name.now }
+fn can_load(words: &Words, name: &Bytes) -> bool
+    ensures { result ≡ (nat_lt (length words.now.fonts) 256 && nat_le (length name.now) 255) }
 {
-    has_room(s.words.fonts()) && name.len() <= LONGEST_NAME
+    has_room(words.fonts()) && name.len() <= LONGEST_NAME
 }
 
-/// The font of these bytes is loaded, if one more can be and they are those of one. Err is want of memory.
-fn load_from(
+/// A font more, with the hyphen and the skew character of the table; answers its number. Its only error is want of memory.
+fn add_font(
     alloc: Global,
-    s: &mut State,
-    request: FontRequest,
-    bytes: &Bytes,
-) -> Result<Event, AllocError>
-    requires { s.old.phase ≡ Phase.Running }
-    ensures { IfOk result (λ event. IsStepped (spec.loading_from (state_of s.old) request bytes.now) s.old event s.new) }
+    words: &mut Words,
+    table: &Eqtb,
+    font: NamedFont,
+) -> Result<u8, AllocError>
+    requires room { length words.old.fonts < 256 }
+    requires named { length font.name ≤ 255 }
+    ensures number { IfOk result (λ number. number ≡ length words.old.fonts) }
+    ensures words { OnOk result (words.new ≡ record words.old { fonts = words.old.fonts ++ loaded_state font (integer table.now.table IntegerParameter.Defaulthyphenchar) (integer table.now.table IntegerParameter.Defaultskewchar) ∷ [] }) }
 {
-    if can_load(s, &request.name) {
-        read_font(alloc, s, request, bytes)
-    } else {
-        Ok(fail(s, TexError::BadFont))
+    let hyphen = table.integer(IntegerParameter::Defaulthyphenchar);
+    let skew = table.integer(IntegerParameter::Defaultskewchar);
+    words.push(alloc, font, hyphen, skew)
+}
+
+/// The font of these bytes is loaded, if one more can be and they are those of one; answers its number then. Its only error is want
+/// of memory.
+fn read_font(
+    alloc: Global,
+    words: &mut Words,
+    table: &Eqtb,
+    name: Bytes,
+    size: Size,
+    bytes: &Bytes,
+) -> Result<Option<u8>, AllocError>
+    ensures { IfOk result (λ number. (s : State) (request : FontRequest) → s.words ≡ words.old → s.table ≡ table.now → request.name ≡ name → request.size ≡ size
+        → MatchOption number (spec.loading_from (state_of s) request bytes.now ≡ fails TexError.BadFont)
+        (λ n. spec.loading_from (state_of s) request bytes.now ≡ spec.naming_font (state_of (record s { words = words.new })) request.defined request.global n)) }
+{
+    if !can_load(words, &name) {
+        return Ok(None);
+    }
+    match Font::read(alloc, bytes.as_slice(), size) {
+        Ok(font) => {
+            let number = add_font(alloc, words, table, NamedFont { name, font })?;
+            Ok(Some(number))
+        }
+        Err(FontError::BadFont { .. }) => Ok(None),
+        Err(FontError::OutOfMemory(_)) => Err(AllocError),
     }
 }
 
@@ -236,19 +217,29 @@ pub fn load_font(alloc: Global, s: &mut State, request: FontRequest) -> Result<E
     requires { s.old.phase ≡ Phase.Running }
     ensures { IfOk result (λ event. IsStepped (spec.loading (state_of s.old) request request.file) s.old event s.new) }
 {
-    let mut request = request;
-    match mem::replace(&mut request.file, None) {
-        Some(bytes) => load_from(alloc, s, request, &bytes),
+    let FontRequest {
+        defined,
+        global,
+        name,
+        size,
+        file,
+    } = request;
+    let Some(bytes) = file else {
+        return Ok(fail(s, TexError::BadFont));
+    };
+    let loaded = read_font(alloc, &mut s.words, &s.table, name, size, &bytes)?;
+    match loaded {
+        Some(added) => name_font(alloc, s, defined, global, added),
         None => Ok(fail(s, TexError::BadFont)),
     }
 }
 
 /// The number of a font that a command names.
-fn number_of(s: &State, font: FontName) -> u8
-    ensures { result ≡ spec.number_of (state_of s.now) font }
+fn number_of(table: &Eqtb, font: FontName) -> u8
+    ensures { (s : State) → result ≡ spec.number_of (state_of (record s { table = table.now })) font }
 {
     match font {
-        FontName::Current => current_font(&s.table),
+        FontName::Current => current_font(table),
         FontName::Number(number) => number,
     }
 }
@@ -258,7 +249,7 @@ pub fn set_dimension(s: &mut State, font: FontName, n: u16, size: i32) -> Result
     requires { s.old.phase ≡ Phase.Running }
     ensures { IfOk result (λ event. IsStepped (spec.setting_fonts (state_of s.old) (with_font_parameter s.old.words.fonts (spec.number_of (state_of s.old) font) n size)) s.old event s.new) }
 {
-    let number = number_of(s, font);
+    let number = number_of(&s.table, font);
     s.words.set_parameter(number, n, size)?;
     end_assignment(s)
 }
@@ -273,7 +264,7 @@ pub fn set_integer(
     requires { s.old.phase ≡ Phase.Running }
     ensures { IfOk result (λ event. IsStepped (spec.setting_fonts (state_of s.old) (with_font_integer kind s.old.words.fonts (spec.number_of (state_of s.old) font) value)) s.old event s.new) }
 {
-    let number = number_of(s, font);
+    let number = number_of(&s.table, font);
     s.words.set_integer(kind, number, value)?;
     end_assignment(s)
 }
@@ -299,7 +290,7 @@ pub fn set_family(
     requires { s.old.phase ≡ Phase.Running }
     ensures { IfOk result (λ event. IsStepped (spec.setting_family (state_of s.old) size family font) s.old event s.new) }
 {
-    let number = number_of(s, font);
+    let number = number_of(&s.table, font);
     let global = s.scan.prefixes().global;
     carry_out_assignment(s, in_family(size, family, number), global)
 }

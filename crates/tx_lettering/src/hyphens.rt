@@ -1,8 +1,10 @@
 //! The texts of \patterns and \hyphenation (TeX: The Program, sections 934 to 940 and 960 to 963).
-ghost use Rattle.std.specs.Prelude.{◌≡◌, ◌∷◌, ◌++◌, [], true, false, Some, option_map, IfOk, OnOk};
+ghost use Rattle.std.specs.Prelude.{◌≡◌, ◌∷◌, ◌++◌, [], true, false, Some, option_map, if◌then◌else◌, IfOk, OnOk};
 ghost use Rattle.tx_eqtb.specs.Table.{token_meaning};
 ghost use Rattle.tx_lettering.specs.Hyphens as spec;
+ghost use Rattle.tx_state.specs.Ended.{assigned};
 ghost use Rattle.tx_state.specs.Meanings.{IsStepped, state_of};
+ghost use Rattle.tx_state.specs.Outcomes.{fails, leaves};
 
 use std::alloc::{AllocError, Global};
 use std::mem::replace;
@@ -11,6 +13,7 @@ use tx_char::{Cat, Token};
 use tx_eqtb::Eqtb;
 use tx_event::Event;
 use tx_hyphen::error::{ExceptionError, PatternError};
+use tx_hyphenate::Hyphenation;
 use tx_paragraph::lower_codes;
 use tx_prim::TextUse;
 use tx_seen::{Meaning, TexError};
@@ -80,66 +83,90 @@ fn words_of(
     Ok(Some(words))
 }
 
-/// Adds the patterns of these texts. Err is want of memory.
-fn add_patterns(alloc: Global, s: &mut State, texts: &[Bytes]) -> Result<Event, AllocError>
-    requires { s.old.phase ≡ Phase.Running }
-    ensures { IfOk result (λ event. IsStepped (spec.patterning (state_of s.old) (Some texts.now)) s.old event s.new) }
+/// Adds the patterns of these texts, unless one is wrong; answers whether it did. Its only error is want of memory.
+fn add_patterns(
+    alloc: Global,
+    known: &mut Hyphenation,
+    table: &Eqtb,
+    texts: &[Bytes],
+) -> Result<bool, AllocError>
+    ensures { IfOk result (λ added. (s : State) → s.hyphenation ≡ known.old → s.table ≡ table.now → spec.patterning (state_of s) (Some texts.now) ≡ (if added then leaves (assigned (state_of (record s { hyphenation = known.new }))) else fails TexError.BadHyphenation)) }
 {
-    let lower = lower_codes(alloc, &s.table)?;
-    match s.hyphenation.add_patterns(alloc, texts, lower.as_slice()) {
-        Ok(()) => end_assignment(s),
-        Err(PatternError::NotALetter | PatternError::Duplicate) => {
-            Ok(fail(s, TexError::BadHyphenation))
-        }
+    let lower = lower_codes(alloc, table)?;
+    match known.add_patterns(alloc, texts, lower.as_slice()) {
+        Ok(()) => Ok(true),
+        Err(PatternError::NotALetter | PatternError::Duplicate) => Ok(false),
         Err(PatternError::OutOfMemory) => Err(AllocError),
     }
 }
 
-/// Adds the exceptions of these words. Err is want of memory.
-fn add_exceptions(alloc: Global, s: &mut State, words: &[Bytes]) -> Result<Event, AllocError>
-    requires { s.old.phase ≡ Phase.Running }
-    ensures { IfOk result (λ event. IsStepped (spec.excepting (state_of s.old) (Some words.now)) s.old event s.new) }
+/// Adds the exceptions of these words, unless one is wrong; answers whether it did. Its only error is want of memory.
+fn add_exceptions(
+    alloc: Global,
+    known: &mut Hyphenation,
+    table: &Eqtb,
+    words: &[Bytes],
+) -> Result<bool, AllocError>
+    ensures { IfOk result (λ added. (s : State) → s.hyphenation ≡ known.old → s.table ≡ table.now → spec.excepting (state_of s) (Some words.now) ≡ (if added then leaves (assigned (state_of (record s { hyphenation = known.new }))) else fails TexError.BadHyphenation)) }
 {
-    let lower = lower_codes(alloc, &s.table)?;
-    match s.hyphenation.add_exceptions(alloc, words, lower.as_slice()) {
-        Ok(()) => end_assignment(s),
-        Err(ExceptionError::NotALetter) => Ok(fail(s, TexError::BadHyphenation)),
+    let lower = lower_codes(alloc, table)?;
+    match known.add_exceptions(alloc, words, lower.as_slice()) {
+        Ok(()) => Ok(true),
+        Err(ExceptionError::NotALetter) => Ok(false),
         Err(ExceptionError::OutOfMemory) => Err(AllocError),
     }
 }
 
-/// The text of \patterns that is whole. Err is want of memory.
-pub(crate) fn use_patterns(alloc: Global, s: &mut State, tokens: &Toks) -> Result<Event, AllocError>
-    requires { s.old.phase ≡ Phase.Running }
-    ensures { IfOk result (λ event. IsStepped (spec.patterning (state_of s.old) (spec.words_of s.old.table.table false tokens.now)) s.old event s.new) }
+/// Adds the patterns of the text of \patterns that is whole, unless it is wrong; answers whether it did. Its only error is want of
+/// memory.
+pub(crate) fn learn_patterns(
+    alloc: Global,
+    known: &mut Hyphenation,
+    table: &Eqtb,
+    tokens: &Toks,
+) -> Result<bool, AllocError>
+    ensures { IfOk result (λ added. (s : State) → s.hyphenation ≡ known.old → s.table ≡ table.now → spec.patterning (state_of s) (spec.words_of table.now.table false tokens.now) ≡ (if added then leaves (assigned (state_of (record s { hyphenation = known.new }))) else fails TexError.BadHyphenation)) }
 {
-    match words_of(alloc, &s.table, false, tokens.as_slice())? {
-        Some(texts) => add_patterns(alloc, s, texts.as_slice()),
-        None => Ok(fail(s, TexError::BadHyphenation)),
+    match words_of(alloc, table, false, tokens.as_slice())? {
+        Some(texts) => add_patterns(alloc, known, table, texts.as_slice()),
+        None => Ok(false),
     }
 }
 
-/// The text of \hyphenation that is whole. Err is want of memory.
-pub(crate) fn use_exceptions(
+/// Adds the exceptions of the text of \hyphenation that is whole, unless it is wrong; answers whether it did. Its only error is
+/// want of memory.
+pub(crate) fn learn_exceptions(
     alloc: Global,
-    s: &mut State,
+    known: &mut Hyphenation,
+    table: &Eqtb,
     tokens: &Toks,
-) -> Result<Event, AllocError>
-    requires { s.old.phase ≡ Phase.Running }
-    ensures { IfOk result (λ event. IsStepped (spec.excepting (state_of s.old) (spec.words_of s.old.table.table true tokens.now)) s.old event s.new) }
+) -> Result<bool, AllocError>
+    ensures { IfOk result (λ added. (s : State) → s.hyphenation ≡ known.old → s.table ≡ table.now → spec.excepting (state_of s) (spec.words_of table.now.table true tokens.now) ≡ (if added then leaves (assigned (state_of (record s { hyphenation = known.new }))) else fails TexError.BadHyphenation)) }
 {
-    match words_of(alloc, &s.table, true, tokens.as_slice())? {
-        Some(words) => add_exceptions(alloc, s, words.as_slice()),
-        None => Ok(fail(s, TexError::BadHyphenation)),
+    match words_of(alloc, table, true, tokens.as_slice())? {
+        Some(words) => add_exceptions(alloc, known, table, words.as_slice()),
+        None => Ok(false),
+    }
+}
+
+/// What is known of hyphenation has grown, or the text was wrong. Err is want of memory.
+pub(crate) fn end_learning(s: &mut State, learned: bool) -> Result<Event, AllocError>
+    requires { s.old.phase ≡ Phase.Running }
+    ensures { IfOk result (λ event. IsStepped (if learned then leaves (assigned (state_of s.old)) else fails TexError.BadHyphenation) s.old event s.new) }
+{
+    if learned {
+        end_assignment(s)
+    } else {
+        Ok(fail(s, TexError::BadHyphenation))
     }
 }
 
 /// Whether no text of this use can be taken any more: a paragraph began its second pass.
-pub(crate) fn is_late(s: &State, purpose: TextUse) -> bool
-    ensures { result ≡ spec.is_late s.now.hyphenation purpose }
+pub(crate) fn is_late(known: &Hyphenation, purpose: TextUse) -> bool
+    ensures { result ≡ spec.is_late known.now purpose }
 {
     match purpose {
-        TextUse::Patterns => s.hyphenation.used,
+        TextUse::Patterns => known.used,
         TextUse::Hyphenation => false,
         TextUse::Message | TextUse::ErrorMessage | TextUse::Special => false,
         TextUse::UpperCase | TextUse::LowerCase | TextUse::Mark => false,

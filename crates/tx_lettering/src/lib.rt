@@ -3,6 +3,9 @@
 //! Proved: what each command does to the state, what a text that is whole does, what comes of a font's file, and exactly when each
 //! error comes. Only tested: that this is what TeX does, on documents that Knuth's TeX sets alike.
 //!
+//! What touches a part or two of the state takes these, and its contract tells what comes of any state that has them: a signature
+//! with the whole state is dear to prove.
+//!
 //! Read `letters`, `hyphens`, `words`, `fonts` and `texts`.
 #![tactic(auto)]
 

@@ -8,7 +8,7 @@ ghost use Rattle.tx_state.specs.Outcomes.{leaves};
 ghost use Rattle.tx_state.specs.Meanings.{IsStepped, state_of};
 ghost use Rattle.tx_state.specs.Texts.{definition_text, is_global as global_kind};
 
-use crate::hyphens::{is_late, use_exceptions, use_patterns};
+use crate::hyphens::{end_learning, is_late, learn_exceptions, learn_patterns};
 use crate::letters::with_letters;
 use std::alloc::{AllocError, Global};
 use std::mem;
@@ -17,22 +17,24 @@ use tx_bytes::Bytes;
 use tx_char::ControlName;
 use tx_command::Prefixes;
 use tx_convert::text_of;
-use tx_eqtb::Entry;
+use tx_eqtb::{Entry, Eqtb};
 use tx_event::Event;
 use tx_expand::escape_of;
 use tx_node::{Node, Shared};
+use tx_pending::Pending;
 use tx_prim::{CharacterCode, DefinitionKind, Primitive, TextUse};
 use tx_seen::{Meaning, Place, TexError};
 use tx_state::{OpenText, Phase, State, add, carry_out_assignment, fail, is_global};
 use tx_text::{DefinitionScan, TextScan};
 use tx_toklist::{TokList, Toks};
+use tx_word::Words;
 
 /// This text is taken from now on.
-fn open_text(s: &mut State, text: OpenText)
-    ensures { s.new ≡ record s.old { text = Some text } }
+fn open_text(open: &mut Option<OpenText>, text: OpenText)
+    ensures { open.new ≡ Some text }
 {
     // (what stood there is dropped by a call)
-    drop(mem::replace(&mut s.text, Some(text)));
+    drop(mem::replace(open, Some(text)));
 }
 
 /// The list of tokens that is to stand at this place begins.
@@ -40,7 +42,7 @@ pub fn begin_list(alloc: Global, s: &mut State, place: Place) -> Event
     requires { s.old.phase ≡ Phase.Running }
     ensures { IsStepped (leaves (spec.in_list (state_of s.old) place)) s.old result s.new }
 {
-    open_text(s, OpenText::list(alloc, place));
+    open_text(&mut s.text, OpenText::list(alloc, place));
     Event::Went
 }
 
@@ -49,7 +51,7 @@ pub fn define_macro(alloc: Global, s: &mut State, defined: Place, kind: Definiti
     requires { s.old.phase ≡ Phase.Running }
     ensures { IsStepped (leaves (record (state_of s.old) { text = Some (definition_text defined kind) })) s.old result s.new }
 {
-    open_text(s, OpenText::definition(alloc, defined, kind));
+    open_text(&mut s.text, OpenText::definition(alloc, defined, kind));
     Event::Went
 }
 
@@ -58,10 +60,10 @@ pub fn begin_text(alloc: Global, s: &mut State, purpose: TextUse) -> Event
     requires { s.old.phase ≡ Phase.Running }
     ensures { IsStepped (spec.beginning_text (state_of s.old) purpose) s.old result s.new }
 {
-    if is_late(s, purpose) {
+    if is_late(&s.hyphenation, purpose) {
         return fail(s, TexError::BadHyphenation);
     }
-    open_text(s, OpenText::absorbed(alloc, purpose));
+    open_text(&mut s.text, OpenText::absorbed(alloc, purpose));
     Event::Went
 }
 
@@ -72,34 +74,20 @@ fn defines_globally(prefixes: Prefixes, kind: DefinitionKind) -> bool
     prefixes.global || is_global(kind)
 }
 
-/// The place means the macro of a definition that is whole. Err is want of memory.
-fn end_definition(
+/// The place of a definition that is whole means its macro, by the prefixes before it. Err is want of memory.
+fn definition_of(
     alloc: Global,
-    s: &mut State,
+    prefixes: Prefixes,
     defined: Place,
-    kind: DefinitionKind,
     scan: DefinitionScan,
-) -> Result<Event, AllocError>
-    requires { s.old.phase ≡ Phase.Running }
-    ensures { IfOk result (λ event. IsStepped (spec.defining (state_of s.old) defined kind scan) s.old event s.new) }
+) -> Result<Assignment, AllocError>
+    ensures { IfOk result (λ assignment. assignment ≡ record { place = defined; change = Change.Set (Entry.Means (Meaning.Macro (spec.macro_of prefixes scan))) }) }
 {
-    let prefixes = s.scan.prefixes();
-    let global = defines_globally(prefixes, kind);
     let made = scan.into_macro(alloc, prefixes.long, prefixes.outer)?;
-    let assignment = Assignment {
+    Ok(Assignment {
         place: defined,
         change: Change::Set(Entry::Means(Meaning::Macro(made))),
-    };
-    carry_out_assignment(s, assignment, global)
-}
-
-/// The list of tokens that is whole stands at this place. Err is want of memory.
-fn end_list(alloc: Global, s: &mut State, place: Place, scan: TextScan) -> Result<Event, AllocError>
-    requires { s.old.phase ≡ Phase.Running }
-    ensures { IfOk result (λ event. IsStepped (spec.listing (state_of s.old) place scan.tokens) s.old event s.new) }
-{
-    let global = s.scan.prefixes().global;
-    carry_out_assignment(s, with_text(alloc, place, scan.into_tokens())?, global)
+    })
 }
 
 /// Puts the line of a message into the transcript. Its only error is want of memory.
@@ -113,18 +101,23 @@ fn report_message(said: &mut Bytes, text: &[u8]) -> Result<(), AllocError>
 }
 
 /// Prints the text of \message. Err is want of memory.
-fn print_message(alloc: Global, s: &mut State, tokens: &Toks) -> Result<Event, AllocError>
-    requires { s.old.phase ≡ Phase.Running }
-    ensures { IfOk result (λ event. IsStepped (spec.printing (state_of s.old) tokens.now) s.old event s.new) }
+fn print_message(
+    alloc: Global,
+    table: &Eqtb,
+    words: &Words,
+    said: &mut Bytes,
+    tokens: &Toks,
+) -> Result<Event, AllocError>
+    ensures { (s : State) → s.phase ≡ Phase.Running → IfOk result (λ event. IsStepped (spec.printing (state_of (record s { table = table.now; words = words.now; said = said.old })) tokens.now) (record s { table = table.now; words = words.now; said = said.old }) event (record s { table = table.now; words = words.now; said = said.new })) }
 {
     let text = text_of(
         alloc,
         tokens.as_slice(),
-        escape_of(&s.table),
-        s.table.categories(),
-        s.words.fonts(),
+        escape_of(table),
+        table.categories(),
+        words.fonts(),
     )?;
-    report_message(&mut s.said, text.as_slice())?;
+    report_message(said, text.as_slice())?;
     Ok(Event::Went)
 }
 
@@ -157,16 +150,15 @@ fn add_mark(alloc: Global, s: &mut State, tokens: Toks) -> Result<Event, AllocEr
 /// The text of \uppercase or \lowercase is read next, with the letters that these codes tell. Err is want of memory.
 fn change_letters(
     alloc: Global,
-    s: &mut State,
+    table: &Eqtb,
+    input: &mut Pending,
     kind: CharacterCode,
     tokens: Toks,
 ) -> Result<Event, AllocError>
-    requires { s.old.phase ≡ Phase.Running }
-    ensures { IfOk result (λ event. IsStepped (spec.lettering (state_of s.old) kind tokens) s.old event s.new) }
+    ensures { (s : State) → s.phase ≡ Phase.Running → IfOk result (λ event. IsStepped (spec.lettering (state_of (record s { table = table.now; input = input.old })) kind tokens) (record s { table = table.now; input = input.old }) event (record s { table = table.now; input = input.new })) }
 {
-    let changed = with_letters(alloc, &s.table, kind, tokens)?;
-    s.input
-        .push_list(TokList::from_toks(alloc, changed)?, false)?;
+    let changed = with_letters(alloc, table, kind, tokens)?;
+    input.push_list(TokList::from_toks(alloc, changed)?, false)?;
     Ok(Event::Went)
 }
 
@@ -182,13 +174,31 @@ fn use_text(
 {
     let tokens = scan.into_tokens();
     match purpose {
-        TextUse::Message => print_message(alloc, s, &tokens),
+        TextUse::Message => print_message(alloc, &s.table, &s.words, &mut s.said, &tokens),
         TextUse::ErrorMessage => Ok(fail(s, TexError::ErrorMessage)),
-        TextUse::UpperCase => change_letters(alloc, s, CharacterCode::UpperCase, tokens),
-        TextUse::LowerCase => change_letters(alloc, s, CharacterCode::LowerCase, tokens),
+        TextUse::UpperCase => change_letters(
+            alloc,
+            &s.table,
+            &mut s.input,
+            CharacterCode::UpperCase,
+            tokens,
+        ),
+        TextUse::LowerCase => change_letters(
+            alloc,
+            &s.table,
+            &mut s.input,
+            CharacterCode::LowerCase,
+            tokens,
+        ),
         TextUse::Special => add_special(alloc, s, &tokens),
-        TextUse::Patterns => use_patterns(alloc, s, &tokens),
-        TextUse::Hyphenation => use_exceptions(alloc, s, &tokens),
+        TextUse::Patterns => {
+            let learned = learn_patterns(alloc, &mut s.hyphenation, &s.table, &tokens)?;
+            end_learning(s, learned)
+        }
+        TextUse::Hyphenation => {
+            let learned = learn_exceptions(alloc, &mut s.hyphenation, &s.table, &tokens)?;
+            end_learning(s, learned)
+        }
         TextUse::Mark => add_mark(alloc, s, tokens),
     }
 }
@@ -201,10 +211,16 @@ pub fn end_text(alloc: Global, s: &mut State) -> Result<Event, AllocError>
     match mem::replace(&mut s.text, None) {
         None => Ok(Event::Went),
         Some(OpenText::Definition(defined, kind, scan)) => {
-            end_definition(alloc, s, defined, kind, scan)
+            let prefixes = s.scan.prefixes();
+            let assignment = definition_of(alloc, prefixes, defined, scan)?;
+            carry_out_assignment(s, assignment, defines_globally(prefixes, kind))
         }
         Some(OpenText::Absorbed(purpose, scan)) => use_text(alloc, s, purpose, scan),
-        Some(OpenText::List(place, scan)) => end_list(alloc, s, place, scan),
+        Some(OpenText::List(place, scan)) => {
+            let global = s.scan.prefixes().global;
+            let assignment = with_text(alloc, place, scan.into_tokens())?;
+            carry_out_assignment(s, assignment, global)
+        }
     }
 }
 

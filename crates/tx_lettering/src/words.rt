@@ -1,25 +1,26 @@
 //! Characters, words, spaces and italic corrections in a list (TeX: The Program, sections 1030 to 1045, 1113 and 1243).
 ghost use Rattle.std.specs.Prelude.{◌≡◌, ◌≤◌, ◌++◌, Some, IfOk, OnOk};
+ghost use Rattle.tx_box.specs.Sources.{appended};
 ghost use Rattle.tx_state.specs.declared.parts.Phase.{Phase};
 ghost use Rattle.tx_hyphenate.specs.Lacking.{lacking_report};
 ghost use Rattle.tx_lettering.specs.Words as spec;
-ghost use Rattle.tx_nest.specs.Factors.{factor_of};
 ghost use Rattle.tx_word.specs.Collecting.{collected};
 ghost use Rattle.tx_word.specs.Factors.{factor_behind as factor_behind_code};
-ghost use Rattle.tx_word.specs.Italics.{last_italic as italic_of_last};
 ghost use Rattle.tx_state.specs.Meanings.{IsStepped, state_of};
 
 use std::alloc::{AllocError, Global};
+use tx_box::Lists;
+use tx_bytes::Bytes;
 use tx_eqtb::Eqtb;
 use tx_event::Event;
 use tx_hyphenate::{report_lacking, report_missing};
-use tx_nest::{ModeState, SpaceFactor, append_item, set_space_factor};
+use tx_nest::{ModeState, Nest, SpaceFactor, append_item, set_space_factor};
 use tx_node::{KernKind, Node, Plain};
 use tx_prim::GlueParameter;
 use tx_seen::{Place, Seen, TexError};
 use tx_state::{State, add, end_assignment, fail};
 use tx_word::{
-    HyphenPoint, WordParams, discretionary_hyphen, factor_behind, last_italic, space_between,
+    HyphenPoint, WordParams, Words, discretionary_hyphen, factor_behind, last_italic, space_between,
 };
 
 /// The number of the current font; 0 is that of \nullfont.
@@ -61,10 +62,10 @@ pub fn factor_now(s: &State) -> Option<SpaceFactor>
 }
 
 /// Whether the list that is being built is that of a paragraph.
-fn in_paragraph(s: &State) -> bool
-    ensures { result ≡ spec.in_paragraph (state_of s.now) }
+fn in_paragraph(nest: &Nest) -> bool
+    ensures { result ≡ spec.is_paragraph nest.now.innermost.state }
 {
-    match s.lists.nest.innermost().state {
+    match nest.innermost().state {
         ModeState::Horizontal(_) => true,
         ModeState::Vertical(_) | ModeState::InternalVertical(_) => false,
         ModeState::RestrictedHorizontal(_) | ModeState::Math | ModeState::DisplayMath => false,
@@ -78,7 +79,7 @@ pub fn end_word(alloc: Global, s: &mut State) -> Result<(), AllocError>
     ensures phase { OnOk result (s.new.phase ≡ s.old.phase) }
     ensures said { OnOk result (s.new.said ≡ s.old.said) }
 {
-    let in_paragraph = in_paragraph(s);
+    let in_paragraph = in_paragraph(&s.lists.nest);
     s.words
         .end(alloc, &mut s.lists.nest.top().nodes, in_paragraph)
 }
@@ -112,31 +113,25 @@ pub fn pass_factor(s: &mut State, factor: SpaceFactor, code: u8)
 /// is want of memory.
 fn gather(
     alloc: Global,
-    s: &mut State,
+    words: &mut Words,
+    lists: &mut Lists,
     in_paragraph: bool,
     font: u8,
     code: u8,
 ) -> Result<Option<u8>, AllocError>
-    ensures lacking { IfOk result (λ lacking. lacking ≡ (collected s.old.words in_paragraph font code).lacking) }
-    ensures state { OnOk result (state_of s.new ≡ spec.gathered (state_of s.old) in_paragraph font code) }
-    ensures phase { OnOk result (s.new.phase ≡ s.old.phase) }
-    ensures said { OnOk result (s.new.said ≡ s.old.said) }
+    ensures lacking { IfOk result (λ lacking. lacking ≡ (collected words.old in_paragraph font code).lacking) }
+    ensures lists { OnOk result (lists.new ≡ appended lists.old (collected words.old in_paragraph font code).items) }
+    ensures words { OnOk result (words.new ≡ (collected words.old in_paragraph font code).words) }
 {
-    s.words.collect(
-        alloc,
-        &mut s.lists.nest.top().nodes,
-        in_paragraph,
-        font,
-        code,
-    )
+    words.collect(alloc, &mut lists.nest.top().nodes, in_paragraph, font, code)
 }
 
 /// Reports a character, if a font lacks it. Its only error is want of memory.
-fn report(s: &mut State, code: u8, lacking: Option<u8>) -> Result<(), AllocError>
-    ensures { OnOk result (s.new ≡ record s.old { said = s.old.said ++ spec.report_of (state_of s.old) code lacking }) }
+fn report(said: &mut Bytes, words: &Words, code: u8, lacking: Option<u8>) -> Result<(), AllocError>
+    ensures { OnOk result ((s : State) → said.new ≡ said.old ++ spec.report_of (state_of (record s { words = words.now })) code lacking) }
 {
     match lacking {
-        Some(font) => report_missing(&mut s.said, code, s.words.fonts().name(font)),
+        Some(font) => report_missing(said, code, words.fonts().name(font)),
         None => Ok(()),
     }
 }
@@ -152,10 +147,10 @@ pub fn collect(
     ensures { IfOk result (λ event. IsStepped (spec.collecting (state_of s.old) code factor) s.old event s.new) }
 {
     let font = current_font(&s.table);
-    let in_paragraph = in_paragraph(s);
+    let in_paragraph = in_paragraph(&s.lists.nest);
     pass_factor(s, factor, code);
-    let lacking = gather(alloc, s, in_paragraph, font, code)?;
-    report(s, code, lacking)?;
+    let lacking = gather(alloc, &mut s.words, &mut s.lists, in_paragraph, font, code)?;
+    report(&mut s.said, &s.words, code, lacking)?;
     Ok(Event::Went)
 }
 
@@ -192,67 +187,42 @@ pub fn control_space(s: &mut State) -> Result<Event, AllocError>
     space_at(s, SpaceFactor::plain())
 }
 
-/// The kern of `\/` in a horizontal list, where a character or a ligature stands last. Err is want of memory.
-fn add_italic(s: &mut State) -> Result<Event, AllocError>
+/// `\/`: behind a character or a ligature of a horizontal list its kern. Err is want of memory.
+pub fn correct_italic(s: &mut State) -> Result<Event, AllocError>
     requires { s.old.phase ≡ Phase.Running }
-    ensures { IfOk result (λ event. IsStepped (spec.kerning (state_of s.old) (italic_of_last s.old.words.fonts s.old.lists.nest.innermost.nodes)) s.old event s.new) }
+    ensures { IfOk result (λ event. IsStepped (spec.correcting (state_of s.old) (spec.factor_now (state_of s.old))) s.old event s.new) }
 {
+    if factor_now(s).is_none() {
+        return add(s, Node::Plain(Plain::Kern(KernKind::Implicit, 0)));
+    }
     match last_italic(s.words.fonts(), &s.lists.nest.innermost().nodes) {
         Some(size) => add(s, Node::Plain(Plain::Kern(KernKind::Explicit, size))),
         None => Ok(Event::Went),
     }
 }
 
-/// `\/`. Err is want of memory.
-pub fn correct_italic(s: &mut State) -> Result<Event, AllocError>
-    requires { s.old.phase ≡ Phase.Running }
-    ensures { IfOk result (λ event. IsStepped (spec.correcting (state_of s.old) (spec.factor_now (state_of s.old))) s.old event s.new) }
-{
-    match factor_now(s) {
-        Some(_) => add_italic(s),
-        None => add(s, Node::Plain(Plain::Kern(KernKind::Implicit, 0))),
-    }
-}
-
 /// Reports the hyphen character that a font lacks, if it does. Its only error is want of memory.
-fn report_hyphen(s: &mut State, font: u8, lacking: Option<u8>) -> Result<(), AllocError>
-    ensures { OnOk result (s.new ≡ record s.old { said = s.old.said ++ lacking_report (state_of s.old).words.fonts font lacking }) }
+fn report_hyphen(
+    said: &mut Bytes,
+    words: &Words,
+    font: u8,
+    lacking: Option<u8>,
+) -> Result<(), AllocError>
+    ensures { OnOk result (said.new ≡ said.old ++ lacking_report words.now.fonts font lacking) }
 {
-    report_lacking(&mut s.said, s.words.fonts(), font, lacking)
+    report_lacking(said, words.fonts(), font, lacking)
 }
 
-/// A place in the list where a word may be broken. Err is want of memory.
-fn add_break(alloc: Global, s: &mut State) -> Result<Event, AllocError>
-    requires { s.old.phase ≡ Phase.Running }
-    ensures { IfOk result (λ event. IsStepped (spec.breaking_in (state_of s.old) (spec.current_font s.old.table.table)) s.old event s.new) }
-{
-    let font = current_font(&s.table);
-    let HyphenPoint { node, lacking } = discretionary_hyphen(alloc, s.words.fonts(), font)?;
-    append_item(s.lists.nest.top(), node)?;
-    report_hyphen(s, font, lacking)?;
-    Ok(Event::Went)
-}
-
-/// `\-`. Err is want of memory.
+/// `\-`: a place in the list where a word may be broken. Err is want of memory.
 pub fn break_word(alloc: Global, s: &mut State) -> Result<Event, AllocError>
     requires { s.old.phase ≡ Phase.Running }
     ensures { IfOk result (λ event. IsStepped (spec.breaking (state_of s.old)) s.old event s.new) }
 {
-    add_break(alloc, s)
-}
-
-/// The number is the space factor of a horizontal list. Err is want of memory.
-fn set_factor_to(s: &mut State, number: i32) -> Result<Event, AllocError>
-    requires { s.old.phase ≡ Phase.Running }
-    ensures { IfOk result (λ event. IsStepped (spec.setting_factor (state_of s.old) (factor_of number)) s.old event s.new) }
-{
-    match SpaceFactor::try_new(number) {
-        Some(factor) => {
-            set_space_factor(s.lists.nest.top(), factor);
-            end_assignment(s)
-        }
-        None => Ok(fail(s, TexError::NumberOutOfRange)),
-    }
+    let font = current_font(&s.table);
+    let HyphenPoint { node, lacking } = discretionary_hyphen(alloc, s.words.fonts(), font)?;
+    append_item(s.lists.nest.top(), node)?;
+    report_hyphen(&mut s.said, &s.words, font, lacking)?;
+    Ok(Event::Went)
 }
 
 /// An assignment to \spacefactor, which only horizontal lists have. Err is want of memory; the event may end the run by an error,
@@ -261,9 +231,14 @@ pub fn set_factor(s: &mut State, number: i32) -> Result<Event, AllocError>
     requires { s.old.phase ≡ Phase.Running }
     ensures { IfOk result (λ event. IsStepped (spec.setting_factor_of (state_of s.old) number (spec.factor_now (state_of s.old))) s.old event s.new) }
 {
-    if factor_now(s).is_some() {
-        set_factor_to(s, number)
-    } else {
-        Ok(fail(s, TexError::NotAllowed))
+    if factor_now(s).is_none() {
+        return Ok(fail(s, TexError::NotAllowed));
+    }
+    match SpaceFactor::try_new(number) {
+        Some(factor) => {
+            set_space_factor(s.lists.nest.top(), factor);
+            end_assignment(s)
+        }
+        None => Ok(fail(s, TexError::NumberOutOfRange)),
     }
 }

@@ -18,8 +18,8 @@ use tx_boxing::{
     set_dead_cycles, set_depth, set_graf, set_page, split, take_box, unbox, use_box,
 };
 use tx_char::Token;
-use tx_command::{AtOnce, Command, Head, Prefixes, SizeUse};
-use tx_eqtb::GroupKind;
+use tx_command::{AtOnce, Command, CommandScan, Head, Prefixes, SizeUse};
+use tx_eqtb::{Eqtb, GroupKind};
 use tx_event::Event;
 use tx_formula::{
     add_noad, begin_atom, begin_choice, begin_script, divide, end_choice, end_part, open_formula,
@@ -59,13 +59,12 @@ fn with_prefix(prefixes: Prefixes, prefix: Prefix) -> Prefixes
 }
 
 /// A prefix.
-fn prefix(s: &mut State, prefix: Prefix) -> Event
-    requires running { s.old.phase ≡ Phase.Running }
-    requires between { s.old.scan.taken ≡ [] }
-    ensures { IsStepped (effects.effect (state_of s.old) (Command.Prefix prefix)) s.old result s.new }
+fn prefix(scan: &mut CommandScan, prefix: Prefix) -> Event
+    requires { scan.old.taken ≡ [] }
+    ensures { (s : State) → s.phase ≡ Phase.Running → IsStepped (effects.effect (state_of (record s { scan = scan.old })) (Command.Prefix prefix)) (record s { scan = scan.old }) result (record s { scan = scan.new }) }
 {
-    let prefixes = with_prefix(s.scan.prefixes(), prefix);
-    s.scan.begin_behind(Head::Prefixed(prefixes));
+    let prefixes = with_prefix(scan.prefixes(), prefix);
+    scan.begin_behind(Head::Prefixed(prefixes));
     Event::Went
 }
 
@@ -104,27 +103,31 @@ fn assign(alloc: Global, s: &mut State, assignment: Assignment) -> Result<Event,
 }
 
 /// \futurelet and the name that it defines.
-fn define_future(s: &mut State, defined: Place) -> Event
-    requires running { s.old.phase ≡ Phase.Running }
-    requires between { s.old.scan.taken ≡ [] }
-    ensures { IsStepped (effects.effect (state_of s.old) (Command.DefineFuture defined)) s.old result s.new }
+fn define_future(scan: &mut CommandScan, defined: Place) -> Event
+    requires { scan.old.taken ≡ [] }
+    ensures { (s : State) → s.phase ≡ Phase.Running → IsStepped (effects.effect (state_of (record s { scan = scan.old })) (Command.DefineFuture defined)) (record s { scan = scan.old }) result (record s { scan = scan.new }) }
 {
-    let prefixes = s.scan.prefixes();
-    s.scan.begin_behind(Head::Future(prefixes, defined));
+    let prefixes = scan.prefixes();
+    scan.begin_behind(Head::Future(prefixes, defined));
     Event::Went
 }
 
 /// The token of \aftergroup or \afterassignment is kept. Its only error is want of memory.
-fn keep(s: &mut State, kind: AfterKind, token: Token) -> Result<Event, AllocError>
-    requires { s.old.phase ≡ Phase.Running }
-    ensures { IfOk result (λ event. IsStepped (effects.effect (state_of s.old) (Command.Keep kind token)) s.old event s.new) }
+fn keep(
+    table: &Eqtb,
+    after_groups: &mut tx_list::Stack<KeptToken>,
+    after_assignment: &mut Option<Token>,
+    kind: AfterKind,
+    token: Token,
+) -> Result<Event, AllocError>
+    ensures { (s : State) → s.phase ≡ Phase.Running → IfOk result (λ event. IsStepped (effects.effect (state_of (record s { table = table.now; after_groups = after_groups.old; after_assignment = after_assignment.old })) (Command.Keep kind token)) (record s { table = table.now; after_groups = after_groups.old; after_assignment = after_assignment.old }) event (record s { table = table.now; after_groups = after_groups.new; after_assignment = after_assignment.new })) }
 {
     match kind {
-        AfterKind::Assignment => s.after_assignment = Some(token),
+        AfterKind::Assignment => *after_assignment = Some(token),
         AfterKind::Group => {
-            let groups = s.table.depth();
+            let groups = table.depth();
             if groups > 0 {
-                s.after_groups.push(KeptToken { groups, token })?;
+                after_groups.push(KeptToken { groups, token })?;
             }
         }
     }
@@ -178,12 +181,11 @@ fn skip(alloc: Global, s: &mut State, glue: Glue) -> Result<Event, AllocError>
 }
 
 /// \leaders or its kin and the rule that they repeat: glue is to follow.
-fn begin_leaders(s: &mut State, kind: LeadersKind, rule: Rule) -> Event
-    requires running { s.old.phase ≡ Phase.Running }
-    requires between { s.old.scan.taken ≡ [] }
-    ensures { IsStepped (effects.effect (state_of s.old) (Command.BeginLeaders kind rule)) s.old result s.new }
+fn begin_leaders(scan: &mut CommandScan, kind: LeadersKind, rule: Rule) -> Event
+    requires { scan.old.taken ≡ [] }
+    ensures { (s : State) → s.phase ≡ Phase.Running → IsStepped (effects.effect (state_of (record s { scan = scan.old })) (Command.BeginLeaders kind rule)) (record s { scan = scan.old }) result (record s { scan = scan.new }) }
 {
-    s.scan.begin_behind(Head::Leading(kind, rule));
+    scan.begin_behind(Head::Leading(kind, rule));
     Event::Went
 }
 
@@ -293,7 +295,7 @@ fn carry_out(alloc: Global, s: &mut State, command: Command) -> Result<Event, Al
         Command::MathSkip(glue) => add_noad(alloc, s, Noad::Plain(PlainNoad::Glue(glue))),
         Command::Nonscript => add_noad(alloc, s, Noad::Plain(PlainNoad::Nonscript)),
         Command::SetFamily(size, family, font) => set_family(s, size, family, font),
-        Command::Prefix(found) => Ok(prefix(s, found)),
+        Command::Prefix(found) => Ok(prefix(&mut s.scan, found)),
         Command::Define(defined, kind) => define(s, defined, kind),
         Command::Assign(assignment) => assign(alloc, s, assignment),
         Command::Sized(size_use, size) => use_size(alloc, s, size_use, size),
@@ -306,7 +308,7 @@ fn carry_out(alloc: Global, s: &mut State, command: Command) -> Result<Event, Al
         Command::Penalize(number) => penalize(alloc, s, number),
         Command::SplitBox(number, size, context) => split(alloc, s, number, size, context),
         Command::Skip(glue) => skip(alloc, s, glue),
-        Command::BeginLeaders(kind, rule) => Ok(begin_leaders(s, kind, rule)),
+        Command::BeginLeaders(kind, rule) => Ok(begin_leaders(&mut s.scan, kind, rule)),
         Command::SetDepth(depth) => set_depth(s, depth),
         Command::SetFactor(number) => set_factor(s, number),
         Command::SetPrevGraf(number) => set_graf(s, number),
@@ -329,8 +331,14 @@ fn carry_out(alloc: Global, s: &mut State, command: Command) -> Result<Event, Al
         Command::Interact(_) => end_assignment(s),
         Command::DefineMacro(defined, kind) => Ok(define_macro(alloc, s, defined, kind)),
         Command::BeginText(purpose) => Ok(begin_text(alloc, s, purpose)),
-        Command::DefineFuture(defined) => Ok(define_future(s, defined)),
-        Command::Keep(kind, token) => keep(s, kind, token),
+        Command::DefineFuture(defined) => Ok(define_future(&mut s.scan, defined)),
+        Command::Keep(kind, token) => keep(
+            &s.table,
+            &mut s.after_groups,
+            &mut s.after_assignment,
+            kind,
+            token,
+        ),
     }
 }
 
@@ -377,7 +385,7 @@ pub(crate) fn take_at_once(alloc: Global, s: &mut State, found: AtOnce) -> Resul
         AtOnce::Script(part) => begin_script(alloc, s, part),
         AtOnce::MathCharacter(number) => set_number(alloc, s, i32::from(number)),
         AtOnce::Nothing => Ok(Event::Went),
-        AtOnce::Prefix(found) => Ok(prefix(s, found)),
+        AtOnce::Prefix(found) => Ok(prefix(&mut s.scan, found)),
         AtOnce::EndParagraph => end_paragraph(alloc, s),
         AtOnce::Indent(how) => indent(alloc, s, how),
         AtOnce::ControlSpace => control_space(s),

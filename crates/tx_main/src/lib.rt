@@ -6,6 +6,9 @@
 //! stands in tx_lettering, for characters, words, fonts and texts, in tx_boxing, for boxes, groups, pages and paragraphs, in
 //! tx_formula, for formulas, and in tx_aligning, for alignments.
 //!
+//! What touches a part or two of the state takes these, and its contract tells what comes of any state that has them: a signature
+//! with the whole state is dear to prove.
+//!
 //! Read `effects`, `page` and `turn`; `going` and `main_loop`, turns at one go; and `machine`.
 #![tactic(auto)]
 

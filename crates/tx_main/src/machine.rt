@@ -21,7 +21,7 @@ use tx_files::Name;
 use tx_hyphenate::Hyphenation;
 use tx_list::{Stack, both};
 use tx_machine::{Date, Machine, Passed, Steps};
-use tx_state::{Due, State, same_state, share_state};
+use tx_state::{Due, Phase, State, same_state, share_state};
 use tx_tfm::Fonts;
 use tx_word::Words;
 
@@ -76,7 +76,10 @@ impl Machine for Tex {
 
     #[tactic(auto, unfolding(crate::specs::Turns::tex))]
     fn cost(&self, s: &State) -> u64 {
-        turn::cost(s)
+        match s.phase {
+            Phase::Running => turn::due_cost(&s.due),
+            _ => 1,
+        }
     }
 
     #[tactic(auto, unfolding(crate::specs::Turns::tex))]

@@ -4,18 +4,17 @@
 //! a text that is open, within its braces (sections 473 and 477), an argument (section 392), or text that is skipped (section 494),
 //! as long as nothing of these ends; and a command that is begun, such as the number of an assignment, up to the one behind which
 //! it is whole.
-ghost use Rattle.std.specs.Prelude.{◌≡◌, ◌<◌, ◌≤◌, ◌∷◌, [], true, None, Some, length, IsTrue, IfOk, IfSome, OnOk, OnErr};
+ghost use Rattle.std.specs.Prelude.{◌≡◌, ◌<◌, ◌≤◌, [], true, false, None, Some, length, IsTrue, IfOk, IfSome, OnOk, OnErr};
+ghost use Rattle.tx_command.specs.Commands.{is_begun};
 ghost use Rattle.tx_event.specs.Turns.{Ready};
 ghost use Rattle.tx_machine.specs.Plain.{HasPassed, HasRunOn, IsLast, last_turns, turns_of};
 ghost use Rattle.tx_machine.specs.Steps.{raised};
-ghost use Rattle.tx_node.specs.Items.{plain};
 ghost use Rattle.tx_pending.specs.Plain.{IsNext};
-ghost use Rattle.tx_tfm.specs.Fonts.{has_character};
-ghost use Rattle.tx_word.specs.Collecting.{font_of};
-ghost use Rattle.tx_main.specs.Going.{GoesOn, HasRun, HasTurned, IsCommanding, IsGoing, IsIdle, IsNextOf, IsReading};
-ghost use Rattle.tx_main.specs.MainLoop.{AwaitsToken, IsLooping, lettered, spaced};
+ghost use Rattle.tx_prim.specs.Modes.{holds};
+ghost use Rattle.tx_main.specs.Going.{GoesOn, HasRun, HasTurned, IsCommanding, IsGoing, IsNextOf, IsReading};
+ghost use Rattle.tx_main.specs.MainLoop.{IsLooping, spaced};
 ghost use Rattle.tx_main.specs.Turns.{tex};
-ghost use Rattle.tx_lettering.specs.Words.{factor_now as factor_of_list, with_more};
+ghost use Rattle.tx_lettering.specs.Words.{factor_now as factor_of_list};
 ghost use Rattle.tx_state.specs.declared.parts.Phase.{Phase};
 ghost use Rattle.tx_state.specs.Meanings.{meaning_of, state_of};
 ghost use Rattle.tx_state.specs.State.{mode_of};
@@ -24,48 +23,32 @@ ghost use Rattle.tx_state.specs.Texts.{HasJoinedSome};
 use crate::going::Going;
 use crate::turn::{feed_on, read};
 use std::alloc::{AllocError, Global};
+use tx_bytes::Bytes;
 use tx_char::Token;
+use tx_command::{CommandScan, Head};
+use tx_eqtb::Eqtb;
 use tx_event::Event;
+use tx_expand::Expander;
 use tx_lettering::{current_font, end_word, factor_now, pass_factor, word_params};
 use tx_lex::{PlainToken, ReadState};
 use tx_machine::{Passed, Steps};
 use tx_nest::{SpaceFactor, append_item};
 use tx_node::{Node, Plain};
 use tx_num::Glue;
+use tx_pending::Pending;
 use tx_prim::ModeTest;
 use tx_seen::{Meaning, Seen};
 use tx_state::{OpenText, State};
 use tx_word::space_between;
 
 /// Whether the token that is read next is for a command of which nothing is taken, in a horizontal list.
-fn awaits_token(s: &State) -> bool
-    requires idle { IsIdle s.now }
-    requires text { s.now.text ≡ None }
-    ensures { IsTrue result → AwaitsToken (state_of s.now) }
+fn awaits_token(scan: &CommandScan) -> bool
+    ensures { IsTrue result → ((scan.now.head ≡ Head.Fresh) × ((is_begun scan.now.taken ≡ false) × (holds ModeTest.Horizontal scan.now.mode ≡ true))) }
 {
-    if s.scan.is_begun() || !s.scan.is_fresh() {
+    if scan.is_begun() || !scan.is_fresh() {
         return false;
     }
-    ModeTest::Horizontal.holds(s.scan.mode())
-}
-
-/// A character that its font has is passed and joins the word, in a list of this space factor. Its only error is want of memory.
-fn join_letter(
-    alloc: Global,
-    s: &mut State,
-    font: u8,
-    factor: SpaceFactor,
-    code: u8,
-) -> Result<(), AllocError>
-    requires { has_character s.old.words.fonts (font_of s.old.words.word font) code ≡ true }
-    ensures state { OnOk result (state_of s.new ≡ lettered (state_of s.old) font factor code) }
-    ensures phase { OnOk result (s.new.phase ≡ s.old.phase) }
-    ensures said { OnOk result (s.new.said ≡ s.old.said) }
-{
-    s.words.join(alloc, font, code)?;
-    s.input.pass_first(ReadState::M);
-    pass_factor(s, factor, code);
-    Ok(())
+    ModeTest::Horizontal.holds(scan.mode())
 }
 
 /// Takes a turn of the character that comes next, if its font has it, and answers whether that is so; else nothing changes. Its
@@ -85,17 +68,10 @@ fn set_letter(
     if !s.words.has_next(font, code) {
         return Ok(false);
     }
-    join_letter(alloc, s, font, factor, code)?;
+    s.words.join(alloc, font, code)?;
+    s.input.pass_first(ReadState::M);
+    pass_factor(s, factor, code);
     Ok(true)
-}
-
-/// Appends glue. Its only error is want of memory.
-fn add_glue(s: &mut State, glue: Glue) -> Result<(), AllocError>
-    ensures state { OnOk result (state_of s.new ≡ with_more (state_of s.old) (plain (Plain.Glue glue) ∷ [])) }
-    ensures phase { OnOk result (s.new.phase ≡ s.old.phase) }
-    ensures said { OnOk result (s.new.said ≡ s.old.said) }
-{
-    append_item(s.lists.nest.top(), Node::Plain(Plain::Glue(glue)))
 }
 
 /// A space is passed, ends the word, and is this glue. Its only error is want of memory.
@@ -106,7 +82,7 @@ fn put_space(alloc: Global, s: &mut State, glue: Glue) -> Result<(), AllocError>
 {
     s.input.pass_first(ReadState::S);
     end_word(alloc, s)?;
-    add_glue(s, glue)
+    append_item(s.lists.nest.top(), Node::Plain(Plain::Glue(glue)))
 }
 
 /// Takes a turn of the space that comes next, if its glue has sizes that are dimensions, and answers whether that is so; else
@@ -130,28 +106,19 @@ fn set_space(
     Ok(true)
 }
 
-/// Takes a turn of what comes next in a list of this space factor, and answers whether it was a character that joins the word, or
-/// a space; else nothing changes. Its only error is want of memory.
-fn set_next(alloc: Global, s: &mut State, font: u8, factor: SpaceFactor) -> Result<bool, AllocError>
+/// Takes a turn of the character that comes next, if it joins the word or is a space, and answers whether that is so; else nothing
+/// changes, as in a list without a space factor. Its only error is want of memory.
+fn set_next(alloc: Global, s: &mut State, font: u8, first: PlainToken) -> Result<bool, AllocError>
     requires looping { IsLooping s.old font }
-    requires factor { factor_of_list (state_of s.old) ≡ Some factor }
+    requires comes { IsNext s.old.table.table.categories s.old.input first }
     ensures { IfOk result (λ went. GoesOn went (Going.Letters font) s.old s.new) }
 {
-    match s.input.first_plain(s.table.categories()) {
-        Some(PlainToken::Set(code)) => set_letter(alloc, s, font, factor, code),
-        Some(PlainToken::Blank) => set_space(alloc, s, font, factor),
-        None => Ok(false),
-    }
-}
-
-/// The same in any list: in one without a space factor nothing changes.
-fn set_on(alloc: Global, s: &mut State, font: u8) -> Result<bool, AllocError>
-    requires { IsLooping s.old font }
-    ensures { IfOk result (λ went. GoesOn went (Going.Letters font) s.old s.new) }
-{
-    match factor_now(s) {
-        Some(factor) => set_next(alloc, s, font, factor),
-        None => Ok(false),
+    let Some(factor) = factor_now(s) else {
+        return Ok(false);
+    };
+    match first {
+        PlainToken::Set(code) => set_letter(alloc, s, font, factor, code),
+        PlainToken::Blank => set_space(alloc, s, font, factor),
     }
 }
 
@@ -203,40 +170,19 @@ fn taking_goes_on(s: &mut State, first: PlainToken) -> Result<bool, AllocError>
     Ok(true)
 }
 
-/// Takes a turn of what comes next, if it is a character with which the open text goes on, and answers whether that is so; else
-/// nothing changes. Its only error is want of memory.
-#[inline(always)]
-fn read_text(s: &mut State) -> Result<bool, AllocError>
-    requires { IsGoing Going.Text s.old }
-    ensures { IfOk result (λ went. GoesOn went Going.Text s.old s.new) }
-{
-    match s.input.first_plain(s.table.categories()) {
-        Some(first) => text_goes_on(s, first),
-        None => Ok(false),
-    }
-}
-
-/// The same of an argument or skipped text.
-#[inline(always)]
-fn read_within(s: &mut State) -> Result<bool, AllocError>
-    requires { IsGoing Going.Within s.old }
-    ensures { IfOk result (λ went. GoesOn went Going.Within s.old s.new) }
-{
-    match s.input.first_plain(s.table.categories()) {
-        Some(first) => taking_goes_on(s, first),
-        None => Ok(false),
-    }
-}
-
-/// The same of any of them.
+/// Takes a turn of what comes next, if it is a character with which this goes on, and answers whether that is so; else nothing
+/// changes. Its only error is want of memory.
 fn go_on(alloc: Global, s: &mut State, going: Going) -> Result<bool, AllocError>
     requires { IsGoing going s.old }
     ensures { IfOk result (λ went. GoesOn went going s.old s.new) }
 {
+    let Some(first) = s.input.first_plain(s.table.categories()) else {
+        return Ok(false);
+    };
     match going {
-        Going::Letters(font) => set_on(alloc, s, font),
-        Going::Text => read_text(s),
-        Going::Within => read_within(s),
+        Going::Letters(font) => set_next(alloc, s, font, first),
+        Going::Text => text_goes_on(s, first),
+        Going::Within => taking_goes_on(s, first),
     }
 }
 
@@ -278,7 +224,7 @@ fn going_of(s: &State) -> Option<Going>
     if s.text.is_some() {
         return Some(Going::Text);
     }
-    if awaits_token(s) {
+    if awaits_token(&s.scan) {
         return Some(Going::Letters(current_font(&s.table)));
     }
     None
@@ -286,24 +232,23 @@ fn going_of(s: &State) -> Option<Going>
 
 /// Whether what is read next joins the open command, which is begun.
 #[inline(always)]
-fn is_commanding(s: &State) -> bool
-    requires { IsReading s.now }
-    ensures { IsTrue result → IsCommanding s.now }
+fn is_commanding(scan: &CommandScan, text: &Option<OpenText>, expander: &Expander) -> bool
+    ensures { IsTrue result → ((text.now ≡ None) × (expander.now.begun ≡ [])) }
 {
-    if !s.scan.is_begun() || s.text.is_some() {
+    if !scan.is_begun() || text.is_some() {
         return false;
     }
-    s.expander.is_idle()
+    expander.is_idle()
 }
 
 /// The character that comes next, if the open command is begun: it joins that.
-fn next_of_command(s: &State) -> Option<PlainToken>
-    ensures { IfSome result (IsNextOf s.now) }
+fn next_of_command(scan: &CommandScan, input: &Pending, table: &Eqtb) -> Option<PlainToken>
+    ensures { IfSome result (λ first. (is_begun scan.now.taken ≡ true) × IsNext table.now.table.categories input.now first) }
 {
-    if !s.scan.is_begun() {
+    if !scan.is_begun() {
         return None;
     }
-    s.input.first_plain(s.table.categories())
+    input.first_plain(table.categories())
 }
 
 /// Takes the turn of the character that comes next, which joins the open command. Answers what comes of it if the command is whole
@@ -340,7 +285,7 @@ fn run_command(
     ensures bound { OnErr result (HasPassed tex most (meaning_of s.old) steps.old steps.new) }
 {
     for count in 0..most {
-        let Some(first) = next_of_command(s) else {
+        let Some(first) = next_of_command(&s.scan, &s.input, &s.table) else {
             return Ok(Passed {
                 turns: count,
                 last: None,
@@ -383,7 +328,7 @@ fn run_characters(
             last: None,
         });
     }
-    if is_commanding(s) {
+    if is_commanding(&s.scan, &s.text, &s.expander) {
         return run_command(alloc, s, most, steps);
     }
     match going_of(s) {
@@ -451,10 +396,10 @@ fn run_next(
 /// Whether the turn behind others was nothing that the outside has to know either: it went, and the transcript is as long as it was
 /// before them.
 #[inline(always)]
-fn is_plain(s: &State, last: &Option<Event>, told: usize) -> bool
-    ensures { IsTrue result → ((last.now ≡ Some Event.Went) × (length s.now.said ≡ told)) }
+fn is_plain(said: &Bytes, last: &Option<Event>, told: usize) -> bool
+    ensures { IsTrue result → ((last.now ≡ Some Event.Went) × (length said.now ≡ told)) }
 {
-    if s.said.len() != told {
+    if said.len() != told {
         return false;
     }
     matches!(last, Some(Event::Went))
@@ -479,7 +424,7 @@ pub(crate) fn run_on(
         let told = s.said.len();
         let Passed { turns, last } = run_next(alloc, s, most - all, steps)?;
         all += turns;
-        let plain = is_plain(s, &last, told);
+        let plain = is_plain(&s.said, &last, told);
         if !plain {
             return Ok(Passed { turns: all, last });
         }

@@ -1,7 +1,13 @@
 //! One turn: due work, the ask for a line, or one token and its expansion (TeX: The Program, sections 1030, 343, 360 and 366).
 ghost use Rattle.tx_seen.specs.Magnified.{noted};
-ghost use Rattle.std.specs.Prelude.{◌≡◌, ◌≢◌, [], true, is_some, IfOk, OnOk};
+ghost use Rattle.std.specs.Prelude.{◌≡◌, ◌≢◌, ◌||◌, suc, [], true, is_some, IfOk, OnOk};
+ghost use Rattle.tx_command.specs.Commands.{is_preamble};
 ghost use Rattle.tx_event.specs.Turns.{Ready};
+ghost use Rattle.tx_expand.specs.Expanding.{reader_of};
+ghost use Rattle.tx_expand.specs.Turns.{opened};
+ghost use Rattle.tx_lex.specs.Line.{seen_line};
+ghost use Rattle.tx_main.specs.Pages.{line_end as end_of_lines};
+ghost use Rattle.tx_pending.specs.Elements.{with_line};
 ghost use Rattle.tx_state.specs.State.{Runs, mode_of};
 ghost use Rattle.tx_state.specs.Texts.{IsTextAnswered};
 ghost use Rattle.tx_main.specs.Going.{IsFed};
@@ -15,13 +21,14 @@ use std::alloc::{AllocError, Global};
 use tx_aligning::end_entry;
 use tx_boxing::work_boxes;
 use tx_bytes::Bytes;
-use tx_command::Taken;
+use tx_command::{CommandScan, Taken};
+use tx_eqtb::Eqtb;
 use tx_event::{Ask, AskKind, Event, Reply};
-use tx_expand::{Expanded, Known, Wanted, part_end};
+use tx_expand::{Expanded, Expander, Known, Wanted, part_end};
 use tx_lettering::{end_text, end_word, load_font, relax_name, settle_word, with_file};
 use tx_lex::line_text;
 use tx_list::Stack;
-use tx_pending::ColumnPart;
+use tx_pending::{ColumnPart, Pending};
 use tx_seen::{Fed, Seen, TexError, Want};
 use tx_state::{Due, OpenText, Phase, State, ask, fail};
 use tx_toklist::Toks;
@@ -79,26 +86,17 @@ fn feed_command(alloc: Global, s: &mut State, seen: Seen) -> Result<Event, Alloc
     }
 }
 
-/// A token joins the open command, or is one by itself, behind the word that it may have ended.
-#[inline(always)]
-fn take_settled(alloc: Global, s: &mut State, seen: Seen) -> Result<Event, AllocError>
-    requires { s.old.phase ≡ Phase.Running }
-    ensures { IfOk result (λ event. IsStepped (turns.taking (state_of s.old) seen) s.old event s.new) }
-{
-    match s.scan.at_once(&seen) {
-        Some(found) => take_at_once(alloc, s, found),
-        None => feed_command(alloc, s, seen),
-    }
-}
-
-/// A token joins the open command, and a word may end before it.
+/// A token joins the open command, or is one by itself, behind the word that it may end.
 #[inline(always)]
 fn take_command(alloc: Global, s: &mut State, seen: Seen) -> Result<Event, AllocError>
     requires { s.old.phase ≡ Phase.Running }
     ensures { IfOk result (λ event. IsStepped (turns.taking (before_token (state_of s.old) seen) seen) s.old event s.new) }
 {
     settle_word(alloc, s, &seen)?;
-    take_settled(alloc, s, seen)
+    match s.scan.at_once(&seen) {
+        Some(found) => take_at_once(alloc, s, found),
+        None => feed_command(alloc, s, seen),
+    }
 }
 
 /// What a text answers to a token that joins it, if one is open. Its only error is want of memory.
@@ -141,12 +139,11 @@ fn take(alloc: Global, s: &mut State, seen: Seen) -> Result<Event, AllocError>
 
 /// Tokens that \the gives belong to the open text. Its only error is want of memory.
 #[inline(never)]
-fn put_text(s: &mut State, tokens: Toks) -> Result<Event, AllocError>
-    requires { s.old.phase ≡ Phase.Running }
-    ensures { IfOk result (λ event. IsStepped (turns.given_to_text (state_of s.old) tokens s.old.text) s.old event s.new) }
+fn put_text(text: &mut Option<OpenText>, tokens: Toks) -> Result<Event, AllocError>
+    ensures { (s : State) → s.phase ≡ Phase.Running → IfOk result (λ event. IsStepped (turns.given_to_text (state_of (record s { text = text.old })) tokens text.old) (record s { text = text.old }) event (record s { text = text.new })) }
 {
     let mut tokens = tokens;
-    if let Some(text) = &mut s.text {
+    if let Some(text) = text {
         text.put(&mut tokens)?;
     }
     Ok(Event::Went)
@@ -154,26 +151,26 @@ fn put_text(s: &mut State, tokens: Toks) -> Result<Event, AllocError>
 
 /// What is taken next.
 #[inline(always)]
-fn wanted(s: &State) -> Wanted
-    ensures { result ≡ turns.wanted_by (state_of s.now) s.now.text }
+fn wanted(text: &Option<OpenText>, scan: &CommandScan) -> Wanted
+    ensures { (s : State) → result ≡ turns.wanted_by (state_of (record s { scan = scan.now })) text.now }
 {
-    match &s.text {
+    match text {
         Some(text) => text.wanted(),
         None => Wanted {
-            want: s.scan.want(),
-            text: s.scan.is_preamble(),
+            want: scan.want(),
+            text: scan.is_preamble(),
             takes_the: false,
-            names: s.scan.is_naming(),
-            peeks: s.scan.is_peeking(),
+            names: scan.is_naming(),
+            peeks: scan.is_peeking(),
         },
     }
 }
 
 /// Whether a text is open, or a preamble, which is one too.
-fn takes_text(s: &State) -> bool
-    ensures { result ≡ turns.takes_text (state_of s.now) }
+fn takes_text(text: &Option<OpenText>, scan: &CommandScan) -> bool
+    ensures { result ≡ (is_some text.now || is_preamble scan.now.head) }
 {
-    s.text.is_some() || s.scan.is_preamble()
+    text.is_some() || scan.is_preamble()
 }
 
 /// The innermost file has ended: the ask for it to be closed, if it may end here.
@@ -182,7 +179,7 @@ fn close(s: &mut State) -> Event
     requires { s.old.phase ≡ Phase.Running }
     ensures { IsStepped (turns.closes (state_of s.old)) s.old result s.new }
 {
-    match s.expander.ended(takes_text(s)) {
+    match s.expander.ended(takes_text(&s.text, &s.scan)) {
         Some(error) => fail(s, error),
         None => ask(s, AskKind::Close, Ask::Close),
     }
@@ -214,7 +211,7 @@ fn heed_other(alloc: Global, s: &mut State, answer: Expanded) -> Result<Event, A
     match answer {
         Expanded::Got(_) => unreachable!(),
         Expanded::Went => unreachable!(),
-        Expanded::Text(tokens) => put_text(s, tokens),
+        Expanded::Text(tokens) => put_text(&mut s.text, tokens),
         Expanded::Marked => Ok(fail(s, TexError::UnbalancedOutput)),
         Expanded::EndsEntry(word) => end_entry(alloc, s, word),
         Expanded::PartEnded => end_part(alloc, s),
@@ -246,7 +243,7 @@ pub(crate) fn read(alloc: Global, s: &mut State) -> Result<Event, AllocError>
     requires { s.old.phase ≡ Phase.Running }
     ensures { IfOk result (λ event. IsStepped (turns.reads (state_of s.old)) s.old event s.new) }
 {
-    let wanted = wanted(s);
+    let wanted = wanted(&s.text, &s.scan);
     let mode = s.scan.mode();
     let known = Known::new(
         &s.table,
@@ -274,22 +271,12 @@ fn piece_cost(piece: &Due) -> u64
 }
 
 /// What the next piece of work costs.
-fn due_cost(due: &Stack<Due>) -> u64
+pub(crate) fn due_cost(due: &Stack<Due>) -> u64
     ensures { result ≡ turns.due_cost due.now }
 {
     match due.first() {
         Some(piece) => piece_cost(piece),
         None => 1,
-    }
-}
-
-/// What the next turn costs: shipping and copying, the nodes that are shipped or copied; all else 1.
-pub(crate) fn cost(s: &State) -> u64
-    ensures { result ≡ turns.cost (meaning_of s.now) }
-{
-    match s.phase {
-        Phase::Running => due_cost(&s.due),
-        _ => 1,
     }
 }
 
@@ -322,17 +309,6 @@ fn take_due(alloc: Global, s: &mut State) -> Result<Event, AllocError>
     }
 }
 
-/// Does the work that comes first, or reads.
-fn go_on(alloc: Global, s: &mut State) -> Result<Event, AllocError>
-    requires { s.old.phase ≡ Phase.Running }
-    ensures { IfOk result (λ event. IsStepped (turns.goes_on (state_of s.old) s.old.due) s.old event s.new) }
-{
-    if s.due.is_empty() {
-        return read(alloc, s);
-    }
-    take_due(alloc, s)
-}
-
 /// Takes one turn. Few are left to it, those of work that is due, since tokens are read many turns at one go. Its only error is
 /// want of memory.
 #[inline(never)]
@@ -341,62 +317,42 @@ pub(crate) fn turn(alloc: Global, s: &mut State) -> Result<Event, AllocError>
     ensures { IfOk result (λ event. IsStepped (turns.outcome (meaning_of s.old)) s.old event s.new) }
 {
     match s.phase {
-        Phase::Running => go_on(alloc, s),
+        Phase::Running => {
+            if s.due.is_empty() {
+                return read(alloc, s);
+            }
+            take_due(alloc, s)
+        }
         _ => unreachable!(),
     }
 }
 
 /// A new line stands in front. Its only error is want of memory.
-fn put_line(alloc: Global, s: &mut State, raw: &[u8]) -> Result<(), AllocError>
-    ensures state { OnOk result (state_of s.new ≡ turns.lined (state_of s.old) raw.now) }
-    ensures phase { OnOk result (s.new.phase ≡ s.old.phase) }
-    ensures said { OnOk result (s.new.said ≡ s.old.said) }
+fn put_line(
+    alloc: Global,
+    table: &Eqtb,
+    input: &mut Pending,
+    expander: &mut Expander,
+    raw: &[u8],
+) -> Result<(), AllocError>
+    ensures { OnOk result (reader_of expander.new input.new ≡ opened (reader_of expander.old (with_line input.old (seen_line raw.now (end_of_lines table.now.table))))) }
 {
-    let line = line_text(alloc, raw, line_end(&s.table))?;
-    s.input.push_line(alloc, line)?;
-    s.expander.line_came(&mut s.input)
-}
-
-/// The innermost file has no further line; one without any has an empty one, if it isn't the main file (TeX: The Program, section
-/// 538). Its only error is want of memory.
-fn end_lines(alloc: Global, s: &mut State) -> Result<(), AllocError>
-    ensures state { OnOk result (state_of s.new ≡ turns.lines_ended (state_of s.old)) }
-    ensures phase { OnOk result (s.new.phase ≡ s.old.phase) }
-    ensures said { OnOk result (s.new.said ≡ s.old.said) }
-{
-    if s.expander.is_opening() {
-        put_line(alloc, s, b"")
-    } else {
-        s.due.push(Due::FileEnded)
-    }
+    let line = line_text(alloc, raw, line_end(table))?;
+    input.push_line(alloc, line)?;
+    expander.line_came(input)
 }
 
 /// One more file is open. Its only error is that no more can be counted.
-fn open_file(s: &mut State) -> Result<(), AllocError>
-    ensures state { OnOk result (state_of s.new ≡ turns.file_opened (state_of s.old)) }
-    ensures phase { OnOk result (s.new.phase ≡ s.old.phase) }
-    ensures said { OnOk result (s.new.said ≡ s.old.said) }
+fn open_file(files: &mut u64) -> Result<(), AllocError>
+    ensures { OnOk result (files.new ≡ suc files.old) }
 {
-    match s.files.checked_add(1) {
-        Some(files) => {
-            s.files = files;
+    match files.checked_add(1) {
+        Some(more) => {
+            *files = more;
             Ok(())
         }
         None => Err(AllocError),
     }
-}
-
-/// The innermost file is closed. Its only error is want of memory.
-fn close_file(s: &mut State) -> Result<(), AllocError>
-    ensures state { OnOk result (state_of s.new ≡ turns.file_closed (state_of s.old) s.old.files) }
-    ensures phase { OnOk result (s.new.phase ≡ s.old.phase) }
-    ensures said { OnOk result (s.new.said ≡ s.old.said) }
-{
-    s.files = s.files.saturating_sub(1);
-    if s.files == 0 {
-        s.due.push(Due::MainClosed)?;
-    }
-    Ok(())
 }
 
 /// A piece of work with the bytes of the file that it asked for. Its only error is want of memory.
@@ -430,11 +386,31 @@ fn hear(alloc: Global, s: &mut State, kind: AskKind, reply: &Reply) -> Result<()
     ensures said { OnOk result (s.new.said ≡ s.old.said) }
 {
     match (kind, reply) {
-        (AskKind::Open, Reply::Found) => open_file(s),
+        (AskKind::Open, Reply::Found) => open_file(&mut s.files),
         (AskKind::Open, Reply::Absent) => s.due.push(Due::FileAbsent),
-        (AskKind::Line, Reply::Line(bytes)) => put_line(alloc, s, bytes.as_slice()),
-        (AskKind::Line, Reply::Ended) => end_lines(alloc, s),
-        (AskKind::Close, Reply::Closed) => close_file(s),
+        (AskKind::Line, Reply::Line(bytes)) => put_line(
+            alloc,
+            &s.table,
+            &mut s.input,
+            &mut s.expander,
+            bytes.as_slice(),
+        ),
+        (AskKind::Line, Reply::Ended) => {
+            // (a file that has no line at all has an empty one, if it isn't the main file: TeX: The Program, section 538)
+            if s.expander.is_opening() {
+                put_line(alloc, &s.table, &mut s.input, &mut s.expander, b"")
+            } else {
+                s.due.push(Due::FileEnded)
+            }
+        }
+        (AskKind::Close, Reply::Closed) => {
+            s.files = s.files.saturating_sub(1);
+            if s.files == 0 {
+                s.due.push(Due::MainClosed)
+            } else {
+                Ok(())
+            }
+        }
         (AskKind::Whole, Reply::Whole(bytes)) => take_file(&mut s.due, bytes),
         _ => Ok(()),
     }

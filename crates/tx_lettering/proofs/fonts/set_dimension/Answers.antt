@@ -11,4 +11,4 @@ returns c =
     let same : to_z w32 (of_z w32 c.args.size) ≡ c.args.size = search rules in
     let made : ℕ → Collecting = λ number. record c.args.s.now.words { fonts = with_font_parameter c.args.s.now.words.fonts number c.args.n c.args.size } in
     sets-fonts c.args.s.now c.end_assignment.new.s c.set_parameter.new.self (with_font_parameter c.args.s.now.words.fonts (number_of (state_of c.args.s.now) c.args.font) c.args.n c.args.size) c.end_assignment.result
-    ((rw same at c.in_ok-set_parameter.ensures) ∙ ap made c.number_of-number.ensures) c.end_assignment.ensures
+    ((rw same at c.in_ok-set_parameter.ensures) ∙ ap made (c.number_of-number.ensures c.args.s.now)) c.end_assignment.ensures
