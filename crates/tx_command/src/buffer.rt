@@ -76,7 +76,7 @@ impl CommandBuffer {
     }
 
     /// Puts a command there.
-    pub(crate) fn put(&mut self, command: Command)
+    pub fn put(&mut self, command: Command)
         ensures { self.new ≡ command }
     {
         self.whole = Whole::Command;
@@ -84,7 +84,7 @@ impl CommandBuffer {
     }
 
     /// Puts the assignment there that this scan has made.
-    pub(crate) fn put_assignment(&mut self, scan: &mut AssignScan)
+    pub fn put_assignment(&mut self, scan: &mut AssignScan)
         ensures { self.new ≡ Command.Assign (assignment_made scan.old) }
     {
         self.whole = Whole::Assignment;
