@@ -8,6 +8,7 @@ use std::alloc::{AllocError, Global};
 use std::marker::Model;
 use std::mem::replace;
 use tx_assign::{AssignScan, Assignment, Change};
+use tx_list::both;
 use tx_seen::Place;
 
 /// Where a whole command is put until it is carried out, so that no token moves one. An assignment stands apart from all others,
@@ -67,11 +68,14 @@ impl CommandBuffer {
             place: Place::Count(0),
             change: Change::Text,
         };
-        let assignment = Box::new(alloc, nothing)?;
+        let (assignment, command) = both(
+            Box::new(alloc, nothing),
+            Box::new(alloc, Command::Nothing),
+        )?;
         Ok(CommandBuffer {
             whole: Whole::Command,
             assignment,
-            command: Box::new(alloc, Command::Nothing)?,
+            command,
         })
     }
 

@@ -18,7 +18,7 @@ use std::alloc::{AllocError, Global};
 use std::marker::Model;
 use std::mem::replace;
 use tx_assign::AssignScan;
-use tx_list::Kept;
+use tx_list::{Kept, both};
 use tx_node::Rule;
 use tx_pending::Pending;
 use tx_prim::{AtomPart, LeadersKind, Mode};
@@ -352,12 +352,14 @@ impl Clone for CommandScan {
     ghost is_clone = { λ source copy. copy ≡ source };
 
     fn clone(&self) -> Result<Self, AllocError> {
+        let before = both(self.head.share(), self.taken.clone());
+        let ((head, taken), scans) = both(before, self.scans.clone())?;
         Ok(CommandScan {
             mode: self.mode,
-            head: self.head.share()?,
-            taken: self.taken.clone()?,
+            head,
+            taken,
             want: self.want,
-            scans: self.scans.clone()?,
+            scans,
         })
     }
 }
