@@ -4,7 +4,7 @@ use Rattle.tx_prim.specs.declared.modes.Mode.{Mode}
 use Rattle.tx_seen.specs.declared.item.Item.{Item}
 use Rattle.tx_seen.specs.declared.item.Item.TheVariants.{Took}
 use Rattle.tx_seen.specs.declared.seen.Seen.{Seen}
-use Rattle.tx_reading.specs.declared.at_once.AtOnce.{AtOnce}
+use Rattle.tx_reading.specs.declared.single.AtOnce.{AtOnce}
 use Rattle.tx_command.specs.declared.types.Head.TheVariants.{Fresh}
 use Rattle.tx_reading.specs.AtOnce.{IsAloneIn, IsWhole}
 use Rattle.tx_command.specs.Begun.{Begun}

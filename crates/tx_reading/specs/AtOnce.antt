@@ -9,8 +9,8 @@ use Rattle.tx_seen.specs.declared.meaning.Meaning.{Meaning}
 use Rattle.tx_seen.specs.declared.meaning.Meaning.TheVariants as meaning
 use Rattle.tx_seen.specs.declared.seen.Seen.{Seen}
 use Rattle.tx_seen.specs.Readings.{Done}
-use Rattle.tx_reading.specs.declared.at_once.AtOnce.{AtOnce}
-use Rattle.tx_reading.specs.declared.at_once.AtOnce.TheVariants as at_once
+use Rattle.tx_reading.specs.declared.single.AtOnce.{AtOnce}
+use Rattle.tx_reading.specs.declared.single.AtOnce.TheVariants as at_once
 use Rattle.tx_command.specs.declared.types.Command.{Command}
 use Rattle.tx_command.specs.declared.types.Command.TheVariants as command_of
 use Rattle.tx_command.specs.Begun.{Begun}

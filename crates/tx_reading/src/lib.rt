@@ -6,15 +6,15 @@
 //! worked out by hand and on documents that Knuth's TeX reads alike.
 //!
 //! What commands are, their grammar, and a command that is open are tx_command's. Read `standing`, what may stand where; `mapping`
-//! and `stage`, what one token makes of a command; `taking`, a token with the values that are needed behind it; last `at_once`,
+//! and `stage`, what one token makes of a command; `taking`, a token with the values that are needed behind it; last `single`,
 //! commands that are one token.
 #![tactic(auto)]
 
-mod at_once;
 mod mapping;
+mod single;
 mod stage;
 mod standing;
 mod taking;
 
-pub use at_once::{AtOnce, at_once};
+pub use single::{AtOnce, at_once};
 pub use taking::Reader;

@@ -1,6 +1,6 @@
 use Rattle.std.proofs.Common.{rules}
 use Rattle.tx_reading.proofs.Alone.{at-once}
-use Rattle.tx_reading.proofs.at_once.at_once.Goals as goal
+use Rattle.tx_reading.proofs.single.at_once.Goals as goal
 
 pub returns : goal.returns
 returns c =
