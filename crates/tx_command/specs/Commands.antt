@@ -69,7 +69,7 @@ use Rattle.tx_command.specs.declared.scans.RowStart.{RowStart}
 use Rattle.tx_command.specs.declared.scans.RowStart.TheVariants as start
 use Rattle.tx_command.specs.declared.types.SizeUse.{SizeUse}
 use Rattle.tx_command.specs.declared.types.SizeUse.TheVariants as size
-use Rattle.tx_command.specs.Rules.{plain_rule, rule_sides}
+use Rattle.tx_rule.specs.Rules.{plain_rule, rule_sides}
 use Rattle.tx_command.specs.Standing.{standing_in}
 
 -- an assignment

@@ -1,9 +1,7 @@
-pub mod Rules
 pub mod Standing
 pub mod Commands
 pub mod Rests
 pub mod Begun
 pub mod Taken
 pub mod Naming
-pub mod AtOnce
 pub mod Buffer

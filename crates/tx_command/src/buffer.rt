@@ -8,6 +8,7 @@ use std::alloc::{AllocError, Global};
 use std::marker::Model;
 use std::mem::replace;
 use tx_assign::{AssignScan, Assignment, Change};
+use tx_list::both;
 use tx_seen::Place;
 
 /// Where a whole command is put until it is carried out, so that no token moves one. An assignment stands apart from all others,
@@ -67,16 +68,19 @@ impl CommandBuffer {
             place: Place::Count(0),
             change: Change::Text,
         };
-        let assignment = Box::new(alloc, nothing)?;
+        let (assignment, command) = both(
+            Box::new(alloc, nothing),
+            Box::new(alloc, Command::Nothing),
+        )?;
         Ok(CommandBuffer {
             whole: Whole::Command,
             assignment,
-            command: Box::new(alloc, Command::Nothing)?,
+            command,
         })
     }
 
     /// Puts a command there.
-    pub(crate) fn put(&mut self, command: Command)
+    pub fn put(&mut self, command: Command)
         ensures { self.new ≡ command }
     {
         self.whole = Whole::Command;
@@ -84,7 +88,7 @@ impl CommandBuffer {
     }
 
     /// Puts the assignment there that this scan has made.
-    pub(crate) fn put_assignment(&mut self, scan: &mut AssignScan)
+    pub fn put_assignment(&mut self, scan: &mut AssignScan)
         ensures { self.new ≡ Command.Assign (assignment_made scan.old) }
     {
         self.whole = Whole::Assignment;

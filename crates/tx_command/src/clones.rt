@@ -1,21 +1,9 @@
-//! Clones of the parts of a command that is being read. Each is the same as its source; its only error is want of memory.
-ghost use Rattle.std.specs.Prelude.{◌≡◌, IfOk};
+//! A clone of the scans of a command's parts is the same as its source; its only error is want of memory.
+ghost use Rattle.std.specs.Prelude.{◌≡◌};
 
-use crate::scans::{RuleScan, Scans};
+use crate::scans::Scans;
 use std::alloc::AllocError;
 use tx_list::both;
-
-impl Clone for RuleScan {
-    ghost is_clone = { λ source copy. copy ≡ source };
-
-    fn clone(&self) -> Result<Self, AllocError> {
-        Ok(RuleScan {
-            rule: self.rule,
-            part: self.part,
-            size: self.size.clone()?,
-        })
-    }
-}
 
 impl Clone for Scans {
     ghost is_clone = { λ source copy. copy ≡ source };

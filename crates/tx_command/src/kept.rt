@@ -33,26 +33,26 @@ impl Kept for Head {
     fn same(&self, other: &Self) -> bool {
         match (self, other) {
             (Head::Fresh, Head::Fresh) => true,
-            (Head::Prefixed(one), Head::Prefixed(other)) => one == other,
+            (Head::Prefixed(one), Head::Prefixed(other)) => *one == *other,
             (Head::Defining(one, defined, kind), Head::Defining(other, also, like)) => {
-                one == other && kind == like && defined.same(also)
+                *one == *other && *kind == *like && defined.same(also)
             }
             (Head::Future(one, defined), Head::Future(other, also)) => {
-                one == other && defined.same(also)
+                *one == *other && defined.same(also)
             }
             (Head::Leading(one, rule), Head::Leading(other, also)) => {
-                one == other && same_rule(*rule, *also)
+                *one == *other && same_rule(*rule, *also)
             }
             (Head::Shift, Head::Shift) => true,
-            (Head::Part(one), Head::Part(other)) => one == other,
+            (Head::Part(one), Head::Part(other)) => *one == *other,
             (Head::Loading(one, defined), Head::Loading(other, also)) => {
-                one == other && defined.same(also)
+                *one == *other && defined.same(also)
             }
             (Head::Shaping(one, left, sizes), Head::Shaping(other, also, like)) => {
-                one == other && left == also && sizes.same(like)
+                *one == *other && *left == *also && sizes.same(like)
             }
-            (Head::Opening(one), Head::Opening(other)) => one == other,
-            (Head::Aligning(one), Head::Aligning(other)) => one == other,
+            (Head::Opening(one), Head::Opening(other)) => *one == *other,
+            (Head::Aligning(one), Head::Aligning(other)) => *one == *other,
             (Head::Preamble, Head::Preamble) => true,
             (Head::Row, Head::Row) => true,
             (Head::Entry, Head::Entry) => true,

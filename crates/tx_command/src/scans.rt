@@ -1,32 +1,11 @@
 //! What a scan of a command still needs, and what taking a token to one gives.
-use crate::types::{Side, SizeUse};
+use crate::types::SizeUse;
 use tx_assign::AssignScan;
-use tx_node::Rule;
 use tx_prim::{AfterKind, DefinitionKind, LeadersKind, RuleKind, Shorthand};
-use tx_scan::{DimenScan, KeyScan};
+use tx_rule::RuleScan;
+use tx_scan::DimenScan;
 use tx_seen::TexError;
 use tx_shape::{LoadScan, ShapeScan};
-
-/// The part of a rule that comes next.
-#[derive(Clone, Copy)]
-pub enum RulePart {
-    /// The name of a side, if there is one, with spaces before it.
-    Start,
-    /// The name of this side.
-    Name(Side, KeyScan),
-    /// The size of this side.
-    Size(Side),
-}
-
-/// The sides and sizes of a rule that are being read.
-#[derive(Drop)]
-pub struct RuleScan {
-    /// The rule as it is so far.
-    pub rule: Rule,
-    pub part: RulePart,
-    /// The size of a side.
-    pub size: DimenScan,
-}
 
 /// The part of a command that comes next.
 #[derive(Clone, Copy)]

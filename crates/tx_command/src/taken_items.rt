@@ -17,7 +17,7 @@ use tx_seen::Item;
 /// The tokens and values that a command has taken. Contracts see the list of them. Where they stand behind \font and the name that
 /// it defines, what comes next of a file's name is kept, so that no item is looked at twice.
 #[derive(Drop)]
-pub(crate) struct TakenItems {
+pub struct TakenItems {
     items: Items<Item>,
     part: NamePart,
 }
@@ -73,7 +73,7 @@ impl TakenItems {
     /// Puts an item behind the others. After want of memory nothing has changed.
     #[inline(always)]
     #[tactic(auto, using(crate::proofs::NameParts::part_more))]
-    pub(crate) fn push(&mut self, item: Item) -> Result<(), AllocError>
+    pub fn push(&mut self, item: Item) -> Result<(), AllocError>
         ensures ok { OnOk result (self.new ≡ self.old ++ item ∷ []) }
         ensures err { OnErr result (self.new ≡ self.old) }
     {

@@ -1,31 +1,31 @@
-//! Commands, taken off the input token by token (TeX: The Program, part 46).
-ghost use Rattle.std.specs.Prelude.{◌≡◌, ◌↔◌, ◌≤◌, ◌+◌, ◌∷◌, ◌++◌, [], false, List, length, IfOk, OnOk, IsTrue};
+//! A command that is open: the mode, what stands before it, and what of it is taken (TeX: The Program, part 46).
+ghost use Rattle.std.specs.Prelude.{◌≡◌, ◌↔◌, [], false, IfOk, IsTrue};
 ghost use Rattle.tx_prim.specs.declared.modes.Mode.{Mode};
-ghost use Rattle.tx_seen.specs.declared.item.Item.{Item};
-ghost use Rattle.tx_seen.specs.declared.item.Item.TheVariants.{Gave, Took};
-ghost use Rattle.tx_seen.specs.Readings.{More, last};
-ghost use Rattle.tx_scan.specs.Rests.{HasTakenBy, IsGivenBehind};
-ghost use Rattle.tx_scan.specs.Supplied.{value_for, NeedsFewer};
+ghost use Rattle.tx_seen.specs.Readings.{More};
 ghost use Rattle.tx_command.specs.declared.types.Head.{Head};
 ghost use Rattle.tx_command.specs.Commands as commands;
 ghost use Rattle.tx_command.specs.Commands.{leaders_before as leaders_of, part_before as part_of, prefixes_of};
 ghost use Rattle.tx_seen.specs.Magnified.{magnification_in};
-ghost use Rattle.tx_command.specs.Rests.{command_rest, held, more_needed, told, GoesOn, IsOn, IsWaiting};
-ghost use Rattle.tx_command.specs.Taken.{joined, IsEnd, IsPending, IsSettled, IsTaken};
+ghost use Rattle.tx_command.specs.Rests.{whole_command};
+ghost use Rattle.tx_command.specs.Taken.{IsTaken};
 
 use crate::buffer::CommandBuffer;
-use crate::mapping::take_whole;
 use crate::scans::{Scans, Stage, Taken, Whole};
 use crate::taken_items::TakenItems;
+use crate::tokens::TakesTokens;
 use crate::types::{Head, Prefixes};
 use std::alloc::{AllocError, Global};
 use std::marker::Model;
 use std::mem::replace;
-use tx_list::Kept;
+use tx_assign::AssignScan;
+use tx_list::{Kept, both};
 use tx_node::Rule;
 use tx_pending::Pending;
-use tx_prim::{AtomPart, LeadersKind, Mode, Prefix, Shorthand};
-use tx_seen::{Fed, Item, Kind, Place, Quantities, Seen, Want};
+use tx_prim::{AtomPart, LeadersKind, Mode};
+use tx_rule::RuleScan;
+use tx_scan::DimenScan;
+use tx_seen::{Fed, Quantities, Seen, Want};
+use tx_shape::{LoadScan, ShapeScan};
 
 /// A command that is being taken off the input. Contracts see the mode, what stands before the command, and the tokens and
 /// values that were taken since it began.
@@ -229,10 +229,10 @@ impl CommandScan {
         self.mode == other.mode && self.head.same(&other.head) && self.taken.same(&other.taken)
     }
 
-    /// Takes one token more, and the values that the command needs behind it. A whole command is put into `made`. Behind it, whose
+    /// Takes one token more, by what reads commands, and the values that the command needs behind it. A whole command is put into `made`. Behind it, whose
     /// last tokens are put at the front of the input where they aren't part of it, or a wrong one, the next begins. Its only error
     /// is want of memory.
-    pub fn feed<Q: Quantities>(
+    pub fn feed<R: TakesTokens, Q: Quantities>(
         &mut self,
         quantities: &Q,
         input: &mut Pending,
@@ -241,7 +241,7 @@ impl CommandScan {
     ) -> Result<Taken, AllocError>
         ensures { IfOk result (IsTaken (Q.value_at quantities.now) self.old token input.old self.new input.new made.new) }
     {
-        let fed = take(
+        let fed = R::take(
             self.mode,
             &self.head,
             &mut self.taken,
@@ -273,6 +273,33 @@ impl CommandScan {
                 Err(error)
             }
         }
+    }
+}
+
+impl Scans {
+    /// The scans of a command of which nothing is read. They take no memory.
+    pub(crate) fn new(alloc: Global) -> Scans
+        ensures { result.stage ≡ Stage.Start }
+    {
+        Scans {
+            stage: Stage::Start,
+            assignment: AssignScan::new(alloc),
+            size: DimenScan::new(alloc, false, false),
+            rule: RuleScan::new(alloc),
+            shape: ShapeScan::new(alloc),
+            loading: LoadScan::new(alloc),
+        }
+    }
+}
+
+/// The command that is whole is put beside, wherever it stands.
+#[inline(never)]
+pub fn take_whole(whole: Whole, scans: &mut Scans, made: &mut CommandBuffer)
+    ensures { made.new ≡ whole_command scans.old made.old whole }
+{
+    match whole {
+        Whole::Assignment => made.put_assignment(&mut scans.assignment),
+        Whole::Command => {}
     }
 }
 
@@ -320,132 +347,19 @@ fn begin_next(head: &Head, taken: &mut TakenItems, want: &mut Want, scans: &mut 
     restart(taken, scans);
 }
 
-/// Whether an answer ends the command, and no token is given back.
-fn is_end(fed: &Fed<Whole>) -> bool
-    ensures { IsTrue result ↔ IsEnd fed.now }
-{
-    match fed {
-        Fed::Done(_, back) => *back == 0,
-        Fed::Wrong(_) => true,
-        Fed::More(_) | Fed::Need(_) => false,
-    }
-}
-
-/// Takes one token, and the values that the command needs behind it. A token that ends the command isn't kept, where it isn't
-/// given back. Its only error is want of memory.
-fn take<Q: Quantities>(
-    mode: Mode,
-    head: &Head,
-    taken: &mut TakenItems,
-    scans: &mut Scans,
-    quantities: &Q,
-    token: Seen,
-    made: &mut CommandBuffer,
-) -> Result<Fed<Whole>, AllocError>
-    requires reads { HasTakenBy (command_rest mode head.now) held (commands.command mode head.now) scans.old taken.old }
-    requires on { IsOn scans.old }
-    requires few { more_needed scans.old ≤ length taken.old + 1 }
-    ensures settled { IfOk result (λ fed. IsSettled mode head.now (joined (Q.value_at quantities.now) mode head.now taken.old token) taken.new scans.new (told scans.new made.new fed)) }
-    ensures on { IfOk result (GoesOn scans.new) }
-{
-    let fed = scans.feed(mode, head, &token, made)?;
-    match fed {
-        // most tokens
-        Fed::More(want) => {
-            taken.push(Item::Took(token))?;
-            Ok(Fed::More(want))
-        }
-        Fed::Need(kind) => supply(taken, scans, quantities, token, kind, made),
-        fed => {
-            if is_end(&fed) {
-                return Ok(fed);
-            }
-            taken.push(Item::Took(token))?;
-            Ok(fed)
-        }
-    }
-}
-
-/// Takes a token behind which the command needs a value of this kind, and perhaps further ones, and gives them as the table has
-/// them. Its only error is want of memory.
-#[inline(never)]
-fn supply<Q: Quantities>(
-    taken: &mut TakenItems,
-    scans: &mut Scans,
-    quantities: &Q,
-    token: Seen,
-    kind: Kind,
-    made: &mut CommandBuffer,
-) -> Result<Fed<Whole>, AllocError>
-    requires { IsWaiting scans.old }
-    ensures settled { (mode : Mode) (head : Head) (items : List Item) → IsPending (Q.value_at quantities.now) mode head items (taken.old ++ Took token ∷ []) scans.old (Fed.Need kind) → IfOk result (λ fed. IsSettled mode head items taken.new scans.new (told scans.new made.new fed)) }
-    ensures on { IfOk result (GoesOn scans.new) }
-{
-    let behind = token.clone()?;
-    taken.push(Item::Took(token))?;
-    settle(taken, scans, quantities, &behind, Fed::Need(kind), made)
-}
-
-/// Gives the values that the command needs behind the token that was taken last, as the table has them, until it needs none. Its
-/// only error is want of memory.
-fn settle<Q: Quantities>(
-    taken: &mut TakenItems,
-    scans: &mut Scans,
-    quantities: &Q,
-    behind: &Seen,
-    fed: Fed<Whole>,
-    made: &mut CommandBuffer,
-) -> Result<Fed<Whole>, AllocError>
-    requires on { GoesOn scans.old fed }
-    requires last { last 1 taken.old ≡ Took behind.now ∷ [] }
-    ensures settled { (mode : Mode) (head : Head) (items : List Item) → IsPending (Q.value_at quantities.now) mode head items taken.old scans.old (told scans.old made.old fed) → IfOk result (λ answer. IsSettled mode head items taken.new scans.new (told scans.new made.new answer)) }
-    ensures on { IfOk result (GoesOn scans.new) }
-{
-    let mut fed = fed;
-    loop {
-        match fed {
-            Fed::Need(kind) => fed = give(taken, scans, quantities, behind, &kind, made)?,
-            settled => return Ok(settled),
-        }
-    }
-}
-
-/// Gives the value that is needed, where this token was taken last. Its only error is want of memory.
-fn give<Q: Quantities>(
-    taken: &mut TakenItems,
-    scans: &mut Scans,
-    quantities: &Q,
-    behind: &Seen,
-    kind: &Kind,
-    made: &mut CommandBuffer,
-) -> Result<Fed<Whole>, AllocError>
-    requires { IsWaiting scans.old }
-    ensures given { (mode : Mode) (head : Head) → IfOk result (λ fed. IsGivenBehind (command_rest mode head) held scans.old (value_for (Q.value_at quantities.now) kind.now) behind.now scans.new (told scans.new made.new fed)) }
-    ensures needs { IfOk result (NeedsFewer (more_needed scans.old) (more_needed scans.new)) }
-    ensures on { IfOk result (GoesOn scans.new) }
-    ensures taken { OnOk result (taken.new ≡ taken.old ++ Gave (value_for (Q.value_at quantities.now) kind.now) ∷ []) }
-{
-    match kind {
-        Kind::Quantity(place) => {
-            let value = quantities.quantity(place);
-            let fed = scans.give(&value, behind, made)?;
-            taken.push(Item::Gave(value))?;
-            Ok(fed)
-        }
-    }
-}
-
 /// A clone has taken the same. Its only error is want of memory.
 impl Clone for CommandScan {
     ghost is_clone = { λ source copy. copy ≡ source };
 
     fn clone(&self) -> Result<Self, AllocError> {
+        let before = both(self.head.share(), self.taken.clone());
+        let ((head, taken), scans) = both(before, self.scans.clone())?;
         Ok(CommandScan {
             mode: self.mode,
-            head: self.head.share()?,
-            taken: self.taken.clone()?,
+            head,
+            taken,
             want: self.want,
-            scans: self.scans.clone()?,
+            scans,
         })
     }
 }

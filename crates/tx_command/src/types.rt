@@ -13,14 +13,6 @@ use tx_prim::{
 use tx_seen::{FontName, Place, Seen};
 use tx_shape::{AskedSize, BoxContext, BoxGoal, Opener};
 
-/// A side of a rule.
-#[derive(Clone, Copy)]
-pub enum Side {
-    Width,
-    Height,
-    Depth,
-}
-
 /// What a size is for.
 #[derive(Clone, Copy)]
 pub enum SizeUse {

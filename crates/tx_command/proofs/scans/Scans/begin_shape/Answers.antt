@@ -1,6 +1,0 @@
-use Rattle.std.proofs.Common.{refl}
-use Rattle.tx_command.proofs.Stages.{shape-begun}
-use Rattle.tx_command.proofs.scans.Scans.begin_shape.Goals as goal
-
-pub returns : goal.returns
-returns c = rw c.shaped.ensures (shape-begun c.args.shaping _ c.begin.result refl c.begin.ensures)

@@ -1,6 +1,0 @@
-use Rattle.std.proofs.Common.{sym, ◌∙◌, rules}
-use Rattle.tx_command.proofs.Stages.{part-stands}
-use Rattle.tx_command.proofs.scans.Scans.feed_atom.Goals as goal
-
-pub returns-then-is_part : goal.returns-then-is_part
-returns-then-is_part c = part-stands c.args.token.now c.begin.new.self c.begin.result (search rules) (search rules) (sym c.is_part.ensures ∙ c.if-is_part.true) c.begin.ensures

@@ -1,6 +1,0 @@
-use Rattle.std.proofs.Common.{rules}
-use Rattle.tx_command.proofs.Stages.{preamble-tabskip}
-use Rattle.tx_command.proofs.scans.Scans.feed_preamble.Goals as goal
-
-pub returns-in-Tabskip : goal.returns-in-Tabskip
-returns-in-Tabskip c = λ mode head. preamble-tabskip c.preamble_part.result c.args.token.now c.begin_place.new.self c.begin_place.result c.preamble_part.ensures (search rules) c.begin_place.ensures mode head

@@ -1,0 +1,15 @@
+use Rattle.tx_scan.proofs.Mappings.{needs-mapped}
+use Rattle.tx_command.specs.declared.scans.Whole.TheVariants.{Command}
+use Rattle.tx_command.specs.Rests.{more_needed}
+use Rattle.tx_reading.proofs.Told.{goes-mapped}
+use Rattle.tx_reading.proofs.stage.feed_other.Goals as goal
+
+pub returns-clause-fed : goal.returns-clause-fed
+returns-clause-fed c = rw (c.put_whole.ensures.made c.feed_part.new.scans) c.in_ok-fed.ensures.fed
+
+pub returns-clause-needs : goal.returns-clause-needs
+returns-clause-needs c =
+    rw c.put_whole.ensures.answer (needs-mapped (λ _. Command) (more_needed c.args.scans.now) (more_needed c.feed_part.new.scans) c.in_ok-fed.fed c.in_ok-fed.ensures.needs)
+
+pub returns-clause-on : goal.returns-clause-on
+returns-clause-on c = rw c.put_whole.ensures.answer (goes-mapped (λ _. Command) c.feed_part.new.scans c.in_ok-fed.fed c.in_ok-fed.ensures.on)
