@@ -7,6 +7,7 @@ use crate::state::State;
 use std::alloc::{AllocError, Global};
 use tx_command::CommandBuffer;
 use tx_list::{Stack, both, share_option};
+use tx_parts::LargeParts;
 
 /// A copy of what is due. Its only error is want of memory.
 fn share_due(due: &Stack<Due>) -> Result<Stack<Due>, AllocError>
@@ -21,21 +22,23 @@ pub fn share_state(alloc: Global, s: &State) -> Result<State, AllocError>
     ensures meaning { IfOk result (λ t. meaning_of t ≡ meaning_of s.now) }
     ensures said { IfOk result (λ t. t.said ≡ s.now.said) }
 {
-    let of_words = both(s.expander.share(), s.words.share());
-    let of_table = both(s.table.share(), s.hyphenation.share());
     let of_input = both(share_due(&s.due), s.input.share(alloc));
     let scan = both(s.scan.clone(), CommandBuffer::new(alloc));
-    let begun = both(share_option(&s.text), scan);
+    let read = both(of_input, both(share_option(&s.text), scan));
     let tokens = both(s.after_groups.share(), share_option(&s.after_assignment));
-    let of_bytes = both(s.defined.clone(), s.said.clone());
-    let of_lists = both(s.lists.share(), s.alignments.share());
-    let built = both(of_lists, both(tokens, of_bytes));
-    let read = both(of_input, begun);
-    let known = both(of_words, of_table);
-    let ((known, read), built) = both(both(known, read), built)?;
-    let ((expander, words), (table, hyphenation)) = known;
+    let kept = both(tokens, both(s.defined.clone(), s.said.clone()));
+    let large = LargeParts::share(
+        &s.expander,
+        &s.words,
+        &s.table,
+        &s.hyphenation,
+        &s.lists,
+        &s.alignments,
+    );
+    let ((read, kept), large) = both(both(read, kept), large)?;
     let ((due, input), (text, (scan, made))) = read;
-    let ((lists, alignments), ((after_groups, after_assignment), (defined, said))) = built;
+    let ((after_groups, after_assignment), (defined, said)) = kept;
+    let ((expander, words), ((table, hyphenation), (lists, alignments))) = large.into_parts();
     Ok(State {
         phase: s.phase,
         due,

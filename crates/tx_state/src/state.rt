@@ -15,13 +15,13 @@ use tx_eqtb::Eqtb;
 use tx_expand::Expander;
 use tx_hyphenate::Hyphenation;
 use tx_list::{Stack, both};
+use tx_parts::LargeParts;
 use tx_pending::Pending;
 use tx_prim::Mode;
 use tx_tabular::Alignment;
 use tx_word::Words;
 
 /// All that the next turns depend on, and the bytes of the transcript that are still to be taken.
-#[derive(Drop)]
 pub struct State {
     pub phase: Phase,
     /// The next piece first.
@@ -54,6 +54,40 @@ pub struct State {
     pub said: Bytes,
 }
 
+// (by hand, so that crates above call this and don't prove again how each part is dropped)
+impl Drop for State {
+    fn drop(self) {
+        let State {
+            phase: _,
+            due: _,
+            files: _,
+            input: _,
+            expander,
+            text: _,
+            scan: _,
+            made: _,
+            lists,
+            alignments,
+            words,
+            hyphenation,
+            table,
+            after_groups: _,
+            after_assignment: _,
+            magnification: _,
+            defined: _,
+            said: _,
+        } = self;
+        drop(LargeParts {
+            expander,
+            words,
+            table,
+            hyphenation,
+            lists,
+            alignments,
+        });
+    }
+}
+
 impl State {
     /// A state in which nothing is due or read, and the pages' list is built, with these words, this table and what is known of
     /// hyphenation. Its only error is want of memory.
@@ -66,13 +100,20 @@ impl State {
     ) -> Result<State, AllocError>
         ensures { IfOk result (λ s. s ≡ record { phase = Phase.Running; due = []; files = 0; input = no_input; expander = expander; text = None; scan = record { mode = mode.Vertical; head = Head.Fresh; taken = [] }; made = Nothing; lists = first_lists; alignments = []; words = words; hyphenation = hyphenation; table = table; after_groups = []; after_assignment = None; magnification = None; defined = []; said = [] }) }
     {
-        // (what was given is dropped with the rest, in one way out)
-        let given = both(Ok((expander, words)), Ok((table, hyphenation)));
+        let given = LargeParts {
+            expander,
+            words,
+            table,
+            hyphenation,
+            lists: Lists::new(alloc),
+            alignments: Stack::new(alloc),
+        };
         let begun = both(
             CommandScan::new(alloc, Mode::Vertical),
             CommandBuffer::new(alloc),
         );
-        let (((expander, words), (table, hyphenation)), (scan, made)) = both(given, begun)?;
+        let (given, (scan, made)) = both(Ok(given), begun)?;
+        let ((expander, words), ((table, hyphenation), (lists, alignments))) = given.into_parts();
         Ok(State {
             phase: Phase::Running,
             due: Stack::new(alloc),
@@ -82,8 +123,8 @@ impl State {
             text: None,
             scan,
             made,
-            lists: Lists::new(alloc),
-            alignments: Stack::new(alloc),
+            lists,
+            alignments,
             words,
             hyphenation,
             table,
