@@ -1,18 +1,21 @@
 //! The parts that hold most of what a state has.
 ghost use Rattle.std.specs.Prelude.{◌≡◌, IfOk};
+ghost use Rattle.tx_expand.specs.Expanding.{reader_of};
 
-use std::alloc::AllocError;
+use std::alloc::{AllocError, Global};
 use tx_box::Lists;
 use tx_eqtb::Eqtb;
 use tx_expand::Expander;
 use tx_hyphenate::Hyphenation;
 use tx_list::{Stack, both};
+use tx_pending::Pending;
 use tx_tabular::Alignment;
 use tx_word::Words;
 
 /// The large parts of a state.
 pub struct LargeParts {
     pub expander: Expander,
+    pub input: Pending,
     /// The fonts, and the word that is open.
     pub words: Words,
     pub table: Eqtb,
@@ -29,6 +32,7 @@ impl Drop for LargeParts {
     fn drop(self) {
         let LargeParts {
             expander: _,
+            input: _,
             words: _,
             table: _,
             hyphenation: _,
@@ -41,29 +45,31 @@ impl Drop for LargeParts {
 impl LargeParts {
     /// Copies of these parts, which share with them what they can. Its only error is want of memory.
     pub fn share(
+        alloc: Global,
         expander: &Expander,
+        input: &Pending,
         words: &Words,
         table: &Eqtb,
         hyphenation: &Hyphenation,
         lists: &Lists,
         alignments: &Stack<Alignment>,
     ) -> Result<LargeParts, AllocError>
-        ensures begun { IfOk result (λ twin. twin.expander.begun ≡ expander.now.begun) }
-        ensures conditionals { IfOk result (λ twin. twin.expander.conditionals ≡ expander.now.conditionals) }
-        ensures job { IfOk result (λ twin. twin.expander.job ≡ expander.now.job) }
+        ensures reader { IfOk result (λ twin. reader_of twin.expander twin.input ≡ reader_of expander.now input.now) }
         ensures words { IfOk result (λ twin. twin.words ≡ words.now) }
         ensures table { IfOk result (λ twin. twin.table ≡ table.now) }
         ensures hyphenation { IfOk result (λ twin. twin.hyphenation ≡ hyphenation.now) }
         ensures lists { IfOk result (λ twin. twin.lists ≡ lists.now) }
         ensures alignments { IfOk result (λ twin. twin.alignments ≡ alignments.now) }
     {
-        let of_words = both(expander.share(), words.share());
-        let of_table = both(table.share(), hyphenation.share());
+        let read = both(expander.share(), input.share(alloc));
         let of_lists = both(lists.share(), alignments.share());
-        let shared = both(both(of_words, of_table), of_lists)?;
-        let (((expander, words), (table, hyphenation)), (lists, alignments)) = shared;
+        let known = both(both(words.share(), table.share()), hyphenation.share());
+        let ((read, (lists, alignments)), known) = both(both(read, of_lists), known)?;
+        let (expander, input) = read;
+        let ((words, table), hyphenation) = known;
         Ok(LargeParts {
             expander,
+            input,
             words,
             table,
             hyphenation,
@@ -72,26 +78,25 @@ impl LargeParts {
         })
     }
 
-    /// Each part by itself.
+    /// Each part by itself: what reads and what is read; the words and the table; what is known of hyphenation; and what is built.
     pub fn into_parts(
         self,
     ) -> (
-        (Expander, Words),
-        ((Eqtb, Hyphenation), (Lists, Stack<Alignment>)),
+        (Expander, Pending),
+        ((Words, Eqtb), (Hyphenation, (Lists, Stack<Alignment>))),
     )
-        ensures { result ≡ ((self.expander, self.words), ((self.table, self.hyphenation), (self.lists, self.alignments))) }
+        ensures { result ≡ ((self.expander, self.input), ((self.words, self.table), (self.hyphenation, (self.lists, self.alignments)))) }
     {
         let LargeParts {
             expander,
+            input,
             words,
             table,
             hyphenation,
             lists,
             alignments,
         } = self;
-        (
-            (expander, words),
-            ((table, hyphenation), (lists, alignments)),
-        )
+        let built = (hyphenation, (lists, alignments));
+        ((expander, input), ((words, table), built))
     }
 }

@@ -22,23 +22,25 @@ pub fn share_state(alloc: Global, s: &State) -> Result<State, AllocError>
     ensures meaning { IfOk result (λ t. meaning_of t ≡ meaning_of s.now) }
     ensures said { IfOk result (λ t. t.said ≡ s.now.said) }
 {
-    let of_input = both(share_due(&s.due), s.input.share(alloc));
     let scan = both(s.scan.clone(), CommandBuffer::new(alloc));
-    let read = both(of_input, both(share_option(&s.text), scan));
+    let begun = both(both(share_due(&s.due), share_option(&s.text)), scan);
     let tokens = both(s.after_groups.share(), share_option(&s.after_assignment));
     let kept = both(tokens, both(s.defined.clone(), s.said.clone()));
     let large = LargeParts::share(
+        alloc,
         &s.expander,
+        &s.input,
         &s.words,
         &s.table,
         &s.hyphenation,
         &s.lists,
         &s.alignments,
     );
-    let ((read, kept), large) = both(both(read, kept), large)?;
-    let ((due, input), (text, (scan, made))) = read;
+    let ((begun, kept), large) = both(both(begun, kept), large)?;
+    let ((due, text), (scan, made)) = begun;
     let ((after_groups, after_assignment), (defined, said)) = kept;
-    let ((expander, words), ((table, hyphenation), (lists, alignments))) = large.into_parts();
+    let ((expander, input), ((words, table), built)) = large.into_parts();
+    let (hyphenation, (lists, alignments)) = built;
     Ok(State {
         phase: s.phase,
         due,

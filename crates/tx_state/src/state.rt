@@ -61,7 +61,7 @@ impl Drop for State {
             phase: _,
             due: _,
             files: _,
-            input: _,
+            input,
             expander,
             text: _,
             scan: _,
@@ -79,6 +79,7 @@ impl Drop for State {
         } = self;
         drop(LargeParts {
             expander,
+            input,
             words,
             table,
             hyphenation,
@@ -102,6 +103,7 @@ impl State {
     {
         let given = LargeParts {
             expander,
+            input: Pending::new(alloc),
             words,
             table,
             hyphenation,
@@ -113,12 +115,13 @@ impl State {
             CommandBuffer::new(alloc),
         );
         let (given, (scan, made)) = both(Ok(given), begun)?;
-        let ((expander, words), ((table, hyphenation), (lists, alignments))) = given.into_parts();
+        let ((expander, input), ((words, table), built)) = given.into_parts();
+        let (hyphenation, (lists, alignments)) = built;
         Ok(State {
             phase: Phase::Running,
             due: Stack::new(alloc),
             files: 0,
-            input: Pending::new(alloc),
+            input,
             expander,
             text: None,
             scan,
