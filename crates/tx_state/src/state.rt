@@ -5,7 +5,7 @@ ghost use Rattle.tx_pending.specs.Elements.{no_input};
 ghost use Rattle.tx_command.specs.declared.types.Command.TheVariants.{Nothing};
 ghost use Rattle.tx_prim.specs.declared.modes.Mode.TheVariants as mode;
 
-use crate::parts::{Due, KeptToken, OpenText, Phase};
+use crate::parts::Phase;
 use std::alloc::{AllocError, Global};
 use tx_box::Lists;
 use tx_bytes::Bytes;
@@ -15,7 +15,7 @@ use tx_eqtb::Eqtb;
 use tx_expand::Expander;
 use tx_hyphenate::Hyphenation;
 use tx_list::{Stack, both};
-use tx_parts::LargeParts;
+use tx_parts::{Due, KeptToken, LargeParts, OpenText, SmallParts};
 use tx_pending::Pending;
 use tx_prim::Mode;
 use tx_tabular::Alignment;
@@ -59,32 +59,37 @@ impl Drop for State {
     fn drop(self) {
         let State {
             phase: _,
-            due: _,
+            due,
             files: _,
-            input,
-            expander,
-            text: _,
+            input: _,
+            expander: _,
+            text,
             scan: _,
             made: _,
             lists,
-            alignments,
+            alignments: _,
             words,
             hyphenation,
             table,
-            after_groups: _,
-            after_assignment: _,
+            after_groups,
+            after_assignment,
             magnification: _,
-            defined: _,
-            said: _,
+            defined,
+            said,
         } = self;
+        drop(SmallParts {
+            due,
+            text,
+            after_groups,
+            after_assignment,
+            defined,
+            said,
+        });
         drop(LargeParts {
-            expander,
-            input,
             words,
             table,
             hyphenation,
             lists,
-            alignments,
         });
     }
 }
@@ -102,32 +107,28 @@ impl State {
         ensures { IfOk result (λ s. s ≡ record { phase = Phase.Running; due = []; files = 0; input = no_input; expander = expander; text = None; scan = record { mode = mode.Vertical; head = Head.Fresh; taken = [] }; made = Nothing; lists = first_lists; alignments = []; words = words; hyphenation = hyphenation; table = table; after_groups = []; after_assignment = None; magnification = None; defined = []; said = [] }) }
     {
         let given = LargeParts {
-            expander,
-            input: Pending::new(alloc),
             words,
             table,
             hyphenation,
             lists: Lists::new(alloc),
-            alignments: Stack::new(alloc),
         };
         let begun = both(
             CommandScan::new(alloc, Mode::Vertical),
             CommandBuffer::new(alloc),
         );
-        let (given, (scan, made)) = both(Ok(given), begun)?;
-        let ((expander, input), ((words, table), built)) = given.into_parts();
-        let (hyphenation, (lists, alignments)) = built;
+        let ((given, expander), (scan, made)) = both(Ok((given, expander)), begun)?;
+        let ((words, table), (hyphenation, lists)) = given.into_parts();
         Ok(State {
             phase: Phase::Running,
             due: Stack::new(alloc),
             files: 0,
-            input,
+            input: Pending::new(alloc),
             expander,
             text: None,
             scan,
             made,
             lists,
-            alignments,
+            alignments: Stack::new(alloc),
             words,
             hyphenation,
             table,
