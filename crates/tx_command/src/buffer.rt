@@ -13,12 +13,22 @@ use tx_seen::Place;
 
 /// Where a whole command is put until it is carried out, so that no token moves one. An assignment stands apart from all others,
 /// and comes there straight from its scan. Contracts see the command.
-#[derive(Drop)]
 pub struct CommandBuffer {
     /// Which of both it is.
     whole: Whole,
     assignment: Box<Assignment>,
     command: Box<Command>,
+}
+
+// (by hand, so that crates above call this and don't prove again how each part is dropped)
+impl Drop for CommandBuffer {
+    fn drop(self) {
+        let CommandBuffer {
+            whole: _,
+            assignment: _,
+            command: _,
+        } = self;
+    }
 }
 
 impl Model for CommandBuffer {

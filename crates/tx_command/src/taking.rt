@@ -29,7 +29,6 @@ use tx_shape::{LoadScan, ShapeScan};
 
 /// A command that is being taken off the input. Contracts see the mode, what stands before the command, and the tokens and
 /// values that were taken since it began.
-#[derive(Drop)]
 pub struct CommandScan {
     mode: Mode,
     head: Head,
@@ -38,6 +37,19 @@ pub struct CommandScan {
     want: Want,
     /// Behind a pointer, so that what holds a command is moved and dropped in few steps.
     scans: Box<Scans>,
+}
+
+// (by hand, so that crates above call this and don't prove again how each part is dropped)
+impl Drop for CommandScan {
+    fn drop(self) {
+        let CommandScan {
+            mode: _,
+            head: _,
+            taken: _,
+            want: _,
+            scans: _,
+        } = self;
+    }
 }
 
 impl Model for CommandScan {

@@ -1,4 +1,2 @@
-pub mod Texting
 pub mod Outcomes
 pub mod Ordinary
-pub mod Keeping

@@ -26,17 +26,17 @@ use Rattle.tx_hyphenate.specs.contracts.known.Hyphenation as hyphenation
 use Rattle.tx_word.specs.declared.open.OpenWord.{OpenWord}
 use Rattle.tx_word.specs.contracts.open.OpenWord as open_word
 use Rattle.tx_word.specs.Collecting.{Collecting}
-use Rattle.tx_state.specs.declared.parts.Due.{Due}
-use Rattle.tx_state.specs.contracts.parts.Due as due
+use Rattle.tx_parts.specs.declared.parts.Due.{Due}
+use Rattle.tx_parts.specs.contracts.parts.Due as due
 use Rattle.tx_cond.specs.declared.types.Conditional.{Conditional}
 use Rattle.tx_cond.specs.contracts.types.Conditional as conditional
 use Rattle.tx_expand.specs.declared.begun.Begun.{Begun}
 use Rattle.tx_expand.specs.contracts.begun.Begun as begun
 use Rattle.tx_expand.specs.Reader.{Reader}
-use Rattle.tx_state.specs.declared.parts.KeptToken.{KeptToken}
-use Rattle.tx_state.specs.contracts.parts.KeptToken as kept_token
-use Rattle.tx_state.specs.declared.parts.OpenText.{OpenText}
-use Rattle.tx_state.specs.contracts.parts.OpenText as open_text
+use Rattle.tx_parts.specs.declared.parts.KeptToken.{KeptToken}
+use Rattle.tx_parts.specs.contracts.parts.KeptToken as kept_token
+use Rattle.tx_parts.specs.declared.parts.OpenText.{OpenText}
+use Rattle.tx_parts.specs.contracts.parts.OpenText as open_text
 use Rattle.tx_command.specs.declared.types.Head.{Head}
 use Rattle.tx_command.specs.contracts.types.Head as head
 use Rattle.tx_tabular.specs.declared.alignment.Alignment.{Alignment}

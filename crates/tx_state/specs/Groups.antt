@@ -1,11 +1,10 @@
 -- Groups begin and end, and what \aftergroup keeps is read behind them (TeX: The Program, sections 269 to 284 and 326).
-use Rattle.std.specs.Prelude.{◌≡◌, ℕ, ◌==◌, Bool, true, false, nat_lt, List, [], ◌∷◌, length, Option, Some, None, if◌then◌else◌}
-use Rattle.tx_char.specs.declared.tokens.Token.{Token}
+use Rattle.std.specs.Prelude.{◌≡◌, Bool, true, false, nat_lt, [], length, if◌then◌else◌}
 use Rattle.tx_eqtb.specs.declared.groups.GroupKind.{GroupKind}
 use Rattle.tx_eqtb.specs.Stack.{opened, closed}
 use Rattle.tx_expand.specs.Turns.{put_back}
 use Rattle.tx_seen.specs.declared.error.TexError.TheVariants.{TooManyGroups}
-use Rattle.tx_state.specs.declared.parts.KeptToken.{KeptToken}
+use Rattle.tx_parts.specs.KeptTokens.{kept_tokens, left_after}
 use Rattle.tx_state.specs.State.{TexState}
 use Rattle.tx_state.specs.Outcomes.{Outcome, fails, leaves}
 
@@ -18,20 +17,6 @@ opening s kind inside =
 abbrev pub IsOpened : GroupKind → TexState → Bool → TexState → Type 0
 IsOpened kind s true new = (nat_lt (length s.table.groups) 255 ≡ true) × (new ≡ record s { table = opened s.table kind })
 IsOpened kind s false new = nat_lt (length s.table.groups) 255 ≡ false
-
--- what \aftergroup keeps for the end of the innermost of so many groups, the last of those that are left
-abbrev pub kept_for : List KeptToken → ℕ → Option Token
-kept_for [] groups = None
-kept_for (kept ∷ more) groups = if kept.groups == groups then Some kept.token else None
-
--- all of it, the first first, before these tokens; and what is left behind it
-abbrev pub kept_tokens : ℕ → List KeptToken → List Token → List Token
-kept_tokens groups [] tokens = tokens
-kept_tokens groups (kept ∷ more) tokens = if kept.groups == groups then kept_tokens groups more (kept.token ∷ tokens) else tokens
-
-abbrev pub left_after : ℕ → List KeptToken → List KeptToken
-left_after groups [] = []
-left_after groups (kept ∷ more) = if kept.groups == groups then left_after groups more else kept ∷ more
 
 -- closing the innermost group brings back what it changed, and what \aftergroup keeps for it is read next (section 326)
 abbrev pub closing : TexState → TexState

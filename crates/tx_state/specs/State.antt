@@ -10,9 +10,9 @@ use Rattle.tx_prim.specs.declared.modes.Mode.{Mode}
 use Rattle.tx_seen.specs.declared.item.Item.{Item}
 use Rattle.tx_hyphenate.specs.declared.known.Hyphenation.{Hyphenation}
 use Rattle.tx_word.specs.Collecting.{Collecting}
-use Rattle.tx_state.specs.declared.parts.Due.{Due}
-use Rattle.tx_state.specs.declared.parts.KeptToken.{KeptToken}
-use Rattle.tx_state.specs.declared.parts.OpenText.{OpenText}
+use Rattle.tx_parts.specs.declared.parts.Due.{Due}
+use Rattle.tx_parts.specs.declared.parts.KeptToken.{KeptToken}
+use Rattle.tx_parts.specs.declared.parts.OpenText.{OpenText}
 use Rattle.tx_state.specs.declared.parts.Phase.{Phase}
 use Rattle.tx_state.specs.declared.parts.Phase.TheVariants.{Running, Waiting, Halted}
 use Rattle.tx_command.specs.declared.types.Head.{Head}

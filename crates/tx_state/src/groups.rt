@@ -1,21 +1,17 @@
 //! Groups begin and end, with what \aftergroup keeps (TeX: The Program, sections 269 to 284 and 326).
-ghost use Rattle.std.specs.Prelude.{◌≡◌, [], Some, IfOk, OnOk};
+ghost use Rattle.std.specs.Prelude.{◌≡◌, Some, IfOk, OnOk};
 ghost use Rattle.tx_eqtb.specs.declared.groups.GroupKind.{GroupKind};
 ghost use Rattle.tx_eqtb.specs.Stack.{kind_of};
-ghost use Rattle.tx_pending.specs.Elements.{given_back};
 ghost use Rattle.tx_state.specs.declared.parts.Phase.{Phase};
 ghost use Rattle.tx_state.specs.Groups as spec;
 ghost use Rattle.tx_state.specs.Meanings.{IsStepped, state_of};
 
 use crate::ending::fail;
-use crate::parts::KeptToken;
 use crate::state::State;
 use std::alloc::AllocError;
-use tx_char::Token;
 use tx_eqtb::{GroupKind, OpenError};
 use tx_event::Event;
-use tx_list::Stack;
-use tx_pending::Pending;
+use tx_parts::release_kept;
 use tx_seen::TexError;
 
 /// Opens a group of this kind, unless 255 are open; the answer is whether it did. Err is want of memory.
@@ -41,33 +37,6 @@ pub fn open(s: &mut State, kind: GroupKind) -> Result<Event, AllocError>
     } else {
         Ok(fail(s, TexError::TooManyGroups))
     }
-}
-
-/// The token that \aftergroup keeps for the end of the innermost of so many groups, the last of those that are left. Its only
-/// error is that no more owners of a name can be counted.
-fn kept_for(after_groups: &Stack<KeptToken>, groups: usize) -> Result<Option<Token>, AllocError>
-    ensures { IfOk result (λ kept. kept ≡ spec.kept_for after_groups.now groups) }
-{
-    match after_groups.first() {
-        Some(kept) if kept.groups == groups => Ok(Some(kept.token.clone()?)),
-        _ => Ok(None),
-    }
-}
-
-/// What \aftergroup keeps for the end of the innermost of so many groups is read next. Its only error is want of memory.
-fn release_kept(
-    after_groups: &mut Stack<KeptToken>,
-    input: &mut Pending,
-    groups: usize,
-) -> Result<(), AllocError>
-    ensures left { OnOk result (after_groups.new ≡ spec.left_after groups after_groups.old) }
-    ensures input { OnOk result (input.new ≡ given_back input.old (spec.kept_tokens groups after_groups.old [])) }
-{
-    while let Some(token) = kept_for(after_groups, groups)? {
-        after_groups.pop();
-        input.give_back(token)?;
-    }
-    Ok(())
 }
 
 /// Leaves the innermost group, of this kind: what it changed comes back, and what \aftergroup keeps for its end is read next.

@@ -2,18 +2,11 @@
 ghost use Rattle.std.specs.Prelude.{◌≡◌, IfOk};
 ghost use Rattle.tx_state.specs.Meanings.{meaning_of};
 
-use crate::parts::Due;
 use crate::state::State;
 use std::alloc::{AllocError, Global};
 use tx_command::CommandBuffer;
-use tx_list::{Stack, both, share_option};
-
-/// A copy of what is due. Its only error is want of memory.
-fn share_due(due: &Stack<Due>) -> Result<Stack<Due>, AllocError>
-    ensures { IfOk result (λ shared. shared ≡ due.now) }
-{
-    due.share()
-}
+use tx_list::both;
+use tx_parts::{LargeParts, SmallParts};
 
 /// A state that means the same, with the same bytes of the transcript that are still to be taken. Its only error is want of
 /// memory.
@@ -21,21 +14,26 @@ pub fn share_state(alloc: Global, s: &State) -> Result<State, AllocError>
     ensures meaning { IfOk result (λ t. meaning_of t ≡ meaning_of s.now) }
     ensures said { IfOk result (λ t. t.said ≡ s.now.said) }
 {
-    let of_words = both(s.expander.share(), s.words.share());
-    let of_table = both(s.table.share(), s.hyphenation.share());
-    let of_input = both(share_due(&s.due), s.input.share(alloc));
-    let scan = both(s.scan.clone(), CommandBuffer::new(alloc));
-    let begun = both(share_option(&s.text), scan);
-    let tokens = both(s.after_groups.share(), share_option(&s.after_assignment));
-    let of_bytes = both(s.defined.clone(), s.said.clone());
-    let of_lists = both(s.lists.share(), s.alignments.share());
-    let built = both(of_lists, both(tokens, of_bytes));
-    let read = both(of_input, begun);
-    let known = both(of_words, of_table);
-    let ((known, read), built) = both(both(known, read), built)?;
-    let ((expander, words), (table, hyphenation)) = known;
-    let ((due, input), (text, (scan, made))) = read;
-    let ((lists, alignments), ((after_groups, after_assignment), (defined, said))) = built;
+    let small = SmallParts::share(
+        &s.due,
+        &s.text,
+        &s.after_groups,
+        &s.after_assignment,
+        &s.defined,
+        &s.said,
+    );
+    let large = LargeParts::share(&s.words, &s.table, &s.hyphenation, &s.lists);
+    let begun = both(s.scan.clone(), CommandBuffer::new(alloc));
+    let read = both(
+        both(s.expander.share(), s.input.share(alloc)),
+        s.alignments.share(),
+    );
+    let (held, (begun, read)) = both(both(small, large), both(begun, read))?;
+    let (small, large) = held;
+    let ((due, text), ((after_groups, after_assignment), (defined, said))) = small.into_parts();
+    let ((words, table), (hyphenation, lists)) = large.into_parts();
+    let (scan, made) = begun;
+    let ((expander, input), alignments) = read;
     Ok(State {
         phase: s.phase,
         due,

@@ -5,7 +5,7 @@ ghost use Rattle.tx_pending.specs.Elements.{no_input};
 ghost use Rattle.tx_command.specs.declared.types.Command.TheVariants.{Nothing};
 ghost use Rattle.tx_prim.specs.declared.modes.Mode.TheVariants as mode;
 
-use crate::parts::{Due, KeptToken, OpenText, Phase};
+use crate::parts::Phase;
 use std::alloc::{AllocError, Global};
 use tx_box::Lists;
 use tx_bytes::Bytes;
@@ -15,13 +15,13 @@ use tx_eqtb::Eqtb;
 use tx_expand::Expander;
 use tx_hyphenate::Hyphenation;
 use tx_list::{Stack, both};
+use tx_parts::{Due, KeptToken, LargeParts, OpenText, SmallParts};
 use tx_pending::Pending;
 use tx_prim::Mode;
 use tx_tabular::Alignment;
 use tx_word::Words;
 
 /// All that the next turns depend on, and the bytes of the transcript that are still to be taken.
-#[derive(Drop)]
 pub struct State {
     pub phase: Phase,
     /// The next piece first.
@@ -54,6 +54,46 @@ pub struct State {
     pub said: Bytes,
 }
 
+// (by hand, so that crates above call this and don't prove again how each part is dropped)
+impl Drop for State {
+    fn drop(self) {
+        let State {
+            phase: _,
+            due,
+            files: _,
+            input: _,
+            expander: _,
+            text,
+            scan: _,
+            made: _,
+            lists,
+            alignments: _,
+            words,
+            hyphenation,
+            table,
+            after_groups,
+            after_assignment,
+            magnification: _,
+            defined,
+            said,
+        } = self;
+        drop(SmallParts {
+            due,
+            text,
+            after_groups,
+            after_assignment,
+            defined,
+            said,
+        });
+        drop(LargeParts {
+            words,
+            table,
+            hyphenation,
+            lists,
+        });
+    }
+}
+
 impl State {
     /// A state in which nothing is due or read, and the pages' list is built, with these words, this table and what is known of
     /// hyphenation. Its only error is want of memory.
@@ -66,13 +106,18 @@ impl State {
     ) -> Result<State, AllocError>
         ensures { IfOk result (λ s. s ≡ record { phase = Phase.Running; due = []; files = 0; input = no_input; expander = expander; text = None; scan = record { mode = mode.Vertical; head = Head.Fresh; taken = [] }; made = Nothing; lists = first_lists; alignments = []; words = words; hyphenation = hyphenation; table = table; after_groups = []; after_assignment = None; magnification = None; defined = []; said = [] }) }
     {
-        // (what was given is dropped with the rest, in one way out)
-        let given = both(Ok((expander, words)), Ok((table, hyphenation)));
+        let given = LargeParts {
+            words,
+            table,
+            hyphenation,
+            lists: Lists::new(alloc),
+        };
         let begun = both(
             CommandScan::new(alloc, Mode::Vertical),
             CommandBuffer::new(alloc),
         );
-        let (((expander, words), (table, hyphenation)), (scan, made)) = both(given, begun)?;
+        let ((given, expander), (scan, made)) = both(Ok((given, expander)), begun)?;
+        let ((words, table), (hyphenation, lists)) = given.into_parts();
         Ok(State {
             phase: Phase::Running,
             due: Stack::new(alloc),
@@ -82,7 +127,7 @@ impl State {
             text: None,
             scan,
             made,
-            lists: Lists::new(alloc),
+            lists,
             alignments: Stack::new(alloc),
             words,
             hyphenation,

@@ -1,6 +1,6 @@
 use Rattle.std.proofs.Common.{sym, ◌∙◌}
-use Rattle.tx_state.proofs.Keeping.{one-kept}
-use Rattle.tx_state.proofs.groups.release_kept.Goals as goal
+use Rattle.tx_parts.proofs.Keeping.{one-kept}
+use Rattle.tx_parts.proofs.kept_tokens.release_kept.Goals as goal
 
 pub loop-token-preserved : goal.loop-token-preserved
 loop-token-preserved c =

@@ -1,7 +1,7 @@
 use Rattle.std.proofs.Common.{◌≡◌, [], length}
 use Rattle.tx_pending.specs.Elements.{given_back}
-use Rattle.tx_state.specs.Groups.{kept_tokens, left_after}
-use Rattle.tx_state.proofs.groups.release_kept.Given as goal
+use Rattle.tx_parts.specs.KeptTokens.{kept_tokens, left_after}
+use Rattle.tx_parts.proofs.kept_tokens.release_kept.Given as goal
 
 -- the tokens that are kept still stand before those that are in front again
 abbrev pub invariant-loop-token : goal.invariant-loop-token

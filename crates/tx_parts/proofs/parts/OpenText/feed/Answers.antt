@@ -1,5 +1,5 @@
-use Rattle.tx_state.proofs.Texting.{absorbed-answered, definition-answered, list-answered}
-use Rattle.tx_state.proofs.parts.OpenText.feed.Goals as goal
+use Rattle.tx_parts.proofs.Texting.{absorbed-answered, definition-answered, list-answered}
+use Rattle.tx_parts.proofs.parts.OpenText.feed.Goals as goal
 
 pub returns-in-Definition : goal.returns-in-Definition
 returns-in-Definition c =

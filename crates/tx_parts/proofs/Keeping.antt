@@ -3,8 +3,8 @@ use Rattle.std.proofs.Common.{◌≡◌, ℕ, Bool, true, false, Option, Some, N
 use Rattle.std.specs.Prelude.{MatchOption}
 use Rattle.tx_char.specs.declared.tokens.Token.{Token}
 use Rattle.tx_pending.specs.Elements.{Input, given_back, with_token}
-use Rattle.tx_state.specs.declared.parts.KeptToken.{KeptToken}
-use Rattle.tx_state.specs.Groups.{kept_for, kept_tokens, left_after}
+use Rattle.tx_parts.specs.declared.parts.KeptToken.{KeptToken}
+use Rattle.tx_parts.specs.KeptTokens.{kept_for, kept_tokens, left_after}
 
 -- a token that is given back, and then others
 token-behind : (input : Input) (t : Token) (ts : List Token) → given_back (with_token input t) ts ≡ given_back input (ts ++ t ∷ [])

@@ -16,9 +16,9 @@ use Rattle.tx_text.specs.Absorbed as absorbed
 use Rattle.tx_text.specs.Absorbed.{Absorbing, IsAbsorbed}
 use Rattle.tx_text.specs.Definitions as definition
 use Rattle.tx_text.specs.Definitions.{Defining, IsTaken}
-use Rattle.tx_state.specs.declared.parts.OpenText.{OpenText}
-use Rattle.tx_state.specs.declared.parts.OpenText.TheVariants as texts
-use Rattle.tx_state.specs.Texts.{IsTextFed, absorbing_on, defining_on, has_ended_at, is_whole_at, listing_on, with_token}
+use Rattle.tx_parts.specs.declared.parts.OpenText.{OpenText}
+use Rattle.tx_parts.specs.declared.parts.OpenText.TheVariants as texts
+use Rattle.tx_parts.specs.Texts.{IsTextFed, absorbing_on, defining_on, has_ended_at, is_whole_at, listing_on, with_token}
 
 definition-answers : (d : Defining) (s : Stage) → definition.answer d s ≡ cond (is_whole_at s) (Done tt 0) (More (definition.wanted d s))
 definition-answers d stage.Heading = refl

@@ -1,5 +1,5 @@
-use Rattle.tx_state.proofs.Ordinary.{absorbed-joined, definition-joined, list-joined}
-use Rattle.tx_state.proofs.parts.OpenText.join.Goals as goal
+use Rattle.tx_parts.proofs.Ordinary.{absorbed-joined, definition-joined, list-joined}
+use Rattle.tx_parts.proofs.parts.OpenText.join.Goals as goal
 
 pub returns-in-Definition : goal.returns-in-Definition
 returns-in-Definition c =

@@ -1,0 +1,3 @@
+pub mod Texting
+pub mod Ordinary
+pub mod Keeping
