@@ -4,6 +4,7 @@ use Rattle.tx_char.specs.declared.tokens.Token.{Token}
 use Rattle.tx_box.specs.declared.parts.Done.{Done}
 use Rattle.tx_box.specs.declared.parts.Lists.{Lists}
 use Rattle.tx_box.specs.declared.parts.Target.{Target}
+use Rattle.tx_box.specs.declared.inserts.InsertParams.{InsertParams}
 use Rattle.tx_box.specs.Building.{Ended, ending, every_in, greatest_depth, reported}
 use Rattle.tx_box.specs.Effects.{Effect, told}
 use Rattle.tx_box.specs.Inserts.{VerticalLeft, ending_insert as insert_ended, insert_params, left_vertical}
@@ -116,6 +117,15 @@ ends before between new most lists table report done answer deep same said is di
     let same_table : between.table ≡ closed before.table = ap (λ (s : TexState). s.table) same in
     boxes (closing (state_of before)) before between new lists table (ending (greatest_depth before.table.table) before.lists (closed before.table)) report done answer same said
     ((λ i. ending (sym deep i) (sym same_lists i) (sym same_table i)) ∙ is)
+    did
+
+-- the end of an insertion, behind the end of its group
+pub inserts : {E : Type 0} (class : ℕ) (before between new : State) (params : InsertParams) (lists : Lists) (done : Done) (answer : Result Event E) → params ≡ insert_params before.table.table → state_of between ≡ closing (state_of before) → between.said ≡ before.said → insert_ended class params between.lists between.table ≡ told done lists between.table → IfOk answer (λ event. IsStepped (carried (state_of (with_parts between lists between.table)) (told done lists between.table)) (with_parts between lists between.table) event new) → IfOk answer (λ event. IsStepped (packing_insert (state_of before) class) before event new)
+inserts class before between new params lists done answer read same said is did =
+    let same_lists : between.lists ≡ before.lists = ap (λ (s : TexState). s.lists) same in
+    let same_table : between.table ≡ closed before.table = ap (λ (s : TexState). s.table) same in
+    carries (closing (state_of before)) before between new lists between.table (insert_ended class (insert_params before.table.table) before.lists (closed before.table)) done answer same said
+    ((λ i. insert_ended class (sym read i) (sym same_lists i) (sym same_table i)) ∙ is)
     did
 
 -- a list without a marker is its tokens

@@ -1,7 +1,6 @@
 //! The effects of the commands of boxes and lists: a part of the state is handed down to the crate that carries them out, and what
 //! this answers is taken over (TeX: The Program, part 47).
 ghost use Rattle.std.specs.Prelude.{◌≡◌, Some, IfOk, OnOk};
-ghost use Rattle.tx_box.specs.Building.{reported};
 ghost use Rattle.tx_box.specs.Effects.{told};
 ghost use Rattle.tx_eqtb.specs.Stack.{kind_of};
 ghost use Rattle.tx_state.specs.declared.parts.Phase.{Phase};
@@ -10,7 +9,7 @@ ghost use Rattle.tx_state.specs.Meanings.{IsStepped, state_of};
 ghost use Rattle.tx_state.specs.Outcomes.{Leaves};
 ghost use Rattle.tx_boxing.specs.Shipped as shipped;
 
-use crate::pages::{build_if, build_in, context_of};
+use crate::pages::{build_in, context_if, context_of, register_context};
 use std::alloc::{AllocError, Global};
 use tx_assign::is_global;
 use tx_box::{
@@ -18,12 +17,13 @@ use tx_box::{
     take_last, use_register,
 };
 use tx_command::{BoxContext, BoxGoal};
-use tx_eqtb::GroupKind;
+use tx_eqtb::{Eqtb, GroupKind};
 use tx_event::Event;
 use tx_list::Stack;
-use tx_nest::{append_items, append_rule, has_last_box, is_bare_page, remove_item, set_prev_depth};
-use tx_node::{BoxNode, Nodes, Rule};
+use tx_nest::{append_rule, has_last_box, is_bare_page, remove_item, set_prev_depth};
+use tx_node::{BoxNode, Rule};
 use tx_output::LastItem;
+use tx_pending::Pending;
 use tx_prim::{BoxKind, IntegerParameter, ItemKind, UnboxKind};
 use tx_seen::{Place, TexError};
 use tx_state::{Due, State, end_assignment, fail, finish_assignment, leave_group};
@@ -102,7 +102,7 @@ pub(crate) fn take_over(
 
 /// What a command of boxes answered is taken over, with these bytes for the transcript, which gets them also where the run ends by
 /// an error. Err is want of memory.
-fn carry_telling(s: &mut State, done: Done, report: &[u8]) -> Result<Event, AllocError>
+pub(crate) fn carry(s: &mut State, done: Done, report: &[u8]) -> Result<Event, AllocError>
     requires { s.old.phase ≡ Phase.Running }
     ensures { IfOk result (λ event. IsStepped (spec.carried_telling (state_of s.old) report.now (told done s.old.lists s.old.table)) s.old event s.new) }
 {
@@ -116,58 +116,50 @@ fn carry_telling(s: &mut State, done: Done, report: &[u8]) -> Result<Event, Allo
     }
 }
 
-/// What a command of boxes answered is taken over. Err is want of memory.
-pub(crate) fn carry(s: &mut State, done: Done) -> Result<Event, AllocError>
-    requires { s.old.phase ≡ Phase.Running }
-    ensures { IfOk result (λ event. IsStepped (spec.carried (state_of s.old) (told done s.old.lists s.old.table)) s.old event s.new) }
-{
-    carry_telling(s, done, b"")
-}
-
-/// What becomes of a box.
-pub(crate) fn target_of(s: &State, context: BoxContext) -> Target
-    ensures { result ≡ spec.target_of (state_of s.now) context }
-{
-    let globaldefs = s.table.integer(IntegerParameter::Globaldefs);
-    Target {
-        context,
-        global: is_global(globaldefs, s.scan.prefixes().global),
-    }
-}
-
-/// \setbox is an assignment that is done as soon as its box begins or is found. Its only error is want of memory.
-pub(crate) fn settle(s: &mut State, context: BoxContext) -> Result<(), AllocError>
+/// What becomes of a box; \setbox is an assignment that is done as soon as its box begins or is found. Its only error is want of
+/// memory.
+pub(crate) fn settle(s: &mut State, context: BoxContext) -> Result<Target, AllocError>
+    ensures target { IfOk result (λ target. target ≡ spec.target_of (state_of s.old) context) }
     ensures state { OnOk result (state_of s.new ≡ spec.settled context (state_of s.old)) }
     ensures phase { OnOk result (s.new.phase ≡ s.old.phase) }
     ensures said { OnOk result (s.new.said ≡ s.old.said) }
 {
+    let globaldefs = s.table.integer(IntegerParameter::Globaldefs);
+    let target = Target {
+        context,
+        global: is_global(globaldefs, s.scan.prefixes().global),
+    };
     match context {
-        BoxContext::Register(_) => finish_assignment(s),
-        BoxContext::Append(_) | BoxContext::Ship => Ok(()),
-        BoxContext::Adjust | BoxContext::Center => Ok(()),
+        BoxContext::Register(_) => {
+            finish_assignment(s)?;
+            Ok(target)
+        }
+        BoxContext::Append(_) | BoxContext::Ship => Ok(target),
+        BoxContext::Adjust | BoxContext::Center => Ok(target),
     }
 }
 
 /// The tokens of \everyhbox or \everyvbox are read next. Its only error is want of memory.
-fn read_every(s: &mut State, kind: BoxKind) -> Result<(), AllocError>
-    ensures state { OnOk result (state_of s.new ≡ spec.with_every kind (state_of s.old)) }
-    ensures phase { OnOk result (s.new.phase ≡ s.old.phase) }
-    ensures said { OnOk result (s.new.said ≡ s.old.said) }
+fn read_every(input: &mut Pending, table: &Eqtb, kind: BoxKind) -> Result<(), AllocError>
+    ensures { (s : State) → OnOk result (state_of (record s { input = input.new; table = table.now }) ≡ spec.with_every kind (state_of (record s { input = input.old; table = table.now }))) }
 {
-    let every = s.table.tokens(&Place::Tokens(every_in(kind)))?;
-    s.input.push_list(every, false)?;
+    let every = table.tokens(&Place::Tokens(every_in(kind)))?;
+    input.push_list(every, false)?;
     Ok(())
 }
 
 /// The same, unless the list is that of a \vadjust.
-fn read_every_in(s: &mut State, context: BoxContext, kind: BoxKind) -> Result<(), AllocError>
-    ensures state { OnOk result (state_of s.new ≡ spec.with_every_in context kind (state_of s.old)) }
-    ensures phase { OnOk result (s.new.phase ≡ s.old.phase) }
-    ensures said { OnOk result (s.new.said ≡ s.old.said) }
+fn read_every_in(
+    input: &mut Pending,
+    table: &Eqtb,
+    context: BoxContext,
+    kind: BoxKind,
+) -> Result<(), AllocError>
+    ensures { (s : State) → OnOk result (state_of (record s { input = input.new; table = table.now }) ≡ spec.with_every_in context kind (state_of (record s { input = input.old; table = table.now }))) }
 {
     match context {
-        BoxContext::Append(_) | BoxContext::Register(_) => read_every(s, kind),
-        BoxContext::Ship | BoxContext::Center => read_every(s, kind),
+        BoxContext::Append(_) | BoxContext::Register(_) => read_every(input, table, kind),
+        BoxContext::Ship | BoxContext::Center => read_every(input, table, kind),
         BoxContext::Adjust => Ok(()),
     }
 }
@@ -184,28 +176,11 @@ pub fn open_box(
     requires running { s.old.phase ≡ Phase.Running }
     ensures { IfOk result (λ event. IsStepped (spec.opening_box (state_of s.old) kind goal context) s.old event s.new) }
 {
-    let target = target_of(s, context);
-    read_every_in(s, context, kind)?;
-    settle(s, context)?;
+    read_every_in(&mut s.input, &s.table, context, kind)?;
+    let target = settle(s, context)?;
     let open = OpenBox { kind, goal, target };
     let done = begin_box(alloc, &mut s.lists, &mut s.table, open)?;
-    carry(s, done)
-}
-
-/// The box of a register goes where it is to go. Err is want of memory.
-fn move_box(
-    alloc: Global,
-    s: &mut State,
-    number: u8,
-    context: BoxContext,
-) -> Result<Event, AllocError>
-    requires running { s.old.phase ≡ Phase.Running }
-    ensures { IfOk result (λ event. IsStepped (spec.moving_box (state_of s.old) number context) s.old event s.new) }
-{
-    let target = target_of(s, context);
-    settle(s, context)?;
-    let done = use_register(alloc, &mut s.lists, &mut s.table, target, number)?;
-    carry(s, done)
+    carry(s, done, b"")
 }
 
 /// \box: the box of a register, behind which the page builder is exercised unless it is void. Err is want of memory; the event may
@@ -219,9 +194,11 @@ pub fn use_box(
     requires running { s.old.phase ≡ Phase.Running }
     ensures { IfOk result (λ event. IsStepped (spec.using_box (state_of s.old) number context) s.old event s.new) }
 {
-    let found = s.table.boxed(&Place::Box(number)).is_some();
-    let event = move_box(alloc, s, number, context)?;
-    build_if(alloc, s, found, context, event)
+    let behind = register_context(&s.table, number, context);
+    let target = settle(s, context)?;
+    let done = use_register(alloc, &mut s.lists, &mut s.table, target, number)?;
+    let event = carry(s, done, b"")?;
+    build_in(alloc, s, behind, event)
 }
 
 /// \copy: the box of a register, which keeps it. Err is want of memory; the event may end the run by an error, as `copying_box`
@@ -235,21 +212,9 @@ pub fn copy_box(
     requires running { s.old.phase ≡ Phase.Running }
     ensures { IfOk result (λ event. IsStepped (spec.copying_box (state_of s.old) number context) s.old event s.new) }
 {
-    let target = target_of(s, context);
-    settle(s, context)?;
+    let target = settle(s, context)?;
     let done = copy_register(alloc, &mut s.lists, &mut s.table, target, number)?;
-    carry(s, done)
-}
-
-/// The box at the list's end goes where it is to go. Err is want of memory.
-fn move_last(alloc: Global, s: &mut State, context: BoxContext) -> Result<Event, AllocError>
-    requires running { s.old.phase ≡ Phase.Running }
-    ensures { IfOk result (λ event. IsStepped (spec.moving_last (state_of s.old) context) s.old event s.new) }
-{
-    let target = target_of(s, context);
-    settle(s, context)?;
-    let done = take_last(alloc, &mut s.lists, &mut s.table, target)?;
-    carry(s, done)
+    carry(s, done, b"")
 }
 
 /// \lastbox: the box at the list's end, behind which the page builder is exercised if there is one. Err is want of memory; the
@@ -258,9 +223,11 @@ pub fn take_box(alloc: Global, s: &mut State, context: BoxContext) -> Result<Eve
     requires running { s.old.phase ≡ Phase.Running }
     ensures { IfOk result (λ event. IsStepped (spec.taking_box (state_of s.old) context) s.old event s.new) }
 {
-    let found = has_last_box(&s.lists.nest.innermost().nodes);
-    let event = move_last(alloc, s, context)?;
-    build_if(alloc, s, found, context, event)
+    let behind = context_if(has_last_box(&s.lists.nest.innermost().nodes), context);
+    let target = settle(s, context)?;
+    let done = take_last(alloc, &mut s.lists, &mut s.table, target)?;
+    let event = carry(s, done, b"")?;
+    build_in(alloc, s, behind, event)
 }
 
 /// \unhbox and its kin. Err is want of memory; the event may end the run by an error, as `unboxing_so` says.
@@ -269,28 +236,7 @@ pub fn unbox(s: &mut State, kind: UnboxKind, number: u8) -> Result<Event, AllocE
     ensures { IfOk result (λ event. IsStepped (spec.unboxing_so (state_of s.old) kind number) s.old event s.new) }
 {
     let done = tx_box::unbox(&mut s.lists, &mut s.table, kind, number)?;
-    carry(s, done)
-}
-
-/// A box's end is taken over, and the transcript's line of it. Err is want of memory.
-pub(crate) fn finish_box(s: &mut State, ended: Ended) -> Result<Event, AllocError>
-    requires { s.old.phase ≡ Phase.Running }
-    ensures { IfOk result (λ event. IsStepped (spec.boxed (state_of s.old) (reported ended.report (told ended.done s.old.lists s.old.table))) s.old event s.new) }
-{
-    let Ended { done, report } = ended;
-    carry_telling(s, done, report.as_slice())
-}
-
-/// The list of a box, whose group of this kind ends, is packed and goes where it is to go. Err is want of memory.
-fn pack_box(alloc: Global, s: &mut State, kind: GroupKind) -> Result<Event, AllocError>
-    requires running { s.old.phase ≡ Phase.Running }
-    requires kind { kind_of s.old.table ≡ Some kind }
-    ensures { IfOk result (λ event. IsStepped (spec.packing_box (state_of s.old)) s.old event s.new) }
-{
-    let most = greatest_depth(&s.table);
-    leave_group(s, kind)?;
-    let ended = tx_box::end_box(alloc, &mut s.lists, &mut s.table, most)?;
-    finish_box(s, ended)
+    carry(s, done, b"")
 }
 
 /// The end of a box, whose group is of this kind, behind which the page builder is exercised if it was appended. Err is want of
@@ -301,22 +247,12 @@ pub(crate) fn end_box(alloc: Global, s: &mut State, kind: GroupKind) -> Result<E
     ensures { IfOk result (λ event. IsStepped (spec.ending_box (state_of s.old)) s.old event s.new) }
 {
     let context = context_of(&s.lists.boxes);
-    let event = pack_box(alloc, s, kind)?;
+    let most = greatest_depth(&s.table);
+    leave_group(s, kind)?;
+    let ended = tx_box::end_box(alloc, &mut s.lists, &mut s.table, most)?;
+    let Ended { done, report } = ended;
+    let event = carry(s, done, report.as_slice())?;
     build_in(alloc, s, context, event)
-}
-
-/// A copy goes where it is to go. Err is want of memory.
-fn put_copy(
-    alloc: Global,
-    s: &mut State,
-    target: Target,
-    copied: BoxNode,
-) -> Result<Event, AllocError>
-    requires { s.old.phase ≡ Phase.Running }
-    ensures { IfOk result (λ event. IsStepped (shipped.copies (state_of s.old) copied target) s.old event s.new) }
-{
-    let done = place(alloc, &mut s.lists, &mut s.table, target, Some(copied))?;
-    carry(s, done)
 }
 
 /// A copy goes where it is to go, behind which the page builder is exercised. Err is want of memory.
@@ -329,15 +265,7 @@ pub(crate) fn add_copy(
     requires { s.old.phase ≡ Phase.Running }
     ensures { IfOk result (λ event. IsStepped (shipped.works_boxes (state_of s.old) (Work.Copy copied target)) s.old event s.new) }
 {
-    let event = put_copy(alloc, s, target, copied)?;
+    let done = place(alloc, &mut s.lists, &mut s.table, target, Some(copied))?;
+    let event = carry(s, done, b"")?;
     build_in(alloc, s, target.context, event)
-}
-
-/// A copied list stands at the end of the one that is being built. Err is want of memory.
-pub(crate) fn add_list(s: &mut State, list: Nodes) -> Result<Event, AllocError>
-    requires { s.old.phase ≡ Phase.Running }
-    ensures { IfOk result (λ event. IsStepped (shipped.works_boxes (state_of s.old) (Work.CopyList list)) s.old event s.new) }
-{
-    append_items(s.lists.nest.top(), list)?;
-    Ok(Event::Went)
 }

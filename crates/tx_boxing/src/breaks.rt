@@ -22,7 +22,7 @@ pub fn begin_break(alloc: Global, s: &mut State, text: BreakText) -> Result<Even
 {
     s.scan.begin_fresh();
     let done = tx_box::begin_break(alloc, &mut s.lists, &mut s.table, text)?;
-    carry(s, done)
+    carry(s, done, b"")
 }
 
 /// What stands before the command behind a text of \discretionary.

@@ -1,46 +1,48 @@
 //! The effects of pages: the page builder is exercised, \output begins and ends, \insert, \vsplit, \end, and what is assigned to
 //! pages (TeX: The Program, sections 994 to 1054 and 1097 to 1100).
-ghost use Rattle.std.specs.Prelude.{◌≡◌, ◌≢◌, [], IsTrue, Some, IfOk, OnOk};
+ghost use Rattle.std.specs.Prelude.{◌≡◌, ◌≢◌, [], IsTrue, Some, is_some, IfOk};
 ghost use Rattle.tx_eqtb.specs.Stack.{kind_of};
+ghost use Rattle.tx_eqtb.specs.Table.{box_at};
 ghost use Rattle.tx_galley.specs.Assigning.{setting};
 ghost use Rattle.tx_galley.specs.declared.errors.GalleyError.TheVariants.{OutOfMemory};
 ghost use Rattle.tx_galley.specs.Ending.{is_done as is_run_done};
 ghost use Rattle.tx_galley.specs.Errors.{error_of};
 ghost use Rattle.tx_box.specs.Inserts.{left_vertical};
+ghost use Rattle.tx_pending.specs.Elements.{step};
 ghost use Rattle.tx_state.specs.declared.parts.Phase.{Phase};
 ghost use Rattle.tx_state.specs.Meanings.{IsStepped, state_of};
 ghost use Rattle.tx_event.specs.declared.types.Event.{Event};
-ghost use Rattle.tx_state.specs.Outcomes.{Outcome, fails, leaves};
+ghost use Rattle.tx_state.specs.Outcomes.{Outcome, leaves};
 ghost use Rattle.tx_boxing.specs.Building as building;
 ghost use Rattle.tx_boxing.specs.Boxes.{context_of as innermost_context};
 ghost use Rattle.tx_boxing.specs.Pages as spec;
 
-use crate::boxes::{carry, finish_box, settle, target_of};
+use crate::boxes::{carry, settle};
 use std::alloc::{AllocError, Global};
 use tx_box::{
-    Ended, OpenBox, Target, Work, begin_vertical, end_insert, end_vertical, insert_params, place,
+    OpenBox, Target, Work, begin_vertical, end_insert, end_vertical, insert_params, place,
 };
 use tx_command::Head;
-use tx_eqtb::GroupKind;
+use tx_eqtb::{Eqtb, GroupKind};
 use tx_event::Event;
 use tx_galley::{
     GalleyError, Next, add_end, end_output, exercise, is_done, set_quantity, split_box,
 };
 use tx_list::Stack;
 use tx_pack::Packed;
-use tx_pending::Next as Pending_next;
+use tx_pending::{Next as Pending_next, Pending};
 use tx_prim::{Mode, PageQuantity};
 use tx_seen::{Place, TexError};
 use tx_shape::{BoxContext, Opener};
 use tx_state::{Due, State, end_assignment, fail, finish, leave_group};
 
-/// The run ends by the error of a page, if that isn't want of memory.
-fn fail_by_page(s: &mut State, error: GalleyError) -> Result<Event, AllocError>
-    ensures failed { IfOk result (λ event. IsStepped (fails (error_of error)) s.old event s.new) }
+/// The error of a page by which the run ends, if that isn't want of memory.
+fn page_error(error: GalleyError) -> Result<TexError, AllocError>
+    ensures told { IfOk result (λ told. told ≡ error_of error) }
     ensures memory { IfOk result (λ _. error ≢ OutOfMemory) }
 {
     match error {
-        GalleyError::Refused(error) => Ok(fail(s, error)),
+        GalleyError::Refused(error) => Ok(error),
         GalleyError::OutOfMemory => Err(AllocError),
     }
 }
@@ -73,7 +75,10 @@ pub(crate) fn build(alloc: Global, s: &mut State) -> Result<Event, AllocError>
 {
     match exercise(alloc, &mut s.lists.nest, &mut s.table, &mut s.lists.pages) {
         Ok(next) => take_page(s, next),
-        Err(error) => fail_by_page(s, error),
+        Err(error) => {
+            let error = page_error(error)?;
+            Ok(fail(s, error))
+        }
     }
 }
 
@@ -126,22 +131,18 @@ pub(crate) fn build_in(
     }
 }
 
-/// The same behind a box, unless it is void. Err is want of memory.
-pub(crate) fn build_if(
-    alloc: Global,
-    s: &mut State,
-    found: bool,
-    context: BoxContext,
-    event: Event,
-) -> Result<Event, AllocError>
-    requires runs { event ≡ Event.Went → s.old.phase ≡ Phase.Running }
-    ensures { (before : State) (outcome : Outcome) → IsStepped outcome before event s.old → IfOk result (λ further. IsStepped (building.built_if found context outcome) before further s.new) }
+/// What becomes of a box, as the page builder has to know it: a void one isn't appended.
+pub(crate) fn context_if(found: bool, context: BoxContext) -> BoxContext
+    ensures { (outcome : Outcome) → building.built_in result outcome ≡ building.built_if found context outcome }
 {
-    if found {
-        build_in(alloc, s, context, event)
-    } else {
-        Ok(event)
-    }
+    if found { context } else { BoxContext::Ship }
+}
+
+/// The same of the box of a register.
+pub(crate) fn register_context(table: &Eqtb, number: u8, context: BoxContext) -> BoxContext
+    ensures { (outcome : Outcome) → building.built_in result outcome ≡ building.built_if (is_some (box_at table.now.table (Place.Box number))) context outcome }
+{
+    context_if(table.boxed(&Place::Box(number)).is_some(), context)
 }
 
 /// What is to become of the innermost open box.
@@ -167,40 +168,34 @@ pub fn begin_vertical_list(
 {
     s.scan.begin_fresh();
     let done = begin_vertical(alloc, &mut s.lists, &mut s.table, group)?;
-    carry(s, done)
+    carry(s, done, b"")
 }
 
-/// The list of an \insert of this class, whose group ends, is packed and stands in the list around. Err is want of memory.
-fn pack_insert(alloc: Global, s: &mut State, class: u8) -> Result<Event, AllocError>
-    requires running { s.old.phase ≡ Phase.Running }
-    requires kind { kind_of s.old.table ≡ Some (GroupKind.Insert class) }
-    ensures { IfOk result (λ event. IsStepped (spec.packing_insert (state_of s.old) class) s.old event s.new) }
-{
-    let params = insert_params(&s.table);
-    leave_group(s, GroupKind::Insert(class))?;
-    let done = end_insert(alloc, &mut s.lists, &s.table, class, params)?;
-    carry(s, done)
-}
-
-/// The end of the list of an \insert of this class, behind which the page builder is exercised. Err is want of memory.
+/// The list of an \insert of this class, whose group ends, is packed and stands in the list around, behind which the page builder
+/// is exercised. Err is want of memory.
 pub(crate) fn finish_insert(alloc: Global, s: &mut State, class: u8) -> Result<Event, AllocError>
     requires running { s.old.phase ≡ Phase.Running }
     requires kind { kind_of s.old.table ≡ Some (GroupKind.Insert class) }
     ensures { IfOk result (λ event. IsStepped (spec.ending_insert (state_of s.old) class) s.old event s.new) }
 {
-    let event = pack_insert(alloc, s, class)?;
+    let params = insert_params(&s.table);
+    leave_group(s, GroupKind::Insert(class))?;
+    let done = end_insert(alloc, &mut s.lists, &s.table, class, params)?;
+    let event = carry(s, done, b"")?;
     build_behind(alloc, s, event)
 }
 
 /// Whether the tokens of \output end here: their marker comes next, and is taken away. Where it is false, what was read is lost,
 /// and the run ends by that. Err is want of memory.
-pub(crate) fn take_marker(alloc: Global, s: &mut State) -> Result<bool, AllocError>
-    ensures told { IfOk result (λ at_end. at_end ≡ spec.is_at_marker (state_of s.old)) }
-    ensures state { IfOk result (λ at_end. IsTrue at_end → state_of s.new ≡ spec.without_marker (state_of s.old)) }
-    ensures phase { OnOk result (s.new.phase ≡ s.old.phase) }
-    ensures said { OnOk result (s.new.said ≡ s.old.said) }
+pub(crate) fn take_marker(
+    alloc: Global,
+    input: &mut Pending,
+    table: &Eqtb,
+) -> Result<bool, AllocError>
+    ensures told { IfOk result (λ at_end. at_end ≡ spec.is_marker (step table.now.table.categories input.old).next) }
+    ensures left { IfOk result (λ at_end. IsTrue at_end → input.new ≡ (step table.now.table.categories input.old).left) }
 {
-    match s.input.next_known(alloc, s.table.categories(), &s.table)? {
+    match input.next_known(alloc, table.categories(), table)? {
         Pending_next::Marker => Ok(true),
         Pending_next::Token(_) | Pending_next::Held(_) => Ok(false),
         Pending_next::PartEnd(_) => Ok(false),
@@ -225,7 +220,10 @@ fn go_on_behind_output(alloc: Global, s: &mut State) -> Result<Event, AllocError
         list,
     ) {
         Ok(next) => take_page(s, next),
-        Err(error) => fail_by_page(s, error),
+        Err(error) => {
+            let error = page_error(error)?;
+            Ok(fail(s, error))
+        }
     }
 }
 
@@ -270,11 +268,13 @@ fn split_off(
     requires { s.old.phase ≡ Phase.Running }
     ensures { IfOk result (λ event. IsStepped (spec.splitting_box (state_of s.old) number size context) s.old event s.new) }
 {
-    let target = target_of(s, context);
-    settle(s, context)?;
+    let target = settle(s, context)?;
     match split_box(alloc, &mut s.table, &mut s.lists.pages, number, size) {
         Ok(packed) => place_split(alloc, s, target, packed),
-        Err(error) => fail_by_page(s, error),
+        Err(error) => {
+            let error = page_error(error)?;
+            Ok(fail(s, error))
+        }
     }
 }
 
@@ -290,9 +290,9 @@ pub fn split(
     requires running { s.old.phase ≡ Phase.Running }
     ensures { IfOk result (λ event. IsStepped (spec.splitting_off (state_of s.old) number size context) s.old event s.new) }
 {
-    let found = s.table.boxed(&Place::Box(number)).is_some();
+    let behind = register_context(&s.table, number, context);
     let event = split_off(alloc, s, number, size, context)?;
-    build_if(alloc, s, found, context, event)
+    build_in(alloc, s, behind, event)
 }
 
 /// What \vsplit split off goes where it is to go. Err is want of memory.
@@ -314,11 +314,11 @@ fn place_split(
     ) = packed
     else {
         let done = place(alloc, &mut s.lists, &mut s.table, target, None)?;
-        return carry(s, done);
+        return carry(s, done, b"");
     };
     s.lists.badness = badness;
     let done = place(alloc, &mut s.lists, &mut s.table, target, Some(node))?;
-    finish_box(s, Ended { done, report })
+    carry(s, done, report.as_slice())
 }
 
 /// \end: the run ends, or a page is to be fired before. Err is want of memory; the event may end the run by an error, as

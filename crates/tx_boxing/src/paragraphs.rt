@@ -5,7 +5,7 @@ ghost use Rattle.tx_boxing.specs.Paragraphs as spec;
 ghost use Rattle.tx_nest.specs.Grafs.{graf_of as graf_for};
 ghost use Rattle.tx_par.specs.declared.error.ParError.TheVariants.{OutOfMemory};
 ghost use Rattle.tx_paragraph.specs.Ending.{par_error};
-ghost use Rattle.tx_state.specs.Outcomes.{fails, leaves};
+ghost use Rattle.tx_state.specs.Outcomes.{leaves};
 ghost use Rattle.tx_state.specs.declared.parts.Phase.{Phase};
 ghost use Rattle.tx_state.specs.Meanings.{IsStepped, state_of};
 
@@ -15,24 +15,23 @@ use std::alloc::{AllocError, Global};
 use tx_assign::{Assignment, Change};
 use tx_char::{ControlName, Token};
 use tx_command::{Head, Prefixes};
-use tx_eqtb::{Entry, ParShape};
+use tx_eqtb::{Entry, Eqtb, ParShape};
 use tx_event::Event;
 use tx_list::Items;
 use tx_nest::{graf_of, set_prev_graf};
 use tx_par::ParError;
+use tx_pending::Pending;
 use tx_prim::{Indentation, ModeTest, TokenParameter};
 use tx_seen::{Place, TexError};
 use tx_state::{State, carry_out_assignment, end_assignment, fail};
 
 /// The tokens of \everypar are read first, if a paragraph begins. Its only error is want of memory.
-fn read_every_par(s: &mut State, begins: bool) -> Result<(), AllocError>
-    ensures state { OnOk result (state_of s.new ≡ spec.with_every_par begins (state_of s.old)) }
-    ensures phase { OnOk result (s.new.phase ≡ s.old.phase) }
-    ensures said { OnOk result (s.new.said ≡ s.old.said) }
+fn read_every_par(input: &mut Pending, table: &Eqtb, begins: bool) -> Result<(), AllocError>
+    ensures { (s : State) → OnOk result (state_of (record s { input = input.new; table = table.now }) ≡ spec.with_every_par begins (state_of (record s { input = input.old; table = table.now }))) }
 {
     if begins {
-        let every = s.table.tokens(&Place::Tokens(TokenParameter::Everypar))?;
-        s.input.push_list(every, false)?;
+        let every = table.tokens(&Place::Tokens(TokenParameter::Everypar))?;
+        input.push_list(every, false)?;
     }
     Ok(())
 }
@@ -45,7 +44,7 @@ pub fn indent(alloc: Global, s: &mut State, how: Indentation) -> Result<Event, A
 {
     let begins = ModeTest::Vertical.holds(s.lists.nest.innermost().mode());
     let on_pages = is_pages(s.scan.mode());
-    read_every_par(s, begins)?;
+    read_every_par(&mut s.input, &s.table, begins)?;
     tx_paragraph::indent(alloc, &mut s.lists, &s.table, how)?;
     let event = take_over(s, None, b"")?;
     if on_pages { build(alloc, s) } else { Ok(event) }
@@ -146,15 +145,15 @@ pub fn add_size(alloc: Global, s: &mut State, size: i32) -> Result<Event, AllocE
     }
 }
 
-/// The run ends by the error of a paragraph's lines, if that isn't want of memory.
-pub(crate) fn fail_by_paragraph(s: &mut State, error: ParError) -> Result<Event, AllocError>
-    ensures failed { IfOk result (λ event. IsStepped (fails (par_error error)) s.old event s.new) }
+/// The error of a paragraph's lines by which the run ends, if that isn't want of memory.
+pub(crate) fn paragraph_error(error: ParError) -> Result<TexError, AllocError>
+    ensures told { IfOk result (λ told. told ≡ par_error error) }
     ensures memory { IfOk result (λ _. error ≢ OutOfMemory) }
 {
     match error {
-        ParError::SizeOutOfRange => Ok(fail(s, TexError::SizeOutOfRange)),
-        ParError::TooDeep => Ok(fail(s, TexError::TooDeep)),
-        ParError::EndlessShrink => Ok(fail(s, TexError::InfiniteShrink)),
+        ParError::SizeOutOfRange => Ok(TexError::SizeOutOfRange),
+        ParError::TooDeep => Ok(TexError::TooDeep),
+        ParError::EndlessShrink => Ok(TexError::InfiniteShrink),
         ParError::OutOfMemory => Err(AllocError),
     }
 }
@@ -175,6 +174,9 @@ pub fn end_paragraph(alloc: Global, s: &mut State) -> Result<Event, AllocError>
             let event = take_over(s, None, report.as_slice())?;
             build_behind(alloc, s, event)
         }
-        Err(error) => fail_by_paragraph(s, error),
+        Err(error) => {
+            let error = paragraph_error(error)?;
+            Ok(fail(s, error))
+        }
     }
 }

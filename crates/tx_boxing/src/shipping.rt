@@ -6,7 +6,7 @@ ghost use Rattle.tx_state.specs.Ended.{integer as magnification_in};
 ghost use Rattle.tx_boxing.specs.Shipped as spec;
 ghost use Rattle.tx_state.specs.Meanings.{IsStepped, state_of};
 
-use crate::boxes::{add_copy, add_list};
+use crate::boxes::add_copy;
 use crate::page::{join_defined, ship_params};
 use crate::pages::build;
 use std::alloc::{AllocError, Global};
@@ -14,6 +14,7 @@ use tx_box::Work;
 use tx_dvi::PageBody;
 use tx_event::Event;
 use tx_expand::may_magnify;
+use tx_nest::append_items;
 use tx_node::BoxNode;
 use tx_prim::IntegerParameter;
 use tx_seen::TexError;
@@ -63,25 +64,23 @@ fn ship_box(alloc: Global, s: &mut State, shipped: &BoxNode) -> Result<Event, Al
     ship_with(alloc, s, magnification, shipped)
 }
 
-/// Ships the box of a page that fired, behind which the page builder goes on. Err is want of memory.
-fn ship_page(alloc: Global, s: &mut State, shipped: &BoxNode) -> Result<Event, AllocError>
-    requires { s.old.phase ≡ Phase.Running }
-    ensures { IfOk result (λ event. IsStepped (spec.works_boxes (state_of s.old) (Work.ShipPage shipped.now)) s.old event s.new) }
-{
-    s.due.push(Due::Boxes(Work::Build))?;
-    ship_box(alloc, s, shipped)
-}
-
-/// Copies boxes, or ships one. Err is want of memory; the event may end the run by an error, as `works_boxes` says.
+/// Copies boxes, or ships one; behind that of a page that fired the page builder goes on. Err is want of memory; the event may end
+/// the run by an error, as `works_boxes` says.
 pub fn work_boxes(alloc: Global, s: &mut State, work: Work) -> Result<Event, AllocError>
     requires { s.old.phase ≡ Phase.Running }
     ensures { IfOk result (λ event. IsStepped (spec.works_boxes (state_of s.old) work) s.old event s.new) }
 {
     match work {
         Work::Copy(copied, target) => add_copy(alloc, s, target, copied),
-        Work::CopyList(list) => add_list(s, list),
+        Work::CopyList(list) => {
+            append_items(s.lists.nest.top(), list)?;
+            Ok(Event::Went)
+        }
         Work::Ship(shipped) => ship_box(alloc, s, &shipped),
-        Work::ShipPage(shipped) => ship_page(alloc, s, &shipped),
+        Work::ShipPage(shipped) => {
+            s.due.push(Due::Boxes(Work::Build))?;
+            ship_box(alloc, s, &shipped)
+        }
         Work::Build => build(alloc, s),
     }
 }

@@ -1,4 +1,4 @@
-use Rattle.std.proofs.Common.{◌≡◌, Bool, true, [], None, Result, IfOk, append-nil, ap, sym, ◌∙◌}
+use Rattle.std.proofs.Common.{◌≡◌, ℕ, Bool, true, false, [], None, Result, Ok, IfOk, append-nil, refl, ap, sym, ◌∙◌}
 use Rattle.tx_box.specs.declared.parts.Lists.{Lists}
 use Rattle.tx_boxing.specs.Boxes.{carrying}
 use Rattle.tx_boxing.specs.Building.{exercising, is_pages}
@@ -38,8 +38,26 @@ begins before read carried new how lists b on event answer paragraph pages is_on
     (went.said_is ∙ append-nil read.said ∙ said)
     did
 
+-- one has begun elsewhere, or another list goes on
+goes-on : (before read carried : State) (how : Indentation) (lists : Lists) (b on : Bool) (event : Event) → b ≡ begins_paragraph before.lists.nest.innermost.state → on ≡ is_pages before.scan.mode → on ≡ false → state_of read ≡ with_every_par b (state_of before) → read.said ≡ before.said → lists ≡ indented how read.table.table read.lists → IsStepped (Leaves (carrying (state_of (record read { lists = lists })) (record { lists = lists; table = read.table; due = None })) []) (record read { lists = lists }) event carried → IsStepped (indenting_so (state_of before) how) before event carried
+goes-on before read carried how lists b on event paragraph pages is_off is said has_indented went =
+    let begun : TexState = indenting how (with_every_par (begins_paragraph before.lists.nest.innermost.state) (state_of before)) in
+    let left : carrying (state_of (record read { lists = lists })) (record { lists = lists; table = read.table; due = None }) ≡ begun =
+    ap (λ (l : Lists). carrying (state_of read) (record { lists = l; table = read.table; due = None })) has_indented
+    ∙ ap (indenting how) (is ∙ ap (λ (p : Bool). with_every_par p (state_of before)) paragraph) in
+    outcome-by {E = ℕ} (Leaves (carrying (state_of (record read { lists = lists })) (record { lists = lists; table = read.table; due = None })) []) (indenting_so (state_of before) how) before (record read { lists = lists }) carried (Ok event)
+    (ap (λ (s : TexState). Leaves s []) left ∙ ap (λ (p : Bool). beginning_paragraph p begun) (sym is_off ∙ pages))
+    said
+    went
+
 pub returns-then-on_pages : goal.returns-then-on_pages
 returns-then-on_pages c =
-    begins c.args.s.now c.read_every_par.new.s c.take_over.new.s c.build.new.s c.args.how c.indent.new.lists c.holds-begins.result c.is_pages-on_pages.result c.in_ok-event.event c.build.result
+    begins c.args.s.now (record c.args.s.now { input = c.read_every_par.new.input }) c.take_over.new.s c.build.new.s c.args.how c.indent.new.lists c.holds-begins.result c.is_pages-on_pages.result c.in_ok-event.event c.build.result
     (c.holds-begins.ensures ∙ ap (holds Vertical) (c.mode.ensures ∙ ap (λ (list : ModeList). mode_of list.state) c.innermost.ensures)) (c.is_pages-on_pages.ensures ∙ ap is_pages c.mode-2.ensures) c.if-on_pages.true
-    c.in_ok-read_every_par.ensures.state c.in_ok-read_every_par.ensures.said c.in_ok-indent.ensures c.in_ok-event.ensures c.build.ensures
+    (c.in_ok-read_every_par.ensures c.args.s.now) refl c.in_ok-indent.ensures c.in_ok-event.ensures c.build.ensures
+
+pub returns-else-on_pages : goal.returns-else-on_pages
+returns-else-on_pages c =
+    goes-on c.args.s.now (record c.args.s.now { input = c.read_every_par.new.input }) c.take_over.new.s c.args.how c.indent.new.lists c.holds-begins.result c.is_pages-on_pages.result c.in_ok-event.event
+    (c.holds-begins.ensures ∙ ap (holds Vertical) (c.mode.ensures ∙ ap (λ (list : ModeList). mode_of list.state) c.innermost.ensures)) (c.is_pages-on_pages.ensures ∙ ap is_pages c.mode-2.ensures) c.if-on_pages.false
+    (c.in_ok-read_every_par.ensures c.args.s.now) refl c.in_ok-indent.ensures c.in_ok-event.ensures
