@@ -1,32 +1,27 @@
 //! The effects of the commands of boxes and lists: a part of the state is handed down to the crate that carries them out, and what
 //! this answers is taken over (TeX: The Program, part 47).
-ghost use Rattle.std.specs.Prelude.{◌≡◌, Some, IfOk, OnOk};
-ghost use Rattle.tx_box.specs.Effects.{told};
-ghost use Rattle.tx_eqtb.specs.Stack.{kind_of};
-ghost use Rattle.tx_state.specs.declared.parts.Phase.{Phase};
+ghost use Rattle.std.specs.Prelude.{◌≡◌, is_some, IfOk, OnOk};
 ghost use Rattle.tx_boxing.specs.Boxes as spec;
+ghost use Rattle.tx_building.specs.Building.{built_if, built_in};
+ghost use Rattle.tx_eqtb.specs.Table.{box_at};
+ghost use Rattle.tx_state.specs.declared.parts.Phase.{Phase};
 ghost use Rattle.tx_state.specs.Meanings.{IsStepped, state_of};
-ghost use Rattle.tx_state.specs.Outcomes.{Leaves};
-ghost use Rattle.tx_boxing.specs.Shipped as shipped;
+ghost use Rattle.tx_state.specs.Outcomes.{Outcome};
 
-use crate::pages::{build_in, context_if, context_of, register_context};
 use std::alloc::{AllocError, Global};
 use tx_assign::is_global;
-use tx_box::{
-    Done, Ended, OpenBox, Target, Work, begin_box, copy_register, every_in, greatest_depth, place,
-    take_last, use_register,
-};
+use tx_box::{Lists, OpenBox, Target, begin_box, copy_register, every_in, take_last, use_register};
+use tx_building::{build_in, carry};
 use tx_command::{BoxContext, BoxGoal};
-use tx_eqtb::{Eqtb, GroupKind};
+use tx_eqtb::Eqtb;
 use tx_event::Event;
-use tx_list::Stack;
 use tx_nest::{append_rule, has_last_box, is_bare_page, remove_item, set_prev_depth};
-use tx_node::{BoxNode, Rule};
+use tx_node::Rule;
 use tx_output::LastItem;
 use tx_pending::Pending;
 use tx_prim::{BoxKind, IntegerParameter, ItemKind, UnboxKind};
 use tx_seen::{Place, TexError};
-use tx_state::{Due, State, end_assignment, fail, finish_assignment, leave_group};
+use tx_state::{State, end_assignment, fail, finish_assignment};
 
 /// Appends a rule. Err is want of memory.
 pub fn add_rule(alloc: Global, s: &mut State, rule: Rule) -> Result<Event, AllocError>
@@ -38,13 +33,12 @@ pub fn add_rule(alloc: Global, s: &mut State, rule: Rule) -> Result<Event, Alloc
 }
 
 /// Whether \unskip would take glue that has gone to the page.
-fn takes_of_page(s: &State, kind: ItemKind) -> bool
-    ensures { result ≡ spec.takes_of_page kind (state_of s.now) }
+fn takes_of_page(lists: &Lists, kind: ItemKind) -> bool
+    ensures { result ≡ spec.takes_of_page kind lists.now }
 {
     match kind {
         ItemKind::Skip => {
-            is_bare_page(s.lists.nest.innermost())
-                && matches!(s.lists.pages.last, LastItem::Skip(_))
+            is_bare_page(lists.nest.innermost()) && matches!(lists.pages.last, LastItem::Skip(_))
         }
         ItemKind::Penalty | ItemKind::Kern => false,
     }
@@ -55,7 +49,7 @@ pub fn remove(s: &mut State, kind: ItemKind) -> Event
     requires { s.old.phase ≡ Phase.Running }
     ensures { IsStepped (spec.removing (state_of s.old) kind) s.old result s.new }
 {
-    if takes_of_page(s, kind) {
+    if takes_of_page(&s.lists, kind) {
         return fail(s, TexError::MissingBox);
     }
     if remove_item(s.lists.nest.top(), kind) {
@@ -72,48 +66,6 @@ pub fn set_depth(s: &mut State, depth: i32) -> Result<Event, AllocError>
 {
     set_prev_depth(s.lists.nest.top(), depth);
     end_assignment(s)
-}
-
-/// Work that a command of boxes left comes first. Its only error is want of memory.
-fn push_work(due: &mut Stack<Due>, work: Option<Work>) -> Result<(), AllocError>
-    ensures { OnOk result (due.new ≡ spec.with_work work due.old) }
-{
-    match work {
-        Some(work) => due.push(Due::Boxes(work)),
-        None => Ok(()),
-    }
-}
-
-/// What a command of boxes left is taken over: work that is due, the mode of the list that is being built now, and these bytes for
-/// the transcript. Err is want of memory.
-pub(crate) fn take_over(
-    s: &mut State,
-    work: Option<Work>,
-    report: &[u8],
-) -> Result<Event, AllocError>
-    requires { s.old.phase ≡ Phase.Running }
-    ensures { IfOk result (λ event. IsStepped (Leaves (spec.carrying (state_of s.old) (record { lists = s.old.lists; table = s.old.table; due = work })) report.now) s.old event s.new) }
-{
-    push_work(&mut s.due, work)?;
-    s.scan.enter(s.lists.nest.innermost().mode());
-    s.said.append(report)?;
-    Ok(Event::Went)
-}
-
-/// What a command of boxes answered is taken over, with these bytes for the transcript, which gets them also where the run ends by
-/// an error. Err is want of memory.
-pub(crate) fn carry(s: &mut State, done: Done, report: &[u8]) -> Result<Event, AllocError>
-    requires { s.old.phase ≡ Phase.Running }
-    ensures { IfOk result (λ event. IsStepped (spec.carried_telling (state_of s.old) report.now (told done s.old.lists s.old.table)) s.old event s.new) }
-{
-    match done {
-        Done::Whole => take_over(s, None, report),
-        Done::Due(work) => take_over(s, Some(work), report),
-        Done::Wrong(error) => {
-            s.said.append(report)?;
-            Ok(fail(s, error))
-        }
-    }
 }
 
 /// What becomes of a box; \setbox is an assignment that is done as soon as its box begins or is found. Its only error is want of
@@ -137,6 +89,20 @@ pub(crate) fn settle(s: &mut State, context: BoxContext) -> Result<Target, Alloc
         BoxContext::Append(_) | BoxContext::Ship => Ok(target),
         BoxContext::Adjust | BoxContext::Center => Ok(target),
     }
+}
+
+/// What becomes of a box, as the page builder has to know it: a void one isn't appended.
+pub(crate) fn context_if(found: bool, context: BoxContext) -> BoxContext
+    ensures { (outcome : Outcome) → built_in result outcome ≡ built_if found context outcome }
+{
+    if found { context } else { BoxContext::Ship }
+}
+
+/// The same of the box of a register.
+pub(crate) fn register_context(table: &Eqtb, number: u8, context: BoxContext) -> BoxContext
+    ensures { (outcome : Outcome) → built_in result outcome ≡ built_if (is_some (box_at table.now.table (Place.Box number))) context outcome }
+{
+    context_if(table.boxed(&Place::Box(number)).is_some(), context)
 }
 
 /// The tokens of \everyhbox or \everyvbox are read next. Its only error is want of memory.
@@ -237,35 +203,4 @@ pub fn unbox(s: &mut State, kind: UnboxKind, number: u8) -> Result<Event, AllocE
 {
     let done = tx_box::unbox(&mut s.lists, &mut s.table, kind, number)?;
     carry(s, done, b"")
-}
-
-/// The end of a box, whose group is of this kind, behind which the page builder is exercised if it was appended. Err is want of
-/// memory.
-pub(crate) fn end_box(alloc: Global, s: &mut State, kind: GroupKind) -> Result<Event, AllocError>
-    requires running { s.old.phase ≡ Phase.Running }
-    requires kind { kind_of s.old.table ≡ Some kind }
-    ensures { IfOk result (λ event. IsStepped (spec.ending_box (state_of s.old)) s.old event s.new) }
-{
-    let context = context_of(&s.lists.boxes);
-    let most = greatest_depth(&s.table);
-    leave_group(s, kind)?;
-    let ended = tx_box::end_box(alloc, &mut s.lists, &mut s.table, most)?;
-    let Ended { done, report } = ended;
-    let event = carry(s, done, report.as_slice())?;
-    build_in(alloc, s, context, event)
-}
-
-/// A copy goes where it is to go, behind which the page builder is exercised. Err is want of memory.
-pub(crate) fn add_copy(
-    alloc: Global,
-    s: &mut State,
-    target: Target,
-    copied: BoxNode,
-) -> Result<Event, AllocError>
-    requires { s.old.phase ≡ Phase.Running }
-    ensures { IfOk result (λ event. IsStepped (shipped.works_boxes (state_of s.old) (Work.Copy copied target)) s.old event s.new) }
-{
-    let done = place(alloc, &mut s.lists, &mut s.table, target, Some(copied))?;
-    let event = carry(s, done, b"")?;
-    build_in(alloc, s, target.context, event)
 }

@@ -1,7 +1,7 @@
 use Rattle.std.proofs.Common.{refl}
 use Rattle.tx_box.specs.Sources.{copying}
 use Rattle.tx_state.specs.Meanings.{state_of}
-use Rattle.tx_boxing.proofs.Carrying.{settles}
+use Rattle.tx_boxing.proofs.Settling.{settles}
 use Rattle.tx_boxing.proofs.boxes.copy_box.Goals as goal
 
 pub returns : goal.returns

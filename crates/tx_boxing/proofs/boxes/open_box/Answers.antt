@@ -2,7 +2,7 @@ use Rattle.std.proofs.Common.{ap, ◌∙◌}
 use Rattle.tx_box.specs.Building.{beginning}
 use Rattle.tx_boxing.specs.Boxes.{settled, with_every_in}
 use Rattle.tx_state.specs.Meanings.{state_of}
-use Rattle.tx_boxing.proofs.Carrying.{every-lists, every-table, settles}
+use Rattle.tx_boxing.proofs.Settling.{every-lists, every-table, settles}
 use Rattle.tx_boxing.proofs.boxes.open_box.Goals as goal
 
 pub returns : goal.returns

@@ -2,13 +2,13 @@ use Rattle.std.proofs.Common.{◌≡◌, ℕ, Bool, Ok, refl, ap, ◌∙◌}
 use Rattle.std.specs.Prelude.{is_some}
 use Rattle.tx_box.specs.Sources.{taking_last}
 use Rattle.tx_boxing.specs.Boxes.{moving_last, taking_box}
-use Rattle.tx_boxing.specs.Building.{built_if, built_in}
+use Rattle.tx_building.specs.Building.{built_if, built_in}
 use Rattle.tx_nest.specs.declared.list.ModeList.{ModeList}
 use Rattle.tx_nest.specs.Lasts.{last_box}
 use Rattle.tx_state.specs.Meanings.{IsStepped, state_of}
 use Rattle.tx_state.specs.Outcomes.{Outcome}
 use Rattle.tx_state.proofs.Outcomes.{outcome-by}
-use Rattle.tx_boxing.proofs.Carrying.{settles}
+use Rattle.tx_boxing.proofs.Settling.{settles}
 use Rattle.tx_boxing.proofs.boxes.take_box.Goals as goal
 
 pub returns : goal.returns

@@ -1,11 +1,11 @@
 use Rattle.std.proofs.Common.{ℕ, Ok, refl}
 use Rattle.tx_box.specs.Sources.{using}
 use Rattle.tx_boxing.specs.Boxes.{moving_box, using_box}
-use Rattle.tx_boxing.specs.Building.{built_in}
+use Rattle.tx_building.specs.Building.{built_in}
 use Rattle.tx_state.specs.Meanings.{IsStepped, state_of}
 use Rattle.tx_state.specs.Outcomes.{Outcome}
 use Rattle.tx_state.proofs.Outcomes.{outcome-by}
-use Rattle.tx_boxing.proofs.Carrying.{settles}
+use Rattle.tx_boxing.proofs.Settling.{settles}
 use Rattle.tx_boxing.proofs.boxes.use_box.Goals as goal
 
 pub returns : goal.returns
