@@ -6,7 +6,7 @@ use Rattle.tx_box.specs.declared.parts.Lists.{Lists}
 use Rattle.tx_box.specs.declared.parts.Target.{Target}
 use Rattle.tx_box.specs.Effects.{Effect, told}
 use Rattle.tx_boxing.specs.Boxes.{settled, target_of, with_every_in}
-use Rattle.tx_building.proofs.Carrying.{boxes, carries, with_parts}
+use Rattle.tx_building.proofs.Carried.{boxes, carries, with_parts}
 use Rattle.tx_building.specs.Carrying.{boxed, carried}
 use Rattle.tx_char.specs.declared.tokens.Token.{Token}
 use Rattle.tx_eqtb.specs.declared.eqtb.Eqtb.{Eqtb}

@@ -9,7 +9,7 @@ ghost use Rattle.tx_state.specs.Outcomes.{Outcome};
 ghost use Rattle.tx_building.specs.Building as spec;
 
 use std::alloc::{AllocError, Global};
-use tx_box::Work;
+use tx_box::{Lists, Work};
 use tx_command::{CommandScan, Head};
 use tx_event::Event;
 use tx_galley::{GalleyError, Next, exercise};
@@ -33,22 +33,22 @@ pub fn page_error(error: GalleyError) -> Result<TexError, AllocError>
 
 /// What is to come of a page that fired: its box is shipped, or \output's tokens are read. Its only error is want of memory.
 pub fn take_page(
-    badness: &mut i64,
+    lists: &mut Lists,
     due: &mut Stack<Due>,
     input: &mut Pending,
     scan: &mut CommandScan,
     next: Next,
 ) -> Result<(), AllocError>
-    ensures { (s : State) → OnOk result (state_of (record s { lists = record s.lists { badness = badness.new }; due = due.new; input = input.new; scan = scan.new }) ≡ spec.paging next (state_of (record s { lists = record s.lists { badness = badness.old }; due = due.old; input = input.old; scan = scan.old }))) }
+    ensures { (s : State) → OnOk result (state_of (record s { lists = lists.new; due = due.new; input = input.new; scan = scan.new }) ≡ spec.paging next (state_of (record s { lists = lists.old; due = due.old; input = input.old; scan = scan.old }))) }
 {
     match next {
         Next::Goes => Ok(()),
-        Next::Ships(shipped, bad) => {
-            *badness = bad;
+        Next::Ships(shipped, badness) => {
+            lists.badness = badness;
             due.push(Due::Boxes(Work::ShipPage(shipped)))
         }
-        Next::Reads(tokens, bad) => {
-            *badness = bad;
+        Next::Reads(tokens, badness) => {
+            lists.badness = badness;
             input.push_list(tokens, true)?;
             scan.begin_behind(Head::Opening(Opener::Output));
             Ok(())
@@ -63,13 +63,7 @@ pub fn build(alloc: Global, s: &mut State) -> Result<Event, AllocError>
 {
     match exercise(alloc, &mut s.lists.nest, &mut s.table, &mut s.lists.pages) {
         Ok(next) => {
-            take_page(
-                &mut s.lists.badness,
-                &mut s.due,
-                &mut s.input,
-                &mut s.scan,
-                next,
-            )?;
+            take_page(&mut s.lists, &mut s.due, &mut s.input, &mut s.scan, next)?;
             Ok(Event::Went)
         }
         Err(error) => {

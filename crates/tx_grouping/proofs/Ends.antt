@@ -6,7 +6,7 @@ use Rattle.tx_box.specs.declared.parts.Done.{Done}
 use Rattle.tx_box.specs.declared.parts.Lists.{Lists}
 use Rattle.tx_box.specs.Effects.{told}
 use Rattle.tx_box.specs.Inserts.{ending_insert as insert_ended, insert_params}
-use Rattle.tx_building.proofs.Carrying.{boxes, carries, with_parts}
+use Rattle.tx_building.proofs.Carried.{boxes, carries, with_parts}
 use Rattle.tx_building.specs.Carrying.{boxed, carried}
 use Rattle.tx_eqtb.specs.declared.eqtb.Eqtb.{Eqtb}
 use Rattle.tx_eqtb.specs.Stack.{closed}

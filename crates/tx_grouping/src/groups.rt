@@ -6,7 +6,7 @@ ghost use Rattle.tx_state.specs.declared.parts.Phase.{Phase};
 ghost use Rattle.tx_grouping.specs.GroupEnds.{behind_paragraph, ending, ending_semi_simple, list_ending, outputting};
 ghost use Rattle.tx_state.specs.Meanings.{IsStepped, state_of};
 
-use crate::lists::{end_box, end_break, finish_insert, finish_output};
+use crate::lists::{end_box, end_break, end_output_list, finish_insert};
 use crate::paragraphs::paragraph_error;
 use std::alloc::{AllocError, Global};
 use tx_eqtb::GroupKind;
@@ -25,7 +25,10 @@ fn end_list(alloc: Global, s: &mut State, kind: GroupKind) -> Result<Event, Allo
 {
     match kind {
         GroupKind::Insert(class) => finish_insert(alloc, s, class),
-        GroupKind::Output => finish_output(alloc, s),
+        GroupKind::Output => {
+            leave_group(s, GroupKind::Output)?;
+            end_output_list(alloc, s)
+        }
         GroupKind::NoAlign => {
             leave_group(s, GroupKind::NoAlign)?;
             stand_before_row(s);

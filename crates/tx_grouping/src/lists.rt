@@ -61,7 +61,7 @@ pub(crate) fn finish_insert(alloc: Global, s: &mut State, class: u8) -> Result<E
 }
 
 /// The list of \output, whose group has ended, leaves the lists, and the page builder goes on. Err is want of memory.
-fn go_on_behind_output(alloc: Global, s: &mut State) -> Result<Event, AllocError>
+pub(crate) fn end_output_list(alloc: Global, s: &mut State) -> Result<Event, AllocError>
     requires { s.old.phase ≡ Phase.Running }
     ensures { IfOk result (λ event. IsStepped (spec.ending_output_in (state_of s.old) (left_vertical s.old.lists)) s.old event s.new) }
 {
@@ -77,13 +77,7 @@ fn go_on_behind_output(alloc: Global, s: &mut State) -> Result<Event, AllocError
         list,
     ) {
         Ok(next) => {
-            take_page(
-                &mut s.lists.badness,
-                &mut s.due,
-                &mut s.input,
-                &mut s.scan,
-                next,
-            )?;
+            take_page(&mut s.lists, &mut s.due, &mut s.input, &mut s.scan, next)?;
             Ok(Event::Went)
         }
         Err(error) => {
@@ -91,16 +85,6 @@ fn go_on_behind_output(alloc: Global, s: &mut State) -> Result<Event, AllocError
             Ok(fail(s, error))
         }
     }
-}
-
-/// The same, and its group ends before. Err is want of memory.
-pub(crate) fn finish_output(alloc: Global, s: &mut State) -> Result<Event, AllocError>
-    requires running { s.old.phase ≡ Phase.Running }
-    requires kind { kind_of s.old.table ≡ Some GroupKind.Output }
-    ensures { IfOk result (λ event. IsStepped (spec.ending_output (state_of s.old)) s.old event s.new) }
-{
-    leave_group(s, GroupKind::Output)?;
-    go_on_behind_output(alloc, s)
 }
 
 /// What stands before the command behind a text of \discretionary.

@@ -15,7 +15,7 @@ use tx_assign::{Assignment, Carried, Change, carry_out};
 use tx_box::Done;
 use tx_building::{build, build_behind, carry, is_pages};
 use tx_char::{ControlName, Token};
-use tx_command::{Head, Prefixes};
+use tx_command::{CommandScan, Head, Prefixes};
 use tx_eqtb::{Entry, Eqtb, ParShape};
 use tx_event::Event;
 use tx_list::Items;
@@ -101,27 +101,25 @@ fn assign_shape(
     carry_out(table, Assignment { place, change }, global)
 }
 
-/// These sizes of \parshape are read, behind its prefixes, and so many are to follow; once none is, it is assigned. Err is want of
-/// memory.
+/// These sizes of \parshape are read, behind its prefixes, and so many are to follow, which are awaited; once none is, it is
+/// assigned, and the answer is what came of that. Its only error is want of memory.
 fn shape(
     alloc: Global,
-    s: &mut State,
+    scan: &mut CommandScan,
+    table: &mut Eqtb,
     prefixes: Prefixes,
     left: u32,
     sizes: Items<i32>,
-) -> Result<Event, AllocError>
-    requires running { s.old.phase ≡ Phase.Running }
-    requires between { s.old.scan.taken ≡ [] }
-    ensures { IfOk result (λ event. IsStepped (spec.shaping (state_of s.old) prefixes left sizes) s.old event s.new) }
+) -> Result<Option<Carried>, AllocError>
+    requires between { scan.old.taken ≡ [] }
+    ensures { (s : State) → IfOk result (λ shaped. spec.shaped (state_of (record s { scan = scan.new; table = table.new })) shaped ≡ spec.shaping (state_of (record s { scan = scan.old; table = table.old })) prefixes left sizes) }
 {
     if left > 0 {
-        s.scan.begin_behind(Head::Shaping(prefixes, left, sizes));
-        return Ok(Event::Went);
+        scan.begin_behind(Head::Shaping(prefixes, left, sizes));
+        return Ok(None);
     }
-    match assign_shape(alloc, &mut s.table, sizes, prefixes.global)? {
-        Carried::Done => end_assignment(s),
-        Carried::Refused(error) => Ok(fail(s, error)),
-    }
+    let carried = assign_shape(alloc, table, sizes, prefixes.global)?;
+    Ok(Some(carried))
 }
 
 /// \parshape and how many lines it is to have. Err is want of memory; the event may end the run by an error, as `shaping` says.
@@ -131,7 +129,19 @@ pub fn begin_shape(alloc: Global, s: &mut State, lines: i32) -> Result<Event, Al
     ensures { IfOk result (λ event. IsStepped (spec.shaping (state_of s.old) (prefixes_of s.old.scan.head) (spec.sizes_of lines) []) s.old event s.new) }
 {
     let prefixes = s.scan.prefixes();
-    shape(alloc, s, prefixes, sizes_of(lines), Items::new(alloc))
+    let left = sizes_of(lines);
+    match shape(
+        alloc,
+        &mut s.scan,
+        &mut s.table,
+        prefixes,
+        left,
+        Items::new(alloc),
+    )? {
+        None => Ok(Event::Went),
+        Some(Carried::Done) => end_assignment(s),
+        Some(Carried::Refused(error)) => Ok(fail(s, error)),
+    }
 }
 
 /// These sizes, and one more. Its only error is want of memory.
@@ -152,7 +162,12 @@ pub fn add_size(alloc: Global, s: &mut State, size: i32) -> Result<Event, AllocE
     match s.scan.take_head() {
         Head::Shaping(prefixes, left, sizes) => {
             let sizes = with_size(sizes, size)?;
-            shape(alloc, s, prefixes, left.saturating_sub(1), sizes)
+            let left = left.saturating_sub(1);
+            match shape(alloc, &mut s.scan, &mut s.table, prefixes, left, sizes)? {
+                None => Ok(Event::Went),
+                Some(Carried::Done) => end_assignment(s),
+                Some(Carried::Refused(error)) => Ok(fail(s, error)),
+            }
         }
         // (it is dropped where it stood)
         other => {

@@ -2,7 +2,7 @@ use Rattle.std.proofs.Common.{ℕ, Ok, Some, refl}
 use Rattle.tx_box.specs.Placing.{placed}
 use Rattle.tx_boxing.specs.Shipped.{copies}
 use Rattle.tx_state.specs.Meanings.{state_of}
-use Rattle.tx_building.proofs.Carrying.{carries}
+use Rattle.tx_building.proofs.Carried.{carries}
 use Rattle.tx_boxing.proofs.shipping.add_copy.Goals as goal
 
 pub returns : goal.returns
