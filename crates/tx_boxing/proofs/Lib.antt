@@ -1,3 +1,1 @@
-pub mod Ships
-pub mod Carrying
-pub mod Vertical
+pub mod Settling

@@ -1,41 +1,35 @@
 -- What the commands of boxes and lists do (TeX: The Program, part 47).
-use Rattle.std.specs.Prelude.{ℕ, ℤ, Bool, true, false, ◌&&◌, List, [], ◌∷◌, ◌++◌, Option, Some, None, is_some, Ok, Err, if◌then◌else◌}
-use Rattle.tx_node.specs.declared.rule.Rule.{Rule as ARule}
-use Rattle.tx_nest.specs.declared.list.ModeList.{ModeList}
+use Rattle.std.specs.Prelude.{ℕ, ℤ, Bool, true, false, ◌&&◌, Option, Some, None, is_some, if◌then◌else◌}
+use Rattle.tx_assign.specs.Changes.{is_global as globally}
+use Rattle.tx_box.specs.Building.{beginning, every_in}
+use Rattle.tx_box.specs.declared.parts.Lists.{Lists}
+use Rattle.tx_box.specs.declared.parts.Target.{Target}
+use Rattle.tx_box.specs.Sources.{copying, taking_last, unboxing, using}
+use Rattle.tx_building.specs.Building.{built_if}
+use Rattle.tx_building.specs.Carrying.{carried}
+use Rattle.tx_command.specs.Commands.{prefixes_of}
+use Rattle.tx_eqtb.specs.Table.{box_at, tokens_at}
+use Rattle.tx_expand.specs.Turns.{put}
 use Rattle.tx_nest.specs.Appended.{rule_appended}
 use Rattle.tx_nest.specs.Changed as list
+use Rattle.tx_nest.specs.declared.list.ModeList.{ModeList}
 use Rattle.tx_nest.specs.Lasts.{last_box}
-use Rattle.tx_nest.specs.States.{mode_of}
-use Rattle.tx_eqtb.specs.Table.{box_at, tokens_at}
-use Rattle.tx_eqtb.specs.Stack.{closed}
-use Rattle.tx_expand.specs.Turns.{put}
+use Rattle.tx_node.specs.declared.rule.Rule.{Rule as ARule}
+use Rattle.tx_output.specs.declared.last.LastItem.{LastItem}
+use Rattle.tx_output.specs.declared.last.LastItem.TheVariants as last
 use Rattle.tx_prim.specs.declared.family.BoxKind.{BoxKind}
 use Rattle.tx_prim.specs.declared.family.ItemKind.{ItemKind}
 use Rattle.tx_prim.specs.declared.family.ItemKind.TheVariants as item
-use Rattle.tx_prim.specs.declared.integer.IntegerParameter.TheVariants.{Globaldefs}
 use Rattle.tx_prim.specs.declared.family.UnboxKind.{UnboxKind}
+use Rattle.tx_prim.specs.declared.integer.IntegerParameter.TheVariants.{Globaldefs}
 use Rattle.tx_seen.specs.declared.error.TexError.TheVariants.{MissingBox}
 use Rattle.tx_seen.specs.declared.place.Place.TheVariants.{Box, Tokens}
-use Rattle.tx_assign.specs.Changes.{is_global as globally}
-use Rattle.tx_shape.specs.declared.types.BoxGoal.{BoxGoal}
 use Rattle.tx_shape.specs.declared.types.BoxContext.{BoxContext}
 use Rattle.tx_shape.specs.declared.types.BoxContext.TheVariants.{Adjust, Append, Center, Register, Ship}
-use Rattle.tx_command.specs.Commands.{prefixes_of}
-use Rattle.tx_box.specs.declared.parts.Target.{Target}
-use Rattle.tx_box.specs.declared.parts.Work.{Work}
-use Rattle.tx_box.specs.Building.{Ended, beginning, ending as ending_list, every_in, greatest_depth}
-use Rattle.tx_box.specs.declared.parts.OpenBox.{OpenBox}
-use Rattle.tx_box.specs.Effects.{Effect, Left}
-use Rattle.tx_box.specs.Sources.{copying, taking_last, unboxing, using}
-use Rattle.tx_output.specs.declared.last.LastItem.{LastItem}
-use Rattle.tx_output.specs.declared.last.LastItem.TheVariants as last
-use Rattle.tx_state.specs.declared.parts.Due.{Due}
-use Rattle.tx_state.specs.declared.parts.Due.TheVariants.{Boxes}
-use Rattle.tx_boxing.specs.Building.{built_if, built_in}
+use Rattle.tx_shape.specs.declared.types.BoxGoal.{BoxGoal}
 use Rattle.tx_state.specs.Ended.{assigned, integer, with_top_list}
+use Rattle.tx_state.specs.Outcomes.{Outcome, fails, leaves}
 use Rattle.tx_state.specs.State.{TexState}
-use Rattle.tx_state.specs.Outcomes.{Outcome, Asks, Leaves, Ships, Fails, Ends, fails, leaves}
-use Rattle.tx_state.specs.Groups.{closing}
 
 -- a rule
 abbrev pub ruling : TexState → ARule → Outcome
@@ -51,43 +45,16 @@ abbrev pub is_glue_of_page : LastItem → Bool
 is_glue_of_page (last.Skip g) = true
 is_glue_of_page _ = false
 
-abbrev pub takes_of_page : ItemKind → TexState → Bool
-takes_of_page item.Skip s = list.is_bare_page s.lists.nest.innermost.state s.lists.nest.innermost.nodes && is_glue_of_page s.lists.pages.last
-takes_of_page kind s = false
+abbrev pub takes_of_page : ItemKind → Lists → Bool
+takes_of_page item.Skip lists = list.is_bare_page lists.nest.innermost.state lists.nest.innermost.nodes && is_glue_of_page lists.pages.last
+takes_of_page kind lists = false
 
 abbrev pub removing : TexState → ItemKind → Outcome
-removing s kind = if takes_of_page kind s then fails MissingBox else removed s (list.removing kind s.lists.nest.innermost)
+removing s kind = if takes_of_page kind s.lists then fails MissingBox else removed s (list.removing kind s.lists.nest.innermost)
 
 -- \prevdepth, which may stand in vertical modes alone (section 1243)
 abbrev pub setting_depth : TexState → ℤ → Outcome
 setting_depth s depth = leaves (assigned (with_top_list s (list.with_depth s.lists.nest.innermost depth)))
-
--- a command of boxes: the lists and the table are those that it leaves, work that it leaves is due, and the next command stands in
--- the mode of the list that is being built then
-abbrev pub with_work : Option Work → List Due → List Due
-with_work None due = due
-with_work (Some work) due = Boxes work ∷ due
-
-abbrev pub carrying : TexState → Left → TexState
-carrying s left = record s {
-  due = with_work left.due s.due;
-  mode = mode_of left.lists.nest.innermost.state;
-  taken = [];
-  lists = left.lists;
-  table = left.table;
-}
-
--- that, or an error, behind what the transcript gets
-abbrev pub carried_telling : TexState → List ℕ → Effect → Outcome
-carried_telling s report (Err error) = Fails error report
-carried_telling s report (Ok left) = Leaves (carrying s left) report
-
-abbrev pub carried : TexState → Effect → Outcome
-carried s effect = carried_telling s [] effect
-
--- the transcript gets what is reported of a box also where that can't go where it is to go
-abbrev pub boxed : TexState → Ended → Outcome
-boxed s ended = carried_telling s ended.report ended.effect
 
 -- what becomes of a box (section 1075): where it goes, and whether \global or \globaldefs is in force, which \setbox alone asks
 abbrev pub target_of : TexState → BoxContext → Target
@@ -112,27 +79,6 @@ with_every_in (Register n) box s = with_every box s
 with_every_in Ship box s = with_every box s
 with_every_in Adjust box s = s
 with_every_in Center box s = with_every box s
-
--- what is to become of the innermost open box
-abbrev pub context_of : List OpenBox → BoxContext
-context_of [] = Ship
-context_of (box ∷ boxes) = box.target.context
-
--- the end of a box (section 1086): how deep it may be is read before its group ends
-abbrev pub packing_box : TexState → Outcome
-packing_box s = boxed (closing s) (ending_list (greatest_depth s.table.table) s.lists (closed s.table))
-
-abbrev pub ending_box : TexState → Outcome
-ending_box s = built_in (context_of s.lists.boxes) (packing_box s)
-
--- what a turn has told stays told, also where the rest of it ends the run by an error; behind a paragraph in a list that ends nothing is
--- asked or shipped, and no run ends otherwise
-abbrev pub telling : List ℕ → Outcome → Outcome
-telling report (Leaves s said) = Leaves s (report ++ said)
-telling report (Asks ask s) = Asks ask s
-telling report (Ships page s) = Ships page s
-telling report (Fails error said) = Fails error (report ++ said)
-telling report Ends = Ends
 
 -- a box that was made before goes where it is to go
 abbrev pub moving_box : TexState → ℕ → BoxContext → Outcome

@@ -1,158 +1,22 @@
-//! The effects of pages: the page builder is exercised, \output begins and ends, \insert, \vsplit, \end, and what is assigned to
-//! pages (TeX: The Program, sections 994 to 1054 and 1097 to 1100).
-ghost use Rattle.std.specs.Prelude.{◌≡◌, ◌≢◌, [], IsTrue, Some, IfOk, OnOk};
-ghost use Rattle.tx_eqtb.specs.Stack.{kind_of};
+//! The effects of pages: \output's list and that of an \insert begin, \vsplit, \end, and what is assigned to pages (TeX: The Program,
+//! sections 1025, 1054, 1082, 1099, 1245 and 1246).
+ghost use Rattle.std.specs.Prelude.{◌≡◌, [], IfOk};
+ghost use Rattle.tx_boxing.specs.Pages as spec;
 ghost use Rattle.tx_galley.specs.Assigning.{setting};
-ghost use Rattle.tx_galley.specs.declared.errors.GalleyError.TheVariants.{OutOfMemory};
 ghost use Rattle.tx_galley.specs.Ending.{is_done as is_run_done};
-ghost use Rattle.tx_galley.specs.Errors.{error_of};
-ghost use Rattle.tx_box.specs.Inserts.{left_vertical};
 ghost use Rattle.tx_state.specs.declared.parts.Phase.{Phase};
 ghost use Rattle.tx_state.specs.Meanings.{IsStepped, state_of};
-ghost use Rattle.tx_event.specs.declared.types.Event.{Event};
-ghost use Rattle.tx_state.specs.Outcomes.{Outcome, fails, leaves};
-ghost use Rattle.tx_boxing.specs.Building as building;
-ghost use Rattle.tx_boxing.specs.Boxes.{context_of as innermost_context};
-ghost use Rattle.tx_boxing.specs.Pages as spec;
 
-use crate::boxes::{carry, finish_box, settle, target_of};
+use crate::boxes::{register_context, settle};
 use std::alloc::{AllocError, Global};
-use tx_box::{
-    Ended, OpenBox, Target, Work, begin_vertical, end_insert, end_vertical, insert_params, place,
-};
-use tx_command::Head;
+use tx_box::{Ended, begin_vertical};
+use tx_building::{build, build_in, carry};
 use tx_eqtb::GroupKind;
 use tx_event::Event;
-use tx_galley::{
-    GalleyError, Next, add_end, end_output, exercise, is_done, set_quantity, split_box,
-};
-use tx_list::Stack;
-use tx_pack::Packed;
-use tx_pending::Next as Pending_next;
-use tx_prim::{Mode, PageQuantity};
-use tx_seen::{Place, TexError};
-use tx_shape::{BoxContext, Opener};
-use tx_state::{Due, State, end_assignment, fail, finish, leave_group};
-
-/// The run ends by the error of a page, if that isn't want of memory.
-fn fail_by_page(s: &mut State, error: GalleyError) -> Result<Event, AllocError>
-    ensures failed { IfOk result (λ event. IsStepped (fails (error_of error)) s.old event s.new) }
-    ensures memory { IfOk result (λ _. error ≢ OutOfMemory) }
-{
-    match error {
-        GalleyError::Refused(error) => Ok(fail(s, error)),
-        GalleyError::OutOfMemory => Err(AllocError),
-    }
-}
-
-/// What is to come of a page that fired: its box is shipped, or \output's tokens are read. Err is want of memory.
-fn take_page(s: &mut State, next: Next) -> Result<Event, AllocError>
-    requires { s.old.phase ≡ Phase.Running }
-    ensures { IfOk result (λ event. IsStepped (leaves (building.paging next (state_of s.old))) s.old event s.new) }
-{
-    match next {
-        Next::Goes => Ok(Event::Went),
-        Next::Ships(shipped, badness) => {
-            s.lists.badness = badness;
-            s.due.push(Due::Boxes(Work::ShipPage(shipped)))?;
-            Ok(Event::Went)
-        }
-        Next::Reads(tokens, badness) => {
-            s.lists.badness = badness;
-            s.input.push_list(tokens, true)?;
-            s.scan.begin_behind(Head::Opening(Opener::Output));
-            Ok(Event::Went)
-        }
-    }
-}
-
-/// The page builder is exercised. Err is want of memory.
-pub(crate) fn build(alloc: Global, s: &mut State) -> Result<Event, AllocError>
-    requires { s.old.phase ≡ Phase.Running }
-    ensures { IfOk result (λ event. IsStepped (building.exercising (state_of s.old) []) s.old event s.new) }
-{
-    match exercise(alloc, &mut s.lists.nest, &mut s.table, &mut s.lists.pages) {
-        Ok(next) => take_page(s, next),
-        Err(error) => fail_by_page(s, error),
-    }
-}
-
-/// The same where the pages' list is being built. Err is want of memory; the event may end the run by an error, as `then_building`
-/// says.
-pub fn build_here(alloc: Global, s: &mut State) -> Result<Event, AllocError>
-    requires { s.old.phase ≡ Phase.Running }
-    ensures { IfOk result (λ event. IsStepped (building.then_building (state_of s.old) []) s.old event s.new) }
-{
-    if is_pages(s.scan.mode()) {
-        build(alloc, s)
-    } else {
-        Ok(Event::Went)
-    }
-}
-
-/// Whether this is the mode of the pages' list.
-pub(crate) fn is_pages(mode: Mode) -> bool
-    ensures { result ≡ building.is_pages mode }
-{
-    matches!(mode, Mode::Vertical)
-}
-
-/// The same behind what changed the list that is being built, with this event. Err is want of memory; the event may end the run by
-/// an error, as `built` says.
-pub fn build_behind(alloc: Global, s: &mut State, event: Event) -> Result<Event, AllocError>
-    requires runs { event ≡ Event.Went → s.old.phase ≡ Phase.Running }
-    ensures { (before : State) (outcome : Outcome) → IsStepped outcome before event s.old → IfOk result (λ further. IsStepped (building.built outcome) before further s.new) }
-{
-    match event {
-        Event::Went => build_here(alloc, s),
-        event => Ok(event),
-    }
-}
-
-/// The same behind a box of which this became, if it was appended. Err is want of memory.
-pub(crate) fn build_in(
-    alloc: Global,
-    s: &mut State,
-    context: BoxContext,
-    event: Event,
-) -> Result<Event, AllocError>
-    requires runs { event ≡ Event.Went → s.old.phase ≡ Phase.Running }
-    ensures { (before : State) (outcome : Outcome) → IsStepped outcome before event s.old → IfOk result (λ further. IsStepped (building.built_in context outcome) before further s.new) }
-{
-    match context {
-        BoxContext::Append(_) => build_behind(alloc, s, event),
-        BoxContext::Register(_) | BoxContext::Ship => Ok(event),
-        BoxContext::Adjust | BoxContext::Center => Ok(event),
-    }
-}
-
-/// The same behind a box, unless it is void. Err is want of memory.
-pub(crate) fn build_if(
-    alloc: Global,
-    s: &mut State,
-    found: bool,
-    context: BoxContext,
-    event: Event,
-) -> Result<Event, AllocError>
-    requires runs { event ≡ Event.Went → s.old.phase ≡ Phase.Running }
-    ensures { (before : State) (outcome : Outcome) → IsStepped outcome before event s.old → IfOk result (λ further. IsStepped (building.built_if found context outcome) before further s.new) }
-{
-    if found {
-        build_in(alloc, s, context, event)
-    } else {
-        Ok(event)
-    }
-}
-
-/// What is to become of the innermost open box.
-pub(crate) fn context_of(boxes: &Stack<OpenBox>) -> BoxContext
-    ensures { result ≡ innermost_context boxes.now }
-{
-    match boxes.first() {
-        Some(open) => open.target.context,
-        None => BoxContext::Ship,
-    }
-}
+use tx_galley::{add_end, is_done, set_quantity};
+use tx_prim::PageQuantity;
+use tx_shape::BoxContext;
+use tx_state::{State, end_assignment, fail, finish};
 
 /// The list of an \insert, or that of \output, begins behind its begin-group token. Err is want of memory; the event may end the
 /// run by an error, as `beginning_list` says.
@@ -167,76 +31,7 @@ pub fn begin_vertical_list(
 {
     s.scan.begin_fresh();
     let done = begin_vertical(alloc, &mut s.lists, &mut s.table, group)?;
-    carry(s, done)
-}
-
-/// The list of an \insert of this class, whose group ends, is packed and stands in the list around. Err is want of memory.
-fn pack_insert(alloc: Global, s: &mut State, class: u8) -> Result<Event, AllocError>
-    requires running { s.old.phase ≡ Phase.Running }
-    requires kind { kind_of s.old.table ≡ Some (GroupKind.Insert class) }
-    ensures { IfOk result (λ event. IsStepped (spec.packing_insert (state_of s.old) class) s.old event s.new) }
-{
-    let params = insert_params(&s.table);
-    leave_group(s, GroupKind::Insert(class))?;
-    let done = end_insert(alloc, &mut s.lists, &s.table, class, params)?;
-    carry(s, done)
-}
-
-/// The end of the list of an \insert of this class, behind which the page builder is exercised. Err is want of memory.
-pub(crate) fn finish_insert(alloc: Global, s: &mut State, class: u8) -> Result<Event, AllocError>
-    requires running { s.old.phase ≡ Phase.Running }
-    requires kind { kind_of s.old.table ≡ Some (GroupKind.Insert class) }
-    ensures { IfOk result (λ event. IsStepped (spec.ending_insert (state_of s.old) class) s.old event s.new) }
-{
-    let event = pack_insert(alloc, s, class)?;
-    build_behind(alloc, s, event)
-}
-
-/// Whether the tokens of \output end here: their marker comes next, and is taken away. Where it is false, what was read is lost,
-/// and the run ends by that. Err is want of memory.
-pub(crate) fn take_marker(alloc: Global, s: &mut State) -> Result<bool, AllocError>
-    ensures told { IfOk result (λ at_end. at_end ≡ spec.is_at_marker (state_of s.old)) }
-    ensures state { IfOk result (λ at_end. IsTrue at_end → state_of s.new ≡ spec.without_marker (state_of s.old)) }
-    ensures phase { OnOk result (s.new.phase ≡ s.old.phase) }
-    ensures said { OnOk result (s.new.said ≡ s.old.said) }
-{
-    match s.input.next_known(alloc, s.table.categories(), &s.table)? {
-        Pending_next::Marker => Ok(true),
-        Pending_next::Token(_) | Pending_next::Held(_) => Ok(false),
-        Pending_next::PartEnd(_) => Ok(false),
-        Pending_next::Used { .. } | Pending_next::E1 => Ok(false),
-    }
-}
-
-/// The list of \output, whose group has ended, leaves the lists, and the page builder goes on. Err is want of memory.
-fn go_on_behind_output(alloc: Global, s: &mut State) -> Result<Event, AllocError>
-    requires { s.old.phase ≡ Phase.Running }
-    ensures { IfOk result (λ event. IsStepped (spec.ending_output_in (state_of s.old) (left_vertical s.old.lists)) s.old event s.new) }
-{
-    let Some(list) = end_vertical(&mut s.lists) else {
-        return Ok(fail(s, TexError::ExtraGroupEnd));
-    };
-    s.scan.enter(s.lists.nest.innermost().mode());
-    match end_output(
-        alloc,
-        &mut s.lists.nest,
-        &mut s.table,
-        &mut s.lists.pages,
-        list,
-    ) {
-        Ok(next) => take_page(s, next),
-        Err(error) => fail_by_page(s, error),
-    }
-}
-
-/// The same, and its group ends before. Err is want of memory.
-pub(crate) fn finish_output(alloc: Global, s: &mut State) -> Result<Event, AllocError>
-    requires running { s.old.phase ≡ Phase.Running }
-    requires kind { kind_of s.old.table ≡ Some GroupKind.Output }
-    ensures { IfOk result (λ event. IsStepped (spec.ending_output (state_of s.old)) s.old event s.new) }
-{
-    leave_group(s, GroupKind::Output)?;
-    go_on_behind_output(alloc, s)
+    carry(s, done, b"")
 }
 
 /// An assignment to \deadcycles. Err is want of memory.
@@ -259,25 +54,6 @@ pub fn set_page(s: &mut State, quantity: PageQuantity, value: i32) -> Result<Eve
     }
 }
 
-/// What \vsplit of a register to so many sp splits off goes where it is to go. Err is want of memory.
-fn split_off(
-    alloc: Global,
-    s: &mut State,
-    number: u8,
-    size: i32,
-    context: BoxContext,
-) -> Result<Event, AllocError>
-    requires { s.old.phase ≡ Phase.Running }
-    ensures { IfOk result (λ event. IsStepped (spec.splitting_box (state_of s.old) number size context) s.old event s.new) }
-{
-    let target = target_of(s, context);
-    settle(s, context)?;
-    match split_box(alloc, &mut s.table, &mut s.lists.pages, number, size) {
-        Ok(packed) => place_split(alloc, s, target, packed),
-        Err(error) => fail_by_page(s, error),
-    }
-}
-
 /// \vsplit of a register to so many sp, behind which the page builder is exercised if the register isn't void. Err is want of
 /// memory; the event may end the run by an error, as `splitting_off` says.
 pub fn split(
@@ -290,35 +66,12 @@ pub fn split(
     requires running { s.old.phase ≡ Phase.Running }
     ensures { IfOk result (λ event. IsStepped (spec.splitting_off (state_of s.old) number size context) s.old event s.new) }
 {
-    let found = s.table.boxed(&Place::Box(number)).is_some();
-    let event = split_off(alloc, s, number, size, context)?;
-    build_if(alloc, s, found, context, event)
-}
-
-/// What \vsplit split off goes where it is to go. Err is want of memory.
-fn place_split(
-    alloc: Global,
-    s: &mut State,
-    target: Target,
-    packed: Option<Packed>,
-) -> Result<Event, AllocError>
-    requires { s.old.phase ≡ Phase.Running }
-    ensures { IfOk result (λ event. IsStepped (spec.split_placed (state_of s.old) target s.old.table packed) s.old event s.new) }
-{
-    let Some(
-        Packed {
-            node,
-            badness,
-            report,
-        },
-    ) = packed
-    else {
-        let done = place(alloc, &mut s.lists, &mut s.table, target, None)?;
-        return carry(s, done);
-    };
-    s.lists.badness = badness;
-    let done = place(alloc, &mut s.lists, &mut s.table, target, Some(node))?;
-    finish_box(s, Ended { done, report })
+    let behind = register_context(&s.table, number, context);
+    let target = settle(s, context)?;
+    let ended = tx_makeup::split(alloc, &mut s.lists, &mut s.table, target, number, size)?;
+    let Ended { done, report } = ended;
+    let event = carry(s, done, report.as_slice())?;
+    build_in(alloc, s, behind, event)
 }
 
 /// \end: the run ends, or a page is to be fired before. Err is want of memory; the event may end the run by an error, as

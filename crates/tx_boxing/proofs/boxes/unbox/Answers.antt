@@ -1,7 +1,7 @@
 use Rattle.std.proofs.Common.{refl}
 use Rattle.tx_box.specs.Sources.{unboxing}
 use Rattle.tx_state.specs.Meanings.{state_of}
-use Rattle.tx_boxing.proofs.Carrying.{carries}
+use Rattle.tx_building.proofs.Carried.{carries}
 use Rattle.tx_boxing.proofs.boxes.unbox.Goals as goal
 
 pub returns : goal.returns

@@ -1,0 +1,3 @@
+pub mod ListEnds
+pub mod Paragraphs
+pub mod GroupEnds
