@@ -1,6 +1,5 @@
 //! What each command does, once it is whole (TeX: The Program, parts 45 to 49).
 ghost use Rattle.std.specs.Prelude.{◌≡◌, [], IfOk};
-ghost use Rattle.tx_command.specs.AtOnce.{whole};
 ghost use Rattle.tx_lettering.specs.Words.{factor_now as factor_of_list};
 ghost use Rattle.tx_eqtb.specs.Stack.{kind_of};
 ghost use Rattle.tx_main.specs.Effects as effects;
@@ -18,7 +17,7 @@ use tx_boxing::{
     set_dead_cycles, set_depth, set_graf, set_page, split, take_box, unbox, use_box,
 };
 use tx_char::Token;
-use tx_command::{AtOnce, Command, CommandScan, Head, Prefixes, SizeUse};
+use tx_command::{Command, CommandScan, Head, Prefixes, SizeUse};
 use tx_eqtb::{Eqtb, GroupKind};
 use tx_event::Event;
 use tx_formula::{
@@ -59,7 +58,7 @@ fn with_prefix(prefixes: Prefixes, prefix: Prefix) -> Prefixes
 }
 
 /// A prefix.
-fn prefix(scan: &mut CommandScan, prefix: Prefix) -> Event
+pub(crate) fn prefix(scan: &mut CommandScan, prefix: Prefix) -> Event
     requires { scan.old.taken ≡ [] }
     ensures { (s : State) → s.phase ≡ Phase.Running → IsStepped (effects.effect (state_of (record s { scan = scan.old })) (Command.Prefix prefix)) (record s { scan = scan.old }) result (record s { scan = scan.new }) }
 {
@@ -85,7 +84,11 @@ fn define(s: &mut State, defined: Place, kind: Shorthand) -> Result<Event, Alloc
 }
 
 /// An assignment, or the begin of its text.
-fn assign(alloc: Global, s: &mut State, assignment: Assignment) -> Result<Event, AllocError>
+pub(crate) fn assign(
+    alloc: Global,
+    s: &mut State,
+    assignment: Assignment,
+) -> Result<Event, AllocError>
     requires running { s.old.phase ≡ Phase.Running }
     requires between { s.old.scan.taken ≡ [] }
     ensures { IfOk result (λ event. IsStepped (effects.effect (state_of s.old) (Command.Assign assignment)) s.old event s.new) }
@@ -215,7 +218,7 @@ fn open_by(alloc: Global, s: &mut State, opener: Opener) -> Result<Event, AllocE
 
 /// A character of a horizontal list, or of a formula.
 #[inline(always)]
-fn set_character(alloc: Global, s: &mut State, code: u8) -> Result<Event, AllocError>
+pub(crate) fn set_character(alloc: Global, s: &mut State, code: u8) -> Result<Event, AllocError>
     requires running { s.old.phase ≡ Phase.Running }
     requires between { s.old.scan.taken ≡ [] }
     ensures { IfOk result (λ event. IsStepped (effects.character_in (state_of s.old) code (factor_of_list (state_of s.old))) s.old event s.new) }
@@ -227,7 +230,7 @@ fn set_character(alloc: Global, s: &mut State, code: u8) -> Result<Event, AllocE
 }
 
 /// A begin-group token, which in a formula begins a list of its own.
-fn begin_group(alloc: Global, s: &mut State) -> Result<Event, AllocError>
+pub(crate) fn begin_group(alloc: Global, s: &mut State) -> Result<Event, AllocError>
     requires running { s.old.phase ≡ Phase.Running }
     requires between { s.old.scan.taken ≡ [] }
     ensures { IfOk result (λ event. IsStepped (effects.beginning_group (state_of s.old) s.old.scan.mode) s.old event s.new) }
@@ -239,7 +242,7 @@ fn begin_group(alloc: Global, s: &mut State) -> Result<Event, AllocError>
 }
 
 /// An end-group token.
-fn end_group(alloc: Global, s: &mut State) -> Result<Event, AllocError>
+pub(crate) fn end_group(alloc: Global, s: &mut State) -> Result<Event, AllocError>
     requires running { s.old.phase ≡ Phase.Running }
     requires between { s.old.scan.taken ≡ [] }
     ensures { IfOk result (λ event. IsStepped (effects.ending_group (state_of s.old) (kind_of s.old.table)) s.old event s.new) }
@@ -342,55 +345,13 @@ fn carry_out(alloc: Global, s: &mut State, command: Command) -> Result<Event, Al
     }
 }
 
-/// Carries out the command that is whole. Its only error is want of memory.
+/// Carries out the command that is whole, where no scan of assignments has made it. Its only error is want of memory.
 #[inline(never)]
-pub(crate) fn carry_made_out(alloc: Global, s: &mut State) -> Result<Event, AllocError>
-    requires running { s.old.phase ≡ Phase.Running }
-    requires between { s.old.scan.taken ≡ [] }
-    ensures { IfOk result (λ event. IsStepped (effects.effect (state_of s.old) s.old.made) s.old event s.new) }
-{
-    match s.made.take_assignment() {
-        // most commands
-        Some(assignment) => assign(alloc, s, assignment),
-        None => carry_other_out(alloc, s),
-    }
-}
-
-/// The same where no scan of assignments has made it.
-#[inline(never)]
-fn carry_other_out(alloc: Global, s: &mut State) -> Result<Event, AllocError>
+pub(crate) fn carry_other_out(alloc: Global, s: &mut State) -> Result<Event, AllocError>
     requires running { s.old.phase ≡ Phase.Running }
     requires between { s.old.scan.taken ≡ [] }
     ensures { IfOk result (λ event. IsStepped (effects.effect (state_of s.old) s.old.made) s.old event s.new) }
 {
     let command = s.made.take();
     carry_out(alloc, s, command)
-}
-
-/// Carries out a command that one token is. Its only error is want of memory.
-#[inline(never)]
-pub(crate) fn take_at_once(alloc: Global, s: &mut State, found: AtOnce) -> Result<Event, AllocError>
-    requires running { s.old.phase ≡ Phase.Running }
-    requires between { s.old.scan.taken ≡ [] }
-    ensures { IfOk result (λ event. IsStepped (effects.effect (state_of s.old) (whole found)) s.old event s.new) }
-{
-    match found {
-        AtOnce::Character(code) => set_character(alloc, s, code),
-        AtOnce::Space => space(s),
-        AtOnce::BeginGroup => begin_group(alloc, s),
-        AtOnce::EndGroup => end_group(alloc, s),
-        AtOnce::BeginSemiSimple => open(s, GroupKind::SemiSimple),
-        AtOnce::EndSemiSimple => end_semi_simple(s),
-        AtOnce::MathShift => shift(alloc, s),
-        AtOnce::Script(part) => begin_script(alloc, s, part),
-        AtOnce::MathCharacter(number) => set_number(alloc, s, i32::from(number)),
-        AtOnce::Nothing => Ok(Event::Went),
-        AtOnce::Prefix(found) => Ok(prefix(&mut s.scan, found)),
-        AtOnce::EndParagraph => end_paragraph(alloc, s),
-        AtOnce::Indent(how) => indent(alloc, s, how),
-        AtOnce::ControlSpace => control_space(s),
-        AtOnce::ItalicCorrection => correct_italic(s),
-        AtOnce::DiscretionaryHyphen => break_word(alloc, s),
-        AtOnce::Remove(kind) => Ok(remove(s, kind)),
-    }
 }
