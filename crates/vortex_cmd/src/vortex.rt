@@ -2,15 +2,14 @@
 ghost use Rattle.std.specs.Prelude.{◌≡◌, ◌≢◌, ◌+◌, ◌<◌, ◌≤◌, ◌⊎◌};
 ghost use Rattle.tx_io.specs.Faults.{Rose};
 ghost use Rattle.tx_main.specs.Turns.{tex};
-ghost use Rattle.vortex_cmd.specs.Outcome.{outcome, most_turns, ForHeld, Leaves};
+ghost use Rattle.tx_call.specs.Outcome.{outcome, most_turns, ForHeld, Leaves};
 ghost use Rattle.tx_words.specs.declared.given.Asked.TheVariants.{Nothing};
-ghost use Rattle.vortex_cmd.specs.Listing.{NamesNoDvi, HoldsNoDvi};
-ghost use Rattle.vortex_cmd.specs.Scripts.{ForScript, NamesNoScript, HoldsNoScript};
+ghost use Rattle.tx_call.specs.Listing.{NamesNoDvi, HoldsNoDvi};
+ghost use Rattle.tx_call.specs.Scripts.{ForScript, NamesNoScript, HoldsNoScript};
 ghost use Rattle.tx_words.specs.Words.{IsOfFiles, script_asked, dvi_asked, words_meant, texts};
 
-use crate::run::run_words;
-use crate::trouble::{Interruption, Trouble};
 use std::alloc::Global;
+use tx_call::{Interruption, Trouble, run_words};
 use tx_io::{Sink, Source};
 use tx_machine::Steps;
 use tx_main::Tex;

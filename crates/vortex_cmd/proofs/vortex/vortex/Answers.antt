@@ -1,10 +1,10 @@
 use Rattle.std.proofs.Common.{◌≡◌, refl, ⊎_elim, arith, rules}
 use Rattle.tx_main.specs.Turns.{tex}
 use Rattle.tx_main.specs.Lawful.{tex-lawful}
-use Rattle.vortex_cmd.specs.declared.trouble.Trouble.TheVariants.{Memory, Source, Sink}
-use Rattle.vortex_cmd.specs.declared.trouble.Interruption.TheVariants.{Trouble as Interrupted, RefusedEdit}
+use Rattle.tx_call.specs.declared.trouble.Trouble.TheVariants.{Memory, Source, Sink}
+use Rattle.tx_call.specs.declared.trouble.Interruption.TheVariants.{Trouble as Interrupted, RefusedEdit}
 use Rattle.tx_words.specs.Words.{texts}
-use Rattle.vortex_cmd.proofs.Held.{leaves_of, turns_bound, stays_at_memory, stays_at_source, leaves_all, leaves_part, leaves_refused}
+use Rattle.tx_call.proofs.Held.{leaves_of, turns_bound, stays_at_memory, stays_at_source, leaves_all, leaves_part, leaves_refused}
 use Rattle.vortex_cmd.proofs.vortex.vortex.Goals as goal
 
 pub returns-in-Ok-clause-leaves : goal.returns-in-Ok-clause-leaves

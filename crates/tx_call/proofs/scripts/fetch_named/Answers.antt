@@ -1,0 +1,22 @@
+use Rattle.std.proofs.Common.{◌≡◌, ℕ, List, Some, None, refl, subst}
+use Rattle.std.specs.Prelude.{IfSome}
+use Rattle.tx_bytes.specs.Files.{content}
+use Rattle.tx_call.specs.declared.scripted.Scripted.{Scripted}
+use Rattle.tx_call.specs.Scripts.{IsReading}
+use Rattle.tx_call.proofs.scripts.fetch_named.Goals as goal
+
+pub returns-in_ok-read_bytes-in-Found-clause-read : goal.returns-in_ok-read_bytes-in-Found-clause-read
+returns-in_ok-read_bytes-in-Found-clause-read g c = record {
+  bytes = Some c.in-Found.bytes;
+  are_told = subst (λ (name : List ℕ). IfSome (g.S.Source.holds c.args.source.now) (λ held. content held name ≡ Some c.in-Found.bytes)) c.as_slice.ensures.bytes c.in-Found.ensures.gives;
+  reading = subst (λ (bytes : List ℕ). IsReading (Some bytes) c.in_ok-read_bytes-in-Found.field-0) c.as_slice-in-Found.ensures c.in_ok-read_bytes-in-Found.ensures.reading;
+  only = subst (λ (bytes : List ℕ). (other : Scripted) → IsReading (Some bytes) other → other ≡ c.in_ok-read_bytes-in-Found.field-0) c.as_slice-in-Found.ensures c.in_ok-read_bytes-in-Found.ensures.only;
+}
+
+pub returns-in-Absent-clause-read : goal.returns-in-Absent-clause-read
+returns-in-Absent-clause-read g c = record {
+  bytes = None;
+  are_told = subst (λ (name : List ℕ). IfSome (g.S.Source.holds c.args.source.now) (λ held. content held name ≡ None)) c.as_slice.ensures.bytes c.in-Absent.ensures.gives;
+  reading = refl;
+  only = λ other reading. reading;
+}

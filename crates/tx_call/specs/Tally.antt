@@ -1,0 +1,8 @@
+-- Where a replay stands, in code.
+use Rattle.tx_session.specs.Held.{Held}
+use Rattle.tx_call.specs.declared.tally.Tally.{Tally}
+use Rattle.tx_call.specs.Replay.{Moment}
+
+-- a document, and the counts of its edits and of the places that were asked for
+abbrev pub moment : Held → Tally → Moment
+moment held tally = record { held = held; edits = tally.edits; places = tally.places; outside = tally.outside }

@@ -1,6 +1,0 @@
-use Rattle.std.proofs.Common.{◌≡◌, ◌++◌, drop}
-use Rattle.vortex_cmd.specs.Listing.{counts_text}
-use Rattle.vortex_cmd.proofs.listing.append_counts.Given as goal
-
-abbrev pub invariant-loop-count : goal.invariant-loop-count
-invariant-loop-count l = l.text ++ counts_text (drop l.count-index l.counts) ≡ l.initial.text ++ counts_text l.counts

@@ -1,8 +1,0 @@
--- Where a replay stands, in code.
-use Rattle.tx_session.specs.Held.{Held}
-use Rattle.vortex_cmd.specs.declared.tally.Tally.{Tally}
-use Rattle.vortex_cmd.specs.Replay.{Moment}
-
--- a document, and the counts of its edits and of the places that were asked for
-abbrev pub moment : Held → Tally → Moment
-moment held tally = record { held = held; edits = tally.edits; places = tally.places; outside = tally.outside }
