@@ -9,7 +9,6 @@ use Rattle.tx_lex.specs.declared.types.PlainToken.TheVariants.{Set, Blank}
 use Rattle.tx_lex.specs.Plain.{IsSet, category_of, is_set}
 use Rattle.tx_command.specs.declared.at_once.AtOnce.{AtOnce}
 use Rattle.tx_command.specs.declared.at_once.AtOnce.TheVariants as at_once
-use Rattle.tx_command.specs.declared.types.Command.TheVariants as command
 use Rattle.tx_command.specs.AtOnce.{IsAloneIn, IsWhole, whole}
 use Rattle.tx_command.specs.Begun.{Begun as Beginning}
 use Rattle.tx_command.specs.Standing.{standing_in}

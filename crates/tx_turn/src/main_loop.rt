@@ -4,7 +4,7 @@
 //! a text that is open, within its braces (sections 473 and 477), an argument (section 392), or text that is skipped (section 494),
 //! as long as nothing of these ends; and a command that is begun, such as the number of an assignment, up to the one behind which
 //! it is whole.
-ghost use Rattle.std.specs.Prelude.{◌≡◌, ◌<◌, ◌≤◌, [], true, false, None, Some, length, IsTrue, IfOk, IfSome, OnOk, OnErr};
+ghost use Rattle.std.specs.Prelude.{◌≡◌, ◌<◌, ◌≤◌, [], true, false, None, Some, length, IsTrue, IfOk, IfSome, OnErr};
 ghost use Rattle.tx_command.specs.Commands.{is_begun};
 ghost use Rattle.tx_event.specs.Turns.{Ready};
 ghost use Rattle.tx_machine.specs.Plain.{HasPassed, HasRunOn, IsLast, last_turns, turns_of};
