@@ -26,12 +26,12 @@ impl Machine for Tex {
 
     ghost lawful = { tex-lawful };
 
-    #[tactic(auto, unfolding(crate::specs::Turns::tex))]
+    #[tactic(auto, unfolding(crate::specs::Turns::tex, tx_turn::specs::Turns::tex_with))]
     fn start(&self, alloc: Global, date: &Date, main: &Name) -> Result<State, AllocError> {
         tx_turn::begin(alloc, date, main)
     }
 
-    #[tactic(auto, unfolding(crate::specs::Turns::tex))]
+    #[tactic(auto, unfolding(crate::specs::Turns::tex, tx_turn::specs::Turns::tex_with))]
     fn cost(&self, s: &State) -> u64 {
         match s.phase {
             Phase::Running => tx_turn::due_cost(&s.due),
@@ -39,13 +39,13 @@ impl Machine for Tex {
         }
     }
 
-    #[tactic(auto, unfolding(crate::specs::Turns::tex))]
+    #[tactic(auto, unfolding(crate::specs::Turns::tex, tx_turn::specs::Turns::tex_with))]
     fn turn(&self, alloc: Global, s: &mut State, steps: &mut Steps) -> Result<Event, AllocError> {
         steps.tick();
         tx_turn::turn::<Tex>(alloc, s)
     }
 
-    #[tactic(auto, unfolding(crate::specs::Turns::tex))]
+    #[tactic(auto, unfolding(crate::specs::Turns::tex, tx_turn::specs::Turns::tex_with))]
     fn run_on(
         &self,
         alloc: Global,
@@ -56,7 +56,7 @@ impl Machine for Tex {
         tx_turn::run_on::<Tex>(alloc, s, most, steps)
     }
 
-    #[tactic(auto, unfolding(crate::specs::Turns::tex))]
+    #[tactic(auto, unfolding(crate::specs::Turns::tex, tx_turn::specs::Turns::tex_with))]
     fn answer(&self, alloc: Global, s: &mut State, reply: &Reply) -> Result<(), AllocError> {
         tx_turn::answer(alloc, s, reply)
     }
