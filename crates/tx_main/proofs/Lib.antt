@@ -1,10 +1,3 @@
-pub mod Taking
-pub mod TextTurns
-pub mod Closing
-pub mod Turning
-pub mod AtOnce
 pub mod Assigns
+pub mod Carrying
 pub mod MainLoop
-pub mod Characters
-mod Commanding
-mod Runs

@@ -1,6 +1,5 @@
 //! What each command does, once it is whole (TeX: The Program, parts 45 to 49).
 ghost use Rattle.std.specs.Prelude.{◌≡◌, [], IfOk};
-ghost use Rattle.tx_command.specs.AtOnce.{whole};
 ghost use Rattle.tx_lettering.specs.Words.{factor_now as factor_of_list};
 ghost use Rattle.tx_eqtb.specs.Stack.{kind_of};
 ghost use Rattle.tx_main.specs.Effects as effects;
@@ -18,7 +17,7 @@ use tx_boxing::{
     set_dead_cycles, set_depth, set_graf, set_page, split, take_box, unbox, use_box,
 };
 use tx_char::Token;
-use tx_command::{AtOnce, Command, CommandScan, Head, Prefixes, SizeUse};
+use tx_command::{Command, CommandScan, Head, Prefixes, SizeUse};
 use tx_eqtb::{Eqtb, GroupKind};
 use tx_event::Event;
 use tx_formula::{
@@ -59,7 +58,7 @@ fn with_prefix(prefixes: Prefixes, prefix: Prefix) -> Prefixes
 }
 
 /// A prefix.
-fn prefix(scan: &mut CommandScan, prefix: Prefix) -> Event
+pub(crate) fn prefix(scan: &mut CommandScan, prefix: Prefix) -> Event
     requires { scan.old.taken ≡ [] }
     ensures { (s : State) → s.phase ≡ Phase.Running → IsStepped (effects.effect (state_of (record s { scan = scan.old })) (Command.Prefix prefix)) (record s { scan = scan.old }) result (record s { scan = scan.new }) }
 {
@@ -85,7 +84,11 @@ fn define(s: &mut State, defined: Place, kind: Shorthand) -> Result<Event, Alloc
 }
 
 /// An assignment, or the begin of its text.
-fn assign(alloc: Global, s: &mut State, assignment: Assignment) -> Result<Event, AllocError>
+pub(crate) fn assign(
+    alloc: Global,
+    s: &mut State,
+    assignment: Assignment,
+) -> Result<Event, AllocError>
     requires running { s.old.phase ≡ Phase.Running }
     requires between { s.old.scan.taken ≡ [] }
     ensures { IfOk result (λ event. IsStepped (effects.effect (state_of s.old) (Command.Assign assignment)) s.old event s.new) }
@@ -134,24 +137,6 @@ fn keep(
     Ok(Event::Went)
 }
 
-/// What is made of a size.
-fn use_size(alloc: Global, s: &mut State, size_use: SizeUse, size: i32) -> Result<Event, AllocError>
-    requires running { s.old.phase ≡ Phase.Running }
-    requires between { s.old.scan.taken ≡ [] }
-    ensures { IfOk result (λ event. IsStepped (effects.effect (state_of s.old) (Command.Sized size_use size)) s.old event s.new) }
-{
-    match size_use {
-        SizeUse::Item(SizeKind::Kern) => {
-            add(s, Node::Plain(Plain::Kern(KernKind::Explicit, size)))
-        }
-        SizeUse::Item(SizeKind::MathKern) => {
-            add_noad(alloc, s, Noad::Plain(PlainNoad::Kern(size)))
-        }
-        SizeUse::Item(SizeKind::Above) => divide(alloc, s, Some(size)),
-        SizeUse::Shape => add_size(alloc, s, size),
-    }
-}
-
 /// How leaders are spread, as an item says it.
 fn spread(kind: LeadersKind) -> tx_node::LeadersKind
     ensures { result ≡ effects.spread kind }
@@ -198,24 +183,9 @@ fn penalize(alloc: Global, s: &mut State, number: i32) -> Result<Event, AllocErr
     build_here(alloc, s)
 }
 
-/// The begin-group token that was awaited.
-fn open_by(alloc: Global, s: &mut State, opener: Opener) -> Result<Event, AllocError>
-    requires running { s.old.phase ≡ Phase.Running }
-    requires between { s.old.scan.taken ≡ [] }
-    ensures { IfOk result (λ event. IsStepped (effects.effect (state_of s.old) (Command.Open opener)) s.old event s.new) }
-{
-    match opener {
-        Opener::Break(text) => begin_break(alloc, s, text),
-        Opener::Choice(style) => open_formula(alloc, s, GroupKind::MathChoice(style)),
-        Opener::Insert(class) => begin_vertical_list(alloc, s, GroupKind::Insert(class)),
-        Opener::Output => begin_vertical_list(alloc, s, GroupKind::Output),
-        Opener::NoAlign => begin_noalign(s),
-    }
-}
-
 /// A character of a horizontal list, or of a formula.
 #[inline(always)]
-fn set_character(alloc: Global, s: &mut State, code: u8) -> Result<Event, AllocError>
+pub(crate) fn set_character(alloc: Global, s: &mut State, code: u8) -> Result<Event, AllocError>
     requires running { s.old.phase ≡ Phase.Running }
     requires between { s.old.scan.taken ≡ [] }
     ensures { IfOk result (λ event. IsStepped (effects.character_in (state_of s.old) code (factor_of_list (state_of s.old))) s.old event s.new) }
@@ -227,7 +197,7 @@ fn set_character(alloc: Global, s: &mut State, code: u8) -> Result<Event, AllocE
 }
 
 /// A begin-group token, which in a formula begins a list of its own.
-fn begin_group(alloc: Global, s: &mut State) -> Result<Event, AllocError>
+pub(crate) fn begin_group(alloc: Global, s: &mut State) -> Result<Event, AllocError>
     requires running { s.old.phase ≡ Phase.Running }
     requires between { s.old.scan.taken ≡ [] }
     ensures { IfOk result (λ event. IsStepped (effects.beginning_group (state_of s.old) s.old.scan.mode) s.old event s.new) }
@@ -239,7 +209,7 @@ fn begin_group(alloc: Global, s: &mut State) -> Result<Event, AllocError>
 }
 
 /// An end-group token.
-fn end_group(alloc: Global, s: &mut State) -> Result<Event, AllocError>
+pub(crate) fn end_group(alloc: Global, s: &mut State) -> Result<Event, AllocError>
     requires running { s.old.phase ≡ Phase.Running }
     requires between { s.old.scan.taken ≡ [] }
     ensures { IfOk result (λ event. IsStepped (effects.ending_group (state_of s.old) (kind_of s.old.table)) s.old event s.new) }
@@ -298,7 +268,14 @@ fn carry_out(alloc: Global, s: &mut State, command: Command) -> Result<Event, Al
         Command::Prefix(found) => Ok(prefix(&mut s.scan, found)),
         Command::Define(defined, kind) => define(s, defined, kind),
         Command::Assign(assignment) => assign(alloc, s, assignment),
-        Command::Sized(size_use, size) => use_size(alloc, s, size_use, size),
+        Command::Sized(SizeUse::Item(SizeKind::Kern), size) => {
+            add(s, Node::Plain(Plain::Kern(KernKind::Explicit, size)))
+        }
+        Command::Sized(SizeUse::Item(SizeKind::MathKern), size) => {
+            add_noad(alloc, s, Noad::Plain(PlainNoad::Kern(size)))
+        }
+        Command::Sized(SizeUse::Item(SizeKind::Above), size) => divide(alloc, s, Some(size)),
+        Command::Sized(SizeUse::Shape, size) => add_size(alloc, s, size),
         Command::Rule(_, rule) => add_rule(alloc, s, rule),
         Command::BeginBox(kind, goal, context) => open_box(alloc, s, kind, goal, context),
         Command::UseBox(number, context) => use_box(alloc, s, number, context),
@@ -313,7 +290,15 @@ fn carry_out(alloc: Global, s: &mut State, command: Command) -> Result<Event, Al
         Command::SetFactor(number) => set_factor(s, number),
         Command::SetPrevGraf(number) => set_graf(s, number),
         Command::BeginShape(lines) => begin_shape(alloc, s, lines),
-        Command::Open(opener) => open_by(alloc, s, opener),
+        Command::Open(Opener::Break(text)) => begin_break(alloc, s, text),
+        Command::Open(Opener::Choice(style)) => {
+            open_formula(alloc, s, GroupKind::MathChoice(style))
+        }
+        Command::Open(Opener::Insert(class)) => {
+            begin_vertical_list(alloc, s, GroupKind::Insert(class))
+        }
+        Command::Open(Opener::Output) => begin_vertical_list(alloc, s, GroupKind::Output),
+        Command::Open(Opener::NoAlign) => begin_noalign(s),
         Command::Align => Ok(align(s)),
         Command::BeginAlign(goal) => begin_align(alloc, s, goal),
         Command::ExpandOnce => expand_next(s),
@@ -342,55 +327,13 @@ fn carry_out(alloc: Global, s: &mut State, command: Command) -> Result<Event, Al
     }
 }
 
-/// Carries out the command that is whole. Its only error is want of memory.
+/// Carries out the command that is whole, where no scan of assignments has made it. Its only error is want of memory.
 #[inline(never)]
-pub(crate) fn carry_made_out(alloc: Global, s: &mut State) -> Result<Event, AllocError>
-    requires running { s.old.phase ≡ Phase.Running }
-    requires between { s.old.scan.taken ≡ [] }
-    ensures { IfOk result (λ event. IsStepped (effects.effect (state_of s.old) s.old.made) s.old event s.new) }
-{
-    match s.made.take_assignment() {
-        // most commands
-        Some(assignment) => assign(alloc, s, assignment),
-        None => carry_other_out(alloc, s),
-    }
-}
-
-/// The same where no scan of assignments has made it.
-#[inline(never)]
-fn carry_other_out(alloc: Global, s: &mut State) -> Result<Event, AllocError>
+pub(crate) fn carry_other_out(alloc: Global, s: &mut State) -> Result<Event, AllocError>
     requires running { s.old.phase ≡ Phase.Running }
     requires between { s.old.scan.taken ≡ [] }
     ensures { IfOk result (λ event. IsStepped (effects.effect (state_of s.old) s.old.made) s.old event s.new) }
 {
     let command = s.made.take();
     carry_out(alloc, s, command)
-}
-
-/// Carries out a command that one token is. Its only error is want of memory.
-#[inline(never)]
-pub(crate) fn take_at_once(alloc: Global, s: &mut State, found: AtOnce) -> Result<Event, AllocError>
-    requires running { s.old.phase ≡ Phase.Running }
-    requires between { s.old.scan.taken ≡ [] }
-    ensures { IfOk result (λ event. IsStepped (effects.effect (state_of s.old) (whole found)) s.old event s.new) }
-{
-    match found {
-        AtOnce::Character(code) => set_character(alloc, s, code),
-        AtOnce::Space => space(s),
-        AtOnce::BeginGroup => begin_group(alloc, s),
-        AtOnce::EndGroup => end_group(alloc, s),
-        AtOnce::BeginSemiSimple => open(s, GroupKind::SemiSimple),
-        AtOnce::EndSemiSimple => end_semi_simple(s),
-        AtOnce::MathShift => shift(alloc, s),
-        AtOnce::Script(part) => begin_script(alloc, s, part),
-        AtOnce::MathCharacter(number) => set_number(alloc, s, i32::from(number)),
-        AtOnce::Nothing => Ok(Event::Went),
-        AtOnce::Prefix(found) => Ok(prefix(&mut s.scan, found)),
-        AtOnce::EndParagraph => end_paragraph(alloc, s),
-        AtOnce::Indent(how) => indent(alloc, s, how),
-        AtOnce::ControlSpace => control_space(s),
-        AtOnce::ItalicCorrection => correct_italic(s),
-        AtOnce::DiscretionaryHyphen => break_word(alloc, s),
-        AtOnce::Remove(kind) => Ok(remove(s, kind)),
-    }
 }

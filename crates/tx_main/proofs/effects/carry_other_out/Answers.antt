@@ -1,4 +1,4 @@
-use Rattle.tx_main.proofs.Taking.{carries}
+use Rattle.tx_main.proofs.Carrying.{carries}
 use Rattle.tx_main.proofs.effects.carry_other_out.Goals as goal
 
 pub returns : goal.returns

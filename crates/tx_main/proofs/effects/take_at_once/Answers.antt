@@ -1,4 +1,0 @@
-use Rattle.tx_main.proofs.effects.take_at_once.Goals as goal
-
-pub returns-in-Prefix : goal.returns-in-Prefix
-returns-in-Prefix c = rw c.in-Prefix.is (c.prefix.ensures c.args.s.now c.requires.running)

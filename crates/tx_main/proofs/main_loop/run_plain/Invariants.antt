@@ -1,5 +1,0 @@
-use Rattle.tx_main.specs.Going.{HasRun, IsGoing}
-use Rattle.tx_main.proofs.main_loop.run_plain.Given as goal
-
-abbrev pub invariant-loop-count : goal.invariant-loop-count
-invariant-loop-count l = record { run : HasRun l.count l.initial.s l.s l.initial.steps l.steps; goes : IsGoing l.going l.s }
