@@ -7,7 +7,7 @@ use Rattle.tx_lex.specs.declared.types.ReadState.TheVariants.{M, S}
 use Rattle.tx_lex.specs.Plain.{is_set}
 use Rattle.tx_box.specs.declared.parts.Lists.{Lists}
 use Rattle.tx_box.specs.Sources.{appended}
-use Rattle.tx_command.specs.declared.at_once.AtOnce.TheVariants as at_once
+use Rattle.tx_reading.specs.declared.single.AtOnce.TheVariants as at_once
 use Rattle.tx_command.specs.declared.types.Command.TheVariants as command
 use Rattle.tx_expand.specs.Expanding.{reader}
 use Rattle.tx_nest.specs.Changed.{with_nodes}

@@ -38,7 +38,7 @@ use Rattle.tx_command.specs.Commands.{is_preamble, leaders_before, part_before, 
 use Rattle.tx_galley.specs.Ending.{is_done}
 use Rattle.tx_galley.specs.Assigning.{setting}
 use Rattle.tx_shape.specs.declared.types.Opener.TheVariants as opener
-use Rattle.tx_boxing.specs.Building.{built}
+use Rattle.tx_building.specs.Building.{built}
 use Rattle.tx_state.specs.Ended.{adding, assigned, assigning, naming}
 use Rattle.tx_state.specs.State.{TexState}
 use Rattle.tx_state.specs.Texts.{definition_text}
@@ -49,8 +49,8 @@ use Rattle.tx_lettering.specs.Texts.{beginning_text, in_list}
 use Rattle.tx_boxing.specs.Breaks.{beginning_break}
 use Rattle.tx_boxing.specs.Pages.{beginning_list, ending_run, paged_so, setting_dead_cycles, splitting_off}
 use Rattle.tx_boxing.specs.Boxes.{copying_box, opening_box, removing, ruling, setting_depth, taking_box, unboxing_so, using_box}
-use Rattle.tx_boxing.specs.GroupEnds.{ending, ending_semi_simple}
-use Rattle.tx_boxing.specs.Paragraphs.{ending_paragraph, indenting_so, inserting_par, setting_graf, shape_sized, shaping, sizes_of}
+use Rattle.tx_grouping.specs.GroupEnds.{ending, ending_semi_simple}
+use Rattle.tx_grouping.specs.Paragraphs.{ending_paragraph, indenting_so, inserting_par, setting_graf, shape_sized, shaping, sizes_of}
 use Rattle.tx_state.specs.Groups.{opening}
 use Rattle.tx_formula.specs.Atoms.{beginning_atom, beginning_choice, dividing, limiting, scripting}
 use Rattle.tx_formula.specs.Characters.{setting_character, setting_number}

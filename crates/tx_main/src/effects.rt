@@ -12,10 +12,10 @@ use tx_aligning::{
 };
 use tx_assign::{Assignment, Carried, relaxed};
 use tx_boxing::{
-    add_rule, add_size, begin_break, begin_shape, begin_vertical_list, build_behind, build_here,
-    copy_box, end_paragraph, end_run, end_semi_simple, indent, insert_par, open_box, remove,
-    set_dead_cycles, set_depth, set_graf, set_page, split, take_box, unbox, use_box,
+    add_rule, begin_break, begin_vertical_list, copy_box, end_run, open_box, remove,
+    set_dead_cycles, set_depth, set_page, split, take_box, unbox, use_box,
 };
+use tx_building::{build_behind, build_here};
 use tx_char::Token;
 use tx_command::{Command, CommandScan, Head, Prefixes, SizeUse};
 use tx_eqtb::{Eqtb, GroupKind};
@@ -23,6 +23,9 @@ use tx_event::Event;
 use tx_formula::{
     add_noad, begin_atom, begin_choice, begin_script, divide, end_choice, end_part, open_formula,
     set_limits, set_number, shift, style_of, thickness_of,
+};
+use tx_grouping::{
+    add_size, begin_shape, end_paragraph, end_semi_simple, indent, insert_par, set_graf,
 };
 use tx_lettering::{
     begin_list, begin_text, break_word, collect, control_space, correct_italic, define_font,
@@ -217,7 +220,7 @@ pub(crate) fn end_group(alloc: Global, s: &mut State) -> Result<Event, AllocErro
     match s.table.kind() {
         Some(GroupKind::MathPart(part)) => end_part(alloc, s, part),
         Some(GroupKind::MathChoice(style)) => end_choice(alloc, s, style),
-        _ => tx_boxing::end_group(alloc, s),
+        _ => tx_grouping::end_group(alloc, s),
     }
 }
 

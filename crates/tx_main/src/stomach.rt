@@ -6,18 +6,19 @@ use crate::letters::{set_letter, set_space};
 use std::alloc::{AllocError, Global};
 use tx_aligning::end_entry;
 use tx_box::Work;
-use tx_boxing::{end_paragraph, end_semi_simple, indent, remove, work_boxes};
+use tx_boxing::{remove, work_boxes};
 use tx_char::ControlName;
-use tx_command::AtOnce;
 use tx_eqtb::GroupKind;
 use tx_event::Event;
 use tx_formula::{begin_script, set_number, shift};
+use tx_grouping::{end_paragraph, end_semi_simple, indent};
 use tx_lettering::{
     break_word, control_space, correct_italic, end_text, end_word, factor_now, load_font,
     relax_name, settle_word, space,
 };
 use tx_lex::PlainToken;
 use tx_prim::EntryEnd;
+use tx_reading::AtOnce;
 use tx_seen::Seen;
 use tx_state::{FontRequest, State, open};
 use tx_turn::Stomach;

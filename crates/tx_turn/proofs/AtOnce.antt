@@ -7,9 +7,9 @@ use Rattle.tx_seen.specs.declared.item.Item.{Item}
 use Rattle.tx_seen.specs.declared.item.Item.TheVariants.{Took, Gave}
 use Rattle.tx_seen.specs.declared.seen.Seen.{Seen}
 use Rattle.tx_seen.specs.Readings.{Reading, Done}
-use Rattle.tx_command.specs.declared.at_once.AtOnce.{AtOnce}
+use Rattle.tx_reading.specs.declared.single.AtOnce.{AtOnce}
 use Rattle.tx_command.specs.declared.types.Command.{Command}
-use Rattle.tx_command.specs.AtOnce.{whole, IsWhole}
+use Rattle.tx_reading.specs.AtOnce.{whole, IsWhole}
 use Rattle.tx_command.specs.Commands.{command}
 use Rattle.tx_state.specs.declared.state.State.{State}
 use Rattle.tx_state.specs.Meanings.{IsStepped, state_of}

@@ -7,12 +7,12 @@ use Rattle.tx_char.specs.Category.{category}
 use Rattle.tx_lex.specs.declared.types.PlainToken.{PlainToken}
 use Rattle.tx_lex.specs.declared.types.PlainToken.TheVariants.{Set, Blank}
 use Rattle.tx_lex.specs.Plain.{IsSet, category_of, is_set}
-use Rattle.tx_command.specs.declared.at_once.AtOnce.{AtOnce}
-use Rattle.tx_command.specs.declared.at_once.AtOnce.TheVariants as at_once
-use Rattle.tx_command.specs.AtOnce.{IsAloneIn, IsWhole, whole}
+use Rattle.tx_reading.specs.declared.single.AtOnce.{AtOnce}
+use Rattle.tx_reading.specs.declared.single.AtOnce.TheVariants as at_once
+use Rattle.tx_reading.specs.AtOnce.{IsAloneIn, IsWhole, whole}
 use Rattle.tx_command.specs.Begun.{Begun as Beginning}
 use Rattle.tx_command.specs.Standing.{standing_in}
-use Rattle.tx_command.proofs.Alone.{at-once}
+use Rattle.tx_reading.proofs.Alone.{at-once}
 use Rattle.tx_eqtb.specs.declared.table.Table.{Table}
 use Rattle.tx_eqtb.specs.Table.{token_meaning}
 use Rattle.tx_expand.specs.declared.begun.Begun.{Begun}

@@ -1,6 +1,6 @@
 //! TeX's stomach, as a trait: what a turn asks for beyond reading (TeX: The Program, sections 1030 to 1034).
 ghost use Rattle.std.specs.Prelude.{◌≡◌, [], IfOk, OnOk};
-ghost use Rattle.tx_command.specs.AtOnce.{whole};
+ghost use Rattle.tx_reading.specs.AtOnce.{whole};
 ghost use Rattle.tx_pending.specs.Plain.{IsNext};
 ghost use Rattle.tx_state.specs.Meanings.{IsStepped, state_of};
 ghost use Rattle.tx_state.specs.Outcomes.{leaves};
@@ -13,10 +13,10 @@ use crate::going::Going;
 use std::alloc::{AllocError, Global};
 use tx_box::Work;
 use tx_char::ControlName;
-use tx_command::AtOnce;
 use tx_event::Event;
 use tx_lex::PlainToken;
 use tx_prim::EntryEnd;
+use tx_reading::AtOnce;
 use tx_seen::Seen;
 use tx_state::{FontRequest, Phase, State};
 

@@ -26,6 +26,7 @@ use tx_expand::{Expanded, Expander, Known, Wanted, part_end};
 use tx_lex::line_text;
 use tx_list::Stack;
 use tx_pending::{ColumnPart, Pending};
+use tx_reading::{Reader, at_once};
 use tx_seen::{Fed, Seen, TexError, Want};
 use tx_state::{Due, FontRequest, OpenText, Phase, State, ask, fail};
 use tx_toklist::Toks;
@@ -60,7 +61,10 @@ pub(crate) fn feed_on<T: Stomach>(
         s.words.fonts(),
         s.words.is_open(),
     );
-    match s.scan.feed(&known, &mut s.input, seen, &mut s.made)? {
+    match s
+        .scan
+        .feed::<Reader, _>(&known, &mut s.input, seen, &mut s.made)?
+    {
         // most tokens
         Taken::More => {
             note(&mut s.magnification, s.scan.magnification());
@@ -94,7 +98,7 @@ fn take_command<T: Stomach>(alloc: Global, s: &mut State, seen: Seen) -> Result<
     ensures { IfOk result (λ event. IsStepped (turns.taking T.effects (before_token T.effects (state_of s.old) seen) seen) s.old event s.new) }
 {
     T::settle_word(alloc, s, &seen)?;
-    match s.scan.at_once(&seen) {
+    match at_once(&s.scan, &seen) {
         Some(found) => T::take_at_once(alloc, s, found),
         None => feed_command::<T>(alloc, s, seen),
     }
