@@ -10,7 +10,7 @@ use Rattle.tx_building.specs.Carrying.{carried}
 use Rattle.tx_makeup.specs.Shipping.{Sent, sending}
 use Rattle.tx_node.specs.Items.{PackedBox}
 use Rattle.tx_seen.specs.declared.error.TexError.{TexError}
-use Rattle.tx_state.specs.declared.parts.Due.TheVariants.{Boxes}
+use Rattle.tx_parts.specs.declared.parts.Due.TheVariants.{Boxes}
 use Rattle.tx_state.specs.Ended.{with_items}
 use Rattle.tx_state.specs.Outcomes.{Outcome, Ships, fails, leaves}
 use Rattle.tx_state.specs.State.{TexState}

@@ -12,7 +12,7 @@ use Rattle.tx_seen.specs.declared.error.TexError.{TexError}
 use Rattle.tx_shape.specs.declared.types.BoxContext.{BoxContext}
 use Rattle.tx_shape.specs.declared.types.BoxContext.TheVariants.{Adjust, Append, Center, Register, Ship}
 use Rattle.tx_shape.specs.declared.types.Opener.TheVariants.{Output}
-use Rattle.tx_state.specs.declared.parts.Due.TheVariants.{Boxes}
+use Rattle.tx_parts.specs.declared.parts.Due.TheVariants.{Boxes}
 use Rattle.tx_state.specs.Outcomes.{Outcome, Asks, Leaves, Ships, Fails, Ends}
 use Rattle.tx_state.specs.State.{TexState}
 

@@ -4,8 +4,8 @@ use Rattle.tx_box.specs.declared.parts.Work.{Work}
 use Rattle.tx_box.specs.Building.{Ended}
 use Rattle.tx_box.specs.Effects.{Effect, Left}
 use Rattle.tx_nest.specs.States.{mode_of}
-use Rattle.tx_state.specs.declared.parts.Due.{Due}
-use Rattle.tx_state.specs.declared.parts.Due.TheVariants.{Boxes}
+use Rattle.tx_parts.specs.declared.parts.Due.{Due}
+use Rattle.tx_parts.specs.declared.parts.Due.TheVariants.{Boxes}
 use Rattle.tx_state.specs.State.{TexState}
 use Rattle.tx_state.specs.Outcomes.{Outcome, Leaves, Fails}
 

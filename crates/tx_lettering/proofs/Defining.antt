@@ -14,8 +14,8 @@ use Rattle.tx_text.specs.Absorbed.{Absorbing}
 use Rattle.tx_text.specs.Definitions.{Defining as Defined_text}
 use Rattle.tx_toklist.specs.Macros.{Definition}
 use Rattle.tx_state.specs.declared.state.State.{State}
-use Rattle.tx_state.specs.declared.parts.OpenText.{OpenText}
-use Rattle.tx_state.specs.declared.parts.OpenText.TheVariants as texts
+use Rattle.tx_parts.specs.declared.parts.OpenText.{OpenText}
+use Rattle.tx_parts.specs.declared.parts.OpenText.TheVariants as texts
 use Rattle.tx_state.specs.Ended.{assigning}
 use Rattle.tx_state.proofs.Outcomes.{outcome-by}
 use Rattle.tx_lettering.specs.Texts.{defining, ending_text, macro_of}

@@ -20,7 +20,7 @@ use Rattle.tx_tfm.specs.declared.rules.Size.{Size}
 use Rattle.tx_tfm.specs.Metrics.{metrics_of}
 use Rattle.tx_tfm.specs.Rules.{first_broken}
 use Rattle.tx_word.specs.Collecting.{Collecting}
-use Rattle.tx_state.specs.declared.parts.FontRequest.{FontRequest}
+use Rattle.tx_parts.specs.declared.parts.FontRequest.{FontRequest}
 use Rattle.tx_state.specs.declared.state.State.{State}
 use Rattle.tx_state.specs.Meanings.{IsStepped, state_of}
 use Rattle.tx_state.specs.Outcomes.{Outcome, fails, leaves}

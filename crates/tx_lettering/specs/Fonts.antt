@@ -24,8 +24,8 @@ use Rattle.tx_shape.specs.Loading.{size_asked}
 use Rattle.tx_shape.specs.declared.types.AskedSize.{AskedSize}
 use Rattle.tx_command.specs.declared.types.Head.TheVariants.{Loading}
 use Rattle.tx_command.specs.Commands.{prefixes_of}
-use Rattle.tx_state.specs.declared.parts.Due.TheVariants.{LoadFont as LoadFont_due}
-use Rattle.tx_state.specs.declared.parts.FontRequest.{FontRequest}
+use Rattle.tx_parts.specs.declared.parts.Due.TheVariants.{LoadFont as LoadFont_due}
+use Rattle.tx_parts.specs.declared.parts.FontRequest.{FontRequest}
 use Rattle.tx_state.specs.Ended.{assigned, assigning, integer, naming}
 use Rattle.tx_state.specs.State.{TexState}
 use Rattle.tx_state.specs.Outcomes.{Outcome, Asks, fails, leaves}

@@ -24,8 +24,8 @@ use Rattle.tx_toklist.specs.Macros.{Definition}
 use Rattle.tx_convert.specs.Messages.{printed}
 use Rattle.tx_command.specs.declared.types.Prefixes.{Prefixes}
 use Rattle.tx_command.specs.Commands.{prefixes_of}
-use Rattle.tx_state.specs.declared.parts.OpenText.{OpenText}
-use Rattle.tx_state.specs.declared.parts.OpenText.TheVariants as texts
+use Rattle.tx_parts.specs.declared.parts.OpenText.{OpenText}
+use Rattle.tx_parts.specs.declared.parts.OpenText.TheVariants as texts
 use Rattle.tx_state.specs.Ended.{adding, assigning}
 use Rattle.tx_state.specs.State.{TexState}
 use Rattle.tx_lettering.specs.Hyphens.{excepting, is_late, patterning, words_of}

@@ -24,7 +24,7 @@ use Rattle.tx_pending.specs.Elements.{Input, Step, is_at_entry, step}
 use Rattle.tx_pending.specs.Plain.{IsNext, behind_first}
 use Rattle.tx_seen.specs.declared.meaning.Meaning.TheVariants as meaning
 use Rattle.tx_seen.specs.Magnified.{noted}
-use Rattle.tx_state.specs.declared.parts.OpenText.{OpenText}
+use Rattle.tx_parts.specs.declared.parts.OpenText.{OpenText}
 use Rattle.tx_state.specs.declared.state.State.{State}
 use Rattle.tx_state.specs.Meanings.{meaning_of, state_of}
 use Rattle.tx_state.specs.Outcomes.{leaves}

@@ -8,7 +8,7 @@ use Rattle.tx_seen.specs.declared.fed.Fed.TheVariants as fed
 use Rattle.tx_seen.specs.declared.fed.Kind.{Kind}
 use Rattle.tx_seen.specs.declared.fed.Want.{Want}
 use Rattle.tx_seen.specs.declared.seen.Seen.{Seen}
-use Rattle.tx_state.specs.declared.parts.OpenText.{OpenText}
+use Rattle.tx_parts.specs.declared.parts.OpenText.{OpenText}
 use Rattle.tx_state.specs.declared.parts.Phase.TheVariants.{Running}
 use Rattle.tx_state.specs.declared.state.State.{State}
 use Rattle.tx_state.specs.Meanings.{IsStepped, state_of}

@@ -7,7 +7,7 @@ use Rattle.tx_expand.specs.Expanding.{reader as reader_with}
 use Rattle.tx_machine.specs.declared.types.Date.{Date}
 use Rattle.tx_pending.specs.Elements.{no_input}
 use Rattle.tx_prim.specs.declared.modes.Mode.TheVariants.{Vertical}
-use Rattle.tx_state.specs.declared.parts.Due.TheVariants.{OpenMain}
+use Rattle.tx_parts.specs.declared.parts.Due.TheVariants.{OpenMain}
 use Rattle.tx_state.specs.State.{TexState}
 use Rattle.tx_tfm.specs.Fonts.{no_fonts}
 use Rattle.tx_turn.specs.Pages.{moment_of}

@@ -3,7 +3,7 @@ use Rattle.std.specs.Prelude.{ℕ, List}
 use Rattle.tx_prim.specs.declared.family.EntryEnd.{EntryEnd}
 use Rattle.tx_box.specs.declared.parts.Work.{Work}
 use Rattle.tx_command.specs.declared.types.Command.{Command}
-use Rattle.tx_state.specs.declared.parts.FontRequest.{FontRequest}
+use Rattle.tx_parts.specs.declared.parts.FontRequest.{FontRequest}
 use Rattle.tx_state.specs.Outcomes.{Outcome}
 use Rattle.tx_state.specs.State.{TexState}
 

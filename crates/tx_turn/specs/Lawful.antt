@@ -5,8 +5,8 @@ use Rattle.tx_event.specs.declared.types.AskKind.{AskKind}
 use Rattle.tx_event.specs.declared.types.Reply.{Reply}
 use Rattle.tx_event.specs.Turns.{Stepped, Ready, Awaits, mode_after}
 use Rattle.tx_machine.specs.Machine.{IsLawful}
-use Rattle.tx_state.specs.declared.parts.Due.{Due}
-use Rattle.tx_state.specs.declared.parts.Due.TheVariants.{OpenMain, FileAbsent, FileEnded, MainClosed, LoadFont, Boxes}
+use Rattle.tx_parts.specs.declared.parts.Due.{Due}
+use Rattle.tx_parts.specs.declared.parts.Due.TheVariants.{OpenMain, FileAbsent, FileEnded, MainClosed, LoadFont, Boxes}
 use Rattle.tx_box.specs.declared.parts.Work.TheVariants.{Build, Copy, CopyList, Ship, ShipPage}
 use Rattle.tx_state.specs.Outcomes.{Outcome, Leaves, Asks, Ships, Fails, Ends, stepped}
 use Rattle.tx_machine.specs.Same.{same-tells}

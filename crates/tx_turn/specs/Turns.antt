@@ -17,9 +17,9 @@ use Rattle.tx_event.specs.Turns.{Stepped}
 use Rattle.tx_machine.specs.Machine.{Formatter}
 use Rattle.tx_seen.specs.declared.error.TexError.{TexError}
 use Rattle.tx_seen.specs.declared.error.TexError.TheVariants.{FileAbsent, NoEnd, UnbalancedOutput}
-use Rattle.tx_state.specs.declared.parts.Due.{Due}
-use Rattle.tx_state.specs.declared.parts.Due.TheVariants.{OpenMain, FileAbsent as Due_file_absent, FileEnded, MainClosed, LoadFont, Boxes}
-use Rattle.tx_state.specs.declared.parts.OpenText.{OpenText}
+use Rattle.tx_parts.specs.declared.parts.Due.{Due}
+use Rattle.tx_parts.specs.declared.parts.Due.TheVariants.{OpenMain, FileAbsent as Due_file_absent, FileEnded, MainClosed, LoadFont, Boxes}
+use Rattle.tx_parts.specs.declared.parts.OpenText.{OpenText}
 use Rattle.tx_command.specs.declared.types.Command.{Command}
 use Rattle.tx_box.specs.DueWork.{work_cost}
 use Rattle.tx_expand.specs.Values.{Lent, value_now}

@@ -1,7 +1,7 @@
 //! How a run begins (TeX: The Program, sections 1332 and 1337).
 ghost use Rattle.std.specs.Prelude.{◌≡◌, ◌∷◌, [], IfOk};
 ghost use Rattle.tx_machine.specs.Ranges.{IsDate};
-ghost use Rattle.tx_state.specs.declared.parts.Due.TheVariants.{OpenMain};
+ghost use Rattle.tx_parts.specs.declared.parts.Due.TheVariants.{OpenMain};
 ghost use Rattle.tx_state.specs.declared.parts.Phase.{Phase};
 ghost use Rattle.tx_state.specs.Meanings.{meaning_of, state_of};
 ghost use Rattle.tx_state.specs.State.{Runs};

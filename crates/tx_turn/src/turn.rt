@@ -28,7 +28,7 @@ use tx_list::Stack;
 use tx_pending::{ColumnPart, Pending};
 use tx_reading::{Reader, at_once};
 use tx_seen::{Fed, Seen, TexError, Want};
-use tx_state::{Due, FontRequest, OpenText, Phase, State, ask, fail};
+use tx_state::{Due, FontRequest, OpenText, Phase, State, ask, fail, text_wanted};
 use tx_toklist::Toks;
 
 /// The magnification is used from now on, where it was taken.
@@ -160,7 +160,7 @@ fn wanted(text: &Option<OpenText>, scan: &CommandScan) -> Wanted
     ensures { (s : State) → result ≡ turns.wanted_by (state_of (record s { scan = scan.now })) text.now }
 {
     match text {
-        Some(text) => text.wanted(),
+        Some(text) => text_wanted(text),
         None => Wanted {
             want: scan.want(),
             text: scan.is_preamble(),
