@@ -241,9 +241,9 @@ impl CommandScan {
         self.mode == other.mode && self.head.same(&other.head) && self.taken.same(&other.taken)
     }
 
-    /// Takes one token more, by what reads commands, and the values that the command needs behind it. A whole command is put into `made`. Behind it, whose
-    /// last tokens are put at the front of the input where they aren't part of it, or a wrong one, the next begins. Its only error
-    /// is want of memory.
+    /// Takes one token more, by what reads commands, and the values that the command needs behind it. A whole command is put into
+    /// `made`. Behind it, whose last tokens are put at the front of the input where they aren't part of it, or a wrong one, the
+    /// next begins. Its only error is want of memory.
     pub fn feed<R: TakesTokens, Q: Quantities>(
         &mut self,
         quantities: &Q,
@@ -306,7 +306,7 @@ impl Scans {
 
 /// The command that is whole is put beside, wherever it stands.
 #[inline(never)]
-pub fn take_whole(whole: Whole, scans: &mut Scans, made: &mut CommandBuffer)
+fn take_whole(whole: Whole, scans: &mut Scans, made: &mut CommandBuffer)
     ensures { made.new ≡ whole_command scans.old made.old whole }
 {
     match whole {
