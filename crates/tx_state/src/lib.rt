@@ -11,6 +11,7 @@
 //! Read `parts`, `text`, `state`, `ending`, `groups` and `standing`; last `kept`, `share` and `same`.
 #![tactic(auto)]
 
+mod due;
 mod ending;
 mod groups;
 mod kept;
@@ -21,6 +22,7 @@ mod standing;
 mod state;
 mod text;
 
+pub use due::push_work;
 pub use ending::{add, ask, carry_out_assignment, end_assignment, fail, finish, finish_assignment};
 pub use groups::{leave_group, open, open_group};
 pub use parts::{Due, FontRequest, KeptToken, OpenText, Phase};
