@@ -11,7 +11,7 @@ use tx_event::Event;
 use tx_makeup::{discard, ship};
 use tx_nest::append_items;
 use tx_node::BoxNode;
-use tx_state::{Due, State, fail};
+use tx_state::{State, fail, push_work};
 
 /// Ships a box, which ends what dead cycles there were: the magnification has to be one, and that of the first page. Err is want of
 /// memory.
@@ -65,7 +65,7 @@ pub fn work_boxes(alloc: Global, s: &mut State, work: Work) -> Result<Event, All
         }
         Work::Ship(shipped) => ship_box(alloc, s, shipped),
         Work::ShipPage(shipped) => {
-            if let Err(error) = s.due.push(Due::Boxes(Work::Build)) {
+            if let Err(error) = push_work(&mut s.due, Work::Build) {
                 discard(shipped);
                 return Err(error);
             }

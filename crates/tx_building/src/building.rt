@@ -18,7 +18,7 @@ use tx_pending::Pending;
 use tx_prim::Mode;
 use tx_seen::TexError;
 use tx_shape::{BoxContext, Opener};
-use tx_state::{Due, State, fail};
+use tx_state::{Due, State, fail, push_work};
 
 /// The error of a page by which the run ends, if that isn't want of memory.
 pub fn page_error(error: GalleyError) -> Result<TexError, AllocError>
@@ -45,7 +45,7 @@ pub fn take_page(
         Next::Goes => Ok(()),
         Next::Ships(shipped, badness) => {
             lists.badness = badness;
-            due.push(Due::Boxes(Work::ShipPage(shipped)))
+            push_work(due, Work::ShipPage(shipped))
         }
         Next::Reads(tokens, badness) => {
             lists.badness = badness;

@@ -11,7 +11,7 @@ use tx_box::{Done, Lists};
 use tx_bytes::Bytes;
 use tx_command::CommandScan;
 use tx_event::Event;
-use tx_state::{Due, State, fail};
+use tx_state::{State, fail, push_work};
 
 /// The next command stands in the mode of the list that is being built, and the transcript gets these bytes. Its only error is want
 /// of memory.
@@ -40,7 +40,7 @@ pub fn carry(s: &mut State, done: Done, report: &[u8]) -> Result<Event, AllocErr
             Ok(Event::Went)
         }
         Done::Due(work) => {
-            s.due.push(Due::Boxes(work))?;
+            push_work(&mut s.due, work)?;
             stand(&mut s.scan, &s.lists, &mut s.said, report)?;
             Ok(Event::Went)
         }

@@ -11,6 +11,7 @@
 //! expansion stands in tx_parts.
 #![tactic(auto)]
 
+mod due;
 mod ending;
 mod groups;
 mod parts;
@@ -20,6 +21,7 @@ mod standing;
 mod state;
 mod text;
 
+pub use due::push_work;
 pub use ending::{add, ask, carry_out_assignment, end_assignment, fail, finish, finish_assignment};
 pub use groups::{leave_group, open, open_group};
 pub use parts::Phase;
