@@ -6,9 +6,10 @@
 //! taken makes of one more token, and what is read next of the tokens that are kept. Only tested: that this is TeX's, on documents
 //! that Knuth's TeX reads alike.
 //!
-//! Read `parts`, `text`, `kept_tokens`; then `kept`, `same`, `small` and `large`.
+//! Read `parts`, `due`, `text`, `kept_tokens`; then `kept`, `same`, `small` and `large`.
 #![tactic(auto)]
 
+mod due;
 mod kept;
 mod kept_tokens;
 mod large;
@@ -17,6 +18,7 @@ mod same;
 mod small;
 mod text;
 
+pub use due::push_work;
 pub use kept_tokens::release_kept;
 pub use large::LargeParts;
 pub use parts::{Due, FontRequest, KeptToken, OpenText};

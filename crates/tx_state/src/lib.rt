@@ -11,7 +11,6 @@
 //! expansion stands in tx_parts.
 #![tactic(auto)]
 
-mod due;
 mod ending;
 mod groups;
 mod parts;
@@ -21,7 +20,6 @@ mod standing;
 mod state;
 mod text;
 
-pub use due::push_work;
 pub use ending::{add, ask, carry_out_assignment, end_assignment, fail, finish, finish_assignment};
 pub use groups::{leave_group, open, open_group};
 pub use parts::Phase;
@@ -30,4 +28,4 @@ pub use share::share_state;
 pub use standing::{OUTSIDE, stand, stand_before_row};
 pub use state::State;
 pub use text::text_wanted;
-pub use tx_parts::{Due, FontRequest, KeptToken, OpenText, is_global};
+pub use tx_parts::{Due, FontRequest, KeptToken, OpenText, is_global, push_work};
