@@ -13,22 +13,12 @@ use tx_seen::Place;
 
 /// Where a whole command is put until it is carried out, so that no token moves one. An assignment stands apart from all others,
 /// and comes there straight from its scan. Contracts see the command.
+#[derive(Drop)]
 pub struct CommandBuffer {
     /// Which of both it is.
     whole: Whole,
     assignment: Box<Assignment>,
     command: Box<Command>,
-}
-
-// (by hand, so that crates above call this and don't prove again how each part is dropped)
-impl Drop for CommandBuffer {
-    fn drop(self) {
-        let CommandBuffer {
-            whole: _,
-            assignment: _,
-            command: _,
-        } = self;
-    }
 }
 
 impl Model for CommandBuffer {
@@ -41,6 +31,13 @@ impl Model for CommandBuffer {
     ghost coded = { the_command.the_row.coded };
 
     ghost view = { λ s. command_in s.whole s.assignment.value s.command.value };
+}
+
+/// A value behind a pointer. Its only error is want of memory.
+fn boxed<T: Drop>(alloc: Global, value: T) -> Result<Box<T>, AllocError>
+    ensures { IfOk result (λ held. held.value ≡ value) }
+{
+    Ok(Box::new(alloc, value)?)
 }
 
 /// This command takes the place of the one that stood there.
@@ -78,10 +75,7 @@ impl CommandBuffer {
             place: Place::Count(0),
             change: Change::Text,
         };
-        let (assignment, command) = both(
-            Box::new(alloc, nothing),
-            Box::new(alloc, Command::Nothing),
-        )?;
+        let (assignment, command) = both(boxed(alloc, nothing), boxed(alloc, Command::Nothing))?;
         Ok(CommandBuffer {
             whole: Whole::Command,
             assignment,
