@@ -33,6 +33,13 @@ impl Model for CommandBuffer {
     ghost view = { λ s. command_in s.whole s.assignment.value s.command.value };
 }
 
+/// A value behind a pointer. Its only error is want of memory.
+fn boxed<T: Drop>(alloc: Global, value: T) -> Result<Box<T>, AllocError>
+    ensures { IfOk result (λ held. held.value ≡ value) }
+{
+    Ok(Box::new(alloc, value)?)
+}
+
 /// This command takes the place of the one that stood there.
 #[inline(never)]
 fn put_into(place: &mut Command, command: Command)
@@ -68,10 +75,7 @@ impl CommandBuffer {
             place: Place::Count(0),
             change: Change::Text,
         };
-        let (assignment, command) = both(
-            Box::new(alloc, nothing),
-            Box::new(alloc, Command::Nothing),
-        )?;
+        let (assignment, command) = both(boxed(alloc, nothing), boxed(alloc, Command::Nothing))?;
         Ok(CommandBuffer {
             whole: Whole::Command,
             assignment,
