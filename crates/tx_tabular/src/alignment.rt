@@ -11,7 +11,6 @@ use tx_prim::EntryEnd;
 use tx_shape::BoxGoal;
 
 /// An alignment that is being read.
-#[derive(Drop)]
 pub struct Alignment {
     pub preamble: Preamble,
     /// What stands behind the preamble, up to the row that is being read.
@@ -35,6 +34,25 @@ pub struct Alignment {
     pub outer: i64,
 }
 
+// (by hand, so that crates above call this and don't prove again how each part is dropped)
+impl Drop for Alignment {
+    fn drop(self) {
+        let Alignment {
+            preamble: _,
+            rows: _,
+            goal: _,
+            column: _,
+            span: _,
+            ending: _,
+            omitted: _,
+            behind_row: _,
+            cells: _,
+            leaving: _,
+            outer: _,
+        } = self;
+    }
+}
+
 impl Alignment {
     /// An alignment of which nothing is read, where \tabskip is this glue. It takes no memory.
     pub fn new(alloc: Global, goal: BoxGoal, tabskip: Glue, outer: i64) -> Alignment
@@ -53,6 +71,26 @@ impl Alignment {
             leaving: Nodes::new(alloc),
             outer,
         }
+    }
+
+    /// The preamble and the rows.
+    pub(crate) fn into_rows(self) -> (Preamble, Rows)
+        ensures { result ≡ (self.preamble, self.rows) }
+    {
+        let Alignment {
+            preamble,
+            rows,
+            goal: _,
+            column: _,
+            span: _,
+            ending: _,
+            omitted: _,
+            behind_row: _,
+            cells: _,
+            leaving: _,
+            outer: _,
+        } = self;
+        (preamble, rows)
     }
 }
 

@@ -44,7 +44,7 @@ fn set_rows(
     ensures set { IfOk result (λ made. spec.set_rows alignment goal params.now ≡ Ok made) }
     ensures error { IfErr result (λ e. e ≢ OutOfMemory → spec.set_rows alignment goal params.now ≡ Err e) }
 {
-    let Alignment { preamble, rows, .. } = alignment;
+    let (preamble, rows) = alignment.into_rows();
     rows.finish(alloc, &preamble, goal, params)
 }
 
