@@ -42,7 +42,7 @@ impl Machine for Tex {
     #[tactic(auto, unfolding(crate::specs::Turns::tex, tx_turn::specs::Turns::tex_with))]
     fn turn(&self, alloc: Global, s: &mut State, steps: &mut Steps) -> Result<Event, AllocError> {
         steps.tick();
-        tx_turn::turn::<Tex>(alloc, s)
+        tx_turn::take_turn::<Tex>(alloc, s)
     }
 
     #[tactic(auto, unfolding(crate::specs::Turns::tex, tx_turn::specs::Turns::tex_with))]

@@ -23,4 +23,4 @@ pub use beginning::begin;
 pub use going::Going;
 pub use main_loop::run_on;
 pub use stomach::Stomach;
-pub use turn::{answer, due_cost, turn};
+pub use turn::{answer, due_cost, take_turn};

@@ -320,7 +320,7 @@ fn take_due<T: Stomach>(alloc: Global, s: &mut State) -> Result<Event, AllocErro
 /// Takes one turn. Few are left to it, those of work that is due, since tokens are read many turns at one go. Its only error is
 /// want of memory.
 #[inline(never)]
-pub fn turn<T: Stomach>(alloc: Global, s: &mut State) -> Result<Event, AllocError>
+pub fn take_turn<T: Stomach>(alloc: Global, s: &mut State) -> Result<Event, AllocError>
     requires { mode_of (meaning_of s.old) ≡ Ready }
     ensures { IfOk result (λ event. IsStepped (turns.outcome T.effects (meaning_of s.old)) s.old event s.new) }
 {
