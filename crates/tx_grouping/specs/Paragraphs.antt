@@ -10,8 +10,6 @@ use Rattle.tx_prim.specs.declared.tokens.TokenParameter.TheVariants.{Everypar}
 use Rattle.tx_seen.specs.declared.error.TexError.TheVariants.{NumberOutOfRange}
 use Rattle.tx_seen.specs.declared.place.Place.TheVariants.{ParShape, Tokens}
 use Rattle.tx_assign.specs.declared.types.Assignment.{Assignment}
-use Rattle.tx_assign.specs.declared.types.Carried.{Carried}
-use Rattle.tx_assign.specs.declared.types.Carried.TheVariants.{Done, Refused}
 use Rattle.tx_assign.specs.declared.types.Change.TheVariants.{Set}
 use Rattle.tx_assign.specs.Changes.{carried_out}
 use Rattle.tx_command.specs.declared.types.Head.{Head}
@@ -44,12 +42,6 @@ abbrev pub shaping : TexState → Prefixes → ℕ → List ℤ → Outcome
 shaping s prefixes left sizes =
     if nat_lt 0 left then leaves (record s { head = Shaping prefixes left sizes })
     else assigning s (carried_out s.table (shape_assigned sizes) prefixes.global)
-
--- what a step of \parshape answered: sizes are awaited, or what came of the assignment
-abbrev pub shaped : TexState → Option Carried → Outcome
-shaped s None = leaves s
-shaped s (Some Done) = leaves (assigned s)
-shaped s (Some (Refused error)) = fails error
 
 -- one size more; nothing else has such sizes behind it
 abbrev pub shape_sized : TexState → ℤ → Head → Outcome

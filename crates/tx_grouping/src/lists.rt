@@ -2,10 +2,12 @@
 //! 1026, 1086, 1100 and 1119).
 ghost use Rattle.std.specs.Prelude.{◌≡◌, [], Some, IfOk};
 ghost use Rattle.tx_box.specs.Inserts.{left_vertical};
+ghost use Rattle.tx_building.specs.Building.{paging};
 ghost use Rattle.tx_eqtb.specs.Stack.{kind_of};
 ghost use Rattle.tx_grouping.specs.ListEnds as spec;
 ghost use Rattle.tx_state.specs.declared.parts.Phase.{Phase};
 ghost use Rattle.tx_state.specs.Meanings.{IsStepped, state_of};
+ghost use Rattle.tx_state.specs.Outcomes.{leaves};
 
 use std::alloc::{AllocError, Global};
 use tx_box::{Ended, OpenBox, end_insert, end_vertical, greatest_depth, insert_params};
@@ -13,7 +15,7 @@ use tx_building::{build_behind, build_in, carry, page_error, take_page};
 use tx_command::Head;
 use tx_eqtb::GroupKind;
 use tx_event::Event;
-use tx_galley::end_output;
+use tx_galley::{Next, end_output};
 use tx_list::Stack;
 use tx_prim::BreakText;
 use tx_seen::TexError;
@@ -60,6 +62,15 @@ pub(crate) fn finish_insert(alloc: Global, s: &mut State, class: u8) -> Result<E
     build_behind(alloc, s, event)
 }
 
+/// What is to come of a page that fired: its box is shipped, or \output's tokens are read. Err is want of memory.
+fn take_fired(s: &mut State, next: Next) -> Result<Event, AllocError>
+    requires { s.old.phase ≡ Phase.Running }
+    ensures { IfOk result (λ event. IsStepped (leaves (paging next (state_of s.old))) s.old event s.new) }
+{
+    take_page(&mut s.lists, &mut s.due, &mut s.input, &mut s.scan, next)?;
+    Ok(Event::Went)
+}
+
 /// The list of \output, whose group has ended, leaves the lists, and the page builder goes on. Err is want of memory.
 pub(crate) fn end_output_list(alloc: Global, s: &mut State) -> Result<Event, AllocError>
     requires { s.old.phase ≡ Phase.Running }
@@ -76,10 +87,7 @@ pub(crate) fn end_output_list(alloc: Global, s: &mut State) -> Result<Event, All
         &mut s.lists.pages,
         list,
     ) {
-        Ok(next) => {
-            take_page(&mut s.lists, &mut s.due, &mut s.input, &mut s.scan, next)?;
-            Ok(Event::Went)
-        }
+        Ok(next) => take_fired(s, next),
         Err(error) => {
             let error = page_error(error)?;
             Ok(fail(s, error))

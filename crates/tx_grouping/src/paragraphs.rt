@@ -1,6 +1,5 @@
 //! How paragraphs begin and end (TeX: The Program, sections 1090 to 1100).
 ghost use Rattle.std.specs.Prelude.{◌≡◌, ◌≢◌, ◌∷◌, ◌++◌, [], IfOk, OnOk};
-ghost use Rattle.tx_assign.specs.Changes.{IsCarried};
 ghost use Rattle.tx_command.specs.Commands.{prefixes_of};
 ghost use Rattle.tx_grouping.specs.Paragraphs as spec;
 ghost use Rattle.tx_nest.specs.Grafs.{graf_of as graf_for};
@@ -11,11 +10,11 @@ ghost use Rattle.tx_state.specs.declared.parts.Phase.{Phase};
 ghost use Rattle.tx_state.specs.Meanings.{IsStepped, state_of};
 
 use std::alloc::{AllocError, Global};
-use tx_assign::{Assignment, Carried, Change, carry_out};
+use tx_assign::{Assignment, Change};
 use tx_box::Done;
 use tx_building::{build, build_behind, carry, is_pages};
 use tx_char::{ControlName, Token};
-use tx_command::{CommandScan, Head, Prefixes};
+use tx_command::{Head, Prefixes};
 use tx_eqtb::{Entry, Eqtb, ParShape};
 use tx_event::Event;
 use tx_list::Items;
@@ -24,7 +23,7 @@ use tx_par::ParError;
 use tx_pending::Pending;
 use tx_prim::{Indentation, ModeTest, TokenParameter};
 use tx_seen::{Place, TexError};
-use tx_state::{State, end_assignment, fail};
+use tx_state::{State, carry_out_assignment, end_assignment, fail};
 
 /// The tokens of \everypar are read first, if a paragraph begins. Its only error is want of memory.
 fn read_every_par(input: &mut Pending, table: &Eqtb, begins: bool) -> Result<(), AllocError>
@@ -86,40 +85,27 @@ fn sizes_of(lines: i32) -> u32
     }
 }
 
-/// These sizes of \parshape are assigned. Its only error is want of memory.
-fn assign_shape(
-    alloc: Global,
-    table: &mut Eqtb,
-    sizes: Items<i32>,
-    global: bool,
-) -> Result<Carried, AllocError>
-    ensures { IfOk result (IsCarried table.old (spec.shape_assigned sizes) global table.new) }
-{
-    let shape = ParShape::new(alloc, sizes)?;
-    let change = Change::Set(Entry::Shape(shape));
-    let place = Place::ParShape;
-    carry_out(table, Assignment { place, change }, global)
-}
-
-/// These sizes of \parshape are read, behind its prefixes, and so many are to follow, which are awaited; once none is, it is
-/// assigned, and the answer is what came of that. Its only error is want of memory.
+/// These sizes of \parshape are read, behind its prefixes, and so many are to follow; once none is, it is assigned. Err is want of
+/// memory.
 fn shape(
     alloc: Global,
-    scan: &mut CommandScan,
-    table: &mut Eqtb,
+    s: &mut State,
     prefixes: Prefixes,
     left: u32,
     sizes: Items<i32>,
-) -> Result<Option<Carried>, AllocError>
-    requires between { scan.old.taken ≡ [] }
-    ensures { (s : State) → IfOk result (λ shaped. spec.shaped (state_of (record s { scan = scan.new; table = table.new })) shaped ≡ spec.shaping (state_of (record s { scan = scan.old; table = table.old })) prefixes left sizes) }
+) -> Result<Event, AllocError>
+    requires running { s.old.phase ≡ Phase.Running }
+    requires between { s.old.scan.taken ≡ [] }
+    ensures { IfOk result (λ event. IsStepped (spec.shaping (state_of s.old) prefixes left sizes) s.old event s.new) }
 {
     if left > 0 {
-        scan.begin_behind(Head::Shaping(prefixes, left, sizes));
-        return Ok(None);
+        s.scan.begin_behind(Head::Shaping(prefixes, left, sizes));
+        return Ok(Event::Went);
     }
-    let carried = assign_shape(alloc, table, sizes, prefixes.global)?;
-    Ok(Some(carried))
+    let shape = ParShape::new(alloc, sizes)?;
+    let change = Change::Set(Entry::Shape(shape));
+    let place = Place::ParShape;
+    carry_out_assignment(s, Assignment { place, change }, prefixes.global)
 }
 
 /// \parshape and how many lines it is to have. Err is want of memory; the event may end the run by an error, as `shaping` says.
@@ -129,19 +115,7 @@ pub fn begin_shape(alloc: Global, s: &mut State, lines: i32) -> Result<Event, Al
     ensures { IfOk result (λ event. IsStepped (spec.shaping (state_of s.old) (prefixes_of s.old.scan.head) (spec.sizes_of lines) []) s.old event s.new) }
 {
     let prefixes = s.scan.prefixes();
-    let left = sizes_of(lines);
-    match shape(
-        alloc,
-        &mut s.scan,
-        &mut s.table,
-        prefixes,
-        left,
-        Items::new(alloc),
-    )? {
-        None => Ok(Event::Went),
-        Some(Carried::Done) => end_assignment(s),
-        Some(Carried::Refused(error)) => Ok(fail(s, error)),
-    }
+    shape(alloc, s, prefixes, sizes_of(lines), Items::new(alloc))
 }
 
 /// These sizes, and one more. Its only error is want of memory.
@@ -162,12 +136,7 @@ pub fn add_size(alloc: Global, s: &mut State, size: i32) -> Result<Event, AllocE
     match s.scan.take_head() {
         Head::Shaping(prefixes, left, sizes) => {
             let sizes = with_size(sizes, size)?;
-            let left = left.saturating_sub(1);
-            match shape(alloc, &mut s.scan, &mut s.table, prefixes, left, sizes)? {
-                None => Ok(Event::Went),
-                Some(Carried::Done) => end_assignment(s),
-                Some(Carried::Refused(error)) => Ok(fail(s, error)),
-            }
+            shape(alloc, s, prefixes, left.saturating_sub(1), sizes)
         }
         // (it is dropped where it stood)
         other => {
