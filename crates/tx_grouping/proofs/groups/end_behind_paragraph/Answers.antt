@@ -16,8 +16,8 @@ end_list-requires-clause-kind c =
     c.in-Ok.ensures.left c.requires.kind
 
 -- the list ends behind the lines that the paragraph's end told
-pub returns-in-Ok : goal.returns-in-Ok
-returns-in-Ok c =
+pub returns-in_ok-append-in-Ok : goal.returns-in_ok-append-in-Ok
+returns-in_ok-append-in-Ok c =
     let between : State = record c.args.s.now { hyphenation = c.close_paragraph.new.known; lists = c.close_paragraph.new.lists; table = c.close_paragraph.new.table } in
     outcome-by (telling c.in-Ok.report (list_ending c.args.kind (state_of between))) (behind_paragraph c.args.kind (state_of c.args.s.now)) c.args.s.now between c.end_list.new.s c.end_list.result
     (sym
