@@ -140,6 +140,24 @@ fn keep(
     Ok(Event::Went)
 }
 
+/// What is made of a size.
+fn use_size(alloc: Global, s: &mut State, size_use: SizeUse, size: i32) -> Result<Event, AllocError>
+    requires running { s.old.phase ≡ Phase.Running }
+    requires between { s.old.scan.taken ≡ [] }
+    ensures { IfOk result (λ event. IsStepped (effects.effect (state_of s.old) (Command.Sized size_use size)) s.old event s.new) }
+{
+    match size_use {
+        SizeUse::Item(SizeKind::Kern) => {
+            add(s, Node::Plain(Plain::Kern(KernKind::Explicit, size)))
+        }
+        SizeUse::Item(SizeKind::MathKern) => {
+            add_noad(alloc, s, Noad::Plain(PlainNoad::Kern(size)))
+        }
+        SizeUse::Item(SizeKind::Above) => divide(alloc, s, Some(size)),
+        SizeUse::Shape => add_size(alloc, s, size),
+    }
+}
+
 /// How leaders are spread, as an item says it.
 fn spread(kind: LeadersKind) -> tx_node::LeadersKind
     ensures { result ≡ effects.spread kind }
@@ -184,6 +202,21 @@ fn penalize(alloc: Global, s: &mut State, number: i32) -> Result<Event, AllocErr
 {
     append_item(s.lists.nest.top(), Node::Plain(Plain::Penalty(number)))?;
     build_here(alloc, s)
+}
+
+/// The begin-group token that was awaited.
+fn open_by(alloc: Global, s: &mut State, opener: Opener) -> Result<Event, AllocError>
+    requires running { s.old.phase ≡ Phase.Running }
+    requires between { s.old.scan.taken ≡ [] }
+    ensures { IfOk result (λ event. IsStepped (effects.effect (state_of s.old) (Command.Open opener)) s.old event s.new) }
+{
+    match opener {
+        Opener::Break(text) => begin_break(alloc, s, text),
+        Opener::Choice(style) => open_formula(alloc, s, GroupKind::MathChoice(style)),
+        Opener::Insert(class) => begin_vertical_list(alloc, s, GroupKind::Insert(class)),
+        Opener::Output => begin_vertical_list(alloc, s, GroupKind::Output),
+        Opener::NoAlign => begin_noalign(s),
+    }
 }
 
 /// A character of a horizontal list, or of a formula.
@@ -271,14 +304,7 @@ fn carry_out(alloc: Global, s: &mut State, command: Command) -> Result<Event, Al
         Command::Prefix(found) => Ok(prefix(&mut s.scan, found)),
         Command::Define(defined, kind) => define(s, defined, kind),
         Command::Assign(assignment) => assign(alloc, s, assignment),
-        Command::Sized(SizeUse::Item(SizeKind::Kern), size) => {
-            add(s, Node::Plain(Plain::Kern(KernKind::Explicit, size)))
-        }
-        Command::Sized(SizeUse::Item(SizeKind::MathKern), size) => {
-            add_noad(alloc, s, Noad::Plain(PlainNoad::Kern(size)))
-        }
-        Command::Sized(SizeUse::Item(SizeKind::Above), size) => divide(alloc, s, Some(size)),
-        Command::Sized(SizeUse::Shape, size) => add_size(alloc, s, size),
+        Command::Sized(size_use, size) => use_size(alloc, s, size_use, size),
         Command::Rule(_, rule) => add_rule(alloc, s, rule),
         Command::BeginBox(kind, goal, context) => open_box(alloc, s, kind, goal, context),
         Command::UseBox(number, context) => use_box(alloc, s, number, context),
@@ -293,15 +319,7 @@ fn carry_out(alloc: Global, s: &mut State, command: Command) -> Result<Event, Al
         Command::SetFactor(number) => set_factor(s, number),
         Command::SetPrevGraf(number) => set_graf(s, number),
         Command::BeginShape(lines) => begin_shape(alloc, s, lines),
-        Command::Open(Opener::Break(text)) => begin_break(alloc, s, text),
-        Command::Open(Opener::Choice(style)) => {
-            open_formula(alloc, s, GroupKind::MathChoice(style))
-        }
-        Command::Open(Opener::Insert(class)) => {
-            begin_vertical_list(alloc, s, GroupKind::Insert(class))
-        }
-        Command::Open(Opener::Output) => begin_vertical_list(alloc, s, GroupKind::Output),
-        Command::Open(Opener::NoAlign) => begin_noalign(s),
+        Command::Open(opener) => open_by(alloc, s, opener),
         Command::Align => Ok(align(s)),
         Command::BeginAlign(goal) => begin_align(alloc, s, goal),
         Command::ExpandOnce => expand_next(s),
