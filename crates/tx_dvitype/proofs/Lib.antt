@@ -6,3 +6,15 @@ mod ReadFront
 mod ReadEnd
 mod ReadBack
 mod Refused
+mod Bytes
+mod Free
+mod Standing
+mod Ends
+mod Partials
+mod Furthest
+mod Amounts
+mod Steps
+mod Spelling
+mod Numbers
+mod Defining
+mod Commands

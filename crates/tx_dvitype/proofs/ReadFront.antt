@@ -43,7 +43,7 @@ pre-last place begun rest byte may whole =
     (λ i. cond {A = Option Reader} (may i) (Some (cond {A = Reader} (whole i) (behind_preamble (pre (begun ++ byte ∷ []))) (pre (begun ++ byte ∷ [])))) None)
 
 -- behind \mag a byte may be anything
-may-anything : (b : List ℕ) (byte : ℕ) → 14 ≤ length b → may_begin_preamble b byte ≡ true
+pub may-anything : (b : List ℕ) (byte : ℕ) → 14 ≤ length b → may_begin_preamble b byte ≡ true
 may-anything b byte long =
     let one : nat_lt (length b) 12 ≡ false = le-ltb (length b) 12 (omega (arith, long)) in
     let two : (length b == 12) ≡ false = ne_eqb (length b) 12 (λ e. omega (arith, long, e)) in
@@ -133,7 +133,7 @@ ahead-is : (n place : ℕ) → ahead n place ≡ place + n
 ahead-is zero place = sym (add-zero place)
 ahead-is (suc n) place = let more : (place + 1) + n ≡ place + suc n = omega arith in ahead-is n (place + 1) ∙ more
 
-stands-there : (xs : List ℕ) (k byte : ℕ) → k < length xs → byte ≡ get_or xs k 0 → stands_at xs k byte ≡ true
+pub stands-there : (xs : List ℕ) (k byte : ℕ) → k < length xs → byte ≡ get_or xs k 0 → stands_at xs k byte ≡ true
 stands-there xs k byte less is = λ i. lt-ltb k (length xs) less i && eq-eqb byte (get_or xs k 0) is i
 
 count-bound : (z : ℤ) → FitsSigned w32 z → cast_unsigned w32 z < 256 ^ 4

@@ -3,3 +3,5 @@ pub mod Partial
 pub mod Files
 pub mod ReadPages
 pub mod ReadBack
+pub mod Furthest
+pub mod Grammar

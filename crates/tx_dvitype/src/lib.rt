@@ -2,8 +2,9 @@
 //! file, each with its numbers and what is met on it.
 //!
 //! Proved: what is read of a file is its pages, or the place and the element at which it is refused, exactly as defined byte
-//! by byte; a refusal depends on the bytes up to the one that is refused alone; what is read of a page is what its commands
-//! mean; and a file that is assembled of pages is read back, if the commands of each page can be read.
+//! by byte; a refusal depends on the bytes up to the one that is refused alone, and its place is how many of them begin a DVI
+//! file; what is read of a page is what its commands mean; and a file that is assembled of pages is read back, if the commands
+//! of each page can be read.
 //!
 //! Read `error`, `movement`, `page_reader` and `reader`, then `laws`.
 #![tactic(auto)]
@@ -16,7 +17,7 @@ mod reader;
 
 pub use error::{DviError, DviRule};
 pub use laws::{
-    assembled_files_are_read_back, no_file_begins_with_what_is_refused,
-    pages_are_read_by_their_meaning,
+    a_file_begins_with_what_is_not_refused, assembled_files_are_read_back,
+    no_file_begins_with_what_is_refused, pages_are_read_by_their_meaning,
 };
 pub use reader::{ReadPage, Reader};

@@ -479,8 +479,8 @@ impl Reader {
 
     /// The pages of a DVI file, in its order.
     ///
-    /// `BadDvi` comes exactly where the bytes are no such file. Its place is how many of them begin one, and its rule that of
-    /// the element in which the next byte of every file that begins so stands.
+    /// `BadDvi` comes exactly where the bytes are no such file. Its place is how many of them begin one
+    /// (`a_file_begins_with_what_is_not_refused`), and its rule that of the element in which the next byte would have to stand.
     pub fn read(alloc: Global, bytes: &[u8]) -> Result<Items<ReadPage>, DviError>
         ensures read { IfOk result (λ pages. spec.dvi_file bytes.now ≡ Ok pages) }
         ensures refused { IfErr result (IsCause (spec.dvi_file bytes.now)) }

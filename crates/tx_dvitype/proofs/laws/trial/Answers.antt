@@ -1,0 +1,6 @@
+use Rattle.std.proofs.Common.{refl}
+use Rattle.tx_dvitype.proofs.Commands.{commands-within}
+use Rattle.tx_dvitype.proofs.laws.trial.Goals as goal
+
+pub returns : goal.returns
+returns c n = refl
