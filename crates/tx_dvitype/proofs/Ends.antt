@@ -33,7 +33,7 @@ one-before place r next byte small is end = record {
 }
 
 -- behind the postamble stands what is expected there
-end-takes : (place : ℕ) (r : Reader) (byte : ℕ) → r.element ≡ End → stands_at r.expected (length r.page.begun) byte ≡ true → taken place r byte ≡ Some (with_byte byte r)
+pub end-takes : (place : ℕ) (r : Reader) (byte : ℕ) → r.element ≡ End → stands_at r.expected (length r.page.begun) byte ≡ true → taken place r byte ≡ Some (with_byte byte r)
 unfolding taken end_taken
 end-takes place r byte is may = ap (λ (e : DviRule). taken_by e place r byte) is ∙ (λ i. cond {A = Option Reader} (may i) (Some (with_byte byte r)) None)
 
@@ -52,7 +52,7 @@ end-can (suc left) place r is are long =
     (end-can left (place + 1) (with_byte byte r) is are (omega (arith, long, one)))
 
 -- in the postamble too
-post-takes : (place : ℕ) (r : Reader) (byte : ℕ) → r.element ≡ Postamble → (may_stand r || stands_at r.expected (length r.page.begun) byte) ≡ true → taken place r byte ≡ Some (past_postamble place (with_byte byte r))
+pub post-takes : (place : ℕ) (r : Reader) (byte : ℕ) → r.element ≡ Postamble → (may_stand r || stands_at r.expected (length r.page.begun) byte) ≡ true → taken place r byte ≡ Some (past_postamble place (with_byte byte r))
 unfolding taken postamble_taken
 post-takes place r byte is may = ap (λ (e : DviRule). taken_by e place r byte) is ∙ (λ i. cond {A = Option Reader} (may i) (Some (past_postamble place (with_byte byte r))) None)
 
@@ -79,7 +79,7 @@ post-can (suc left) place r is are long =
     (post-can left (place + 1) next is are (omega (arith, long, one)))
 
 -- behind a page stands post
-post-begins : (place : ℕ) (r : Reader) → r.element ≡ Page → length r.page.begun ≡ 0 → 0 < length r.pages → taken place r 248 ≡ Some (at_post r)
+pub post-begins : (place : ℕ) (r : Reader) → r.element ≡ Page → length r.page.begun ≡ 0 → 0 < length r.pages → taken place r 248 ≡ Some (at_post r)
 unfolding taken page_taken
 post-begins place r is none some =
     let one : nat_lt 0 (length r.pages) ≡ true = lt-ltb 0 (length r.pages) some in
@@ -163,7 +163,7 @@ bop-byte r few four pointer = elim (cases_eq (length r.page.begun) 0) [
           may = λ i. cond {A = Bool} (some i) (byte == 139) (cond {A = Bool} (over i) true (there i));
         }
 
-bop-takes : (place : ℕ) (r : Reader) (byte : ℕ) → r.element ≡ Page → may_begin_post r byte ≡ false → may_begin_page r byte ≡ true → taken place r byte ≡ Some (past_bop place (with_byte byte r))
+pub bop-takes : (place : ℕ) (r : Reader) (byte : ℕ) → r.element ≡ Page → may_begin_post r byte ≡ false → may_begin_page r byte ≡ true → taken place r byte ≡ Some (past_bop place (with_byte byte r))
 unfolding taken page_taken
 bop-takes place r byte is no_post may =
     ap (λ (e : DviRule). taken_by e place r byte) is
@@ -259,7 +259,7 @@ module _ (begun : List ℕ) (here : IsPreambleBegun begun) where
     ]
   ]
 
-preamble-takes : (place : ℕ) (r : Reader) (byte : ℕ) → r.element ≡ Preamble → may_begin_preamble r.page.begun byte ≡ true → taken place r byte ≡ Some (past_preamble (with_byte byte r))
+pub preamble-takes : (place : ℕ) (r : Reader) (byte : ℕ) → r.element ≡ Preamble → may_begin_preamble r.page.begun byte ≡ true → taken place r byte ≡ Some (past_preamble (with_byte byte r))
 unfolding taken preamble_taken
 preamble-takes place r byte is may = ap (λ (e : DviRule). taken_by e place r byte) is ∙ (λ i. cond {A = Option Reader} (may i) (Some (past_preamble (with_byte byte r))) None)
 

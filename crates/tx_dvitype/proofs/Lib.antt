@@ -18,3 +18,5 @@ mod Spelling
 mod Numbers
 mod Defining
 mod Commands
+mod Elements
+mod Complete

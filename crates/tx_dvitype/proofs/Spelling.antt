@@ -51,6 +51,12 @@ set-is code chosen q has =
     ∙ (λ i. Some (with_registers (record q.now { h = stays q.now.h i }) (with_character has.0 code q)))
     ∙ ap (λ (o : Option ℕ). Some (lettered code o q)) (sym has.1)
 
+-- the number in the first bytes
+pub from-front : (n i : ℕ) (xs ys : List ℕ) → i + n ≤ length xs → big_from i n (xs ++ ys) ≡ big_from i n xs
+from-front zero i xs ys fits = refl
+from-front (suc n) i xs ys fits =
+    λ j. get_or_append_left xs ys 0 i (omega (arith, fits)) j * 256 ^ n + from-front n (suc i) xs ys (omega (arith, fits)) j
+
 module _ (q : PageReader) where
   pub spelled-set_char : (code : ℕ) → code < 128 → HasFont q.fonts.chosen → Spelled q (SetChar code) code []
   unfolding may_begin wanted
@@ -300,11 +306,6 @@ module _ (q : PageReader) where
       }
 
   -- specials
-  from-front : (n i : ℕ) (xs ys : List ℕ) → i + n ≤ length xs → big_from i n (xs ++ ys) ≡ big_from i n xs
-  from-front zero i xs ys fits = refl
-  from-front (suc n) i xs ys fits =
-      λ j. get_or_append_left xs ys 0 i (omega (arith, fits)) j * 256 ^ n + from-front n (suc i) xs ys (omega (arith, fits)) j
-
   special-operands-are : (opcode n : ℕ) (done text size special : List ℕ) → done ++ text ≡ size ++ special → length size ≡ n → big_number n size ≡ length special → n ≤ length done → special_operands n (opcode ∷ done) ≡ n + length special
   special-operands-are opcode n done text size special e long is many =
       cond-true (nat_lt n (suc (length done))) (n + big_number n done) n (lt-ltb n (suc (length done)) (omega (arith, many)))

@@ -163,7 +163,7 @@ pub record PageText : Type 0 where
 -- so many numbers of four bytes each, in two's complement
 abbrev pub numbers_in : ℕ → List ℕ → List ℤ
 numbers_in zero bytes = []
-numbers_in (suc n) bytes = cast_signed w32 (big_number 4 (take 4 bytes)) ∷ numbers_in n (drop 4 bytes)
+numbers_in (suc n) bytes = cast_signed w32 (big_number 4 bytes) ∷ numbers_in n (drop 4 bytes)
 
 -- A page brings its numbers and what is met on it, where fonts of these numbers are defined: its commands lead from the corner to a place
 -- where all that was pushed is popped.
