@@ -5,7 +5,7 @@ use Rattle.std.specs.List.{AllByRecursion}
 use Rattle.tx_dvitype.specs.declared.reader.Reader.{Reader}
 use Rattle.tx_dvi.specs.Dvi.{fnt_def1, four_bytes, two_bytes, unsigned_bytes, units}
 use Rattle.tx_dvitype.specs.Files.{number_in, numbered_as, all_bytes, again_below, postamble, with_definition, place_bytes, fillers, ending}
-use Rattle.tx_dvitype.specs.Furthest.{AreBytes}
+use Rattle.tx_dvitype.specs.Grammar.{AreBytes}
 use Rattle.tx_dvitype.specs.Partial.{is_whole}
 
 pub bytes-append : (a b : List ℕ) → AreBytes a → AreBytes b → AreBytes (a ++ b)

@@ -90,7 +90,7 @@ module _ (mag place : ℕ) (pointer : List ℕ) (counts : List ℤ) (p : PageRea
 abbrev pub fonts_of : List PageText → List FontDefinition
 fonts_of pages = flat_map (λ (page : PageText). fonts_in page.commands) pages
 
-pointer-long : (place : ℕ) → length (pointer_to place) ≡ 4
+pub pointer-long : (place : ℕ) → length (pointer_to place) ≡ 4
 unfolding unsigned_bytes
 pointer-long place = refl
 
@@ -199,7 +199,7 @@ module _ (place : ℕ) (last : List ℕ) (counts : List ℤ) (p : PageReader) (r
   last-done = eq-eqb (length end) (length r2.expected) (ap (λ (xs : List ℕ). length xs) (sym end-is))
 
 -- a file
-as-many : (known : List ℕ) (pages : List PageText) (brought : List ReadPage) → ArePages known pages brought → length brought ≡ length pages
+pub as-many : (known : List ℕ) (pages : List PageText) (brought : List ReadPage) → ArePages known pages brought → length brought ≡ length pages
 as-many known [] [] are = refl
 as-many known [] (b ∷ brought) are = absurd are
 as-many known (page ∷ pages) [] are = absurd are

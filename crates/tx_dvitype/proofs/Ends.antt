@@ -9,7 +9,7 @@ use Rattle.tx_dvitype.specs.declared.reader.ReadPage.{ReadPage}
 use Rattle.tx_dvitype.specs.declared.reader.Reader.{Reader}
 use Rattle.tx_dvi.specs.declared.placed.Registers.{Registers}
 use Rattle.tx_dvitype.specs.Files.{Broken, stands_at, with_byte, preamble_start, is_mag, may_begin_preamble, is_preamble, behind_preamble, past_preamble, preamble_taken, may_begin_page, may_begin_post, behind_bop, past_bop, at_post, postamble, page_taken, behind_eop, ending, may_stand, behind_postamble, past_postamble, postamble_taken, end_taken, taken, taken_by, is_last, stopped, rest_read}
-use Rattle.tx_dvitype.specs.Furthest.{AreBytes}
+use Rattle.tx_dvitype.specs.Grammar.{AreBytes}
 use Rattle.tx_dvi.specs.Meaning.{Reader as PageReader}
 use Rattle.tx_dvitype.specs.Partial.{is_near, carried_near, may_begin, read_within, wanted}
 use Rattle.tx_dvitype.proofs.Bytes.{AreAllBytes, append-default, byte-at, definitions-on, ending-bytes, length-place, place-bytes, postamble-bytes, postamble-long}

@@ -20,3 +20,6 @@ mod Defining
 mod Commands
 mod Elements
 mod Complete
+mod Decoding
+mod Sound
+mod Whole

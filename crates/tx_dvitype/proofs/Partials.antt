@@ -6,7 +6,7 @@ use Rattle.std.proofs.lemmas.List.{drop-append-le, drop_all, get_or_default, get
 use Rattle.std.proofs.lemmas.Option.{none-some}
 use Rattle.byteorder.specs.Endian.{big_from, big_number}
 use Rattle.tx_dvi.specs.declared.placed.Registers.{Registers}
-use Rattle.tx_dvitype.specs.Furthest.{AreBytes}
+use Rattle.tx_dvitype.specs.Grammar.{AreBytes}
 use Rattle.tx_dvi.specs.Meaning.{Reader as PageReader, carried_out, character_set, choose, choosing, define, defining, definition_in, definition_operands, down_by, is_font_number, is_known, is_movement, moved, movement_operands, operands, popped, right_by, rule_set, set_character, signed, special_operands, with_fonts, with_registers, with_rule, with_special}
 use Rattle.tx_dvitype.specs.Partial.{no_widths, is_within, is_near, padded, may_move, may_choose, may_define, may_go, may_pass, may_begin, wanted}
 use Rattle.tx_dvitype.proofs.Bytes.{append-default, byte-at}

@@ -35,7 +35,7 @@ pub shorter : (done text ops : List ℕ) (byte : ℕ) → done ++ byte ∷ text 
 shorter done text ops byte e = let same : length (done ++ byte ∷ text) ≡ length ops = ap (λ (xs : List ℕ). length xs) e in let all = length-append done (byte ∷ text) in omega (arith, same, all)
 
 -- a command that defines no font
-no-definition : (opcode : ℕ) (ops : List ℕ) → (opcode == 243) ≡ false → (ds : List (List ℕ)) → with_definition (opcode ∷ ops) ds ≡ ds ++ []
+pub no-definition : (opcode : ℕ) (ops : List ℕ) → (opcode == 243) ≡ false → (ds : List (List ℕ)) → with_definition (opcode ∷ ops) ds ≡ ds ++ []
 no-definition opcode ops other ds = cond-false (is_whole (opcode ∷ ops) && opcode == 243) (ds ++ (opcode ∷ ops) ∷ []) ds (and_right (is_whole (opcode ∷ ops)) (opcode == 243) other) ∙ sym (append-nil ds)
 
 -- characters
@@ -277,17 +277,21 @@ module _ (q : PageReader) where
           (λ i. may_move q.now.h (sym long i) xs)
           ∙ may-begin-amount q.now.h here xs ys (subst (λ (zs : List ℕ). AreBytes zs) (sym f) bytes) (omega (arith, long)) ((λ i. is_within (q.now.h +ℤ signed (long i) (f i))) ∙ there)
 
+  pub set_rule-carried : (height width : List ℕ) → length height ≡ 4 → length width ≡ 4 → carried_out no_widths 132 (height ++ width) q ≡ Some (behind (SetRule height width) q)
+  set_rule-carried height width four other =
+      let t : Four height = four-are height four in
+      let u : Four width = four-are width other in
+      (λ i. carried_out no_widths 132 (t.is i ++ u.is i) q) ∙ sym (λ i. Some (behind (SetRule (t.is i) (u.is i)) q))
+
   pub spelled-set_rule : (height width : List ℕ) → length height ≡ 4 → length width ≡ 4 → AreBytes width → is_within q.now.h ≡ true → is_within (q.now.h +ℤ signed 4 width) ≡ true → Spelled q (SetRule height width) 132 (height ++ width)
   unfolding may_begin wanted
   spelled-set_rule height width four other bytes here there =
-      let t : Four height = four-are height four in
-      let u : Four width = four-are width other in
       record {
         are = refl;
         begins = λ done text e. passes done text height width four other bytes here there e;
         parts = λ done text byte e. (8, refl, rule-parts done text height width byte four other e);
         whole = eight height width four other;
-        carried = (λ i. carried_out no_widths 132 (t.is i ++ u.is i) q) ∙ sym (λ i. Some (behind (SetRule (t.is i) (u.is i)) q));
+        carried = set_rule-carried height width four other;
         defined = no-definition 132 (height ++ width) refl;
       }
 

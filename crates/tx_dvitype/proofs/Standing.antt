@@ -10,7 +10,7 @@ use Rattle.tx_dvitype.specs.declared.reader.Reader.{Reader}
 use Rattle.tx_dvi.specs.declared.font.FontDefinition.{FontDefinition}
 use Rattle.tx_dvi.specs.declared.placed.Registers.{Registers}
 use Rattle.tx_dvitype.specs.Files.{stands_at, preamble_start, is_mag, may_begin_preamble, is_preamble, with_byte, behind_preamble, past_preamble, preamble_taken, may_begin_page, may_begin_post, behind_bop, past_bop, at_post, postamble, page_taken, with_definition, with_page, behind_eop, command_taken, may_stand, behind_postamble, past_postamble, postamble_taken, end_taken, taken, taken_by, at_start}
-use Rattle.tx_dvitype.specs.Furthest.{AreBytes}
+use Rattle.tx_dvitype.specs.Grammar.{AreBytes}
 use Rattle.tx_dvi.specs.Meaning.{Reader as PageReader, carried_out, choose, choosing, define, defining, definition_in, is_font_number, is_known, is_movement, moved, movement_operands, page_start, popped, rule_set, set_character, signed, with_fonts, with_registers, with_rule, with_special}
 use Rattle.tx_dvitype.specs.Partial.{no_widths, is_near, is_level, kept_near, carried_near, gathered, may_begin, read_within, wanted}
 use Rattle.tx_dvitype.proofs.Bytes.{AreAllBytes, byte-at, bytes-append, bytes-behind, definitions-on, ending-bytes, length-place, place-bytes, postamble-bytes, postamble-long}

@@ -1,5 +1,6 @@
 use Rattle.std.proofs.Common.{refl}
 use Rattle.tx_dvitype.proofs.Complete.{read-so}
+use Rattle.tx_dvitype.proofs.Whole.{both}
 use Rattle.tx_dvitype.proofs.laws.trial.Goals as goal
 
 pub returns : goal.returns
